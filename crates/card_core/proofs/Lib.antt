@@ -1,0 +1,4 @@
+mod Distinct
+mod Letters
+mod Parts
+pub mod Examples

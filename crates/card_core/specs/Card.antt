@@ -9,9 +9,11 @@ rank_of card = card / 4
 abbrev pub suit_of : ℕ → ℕ
 suit_of card = card % 4
 
+-- the two as 2, the ten as T, the ace as A
 abbrev pub rank_letter : ℕ → ℕ
 rank_letter rank = slice_index (codes "23456789TJQKA") rank
 
+-- the first letter of the suit's name
 abbrev pub suit_letter : ℕ → ℕ
 suit_letter suit = slice_index (codes "cdhs") suit
 

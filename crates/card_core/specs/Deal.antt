@@ -1,5 +1,5 @@
 -- A deal: distinct cards at named places, two for each position and then five for the board.
-use Rattle.std.specs.Prelude.{◌≡◌, ℕ, ◌+◌, ◌-◌, ◌*◌, ◌/◌, ◌<◌, ◌≤◌, List, length, take, drop, nat_eq}
+use Rattle.std.specs.Prelude.{◌≡◌, ℕ, ◌+◌, ◌-◌, ◌*◌, ◌/◌, ◌<◌, List, length, take, drop, nat_eq}
 use Rattle.std.specs.List.{IsDistinct, AllByRecursion}
 
 -- what n players, two to ten, can be dealt

@@ -11,9 +11,11 @@ pub record IsKept (d : Inside) : Type 0 where
   pub deal : IsDeal d.players (take (2 * d.players + 5) d.cards)
   pub rest : d.cards ≡ take (2 * d.players + 5) d.cards ++ replicate (25 - (2 * d.players + 5)) 0
 
+-- as many cards as ten players' deal has
 abbrev pub inside_cards : List ℕ → List ℕ
 inside_cards cards = cards ++ replicate (25 - length cards) 0
 
+-- the fields of a deal
 abbrev pub inside_of : List ℕ → Inside
 inside_of cards = record { cards = inside_cards cards; players = player_count cards }
 

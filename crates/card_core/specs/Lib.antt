@@ -1,3 +1,4 @@
 pub mod Card
 pub mod Deal
 pub mod DealInside
+pub mod Fault

@@ -1,4 +1,4 @@
-ghost use Rattle.std.specs.Prelude.{◌≡◌, ◌<◌, ◌≤◌, ◌/◌, ◌%◌, ◌≢◌, ℕ, length, MatchOption};
+ghost use Rattle.std.specs.Prelude.{◌≡◌, ◌<◌, ◌≤◌, ◌/◌, ◌%◌, ◌≢◌, ℕ, length, slice_index, IfSome, IsNone};
 ghost use Rattle.card_core.specs.Card.{rank_of, suit_of, text_of};
 
 use std::marker::Model;
@@ -60,4 +60,33 @@ impl Card {
     {
         self.number % 4
     }
+
+    /// The card that two letters name: the rank's of `23456789TJQKA`, then the suit's of `cdhs`, as in
+    /// the ACPC protocol 2.0.0. No other two bytes name a card.
+    pub fn from_text(text: [u8; 2]) -> Option<Card>
+        ensures found { IfSome result (λ card. text ≡ text_of card) }
+        ensures range { IfSome result (λ card. card < 52) }
+        ensures only { (card : ℕ) → card < 52 → text ≡ text_of card → result ≡ Some card }
+    {
+        let rank = place_of(text[0], &RANK_LETTERS)?;
+        let suit = place_of(text[1], &SUIT_LETTERS)?;
+        Some(Card::from_number((4 * rank + suit) as u8))
+    }
+
+    /// The two letters that name the card, as `Td` for the ten of diamonds. No other card has them.
+    pub fn text(self) -> [u8; 2]
+        ensures value { result ≡ text_of self }
+        ensures one { (other : ℕ) → other < 52 → text_of other ≡ result → other ≡ self }
+    {
+        let number = usize::from(self.number);
+        [RANK_LETTERS[number / 4], SUIT_LETTERS[number % 4]]
+    }
+}
+
+/// Where a letter stands in a list of letters, counted from 0.
+fn place_of(letter: u8, letters: &[u8]) -> Option<usize>
+    ensures found { IfSome result (λ place. (place < length letters.now) × (slice_index letters.now place ≡ letter)) }
+    ensures missing { IsNone result → (place : ℕ) → place < length letters.now → slice_index letters.now place ≢ letter }
+{
+    letters.iter().position(|other| *other == letter)
 }

@@ -1,5 +1,5 @@
-ghost use Rattle.std.specs.Prelude.{◌≡◌, ◌≢◌, ◌+◌, ◌*◌, ◌<◌, ◌≤◌, ◌↔◌, length, IsTrue, IsOk, IfOk, IsErrOf, nat_eq};
-ghost use Rattle.std.specs.List.{IsDistinct};
+ghost use Rattle.std.specs.Prelude.{◌≡◌, ◌≢◌, ◌+◌, ◌*◌, ◌++◌, ◌<◌, ◌≤◌, ◌↔◌, length, IsTrue, IsOk, IfOk, OnOk, IsErrOf, nat_eq};
+ghost use Rattle.std.specs.List.{IsDistinct, AllByRecursion, list_any};
 ghost use Rattle.card_core.specs.Deal.{IsDeal, player_count, hole_of, board_of};
 ghost use Rattle.card_core.specs.declared.fault.DealFault.TheVariants.{WrongCount, Repeated};
 
@@ -38,6 +38,33 @@ impl Model for Deal {
 }
 
 impl Deal {
+    /// The deal of these cards for `players` players (2 to 10): the hole cards by position, then the board.
+    ///
+    /// Refused are `WrongCount` (1) unless there are two cards for each player and five more, and then
+    /// `Repeated` (2) where a card stands there twice.
+    pub fn new(players: usize, cards: &[Card]) -> Result<Deal, DealFault>
+        requires least { 2 ≤ players }
+        requires most { players ≤ 10 }
+        ensures ok { IsOk result ↔ (length cards.now ≡ 2 * players + 5) × IsDistinct nat_eq cards.now }
+        ensures value { IfOk result (λ deal. deal ≡ cards.now) }
+        ensures deal { OnOk result (IsDeal players cards.now) }
+        ensures wrong_count { IsErrOf result WrongCount ↔ (length cards.now ≢ 2 * players + 5) }
+        ensures repeated { IsErrOf result Repeated ↔ (length cards.now ≡ 2 * players + 5) × ¬ (IsDistinct nat_eq cards.now) }
+    {
+        if cards.len() != 2 * players + 5 {
+            return Err(DealFault::WrongCount);
+        }
+        if !are_distinct(cards) {
+            return Err(DealFault::Repeated);
+        }
+        let mut kept = [Card::from_number(0); MOST_CARDS];
+        kept[..cards.len()].copy_from_slice(cards);
+        Ok(Deal {
+            cards: kept,
+            players,
+        })
+    }
+
     /// For how many players the deal is, 2 to 10.
     pub fn players(&self) -> usize
         ensures value { result ≡ player_count self.now }
@@ -47,17 +74,31 @@ impl Deal {
         self.players
     }
 
-    /// All cards: the hole cards by position, then the five board cards.
+    /// All cards, two for each of 2 to 10 players and five more: the hole cards by position, then the board.
     pub fn cards(&self) -> &[Card]
         ensures value { result.now ≡ self.now }
         ensures deal { IsDeal (player_count self.now) self.now }
+        ensures least { 2 ≤ player_count self.now }
+        ensures most { player_count self.now ≤ 10 }
     {
         &self.cards[..2 * self.players + 5]
     }
 
+    /// The two hole cards of a position, counted from 0. With the board they are seven distinct cards.
+    pub fn hole(&self, position: usize) -> [Card; 2]
+        requires { position < player_count self.now }
+        ensures value { result ≡ hole_of self.now position }
+        ensures cards_of_the_pack { AllByRecursion (λ card. card < 52) result }
+        ensures distinct { IsDistinct nat_eq (hole_of self.now position ++ board_of self.now) }
+    {
+        let cards = self.cards();
+        [cards[2 * position], cards[2 * position + 1]]
+    }
+
     /// The five board cards: the flop's three, the turn and the river.
     pub fn board(&self) -> [Card; 5]
-        ensures { result ≡ board_of self.now }
+        ensures value { result ≡ board_of self.now }
+        ensures cards_of_the_pack { AllByRecursion (λ card. card < 52) result }
     {
         let first = 2 * self.players;
         [
@@ -68,4 +109,22 @@ impl Deal {
             self.cards[first + 4],
         ]
     }
+}
+
+/// Whether no card stands there twice.
+fn are_distinct(cards: &[Card]) -> bool
+    ensures distinct { IsTrue result ↔ IsDistinct nat_eq cards.now }
+    ensures cards_of_the_pack { IsTrue result → AllByRecursion (λ card. card < 52) cards.now }
+{
+    match cards {
+        [] => true,
+        [first, rest @ ..] => !has_number(rest, first.number()) && are_distinct(rest),
+    }
+}
+
+/// Whether a card has this number.
+fn has_number(cards: &[Card], number: u8) -> bool
+    ensures { result ≡ list_any (λ card. nat_eq number card) cards.now }
+{
+    cards.iter().any(|card| card.number() == number)
 }

@@ -8,3 +8,6 @@ mod fault;
 pub use card::Card;
 pub use deal::Deal;
 pub use fault::DealFault;
+
+#[cfg(test)]
+mod tests;
