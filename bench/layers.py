@@ -1,0 +1,46 @@
+#!/usr/bin/env python3
+"""Times the layers through the program `workload` and prints figures: bench/layers.py [RUNS].
+
+Build it first (./check, or `rt run` in crates/workload). Each task runs RUNS times (5 by default) and the
+fastest run counts; what it prints is checked to be the same each time.
+"""
+import subprocess
+import sys
+import time
+from pathlib import Path
+
+PROGRAM = Path(__file__).resolve().parent.parent / "crates/workload/out/workload"
+
+# The task, what one piece of its work is called, how many pieces a run has, and the task whose time is taken off.
+TASKS = [
+    ("five-card-hands", "values of five cards", 2_598_960, None),
+    ("draws", "deals drawn", 20_000, None),
+    ("best-of-seven", "best fives of seven", 200_000, "draws"),
+]
+
+
+def fastest(task, runs):
+    outputs, times = set(), []
+    for _ in range(runs):
+        started = time.perf_counter()
+        ran = subprocess.run([PROGRAM, task], capture_output=True, check=True, stdin=subprocess.DEVNULL)
+        times.append(time.perf_counter() - started)
+        outputs.add(ran.stdout)
+    if len(outputs) != 1:
+        sys.exit(f"{task}: its output differs from run to run")
+    return min(times), outputs.pop().decode().strip()
+
+
+def main():
+    runs = int(sys.argv[1]) if len(sys.argv) > 1 else 5
+    times = {}
+    for task, piece, count, without in TASKS:
+        seconds, output = fastest(task, runs)
+        times[task] = seconds
+        seconds = max(seconds - times.get(without, 0), 1e-9)
+        print(f"{task}: {count / seconds:,.0f} {piece} a second ({seconds:.3f} s for {count:,})")
+        print(f"  {output}")
+
+
+if __name__ == "__main__":
+    main()

@@ -1,0 +1,4 @@
+pub mod Worth
+pub mod WorthInside
+pub mod Five
+pub mod Best

@@ -1,0 +1,16 @@
+//! What hands of cards are worth: the value of five cards, and the best five of seven.
+//!
+//! Values are compared and shown, and nothing of players, pots or betting is known here.
+#![tactic(auto)]
+
+mod all_fives;
+mod five;
+mod hand_value;
+mod laws;
+#[cfg(test)]
+mod tests;
+
+pub use all_fives::best_of_seven;
+pub use five::value_of_five;
+pub use hand_value::HandValue;
+pub use laws::order_of_cards_is_of_no_account;

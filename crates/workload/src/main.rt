@@ -1,0 +1,33 @@
+//! Runs the layers of the dealer on many values, for tests against outside vectors and for timing from outside.
+//!
+//! Each argument names what to run, and prints counts and checksums: `five-card-hands`, `best-of-seven`, `draws`,
+//! and `decks`, which reads lines `seed hand players deal`.
+#![tactic(auto)]
+
+mod decks;
+mod hands;
+mod task;
+
+use std::{env, io};
+use task::Task;
+
+fn main(rt: HostRuntime) -> io::Result<()> {
+    let words = env::args(&rt)?;
+    for word in words.skip(1) {
+        match Task::named(word.as_str()) {
+            Some(task) => run(&rt, task)?,
+            None => println!(rt; "unknown: {word}")?,
+        }
+    }
+    Ok(())
+}
+
+/// Runs one task and prints what it found.
+fn run(rt: &(impl Input + Print + AllocGlobal), task: Task) -> io::Result<()> {
+    match task {
+        Task::FiveCardHands => hands::print_categories(rt),
+        Task::BestOfSeven => hands::print_best_of_seven(rt),
+        Task::Draws => hands::print_draws(rt),
+        Task::Decks => decks::print_checked(rt),
+    }
+}
