@@ -16,6 +16,10 @@ TASKS = [
     ("five-card-hands", "values of five cards", 2_598_960, None),
     ("draws", "deals drawn", 20_000, None),
     ("best-of-seven", "best fives of seven", 200_000, "draws"),
+    ("short-hands", "actions of hands of 8", 20_000_000, None),
+    ("long-hands", "actions of hands of 256", 20_000_000, None),
+    ("encode", "frames written", 1_000_000, None),
+    ("decode", "frames read", 1_000_000, None),
 ]
 
 
@@ -40,6 +44,8 @@ def main():
         seconds = max(seconds - times.get(without, 0), 1e-9)
         print(f"{task}: {count / seconds:,.0f} {piece} a second ({seconds:.3f} s for {count:,})")
         print(f"  {output}")
+    ratio = times["long-hands"] / times["short-hands"]
+    print(f"an action of a long hand takes {ratio:.2f} times as long as one of a short hand")
 
 
 if __name__ == "__main__":

@@ -1,13 +1,18 @@
 //! Runs the layers of the dealer on many values, for tests against outside vectors and for timing from outside.
 //!
 //! Each argument names what to run, and prints counts and checksums: `five-card-hands`, `best-of-seven`, `draws`,
-//! and `decks`, which reads lines `seed hand players deal`.
+//! `short-hands`, `long-hands`, `encode`, `decode`; `decks`, which reads lines `seed hand players deal`; and `frames`,
+//! which reads lines of a frame in hexadecimal and `ok` or its fault.
 #![tactic(auto)]
 
 mod decks;
+mod frame_speed;
+mod frames;
+mod hand_play;
 mod hands;
 mod task;
 
+use hand_play::Policy;
 use std::{env, io};
 use task::Task;
 
@@ -29,5 +34,10 @@ fn run(rt: &(impl Input + Print + AllocGlobal), task: Task) -> io::Result<()> {
         Task::BestOfSeven => hands::print_best_of_seven(rt),
         Task::Draws => hands::print_draws(rt),
         Task::Decks => decks::print_checked(rt),
+        Task::ShortHands => hand_play::print_played(rt, Policy::Call),
+        Task::LongHands => hand_play::print_played(rt, Policy::RaiseLeast),
+        Task::Encode => frame_speed::print_encoded(rt),
+        Task::Decode => frame_speed::print_decoded(rt),
+        Task::Frames => frames::print_checked(rt),
     }
 }

@@ -9,6 +9,16 @@ pub enum Task {
     Draws,
     /// Compares decks that are read with those that are drawn.
     Decks,
+    /// Plays short hands.
+    ShortHands,
+    /// Plays hands as long as they can be.
+    LongHands,
+    /// Writes frames.
+    Encode,
+    /// Reads frames.
+    Decode,
+    /// Reads frames, and compares what they read as with what stands beside them.
+    Frames,
 }
 
 impl Task {
@@ -19,6 +29,11 @@ impl Task {
             "best-of-seven" => Some(Task::BestOfSeven),
             "draws" => Some(Task::Draws),
             "decks" => Some(Task::Decks),
+            "short-hands" => Some(Task::ShortHands),
+            "long-hands" => Some(Task::LongHands),
+            "encode" => Some(Task::Encode),
+            "decode" => Some(Task::Decode),
+            "frames" => Some(Task::Frames),
             _ => None,
         }
     }

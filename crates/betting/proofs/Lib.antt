@@ -1,0 +1,15 @@
+pub mod Examples
+pub mod Counts
+pub mod Search
+pub mod Steps
+pub mod Limits
+pub mod Advance
+pub mod Sound
+pub mod SoundSteps
+pub mod Legal
+pub mod Tally
+pub mod Ranges
+pub mod Start
+pub mod LegalLaws
+pub mod Kept
+pub mod Taken

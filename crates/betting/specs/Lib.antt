@@ -1,0 +1,9 @@
+pub mod Turns
+pub mod Rounds
+pub mod Legal
+pub mod Text
+pub mod Fault
+pub mod Laws
+pub mod Betting
+pub mod TotalsInside
+pub mod PlayInside

@@ -1,0 +1,9 @@
+pub mod Amounts
+pub mod Splitting
+pub mod Once
+pub mod Counting
+pub mod Following
+pub mod Passing
+pub mod Settings
+pub mod Grammar
+pub mod Examples

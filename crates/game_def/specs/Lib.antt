@@ -1,0 +1,9 @@
+pub mod Game
+pub mod GameDefInside
+pub mod Text
+pub mod Fault
+pub mod Key
+pub mod Entries
+pub mod GameFile
+pub mod Reading
+pub mod WholeFile

@@ -1,0 +1,313 @@
+-- Frames as they are written byte for byte, and bytes that are none.
+use Rattle.std.proofs.Common.{◌≡◌, ℕ, true, false, nat_eq, lit<, lit≤, List, [], ◌∷◌, Some, None, Ok, Err, refl, rules, codes, arith, inl, inr}
+use Rattle.std.specs.List.{IsDistinct}
+use Rattle.std.proofs.lemmas.Map.Keys.{apart_from_distinct}
+use Rattle.std.specs.Fmt.{digits}
+use Rattle.betting.specs.declared.action.Action.TheVariants.{Fold, Call, Raise}
+use Rattle.slot_log.specs.declared.command.Command.TheVariants.{Deal, Act}
+use Rattle.paxos_wire.specs.declared.ballot.Ballot.{Ballot}
+use Rattle.paxos_wire.specs.declared.entry.Entry.{Entry}
+use Rattle.paxos_wire.specs.declared.fault.FrameFault.TheVariants.{TooShort, TooLong, BadVersion, BadKind, BadBody}
+use Rattle.paxos_wire.specs.declared.message.Message.TheVariants.{Prepare, Promise, Refuse, Accept, Accepted, Chosen, Ask, Forward}
+use Rattle.paxos_wire.specs.Fits.{IsBallot, IsSlot, IsAmount, IsInRange, AreDealt, IsCommand, IsAct, Rise, IsMessage}
+use Rattle.paxos_wire.specs.Spelling.{ballot_text, slot_text, action_text, command_text, entry_text, entries_text, frame}
+use Rattle.paxos_wire.specs.Reading.{below_at, ballot_at, action_of, action_at, is_count, deal_of, deal_at, dealt_at, acted_at, command_at, of_ballot_at, ask_at, message_at, body_of}
+use Rattle.paxos_wire.specs.Faults.{header_fault, fault_of, reading}
+use Rattle.paxos_wire.specs.Stream.{needed, IsPartial, IsFaulty, Takes, stream_of, Splits}
+use Rattle.paxos_wire.specs.Lines.{fault_code, fault_line, message_line}
+use Rattle.paxos_wire.proofs.StreamLaws.{in_front}
+
+-- ---- texts
+
+abbrev pub first_ballot : Ballot
+first_ballot = record { round = 1; node = 0 }
+
+-- the cards 21331a200018061c2e, for two players
+abbrev pub cards : List ℕ
+cards = 33 ∷ 51 ∷ 26 ∷ 32 ∷ 0 ∷ 24 ∷ 6 ∷ 28 ∷ 46 ∷ []
+
+pub ballot_of_round_one : ballot_text first_ballot ≡ 0 ∷ 0 ∷ 0 ∷ 1 ∷ 0 ∷ []
+ballot_of_round_one = refl
+
+pub last_slot : slot_text 3999999 ≡ 0 ∷ 61 ∷ 8 ∷ 255 ∷ []
+last_slot = refl
+
+pub fold_text : action_text Fold ≡ 0 ∷ 0 ∷ 0 ∷ 0 ∷ 0 ∷ []
+fold_text = refl
+
+pub call_text : action_text Call ≡ 1 ∷ 0 ∷ 0 ∷ 0 ∷ 0 ∷ []
+call_text = refl
+
+pub raise_text : action_text (Raise 2147483647) ≡ 2 ∷ 127 ∷ 255 ∷ 255 ∷ 255 ∷ []
+raise_text = refl
+
+pub deal_command : command_text (Deal 0 cards) ≡ 1 ∷ 0 ∷ 0 ∷ 0 ∷ 0 ∷ 9 ∷ 33 ∷ 51 ∷ 26 ∷ 32 ∷ 0 ∷ 24 ∷ 6 ∷ 28 ∷ 46 ∷ []
+deal_command = refl
+
+pub call_command : command_text (Act 0 0 Call) ≡ 2 ∷ 0 ∷ 0 ∷ 0 ∷ 0 ∷ 0 ∷ 0 ∷ 1 ∷ 0 ∷ 0 ∷ 0 ∷ 0 ∷ []
+call_command = refl
+
+pub raise_command : command_text (Act 9999 255 (Raise 300)) ≡ 2 ∷ 0 ∷ 0 ∷ 39 ∷ 15 ∷ 0 ∷ 255 ∷ 2 ∷ 0 ∷ 0 ∷ 1 ∷ 44 ∷ []
+raise_command = refl
+
+abbrev pub first_entry : Entry
+first_entry = record { slot = 0; ballot = first_ballot; command = Deal 0 cards }
+
+pub entry_of_the_deal : entry_text first_entry ≡ 0 ∷ 0 ∷ 0 ∷ 0 ∷ 0 ∷ 0 ∷ 0 ∷ 1 ∷ 0 ∷ 1 ∷ 0 ∷ 0 ∷ 0 ∷ 0 ∷ 9 ∷ 33 ∷ 51 ∷ 26 ∷ 32 ∷ 0 ∷ 24 ∷ 6 ∷ 28 ∷ 46 ∷ []
+entry_of_the_deal = refl
+
+pub no_entries : entries_text [] ≡ 0 ∷ []
+no_entries = refl
+
+pub prepare : frame (Prepare first_ballot 0) ≡ 0 ∷ 0 ∷ 0 ∷ 11 ∷ 1 ∷ 1 ∷ 0 ∷ 0 ∷ 0 ∷ 1 ∷ 0 ∷ 0 ∷ 0 ∷ 0 ∷ 0 ∷ []
+unfolding frame
+prepare = refl
+
+pub accept : frame (Accept first_ballot 0 (Deal 0 cards)) ≡ 0 ∷ 0 ∷ 0 ∷ 26 ∷ 1 ∷ 4 ∷ 0 ∷ 0 ∷ 0 ∷ 1 ∷ 0 ∷ 0 ∷ 0 ∷ 0 ∷ 0 ∷ 1 ∷ 0 ∷ 0 ∷ 0 ∷ 0 ∷ 9 ∷ 33 ∷ 51 ∷ 26 ∷ 32 ∷ 0 ∷ 24 ∷ 6 ∷ 28 ∷ 46 ∷ []
+unfolding frame
+accept = refl
+
+pub accepted : frame (Accepted first_ballot 0 (Act 0 0 Call)) ≡ 0 ∷ 0 ∷ 0 ∷ 23 ∷ 1 ∷ 5 ∷ 0 ∷ 0 ∷ 0 ∷ 1 ∷ 0 ∷ 0 ∷ 0 ∷ 0 ∷ 0 ∷ 2 ∷ 0 ∷ 0 ∷ 0 ∷ 0 ∷ 0 ∷ 0 ∷ 1 ∷ 0 ∷ 0 ∷ 0 ∷ 0 ∷ []
+unfolding frame
+accepted = refl
+
+pub forward : frame (Forward (Act 0 0 Call)) ≡ 0 ∷ 0 ∷ 0 ∷ 14 ∷ 1 ∷ 8 ∷ 2 ∷ 0 ∷ 0 ∷ 0 ∷ 0 ∷ 0 ∷ 0 ∷ 1 ∷ 0 ∷ 0 ∷ 0 ∷ 0 ∷ []
+unfolding frame
+forward = refl
+
+pub ask : frame (Ask 1) ≡ 0 ∷ 0 ∷ 0 ∷ 6 ∷ 1 ∷ 7 ∷ 0 ∷ 0 ∷ 0 ∷ 1 ∷ []
+unfolding frame
+ask = refl
+
+pub chosen : frame (Chosen 1 (Act 0 0 Call)) ≡ 0 ∷ 0 ∷ 0 ∷ 18 ∷ 1 ∷ 6 ∷ 0 ∷ 0 ∷ 0 ∷ 1 ∷ 2 ∷ 0 ∷ 0 ∷ 0 ∷ 0 ∷ 0 ∷ 0 ∷ 1 ∷ 0 ∷ 0 ∷ 0 ∷ 0 ∷ []
+unfolding frame
+chosen = refl
+
+pub refuse : frame (Refuse first_ballot 0 (record { round = 1; node = 1 })) ≡ 0 ∷ 0 ∷ 0 ∷ 16 ∷ 1 ∷ 3 ∷ 0 ∷ 0 ∷ 0 ∷ 1 ∷ 0 ∷ 0 ∷ 0 ∷ 0 ∷ 0 ∷ 0 ∷ 0 ∷ 0 ∷ 1 ∷ 1 ∷ []
+unfolding frame
+refuse = refl
+
+-- a promise to node 2 in round 2 that tells of the deal
+pub promise : frame (Promise (record { round = 2; node = 2 }) 0 (first_entry ∷ [])) ≡ 0 ∷ 0 ∷ 0 ∷ 36 ∷ 1 ∷ 2 ∷ 0 ∷ 0 ∷ 0 ∷ 2 ∷ 2 ∷ 0 ∷ 0 ∷ 0 ∷ 0 ∷ 1 ∷ 0 ∷ 0 ∷ 0 ∷ 0 ∷ 0 ∷ 0 ∷ 0 ∷ 1 ∷ 0 ∷ 1 ∷ 0 ∷ 0 ∷ 0 ∷ 0 ∷ 9 ∷ 33 ∷ 51 ∷ 26 ∷ 32 ∷ 0 ∷ 24 ∷ 6 ∷ 28 ∷ 46 ∷ []
+unfolding frame
+promise = refl
+
+-- ---- ranges
+
+pub ballot_fits : IsBallot first_ballot
+ballot_fits = record { first = lit≤ tt; last = lit< tt; node = lit< tt }
+
+pub round_0-none : IsBallot (record { round = 0; node = 0 }) → ⊥
+round_0-none b = let first = b.first in absurd (omega arith)
+
+pub node_5-none : IsBallot (record { round = 1; node = 5 }) → ⊥
+node_5-none b = let node = b.node in absurd (omega arith)
+
+pub last_slot_fits : IsSlot 3999999
+last_slot_fits = lit< tt
+
+pub slot_4000000-none : IsSlot 4000000 → ⊥
+slot_4000000-none h = absurd (omega arith)
+
+pub greatest_amount : IsAmount (Raise 2147483647)
+greatest_amount = lit≤ tt
+
+pub above_the_amount-none : IsAmount (Raise 2147483648) → ⊥
+above_the_amount-none h = absurd (omega arith)
+
+pub last_act : IsInRange (Act 9999 255 Fold)
+last_act = (lit< tt, lit< tt, tt)
+
+pub hand_10000-none : IsInRange (Deal 10000 cards) → ⊥
+hand_10000-none h = absurd (omega arith)
+
+pub index_256-none : IsInRange (Act 0 256 Fold) → ⊥
+index_256-none h = let index = h.1 in absurd (omega arith)
+
+pub cards_dealt : AreDealt cards
+unfolding IsDistinct
+cards_dealt = record { least = lit≤ tt; most = lit≤ tt; deal = record { count = refl; cards_of_the_pack = search rules; distinct = search rules } }
+
+-- the ten of diamonds twice
+pub repeated-none : AreDealt (33 ∷ 51 ∷ 26 ∷ 32 ∷ 0 ∷ 24 ∷ 6 ∷ 28 ∷ 33 ∷ []) → ⊥
+repeated-none dealt =
+    let apart : true ≡ false = apart_from_distinct nat_eq _ 0 8 0 dealt.deal.distinct (lit< tt) (lit< tt) in absurd cc
+
+-- ten cards
+pub even_count-none : AreDealt (33 ∷ 51 ∷ 26 ∷ 32 ∷ 0 ∷ 24 ∷ 6 ∷ 28 ∷ 46 ∷ 1 ∷ []) → ⊥
+even_count-none dealt = let count = dealt.deal.count in absurd cc
+
+pub deal_is_command : IsCommand (Deal 0 cards)
+deal_is_command = record { numbers = lit< tt; cards = cards_dealt }
+
+pub call_is_act : IsAct (Act 0 0 Call)
+call_is_act = tt
+
+pub deal-no_act : IsAct (Deal 0 cards) → ⊥
+deal-no_act h = h
+
+abbrev pub entry_at_slot : ℕ → Entry
+entry_at_slot slot = record { slot = slot; ballot = first_ballot; command = Act 0 0 Call }
+
+pub rising : Rise 5 69 (entry_at_slot 5 ∷ entry_at_slot 68 ∷ [])
+rising = (lit≤ tt, lit< tt, (lit≤ tt, lit< tt, tt))
+
+pub below_the_slot-none : Rise 5 69 (entry_at_slot 4 ∷ []) → ⊥
+below_the_slot-none h = let low = h.0 in absurd (omega arith)
+
+pub past_the_window-none : Rise 5 69 (entry_at_slot 69 ∷ []) → ⊥
+past_the_window-none h = let high = h.1 in absurd (omega arith)
+
+pub not_rising-none : Rise 5 69 (entry_at_slot 6 ∷ entry_at_slot 6 ∷ []) → ⊥
+not_rising-none h = let low = h.2.0 in absurd (omega arith)
+
+pub promise_is_message : IsMessage (Promise (record { round = 2; node = 2 }) 0 (first_entry ∷ []))
+promise_is_message = record {
+  numbers = (
+    record { first = lit≤ tt; last = lit< tt; node = lit< tt },
+    lit< tt,
+    record { most = lit≤ tt; each = (record { slot = lit< tt; ballot = ballot_fits; command = lit< tt }, tt); rise = (lit≤ tt, lit< tt, tt) },
+  );
+  cards = (cards_dealt, tt);
+}
+
+pub forwarded_deal-none : IsMessage (Forward (Deal 0 cards)) → ⊥
+forwarded_deal-none m = m.numbers.0
+
+-- ---- reading
+
+pub ballot_read : ballot_at (0 ∷ 0 ∷ 0 ∷ 1 ∷ 4 ∷ 9 ∷ []) ≡ Some (record { round = 1; node = 4 }, 9 ∷ [])
+unfolding ballot_at
+ballot_read = refl
+
+pub short_ballot : ballot_at (0 ∷ 0 ∷ 0 ∷ 1 ∷ []) ≡ None
+unfolding ballot_at
+short_ballot = refl
+
+pub slot_read : below_at 4 4000000 (0 ∷ 61 ∷ 8 ∷ 255 ∷ []) ≡ Some (3999999, [])
+unfolding below_at
+slot_read = refl
+
+pub slot_above : below_at 4 4000000 (0 ∷ 61 ∷ 9 ∷ 0 ∷ []) ≡ None
+unfolding below_at
+slot_above = refl
+
+pub amount_with_a_fold : command_at (2 ∷ 0 ∷ 0 ∷ 0 ∷ 0 ∷ 0 ∷ 0 ∷ 0 ∷ 0 ∷ 0 ∷ 0 ∷ 1 ∷ []) ≡ None
+unfolding command_at acted_at action_at action_of below_at
+amount_with_a_fold = refl
+
+pub call_read : command_at (2 ∷ 0 ∷ 0 ∷ 0 ∷ 0 ∷ 0 ∷ 0 ∷ 1 ∷ 0 ∷ 0 ∷ 0 ∷ 0 ∷ []) ≡ Some (Act 0 0 Call, [])
+unfolding command_at acted_at action_at action_of below_at
+call_read = refl
+
+pub deal_read : command_at (1 ∷ 0 ∷ 0 ∷ 0 ∷ 0 ∷ 9 ∷ 33 ∷ 51 ∷ 26 ∷ 32 ∷ 0 ∷ 24 ∷ 6 ∷ 28 ∷ 46 ∷ []) ≡ Some (Deal 0 cards, [])
+unfolding command_at dealt_at deal_at deal_of below_at
+deal_read = refl
+
+pub nine_and_an_even_count : (is_count 9 ≡ true) × (is_count 10 ≡ false) × (is_count 7 ≡ false) × (is_count 27 ≡ false)
+nine_and_an_even_count = (refl, refl, refl, refl)
+
+-- ---- faults
+
+pub two_bytes : fault_of (0 ∷ 0 ∷ []) ≡ TooShort
+unfolding header_fault
+two_bytes = refl
+
+pub length_of_one : fault_of (0 ∷ 0 ∷ 0 ∷ 1 ∷ 1 ∷ []) ≡ TooShort
+unfolding header_fault
+length_of_one = refl
+
+pub length_4097 : fault_of (0 ∷ 0 ∷ 16 ∷ 1 ∷ []) ≡ TooLong
+unfolding header_fault
+length_4097 = refl
+
+pub length_and_no_more : fault_of (0 ∷ 0 ∷ 0 ∷ 11 ∷ []) ≡ BadBody
+unfolding header_fault
+length_and_no_more = refl
+
+pub version_2 : fault_of (0 ∷ 0 ∷ 0 ∷ 2 ∷ 2 ∷ 1 ∷ []) ≡ BadVersion
+unfolding header_fault
+version_2 = refl
+
+pub kind_9 : fault_of (0 ∷ 0 ∷ 0 ∷ 2 ∷ 1 ∷ 9 ∷ []) ≡ BadKind
+unfolding header_fault
+kind_9 = refl
+
+pub no_body : reading (0 ∷ 0 ∷ 0 ∷ 2 ∷ 1 ∷ 1 ∷ []) ≡ Err BadBody
+unfolding reading header_fault body_of message_at of_ballot_at ballot_at
+no_body = refl
+
+pub ask_read : reading (0 ∷ 0 ∷ 0 ∷ 6 ∷ 1 ∷ 7 ∷ 0 ∷ 0 ∷ 0 ∷ 1 ∷ []) ≡ Ok (Ask 1)
+unfolding reading header_fault body_of message_at ask_at below_at
+ask_read = refl
+
+-- ---- streams
+
+pub needed_for_the_length : needed (0 ∷ 0 ∷ 16 ∷ []) ≡ 4
+unfolding needed
+needed_for_the_length = refl
+
+pub needed_for_4096 : needed (0 ∷ 0 ∷ 16 ∷ 0 ∷ []) ≡ 4100
+unfolding needed
+needed_for_4096 = refl
+
+pub needed_for_4097 : needed (0 ∷ 0 ∷ 16 ∷ 1 ∷ []) ≡ 4
+unfolding needed
+needed_for_4097 = refl
+
+pub three_bytes_wait : IsPartial (0 ∷ 0 ∷ 16 ∷ [])
+unfolding needed
+three_bytes_wait = lit< tt
+
+pub length_4097_waits-none : IsPartial (0 ∷ 0 ∷ 16 ∷ 1 ∷ []) → ⊥
+unfolding needed
+length_4097_waits-none h = absurd (omega arith)
+
+pub frame_and_a_byte : stream_of (Ask 1 ∷ []) (7 ∷ []) ≡ 0 ∷ 0 ∷ 0 ∷ 6 ∷ 1 ∷ 7 ∷ 0 ∷ 0 ∷ 0 ∷ 1 ∷ 7 ∷ []
+unfolding frame
+frame_and_a_byte = refl
+
+pub frame_splits : Splits (0 ∷ 0 ∷ 0 ∷ 6 ∷ 1 ∷ 7 ∷ 0 ∷ 0 ∷ 0 ∷ 1 ∷ 0 ∷ []) (Ask 1 ∷ []) None
+unfolding frame needed
+frame_splits = record { rest = 0 ∷ []; whole = refl; each = (record { numbers = lit< tt; cards = tt }, tt); ends = lit< tt }
+
+-- ---- printed lines
+
+pub accept_line : message_line (Accept (record { round = 3; node = 1 }) 7 (Deal 0 cards)) ≡ codes "Accept (3, 1) at 7: deal of hand 0"
+unfolding digits
+accept_line = refl
+
+pub forward_line : message_line (Forward (Act 0 2 (Raise 300))) ≡ codes "Forward act 2 of hand 0: raise to 300"
+unfolding digits
+forward_line = refl
+
+pub promise_line : message_line (Promise (record { round = 2; node = 2 }) 0 (first_entry ∷ [])) ≡ codes "Promise (2, 2) from 0: 1 accepted"
+unfolding digits
+promise_line = refl
+
+pub bad_kind_line : fault_line BadKind ≡ codes "53 BadKind"
+bad_kind_line = refl
+
+pub bad_body_code : fault_code BadBody ≡ 54
+bad_body_code = refl
+
+-- a length of 4097 is at fault before any further byte
+pub length_4097_faulty : IsFaulty (0 ∷ 0 ∷ 16 ∷ 1 ∷ []) TooLong
+unfolding needed reading header_fault
+length_4097_faulty = record {
+  there = lit≤ tt;
+  none = λ m rest fits e. let is = (in_front m (0 ∷ 0 ∷ 16 ∷ 1 ∷ []) rest fits e).read in absurd cc;
+  first = refl;
+}
+
+pub three_bytes_faulty-none : IsFaulty (0 ∷ 0 ∷ 16 ∷ []) TooShort → ⊥
+unfolding needed
+three_bytes_faulty-none faulty = let there = faulty.there in absurd (omega arith)
+
+pub piece_taken : Takes (0 ∷ []) (0 ∷ 16 ∷ []) (0 ∷ 0 ∷ 16 ∷ [])
+piece_taken = inl refl
+
+pub piece_lost-none : Takes [] (7 ∷ []) [] → ⊥
+unfolding needed
+piece_lost-none (inl same) = absurd cc
+piece_lost-none (inr faulty) = let there = faulty.1.there in absurd (omega arith)

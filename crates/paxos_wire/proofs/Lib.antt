@@ -1,0 +1,15 @@
+pub mod Pushing
+pub mod EntryLoop
+pub mod Distinct
+pub mod Counts
+pub mod Room
+pub mod Steps
+pub mod Numbers
+pub mod CommandLaws
+pub mod EntryLaws
+pub mod MessageLaws
+pub mod FrameLaws
+pub mod StreamLaws
+pub mod Readers
+pub mod Pieces
+pub mod Examples

@@ -1,0 +1,12 @@
+use Rattle.std.proofs.Common.{◌≡◌, ◌-◌, ◌+◌, ◌≤◌}
+use Rattle.std.proofs.Common.{length}
+use Rattle.paxos_wire.specs.Reading.{entries_at}
+use Rattle.paxos_wire.proofs.EntryLoop.{with_front}
+use Rattle.paxos_wire.proofs.reading.entries_of.Given as goal
+
+abbrev pub invariant-loop : goal.invariant-loop
+invariant-loop l = record {
+  count : length l.entries ≡ l.counter;
+  from : l.from ≤ l.slot + 64;
+  so_far : with_front l.entries (entries_at (l.count - l.counter) l.from (l.slot + 64) l.rest) ≡ entries_at l.count l.slot (l.slot + 64) l.bytes;
+}

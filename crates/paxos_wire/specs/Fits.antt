@@ -1,0 +1,99 @@
+-- Which ballots, commands and messages have a frame: the ranges of their numbers.
+use Rattle.std.specs.Prelude.{ℕ, ◌+◌, ◌^◌, ◌<◌, ◌≤◌, List, [], ◌∷◌, length, map}
+use Rattle.std.specs.List.{AllByRecursion}
+use Rattle.card_core.specs.Deal.{IsDeal, player_count}
+use Rattle.betting.specs.declared.action.Action.{Action}
+use Rattle.betting.specs.declared.action.Action.TheVariants.{Fold, Call, Raise}
+use Rattle.slot_log.specs.declared.command.Command.{Command}
+use Rattle.slot_log.specs.declared.command.Command.TheVariants.{Deal, Act}
+use Rattle.paxos_wire.specs.declared.limits.TheConstants.{NODES, SLOTS, HANDS, ACTIONS, MOST_CHIPS, WINDOW}
+use Rattle.paxos_wire.specs.declared.ballot.Ballot.{Ballot}
+use Rattle.paxos_wire.specs.declared.entry.Entry.{Entry}
+use Rattle.paxos_wire.specs.declared.message.Message.{Message}
+use Rattle.paxos_wire.specs.declared.message.Message.TheVariants.{Prepare, Promise, Refuse, Accept, Accepted, Chosen, Ask, Forward}
+
+-- a round from 1 on, of a node that there is
+pub record IsBallot (b : Ballot) : Type 0 where
+  pub first : 1 ≤ b.round
+  pub last : b.round < 2 ^ 32
+  pub node : b.node < NODES
+
+-- slots are counted from 0
+abbrev pub IsSlot : ℕ → Type 0
+IsSlot slot = slot < SLOTS
+
+-- only a raise has an amount
+abbrev pub IsAmount : Action → Type 0
+IsAmount Fold = Unit {0}
+IsAmount Call = Unit {0}
+IsAmount (Raise amount) = amount ≤ MOST_CHIPS
+
+-- the numbers of a command are within their ranges
+abbrev pub IsInRange : Command → Type 0
+IsInRange (Deal hand cards) = hand < HANDS
+IsInRange (Act hand index action) = (hand < HANDS) × (index < ACTIONS) × IsAmount action
+
+-- the cards are those of a deal for two to ten players
+pub record AreDealt (cards : List ℕ) : Type 0 where
+  pub least : 2 ≤ player_count cards
+  pub most : player_count cards ≤ 10
+  pub deal : IsDeal (player_count cards) cards
+
+-- the cards of a deal are dealt, as those of each value of the program are
+abbrev pub IsDealt : Command → Type 0
+IsDealt (Deal hand cards) = AreDealt cards
+IsDealt (Act hand index action) = Unit {0}
+
+-- a command that has a text
+pub record IsCommand (c : Command) : Type 0 where
+  pub numbers : IsInRange c
+  pub cards : IsDealt c
+
+-- the command is an act of a player
+abbrev pub IsAct : Command → Type 0
+IsAct (Deal hand cards) = ⊥
+IsAct (Act hand index action) = Unit {0}
+
+-- an entry's numbers are within their ranges
+pub record IsEntry (e : Entry) : Type 0 where
+  pub slot : IsSlot e.slot
+  pub ballot : IsBallot e.ballot
+  pub command : IsInRange e.command
+
+-- the entries' slots rise, from one slot on and below another
+abbrev pub Rise : ℕ → ℕ → List Entry → Type 0
+Rise from limit [] = Unit {0}
+Rise from limit (e ∷ es) = (from ≤ e.slot) × (e.slot < limit) × Rise (e.slot + 1) limit es
+
+-- at most 64 entries, with rising slots among the 64 from the slot on
+pub record AreEntries (slot : ℕ) (entries : List Entry) : Type 0 where
+  pub most : length entries ≤ WINDOW
+  pub each : AllByRecursion IsEntry entries
+  pub rise : Rise slot (slot + WINDOW) entries
+
+-- the numbers of a message are within their ranges, and what is forwarded is an act
+abbrev pub Fits : Message → Type 0
+Fits (Prepare ballot slot) = IsBallot ballot × IsSlot slot
+Fits (Promise ballot slot entries) = IsBallot ballot × IsSlot slot × AreEntries slot entries
+Fits (Refuse ballot slot promised) = IsBallot ballot × IsSlot slot × IsBallot promised
+Fits (Accept ballot slot command) = IsBallot ballot × IsSlot slot × IsInRange command
+Fits (Accepted ballot slot command) = IsBallot ballot × IsSlot slot × IsInRange command
+Fits (Chosen slot command) = IsSlot slot × IsInRange command
+Fits (Ask slot) = IsSlot slot
+Fits (Forward command) = IsAct command × IsInRange command
+
+-- the commands that a message carries
+abbrev pub commands : Message → List Command
+commands (Prepare ballot slot) = []
+commands (Promise ballot slot entries) = map (λ e. e.command) entries
+commands (Refuse ballot slot promised) = []
+commands (Accept ballot slot command) = command ∷ []
+commands (Accepted ballot slot command) = command ∷ []
+commands (Chosen slot command) = command ∷ []
+commands (Ask slot) = []
+commands (Forward command) = command ∷ []
+
+-- a message that has a frame
+pub record IsMessage (m : Message) : Type 0 where
+  pub numbers : Fits m
+  pub cards : AllByRecursion IsDealt (commands m)

@@ -1,0 +1,129 @@
+//! The one frame of each message, and the texts of ballots and commands, written behind what is there.
+
+ghost use Rattle.std.specs.Prelude.{◌≡◌, ◌+◌, ◌<◌, ◌≤◌, ◌++◌, ◌∷◌, [], length, map, OnOk, OnErr};
+ghost use Rattle.std.specs.Vec.{vec_len, vec_capacity};
+ghost use Rattle.std.specs.List.{flat_map, AllByRecursion};
+ghost use Rattle.paxos_wire.specs.Fits.{IsDealt, Fits, IsMessage, commands};
+ghost use Rattle.paxos_wire.specs.Spelling.{ballot_text, slot_text, command_text, entry_text, kind, body, payload, frame};
+
+use crate::ballot::Ballot;
+use crate::entry::Entry;
+use crate::lengths::{frame_len, payload_len};
+use crate::limits::VERSION;
+use crate::message::Message;
+use crate::writing::{put_ballot, put_command, put_entry, put_number};
+use std::alloc::AllocError;
+
+/// The byte that tells a message's kind.
+fn kind_of(message: &Message) -> u8
+    ensures { result ≡ kind message.now }
+{
+    match message {
+        Message::Prepare { .. } => 1,
+        Message::Promise { .. } => 2,
+        Message::Refuse { .. } => 3,
+        Message::Accept { .. } => 4,
+        Message::Accepted { .. } => 5,
+        Message::Chosen { .. } => 6,
+        Message::Ask { .. } => 7,
+        Message::Forward { .. } => 8,
+    }
+}
+
+fn put_entries(out: &mut Vec<u8>, entries: &[Entry])
+    requires { vec_len out.old + length (flat_map entry_text entries.now) ≤ vec_capacity out.old }
+    ensures items { out.new.items ≡ out.old.items ++ flat_map entry_text entries.now }
+    ensures capacity { vec_capacity out.old ≤ vec_capacity out.new }
+    ensures dealt { AllByRecursion IsDealt (map (λ e. e.command) entries.now) }
+{
+    for entry in entries {
+        put_entry(out, entry);
+    }
+}
+
+/// The ballot and the slot that the kinds 1 to 5 begin with.
+fn put_place(out: &mut Vec<u8>, ballot: Ballot, slot: u32)
+    requires { vec_len out.old + 9 ≤ vec_capacity out.old }
+    ensures items { out.new.items ≡ out.old.items ++ (ballot_text ballot ++ slot_text slot) }
+    ensures capacity { vec_capacity out.old ≤ vec_capacity out.new }
+{
+    put_ballot(out, ballot);
+    put_number(out, slot);
+}
+
+/// The fields of a message.
+fn put_body(out: &mut Vec<u8>, message: &Message)
+    requires { vec_len out.old + length (body message.now) ≤ vec_capacity out.old }
+    ensures items { out.new.items ≡ out.old.items ++ body message.now }
+    ensures capacity { vec_capacity out.old ≤ vec_capacity out.new }
+    ensures dealt { AllByRecursion IsDealt (commands message.now) }
+{
+    match message {
+        Message::Prepare { ballot, slot } => put_place(out, *ballot, *slot),
+        Message::Promise {
+            ballot,
+            slot,
+            entries,
+        } => {
+            put_place(out, *ballot, *slot);
+            out.push_reserved(entries.len() as u8);
+            put_entries(out, entries.as_slice());
+        }
+        Message::Refuse {
+            ballot,
+            slot,
+            promised,
+        } => {
+            put_place(out, *ballot, *slot);
+            put_ballot(out, *promised);
+        }
+        Message::Accept {
+            ballot,
+            slot,
+            command,
+        }
+        | Message::Accepted {
+            ballot,
+            slot,
+            command,
+        } => {
+            put_place(out, *ballot, *slot);
+            put_command(out, command);
+        }
+        Message::Chosen { slot, command } => {
+            put_number(out, *slot);
+            put_command(out, command);
+        }
+        Message::Ask { slot } => put_number(out, *slot),
+        Message::Forward { command } => put_command(out, command),
+    }
+}
+
+/// Appends the one frame of a message. An `Err`, for want of memory, changes no byte.
+pub fn encode(out: &mut Vec<u8>, message: &Message) -> Result<(), AllocError>
+    requires { Fits message.now }
+    ensures frame { OnOk result (out.new.items ≡ out.old.items ++ frame message.now) }
+    ensures err { OnErr result (out.new.items ≡ out.old.items) }
+    // The cards of its deals are dealt too, so that the frame decodes to the message.
+    ensures message { OnOk result (IsMessage message.now) }
+{
+    out.reserve(frame_len(message))?;
+    encode_reserved(out, message);
+    Ok(())
+}
+
+/// Appends the one frame of a message, where the room for it (`frame_len`) is there already.
+#[tactic(auto, unfolding(crate::specs::Spelling::frame))]
+pub fn encode_reserved(out: &mut Vec<u8>, message: &Message)
+    requires fits { Fits message.now }
+    requires room { vec_len out.old + length (frame message.now) ≤ vec_capacity out.old }
+    ensures frame { out.new.items ≡ out.old.items ++ frame message.now }
+    ensures capacity { vec_capacity out.old ≤ vec_capacity out.new }
+    // The cards of its deals are dealt too, so that the frame decodes to the message.
+    ensures message { IsMessage message.now }
+{
+    put_number(out, payload_len(message) as u32);
+    out.push_reserved(VERSION);
+    out.push_reserved(kind_of(message));
+    put_body(out, message);
+}

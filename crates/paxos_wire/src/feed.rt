@@ -1,0 +1,152 @@
+ghost use Rattle.std.specs.Prelude.{◌≡◌, ◌<◌, ◌≤◌, ◌+◌, ◌++◌, ◌↔◌, ℕ, [], List, length, take, drop, Some, Ok, IsNone, IfSome, IfOk, IfErr, OnOk, OnErr};
+ghost use Rattle.paxos_wire.specs.declared.message.Message.{Message};
+ghost use Rattle.paxos_wire.specs.Fits.{IsMessage};
+ghost use Rattle.paxos_wire.specs.Spelling.{frame};
+ghost use Rattle.paxos_wire.specs.Faults.{reading};
+ghost use Rattle.paxos_wire.specs.Stream.{needed, IsPartial, IsFaulty, Takes};
+
+use crate::decoding::read_frame;
+use crate::fault::FrameFault;
+use crate::limits::{LEAST_LENGTH, LENGTH_BYTES, MOST_LENGTH};
+use crate::message::Message;
+use byteorder::{BigEndian, ByteOrder};
+use std::alloc::{AllocError, Global};
+use std::marker::Model;
+
+/// Takes a stream of frames in any pieces, and gives its messages in order, and then its first fault.
+///
+/// Contracts see a feed as the list of the bytes that were fed and don't belong to a message given yet.
+#[derive(Drop)]
+pub struct Feed {
+    bytes: Vec<u8>,
+    taken: usize,
+    fault: Option<FrameFault>,
+}
+
+impl Model for Feed {
+    ghost use Rattle.std.specs.Prelude.{List, ℕ, drop};
+
+    ghost Value = { List ℕ };
+
+    ghost use Rattle.paxos_wire.specs.FeedInside.{IsKept};
+
+    ghost view = { λ f. drop f.taken f.bytes.items };
+
+    ghost invariant = { IsKept };
+}
+
+/// Removes so many bytes from the front.
+fn remove_front(bytes: &mut Vec<u8>, count: usize)
+    requires { count ≤ length bytes.old.items }
+    ensures { bytes.new.items ≡ drop count bytes.old.items }
+{
+    let rest = bytes.len() - count;
+    bytes.rotate_left(count);
+    bytes.truncate(rest);
+}
+
+/// How many bytes in front count as taken once `count` more are: past the most that one frame can need,
+/// they are removed.
+fn skip(bytes: &mut Vec<u8>, taken: usize, count: usize) -> usize
+    requires { taken + count ≤ length bytes.old.items }
+    ensures rest { drop result bytes.new.items ≡ drop (taken + count) bytes.old.items }
+    ensures within { result ≤ length bytes.new.items }
+    ensures most { result ≤ LENGTH_BYTES + MOST_LENGTH }
+{
+    let all = taken + count;
+    if all <= LENGTH_BYTES + MOST_LENGTH {
+        return all;
+    }
+    remove_front(bytes, all);
+    0
+}
+
+/// Where the frame in front ends, or the length that no frame may have; `None` while it isn't whole.
+#[tactic(auto, unfolding(crate::specs::Stream::needed))]
+fn front_end(bytes: &[u8]) -> Option<usize>
+    ensures partial { IsNone result ↔ IsPartial bytes.now }
+    ensures end { IfSome result (λ end. end ≡ needed bytes.now) }
+    ensures there { IfSome result (λ end. end ≤ length bytes.now) }
+{
+    if bytes.len() < LENGTH_BYTES {
+        return None;
+    }
+    let length = BigEndian::read_u32(bytes) as usize;
+    let end = if LEAST_LENGTH <= length && length <= MOST_LENGTH {
+        LENGTH_BYTES + length
+    } else {
+        LENGTH_BYTES
+    };
+    if bytes.len() < end { None } else { Some(end) }
+}
+
+/// What stands in front, and how many bytes of it there are; `None` while it isn't whole.
+fn read_front(bytes: &[u8]) -> Option<(Result<Message, FrameFault>, usize)>
+    ensures partial { IsNone result ↔ IsPartial bytes.now }
+    ensures end { IfSome result (λ x. x.1 ≤ length bytes.now) }
+    ensures found { IfSome result (λ x. IfOk x.0 (λ m. IsMessage m × (bytes.now ≡ frame m ++ drop x.1 bytes.now))) }
+    ensures only { (m : Message) (rest : List ℕ) → IsMessage m → bytes.now ≡ frame m ++ rest → IfSome result (λ x. (x.0 ≡ Ok m) × (drop x.1 bytes.now ≡ rest)) }
+    ensures fault { IfSome result (λ x. IfErr x.0 (λ f. IsFaulty bytes.now f)) }
+{
+    let end = front_end(bytes)?;
+    let read = read_frame(&bytes[..end]);
+    Some((read, end))
+}
+
+impl Feed {
+    /// A feed that was given nothing. Takes no memory.
+    pub fn new(alloc: Global) -> Feed
+        ensures { result ≡ [] }
+    {
+        Feed {
+            bytes: Vec::new(alloc),
+            taken: 0,
+            fault: None,
+        }
+    }
+
+    /// Takes the next piece of the stream; a stream at fault takes no more. An `Err` changes nothing.
+    pub fn feed(&mut self, piece: &[u8]) -> Result<(), AllocError>
+        ensures ok { OnOk result (Takes self.old piece.now self.new) }
+        ensures err { OnErr result (self.new ≡ self.old) }
+    {
+        if self.fault.is_some() {
+            return Ok(());
+        }
+        remove_front(&mut self.bytes, self.taken);
+        self.taken = 0;
+        self.bytes.extend_from_slice(piece)
+    }
+
+    /// The next message, or the fault in front (50 to 54), told again from then on.
+    ///
+    /// `None` where what is there is neither a whole frame nor at fault. A length below 2 or above 4096 is a
+    /// fault as soon as its four bytes are there, the others once the frame is whole.
+    pub fn next(&mut self) -> Option<Result<Message, FrameFault>>
+        // It waits just where the frame isn't whole.
+        ensures partial { IsNone result ↔ IsPartial self.old }
+        ensures waits { IsNone result → self.new ≡ self.old }
+        // What it gives stood in front, and the bytes behind it stay.
+        ensures found { IfSome result (λ read. IfOk read (λ m. IsMessage m × (self.old ≡ frame m ++ self.new))) }
+        // The message whose frame stands in front is given.
+        ensures only { (m : Message) (rest : List ℕ) → IsMessage m → self.old ≡ frame m ++ rest → (result ≡ Some (Ok m)) × (self.new ≡ rest) }
+        // A fault is the first of what stands in front, and everything stays.
+        ensures fault { IfSome result (λ read. IfErr read (λ f. IsFaulty self.old f × (self.new ≡ self.old))) }
+    {
+        if let Some(fault) = self.fault {
+            return Some(Err(fault));
+        }
+        let (_, waiting) = self.bytes.split_at(self.taken);
+        match read_front(waiting) {
+            None => None,
+            Some((Ok(message), end)) => {
+                self.taken = skip(&mut self.bytes, self.taken, end);
+                Some(Ok(message))
+            }
+            Some((Err(fault), _)) => {
+                self.fault = Some(fault);
+                Some(Err(fault))
+            }
+        }
+    }
+}

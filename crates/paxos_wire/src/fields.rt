@@ -1,0 +1,94 @@
+//! The fields of frames and records, read from the front of bytes.
+
+ghost use Rattle.std.specs.Prelude.{◌≡◌, ◌<◌, ◌^◌, length, IfSome};
+ghost use Rattle.paxos_wire.specs.Reading.{Gives, byte_at, number_at, below_at, ballot_at, action_of, action_at};
+
+use crate::ballot::Ballot;
+use crate::limits::{MOST_CHIPS, NODES};
+use betting::Action;
+use byteorder::{BigEndian, ByteOrder};
+
+/// A byte, and the bytes after it.
+pub(crate) fn read_byte(bytes: &[u8]) -> Option<(u8, &[u8])>
+    ensures { Gives (λ x. (x.0, x.1.now)) result (byte_at bytes.now) }
+{
+    match bytes {
+        [] => None,
+        [byte, rest @ ..] => Some((*byte, rest)),
+    }
+}
+
+/// A number of four bytes, and the bytes after it.
+fn read_number(bytes: &[u8]) -> Option<(u32, &[u8])>
+    ensures { Gives (λ x. (x.0, x.1.now)) result (number_at 4 bytes.now) }
+{
+    if bytes.len() < 4 {
+        return None;
+    }
+    Some((BigEndian::read_u32(bytes), &bytes[4..]))
+}
+
+/// A number of four bytes below a limit, and the bytes after it.
+#[tactic(auto, unfolding(crate::specs::Reading::below_at))]
+pub(crate) fn read_below(bytes: &[u8], limit: u32) -> Option<(u32, &[u8])>
+    ensures below { IfSome result (λ x. x.0 < limit) }
+    ensures exact { Gives (λ x. (x.0, x.1.now)) result (below_at 4 limit bytes.now) }
+{
+    let (number, rest) = read_number(bytes)?;
+    if number < limit {
+        Some((number, rest))
+    } else {
+        None
+    }
+}
+
+/// A number of two bytes below a limit, and the bytes after it.
+#[tactic(auto, unfolding(crate::specs::Reading::below_at))]
+pub(crate) fn read_short_below(bytes: &[u8], limit: u16) -> Option<(u16, &[u8])>
+    ensures { Gives (λ x. (x.0, x.1.now)) result (below_at 2 limit bytes.now) }
+{
+    if bytes.len() < 2 {
+        return None;
+    }
+    let number = BigEndian::read_u16(bytes);
+    if number < limit {
+        Some((number, &bytes[2..]))
+    } else {
+        None
+    }
+}
+
+#[tactic(auto, unfolding(crate::specs::Reading::ballot_at))]
+pub(crate) fn ballot_of(bytes: &[u8]) -> Option<(Ballot, &[u8])>
+    ensures { Gives (λ x. (x.0, x.1.now)) result (ballot_at bytes.now) }
+{
+    let (round, rest) = read_number(bytes)?;
+    let (node, rest) = read_byte(rest)?;
+    if round > 0 && node < NODES {
+        Some((Ballot { round, node }, rest))
+    } else {
+        None
+    }
+}
+
+#[tactic(auto, unfolding(crate::specs::Reading::action_of))]
+fn action_of(kind: u8, amount: u32) -> Option<Action>
+    ensures { result ≡ action_of kind amount }
+{
+    match kind {
+        0 if amount == 0 => Some(Action::Fold),
+        1 if amount == 0 => Some(Action::Call),
+        2 if amount <= MOST_CHIPS => Some(Action::Raise(amount)),
+        _ => None,
+    }
+}
+
+#[tactic(auto, unfolding(crate::specs::Reading::action_at))]
+pub(crate) fn read_action(bytes: &[u8]) -> Option<(Action, &[u8])>
+    ensures { Gives (λ x. (x.0, x.1.now)) result (action_at bytes.now) }
+{
+    let (kind, rest) = read_byte(bytes)?;
+    let (amount, rest) = read_number(rest)?;
+    let action = action_of(kind, amount)?;
+    Some((action, rest))
+}

@@ -1,0 +1,64 @@
+//! How many bytes a text takes, known before it is written.
+
+ghost use Rattle.std.specs.Prelude.{◌≡◌, ◌+◌, ◌*◌, ◌≤◌, length};
+ghost use Rattle.std.specs.List.{flat_map};
+ghost use Rattle.paxos_wire.specs.Spelling.{command_text, entry_text, payload, frame};
+
+use crate::entry::Entry;
+use crate::limits::{LENGTH_BYTES, MOST_LENGTH, WINDOW};
+use crate::message::Message;
+use slot_log::Command;
+
+/// How many bytes a command takes in a frame or a record: 11 to 31 for a deal, 12 for an act.
+pub fn command_len(command: &Command) -> usize
+    ensures value { result ≡ length (command_text command.now) }
+    ensures most { result ≤ 31 }
+{
+    match command {
+        Command::Deal { deal, .. } => {
+            prove_eq!(deal.cards().len(), 2 * deal.players() + 5);
+            6 + deal.cards().len()
+        }
+        Command::Act { .. } => 12,
+    }
+}
+
+/// How many bytes these entries take.
+fn entries_len(entries: &[Entry]) -> usize
+    requires { length entries.now ≤ WINDOW }
+    ensures value { result ≡ length (flat_map entry_text entries.now) }
+    ensures most { result ≤ 40 * length entries.now }
+{
+    let mut sum = 0;
+    for entry in entries {
+        sum += 9 + command_len(&entry.command);
+    }
+    sum
+}
+
+/// How many bytes stand in a message's frame behind the length.
+pub(crate) fn payload_len(message: &Message) -> usize
+    ensures value { result ≡ length (payload message.now) }
+    ensures most { result ≤ MOST_LENGTH }
+{
+    match message {
+        Message::Prepare { .. } => 11,
+        Message::Promise { entries, .. } => 12 + entries_len(entries.as_slice()),
+        Message::Refuse { .. } => 16,
+        Message::Accept { command, .. } | Message::Accepted { command, .. } => {
+            11 + command_len(command)
+        }
+        Message::Chosen { command, .. } => 6 + command_len(command),
+        Message::Ask { .. } => 6,
+        Message::Forward { command } => 2 + command_len(command),
+    }
+}
+
+/// How many bytes a message's frame takes, its length's four among them: at most 4100.
+#[tactic(auto, unfolding(crate::specs::Spelling::frame))]
+pub fn frame_len(message: &Message) -> usize
+    ensures value { result ≡ length (frame message.now) }
+    ensures most { result ≤ LENGTH_BYTES + MOST_LENGTH }
+{
+    LENGTH_BYTES + payload_len(message)
+}

@@ -1,0 +1,31 @@
+//! The ranges of the numbers in frames, each in this one place.
+
+/// The version byte that frames are written with.
+pub const VERSION: u8 = 1;
+
+/// Nodes are numbered from 0 to one below this.
+pub const NODES: u8 = 5;
+
+/// Slots are numbered from 0 to one below this.
+pub const SLOTS: u32 = 4_000_000;
+
+/// Hands are numbered from 0 to one below this.
+pub const HANDS: u32 = 10_000;
+
+/// The actions of a hand are numbered from 0 to one below this.
+pub const ACTIONS: u16 = 256;
+
+/// The greatest amount of a raise, in whole chips.
+pub const MOST_CHIPS: u32 = 2_147_483_647;
+
+/// The slots from the one that is asked for that a Promise tells of, and so its most entries.
+pub const WINDOW: usize = 64;
+
+/// The least that a frame's length may say: the version byte and the kind.
+pub const LEAST_LENGTH: usize = 2;
+
+/// The most that a frame's length may say.
+pub const MOST_LENGTH: usize = 4096;
+
+/// The bytes of a frame's length itself.
+pub const LENGTH_BYTES: usize = 4;

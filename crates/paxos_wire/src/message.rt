@@ -1,0 +1,50 @@
+use crate::ballot::Ballot;
+use crate::entries::Entries;
+use slot_log::Command;
+
+/// What a node says to another, after 'Paxos Made Simple'. Slots are counted from 0.
+#[derive(Clone, Copy, Debug, PartialEq, Eq)]
+pub enum Message {
+    /// Asks for a promise to take no lower ballot, and for what was accepted from the slot on.
+    Prepare {
+        ballot: Ballot,
+        slot: u32,
+    },
+    /// Promises the ballot, and tells what was accepted at the 64 slots from the slot on, by rising slots.
+    Promise {
+        ballot: Ballot,
+        slot: u32,
+        entries: Entries,
+    },
+    /// Refuses the ballot at the slot, since a greater one was promised.
+    Refuse {
+        ballot: Ballot,
+        slot: u32,
+        promised: Ballot,
+    },
+    /// Asks to accept the command in the ballot at the slot.
+    Accept {
+        ballot: Ballot,
+        slot: u32,
+        command: Command,
+    },
+    /// Tells that the command was accepted in the ballot at the slot.
+    Accepted {
+        ballot: Ballot,
+        slot: u32,
+        command: Command,
+    },
+    /// Tells that the command is chosen at the slot.
+    Chosen {
+        slot: u32,
+        command: Command,
+    },
+    /// Asks for what is chosen from the slot on.
+    Ask {
+        slot: u32,
+    },
+    /// Hands on an act for the node that leads to propose.
+    Forward {
+        command: Command,
+    },
+}

@@ -1,0 +1,82 @@
+//! Ballots and commands by themselves, as they stand in frames and in the records of a journal.
+
+ghost use Rattle.std.specs.Prelude.{◌≡◌, ◌+◌, ◌≤◌, ◌++◌, ℕ, List, length, OnOk, OnErr, IfSome, IsSomeAnd};
+ghost use Rattle.std.specs.Vec.{vec_len, vec_capacity};
+ghost use Rattle.slot_log.specs.declared.command.Command.{Command};
+ghost use Rattle.paxos_wire.specs.declared.ballot.Ballot.{Ballot};
+ghost use Rattle.paxos_wire.specs.Fits.{IsBallot, IsInRange, IsCommand};
+ghost use Rattle.paxos_wire.specs.Spelling.{ballot_text, command_text};
+ghost use Rattle.paxos_wire.specs.Reading.{Gives, ballot_at, command_at};
+
+use crate::ballot::Ballot;
+use crate::commands::command_of;
+use crate::fields::ballot_of;
+use crate::lengths::command_len;
+use crate::writing::{put_ballot, put_command};
+use slot_log::Command;
+use std::alloc::AllocError;
+
+/// The ballot in front, and the bytes after it; `None` where its five bytes aren't there, its round is 0 or its
+/// node is none.
+pub fn read_ballot(bytes: &[u8]) -> Option<(Ballot, &[u8])>
+    ensures found { IfSome result (λ x. IsBallot x.0 × (bytes.now ≡ ballot_text x.0 ++ x.1.now)) }
+    ensures only { (b : Ballot) (rest : List ℕ) → IsBallot b → bytes.now ≡ ballot_text b ++ rest → IsSomeAnd result (λ x. (x.0 ≡ b) × (x.1.now ≡ rest)) }
+    ensures exact { Gives (λ x. (x.0, x.1.now)) result (ballot_at bytes.now) }
+{
+    ballot_of(bytes)
+}
+
+/// The command in front, and the bytes after it; `None` where no command with all its numbers in range is there.
+pub fn read_command(bytes: &[u8]) -> Option<(Command, &[u8])>
+    ensures found { IfSome result (λ x. IsCommand x.0 × (bytes.now ≡ command_text x.0 ++ x.1.now)) }
+    ensures only { (c : Command) (rest : List ℕ) → IsCommand c → bytes.now ≡ command_text c ++ rest → IsSomeAnd result (λ x. (x.0 ≡ c) × (x.1.now ≡ rest)) }
+    ensures exact { Gives (λ x. (x.0, x.1.now)) result (command_at bytes.now) }
+{
+    command_of(bytes)
+}
+
+/// Appends the five bytes of a ballot. An `Err`, for want of memory, changes no byte.
+pub fn write_ballot(out: &mut Vec<u8>, ballot: Ballot) -> Result<(), AllocError>
+    requires { IsBallot ballot }
+    ensures ok { OnOk result (out.new.items ≡ out.old.items ++ ballot_text ballot) }
+    ensures err { OnErr result (out.new.items ≡ out.old.items) }
+{
+    out.reserve(5)?;
+    write_ballot_reserved(out, ballot);
+    Ok(())
+}
+
+/// Appends the five bytes of a ballot, where the room for them is there already.
+pub fn write_ballot_reserved(out: &mut Vec<u8>, ballot: Ballot)
+    requires ballot { IsBallot ballot }
+    requires room { vec_len out.old + 5 ≤ vec_capacity out.old }
+    ensures text { out.new.items ≡ out.old.items ++ ballot_text ballot }
+    ensures capacity { vec_capacity out.old ≤ vec_capacity out.new }
+{
+    put_ballot(out, ballot);
+}
+
+/// Appends the bytes of a command. An `Err`, for want of memory, changes no byte.
+pub fn write_command(out: &mut Vec<u8>, command: &Command) -> Result<(), AllocError>
+    requires { IsInRange command.now }
+    ensures ok { OnOk result (out.new.items ≡ out.old.items ++ command_text command.now) }
+    ensures err { OnErr result (out.new.items ≡ out.old.items) }
+    // The cards of a deal are dealt too, so that the bytes read back as the command.
+    ensures command { OnOk result (IsCommand command.now) }
+{
+    out.reserve(command_len(command))?;
+    write_command_reserved(out, command);
+    Ok(())
+}
+
+/// Appends the bytes of a command, where the room for them (`command_len`) is there already.
+pub fn write_command_reserved(out: &mut Vec<u8>, command: &Command)
+    requires range { IsInRange command.now }
+    requires room { vec_len out.old + length (command_text command.now) ≤ vec_capacity out.old }
+    ensures text { out.new.items ≡ out.old.items ++ command_text command.now }
+    ensures capacity { vec_capacity out.old ≤ vec_capacity out.new }
+    // The cards of a deal are dealt too, so that the bytes read back as the command.
+    ensures command { IsCommand command.now }
+{
+    put_command(out, command);
+}

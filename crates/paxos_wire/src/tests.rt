@@ -1,0 +1,205 @@
+use crate::{
+    Ballot, Entries, Entry, Feed, FrameFault, Message, decode, encode, encode_reserved, frame_len,
+    read_ballot, read_command, read_stream, write_ballot, write_command,
+};
+use betting::Action;
+use slot_log::Command;
+use std::alloc::Global;
+use std::process::Abort;
+use std::test::Fail;
+
+/// Prepare of (1, 0) at slot 0.
+const PREPARE: [u8; 15] = [0, 0, 0, 11, 1, 1, 0, 0, 0, 1, 0, 0, 0, 0, 0];
+
+/// Accept of a deal in (1, 0) at slot 0.
+const ACCEPT: [u8; 30] = [
+    0, 0, 0, 0x1a, 1, 4, 0, 0, 0, 1, 0, 0, 0, 0, 0, 1, 0, 0, 0, 0, 9, 0x21, 0x33, 0x1a, 0x20, 0,
+    0x18, 6, 0x1c, 0x2e,
+];
+
+/// Forward of a call.
+const FORWARD: [u8; 18] = [0, 0, 0, 14, 1, 8, 2, 0, 0, 0, 0, 0, 0, 1, 0, 0, 0, 0];
+
+/// A Promise of (2, 2) from slot 0 that tells of that deal.
+const PROMISE: [u8; 40] = [
+    0, 0, 0, 0x24, 1, 2, 0, 0, 0, 2, 2, 0, 0, 0, 0, 1, 0, 0, 0, 0, 0, 0, 0, 1, 0, 1, 0, 0, 0, 0, 9,
+    0x21, 0x33, 0x1a, 0x20, 0, 0x18, 6, 0x1c, 0x2e,
+];
+
+/// Prepare of (1, 0) at slot 0.
+fn prepare() -> Message {
+    Message::Prepare {
+        ballot: Ballot { round: 1, node: 0 },
+        slot: 0,
+    }
+}
+
+#[test]
+fn frames_read_and_write_alike(rt: HostRuntime) -> Result<(), Fail> {
+    for frame in [&PREPARE[..], &ACCEPT[..], &FORWARD[..], &PROMISE[..]] {
+        let message = decode(frame).ok().ok_or("the bytes are a frame")?;
+        let mut out = Vec::new(rt.alloc());
+        encode(&mut out, &message)?;
+        assert!(rt; out.as_slice() == frame);
+        assert_eq!(rt; frame_len(&message), frame.len());
+        out.reserve(frame_len(&message))?;
+        encode_reserved(&mut out, &message);
+        assert_eq!(rt; out.len(), 2 * frame.len());
+    }
+    Ok(())
+}
+
+/// The fault of bytes that are no frame.
+fn fault_of(bytes: &[u8]) -> Option<FrameFault> {
+    match decode(bytes) {
+        Ok(_) => None,
+        Err(fault) => Some(fault),
+    }
+}
+
+#[test]
+fn frames_at_fault(rt: HostRuntime) {
+    let no_round = [0, 0, 0, 11, 1, 1, 0, 0, 0, 0, 0, 0, 0, 0, 0];
+    let no_node = [0, 0, 0, 11, 1, 1, 0, 0, 0, 1, 5, 0, 0, 0, 0];
+    let no_slot = [0, 0, 0, 11, 1, 1, 0, 0, 0, 1, 0, 0, 0x3d, 9, 0];
+    for (bytes, fault) in [
+        (&[0, 0, 0, 2, 2, 1][..], FrameFault::BadVersion),
+        (&[0, 0, 0, 2, 1, 9][..], FrameFault::BadKind),
+        (&[0, 0, 0, 2, 1, 1][..], FrameFault::BadBody),
+        (&no_round[..], FrameFault::BadBody),
+        (&no_node[..], FrameFault::BadBody),
+        (&no_slot[..], FrameFault::BadBody),
+        (&[0, 0, 0][..], FrameFault::TooShort),
+        (&[0, 0, 0, 1, 1][..], FrameFault::TooShort),
+        (&[0, 0, 0x10, 1][..], FrameFault::TooLong),
+        (&PREPARE[..14], FrameFault::BadBody),
+    ] {
+        assert_eq!(rt; fault_of(bytes), Some(fault));
+    }
+}
+
+/// A Promise of (2, 2) from slot 0 with a deal for ten players at each of its 64 slots.
+fn full_promise(alloc: Global) -> Result<Vec<u8>, Fail> {
+    let mut bytes = Vec::new(alloc);
+    bytes.extend_from_slice(&[0, 0, 0x0a, 0x0c, 1, 2, 0, 0, 0, 2, 2, 0, 0, 0, 0, 64])?;
+    for slot in 0..64u8 {
+        bytes.extend_from_slice(&[0, 0, 0, slot, 0, 0, 0, 1, 0, 1, 0, 0, 0, 0, 25])?;
+        for card in 0..25u8 {
+            bytes.push(card)?;
+        }
+    }
+    Ok(bytes)
+}
+
+#[test]
+fn the_longest_promise_reads_the_same_cut_at_any_place(rt: HostRuntime) -> Result<(), Fail> {
+    let bytes = full_promise(rt.alloc())?;
+    assert_eq!(rt; bytes.len(), 4 + 2572);
+    let whole = decode(&bytes).ok().ok_or("the bytes are a frame")?;
+    let mut out = Vec::new(rt.alloc());
+    encode(&mut out, &whole)?;
+    assert!(rt; out.as_slice() == bytes.as_slice());
+    for cut in 0..bytes.len() {
+        let mut feed = Feed::new(rt.alloc());
+        feed.feed(&bytes[..cut])?;
+        assert!(rt; feed.next().is_none());
+        feed.feed(&bytes[cut..])?;
+        match feed.next() {
+            Some(Ok(message)) => assert!(rt; message == whole),
+            _ => assert!(rt; false),
+        }
+        assert!(rt; feed.next().is_none());
+    }
+    Ok(())
+}
+
+#[test]
+fn lengths_at_their_limits(rt: HostRuntime) -> Result<(), Fail> {
+    let mut feed = Feed::new(rt.alloc());
+    feed.feed(&[0, 0, 0x10])?;
+    assert!(rt; feed.next().is_none());
+    feed.feed(&[0])?;
+    assert!(rt; feed.next().is_none());
+    for _ in 0..4095u16 {
+        feed.feed(&[1])?;
+    }
+    assert!(rt; feed.next().is_none());
+    feed.feed(&[1])?;
+    assert!(rt; feed.next() == Some(Err(FrameFault::BadBody)));
+    let mut long = Feed::new(rt.alloc());
+    long.feed(&[0, 0, 0x10, 1])?;
+    assert!(rt; long.next() == Some(Err(FrameFault::TooLong)));
+    long.feed(&PREPARE)?;
+    assert!(rt; long.next() == Some(Err(FrameFault::TooLong)));
+    Ok(())
+}
+
+#[test]
+fn a_stream_in_pieces(rt: HostRuntime) -> Result<(), Fail> {
+    let mut pieces = Vec::new(rt.alloc());
+    pieces.push(Vec::from_slice(rt.alloc(), &PREPARE)?)?;
+    pieces.push(Vec::from_slice(rt.alloc(), &FORWARD[..7])?)?;
+    pieces.push(Vec::from_slice(rt.alloc(), &FORWARD[7..])?)?;
+    pieces.push(Vec::from_slice(rt.alloc(), &[0, 0, 0, 2, 1, 9])?)?;
+    let (messages, fault) = read_stream(rt.alloc(), &pieces)?;
+    assert_eq!(rt; messages.len(), 2);
+    assert!(rt; fault == Some(FrameFault::BadKind));
+    Ok(())
+}
+
+#[test]
+fn ballots_and_commands_of_a_record(rt: HostRuntime) -> Result<(), Fail> {
+    let ballot = Ballot { round: 1, node: 0 };
+    let command = Command::Act {
+        hand: 0,
+        index: 0,
+        action: Action::Call,
+    };
+    let mut out = Vec::new(rt.alloc());
+    write_ballot(&mut out, ballot)?;
+    write_command(&mut out, &command)?;
+    assert!(rt; out.as_slice() == [0, 0, 0, 1, 0, 2, 0, 0, 0, 0, 0, 0, 1, 0, 0, 0, 0].as_slice());
+    let (read, rest) = read_ballot(&out).ok_or("a ballot is in front")?;
+    assert_eq!(rt; read, ballot);
+    assert!(rt; rest.len() == 12);
+    assert!(rt; read_command(rest).is_some());
+    Ok(())
+}
+
+#[test]
+fn messages_print_on_one_line(rt: HostRuntime) -> Result<(), Fail> {
+    let accept = decode(&ACCEPT).ok().ok_or("the bytes are a frame")?;
+    let forward = decode(&FORWARD).ok().ok_or("the bytes are a frame")?;
+    let promise = decode(&PROMISE).ok().ok_or("the bytes are a frame")?;
+    for (message, line) in [
+        (prepare(), "Prepare (1, 0) from 0"),
+        (accept, "Accept (1, 0) at 0: deal of hand 0"),
+        (forward, "Forward act 0 of hand 0: call"),
+        (promise, "Promise (2, 2) from 0: 1 accepted"),
+    ] {
+        let printed = format!(in rt.alloc(); "{message}")?;
+        assert_eq!(rt; printed.as_str(), line);
+    }
+    let fault = FrameFault::BadBody;
+    assert_eq!(rt; fault.code(), 54);
+    assert_eq!(rt; format!(in rt.alloc(); "{fault}")?.as_str(), "54 BadBody");
+    Ok(())
+}
+
+#[test]
+fn entries_are_kept_in_order(rt: HostRuntime) {
+    let mut entries = Entries::new();
+    assert!(rt; entries.is_empty());
+    let entry = Entry {
+        slot: 3,
+        ballot: Ballot { round: 1, node: 0 },
+        command: Command::Act {
+            hand: 0,
+            index: 0,
+            action: Action::Fold,
+        },
+    };
+    entries.push(entry);
+    assert_eq!(rt; entries.len(), 1);
+    assert_eq!(rt; entries.as_slice()[0].slot, 3);
+}

@@ -1,0 +1,48 @@
+-- The order of ballots.
+use Rattle.std.proofs.Common.{◌≡◌, ℕ, zero, suc, ◌<◌, ◌≤◌, ◌⊎◌, inl, inr, arith}
+use Rattle.paxos_wire.specs.declared.ballot.Ballot.{Ballot}
+use Rattle.protocol_model.specs.Ballots.{Below, AtMost}
+
+pub at_most_self : (a : Ballot) → AtMost a a
+at_most_self a = grind arith
+
+pub at_most_trans : (a b c : Ballot) → AtMost a b → AtMost b c → AtMost a c
+at_most_trans a b c h k = grind arith
+
+pub at_most_of_below : (a b : Ballot) → Below a b → AtMost a b
+at_most_of_below a b h = grind arith
+
+pub below_of_at_most : (a b c : Ballot) → AtMost a b → Below b c → Below a c
+below_of_at_most a b c h k = grind arith
+
+pub not_below : (a b : Ballot) → AtMost a b → Below b a → ⊥
+not_below a b h k = grind arith
+
+pub same_ballot : (a b : Ballot) → a.round ≡ b.round → a.node ≡ b.node → a ≡ b
+same_ballot a b r k = λ i. record { round = r i; node = k i }
+
+-- an order at most is equal or below
+pub equal_or_below : (a b : Ballot) → AtMost a b → (a ≡ b) ⊎ Below a b
+equal_or_below a b (inl h) = inr (inl h)
+equal_or_below a b (inr h) =
+    let cases : (a.node ≡ b.node) ⊎ (a.node < b.node) = grind arith in
+    elim cases [ inl e ↦ inl (same_ballot a b h.0 e) | inr l ↦ inr (inr (h.0, l)) ]
+
+pub compared : (a b : Ballot) → Below a b ⊎ ((a ≡ b) ⊎ Below b a)
+compared a b =
+    let cases : AtMost a b ⊎ Below b a = grind arith in
+    elim cases [ inl h ↦ elim (equal_or_below a b h) [ inl e ↦ inr (inl e) | inr l ↦ inl l ] | inr h ↦ inr (inr h) ]
+
+-- what follows from all lower ballots holds of each ballot
+by_node : (P : Ballot → Type 0) → ((b : Ballot) → ((a : Ballot) → Below a b → P a) → P b) → (r : ℕ) → ((a : Ballot) → a.round < r → P a)
+    → (k : ℕ) (b : Ballot) → b.round ≤ r → b.node < k → P b
+by_node P step r lower zero b h l = absurd (omega arith)
+by_node P step r lower (suc k) b h l =
+    step b (λ a below. elim below [ inl first ↦ lower a (omega arith) | inr second ↦ by_node P step r lower k a (omega arith) (omega arith) ])
+
+by_round : (P : Ballot → Type 0) → ((b : Ballot) → ((a : Ballot) → Below a b → P a) → P b) → (r : ℕ) (b : Ballot) → b.round < r → P b
+by_round P step zero b h = absurd (omega arith)
+by_round P step (suc r) b h = by_node P step r (by_round P step r) (suc b.node) b (omega arith) (omega arith)
+
+pub induct : (P : Ballot → Type 0) → ((b : Ballot) → ((a : Ballot) → Below a b → P a) → P b) → (b : Ballot) → P b
+induct P step b = by_round P step (suc b.round) b (omega arith)

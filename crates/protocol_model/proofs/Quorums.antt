@@ -1,0 +1,53 @@
+-- Two quorums share a node, and what quorums said stays said.
+use Rattle.std.proofs.Common.{◌≡◌, ℕ, zero, suc, ◌+◌, ◌<◌, Bool, true, false, cond, List, [], ◌∷◌, length, refl, arith}
+use Rattle.paxos_wire.specs.declared.ballot.Ballot.{Ballot}
+use Rattle.slot_log.specs.declared.command.Command.{Command}
+use Rattle.paxos_wire.specs.declared.entry.Entry.{Entry}
+use Rattle.protocol_model.specs.Messages.{Message}
+use Rattle.protocol_model.specs.Quorums.{count, IsQuorum, IsChosenIn, IsChosen, AreChosen, HasPromises, IsGreatestTold}
+use Rattle.protocol_model.proofs.Sets.{Within}
+
+-- sets that count more than n together share one of the first n
+abbrev Shares : ℕ → (ℕ → Bool) → (ℕ → Bool) → Type 0
+Shares n a b = (node : ℕ) × (node < n) × (a node ≡ true) × (b node ≡ true)
+
+grown : (n : ℕ) (a b : ℕ → Bool) → Shares n a b → Shares (suc n) a b
+grown n a b s = (s.0, omega arith, s.2, s.3)
+
+meets : (n : ℕ) (a b : ℕ → Bool) → (x y : Bool) → a n ≡ x → b n ≡ y → suc n < cond x (1 + count a n) (count a n) + cond y (1 + count b n) (count b n)
+    → (n < count a n + count b n → Shares n a b) → Shares (suc n) a b
+meets n a b true true ea eb h ih = (n, omega arith, ea, eb)
+meets n a b true false ea eb h ih = grown n a b (ih (omega arith))
+meets n a b false true ea eb h ih = grown n a b (ih (omega arith))
+meets n a b false false ea eb h ih = grown n a b (ih (omega arith))
+
+meeting : (n : ℕ) (a b : ℕ → Bool) → n < count a n + count b n → Shares n a b
+meeting zero a b h = absurd (omega arith)
+meeting (suc n) a b h = meets n a b (a n) (b n) refl refl h (meeting n a b)
+
+pub quorums_meet : (n : ℕ) (a b : ℕ → Bool) → IsQuorum n a → IsQuorum n b → Shares n a b
+quorums_meet n a b ha hb = meeting n a b (omega arith)
+
+-- what holds of fewer messages holds of more
+pub chosen_in_stays : (n : ℕ) (xs ys : List Message) (ballot : Ballot) (slot : ℕ) (command : Command)
+    → Within xs ys → IsChosenIn n xs ballot slot command → IsChosenIn n ys ballot slot command
+chosen_in_stays n xs ys ballot slot command within c = (c.0, c.1, λ node is q. within _ (c.2 node is q))
+
+pub chosen_stays : (n : ℕ) (xs ys : List Message) (slot : ℕ) (command : Command) → Within xs ys → IsChosen n xs slot command → IsChosen n ys slot command
+chosen_stays n xs ys slot command within c = (c.0, chosen_in_stays n xs ys c.0 slot command within c.1)
+
+pub all_chosen_stay : (n : ℕ) (xs ys : List Message) (commands : List Command) → Within xs ys → AreChosen n xs commands → AreChosen n ys commands
+all_chosen_stay n xs ys [] within c = tt
+all_chosen_stay n xs ys (command ∷ before) within c =
+    (chosen_stays n xs ys (length before) command within c.0, all_chosen_stay n xs ys before within c.1)
+
+pub promises_stay : (n : ℕ) (xs ys : List Message) (ballot : Ballot) (slot : ℕ) (IsSo : Entry → Type 0)
+    → Within xs ys → HasPromises n xs ballot slot IsSo → HasPromises n ys ballot slot IsSo
+promises_stay n xs ys ballot slot IsSo within p =
+    (p.0, p.1, λ node is q. let one = p.2 node is q in (one.0, one.1, within _ one.2, one.3, one.4))
+
+pub greatest_stays : (n : ℕ) (xs ys : List Message) (ballot : Ballot) (slot : ℕ) (command : Command)
+    → Within xs ys → IsGreatestTold n xs ballot slot command → IsGreatestTold n ys ballot slot command
+greatest_stays n xs ys ballot slot command within g =
+    let told = g.1 in
+    (g.0, (told.0, told.1, told.2, within _ told.3, told.4), promises_stay n xs ys ballot slot _ within g.2)

@@ -1,0 +1,30 @@
+-- Lists as sets, and maps.
+use Rattle.std.proofs.Common.{◌≡◌, ◌≢◌, ℕ, ◌⊎◌, inl, inr, ◌==◌, Bool, cond, true, false, eqb-true, List, [], ◌∷◌, ◌++◌, refl, ap, eq-eqb, ne_eqb}
+use Rattle.protocol_model.specs.Sets.{In, put}
+
+-- all that stands in the first stands in the second
+abbrev pub Within : {A : Type 0} → List A → List A → Type 0
+Within {A} xs ys = (x : A) → In x xs → In x ys
+
+pub in_later : {A : Type 0} (xs ys : List A) (x : A) → In x ys → In x (xs ++ ys)
+in_later [] ys x h = h
+in_later (z ∷ xs) ys x h = inr (in_later xs ys x h)
+
+pub in_split : {A : Type 0} (xs ys : List A) (x : A) → In x (xs ++ ys) → In x xs ⊎ In x ys
+in_split [] ys x h = inr h
+in_split (z ∷ xs) ys x (inl e) = inl (inl e)
+in_split (z ∷ xs) ys x (inr h) = elim (in_split xs ys x h) [ inl l ↦ inl (inr l) | inr r ↦ inr r ]
+
+pub put_same : {A : Type 0} (map : ℕ → A) (k : ℕ) (x : A) → put map k x k ≡ x
+put_same map k x = ap (λ b. cond b x (map k)) (eq-eqb k k refl)
+
+pub put_other : {A : Type 0} (map : ℕ → A) (k : ℕ) (x : A) (j : ℕ) → j ≢ k → put map k x j ≡ map j
+put_other map k x j ne = ap (λ b. cond b x (map j)) (ne_eqb j k ne)
+
+-- at each key the map is the old one, or x
+pub put_cases : {A : Type 0} (map : ℕ → A) (k : ℕ) (x : A) (j : ℕ) → ((j ≡ k) × (put map k x j ≡ x)) ⊎ (put map k x j ≡ map j)
+put_cases map k x j = by_test (j == k) refl
+  where
+    by_test : (b : Bool) → (j == k) ≡ b → ((j ≡ k) × (put map k x j ≡ x)) ⊎ (put map k x j ≡ map j)
+    by_test true is = inl (eqb-true j k is, ap (λ b. cond b x (map j)) is)
+    by_test false is = inr (ap (λ b. cond b x (map j)) is)

@@ -1,0 +1,45 @@
+-- What the protocol has to know of the dealer whose commands it orders. Lists of commands have the newest first.
+use Rattle.std.specs.Prelude.{◌≡◌, ℕ, ◌⊎◌, Bool, true, Option, Some, List, [], ◌∷◌, ◌++◌}
+use Rattle.slot_log.specs.declared.command.Command.{Command}
+use Rattle.protocol_model.specs.Sets.{In}
+
+pub record Dealer : Type 0 where
+  -- the command takes effect after these
+  pub fits : List Command → Command → Bool
+  -- the command is this node's own deal
+  pub own : ℕ → Command → Bool
+  -- the line that the seat is shown after these; none before the first deal
+  pub line : List Command → ℕ → Option (List ℕ)
+  -- the whole log after these
+  pub log : List Command → List ℕ
+  -- after these, this line of the seat, without its end, says the act
+  pub says : List Command → ℕ → List ℕ → Command → Bool
+
+-- each command takes effect after those before it
+abbrev pub AllFit : Dealer → List Command → Type 0
+AllFit dealer [] = Unit {0}
+AllFit dealer (command ∷ before) = (dealer.fits before command ≡ true) × AllFit dealer before
+
+-- who reads what is shown
+pub data Reader : Type 0 where
+  Seat : (seat : ℕ) → Reader
+  Log : Reader
+
+-- what a reader is shown after these commands
+abbrev pub text_of : Dealer → List Command → Reader → Option (List ℕ)
+text_of dealer commands (Seat seat) = dealer.line commands seat
+text_of dealer commands Log = Some (dealer.log commands)
+
+-- nothing stands before a line, or another line's end does
+abbrev pub IsLineStart : List ℕ → Type 0
+IsLineStart before = (before ≡ []) ⊎ ((front : List ℕ) × (before ≡ front ++ 10 ∷ []))
+
+-- LF, or CR and LF
+abbrev pub IsLineEnd : List ℕ → Type 0
+IsLineEnd bytes = (bytes ≡ 10 ∷ []) ⊎ (bytes ≡ 13 ∷ 10 ∷ [])
+
+-- the bytes, oldest first, hold the whole line
+abbrev pub HasLine : List ℕ → List ℕ → Type 0
+HasLine bytes line =
+    (before : List ℕ) × (ending : List ℕ) × (after : List ℕ) × (bytes ≡ before ++ (line ++ (ending ++ after)))
+    × IsLineStart before × IsLineEnd ending × (In 10 line → ⊥)

@@ -1,0 +1,11 @@
+pub mod Sets
+pub mod Ballots
+pub mod Messages
+pub mod Frames
+pub mod Quorums
+pub mod Stores
+pub mod Dealers
+pub mod Nodes
+pub mod Moves
+pub mod Worlds
+pub mod Laws

@@ -1,0 +1,80 @@
+ghost use Rattle.std.specs.Prelude.{◌≡◌, ℕ, ◌<◌, ◌≤◌, ◌++◌, List, length};
+ghost use Rattle.paxos_wire.specs.declared.ballot.Ballot.{Ballot};
+ghost use Rattle.slot_log.specs.declared.command.Command.{Command};
+ghost use Rattle.protocol_model.specs.Sets.{In, IsBeginning};
+ghost use Rattle.protocol_model.specs.Ballots.{Below};
+ghost use Rattle.protocol_model.specs.Messages.{Message, Accept, Chosen};
+ghost use Rattle.protocol_model.specs.Quorums.{IsChosenIn, IsChosen, AreChosen};
+ghost use Rattle.protocol_model.specs.Dealers.{Dealer};
+ghost use Rattle.protocol_model.specs.Laws.{OneDealer, HasOrigin, IsLeft, IsOpened};
+ghost use Rattle.protocol_model.specs.Nodes.{Node};
+ghost use Rattle.protocol_model.specs.Stores.{Store};
+ghost use Rattle.protocol_model.specs.Moves.{Output, both, Chain};
+ghost use Rattle.protocol_model.specs.Worlds.{World, IsAfter, Run, Reached};
+
+/// Moves of one node, one after another, lead from a world of a run to a world of the run; and such chains join.
+///
+/// So a call of a node, whatever it does inside, is a step of the world once it is shown to be such a chain.
+pub fn chains_reach()
+    ensures reach { (dealer : Dealer) (n i : ℕ) (first world : World) (out : Output) (node : Node)
+        → Run dealer n first world → i < n → Chain dealer n i world.ever (world.nodes i) out node
+        → (later : World) × Run dealer n first later × IsAfter world i out node later }
+    ensures join { (dealer : Dealer) (n i : ℕ) (ever : List Message) (old : Node) (earlier : Output) (between : Node) (later : Output) (new : Node)
+        → Chain dealer n i ever old earlier between → Chain dealer n i (earlier.sent ++ ever) between later new
+        → Chain dealer n i ever old (both later earlier) new }
+{}
+
+/// What is chosen stays chosen: in every run, of any number of nodes, whatever was lost, repeated or late and whoever
+/// stopped and started again at any moment.
+///
+/// If a command was chosen at a slot in a ballot, each proposal of a greater ballot there carries it. So each slot has
+/// at most one chosen command, and of two lists of commands chosen at the first slots the shorter is a beginning of
+/// the longer. (The safety theorem of 'Paxos Made Simple'.)
+pub fn one_choice()
+    ensures carried { (dealer : Dealer) (n : ℕ) (world : World) (lower greater : Ballot) (slot : ℕ) (chosen command : Command)
+        → Reached dealer n world → IsChosenIn n world.ever lower slot chosen
+        → Below lower greater → In (Accept greater slot command) world.ever → command ≡ chosen }
+    ensures one { (dealer : Dealer) (n : ℕ) (world : World) (slot : ℕ) (a b : Command)
+        → Reached dealer n world → IsChosen n world.ever slot a → IsChosen n world.ever slot b → a ≡ b }
+    ensures lists { (dealer : Dealer) (n : ℕ) (world : World) (shorter longer : List Command)
+        → Reached dealer n world → AreChosen n world.ever shorter → AreChosen n world.ever longer
+        → length shorter ≤ length longer → IsBeginning shorter longer }
+{}
+
+/// What a node knows as chosen was chosen, so that no two nodes ever know different commands at a slot.
+///
+/// So is what any node was ever told as chosen, and what a quorum's answers that a node has show as chosen.
+pub fn known_is_chosen()
+    ensures known { (dealer : Dealer) (n i : ℕ) (world : World) (slot : ℕ) (command : Command)
+        → Reached dealer n world → In (slot, command) (world.nodes i).known → IsChosen n world.ever slot command }
+    ensures told { (dealer : Dealer) (n sender : ℕ) (world : World) (slot : ℕ) (command : Command)
+        → Reached dealer n world → In (Chosen sender slot command) world.ever → IsChosen n world.ever slot command }
+    ensures answered { (dealer : Dealer) (n i : ℕ) (world : World) (slot : ℕ) (command : Command)
+        → Reached dealer n world → IsChosen n (world.nodes i).has slot command → IsChosen n world.ever slot command }
+{}
+
+/// All that is shown comes from one dealer: in every run there is one list of chosen commands, each of which fits after
+/// those before it, such that each line and each log shows the effect of a beginning of that list, and within one start
+/// of a node these beginnings never get shorter.
+///
+/// And no command is invented: a chosen deal is some node's own, and a chosen act was said. At a moment of the run the
+/// bytes that a seat had sent to a node since it connected there held a whole line that says the act, in answer to the
+/// seat's line after commands that were chosen by then.
+pub fn one_dealer()
+    ensures list { (dealer : Dealer) (n : ℕ) (world : World) → Reached dealer n world → OneDealer dealer n world }
+    ensures origin { (dealer : Dealer) (n : ℕ) (world : World) (slot : ℕ) (command : Command)
+        → Reached dealer n world → IsChosen n world.ever slot command → HasOrigin dealer n world command }
+{}
+
+/// A run may end at any moment, inside an append too, and goes on once all nodes are started again with what it left.
+///
+/// What was sent and shown before stays in the world, so the laws of runs speak of both together: one list of commands
+/// serves the lines of the earlier run and those of the later one.
+pub fn runs_go_on()
+    ensures opens { (dealer : Dealer) (n : ℕ) (earlier : World) (stores : ℕ → Store)
+        → ((i : ℕ) → i < n → IsLeft i (earlier.nodes i) (stores i)) → (opened : World) × IsOpened dealer n earlier stores opened }
+    ensures joins { (dealer : Dealer) (n : ℕ) (first between last : World)
+        → Run dealer n first between → Run dealer n between last → Run dealer n first last }
+    ensures grows { (dealer : Dealer) (n : ℕ) (first last : World) → Run dealer n first last
+        → IsBeginning first.ever last.ever × IsBeginning first.shown last.shown }
+{}

@@ -1,0 +1,2 @@
+pub mod Pots
+pub mod Amounts

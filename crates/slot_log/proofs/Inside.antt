@@ -1,0 +1,85 @@
+-- The hands that a table's fields hold.
+use Rattle.std.proofs.Common.{◌≡◌, ℕ, ◌+◌, Bool, not, eqb, cond, [], ◌∷◌, ◌++◌, map, reverse, length, Option, Some, None, refl, sym, ap, ◌∙◌, subst, IfNone}
+use Rattle.std.specs.List.{AllByRecursion}
+use Rattle.std.specs.Option.{option_to_list}
+use Rattle.betting.specs.Rounds.{over}
+use Rattle.betting.specs.Betting.{history}
+use Rattle.betting.specs.declared.action.Action.{Action}
+use Rattle.betting.specs.Legal.{fault_of}
+use Rattle.std.specs.Option.{option_map}
+use Rattle.slot_log.specs.declared.reason.Reason.{Reason}
+use Rattle.slot_log.specs.declared.reason.Reason.TheVariants.{NoHand, WrongHand, WrongIndex, Illegal}
+use Rattle.slot_log.specs.Hand.{Match}
+use Rattle.slot_log.specs.Dealer.{is_finished, finished_count, act_reason}
+use Rattle.slot_log.specs.TableInside.{hands_in, match_of, IsKept}
+use Rattle.slot_log.specs.PlayedHand.{hand_of, IsOf}
+use Rattle.slot_log.specs.declared.played_hand.PlayedHand.{PlayedHand}
+use Rattle.slot_log.specs.declared.table.Table.TheInside.{Inside}
+use Rattle.slot_log.proofs.Hands.{finished_before, finished_with, length-earlier}
+
+pub none_dealt : (t : Inside) → IsKept t → t.newest ≡ None → hands_in t ≡ []
+none_dealt t kept none =
+    let empty : t.earlier.items ≡ [] = let fact : (o : Option PlayedHand) → Type 0 = λ o. IfNone o (t.earlier.items ≡ []) in subst fact none kept.begun in
+    rw (none, empty) refl
+
+pub some_dealt : (t : Inside) (hand : PlayedHand) → t.newest ≡ Some hand → hands_in t ≡ hand_of hand ∷ reverse (map hand_of t.earlier.items)
+some_dealt t hand some = ap (λ o. map hand_of (option_to_list o) ++ reverse (map hand_of t.earlier.items)) some
+
+pub newest_of : (t : Inside) (hand : PlayedHand) → IsKept t → t.newest ≡ Some hand → IsOf t.game hand
+newest_of t hand kept some =
+    let fact : (o : Option PlayedHand) → Type 0 = λ o. AllByRecursion (IsOf t.game) (option_to_list o) in
+    (subst fact some kept.newest_hand).0
+
+-- what the play says is what the hand says
+pub newest_over : (t : Inside) (hand : PlayedHand) (b : Bool) → IsKept t → t.newest ≡ Some hand → b ≡ over hand.play.game (history hand.play) → b ≡ is_finished t.game (hand_of hand)
+newest_over t hand b kept some told =
+    let same = (newest_of t hand kept some).same_game in
+    told ∙ ap (λ game. is_finished game (hand_of hand)) same
+
+pub count_none : (t : Inside) → IsKept t → t.newest ≡ None → finished_count t.game (hands_in t) ≡ t.earlier.len
+count_none t kept none =
+    let empty : t.earlier.items ≡ [] = let fact : (o : Option PlayedHand) → Type 0 = λ o. IfNone o (t.earlier.items ≡ []) in subst fact none kept.begun in
+    let e = ap (finished_count t.game) (none_dealt t kept none) in
+    e ∙ sym (t.earlier.ok.0 ∙ ap length empty)
+
+pub count_some : (t : Inside) (hand : PlayedHand) (b : Bool) → IsKept t → t.newest ≡ Some hand → b ≡ over hand.play.game (history hand.play) → finished_count t.game (hands_in t) ≡ cond b 1 0 + t.earlier.len
+count_some t hand b kept some told =
+    let e = ap (finished_count t.game) (some_dealt t hand some) in
+    let f = finished_with t.game (hand_of hand) (reverse (map hand_of t.earlier.items)) in
+    let g = finished_before t.game t.earlier.items kept.finished in
+    let h = newest_over t hand b kept some told in
+    e ∙ f ∙ ap (λ n. cond (is_finished t.game (hand_of hand)) 1 0 + n) (g ∙ sym t.earlier.ok.0) ∙ ap (λ c. cond c 1 0 + t.earlier.len) (sym h)
+
+-- the model's parts
+pub hands_are : (t : Inside) (m : Match) → match_of t ≡ m → m.hands ≡ hands_in t
+hands_are t m e = ap (λ (n : Match). n.hands) (sym e)
+
+pub game_is : (t : Inside) (m : Match) → match_of t ≡ m → m.game ≡ t.game
+game_is t m e = ap (λ (n : Match). n.game) (sym e)
+
+pub finished_none : (t : Inside) (m : Match) → match_of t ≡ m → IsKept t → t.newest ≡ None → t.earlier.len ≡ finished_count m.game m.hands
+finished_none t m view kept none = subst (λ (n : Match). t.earlier.len ≡ finished_count n.game n.hands) view (sym (count_none t kept none))
+
+pub finished_some : (t : Inside) (m : Match) (hand : PlayedHand) (b c : Bool) → match_of t ≡ m → IsKept t → t.newest ≡ Some hand → b ≡ over hand.play.game (history hand.play) → b ≡ c → cond c 1 0 + t.earlier.len ≡ finished_count m.game m.hands
+finished_some t m hand b c view kept some told is =
+    subst (λ (n : Match). cond c 1 0 + t.earlier.len ≡ finished_count n.game n.hands) view
+    (ap (λ d. cond d 1 0 + t.earlier.len) (sym is) ∙ sym (count_some t hand b kept some told))
+
+-- why an act doesn't fit, by the fields
+pub act_reason_none : (t : Inside) (m : Match) (hand index : ℕ) (action : Action) → match_of t ≡ m → IsKept t → t.newest ≡ None → Some NoHand ≡ act_reason m.game m.hands hand index action
+act_reason_none t m hand index action view kept none =
+    subst (λ (n : Match). Some NoHand ≡ act_reason n.game n.hands hand index action) view (rw (none_dealt t kept none) refl)
+
+unfoldable pub act_chain : Bool → Bool → Bool → Option Reason → Option Reason
+act_chain over same_hand same_index fault =
+    cond over (Some NoHand) (cond (not same_hand) (Some WrongHand) (cond (not same_index) (Some WrongIndex) fault))
+
+module _ (t : Inside) (m : Match) (newest : PlayedHand) (hand index : ℕ) (action : Action) (view : match_of t ≡ m) (kept : IsKept t) (some : t.newest ≡ Some newest) where
+  pub act_reason_some : act_reason m.game m.hands hand index action ≡ act_chain (over newest.play.game (history newest.play)) (eqb hand t.earlier.len) (eqb index (length newest.play.past)) (option_map Illegal (fault_of newest.play.game (history newest.play) action))
+  unfolding act_chain
+  act_reason_some =
+      let dealt = some_dealt t newest some in
+      let same = (newest_of t newest kept some).same_game in
+      let earlier = length-earlier t.earlier.items ∙ sym t.earlier.ok.0 in
+      subst (λ (n : Match). act_reason n.game n.hands hand index action ≡ act_chain (over newest.play.game (history newest.play)) (eqb hand t.earlier.len) (eqb index (length newest.play.past)) (option_map Illegal (fault_of newest.play.game (history newest.play) action))) view
+      (rw (dealt, earlier, same) refl)

@@ -1,0 +1,5 @@
+pub mod Hands
+pub mod Allowed
+pub mod Fitting
+pub mod Inside
+pub mod Begin

@@ -1,0 +1,18 @@
+use Rattle.std.proofs.Common.{arith, true, false}
+use Rattle.slot_log.proofs.Inside.{finished_none, finished_some}
+use Rattle.slot_log.proofs.table.Table.finished.Goals as goal
+
+pub returns-in-Some : goal.returns-in-Some
+returns-in-Some c =
+    let count = finished_some c.self.inside c.args.self.now c.in-Some.hand c.finished.result true c.self.view_is c.self.invariant c.in-Some.is c.finished.ensures c.if-finished.true in
+    omega (arith, count)
+
+pub returns-in_default : goal.returns-in_default
+returns-in_default c =
+    let count = finished_some c.self.inside c.args.self.now c.in-Some.hand c.finished.result false c.self.view_is c.self.invariant c.in-Some.is c.finished.ensures c.if-finished.false in
+    omega (arith, count)
+
+pub returns-in_default-2 : goal.returns-in_default-2
+returns-in_default-2 c =
+    let count = finished_none c.self.inside c.args.self.now c.self.view_is c.self.invariant c.in_default.is in
+    omega (arith, count)

@@ -1,0 +1,4 @@
+pub mod Hand
+pub mod Dealer
+pub mod PlayedHand
+pub mod TableInside

@@ -1,0 +1,16 @@
+use crate::reason::Reason;
+
+/// What a command did.
+#[derive(Clone, Copy, Debug, PartialEq, Eq)]
+pub enum Effect {
+    /// A hand was dealt.
+    Dealt,
+    /// The player to act acted, and the hand goes on.
+    Acted,
+    /// The player to act acted, and the hand is over.
+    HandOver,
+    /// The player to act acted, and with the hand the match is over.
+    MatchOver,
+    /// Nothing, for this reason.
+    None(Reason),
+}

@@ -1,0 +1,39 @@
+ghost use Rattle.std.specs.Prelude.{◌≡◌, ℕ, ◌+◌, ◌*◌, [], ◌∷◌, length};
+ghost use Rattle.betting.specs.Betting.{history};
+ghost use Rattle.betting.specs.Legal.{CanAct};
+ghost use Rattle.slot_log.specs.PlayedHand.{IsOf};
+
+use betting::{Action, Play};
+use card_core::Deal;
+use game_def::GameDef;
+
+/// A hand that was dealt, with its betting.
+#[derive(Drop)]
+pub(crate) struct PlayedHand {
+    pub(crate) deal: Deal,
+    pub(crate) play: Play,
+}
+
+impl PlayedHand {
+    /// A hand that begins.
+    pub(crate) fn new(game: &GameDef, deal: Deal) -> PlayedHand
+        requires { length deal ≡ 2 * game.now.players + 5 }
+        ensures value { result ≡ record { deal = deal; play = record { game = game.now; past = [] } } }
+        ensures kept { IsOf game.now result }
+    {
+        prove!(deal.cards().len() == 2 * game.players() + 5);
+        PlayedHand {
+            deal,
+            play: Play::new(game),
+        }
+    }
+
+    /// Takes an action that is allowed.
+    pub(crate) fn act(&mut self, action: Action)
+        requires { CanAct self.old.play.game (history self.old.play) action }
+        ensures deal { self.new.deal ≡ self.old.deal }
+        ensures play { self.new.play ≡ record { game = self.old.play.game; past = action ∷ self.old.play.past } }
+    {
+        let _ = self.play.act(action);
+    }
+}
