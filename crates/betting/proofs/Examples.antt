@@ -12,6 +12,7 @@ use Rattle.betting.specs.Legal.{limit_to, least_raise, greatest_raise, no_raise,
 use Rattle.betting.proofs.Legal.{can_act-none}
 use Rattle.betting.proofs.Ranges.{range_open}
 use Rattle.betting.specs.Text.{action_text, text}
+use Rattle.betting.specs.Fault.{fault_code, fault_text}
 
 -- opens the definitions
 unfoldable pub opened : ℕ
@@ -355,3 +356,51 @@ wide_raise_range range =
 amount_stays : spent three_players (played three_players (Raise 300 ∷ [])) 0 ≡ spent three_players (played three_players (Raise 300 ∷ Fold ∷ [])) 0
 unfolding opened
 amount_stays = refl
+
+-- all-ins in the last two rounds
+all_in_third_round : text three_players (reverse (Call ∷ Call ∷ Call ∷ Call ∷ Call ∷ Call ∷ Raise 1000 ∷ Call ∷ Call ∷ [])) ≡ codes "ccc/ccc/r1000cc/"
+unfolding opened
+all_in_third_round = refl
+
+all_in_third_round_over : over three_players (played three_players (Call ∷ Call ∷ Call ∷ Call ∷ Call ∷ Call ∷ Raise 1000 ∷ Call ∷ Call ∷ [])) ≡ true
+unfolding opened
+all_in_third_round_over = refl
+
+all_in_last_round : text three_players (reverse (Call ∷ Call ∷ Call ∷ Call ∷ Call ∷ Call ∷ Call ∷ Call ∷ Call ∷ Raise 1000 ∷ Call ∷ Call ∷ [])) ≡ codes "ccc/ccc/ccc/r1000cc"
+unfolding opened
+all_in_last_round = refl
+
+all_in_last_round_over : over three_players (played three_players (Call ∷ Call ∷ Call ∷ Call ∷ Call ∷ Call ∷ Call ∷ Call ∷ Call ∷ Raise 1000 ∷ Call ∷ Call ∷ [])) ≡ true
+unfolding opened
+all_in_last_round_over = refl
+
+all_in_last_round_spent : map (spent three_players (played three_players (Call ∷ Call ∷ Call ∷ Call ∷ Call ∷ Call ∷ Call ∷ Call ∷ Call ∷ Raise 1000 ∷ Call ∷ Call ∷ []))) (0 ∷ 1 ∷ 2 ∷ []) ≡ 1000 ∷ 150 ∷ 1000 ∷ []
+unfolding opened
+all_in_last_round_spent = refl
+
+-- a short stack behind a greater amount may not raise at all, and the answer tells its stack
+short_stack_behind : fault_of three_players (played three_players (Raise 300 ∷ Call ∷ [])) (Raise 120) ≡ Some (RaiseTooLarge 150)
+unfolding opened
+short_stack_behind = refl
+
+short_stack_behind_all_in : fault_of three_players (played three_players (Raise 300 ∷ Call ∷ [])) (Raise 150) ≡ Some (RaiseTooLarge 150)
+unfolding opened
+short_stack_behind_all_in = refl
+
+short_stack_behind_may_call : fault_of three_players (played three_players (Raise 300 ∷ Call ∷ [])) Call ≡ None
+unfolding opened
+short_stack_behind_may_call = refl
+
+too_small_text : fault_text (RaiseTooSmall 200) ≡ codes "24 RaiseTooSmall 200"
+unfolding opened
+too_small_text = refl
+
+too_large_text : fault_text (RaiseTooLarge 5000) ≡ codes "25 RaiseTooLarge 5000"
+unfolding opened
+too_large_text = refl
+
+finished_text : fault_text Finished ≡ codes "20 Finished"
+finished_text = refl
+
+round_full_code : fault_code RoundFull ≡ 26
+round_full_code = refl

@@ -8,8 +8,9 @@ use Rattle.betting.specs.Turns.{Turn, turn_by, max_spent, spent, folded}
 use Rattle.betting.specs.Rounds.{current_round, to_act, turns}
 use Rattle.betting.specs.Legal.{CanAct, Allows}
 use Rattle.betting.specs.Text.{text, action_text}
-use Rattle.betting.specs.Laws.{SomebodyHasTheGreatestAmount, NobodyPassesHisStack, AmountsNeverFall, HandsEnd, SomebodyMayCall, WhoActsIsLive, NobodyActsOnceOver, RaisesGoUp, AllowedWithoutFault, BettingTextsExtend}
+use Rattle.betting.specs.Laws.{SomebodyHasTheGreatestAmount, NobodyPassesHisStack, AmountsNeverFall, HandsEnd, SomebodyMayCall, WhoActsIsLive, NobodyActsOnceOver, RaisesGoUp, AllowedWithoutFault, RoundsGoOn, BettingTextsExtend}
 use Rattle.betting.proofs.Steps.{spent-other, spent-fold, spent-call, spent-raise}
+use Rattle.betting.proofs.Advance.{round_moves, round_fits}
 use Rattle.betting.proofs.Sound.{Sound, IsNext, next_is, somebody_acts, live_parts, acts_unless_over}
 use Rattle.betting.proofs.SoundSteps.{raise_between}
 use Rattle.betting.proofs.Legal.{sound_legal, length-legal, turns-cons, can_act-none, none-can_act}
@@ -77,6 +78,17 @@ raises_go_up game past position amount is_game legal acts can =
 
 pub allowed_without_fault : AllowedWithoutFault
 allowed_without_fault game past action = (can_act-none game past action, none-can_act game past action)
+
+pub rounds_go_on : RoundsGoOn
+unfolding CanAct
+rounds_go_on game past action is_game legal =
+    let sound : Sound game (turns game past) = sound_legal game is_game past legal.0 in
+    let fits : current_round game (turns game past) ≤ 3 = sound.round_fits in
+    rw (turns-cons game past legal.1.0 action legal.1.1)
+    (elim (round_moves game legal.1.0 (current_round game (turns game past)) action (turns game past) fits) [
+      | inl same ↦ (omega (arith, same), omega (arith, same))
+      | inr later ↦ (omega (arith, later), round_fits game legal.1.0 (current_round game (turns game past)) action (turns game past) fits)
+    ])
 
 append_none : (s : List ℕ) → s ≡ s ++ []
 append_none [] = refl

@@ -1,4 +1,5 @@
--- What is said of an action that isn't allowed: a number, a name, and the amount at which the legal ones begin or end.
+-- What is said of an action that isn't allowed: a number, a name, and the amount at which the legal ones begin or end,
+-- or the stack that is too small to raise.
 use Rattle.std.specs.Prelude.{ℕ, List, ◌++◌, codes, decimal}
 use Rattle.betting.specs.declared.fault.ActFault.{ActFault}
 use Rattle.betting.specs.declared.fault.ActFault.TheVariants.{Finished, FoldNotFacing, TooManyRaises, NobodyToCall, RaiseTooSmall, RaiseTooLarge, RoundFull}

@@ -4,7 +4,7 @@ use Rattle.game_def.specs.Game.{Game, IsGame, stack_of}
 use Rattle.betting.specs.declared.action.Action.{Action}
 use Rattle.betting.specs.declared.action.Action.TheVariants.{Call, Raise}
 use Rattle.betting.specs.Turns.{Turn, max_spent, spent, folded}
-use Rattle.betting.specs.Rounds.{over, to_act, turns}
+use Rattle.betting.specs.Rounds.{last_round, current_round, over, to_act, turns}
 use Rattle.betting.specs.Legal.{CanAct, Legal, fault_of}
 use Rattle.betting.specs.Text.{text}
 
@@ -51,6 +51,11 @@ RaisesGoUp = (game : Game) (past : List Action) (position amount : ℕ) → IsGa
 -- an action is allowed exactly where nothing is wrong with it
 abbrev pub AllowedWithoutFault : Type 0
 AllowedWithoutFault = (game : Game) (past : List Turn) (action : Action) → CanAct game past action ↔ (fault_of game past action ≡ None)
+
+-- rounds begin one after another and none again, up to the fourth
+abbrev pub RoundsGoOn : Type 0
+RoundsGoOn = (game : Game) (past : List Action) (action : Action) → IsGame game → Legal game (action ∷ past)
+    → (current_round game (turns game past) ≤ current_round game (turns game (action ∷ past))) × (current_round game (turns game (action ∷ past)) ≤ last_round)
 
 -- the betting text of a beginning of a hand begins that of the hand
 abbrev pub BettingTextsExtend : Type 0

@@ -11,7 +11,7 @@ action_text game Fold = codes "f"
 action_text game Call = codes "c"
 action_text game (Raise amount) = elim game.raise_sizes [ None ↦ codes "r" ++ decimal amount | Some _ ↦ codes "r" ]
 
--- each action's text and behind it a slash for each round that the text then shows
+-- each action's text and behind it a slash for each further round that the text then shows
 unfoldable pub text : Game → List Action → List ℕ
 text game [] = []
 text game (action ∷ past) =

@@ -93,7 +93,7 @@ raises_in round [] = 0
 raises_in round (turn ∷ past) = raises_in round past + (if turn.round == round && is_raise turn.action then 1 else 0)
 
 -- the least amount of a full raise in a no-limit game: the greatest of 2N - m over the round's raises from m to N
--- and of the round's base, which is the greatest amount at its beginning and the greatest blind
+-- and of the round's base, which is the greatest amount at its beginning plus the greatest blind
 unfoldable pub min_to : Game → ℕ → List Turn → ℕ
 min_to game round [] = max_spent game [] + big_blind game
 min_to game round (turn ∷ past) =

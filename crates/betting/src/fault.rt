@@ -19,7 +19,8 @@ pub enum ActFault {
     NobodyToCall,
     /// 24: a raise below this least amount, in chips over the whole hand.
     RaiseTooSmall(u32),
-    /// 25: a raise above this greatest amount, in chips over the whole hand.
+    /// 25: a raise above this greatest amount, in chips over the whole hand; or any raise of a player whose
+    /// stack, given here, isn't above the greatest amount in.
     RaiseTooLarge(u32),
     /// 26: the round's 64 actions leave no room for a raise and an answer of each other player.
     RoundFull,

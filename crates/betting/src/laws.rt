@@ -1,6 +1,6 @@
 //! What holds of every legal play of every game: each law is the contract of a function that does nothing.
 
-ghost use Rattle.betting.specs.Laws.{SomebodyHasTheGreatestAmount, NobodyPassesHisStack, AmountsNeverFall, HandsEnd, SomebodyMayCall, WhoActsIsLive, NobodyActsOnceOver, RaisesGoUp, AllowedWithoutFault, BettingTextsExtend};
+ghost use Rattle.betting.specs.Laws.{SomebodyHasTheGreatestAmount, NobodyPassesHisStack, AmountsNeverFall, HandsEnd, SomebodyMayCall, WhoActsIsLive, NobodyActsOnceOver, RaisesGoUp, AllowedWithoutFault, RoundsGoOn, BettingTextsExtend};
 
 /// Some player who hasn't folded has the greatest amount in.
 pub fn somebody_has_the_greatest_amount()
@@ -45,6 +45,11 @@ pub fn raises_go_up()
 /// An action is allowed exactly where nothing is wrong with it.
 pub fn allowed_without_fault()
     ensures { AllowedWithoutFault }
+{}
+
+/// Rounds begin one after another and none again, up to the fourth.
+pub fn rounds_go_on()
+    ensures { RoundsGoOn }
 {}
 
 /// The betting text of a beginning of a hand begins that of the hand.

@@ -100,6 +100,13 @@ impl Play {
         }
     }
 
+    /// The game.
+    pub fn game(&self) -> &GameDef
+        ensures { result.now ≡ self.now.game }
+    {
+        &self.game
+    }
+
     /// The number of players, 2 to 10.
     pub fn players(&self) -> usize
         ensures value { result ≡ self.now.game.players }

@@ -4,11 +4,11 @@ use Rattle.std.specs.List.{join_with_byte}
 use Rattle.std.specs.Fmt.{digits}
 use Rattle.game_def.specs.Game.{Game, IsGame, stack_of, blind_of, raise_size_of, big_blind}
 use Rattle.game_def.specs.Text.{without_cr, lines_of, lines, words}
-use Rattle.game_def.specs.Fault.{code_of, fault_text}
+use Rattle.game_def.specs.Fault.{fault_at, code_of, fault_text}
 use Rattle.game_def.specs.Key.{key_named, same_key, is_nolimit, fits, allows}
 use Rattle.game_def.specs.Entries.{is_set, values_of, values_or, line_of, has_nolimit}
 use Rattle.game_def.specs.GameFile.{Names, number_of, Writes, Sets, AreSettings, Defines, IsGameFile}
-use Rattle.game_def.specs.Reading.{number, numbers, values, without_sign, entry_with, with_line, fault_at, gamedef_from, entries_from}
+use Rattle.game_def.specs.Reading.{number, numbers, values, without_sign, entry_with, with_line, gamedef_from, entries_from}
 use Rattle.game_def.specs.WholeFile.{fault_of, all_passed, game_from, read_game}
 use Rattle.game_def.proofs.Settings.{line_again}
 use Rattle.game_def.proofs.Grammar.{read_is_file, file_is_read}

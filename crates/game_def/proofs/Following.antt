@@ -1,7 +1,8 @@
 -- Lines read one after the other.
 use Rattle.std.proofs.Common.{◌≡◌, ℕ, ◌+◌, true, false, List, [], ◌∷◌, Result, Ok, Err, refl}
 use Rattle.game_def.specs.Text.{words}
-use Rattle.game_def.specs.Reading.{is_blank, is_gamedef, is_end, fault_at, first_line, gamedef_from, with_line, entries_from}
+use Rattle.game_def.specs.Fault.{fault_at}
+use Rattle.game_def.specs.Reading.{is_blank, is_gamedef, is_end, first_line, gamedef_from, with_line, entries_from}
 use Rattle.game_def.specs.declared.entry.Entry.{Entry}
 use Rattle.game_def.specs.declared.fault_kind.FaultKind.{FaultKind}
 use Rattle.game_def.specs.declared.fault_kind.FaultKind.TheVariants.{NoGamedef, NoEnd}

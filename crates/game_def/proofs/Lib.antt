@@ -7,3 +7,4 @@ pub mod Passing
 pub mod Settings
 pub mod Grammar
 pub mod Examples
+pub mod ReadingExamples

@@ -31,6 +31,10 @@ name_of StackBelowBlind = codes "StackBelowBlind"
 name_of NoRaiseSize = codes "NoRaiseSize"
 name_of RepeatedKey = codes "RepeatedKey"
 
+-- a fault that is told at a line
+abbrev pub fault_at : ℕ → FaultKind → GameFault
+fault_at line kind = record { kind = kind; line = line }
+
 -- what a fault prints: its number, its name and its line
 abbrev pub fault_text : GameFault → List ℕ
 fault_text fault = decimal (code_of fault.kind) ++ codes " " ++ name_of fault.kind ++ codes " " ++ decimal fault.line

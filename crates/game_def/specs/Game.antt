@@ -3,7 +3,7 @@ use Rattle.std.specs.Prelude.{◌≡◌, ℕ, ◌≤◌, ◌<◌, List, length, 
 use Rattle.std.specs.List.{AllByRecursion}
 use Rattle.std.specs.Option.{option_map}
 
--- Amounts are whole chips. Positions and rounds count from 0.
+-- a game; amounts are whole chips, positions and rounds count from 0
 pub record Game : Type 0 where
   pub players : ℕ
   -- of each position
@@ -19,9 +19,11 @@ pub record Game : Type 0 where
 abbrev pub most_chips : ℕ
 most_chips = 2147483647
 
+-- the stack of a position at the start of each hand
 abbrev pub stack_of : Game → ℕ → ℕ
 stack_of game position = slice_index game.stacks position
 
+-- the blind of a position
 abbrev pub blind_of : Game → ℕ → ℕ
 blind_of game position = slice_index game.blinds position
 

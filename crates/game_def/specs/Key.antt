@@ -22,6 +22,7 @@ name_of NumRanks = codes "numranks"
 name_of NumHoleCards = codes "numholecards"
 name_of NumBoardCards = codes "numboardcards"
 
+-- all keys
 abbrev pub keys : List Key
 keys = Limit ∷ Nolimit ∷ NumPlayers ∷ NumRounds ∷ Stack ∷ Blind ∷ RaiseSize ∷ FirstPlayer ∷ MaxRaises ∷ NumSuits ∷ NumRanks ∷ NumHoleCards ∷ NumBoardCards ∷ []
 
@@ -45,9 +46,11 @@ place_of NumRanks = 9
 place_of NumHoleCards = 10
 place_of NumBoardCards = 11
 
+-- whether two keys are one
 abbrev pub same_key : Key → Key → Bool
 same_key one other = place_of one == place_of other
 
+-- whether a key is nolimit
 abbrev pub is_nolimit : Key → Bool
 is_nolimit Nolimit = true
 is_nolimit _ = false

@@ -6,6 +6,7 @@ use Rattle.std.specs.Char.{is_ascii_digit}
 use Rattle.std.specs.Str.{str_eq_ignore_ascii_case}
 use Rattle.game_def.specs.Text.{words}
 use Rattle.game_def.specs.GameFile.{number_of}
+use Rattle.game_def.specs.Fault.{fault_at}
 use Rattle.game_def.specs.Key.{key_named, fits, allows}
 use Rattle.game_def.specs.Entries.{is_set}
 use Rattle.game_def.specs.declared.key.Key.{Key}
@@ -27,6 +28,7 @@ is_number word = nat_le 1 (length word) && nat_le (length word) 10 && list_all i
 unfoldable pub number : Key → List ℕ → Result ℕ FaultKind
 number key word = if is_number word && fits key (number_of word) then Ok (number_of word) else Err BadNumber
 
+-- the values of a key, one after the other
 unfoldable pub numbers : Key → List (List ℕ) → Result (List ℕ) FaultKind
 numbers key [] = Ok []
 numbers key (word ∷ more) = do
@@ -88,19 +90,17 @@ is_gamedef texts = unwrap_or (option_map is_blank (named_first (codes "gamedef")
 abbrev pub is_end : List (List ℕ) → Bool
 is_end texts = unwrap_or (option_map is_gamedef (named_first (codes "end") texts)) false
 
-abbrev pub fault_at : ℕ → FaultKind → GameFault
-fault_at line kind = record { kind = kind; line = line }
-
 -- a fault is told at its line
 abbrev pub told_at : {A : Type 0} → ℕ → Result A FaultKind → Result A GameFault
 told_at line (Ok x) = Ok x
 told_at line (Err kind) = Err (fault_at line kind)
 
--- the first line that has a word is GAMEDEF: how many lines were read, and those that follow
+-- a line with a word is GAMEDEF; without one a later line is
 abbrev pub first_line : ℕ → List (List ℕ) → List (List ℕ) → Result (ℕ × List (List ℕ)) GameFault → Result (ℕ × List (List ℕ)) GameFault
 first_line line [] more later = later
 first_line line (word ∷ texts) more later = if is_gamedef (word ∷ texts) then Ok (line, more) else Err (fault_at line NoGamedef)
 
+-- the first line that has a word is GAMEDEF: how many lines were read, and those that follow
 unfoldable pub gamedef_from : ℕ → List (List ℕ) → Result (ℕ × List (List ℕ)) GameFault
 gamedef_from read [] = Err (fault_at read NoGamedef)
 gamedef_from read (line ∷ more) = first_line (read + 1) (words line) more (gamedef_from (read + 1) more)

@@ -5,7 +5,8 @@ use Rattle.std.specs.Str.{bytes_eq}
 use Rattle.game_def.specs.Game.{Game, most_chips}
 use Rattle.game_def.specs.Entries.{values_of, values_or, line_of, has_nolimit}
 use Rattle.game_def.specs.Text.{lines}
-use Rattle.game_def.specs.Reading.{◌>>=◌, fault_at, gamedef_from, entries_from}
+use Rattle.game_def.specs.Fault.{fault_at}
+use Rattle.game_def.specs.Reading.{◌>>=◌, gamedef_from, entries_from}
 use Rattle.game_def.specs.declared.key.Key.{Key}
 use Rattle.game_def.specs.declared.key.Key.TheVariants.{NumPlayers, NumRounds, Stack, Blind, RaiseSize, FirstPlayer, MaxRaises, NumSuits, NumRanks, NumHoleCards, NumBoardCards}
 use Rattle.game_def.specs.declared.entry.Entry.{Entry}
@@ -21,6 +22,7 @@ single (Some []) = 0
 single (Some (value ∷ [])) = value
 single (Some (value ∷ next ∷ more)) = 0
 
+-- the number of players, 0 where it is missing
 abbrev pub players_of : List Entry → ℕ
 players_of entries = single (values_of entries NumPlayers)
 
@@ -39,6 +41,7 @@ abbrev pub each_passes : (ℕ → Bool) → Bool → Option (List ℕ) → Bool
 each_passes passes otherwise None = otherwise
 each_passes passes otherwise (Some values) = list_all passes values
 
+-- the greatest blind, 0 where no blind is set
 abbrev pub greatest_blind : List Entry → ℕ
 greatest_blind entries = fold max 0 (values_or entries Blind [])
 
@@ -84,6 +87,7 @@ fault_of entries foot (Some failing) = Err (fault_at (line_of entries failing.ke
 abbrev pub passed : List Entry → ℕ → List Test → Result (Unit {0}) GameFault
 passed entries foot tests = fault_of entries foot (find (λ one. not one.passes) tests)
 
+-- all tests in their order
 unfoldable pub all_passed : List Entry → ℕ → Result (Unit {0}) GameFault
 all_passed entries foot = do
   one ← passed entries foot (required entries)
@@ -101,6 +105,7 @@ game_of entries = record {
   max_raises = values_or entries MaxRaises (replicate 4 255);
 }
 
+-- the game of the entries, unless a test fails
 unfoldable pub game_from : List Entry → ℕ → Result Game GameFault
 game_from entries foot = do
   passes ← all_passed entries foot

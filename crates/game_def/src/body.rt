@@ -59,17 +59,11 @@ pub(crate) fn after_gamedef(text: &[u8]) -> Result<(usize, &[u8]), GameFault>
             return Ok((read, after));
         }
         if !is_blank(line) {
-            return Err(GameFault {
-                kind: FaultKind::NoGamedef,
-                line: read,
-            });
+            return Err(FaultKind::NoGamedef.at(read));
         }
         rest = after;
     }
-    Err(GameFault {
-        kind: FaultKind::NoGamedef,
-        line: read,
-    })
+    Err(FaultKind::NoGamedef.at(read))
 }
 
 /// The entries of the lines up to `END GAMEDEF`, and the number of that line; so many lines stand
@@ -87,12 +81,9 @@ pub(crate) fn read_entries(text: &[u8], before: usize) -> Result<(Entries, usize
             return Ok((entries, read));
         }
         if let Err(kind) = read_line(&mut entries, read, line) {
-            return Err(GameFault { kind, line: read });
+            return Err(kind.at(read));
         }
         rest = after;
     }
-    Err(GameFault {
-        kind: FaultKind::NoEnd,
-        line: read,
-    })
+    Err(FaultKind::NoEnd.at(read))
 }

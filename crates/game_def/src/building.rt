@@ -6,9 +6,9 @@ ghost use Rattle.game_def.specs.GameFile.{Defines};
 ghost use Rattle.game_def.specs.WholeFile.{game_of};
 
 use crate::entries::Entries;
-use crate::game::{GameDef, MOST_PLAYERS, ROUNDS};
+use crate::game::{GameDef, MOST_CHIPS, MOST_PLAYERS, ROUNDS};
 use crate::key::Key;
-use crate::whole_file::{MOST_CHIPS, player_count};
+use crate::whole_file::player_count;
 
 /// An amount for each player, and 0 in the places behind the last.
 fn amounts(values: &[u64]) -> [u32; MOST_PLAYERS]

@@ -1,5 +1,7 @@
 ghost use Rattle.std.specs.Prelude.{◌≡◌};
-ghost use Rattle.game_def.specs.Fault.{code_of, name_of};
+ghost use Rattle.game_def.specs.Fault.{code_of, fault_at, name_of};
+
+use crate::fault::GameFault;
 
 /// What is wrong with a game file.
 #[derive(Clone, Copy, Debug, PartialEq, Eq)]
@@ -27,6 +29,13 @@ pub enum FaultKind {
 }
 
 impl FaultKind {
+    /// The fault told at a line.
+    pub(crate) fn at(self, line: usize) -> GameFault
+        ensures { result ≡ fault_at line self }
+    {
+        GameFault { kind: self, line }
+    }
+
     /// The fault's number, 10 to 19.
     pub fn code(self) -> u8
         ensures { result ≡ code_of self }

@@ -6,12 +6,16 @@ use std::marker::Model;
 /// The most players of a game.
 pub(crate) const MOST_PLAYERS: usize = 10;
 
+/// The most chips of a stack, a blind or a raise.
+pub(crate) const MOST_CHIPS: u64 = 2_147_483_647;
+
 /// The rounds of a hand: before the flop, flop, turn, river.
 pub(crate) const ROUNDS: usize = 4;
 
 /// A game of Texas hold'em: players, stacks, blinds and the rules of raising.
 ///
 /// Amounts are whole chips. Positions and rounds count from 0; position 0 is the first after the button.
+/// Contracts see it as the record `Game`. The keys are those of the ACPC project's game definitions.
 #[derive(Clone, Copy, Debug, PartialEq, Eq)]
 pub struct GameDef {
     pub(crate) players: usize,

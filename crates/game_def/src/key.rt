@@ -1,6 +1,8 @@
 ghost use Rattle.std.specs.Prelude.{◌≡◌};
 ghost use Rattle.game_def.specs.Key.{name_of, place_of, same_key, key_named, fits, allows, is_nolimit};
 
+use crate::game::MOST_CHIPS;
+
 /// What a line of a game file sets.
 #[derive(Clone, Copy, Debug, PartialEq, Eq)]
 pub(crate) enum Key {
@@ -105,7 +107,7 @@ impl Key {
         ensures { result ≡ fits self number }
     {
         match self {
-            Key::Stack | Key::Blind | Key::RaiseSize => number <= 2_147_483_647,
+            Key::Stack | Key::Blind | Key::RaiseSize => number <= MOST_CHIPS,
             Key::FirstPlayer => number >= 1 && number <= 10,
             Key::MaxRaises => number <= 255,
             _ => true,

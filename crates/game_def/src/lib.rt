@@ -1,4 +1,7 @@
-//! Game definitions: what a game file says of a match, and which files are refused.
+//! Game definitions: players, stacks, blinds and the rules of raising of a match of Texas hold'em, read
+//! from a game file of the ACPC project. `read` answers a `GameDef` exactly for the game files, with the
+//! game that they define, and else the first fault with its line; it takes no memory. All layers above
+//! that bet, deal or settle stand on the bounds that `GameDef` ensures.
 #![tactic(auto)]
 
 mod body;

@@ -35,8 +35,9 @@ fn read_all(text: &[u8]) -> Result<GameDef, GameFault>
 /// of Texas hold'em for 2 to 10 players.
 ///
 /// Lines end with LF, before which a CR is dropped; what follows a `#` is dropped; spaces and tabs part
-/// words; letter case is of no account. Between `GAMEDEF` and `END GAMEDEF` each line sets a key, each
-/// key at most once. What follows `END GAMEDEF` isn't read. No memory is taken.
+/// words; letter case is of no account. The first line with a word is `GAMEDEF`. From there to
+/// `END GAMEDEF` each line with a word sets a key: its name, an optional `=`, the values; each key at most
+/// once, `limit` and `nolimit` being one. What follows `END GAMEDEF` isn't read. No memory is taken.
 ///
 /// The fault is the first one: at the first line at fault 10 `NoGamedef`, 12 `UnknownKey`,
 /// 19 `RepeatedKey`, 13 `BadNumber`, 14 `WrongCount` in this order; then 11 `NoEnd`; then, of the whole

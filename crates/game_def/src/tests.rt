@@ -134,8 +134,15 @@ fn limit_games(rt: HostRuntime) -> Result<(), Fail> {
     assert_eq!(rt; third.blind(0), 5);
     assert_eq!(rt; third.blind(1), 10);
     assert_eq!(rt; third.blind(2), 0);
-    assert_eq!(rt; third.first_player(0), 2);
-    assert_eq!(rt; third.first_player(3), 0);
+    let third_firsts = [2, 0, 0, 0];
+    for position in 0..3 {
+        assert_eq!(rt; third.stack(position), 2_147_483_647);
+    }
+    for round in 0..4 {
+        assert_eq!(rt; third.raise_size(round), Some(sizes[round]));
+        assert_eq!(rt; third.first_player(round), third_firsts[round]);
+        assert_eq!(rt; third.max_raises(round), raises[round]);
+    }
     assert!(rt; read(L2_LOUD) == Ok(game));
     Ok(())
 }
@@ -164,7 +171,12 @@ fn nolimit_games(rt: HostRuntime) -> Result<(), Fail> {
         assert_eq!(rt; third.stack(position), stacks[position]);
         assert_eq!(rt; third.blind(position), blinds[position]);
     }
-    assert_eq!(rt; third.first_player(0), 2);
+    let third_firsts = [2, 0, 0, 0];
+    for round in 0..4 {
+        assert_eq!(rt; third.raise_size(round), None);
+        assert_eq!(rt; third.first_player(round), third_firsts[round]);
+        assert_eq!(rt; third.max_raises(round), 255);
+    }
     Ok(())
 }
 
@@ -249,5 +261,31 @@ fn faults_of_files(rt: HostRuntime) -> Result<(), Fail> {
     for (text, line) in requirements {
         assert_eq!(rt; told(text), (15, line));
     }
+    Ok(())
+}
+
+#[test]
+fn printed_fault(rt: HostRuntime) -> Result<(), Fail> {
+    let text = b"GAMEDEF
+nolimit
+numPlayers = 2
+numRounds = 4
+stack = 100 100
+blind = 100 50
+firstPlayer = 2 1 1 1
+numSuits = 4
+numRanks = 13
+numHoleCards = 2
+numBoardCards = 0 3 1 1
+END GAMEDEF
+";
+    let fault = read(text).err().ok_or("a stack is the greatest blind")?;
+    assert!(rt; fault.kind == FaultKind::StackBelowBlind);
+    assert_eq!(rt; fault.kind.code(), 17);
+    assert_eq!(rt; fault.kind.name(), "StackBelowBlind");
+    assert_eq!(rt;
+        format!(in rt.alloc(); "{fault}")?.as_str(),
+        "17 StackBelowBlind 5"
+    );
     Ok(())
 }

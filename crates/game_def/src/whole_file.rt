@@ -9,11 +9,9 @@ ghost use Rattle.game_def.specs.WholeFile.{single, players_of, has_values, has_c
 use crate::entries::Entries;
 use crate::fault::GameFault;
 use crate::fault_kind::FaultKind;
+use crate::game::MOST_CHIPS;
 use crate::key::Key;
 use crate::test::Test;
-
-/// The most chips of a stack, a blind or a raise.
-pub(crate) const MOST_CHIPS: u64 = 2_147_483_647;
 
 /// The number of players; 0 where it is missing.
 pub(crate) fn player_count(entries: &Entries) -> u64
@@ -218,10 +216,7 @@ fn passed(entries: &Entries, foot: usize, tests: &[Test]) -> Result<(), GameFaul
     ensures { result ≡ passed entries.now foot tests.now }
 {
     match first_failing(tests) {
-        Some(test) => Err(GameFault {
-            kind: test.kind,
-            line: entries.line_of(test.key, foot),
-        }),
+        Some(test) => Err(test.kind.at(entries.line_of(test.key, foot))),
         None => Ok(()),
     }
 }

@@ -1,13 +1,14 @@
 -- The nine categories with their neighbours, the order of worths, and the best of several cards.
-use Rattle.std.proofs.Common.{◌≡◌, ℕ, List, [], ◌∷◌, refl, true, false, arith, cond, eqb}
+use Rattle.std.proofs.Common.{◌≡◌, ℕ, List, [], ◌∷◌, refl, true, false, arith, cond, eqb, Some, None, lit<}
 use Rattle.std.specs.declared.cmp.Ordering.TheVariants.{Less, Equal, Greater}
 use Rattle.std.proofs.lemmas.List.Sorted.{IsPermutation-refl, IsPermutation-reverse, sum_by-IsPermutation}
 use Rattle.std.proofs.lemmas.List.Sums.{sum_by_from}
 use Rattle.std.specs.List.{sum_by}
-use Rattle.hand_rank.specs.Best.{IsFiveOf, IsReached, IsBestOf}
+use Rattle.std.specs.List.Sorted.{IsPermutation}
+use Rattle.hand_rank.specs.Best.{IsFiveOf, IsReached, IsBestOf, IsAtLeastWithout, IsBestLeavingOut}
 use Rattle.hand_rank.specs.Five.{worth_of_five, counts_of, is_flush, straight_top, groups_of, category_of, ranks_coming, by_count_then_height, deciding_ranks}
 use Rattle.hand_rank.specs.Worth.{Worth, worth_cmp}
-use Rattle.hand_rank.proofs.Greatest.{best_of_five}
+use Rattle.hand_rank.proofs.Greatest.{best_of_five, best_of_one, left_out_below}
 
 abbrev pub worth : ℕ → List ℕ → Worth
 worth category ranks = record { category = category; ranks = ranks }
@@ -118,7 +119,7 @@ five_in_another_order-chosen = record { count = refl; others = 49 ∷ 48 ∷ [];
 pub four_cards-none : IsFiveOf three_pairs (48 ∷ 49 ∷ 44 ∷ 45 ∷ []) → ⊥
 four_cards-none chosen = let count = chosen.count in cc
 
--- five cards of which one isn't among the seven: with the others they would be the seven
+-- the ace of hearts isn't among the five
 pub ace_of_hearts-none : IsFiveOf (48 ∷ 49 ∷ 44 ∷ 45 ∷ 40 ∷ []) (48 ∷ 49 ∷ 44 ∷ 45 ∷ 50 ∷ []) → ⊥
 ace_of_hearts-none chosen =
     let aces : ℕ → ℕ = λ card. cond (eqb card 50) 1 0 in
@@ -141,3 +142,42 @@ kings_and_queens-none best =
 pub best_of_the_wheel : IsBestOf (48 ∷ 1 ∷ 6 ∷ 11 ∷ 12 ∷ []) (worth 4 (3 ∷ 0 ∷ 0 ∷ 0 ∷ 0 ∷ []))
 unfolding worth_of_five counts_of is_flush straight_top groups_of category_of ranks_coming by_count_then_height deciding_ranks
 best_of_the_wheel = best_of_five (48 ∷ 1 ∷ 6 ∷ 11 ∷ 12 ∷ []) refl
+
+-- Ac 2d 3h 4s 5c 6c, and the same without the ace
+abbrev pub ace_to_six : List ℕ
+ace_to_six = 48 ∷ 1 ∷ 6 ∷ 11 ∷ 12 ∷ 16 ∷ []
+
+abbrev pub six_to_two : List ℕ
+six_to_two = 16 ∷ 1 ∷ 6 ∷ 11 ∷ 12 ∷ []
+
+without_the_ace : IsPermutation (48 ∷ six_to_two) ace_to_six
+without_the_ace = left_out_below ace_to_six (48 ∷ 1 ∷ 6 ∷ 11 ∷ 12 ∷ []) 5 0 16 refl (lit< tt) refl refl
+
+-- with the ace left out the best five are a straight up to the six
+pub best_without_the_ace : IsBestLeavingOut ace_to_six 0 1 (worth 4 (4 ∷ 0 ∷ 0 ∷ 0 ∷ 0 ∷ []))
+unfolding worth_of_five counts_of is_flush straight_top groups_of category_of ranks_coming by_count_then_height deciding_ranks
+best_without_the_ace = best_of_one ace_to_six six_to_two 0 (worth 4 (4 ∷ 0 ∷ 0 ∷ 0 ∷ 0 ∷ [])) without_the_ace (best_of_five six_to_two refl)
+
+-- and no lower one
+pub wheel_without_the_ace-none : IsAtLeastWithout ace_to_six (worth 4 (3 ∷ 0 ∷ 0 ∷ 0 ∷ 0 ∷ [])) 0 → ⊥
+unfolding worth_of_five counts_of is_flush straight_top groups_of category_of ranks_coming by_count_then_height deciding_ranks
+wheel_without_the_ace-none least =
+    let above : true ≡ false = least six_to_two six_to_two without_the_ace (record { count = refl; others = []; together = IsPermutation-refl six_to_two }) in cc
+
+-- Ac 2d 3h 4s 5c is the straight with the five on top, and Qc Kd Ah 2s 3c none
+pub top_of_the_wheel : straight_top (counts_of (48 ∷ 1 ∷ 6 ∷ 11 ∷ 12 ∷ [])) ≡ Some 3
+unfolding counts_of straight_top
+top_of_the_wheel = refl
+
+pub no_top_round_the_ace : straight_top (counts_of (40 ∷ 45 ∷ 50 ∷ 3 ∷ 4 ∷ [])) ≡ None
+unfolding counts_of straight_top
+no_top_round_the_ace = refl
+
+-- Kc Kd Ac Ad Ah: one group of three and one of two
+pub group_of_three : groups_of 3 (counts_of (44 ∷ 45 ∷ 48 ∷ 49 ∷ 50 ∷ [])) ≡ 1
+unfolding counts_of groups_of
+group_of_three = refl
+
+pub group_of_two : groups_of 2 (counts_of (44 ∷ 45 ∷ 48 ∷ 49 ∷ 50 ∷ [])) ≡ 1
+unfolding counts_of groups_of
+group_of_two = refl

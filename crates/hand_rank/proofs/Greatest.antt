@@ -1,5 +1,5 @@
 -- The best five so far, as one card after another is left out.
-use Rattle.std.proofs.Common.{◌≡◌, ◌==◌, map, ℕ, ◌+◌, ◌<◌, ◌≤◌, Bool, List, [], ◌∷◌, ◌++◌, length, get_or, set, take, drop, ◌-◌, cond, true, false, refl, sym, ◌∙◌, ap, subst, below_more, arith, inl, inr, ◌⊎◌, length-append}
+use Rattle.std.proofs.Common.{◌≡◌, ◌≢◌, ◌==◌, map, ℕ, ◌+◌, ◌<◌, ◌≤◌, Bool, List, [], ◌∷◌, ◌++◌, length, get_or, set, take, drop, ◌-◌, cond, true, false, refl, sym, ◌∙◌, ap, subst, below_more, arith, inl, inr, ◌⊎◌, length-append}
 use Rattle.std.specs.Cmp.{IsTotalOrder}
 use Rattle.std.specs.Cmp.Lexicographic.{slice_cmp}
 use Rattle.std.specs.List.{Contains, list_any, swap_remove}
@@ -8,12 +8,12 @@ use Rattle.std.specs.Ordering.{is_gt, is_lt, ord_max, nat_cmp, ordering_then, or
 use Rattle.std.specs.Option.{is_some}
 use Rattle.std.specs.declared.cmp.Ordering.{Ordering}
 use Rattle.std.specs.declared.cmp.Ordering.TheVariants.{Less, Equal, Greater}
-use Rattle.std.proofs.lemmas.Bool.{cond-true, cond-false, cases_Bool, cond_both}
+use Rattle.std.proofs.lemmas.Bool.{cond-true, cond-false, cases_Bool, cond_both, cases_lt}
 use Rattle.std.proofs.lemmas.Cmp.{then_total, on_total, nat_cmp_total, nat_list_cmp_total, upto, tied_itself, ranked}
-use Rattle.std.proofs.lemmas.List.{length-set, length-take-le, set-append_left, take-append-drop, take-set, take_at, append-nil, get_or_default, nil_from_length}
-use Rattle.std.proofs.lemmas.List.Sorted.{IsPermutation-refl, IsPermutation-sym, IsPermutation-trans, IsPermutation-cons, IsPermutation-middle, IsPermutation-swap_remove, Contains-permutation, length_permutation, sum_by-IsPermutation}
+use Rattle.std.proofs.lemmas.List.{get_or-take, get_or-set_other, length-set, length-take-le, set-append_left, take-append-drop, take-set, take_at, append-nil, get_or_default, nil_from_length}
+use Rattle.std.proofs.lemmas.List.Sorted.{IsPermutation-refl, IsPermutation-sym, IsPermutation-trans, IsPermutation-cons, IsPermutation-middle, IsPermutation-to_front, IsPermutation-swap_remove, Contains-permutation, length_permutation, sum_by-IsPermutation}
 use Rattle.card_core.specs.Card.{rank_of, suit_of}
-use Rattle.hand_rank.specs.Best.{IsFiveOf, IsReached, IsBestOf}
+use Rattle.hand_rank.specs.Best.{IsFiveOf, IsReached, IsBestOf, IsAtLeastWithout, IsBestLeavingOut}
 use Rattle.hand_rank.specs.Five.{worth_of_five, counts_of, is_flush, rank_count, suit_count, ranks_up, category_of, straight_top, deciding_ranks}
 use Rattle.hand_rank.specs.Worth.{Worth, worth_cmp}
 use Rattle.hand_rank.proofs.Permutations.{permutation_without}
@@ -75,15 +75,6 @@ worth_of_five-permutation xs ys moved =
 
 -- ---- the best so far
 
--- no five that leave out the card at this place are worth more
-abbrev pub IsLeastWithout : List ℕ → Worth → ℕ → Type 0
-IsLeastWithout cards best k = (rest five : List ℕ) → IsPermutation (get_or cards k 0 ∷ rest) cards → IsFiveOf rest five → is_gt (worth_cmp (worth_of_five five) best) ≡ false
-
--- the best of the fives that leave out one of the first cards
-pub record IsBestSoFar (cards : List ℕ) (best : Worth) (n : ℕ) : Type 0 where
-  pub reached : IsReached cards best
-  pub greatest : (k : ℕ) → k < n → IsLeastWithout cards best k
-
 fives_move : (xs ys five : List ℕ) → IsPermutation xs ys → IsFiveOf xs five → IsFiveOf ys five
 fives_move xs ys five moved chosen = record { count = chosen.count; others = chosen.others; together = IsPermutation-trans (five ++ chosen.others) xs ys chosen.together moved }
 
@@ -104,7 +95,7 @@ reached_by_more cards kept x worth moved reached =
       worth_it = reached.worth_it;
     }
 
-least_from_best : (cards kept : List ℕ) (k : ℕ) (worth best : Worth) → IsPermutation (get_or cards k 0 ∷ kept) cards → IsBestOf kept worth → is_gt (worth_cmp worth best) ≡ false → IsLeastWithout cards best k
+least_from_best : (cards kept : List ℕ) (k : ℕ) (worth best : Worth) → IsPermutation (get_or cards k 0 ∷ kept) cards → IsBestOf kept worth → is_gt (worth_cmp worth best) ≡ false → IsAtLeastWithout cards best k
 least_from_best cards kept k worth best moved is_best above =
     λ rest five back chosen.
     let x : ℕ = get_or cards k 0 in
@@ -112,50 +103,121 @@ least_from_best cards kept k worth best moved is_best above =
     permutation_without x rest kept (IsPermutation-trans (x ∷ rest) cards (x ∷ kept) back (IsPermutation-sym (x ∷ kept) cards moved)) in
     upto worth_total (worth_of_five five) worth best (is_best.greatest five (fives_move rest kept five same chosen)) above
 
-least_kept : (cards : List ℕ) (best better : Worth) (k : ℕ) → is_gt (worth_cmp best better) ≡ false → IsLeastWithout cards best k → IsLeastWithout cards better k
+least_kept : (cards : List ℕ) (best better : Worth) (k : ℕ) → is_gt (worth_cmp best better) ≡ false → IsAtLeastWithout cards best k → IsAtLeastWithout cards better k
 least_kept cards best better k above least =
     λ rest five back chosen. upto worth_total (worth_of_five five) best better (least rest five back chosen) above
-
--- the first card left out
-pub best_of_first : (cards kept : List ℕ) (worth : Worth) → IsPermutation (get_or cards 0 0 ∷ kept) cards → IsBestOf kept worth → IsBestSoFar cards worth 1
-best_of_first cards kept worth moved is_best = record {
-  reached = reached_by_more cards kept (get_or cards 0 0) worth moved is_best.reached;
-  greatest = λ k below.
-      let first : 0 ≡ k = omega arith in
-      let P : ℕ → Type 0 = λ n. IsLeastWithout cards worth n in
-      subst P first (least_from_best cards kept 0 worth worth moved is_best (not_above_itself worth));
-}
 
 reached_by_max : (cards : List ℕ) (a b : Worth) → IsReached cards a → IsReached cards b → IsReached cards (ord_max worth_cmp a b)
 reached_by_max cards a b by_a by_b =
     cond_both (is_lt (worth_cmp b a)) a b (IsReached cards) (λ _. by_a) (λ _. by_b)
 
--- one card more left out
-pub best_with_more : (cards kept : List ℕ) (best worth better : Worth) (n : ℕ) → better ≡ ord_max worth_cmp best worth → IsPermutation (get_or cards n 0 ∷ kept) cards → IsBestOf kept worth → IsBestSoFar cards best n → IsBestSoFar cards better (n + 1)
-best_with_more cards kept best worth better n e moved is_best so_far =
-    let P : Worth → Type 0 = λ w. IsBestSoFar cards w (n + 1) in
-    subst P (sym e) (record {
-      reached = reached_by_max cards best worth so_far.reached (reached_by_more cards kept (get_or cards n 0) worth moved is_best.reached);
-      greatest = below_more (λ k. IsLeastWithout cards (ord_max worth_cmp best worth) k) n
-          (λ k below. least_kept cards best (ord_max worth_cmp best worth) k (max_left best worth) (so_far.greatest k below))
-          (least_from_best cards kept n worth (ord_max worth_cmp best worth) moved is_best (max_right best worth));
-    })
+-- one place alone
+pub best_of_one : (cards kept : List ℕ) (k : ℕ) (worth : Worth) → IsPermutation (get_or cards k 0 ∷ kept) cards → IsBestOf kept worth → IsBestLeavingOut cards k (k + 1) worth
+best_of_one cards kept k worth moved is_best = record {
+  reached = reached_by_more cards kept (get_or cards k 0) worth moved is_best.reached;
+  greatest = λ place below from.
+      let same : k ≡ place = omega arith in
+      let P : ℕ → Type 0 = λ n. IsAtLeastWithout cards worth n in
+      subst P same (least_from_best cards kept k worth worth moved is_best (not_above_itself worth));
+}
 
-greatest_of_all : (cards : List ℕ) (best : Worth) (five others : List ℕ) → 5 < length cards → length five ≡ 5 → IsPermutation (five ++ others) cards → IsBestSoFar cards best (length cards) → is_gt (worth_cmp (worth_of_five five) best) ≡ false
-greatest_of_all cards best five [] more count together so_far =
+-- one place more
+best_more : (cards : List ℕ) (from n : ℕ) (best worth : Worth) → IsReached cards worth → IsAtLeastWithout cards (ord_max worth_cmp best worth) n → IsBestLeavingOut cards from n best → IsBestLeavingOut cards from (n + 1) (ord_max worth_cmp best worth)
+best_more cards from n best worth reached here so_far = record {
+  reached = reached_by_max cards best worth so_far.reached reached;
+  greatest = below_more (λ k. from ≤ k → IsAtLeastWithout cards (ord_max worth_cmp best worth) k) n
+      (λ k below after. least_kept cards best (ord_max worth_cmp best worth) k (max_left best worth) (so_far.greatest k below after))
+      (λ _. here);
+}
+
+pub best_with_more : (cards kept : List ℕ) (from n : ℕ) (best worth better : Worth) → better ≡ ord_max worth_cmp best worth → IsPermutation (get_or cards n 0 ∷ kept) cards → IsBestOf kept worth → IsBestLeavingOut cards from n best → IsBestLeavingOut cards from (n + 1) better
+best_with_more cards kept from n best worth better e moved is_best so_far =
+    let P : Worth → Type 0 = λ w. IsBestLeavingOut cards from (n + 1) w in
+    subst P (sym e)
+    (best_more cards from n best worth
+    (reached_by_more cards kept (get_or cards n 0) worth moved is_best.reached)
+    (least_from_best cards kept n worth (ord_max worth_cmp best worth) moved is_best (max_right best worth))
+    so_far)
+
+-- ---- two cards left out, the second of them at the same place or a later one
+
+-- what is true of an earlier place and this one together, the earlier place says
+earlier_left_out : (cards five : List ℕ) (n q b : ℕ) (best : Worth) → length five ≡ 5 → get_or cards q 0 ≡ b → IsPermutation (get_or cards n 0 ∷ (b ∷ five)) cards → IsAtLeastWithout cards best q → is_gt (worth_cmp (worth_of_five five) best) ≡ false
+earlier_left_out cards five n q b best count here both least =
+    let x : ℕ = get_or cards n 0 in
+    let turned : IsPermutation (b ∷ (x ∷ five)) cards =
+    IsPermutation-trans (b ∷ (x ∷ five)) (x ∷ (b ∷ five)) cards (IsPermutation-middle (b ∷ []) x five) both in
+    let P : ℕ → Type 0 = λ y. IsPermutation (y ∷ (x ∷ five)) cards in
+    least (x ∷ five) five (subst P (sym here) turned) (record { count = count; others = x ∷ []; together = IsPermutation-to_front five x })
+
+five_of_itself : (five : List ℕ) → length five ≡ 5 → IsFiveOf five five
+five_of_itself five count =
+    let P : List ℕ → Type 0 = λ xs. IsPermutation xs five in
+    record { count = count; others = []; together = subst P (sym (append-nil five)) (IsPermutation-refl five) }
+
+pair_left_out : (cards kept rest five others : List ℕ) (n : ℕ) (best : Worth) → length kept ≡ 6 → IsPermutation rest kept → IsPermutation (get_or cards n 0 ∷ rest) cards → ((j : ℕ) → j < n → get_or kept j 0 ≡ get_or cards j 0) → ((q : ℕ) → q < n → IsAtLeastWithout cards best q) → ((q : ℕ) → q < 6 → n ≤ q → IsAtLeastWithout kept best q) → length five ≡ 5 → IsPermutation (five ++ others) rest → is_gt (worth_cmp (worth_of_five five) best) ≡ false
+pair_left_out cards kept rest five (b ∷ []) n best six same back front earlier later count together =
+    let x : ℕ = get_or cards n 0 in
+    let ahead : IsPermutation (b ∷ five) rest =
+    IsPermutation-trans (b ∷ five) (five ++ b ∷ []) rest (IsPermutation-sym (five ++ b ∷ []) (b ∷ five) (IsPermutation-to_front five b)) together in
+    let moved : IsPermutation (b ∷ five) kept = IsPermutation-trans (b ∷ five) rest kept ahead same in
+    let place : Contains kept b = Contains-permutation (b ∷ five) kept b moved (0, omega arith, refl) in
+    let here : get_or kept place.0 0 ≡ b = get_or_default kept place.0 0 b place.1 ∙ place.2 in
+    elim (cases_lt place.0 n) [
+      | inl before ↦
+          earlier_left_out cards five n place.0 b best count (sym (front place.0 before) ∙ here)
+          (IsPermutation-trans (x ∷ (b ∷ five)) (x ∷ rest) cards (IsPermutation-cons x (b ∷ five) rest ahead) back) (earlier place.0 before)
+      | inr after ↦
+          let P : ℕ → Type 0 = λ y. IsPermutation (y ∷ five) kept in
+          later place.0 (omega (arith, place.1, six)) after five five (subst P (sym here) moved) (five_of_itself five count)
+    ]
+pair_left_out cards kept rest five [] n best six same back front earlier later count together =
+    absurd (omega (arith, six, count, length_permutation rest kept same, length_permutation (five ++ []) rest together, length-append five []))
+pair_left_out cards kept rest five (b ∷ (d ∷ others)) n best six same back front earlier later count together =
+    absurd (omega (arith, six, count, length_permutation rest kept same, length_permutation (five ++ b ∷ (d ∷ others)) rest together, length-append five (b ∷ (d ∷ others))))
+
+-- where the earlier places are done with, the later ones are enough
+two_left_out : (cards kept : List ℕ) (n : ℕ) (best : Worth) → length kept ≡ 6 → IsPermutation (get_or cards n 0 ∷ kept) cards → ((j : ℕ) → j < n → get_or kept j 0 ≡ get_or cards j 0) → ((q : ℕ) → q < n → IsAtLeastWithout cards best q) → ((q : ℕ) → q < 6 → n ≤ q → IsAtLeastWithout kept best q) → IsAtLeastWithout cards best n
+two_left_out cards kept n best six moved front earlier later =
+    λ rest five back chosen.
+    let x : ℕ = get_or cards n 0 in
+    let same : IsPermutation rest kept =
+    permutation_without x rest kept (IsPermutation-trans (x ∷ rest) cards (x ∷ kept) back (IsPermutation-sym (x ∷ kept) cards moved)) in
+    pair_left_out cards kept rest five chosen.others n best six same back front earlier later chosen.count chosen.together
+
+pub best_of_seven_first : (cards kept : List ℕ) (worth : Worth) → length kept ≡ 6 → IsPermutation (get_or cards 0 0 ∷ kept) cards → IsBestLeavingOut kept 0 6 worth → IsBestLeavingOut cards 0 1 worth
+best_of_seven_first cards kept worth six moved is_best = record {
+  reached = reached_by_more cards kept (get_or cards 0 0) worth moved is_best.reached;
+  greatest = λ place below from.
+      let first : 0 ≡ place = omega arith in
+      let P : ℕ → Type 0 = λ n. IsAtLeastWithout cards worth n in
+      subst P first (two_left_out cards kept 0 worth six moved (λ j below_none. absurd (omega arith)) (λ q below_none. absurd (omega arith)) is_best.greatest);
+}
+
+pub best_of_seven_more : (cards kept : List ℕ) (n : ℕ) (best worth better : Worth) → length kept ≡ 6 → better ≡ ord_max worth_cmp best worth → IsPermutation (get_or cards n 0 ∷ kept) cards → ((j : ℕ) → j < n → get_or kept j 0 ≡ get_or cards j 0) → IsBestLeavingOut kept n 6 worth → IsBestLeavingOut cards 0 n best → IsBestLeavingOut cards 0 (n + 1) better
+best_of_seven_more cards kept n best worth better six e moved front is_best so_far =
+    let most : Worth = ord_max worth_cmp best worth in
+    let P : Worth → Type 0 = λ w. IsBestLeavingOut cards 0 (n + 1) w in
+    subst P (sym e)
+    (best_more cards 0 n best worth
+    (reached_by_more cards kept (get_or cards n 0) worth moved is_best.reached)
+    (two_left_out cards kept n most six moved front
+    (λ q below. least_kept cards best most q (max_left best worth) (so_far.greatest q below (omega arith)))
+    (λ q below after. least_kept kept worth most q (max_right best worth) (is_best.greatest q below after)))
+    so_far)
+
+-- each five leave out one of the cards
+greatest_of_all : (cards : List ℕ) (best : Worth) (five others : List ℕ) → 5 < length cards → length five ≡ 5 → IsPermutation (five ++ others) cards → ((place : ℕ) → place < length cards → IsAtLeastWithout cards best place) → is_gt (worth_cmp (worth_of_five five) best) ≡ false
+greatest_of_all cards best five [] more count together least =
     absurd (omega (arith, length_permutation (five ++ []) cards together, length-append five []))
-greatest_of_all cards best five (x ∷ others) more count together so_far =
+greatest_of_all cards best five (x ∷ others) more count together least =
     let moved : IsPermutation (x ∷ (five ++ others)) cards =
     IsPermutation-trans (x ∷ (five ++ others)) (five ++ x ∷ others) cards (IsPermutation-sym (five ++ x ∷ others) (x ∷ (five ++ others)) (IsPermutation-middle five x others)) together in
     let place : Contains cards x = Contains-permutation (x ∷ (five ++ others)) cards x moved (0, omega arith, refl) in
     let here : get_or cards place.0 0 ≡ x = get_or_default cards place.0 0 x place.1 ∙ place.2 in
     let P : ℕ → Type 0 = λ y. IsPermutation (y ∷ (five ++ others)) cards in
-    so_far.greatest place.0 place.1 (five ++ others) five (subst P (sym here) moved)
+    least place.0 place.1 (five ++ others) five (subst P (sym here) moved)
     (record { count = count; others = others; together = IsPermutation-refl (five ++ others) })
-
--- of more than five cards each five leave out one
-pub best_of_all : (cards : List ℕ) (best : Worth) → 5 < length cards → IsBestSoFar cards best (length cards) → IsBestOf cards best
-best_of_all cards best more so_far = record { reached = so_far.reached; greatest = λ five chosen. greatest_of_all cards best five chosen.others more chosen.count chosen.together so_far }
 
 -- of five cards there is one five
 same_five : (cards five : List ℕ) → length cards ≡ 5 → IsFiveOf cards five → IsPermutation five cards
@@ -277,3 +339,31 @@ left_out_last cards kept n k count past place copied =
 
 pub length_left_out : (cards kept : List ℕ) (x n : ℕ) → IsPermutation (x ∷ kept) cards → length cards ≡ n + 1 → length kept ≡ n
 length_left_out cards kept x n moved count = omega (arith, length_permutation (x ∷ kept) cards moved, count)
+
+pub left_out_front : (cards kept : List ℕ) (n k last : ℕ) → k < n → kept ≡ take n cards → (j : ℕ) → j < k → get_or (set kept k last) j 0 ≡ get_or cards j 0
+left_out_front cards kept n k last below copied j before =
+    let differ : j ≢ k = omega arith in
+    let within : j < n = omega arith in
+    get_or-set_other kept k j last 0 differ ∙ (ap (λ (zs : List ℕ). get_or zs j 0) copied ∙ get_or-take n cards j 0 within)
+
+pub left_out_last_front : (cards kept : List ℕ) (n k : ℕ) → k ≤ n → kept ≡ take n cards → (j : ℕ) → j < k → get_or kept j 0 ≡ get_or cards j 0
+left_out_last_front cards kept n k upto copied j before =
+    let within : j < n = omega arith in
+    ap (λ (zs : List ℕ). get_or zs j 0) copied ∙ get_or-take n cards j 0 within
+
+-- the last card left out leaves one of the others to be left out too
+pub best_of_seven_all : (cards : List ℕ) (best : Worth) → length cards ≡ 7 → IsBestLeavingOut cards 0 6 best → IsBestOf cards best
+best_of_seven_all cards best seven so_far =
+    let kept : List ℕ = take 6 cards in
+    let six : length (take 6 cards) ≡ 6 = length-take-le 6 cards (omega (arith, seven)) in
+    let last : IsAtLeastWithout cards best 6 =
+    two_left_out cards (take 6 cards) 6 best six (left_out_last cards (take 6 cards) 6 6 seven (omega arith) (omega arith) refl)
+    (left_out_last_front cards (take 6 cards) 6 6 (omega arith) refl)
+    (λ q below. so_far.greatest q below (omega arith))
+    (λ q below after. absurd (omega arith)) in
+    let all : (place : ℕ) → place < 6 + 1 → IsAtLeastWithout cards best place =
+    below_more (λ k. IsAtLeastWithout cards best k) 6 (λ k below. so_far.greatest k below (omega arith)) last in
+    record {
+      reached = so_far.reached;
+      greatest = λ five chosen. greatest_of_all cards best five chosen.others (omega (arith, seven)) chosen.count chosen.together (λ place within. all place (omega (arith, seven)));
+    }

@@ -1,32 +1,34 @@
-ghost use Rattle.std.specs.Prelude.{◌≡◌, ◌+◌, ◌≤◌, ◌∷◌, length, nat_eq, slice_index_or};
+ghost use Rattle.std.specs.Prelude.{◌≡◌, ℕ, ◌+◌, ◌<◌, ◌≤◌, ◌∷◌, length, nat_eq, slice_index};
 ghost use Rattle.std.specs.List.{IsDistinct};
 ghost use Rattle.std.specs.List.Sorted.{IsPermutation};
-ghost use Rattle.hand_rank.specs.Best.{IsBestOf};
+ghost use Rattle.hand_rank.specs.Best.{IsBestOf, IsBestLeavingOut};
 
 use crate::five::value_of_slice;
 use crate::hand_value::HandValue;
 use card_core::Card;
 
-/// The value of the best five of seven distinct cards: some five of them have it, and no five of them
-/// have a greater one.
+/// The value of the best five of seven distinct cards, a player's two hole cards and the five board cards
+/// of Texas hold'em: some five of them have it, and no five of them have a greater one. Suits break no
+/// tie, and the order of the cards is of no account.
 pub fn best_of_seven(cards: &[Card; 7]) -> HandValue
     requires { IsDistinct nat_eq cards.now }
     ensures { IsBestOf cards.now result }
 {
-    let mut best = best_of_six(&without::<6>(cards, 0));
-    for left_out in 1..7 {
-        best = best.max(best_of_six(&without::<6>(cards, left_out)));
+    let mut best = best_of_six(&without::<6>(cards, 0), 0);
+    for left_out in 1..6 {
+        best = best.max(best_of_six(&without::<6>(cards, left_out), left_out));
     }
     best
 }
 
-/// The value of the best five of six cards.
-fn best_of_six(cards: &[Card]) -> HandValue
-    requires { length cards.now ≡ 6 }
-    ensures { IsBestOf cards.now result }
+/// The value of the best of those fives of six cards that leave out a card from a place on.
+fn best_of_six(cards: &[Card], from: usize) -> HandValue
+    requires count { length cards.now ≡ 6 }
+    requires place { from ≤ 5 }
+    ensures { IsBestLeavingOut cards.now from 6 result }
 {
-    let mut best = value_of_slice(&without::<5>(cards, 0));
-    for left_out in 1..6 {
+    let mut best = value_of_slice(&without::<5>(cards, from));
+    for left_out in from + 1..6 {
         best = best.max(value_of_slice(&without::<5>(cards, left_out)));
     }
     best
@@ -36,7 +38,8 @@ fn best_of_six(cards: &[Card]) -> HandValue
 fn without<const N: usize>(cards: &[Card], left_out: usize) -> [Card; N]
     requires count { length cards.now ≡ N + 1 }
     requires place { left_out ≤ N }
-    ensures { IsPermutation (slice_index_or cards.now left_out 0 ∷ result) cards.now }
+    ensures others { IsPermutation (slice_index cards.now left_out ∷ result) cards.now }
+    ensures before { (place : ℕ) → place < left_out → slice_index result place ≡ slice_index cards.now place }
 {
     let mut kept = [cards[N]; N];
     kept.copy_from_slice(&cards[..N]);

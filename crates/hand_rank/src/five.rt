@@ -35,7 +35,7 @@ const STRAIGHT_TOPS: [u8; 10] = [12, 11, 10, 9, 8, 7, 6, 5, 4, 3];
 /// The ranks from the ace down to the two.
 const RANKS_DOWN: [u8; 13] = [12, 11, 10, 9, 8, 7, 6, 5, 4, 3, 2, 1, 0];
 
-/// How many cards of one rank five cards may have.
+/// How many cards of one rank there may be, most first.
 const GROUP_SIZES: [u8; 5] = [5, 4, 3, 2, 1];
 
 /// How often each rank comes, from the two to the ace.

@@ -1,6 +1,6 @@
 //! What hands of cards are worth: the value of five cards, and the best five of seven.
 //!
-//! Values are compared and shown, and nothing of players, pots or betting is known here.
+//! Values are compared, and read by category and ranks; nothing of players, pots or betting is known here.
 #![tactic(auto)]
 
 mod all_fives;

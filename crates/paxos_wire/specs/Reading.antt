@@ -30,7 +30,7 @@ abbrev pub byte_at : List ℕ → Option (ℕ × List ℕ)
 byte_at [] = None
 byte_at (byte ∷ rest) = Some (byte, rest)
 
--- a number of n bytes, below a limit
+-- a number of n bytes
 abbrev pub number_at : ℕ → List ℕ → Option (ℕ × List ℕ)
 number_at n bytes = if nat_lt (length bytes) n then None else Some (big_number n bytes, drop n bytes)
 

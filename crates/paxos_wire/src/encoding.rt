@@ -1,6 +1,6 @@
 //! The one frame of each message, and the texts of ballots and commands, written behind what is there.
 
-ghost use Rattle.std.specs.Prelude.{◌≡◌, ◌+◌, ◌<◌, ◌≤◌, ◌++◌, ◌∷◌, [], length, map, OnOk, OnErr};
+ghost use Rattle.std.specs.Prelude.{◌≡◌, ◌+◌, ◌<◌, ◌≤◌, ◌++◌, ◌∷◌, [], length, map, IsOk, OnOk, OnErr};
 ghost use Rattle.std.specs.Vec.{vec_len, vec_capacity};
 ghost use Rattle.std.specs.List.{flat_map, AllByRecursion};
 ghost use Rattle.paxos_wire.specs.Fits.{IsDealt, Fits, IsMessage, commands};
@@ -104,6 +104,8 @@ pub fn encode(out: &mut Vec<u8>, message: &Message) -> Result<(), AllocError>
     requires { Fits message.now }
     ensures frame { OnOk result (out.new.items ≡ out.old.items ++ frame message.now) }
     ensures err { OnErr result (out.new.items ≡ out.old.items) }
+    // It fails only where the room is missing.
+    ensures room { vec_len out.old + length (frame message.now) ≤ vec_capacity out.old → IsOk result }
     // The cards of its deals are dealt too, so that the frame decodes to the message.
     ensures message { OnOk result (IsMessage message.now) }
 {

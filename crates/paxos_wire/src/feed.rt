@@ -15,7 +15,7 @@ use std::marker::Model;
 
 /// Takes a stream of frames in any pieces, and gives its messages in order, and then its first fault.
 ///
-/// Contracts see a feed as the list of the bytes that were fed and don't belong to a message given yet.
+/// Contracts see a feed as the list of the bytes that it took and that don't belong to a message given yet.
 #[derive(Drop)]
 pub struct Feed {
     bytes: Vec<u8>,

@@ -9,7 +9,7 @@ use crate::limits::{LENGTH_BYTES, MOST_LENGTH, WINDOW};
 use crate::message::Message;
 use slot_log::Command;
 
-/// How many bytes a command takes in a frame or a record: 11 to 31 for a deal, 12 for an act.
+/// How many bytes a command takes in a frame or a record: 15 to 31 for a deal, 12 for an act.
 pub fn command_len(command: &Command) -> usize
     ensures value { result ≡ length (command_text command.now) }
     ensures most { result ≤ 31 }

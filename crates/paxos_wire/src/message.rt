@@ -16,7 +16,7 @@ pub enum Message {
         slot: u32,
         entries: Entries,
     },
-    /// Refuses the ballot at the slot, since a greater one was promised.
+    /// Refuses the ballot at the slot, since one that isn't below it was promised.
     Refuse {
         ballot: Ballot,
         slot: u32,

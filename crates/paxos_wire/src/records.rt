@@ -1,6 +1,6 @@
 //! Ballots and commands by themselves, as they stand in frames and in the records of a journal.
 
-ghost use Rattle.std.specs.Prelude.{◌≡◌, ◌+◌, ◌≤◌, ◌++◌, ℕ, List, length, OnOk, OnErr, IfSome, IsSomeAnd};
+ghost use Rattle.std.specs.Prelude.{◌≡◌, ◌+◌, ◌≤◌, ◌++◌, ℕ, List, length, IsOk, OnOk, OnErr, IfSome, IsSomeAnd};
 ghost use Rattle.std.specs.Vec.{vec_len, vec_capacity};
 ghost use Rattle.slot_log.specs.declared.command.Command.{Command};
 ghost use Rattle.paxos_wire.specs.declared.ballot.Ballot.{Ballot};
@@ -40,6 +40,8 @@ pub fn write_ballot(out: &mut Vec<u8>, ballot: Ballot) -> Result<(), AllocError>
     requires { IsBallot ballot }
     ensures ok { OnOk result (out.new.items ≡ out.old.items ++ ballot_text ballot) }
     ensures err { OnErr result (out.new.items ≡ out.old.items) }
+    // It fails only where the room is missing.
+    ensures room { vec_len out.old + 5 ≤ vec_capacity out.old → IsOk result }
 {
     out.reserve(5)?;
     write_ballot_reserved(out, ballot);
@@ -61,6 +63,8 @@ pub fn write_command(out: &mut Vec<u8>, command: &Command) -> Result<(), AllocEr
     requires { IsInRange command.now }
     ensures ok { OnOk result (out.new.items ≡ out.old.items ++ command_text command.now) }
     ensures err { OnErr result (out.new.items ≡ out.old.items) }
+    // It fails only where the room is missing.
+    ensures room { vec_len out.old + length (command_text command.now) ≤ vec_capacity out.old → IsOk result }
     // The cards of a deal are dealt too, so that the bytes read back as the command.
     ensures command { OnOk result (IsCommand command.now) }
 {

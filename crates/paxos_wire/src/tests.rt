@@ -1,6 +1,7 @@
 use crate::{
     Ballot, Entries, Entry, Feed, FrameFault, Message, decode, encode, encode_reserved, frame_len,
-    read_ballot, read_command, read_stream, write_ballot, write_command,
+    read_ballot, read_command, read_stream, write_ballot, write_ballot_reserved, write_command,
+    write_command_reserved,
 };
 use betting::Action;
 use slot_log::Command;
@@ -158,6 +159,11 @@ fn ballots_and_commands_of_a_record(rt: HostRuntime) -> Result<(), Fail> {
     let mut out = Vec::new(rt.alloc());
     write_ballot(&mut out, ballot)?;
     write_command(&mut out, &command)?;
+    out.reserve(17)?;
+    write_ballot_reserved(&mut out, ballot);
+    write_command_reserved(&mut out, &command);
+    assert!(rt; out[..17] == out[17..]);
+    out.truncate(17);
     assert!(rt; out.as_slice() == [0, 0, 0, 1, 0, 2, 0, 0, 0, 0, 0, 0, 1, 0, 0, 0, 0].as_slice());
     let (read, rest) = read_ballot(&out).ok_or("a ballot is in front")?;
     assert_eq!(rt; read, ballot);

@@ -1,8 +1,8 @@
--- Pots and payoffs of hands of two to five players, chip by chip.
-use Rattle.std.proofs.Common.{◌≡◌, ℕ, ℤ, pos, negsuc, Bool, true, false, List, [], ◌∷◌, get_or, zero, suc, refl}
+-- Pots and payoffs of hands of three to five players, chip by chip.
+use Rattle.std.proofs.Common.{◌≡◌, ◌<◌, ◌≤◌, lit<, lit≤, ℕ, pos, negsuc, Bool, true, false, Some, None, List, [], ◌∷◌, get_or, zero, suc, refl, arith}
 use Rattle.hand_rank.specs.Worth.{Worth}
-use Rattle.side_pots.specs.Amounts.{IsAmount, IsNextAmount, IsLastAmount}
-use Rattle.side_pots.specs.Pots.{is_eligible, chips_at, pot_of, opens_pot, is_winner, winners_of, share, won_at, won, payoffs, total}
+use Rattle.side_pots.specs.Amounts.{IsAmount, IsNextAmount, IsLastAmount, lesser, chips_between}
+use Rattle.side_pots.specs.Pots.{is_eligible, chips_at, pot_of, opens_pot, is_same_set, is_winner, winners_of, share, won_at, won, payoffs, total}
 
 -- a pair of aces, of kings, of twos
 abbrev pub aces : Worth
@@ -114,3 +114,44 @@ not_of_five (suc (suc (suc owner))) unfolded exactly = cc
 
 pub five_is_no_next_amount : IsNextAmount (5 ∷ 10 ∷ 10 ∷ []) one_folded 0 5 → ⊥
 five_is_no_next_amount next = not_of_five next.amount_of_one.owner next.amount_of_one.unfolded next.amount_of_one.exactly
+
+at_least_ten : (position : ℕ) → get_or one_folded position true ≡ false → 0 < get_or (5 ∷ 10 ∷ 10 ∷ []) position 0 → 10 ≤ get_or (5 ∷ 10 ∷ 10 ∷ []) position 0
+at_least_ten zero unfolded over = absurd (cc)
+at_least_ten (suc zero) unfolded over = lit≤ tt
+at_least_ten (suc (suc zero)) unfolded over = lit≤ tt
+at_least_ten (suc (suc (suc position))) unfolded over = absurd (cc)
+
+pub ten_is_next : IsNextAmount (5 ∷ 10 ∷ 10 ∷ []) one_folded 0 10
+ten_is_next = record { above = lit< tt; amount_of_one = ten_is_an_amount; least = at_least_ten }
+
+at_most_ten : (position : ℕ) → get_or one_folded position true ≡ false → get_or (5 ∷ 10 ∷ 10 ∷ []) position 0 ≤ 10
+at_most_ten zero unfolded = absurd (cc)
+at_most_ten (suc zero) unfolded = lit≤ tt
+at_most_ten (suc (suc zero)) unfolded = lit≤ tt
+at_most_ten (suc (suc (suc position))) unfolded = absurd (cc)
+
+pub ten_is_last : IsLastAmount (5 ∷ 10 ∷ 10 ∷ []) one_folded 10
+ten_is_last = at_most_ten
+
+pub nine_is_not_last : IsLastAmount (5 ∷ 10 ∷ 10 ∷ []) one_folded 9 → ⊥
+nine_is_not_last last = let over : 10 ≤ 9 = last 1 refl in omega arith
+
+-- 2 of the first player and 5 of each other lie between 3 and 8
+pub chips_from_four_to_eight : chips_between (5 ∷ 10 ∷ 10 ∷ []) 3 8 ≡ 12
+chips_from_four_to_eight = refl
+
+pub lesser_of_none : lesser None 7 ≡ 7
+lesser_of_none = refl
+
+pub lesser_of_two : lesser (Some 5) 7 ≡ 5
+lesser_of_two = refl
+
+-- ---- sets
+
+pub first_and_tenth_level : is_same_set 3 (is_eligible (5 ∷ 10 ∷ 10 ∷ []) one_folded 1) (is_eligible (5 ∷ 10 ∷ 10 ∷ []) one_folded 10) ≡ true
+unfolding is_eligible
+first_and_tenth_level = refl
+
+pub third_and_fourth_level : is_same_set 3 (is_eligible (20 ∷ 3 ∷ 20 ∷ []) none_folded 3) (is_eligible (20 ∷ 3 ∷ 20 ∷ []) none_folded 4) ≡ false
+unfolding is_eligible
+third_and_fourth_level = refl

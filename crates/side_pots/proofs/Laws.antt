@@ -1,17 +1,16 @@
 -- What holds of all payoffs: they sum to zero, and the last unfolded player gets all.
-use Rattle.std.proofs.Common.{inl, inr, ◌⊎◌, ◌≡◌, ◌≢◌, ℕ, ◌+◌, ◌-◌, ◌<◌, ◌≤◌, ℤ, pos, ◌+ℤ◌, ◌-ℤ◌, neg_ℤ, ◌≤ℤ◌, Bool, true, false, cond, max, min, List, [], ◌∷◌, length, get_or, map, zero, suc, refl, sym, ◌∙◌, ap, subst, arith}
+use Rattle.std.proofs.Common.{◌≡◌, ◌≢◌, ℕ, ◌+◌, ◌-◌, ◌<◌, ◌≤◌, ℤ, pos, ◌+ℤ◌, ◌-ℤ◌, neg_ℤ, ◌≤ℤ◌, Bool, true, max, min, List, [], ◌∷◌, length, get_or, map, zero, suc, refl, sym, ◌∙◌, ap, arith}
 use Rattle.std.specs.List.{All, fold, range_with_len, sum, sum_by}
-use Rattle.std.proofs.lemmas.Bool.{cases_lt, cond_both}
+use Rattle.std.proofs.lemmas.Bool.{cond_both}
 use Rattle.std.proofs.lemmas.Int.{ints}
-use Rattle.std.proofs.lemmas.List.{get_or_past}
 use Rattle.std.proofs.lemmas.List.Elements.{All-from_get_or, All-head, All-tail}
 use Rattle.std.proofs.lemmas.List.FromFn.{fill_by_all}
 use Rattle.std.proofs.lemmas.List.Sums.{sum-map, sum_by-cons, get_or-le-sum_by}
 use Rattle.hand_rank.specs.Worth.{Worth}
 use Rattle.side_pots.specs.Amounts.{chips_between}
-use Rattle.side_pots.specs.Pots.{is_eligible, opens_pot, pot_of, winners_of, won_at, won, payoff, payoffs, total}
+use Rattle.side_pots.specs.Pots.{is_eligible, opens_pot, pot_of, won_at, won, payoff, payoffs, total}
 use Rattle.side_pots.proofs.Ranges.{sum_range-first, sum_range-none, sum_range-only}
-use Rattle.side_pots.proofs.Levels.{eligible_folded, share_of_set, max_of_each, won_upto}
+use Rattle.side_pots.proofs.Levels.{eligible_folded, share_of_set, max_of_each}
 use Rattle.side_pots.proofs.BestHands.{no_share_outside}
 
 -- what each player put in, summed by position

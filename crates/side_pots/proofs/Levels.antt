@@ -1,12 +1,12 @@
 -- Between two neighbouring amounts of unfolded players all levels are one pot, and no other level belongs to it.
-use Rattle.std.proofs.Common.{inl, inr, ◌⊎◌, ◌≡◌, ℕ, ◌+◌, ◌-◌, ◌<◌, ◌≤◌, Bool, true, false, not, cond, leb, max, min, ◌&&◌, List, [], ◌∷◌, ◌++◌, length, get_or, zero, suc, refl, sym, ◌∙◌, ap, subst, arith}
-use Rattle.std.specs.List.{fold, list_all, range_with_len, sum_by}
-use Rattle.std.proofs.lemmas.Bool.{cases_Bool, cases_lt, cond-true, cond-false, le-leb, lt-leb, leb-true}
+use Rattle.std.proofs.Common.{inl, inr, ◌⊎◌, ◌≡◌, ℕ, ◌+◌, ◌-◌, ◌<◌, ◌≤◌, Bool, true, false, not, cond, leb, max, min, ◌&&◌, List, [], ◌∷◌, length, get_or, zero, suc, refl, sym, ◌∙◌, ap, arith}
+use Rattle.std.specs.List.{fold, range_with_len, sum_by}
+use Rattle.std.proofs.lemmas.Bool.{cases_Bool, cases_lt, cond-true, cond-false, le-leb, lt-leb}
 use Rattle.std.proofs.lemmas.List.{get_or_past}
 use Rattle.std.proofs.lemmas.List.Sums.{sum_by-cons}
 use Rattle.hand_rank.specs.Worth.{Worth}
 use Rattle.side_pots.specs.Amounts.{IsAmount, IsNextAmount, IsLastAmount, chips_between}
-use Rattle.side_pots.specs.Pots.{is_eligible, chips_at, levels, both_or_neither, is_same_set, pot_of, opens_pot, winners_of, share, won_at, won}
+use Rattle.side_pots.specs.Pots.{is_eligible, chips_at, both_or_neither, is_same_set, pot_of, opens_pot, winners_of, share, won_at}
 use Rattle.side_pots.proofs.Ranges.{sum_range-split, sum_range-first, sum_range-same, sum_range-none, all_range, not_all_range}
 
 -- below the first amount there is nothing

@@ -1,5 +1,5 @@
 -- Pot after pot is shared, from the lowest amount of an unfolded player up.
-use Rattle.std.proofs.Common.{Option, Some, None, MatchOption, inl, inr, ◌⊎◌, ◌≡◌, ℕ, ◌+◌, ◌-◌, ◌*◌, ◌<◌, ◌≤◌, ℤ, pos, ◌+ℤ◌, ◌-ℤ◌, Bool, true, false, max, min, List, [], ◌∷◌, ◌++◌, length, get_or, map, replicate, zero, suc, refl, sym, ◌∙◌, ap, subst, arith}
+use Rattle.std.proofs.Common.{Option, Some, None, MatchOption, inl, inr, ◌≡◌, ℕ, ◌+◌, ◌-◌, ◌*◌, ◌<◌, ◌≤◌, ℤ, pos, ◌-ℤ◌, Bool, true, false, max, min, List, ◌∷◌, length, get_or, map, replicate, zero, suc, refl, sym, ◌∙◌, ap, subst, arith}
 use Rattle.std.specs.List.{All, fold, range_with_len, sum, sum_by}
 use Rattle.std.proofs.lemmas.List.Elements.{All-get_or, All-from_get_or}
 use Rattle.std.proofs.lemmas.List.Folds.{sum_by-replicate}
@@ -7,7 +7,7 @@ use Rattle.std.proofs.lemmas.List.FromFn.{get_or-map-range_with_len, length-map-
 use Rattle.std.proofs.lemmas.List.Sums.{sum-map, sum_by-le}
 use Rattle.hand_rank.specs.Worth.{Worth}
 use Rattle.side_pots.specs.Amounts.{IsAmount, IsNextAmount, IsLastAmount, chips_between}
-use Rattle.side_pots.specs.Pots.{is_eligible, pot_of, is_winner, winners_of, wins, share, won, payoff, payoffs, total}
+use Rattle.side_pots.specs.Pots.{is_eligible, pot_of, is_winner, winners_of, wins, share, won, payoff, payoffs}
 use Rattle.side_pots.proofs.Levels.{IsBottom, owner_within, eligible_reached, sum_by-add, sum_by-nothing, pot_of-top, share_of_set, won_upto, won_upto-next, next_within, last_is_greatest}
 use Rattle.side_pots.proofs.BestHands.{some_winner}
 use Rattle.side_pots.proofs.Laws.{chips_upto_greatest}

@@ -12,11 +12,14 @@ pub record IsAmount (spent : List ℕ) (folded : List Bool) (amount : ℕ) : Typ
 pub record IsNextAmount (spent : List ℕ) (folded : List Bool) (below amount : ℕ) : Type 0 where
   pub above : below < amount
   pub amount_of_one : IsAmount spent folded amount
-  pub least : (position : ℕ) → slice_index_or folded position true ≡ false → below < slice_index spent position → amount ≤ slice_index spent position
+  pub least :
+      (position : ℕ) → slice_index_or folded position true ≡ false → below < slice_index spent position
+      → amount ≤ slice_index spent position
 
 -- no unfolded player put in more
 abbrev pub IsLastAmount : List ℕ → List Bool → ℕ → Type 0
-IsLastAmount spent folded amount = (position : ℕ) → slice_index_or folded position true ≡ false → slice_index spent position ≤ amount
+IsLastAmount spent folded amount =
+    (position : ℕ) → slice_index_or folded position true ≡ false → slice_index spent position ≤ amount
 
 -- the lesser of what was found before and another amount
 abbrev pub lesser : Option ℕ → ℕ → ℕ

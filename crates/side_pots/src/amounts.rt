@@ -4,7 +4,9 @@ ghost use Rattle.side_pots.specs.Amounts.{IsNextAmount, IsLastAmount, lesser, ch
 /// The least amount above `below` that an unfolded player put in, if there is one.
 pub(crate) fn next_amount(spent: &[u32], folded: &[bool], below: u32) -> Option<u32>
     requires { length folded.now ≡ length spent.now }
-    ensures { MatchOption result (IsLastAmount spent.now folded.now below) (λ amount. IsNextAmount spent.now folded.now below amount) }
+    ensures { MatchOption result
+        (IsLastAmount spent.now folded.now below)
+        (λ amount. IsNextAmount spent.now folded.now below amount) }
 {
     let mut next = None;
     for position in 0..spent.len() {

@@ -17,6 +17,9 @@ use hand_rank::HandValue;
 /// unfolded players reached are one pot. Each pot is shared among its best hands in whole chips; odd
 /// chips go one each to the winners in order of position from 0 (after the Poker TDA's rule that the odd
 /// chip goes to the first winning seat left of the button).
+///
+/// For two to ten players, amounts up to 2147483647, and a greatest amount that an unfolded player put
+/// in. The payoffs sum to zero, and nobody loses more than he put in.
 pub fn settle(spent: &[u32], folded: &[bool], values: &[HandValue]) -> ArrayVec<i64, 10>
     requires two_players { 2 ≤ length spent.now }
     requires ten_players { length spent.now ≤ 10 }
@@ -26,8 +29,13 @@ pub fn settle(spent: &[u32], folded: &[bool], values: &[HandValue]) -> ArrayVec<
     requires greatest { IsAmount spent.now folded.now (fold max 0 spent.now) }
     ensures payoffs { result.items ≡ payoffs spent.now folded.now values.now }
     ensures zero_sum { total result.items ≡ pos 0 }
-    ensures no_more_than_spent { (position : ℕ) → position < length spent.now → neg_ℤ (pos (slice_index spent.now position)) ≤ℤ payoff spent.now folded.now values.now position }
-    ensures all_to_the_last { (position : ℕ) → slice_index_or folded.now position true ≡ false → ((other : ℕ) → other ≢ position → slice_index_or folded.now other true ≡ true) → payoff spent.now folded.now values.now position ≡ pos (sum spent.now - slice_index spent.now position) }
+    ensures no_more_than_spent { (position : ℕ) → position < length spent.now
+        → neg_ℤ (pos (slice_index spent.now position)) ≤ℤ payoff spent.now folded.now values.now position }
+
+    // Where all others have folded, a player's payoff is what they put in.
+    ensures all_to_the_last { (position : ℕ) → slice_index_or folded.now position true ≡ false
+        → ((other : ℕ) → other ≢ position → slice_index_or folded.now other true ≡ true)
+        → payoff spent.now folded.now values.now position ≡ pos (sum spent.now - slice_index spent.now position) }
 {
     let mut won = nothing_won(spent.len());
     let mut below = 0;
@@ -57,7 +65,9 @@ fn less_spent(won: &[u64], spent: &[u32]) -> ArrayVec<i64, 10>
     requires players { length spent.now ≤ 10 }
     requires one_length { length won.now ≡ length spent.now }
     requires fits { sum won.now < 2 ^ 63 }
-    ensures { result.items ≡ map (λ position. pos (slice_index won.now position) -ℤ pos (slice_index spent.now position)) (range_with_len 0 (length spent.now)) }
+    ensures { result.items ≡ map
+        (λ position. pos (slice_index won.now position) -ℤ pos (slice_index spent.now position))
+        (range_with_len 0 (length spent.now)) }
 {
     let mut payoffs: ArrayVec<i64, 10> = ArrayVec::new();
     for position in 0..spent.len() {

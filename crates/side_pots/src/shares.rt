@@ -11,7 +11,9 @@ pub(crate) fn with_shares(won: &[u64], pot: u64, winners: &[bool]) -> ArrayVec<u
     requires winners { length winners.now ≡ length won.now }
     requires some_winner { 0 < wins winners.now }
     requires fits { sum won.now + pot < 2 ^ 63 }
-    ensures shares { result.items ≡ map (λ position. slice_index won.now position + share pot winners.now position) (range_with_len 0 (length won.now)) }
+    ensures shares { result.items ≡ map
+        (λ position. slice_index won.now position + share pot winners.now position)
+        (range_with_len 0 (length won.now)) }
     ensures total { sum result.items ≡ sum won.now + pot }
 {
     let count = winner_count(winners);

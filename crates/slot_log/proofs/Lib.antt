@@ -3,3 +3,4 @@ pub mod Allowed
 pub mod Fitting
 pub mod Inside
 pub mod Begin
+pub mod Examples

@@ -26,6 +26,11 @@ abbrev pub is_running : Game → List Hand → Bool
 is_running game [] = false
 is_running game (hand ∷ earlier) = not (is_finished game hand)
 
+-- the command deals a hand
+abbrev pub IsDealing : Command → Type 0
+IsDealing (Deal hand deal) = Unit {0}
+IsDealing (Act hand index action) = ⊥
+
 -- a deal fits where the match goes on, no hand runs, it is for the next hand, and it has two cards for each
 -- player and five for the board
 pub record DealFits (game : Game) (count : ℕ) (hands : List Hand) (hand : ℕ) (deal : List ℕ) : Type 0 where

@@ -11,3 +11,6 @@ pub use command::Command;
 pub use effect::Effect;
 pub use reason::Reason;
 pub use table::Table;
+
+#[cfg(test)]
+mod tests;

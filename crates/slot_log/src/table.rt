@@ -1,11 +1,11 @@
-ghost use Rattle.std.specs.Prelude.{◌≡◌, ℕ, ◌+◌, ◌*◌, ◌<◌, ◌≤◌, ◌↔◌, false, [], ◌∷◌, length, nat_le, IsTrue, IfOk, OnOk, OnErr, IfSome};
+ghost use Rattle.std.specs.Prelude.{◌≡◌, ℕ, ◌+◌, ◌*◌, ◌<◌, ◌≤◌, ◌↔◌, false, [], ◌∷◌, length, nat_le, IsTrue, is_none, None, IfOk, OnOk, OnErr, IfSome};
 ghost use Rattle.std.specs.Option.{option_map, option_copied};
 ghost use Rattle.card_core.specs.Deal.{IsDeal};
 ghost use Rattle.slot_log.specs.declared.effect.Effect.TheVariants.{Dealt};
 ghost use Rattle.slot_log.specs.Hand.{Hand};
 ghost use Rattle.slot_log.specs.PlayedHand.{hand_of, IsOf};
 ghost use Rattle.slot_log.specs.TableInside.{NewestAllows};
-ghost use Rattle.slot_log.specs.Dealer.{Fits, finished_count, is_running, is_match_over, deal_reason, act_reason, reason_of, hands_after, effect_of, effect_of_action, hand_at, with_deal, with_action};
+ghost use Rattle.slot_log.specs.Dealer.{Fits, finished_count, is_running, is_match_over, deal_reason, act_reason, reason_of, hands_after, effect_of, effect_of_action, hand_at, with_deal, with_action, IsDealing};
 
 use crate::command::Command;
 use crate::effect::Effect;
@@ -43,6 +43,8 @@ impl Model for Table {
 
 impl Table {
     /// The table of a match before its first hand. The match has 1 to 10000 hands.
+    ///
+    /// It takes no memory yet; what `apply` and `reserve` take comes from this allocator.
     pub fn new(alloc: Global, game: GameDef, hands: u32) -> Table
         requires least { 1 ≤ hands }
         requires most { hands ≤ 10000 }
@@ -72,10 +74,11 @@ impl Table {
         self.count
     }
 
-    /// How many hands were dealt.
+    /// How many hands were dealt, the one that runs among them: 0 to `hands()`.
     pub fn dealt(&self) -> u32
         ensures value { result ≡ length self.now.hands }
         ensures within { result ≤ self.now.count }
+        ensures most { result ≤ 10000 }
     {
         match &self.newest {
             Some(_) => self.earlier.len() as u32 + 1,
@@ -83,7 +86,7 @@ impl Table {
         }
     }
 
-    /// How many hands are finished.
+    /// How many hands are finished: 0 to `hands()`.
     pub fn finished(&self) -> u32
         ensures { result ≡ finished_count self.now.game self.now.hands }
     {
@@ -175,13 +178,14 @@ impl Table {
 
     /// Whether a command would take effect now.
     pub fn fits(&self, command: &Command) -> bool
-        ensures { IsTrue result ↔ (Fits self.now.game self.now.count self.now.hands command.now) }
+        ensures fitting { IsTrue result ↔ (Fits self.now.game self.now.count self.now.hands command.now) }
+        ensures reasonless { result ≡ is_none (reason_of self.now.game self.now.count self.now.hands command.now) }
     {
         laws::allowed_without_fault();
         self.reason(command).is_none()
     }
 
-    /// The deal of a hand, counted from 0 in the order of dealing.
+    /// The deal of a hand, counted from 0 in the order of dealing. None where that hand hasn't been dealt.
     pub fn deal(&self, hand: u32) -> Option<&Deal>
         ensures value { option_map (λ deal. deal.now) result ≡ option_map (λ found. found.deal) (hand_at self.now.hands hand) }
         ensures deal { IfSome result (λ deal. IsDeal self.now.game.players deal.now) }
@@ -189,7 +193,8 @@ impl Table {
         self.hand(hand).map(|found| &found.deal)
     }
 
-    /// The betting of a hand, counted from 0 in the order of dealing.
+    /// The betting of a hand, finished or running, counted from 0 in the order of dealing. None where that
+    /// hand hasn't been dealt.
     pub fn play(&self, hand: u32) -> Option<&Play>
         ensures value { option_map (λ play. play.now.past) result ≡ option_map (λ found. found.past) (hand_at self.now.hands hand) }
         ensures game { IfSome result (λ play. play.now.game ≡ self.now.game) }
@@ -221,6 +226,8 @@ impl Table {
     }
 
     /// Makes room for so many hands: the next that many calls of `apply` don't want memory.
+    ///
+    /// An `Err` comes only where memory was refused; then nothing has changed.
     pub fn reserve(&mut self, hands: usize) -> Result<(), AllocError>
         ensures room { OnOk result (hands ≤ self.new.room) }
         ensures kept { self.old.room ≤ self.new.room }

@@ -10,9 +10,8 @@ returns-then-is_gamedef-clause-value c =
     ∙ gamedef_found c.loop-line.read c.in-Some.line.now (lines c.in-Some.after.now) (sym c.is_gamedef.ensures ∙ c.if-is_gamedef.true)
 
 pub returns-then-not-is_blank-clause-value : goal.returns-then-not-is_blank-clause-value
-returns-then-not-is_blank-clause-value c =
-    sym c.loop-line.invariant.whole ∙ ap (gamedef_from c.loop-line.read) c.in-Some.ensures.value
-    ∙ gamedef_missing c.loop-line.read c.in-Some.line.now (lines c.in-Some.after.now) (sym c.is_gamedef.ensures ∙ c.if-is_gamedef.false) (sym c.is_blank.ensures ∙ c.if-not-is_blank.true)
+returns-then-not-is_blank-clause-value c = rw c.at.ensures (sym c.loop-line.invariant.whole ∙ ap (gamedef_from c.loop-line.read) c.in-Some.ensures.value
+    ∙ gamedef_missing c.loop-line.read c.in-Some.line.now (lines c.in-Some.after.now) (sym c.is_gamedef.ensures ∙ c.if-is_gamedef.false) (sym c.is_blank.ensures ∙ c.if-not-is_blank.true))
 
 pub loop-line-preserved : goal.loop-line-preserved
 loop-line-preserved c =
@@ -23,5 +22,4 @@ loop-line-preserved c =
     }
 
 pub returns-clause-value : goal.returns-clause-value
-returns-clause-value c =
-    sym c.loop-line.invariant.whole ∙ ap (gamedef_from c.loop-line.read) c.in_default.ensures.value ∙ gamedef_none c.loop-line.read
+returns-clause-value c = rw c.at-2.ensures (sym c.loop-line.invariant.whole ∙ ap (gamedef_from c.loop-line.read) c.in_default.ensures.value ∙ gamedef_none c.loop-line.read)

@@ -10,9 +10,8 @@ returns-then-is_end c =
     ∙ entries_ended c.loop-line.read c.loop-line.entries c.in-Some.line.now (lines c.in-Some.after.now) (sym c.is_end.ensures ∙ c.if-is_end.true))
 
 pub returns-in-Err : goal.returns-in-Err
-returns-in-Err c =
-    sym (sym c.loop-line.invariant.whole ∙ ap (entries_from c.loop-line.read c.loop-line.entries) c.in-Some.ensures.value
-    ∙ entries_faulty c.loop-line.read c.loop-line.entries c.in-Some.line.now (lines c.in-Some.after.now) c.in-Err.kind (sym c.is_end.ensures ∙ c.if-is_end.false) c.in-Err.ensures)
+returns-in-Err c = rw c.at.ensures (sym (sym c.loop-line.invariant.whole ∙ ap (entries_from c.loop-line.read c.loop-line.entries) c.in-Some.ensures.value
+    ∙ entries_faulty c.loop-line.read c.loop-line.entries c.in-Some.line.now (lines c.in-Some.after.now) c.in-Err.kind (sym c.is_end.ensures ∙ c.if-is_end.false) c.in-Err.ensures))
 
 pub loop-line-preserved : goal.loop-line-preserved
 loop-line-preserved c =
@@ -23,5 +22,4 @@ loop-line-preserved c =
     }
 
 pub returns : goal.returns
-returns c =
-    sym (sym c.loop-line.invariant.whole ∙ ap (entries_from c.loop-line.read c.loop-line.entries) c.in_default.ensures.value ∙ entries_none c.loop-line.read c.loop-line.entries)
+returns c = rw c.at-2.ensures (sym (sym c.loop-line.invariant.whole ∙ ap (entries_from c.loop-line.read c.loop-line.entries) c.in_default.ensures.value ∙ entries_none c.loop-line.read c.loop-line.entries))

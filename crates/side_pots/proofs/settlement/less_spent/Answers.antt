@@ -1,4 +1,4 @@
-use Rattle.std.proofs.Common.{◌≡◌, ◌∙◌, ◌<◌, ◌^◌, ℕ, ap, length, pos, ◌-ℤ◌, get_or, arith, Fits, w32}
+use Rattle.std.proofs.Common.{◌∙◌, ◌<◌, ℕ, length, pos, ◌-ℤ◌, get_or, arith, Fits, w32}
 use Rattle.std.proofs.lemmas.Int.{ints}
 use Rattle.std.proofs.lemmas.List.Sums.{get_or-le-sum_by}
 use Rattle.side_pots.proofs.OddChips.{push_range}

@@ -1,4 +1,4 @@
-use Rattle.std.proofs.Common.{◌∙◌, ◌≡◌, ◌+◌, ◌/◌, ◌%◌, ◌∷◌, [], ◌++◌, ℕ, ap, cond, ltb}
+use Rattle.std.proofs.Common.{◌∙◌, ◌+◌, ◌/◌, ◌%◌, ◌∷◌, [], ◌++◌, ℕ, ap, cond, ltb}
 use Rattle.side_pots.proofs.OddChips.{shared_winner, shared_loser, shared_as}
 use Rattle.side_pots.proofs.shares.with_shares.Goals as goal
 use Rattle.side_pots.proofs.shares.with_shares.Goals.{then-winners-position, else-winners-position}

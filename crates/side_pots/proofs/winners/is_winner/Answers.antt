@@ -1,4 +1,4 @@
-use Rattle.std.proofs.Common.{◌≡◌, ◌<◌, ◌∙◌, ℕ, Bool, length, sym, true, false, ap, arith}
+use Rattle.std.proofs.Common.{◌≡◌, ◌<◌, ◌∙◌, length, sym, arith}
 use Rattle.side_pots.specs.Pots.{is_eligible}
 use Rattle.side_pots.proofs.BestHands.{better_read, no_winner_outside, no_winner_beaten, unbeaten_outside, unbeaten_not_better, unbeaten_by_all, wins_when_best}
 use Rattle.side_pots.proofs.winners.is_winner.Goals as goal

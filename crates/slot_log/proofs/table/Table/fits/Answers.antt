@@ -15,8 +15,8 @@ test_from_none None true e none = refl
 test_from_none None false e none = absurd (cc)
 test_from_none (Some reason) b e none = cc
 
-pub returns : goal.returns
-returns c =
+pub returns-clause-fitting : goal.returns-clause-fitting
+returns-clause-fitting c =
     let table = c.args.self.now in (
       λ passed. fits_from_none c.allowed_without_fault.ensures table.game table.count table.hands c.args.command.now (sym c.reason.ensures ∙ none_from_test c.reason.result c.is_none.result c.is_none.ensures passed),
       λ fits. test_from_none c.reason.result c.is_none.result c.is_none.ensures (c.reason.ensures ∙ none_from_fits c.allowed_without_fault.ensures table.game table.count table.hands c.args.command.now fits),

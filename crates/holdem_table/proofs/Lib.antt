@@ -1,0 +1,9 @@
+pub mod Takes
+pub mod Streams
+pub mod SeatNames
+pub mod Telling
+pub mod Lines
+pub mod Progress
+pub mod Lengths
+pub mod Taking
+pub mod Examples

@@ -1,0 +1,16 @@
+use std::alloc::AllocError;
+
+/// Why a run of a script stops before its end.
+#[derive(Clone, Copy, Debug)]
+pub(crate) enum Stop {
+    /// Memory was refused.
+    OutOfMemory,
+    /// The reader or the writer failed, or the script was read too often.
+    StreamFailed,
+}
+
+impl From<AllocError> for Stop {
+    fn from(_: AllocError) -> Stop {
+        Stop::OutOfMemory
+    }
+}

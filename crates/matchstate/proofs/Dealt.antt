@@ -1,0 +1,78 @@
+-- A deal's text shows all its cards.
+use Rattle.std.proofs.Common.{◌≡◌, ℕ, zero, suc, ◌+◌, ◌-◌, ◌*◌, ◌<◌, ◌≤◌, Bool, true, false, cond, nat_eq, List, [], ◌∷◌, ◌++◌, map, length, take, drop, get_or, replicate, Option, Some, None, refl, sym, ap, ◌∙◌, subst, arith, append_assoc}
+use Rattle.std.specs.List.{AllByRecursion, IsDistinct, concat, range_with_len}
+use Rattle.std.proofs.lemmas.List.{append-nil, take-append-drop, take-take, drop-take, drop-drop, take_more, map-append, get_or-replicate}
+use Rattle.card_core.specs.Deal.{IsDeal, hole_of, board_of}
+use Rattle.matchstate.specs.Cards.{cards_field, holes_seen, holes_of, boards_of, all_cards, deal_text, AreSeenOf, AreInPlace}
+use Rattle.matchstate.specs.SeenCards.{hole_in, seen_at, AreCounted}
+use Rattle.matchstate.proofs.Seen.{place_from_seen, seen_from_place}
+
+concat_push : (xs : List (List ℕ)) (x : List ℕ) → concat (xs ++ x ∷ []) ≡ concat xs ++ x
+concat_push [] x = append-nil x
+concat_push (y ∷ xs) x = ap (λ r. y ++ r) (concat_push xs x) ∙ sym (append_assoc y (concat xs) x)
+
+pub gather_more : (holes : List (Option (List ℕ))) (p : ℕ) (d : Option (List ℕ)) → p < length holes → concat (map hole_in (take (p + 1) holes)) ≡ concat (map hole_in (take p holes)) ++ hole_in (get_or holes p d)
+gather_more holes p d below =
+    ap (λ hs. concat (map hole_in hs)) (take_more holes p d below)
+    ∙ ap concat (map-append hole_in (take p holes) (get_or holes p d ∷ []))
+    ∙ concat_push (map hole_in (take p holes)) (hole_in (get_or holes p d))
+
+take-add : (m k : ℕ) (xs : List ℕ) → take (m + k) xs ≡ take m xs ++ take k (drop m xs)
+take-add m k xs =
+    sym (take-append-drop m (take (m + k) xs))
+    ∙ ap (λ f. f ++ drop m (take (m + k) xs)) (take-take m (m + k) xs (omega arith)) ∙ ap (λ r. take m xs ++ r) (drop-take m k xs)
+
+concat_holes : (deal : List ℕ) (a n : ℕ) → concat (map (hole_of deal) (range_with_len a n)) ≡ take (2 * n) (drop (2 * a) deal)
+concat_holes deal a zero = refl
+concat_holes deal a (suc n) =
+    let two : 2 + 2 * n ≡ 2 * suc n = omega arith in
+    let next : 2 * a + 2 ≡ 2 * (a + 1) = omega arith in
+    let later : drop 2 (drop (2 * a) deal) ≡ drop (2 * (a + 1)) deal = drop-drop 2 (2 * a) deal ∙ ap (λ k. drop k deal) next in
+    ap (λ r. hole_of deal a ++ r) (concat_holes deal (a + 1) n ∙ ap (take (2 * n)) (sym later))
+    ∙ sym (take-add 2 (2 * n) (drop (2 * a) deal)) ∙ ap (λ k. take k (drop (2 * a) deal)) two
+
+concat_parts : (b : List ℕ) → concat (take 3 b ∷ take 1 (drop 3 b) ∷ drop 4 b ∷ []) ≡ b
+concat_parts b =
+    let river : drop 1 (drop 3 b) ≡ drop 4 b = drop-drop 1 3 b in
+    let later : take 1 (drop 3 b) ++ (drop 4 b ++ []) ≡ drop 3 b =
+    ap (λ r. take 1 (drop 3 b) ++ r) (append-nil (drop 4 b) ∙ sym river) ∙ take-append-drop 1 (drop 3 b) in
+    ap (λ r. take 3 b ++ r) later ∙ take-append-drop 3 b
+
+pub all_of : (players : ℕ) (deal : List ℕ) → IsDeal players deal → all_cards (holes_of players deal) (boards_of deal) ≡ deal
+all_of players deal dealt =
+    let count = dealt.count in
+    let at : length deal - 5 ≡ 2 * players = omega arith in
+    ap (λ h. h ++ concat (boards_of deal)) (concat_holes deal 0 players)
+    ∙ ap (λ b. take (2 * players) deal ++ b) (concat_parts (board_of deal) ∙ ap (λ k. drop k deal) at) ∙ take-append-drop (2 * players) deal
+
+same_map : (f g : ℕ → List ℕ) (a n : ℕ) → ((p : ℕ) → a ≤ p → p < a + n → f p ≡ g p) → map f (range_with_len a n) ≡ map g (range_with_len a n)
+same_map f g a zero same = refl
+same_map f g a (suc n) same =
+    let here = same a (omega arith) (omega arith) in
+    let rest = same_map f g (a + 1) n (λ p low high. same p (omega arith) (omega arith)) in
+    cc
+
+all_seen : (players : ℕ) (deal : List ℕ) → players ≤ 10 → holes_of players deal ≡ holes_seen players (seen_at (replicate 10 true)) deal
+all_seen players deal few =
+    same_map (hole_of deal) (λ p. cond (seen_at (replicate 10 true) p) (hole_of deal p) []) 0 players
+    (λ p low high. ap (λ b. cond b (hole_of deal p) []) (sym (get_or-replicate 10 p true false (omega arith))))
+
+-- a deal's cards are counted right, where all are seen
+pub deal_counted : (players : ℕ) (deal : List ℕ) → players ≤ 10 → IsDeal players deal → AreCounted players (seen_at (replicate 10 true)) 3 (holes_of players deal) (boards_of deal)
+deal_counted players deal few dealt =
+    let seen : AreSeenOf players (seen_at (replicate 10 true)) 3 (holes_of players deal) (boards_of deal) deal =
+    record { dealt = dealt; hole_cards = all_seen players deal few; board_cards = refl } in
+    let place = place_from_seen players (seen_at (replicate 10 true)) 3 (holes_of players deal) (boards_of deal) deal seen in
+    record { hole_counts = place.hole_counts; board_counts = place.board_counts; pack = place.pack }
+
+-- and cards that are counted right and distinct make the deal of that text
+pub deal_from_counted : (players : ℕ) (holes boards : List (List ℕ)) → players ≤ 10 → AreCounted players (seen_at (replicate 10 true)) 3 holes boards → IsDeal players (all_cards holes boards) → cards_field holes boards ≡ deal_text players (all_cards holes boards)
+deal_from_counted players holes boards few counted dealt =
+    let place : AreInPlace players (seen_at (replicate 10 true)) 3 holes boards =
+    record { hole_counts = counted.hole_counts; board_counts = counted.board_counts; pack = counted.pack; distinct = dealt.distinct } in
+    let seen = seen_from_place players (seen_at (replicate 10 true)) 3 holes boards few (omega arith) place in
+    let holes_are : holes ≡ holes_of players seen.0 = seen.1.hole_cards ∙ sym (all_seen players seen.0 few) in
+    let boards_are : boards ≡ boards_of seen.0 = seen.1.board_cards in
+    let cards_are : seen.0 ≡ all_cards holes boards =
+    sym (all_of players seen.0 seen.1.dealt) ∙ ap (λ h. all_cards h (boards_of seen.0)) (sym holes_are) ∙ ap (λ b. all_cards holes b) (sym boards_are) in
+    ap (λ h. cards_field h boards) holes_are ∙ ap (λ b. cards_field (holes_of players seen.0) b) boards_are ∙ ap (deal_text players) cards_are

@@ -1,0 +1,10 @@
+pub mod Cards
+pub mod View
+pub mod Line
+pub mod Laws
+pub mod SeenCards
+pub mod ViewInside
+pub mod ActionText
+pub mod Reading
+pub mod FieldsInside
+pub mod Fault

@@ -1,0 +1,98 @@
+ghost use Rattle.std.specs.Prelude.{◌≡◌, ℕ, ◌+◌, ◌<◌, ◌≤◌, [], map, take, if◌then◌else◌};
+ghost use Rattle.betting.specs.Betting.{history};
+ghost use Rattle.betting.specs.Turns.{unfolded_count};
+ghost use Rattle.card_core.specs.Deal.{IsDeal, hole_of};
+ghost use Rattle.matchstate.specs.Cards.{holes_seen, boards_of};
+ghost use Rattle.matchstate.specs.SeenCards.{hole_in, holes_in, boards_in, seen_at};
+ghost use Rattle.matchstate.specs.View.{is_showdown, sees, rounds_seen};
+
+use crate::seen_cards::SeenCards;
+use betting::Play;
+use card_core::{Card, Deal};
+
+/// What a viewer sees of a deal after the actions of a play.
+pub(crate) fn sight(deal: &Deal, play: &Play, viewer: usize) -> SeenCards
+    requires { IsDeal play.now.game.players deal.now }
+    ensures holes { holes_in play.now.game.players result ≡ holes_seen play.now.game.players (sees play.now.game play.now.past viewer) deal.now }
+    ensures boards { boards_in result ≡ take (rounds_seen play.now.game play.now.past) (boards_of deal.now) }
+{
+    let round = play.round();
+    let [first, second, third, turn, river] = deal.board();
+    SeenCards {
+        holes: holes_in_sight(deal, play, viewer),
+        flop: if round >= 1 {
+            Some([first, second, third])
+        } else {
+            None
+        },
+        turn: if round >= 2 { Some([turn]) } else { None },
+        river: if round >= 3 { Some([river]) } else { None },
+    }
+}
+
+// The hole cards that a viewer sees, by position.
+fn holes_in_sight(deal: &Deal, play: &Play, viewer: usize) -> [Option<[Card; 2]>; 10]
+    requires { IsDeal play.now.game.players deal.now }
+    ensures { map hole_in (take play.now.game.players result) ≡ holes_seen play.now.game.players (sees play.now.game play.now.past viewer) deal.now }
+{
+    let mut holes = [None; 10];
+    for position in 0..play.players() {
+        let hole = hole_in_sight(deal, play, viewer, position);
+        holes[position] = hole;
+    }
+    holes
+}
+
+// The hole cards of a position, where a viewer sees them.
+fn hole_in_sight(deal: &Deal, play: &Play, viewer: usize, position: usize) -> Option<[Card; 2]>
+    requires deal { IsDeal play.now.game.players deal.now }
+    requires below { position < play.now.game.players }
+    ensures { hole_in result ≡ (if sees play.now.game play.now.past viewer position then hole_of deal.now position else []) }
+{
+    if is_in_sight(play, viewer, position) {
+        Some(deal.hole(position))
+    } else {
+        None
+    }
+}
+
+/// Which positions' hole cards a viewer sees.
+pub(crate) fn positions_in_sight(play: &Play, viewer: usize) -> [bool; 10]
+    ensures { (position : ℕ) → position < play.now.game.players → seen_at result position ≡ sees play.now.game play.now.past viewer position }
+{
+    let mut seen = [false; 10];
+    for position in 0..play.players() {
+        let in_sight = is_in_sight(play, viewer, position);
+        seen[position] = in_sight;
+    }
+    seen
+}
+
+// Whether a viewer sees a position's hole cards.
+fn is_in_sight(play: &Play, viewer: usize, position: usize) -> bool
+    requires { position < play.now.game.players }
+    ensures { result ≡ sees play.now.game play.now.past viewer position }
+{
+    position == viewer || (has_come_to_showdown(play) && !play.folded(position))
+}
+
+// Whether the hand is over with two or more players who haven't folded.
+fn has_come_to_showdown(play: &Play) -> bool
+    ensures { result ≡ is_showdown play.now.game play.now.past }
+{
+    play.finished() && 2 <= unfolded(play)
+}
+
+// How many players haven't folded.
+#[tactic(auto, unfolding(betting::specs::Turns::count_below, betting::specs::Turns::unfolded_count))]
+fn unfolded(play: &Play) -> usize
+    ensures { result ≡ unfolded_count play.now.game (history play.now) }
+{
+    let mut count = 0;
+    for position in 0..play.players() {
+        if !play.folded(position) {
+            count += 1;
+        }
+    }
+    count
+}

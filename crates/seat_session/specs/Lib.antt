@@ -1,0 +1,4 @@
+pub mod Buffered
+pub mod Front
+pub mod Lines
+pub mod Version

@@ -1,0 +1,153 @@
+ghost use Rattle.std.specs.Prelude.{◌≡◌, ◌≢◌, ◌+◌, ◌<◌, ◌≤◌, ℕ, List, [], ◌∷◌, ◌++◌, length, drop, MatchOption, OnOk, OnErr, vec_len, vec_capacity};
+ghost use Rattle.seat_session.specs.Lines.{HasNoFeed, Breaks, text_of};
+ghost use Rattle.seat_session.specs.Front.{IsFrontOf};
+
+use crate::front::Front;
+use std::alloc::{AllocError, Global};
+use std::marker::Model;
+
+/// The most bytes that a client's line may have before its line feed, a carriage return counted.
+const LONGEST_LINE: usize = 4096;
+
+/// Bytes of a stream that come in any pieces and are taken line by line.
+///
+/// Contracts see the bytes that weren't taken yet, in order, and the room for more.
+#[derive(Drop)]
+pub struct LineBuffer {
+    bytes: Vec<u8>,
+    taken: usize,
+}
+
+impl Model for LineBuffer {
+    ghost use Rattle.std.specs.Prelude.{◌-◌, ◌≤◌, drop, vec_len, vec_capacity};
+    ghost use Rattle.seat_session.specs.Buffered.{Buffered};
+
+    ghost Value = { Buffered };
+
+    ghost view = { λ b. record { waiting = drop b.taken b.bytes.items; room = vec_capacity b.bytes - (vec_len b.bytes - b.taken) } };
+
+    ghost invariant = { λ b. b.taken ≤ vec_len b.bytes };
+}
+
+impl LineBuffer {
+    /// A buffer that nothing came to. It takes no memory.
+    pub fn new(alloc: Global) -> LineBuffer
+        ensures { result.waiting ≡ [] }
+    {
+        LineBuffer {
+            bytes: Vec::new(alloc),
+            taken: 0,
+        }
+    }
+
+    /// Takes the next piece of the stream, of any length. An `Err` changes nothing; it comes only where
+    /// `reserve` would have to grow the buffer.
+    pub fn feed(&mut self, piece: &[u8]) -> Result<(), AllocError>
+        ensures ok { OnOk result (self.new.waiting ≡ self.old.waiting ++ piece.now) }
+        ensures err { OnErr result (self.new ≡ self.old) }
+        ensures full { OnErr result (self.old.room < length piece.now) }
+    {
+        self.reserve(piece.len())?;
+        self.feed_reserved(piece);
+        Ok(())
+    }
+
+    /// Makes room for so many bytes more, so that `feed_reserved` takes no memory for them. An `Err`
+    /// changes nothing.
+    pub fn reserve(&mut self, more: usize) -> Result<(), AllocError>
+        ensures ok { OnOk result (more ≤ self.new.room) }
+        ensures waiting { self.new.waiting ≡ self.old.waiting }
+        ensures room { self.old.room ≤ self.new.room }
+        ensures err { OnErr result (self.new ≡ self.old) }
+        ensures full { OnErr result (self.old.room < more) }
+    {
+        drop_front(&mut self.bytes, self.taken);
+        self.taken = 0;
+        self.bytes.reserve(more)
+    }
+
+    /// Takes the next piece of the stream into room that was reserved for it.
+    pub fn feed_reserved(&mut self, piece: &[u8])
+        requires { length piece.now ≤ self.old.room }
+        ensures waiting { self.new.waiting ≡ self.old.waiting ++ piece.now }
+        ensures room { self.old.room ≤ self.new.room + length piece.now }
+    {
+        drop_front(&mut self.bytes, self.taken);
+        self.taken = 0;
+        self.bytes.extend_from_slice(piece).unwrap();
+    }
+
+    /// What stands at the front of the bytes that weren't taken yet.
+    pub fn front(&self) -> Front<'_>
+        ensures { IsFrontOf self.now.waiting result }
+    {
+        let waiting = self.waiting();
+        match first_feed(waiting) {
+            Some(place) if place <= LONGEST_LINE => Front::Line(without_return(&waiting[..place])),
+            None if waiting.len() <= LONGEST_LINE => Front::Partial,
+            _ => Front::TooLong,
+        }
+    }
+
+    /// Takes all up to the first line feed, and with it. Where none stands there, nothing is taken.
+    pub fn take_line(&mut self)
+        ensures taken { (line rest : List ℕ) → Breaks self.old.waiting line rest → self.new.waiting ≡ rest }
+        ensures none { HasNoFeed self.old.waiting → self.new.waiting ≡ self.old.waiting }
+        ensures room { self.old.room ≤ self.new.room }
+    {
+        if let Some(place) = first_feed(self.waiting()) {
+            self.taken += place + 1;
+        }
+    }
+
+    /// The bytes that weren't taken yet.
+    fn waiting(&self) -> &[u8]
+        ensures { result.now ≡ self.now.waiting }
+    {
+        &self.bytes[self.taken..]
+    }
+
+    /// Drops all bytes.
+    pub fn clear(&mut self)
+        ensures waiting { self.new.waiting ≡ [] }
+        ensures room { self.old.room ≤ self.new.room }
+    {
+        self.bytes.clear();
+        self.taken = 0;
+    }
+}
+
+/// Drops the first `count` bytes, and moves the others to the front of the memory.
+fn drop_front(bytes: &mut Vec<u8>, count: usize)
+    requires { count ≤ vec_len bytes.old }
+    ensures items { bytes.new.items ≡ drop count bytes.old.items }
+    ensures len { vec_len bytes.new + count ≡ vec_len bytes.old }
+    ensures capacity { vec_capacity bytes.new ≡ vec_capacity bytes.old }
+{
+    let left = bytes.len() - count;
+    bytes.rotate_left(count);
+    bytes.truncate(left);
+}
+
+/// The place of the first line feed.
+fn first_feed(bytes: &[u8]) -> Option<usize>
+    ensures { MatchOption result (HasNoFeed bytes.now) (λ place.
+        (line rest : List ℕ) × Breaks bytes.now line rest × (length line ≡ place)) }
+{
+    for (place, byte) in bytes.iter().enumerate() {
+        if *byte == b'\n' {
+            return Some(place);
+        }
+    }
+    None
+}
+
+/// The line without a carriage return at its end.
+fn without_return(line: &[u8]) -> &[u8]
+    ensures { result.now ≡ text_of line.now }
+{
+    match line.split_last() {
+        Some((last, text)) if *last == b'\r' => text,
+        _ => line,
+    }
+}

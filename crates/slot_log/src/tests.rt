@@ -1,0 +1,231 @@
+use super::*;
+use betting::{ActFault, Action};
+use card_core::{Card, Deal};
+use std::process::Abort;
+use std::test::Fail;
+
+/// Two players, limit.
+const LIMIT: &[u8] = b"GAMEDEF
+limit
+numPlayers = 2
+numRounds = 4
+blind = 10 5
+raiseSize = 10 10 20 20
+firstPlayer = 2 1 1 1
+maxRaises = 3 4 4 4
+numSuits = 4
+numRanks = 13
+numHoleCards = 2
+numBoardCards = 0 3 1 1
+END GAMEDEF
+";
+
+fn card(rt: &impl Abort, text: &[u8; 2]) -> Card {
+    Card::from_text(*text).expect(rt, "a card")
+}
+
+/// `TdAs|8hTc/2c8c3h/9c/Kh`.
+fn first_deal(rt: &impl Abort) -> Deal {
+    let cards = [
+        card(rt, b"Td"),
+        card(rt, b"As"),
+        card(rt, b"8h"),
+        card(rt, b"Tc"),
+        card(rt, b"2c"),
+        card(rt, b"8c"),
+        card(rt, b"3h"),
+        card(rt, b"9c"),
+        card(rt, b"Kh"),
+    ];
+    Deal::new(2, &cards).expect(rt, "nine cards for two players")
+}
+
+/// `2d2h|3d3s/4c5c6c/7c/8d`.
+fn second_deal(rt: &impl Abort) -> Deal {
+    let cards = [
+        card(rt, b"2d"),
+        card(rt, b"2h"),
+        card(rt, b"3d"),
+        card(rt, b"3s"),
+        card(rt, b"4c"),
+        card(rt, b"5c"),
+        card(rt, b"6c"),
+        card(rt, b"7c"),
+        card(rt, b"8d"),
+    ];
+    Deal::new(2, &cards).expect(rt, "nine cards for two players")
+}
+
+/// `2d2h|3d3s|4d4s/5c6c7c/8c/9d`.
+fn three_handed_deal(rt: &impl Abort) -> Deal {
+    let cards = [
+        card(rt, b"2d"),
+        card(rt, b"2h"),
+        card(rt, b"3d"),
+        card(rt, b"3s"),
+        card(rt, b"4d"),
+        card(rt, b"4s"),
+        card(rt, b"5c"),
+        card(rt, b"6c"),
+        card(rt, b"7c"),
+        card(rt, b"8c"),
+        card(rt, b"9d"),
+    ];
+    Deal::new(3, &cards).expect(rt, "eleven cards for three players")
+}
+
+fn deal_in_turn(rt: &impl Abort, hand: u32) -> Deal {
+    if hand % 2 == 0 {
+        first_deal(rt)
+    } else {
+        second_deal(rt)
+    }
+}
+
+fn act(hand: u32, index: u16, action: Action) -> Command {
+    Command::Act {
+        hand,
+        index,
+        action,
+    }
+}
+
+#[test]
+fn a_match_of_two_hands(rt: HostRuntime) -> Result<(), Fail> {
+    let game = game_def::read(LIMIT).expect(&rt, "a game");
+    let mut table = Table::new(rt.alloc(), game, 2);
+    assert_eq!(rt; table.game().players(), 2);
+    assert_eq!(rt; table.hands(), 2);
+    table.reserve(1)?;
+    let [first, second] = [first_deal(&rt), second_deal(&rt)];
+    let deal = Command::Deal {
+        hand: 0,
+        deal: first,
+    };
+    assert!(rt; table.fits(&deal));
+    assert_eq!(rt; table.apply(&deal)?, Effect::Dealt);
+    assert!(rt; table.running());
+    assert_eq!(rt; table.dealt(), 1);
+    assert_eq!(rt; table.finished(), 0);
+    // betting `rrrc/cc/cc/cc`
+    let actions = [
+        Action::Raise(20),
+        Action::Raise(30),
+        Action::Raise(40),
+        Action::Call,
+        Action::Call,
+        Action::Call,
+        Action::Call,
+        Action::Call,
+        Action::Call,
+        Action::Call,
+    ];
+    for index in 0..10 {
+        let command = act(0, index as u16, actions[index]);
+        let effect = if index < 9 {
+            Effect::Acted
+        } else {
+            Effect::HandOver
+        };
+        assert_eq!(rt; table.apply(&command)?, effect, "at {index}");
+    }
+    assert!(rt; !table.running());
+    assert_eq!(rt; table.finished(), 1);
+    assert!(rt; !table.over());
+    let deal = Command::Deal {
+        hand: 1,
+        deal: second,
+    };
+    assert_eq!(rt; table.apply(&deal)?, Effect::Dealt);
+    assert_eq!(rt; table.apply(&act(1, 0, Action::Fold))?, Effect::MatchOver);
+    assert!(rt; table.over());
+    // every finished hand is kept
+    assert_eq!(rt; table.deal(0).copied(), Some(first));
+    assert_eq!(rt; table.deal(1).copied(), Some(second));
+    assert!(rt; table.deal(2).is_none());
+    let play = table.play(0).ok_or("the first hand")?;
+    assert!(rt; play.finished());
+    assert_eq!(rt; play.actions(), actions.as_slice());
+    assert!(rt; table.play(2).is_none());
+    Ok(())
+}
+
+#[test]
+fn a_command_that_does_not_fit_does_nothing(rt: HostRuntime) -> Result<(), Fail> {
+    let game = game_def::read(LIMIT).expect(&rt, "a game");
+    let mut table = Table::new(rt.alloc(), game, 1);
+    let [deal, deal_of_the_next_hand, deal_for_three] = [
+        Command::Deal {
+            hand: 0,
+            deal: first_deal(&rt),
+        },
+        Command::Deal {
+            hand: 1,
+            deal: second_deal(&rt),
+        },
+        Command::Deal {
+            hand: 0,
+            deal: three_handed_deal(&rt),
+        },
+    ];
+    // each command in turn, and what it does
+    let steps = [
+        (act(0, 0, Action::Call), Effect::None(Reason::NoHand)),
+        (deal_of_the_next_hand, Effect::None(Reason::WrongHand)),
+        (deal_for_three, Effect::None(Reason::WrongCards)),
+        (deal, Effect::Dealt),
+        (deal, Effect::None(Reason::HandRunning)),
+        (deal_of_the_next_hand, Effect::None(Reason::HandRunning)),
+        (act(0, 0, Action::Call), Effect::Acted),
+        (act(0, 0, Action::Call), Effect::None(Reason::WrongIndex)),
+        (act(1, 0, Action::Call), Effect::None(Reason::WrongHand)),
+        (
+            act(0, 1, Action::Fold),
+            Effect::None(Reason::Illegal(ActFault::FoldNotFacing)),
+        ),
+        (act(0, 1, Action::Raise(20)), Effect::Acted),
+        (act(0, 2, Action::Fold), Effect::MatchOver),
+        (act(0, 3, Action::Call), Effect::None(Reason::MatchDone)),
+        (deal_of_the_next_hand, Effect::None(Reason::MatchDone)),
+    ];
+    for (command, effect) in steps {
+        let reason = match effect {
+            Effect::None(reason) => Some(reason),
+            _ => None,
+        };
+        assert_eq!(rt; table.reason(&command), reason);
+        assert_eq!(rt; table.fits(&command), reason.is_none());
+        assert_eq!(rt; table.apply(&command)?, effect);
+    }
+    let play = table.play(0).ok_or("the hand")?;
+    assert_eq!(rt;
+        play.actions(),
+        [Action::Call, Action::Raise(20), Action::Fold].as_slice()
+    );
+    Ok(())
+}
+
+#[test]
+fn refused_memory_changes_nothing(rt: HostRuntime) {
+    let game = game_def::read(LIMIT).expect(&rt, "a game");
+    let mut table = Table::new(rt.alloc(), game, 10);
+    for hand in 0..10 {
+        let deal = Command::Deal {
+            hand,
+            deal: deal_in_turn(&rt, hand),
+        };
+        if table.apply(&deal).is_err() {
+            assert!(rt; !table.running());
+            assert_eq!(rt; table.dealt(), hand);
+            assert_eq!(rt; table.finished(), hand);
+            assert!(rt; table.apply(&deal).is_ok(), "the second time");
+        }
+        assert!(rt; table.running());
+        assert!(rt; table.apply(&act(hand, 0, Action::Fold)).is_ok());
+    }
+    assert!(rt; table.over());
+    for hand in 0..10 {
+        assert_eq!(rt; table.deal(hand).copied(), Some(deal_in_turn(&rt, hand)));
+        assert!(rt; table.play(hand).is_some_and(|play| play.finished()));
+    }
+}
