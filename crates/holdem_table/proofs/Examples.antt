@@ -1,20 +1,18 @@
 -- The definitions on values that are written out: what they hold of, and near misses that they don't.
-use Rattle.std.proofs.Common.{◌≡◌, ◌≢◌, ℕ, List, [], ◌∷◌, ◌++◌, length, refl, sym, ◌∙◌, ap, append_assoc, Bool, true, false, arith, ◌≤◌}
-use Rattle.std.specs.Prelude.{codes, decimal, Some, None, IsTrue}
-use Rattle.std.specs.List.{AllByRecursion}
+use Rattle.std.proofs.Common.{◌≡◌, ℕ, List, [], ◌∷◌, ◌++◌, length, refl, ap, append_assoc, true, false, arith, ◌≤◌}
+use Rattle.std.specs.Prelude.{codes, decimal, Some}
 use Rattle.game_def.specs.Game.{Game}
-use Rattle.game_def.specs.declared.fault.GameFault.{GameFault}
-use Rattle.game_def.specs.declared.fault_kind.FaultKind.TheVariants.{Unsupported, NoGamedef}
-use Rattle.betting.specs.declared.action.Action.TheVariants.{Fold, Call, Raise}
+use Rattle.game_def.specs.declared.fault_kind.FaultKind.TheVariants.{Unsupported}
+use Rattle.betting.specs.declared.action.Action.TheVariants.{Call}
 use Rattle.betting.specs.declared.fault.ActFault.TheVariants.{TooManyRaises, RaiseTooSmall}
 use Rattle.slot_log.specs.Hand.{Hand}
-use Rattle.slot_log.specs.declared.command.Command.TheVariants.{Deal, Act}
+use Rattle.slot_log.specs.declared.command.Command.TheVariants.{Act}
 use Rattle.slot_log.specs.declared.reason.Reason.TheVariants.{NoHand, Illegal}
-use Rattle.holdem_table.specs.Names.{IsName, AreNames, AreDistinct, IsNamesLine, pieces}
-use Rattle.holdem_table.specs.Answer.{Says, Tells, commands_of, is_named, refusal, answer, line_for, lines_for, bad_script}
-use Rattle.holdem_table.specs.Script.{HasNoFeed, AreLines, SayInTurn, Script, answers}
+use Rattle.holdem_table.specs.Names.{IsName, AreNames, IsNamesLine, pieces}
+use Rattle.holdem_table.specs.Answer.{Says, Tells, commands_of, is_named, refusal, answer, bad_script}
+use Rattle.holdem_table.specs.Script.{AreLines, Script, answers}
 use Rattle.holdem_table.specs.Outcome.{status_of, outcome_text}
-use Rattle.holdem_table.specs.declared.outcome.HandOutcome.TheVariants.{Done, Refused, Unreadable, OutOfMemory, StreamFailed}
+use Rattle.holdem_table.specs.declared.outcome.HandOutcome.TheVariants.{Done, Refused, StreamFailed}
 use Rattle.holdem_table.specs.declared.script_line.ScriptLine.TheVariants.{Names, Told, Bad}
 
 -- two players, blinds 10 and 5, raises of 10 and 20

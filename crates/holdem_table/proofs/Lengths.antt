@@ -1,5 +1,5 @@
 -- No right script line is longer than 335 bytes.
-use Rattle.std.proofs.Common.{◌≡◌, ◌≢◌, ℕ, zero, suc, ◌+◌, ◌-◌, ◌*◌, ◌^◌, ◌<◌, ◌≤◌, List, [], ◌∷◌, ◌++◌, length, take, drop, sym, ◌∙◌, ap, subst, arith, refl, Bool, true, false, inl, inr}
+use Rattle.std.proofs.Common.{◌≡◌, ℕ, zero, suc, ◌+◌, ◌-◌, ◌*◌, ◌≤◌, List, [], ◌∷◌, ◌++◌, length, take, drop, ◌∙◌, ap, subst, arith, refl, Bool, true, false, inl, inr}
 use Rattle.std.specs.Prelude.{Option, Some, None, map, codes, decimal}
 use Rattle.std.specs.List.{AllByRecursion, flat_map, join_with_byte, range_with_len}
 use Rattle.std.proofs.lemmas.Bool.{cases_lt}
@@ -16,9 +16,9 @@ use Rattle.betting.specs.Rounds.{turns}
 use Rattle.slot_log.specs.Hand.{Hand}
 use Rattle.slot_log.specs.declared.command.Command.{Command}
 use Rattle.slot_log.specs.declared.command.Command.TheVariants.{Deal, Act}
-use Rattle.matchstate.specs.Cards.{cards_text, holes_of, boards_of, deal_text}
+use Rattle.matchstate.specs.Cards.{cards_text, boards_of, deal_text}
 use Rattle.matchstate.specs.ActionText.{IsActionText, IsRaiseText}
-use Rattle.holdem_table.specs.Names.{IsName, AreNames, IsNamesLine, pieces}
+use Rattle.holdem_table.specs.Names.{IsName, IsNamesLine, pieces}
 use Rattle.holdem_table.specs.Answer.{Tells, Says}
 use Rattle.holdem_table.proofs.SeatNames.{some_piece}
 use Rattle.holdem_table.specs.declared.script_line.ScriptLine.{ScriptLine}

@@ -1,8 +1,8 @@
 -- A byte more of a script.
-use Rattle.std.proofs.Common.{◌≡◌, ◌≢◌, ℕ, zero, suc, ◌+◌, ◌≤◌, List, [], ◌∷◌, ◌++◌, length, take, reverse, sym, ◌∙◌, ap, subst, arith, refl, append_assoc}
-use Rattle.std.specs.List.{flat_map, AllByRecursion}
+use Rattle.std.proofs.Common.{◌≡◌, ◌≢◌, ℕ, zero, suc, List, [], ◌∷◌, ◌++◌, take, reverse, sym, ◌∙◌, ap, refl, append_assoc}
+use Rattle.std.specs.List.{flat_map}
 use Rattle.std.proofs.lemmas.Grind.{flat_map-append}
-use Rattle.std.proofs.lemmas.List.{append-nil, take_all, take-append-le, length-take, reverse-append}
+use Rattle.std.proofs.lemmas.List.{append-nil, reverse-append}
 use Rattle.holdem_table.specs.Script.{AreLines, HasNoFeed}
 
 no_feed_more : (bytes : List ℕ) (byte : ℕ) → byte ≢ 10 → HasNoFeed bytes → HasNoFeed (bytes ++ byte ∷ [])

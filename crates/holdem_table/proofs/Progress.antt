@@ -1,18 +1,18 @@
 -- How far a script was read and answered, byte by byte and line by line.
-use Rattle.std.proofs.Common.{◌≡◌, ◌≢◌, ℕ, ◌+◌, ◌≤◌, ◌<◌, List, [], ◌∷◌, ◌++◌, length, take, drop, get_or, sym, ◌∙◌, ap, subst, arith, refl, append_assoc, Bool}
+use Rattle.std.proofs.Common.{◌≡◌, ◌≢◌, ℕ, ◌+◌, ◌<◌, List, [], ◌∷◌, ◌++◌, length, take, drop, get_or, sym, ◌∙◌, ap, subst, refl, append_assoc, Bool}
 use Rattle.std.specs.Prelude.{Option}
-use Rattle.std.specs.Io.KnownBytes.{Appends, Keeps}
+use Rattle.std.specs.Io.KnownBytes.{Appends}
 use Rattle.std.proofs.lemmas.List.{append-nil, take_more, take-append-drop}
 use Rattle.game_def.specs.Game.{Game}
 use Rattle.slot_log.specs.Hand.{Hand}
 use Rattle.slot_log.specs.Dealer.{hands_of}
 use Rattle.holdem_table.specs.Answer.{Says, answer, commands_of, is_named}
-use Rattle.holdem_table.specs.Script.{Script, AreLines, SayInTurn, answers}
+use Rattle.holdem_table.specs.Script.{Script, SayInTurn, answers}
 use Rattle.holdem_table.specs.Running.{Stands, Shows, Begins}
 use Rattle.holdem_table.specs.declared.dealing.Dealing.{Dealing}
 use Rattle.holdem_table.specs.declared.running.Running.{Running}
 use Rattle.holdem_table.specs.declared.script_line.ScriptLine.{ScriptLine}
-use Rattle.holdem_table.proofs.Streams.{append_twice, append_kept, append_here}
+use Rattle.holdem_table.proofs.Streams.{append_twice}
 use Rattle.holdem_table.proofs.Lines.{line_ends, line_goes_on, take_again}
 
 -- what a line says of a match is what it says after the lines so far

@@ -1,12 +1,12 @@
 -- Names one after another.
-use Rattle.std.proofs.Common.{◌≡◌, ◌≢◌, ℕ, ◌+◌, ◌-◌, ◌<◌, ◌≤◌, ◌==◌, List, [], ◌∷◌, ◌++◌, length, take, drop, get_or, sym, ◌∙◌, ap, subst, arith, Bool, true, false, refl}
-use Rattle.std.specs.Prelude.{Option, Some, None, nat_lt, IsTrue, cond}
+use Rattle.std.proofs.Common.{◌≡◌, ◌≢◌, ℕ, ◌+◌, ◌-◌, ◌<◌, ◌≤◌, ◌==◌, List, [], ◌∷◌, length, take, drop, sym, ◌∙◌, ap, arith, Bool, true, false, refl}
+use Rattle.std.specs.Prelude.{Some, None, nat_lt, cond}
 use Rattle.std.specs.List.{AllByRecursion, position, position_or_len}
 use Rattle.std.proofs.lemmas.Bool.Decides.{nat_tests}
 use Rattle.std.proofs.lemmas.List.{take_all, length-drop}
 use Rattle.std.proofs.lemmas.List.Splits.{slice_split_none, slice_split_first, length-slice_split}
 use Rattle.std.proofs.lemmas.List.Sums.{fails_before_first}
-use Rattle.holdem_table.specs.Names.{IsName, AreNames, AreDistinct, pieces}
+use Rattle.holdem_table.specs.Names.{IsName, AreNames, pieces}
 
 abbrev is_bar : ℕ → Bool
 is_bar byte = byte == 124

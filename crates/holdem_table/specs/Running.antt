@@ -1,5 +1,5 @@
 -- How far a script was read and answered.
-use Rattle.std.specs.Prelude.{◌≡◌, ℕ, List, [], ◌∷◌, ◌++◌, take, Option}
+use Rattle.std.specs.Prelude.{◌≡◌, ℕ, List, ◌++◌, take, Option}
 use Rattle.std.specs.Io.KnownBytes.{Appends}
 use Rattle.game_def.specs.Game.{Game}
 use Rattle.slot_log.specs.Dealer.{hands_of}

@@ -203,3 +203,31 @@ fn refuses_a_game(rt: HostRuntime) -> Result<(), Fail> {
     assert!(rt; written.is_empty());
     Ok(())
 }
+
+/// Gives so many bytes without a line feed, one with each read.
+#[derive(Drop)]
+struct Trickle {
+    left: u32,
+}
+
+impl Read for Trickle {
+    fn read(&mut self, buf: &mut [u8]) -> IoResult<usize> {
+        if self.left == 0 || buf.is_empty() {
+            return Ok(0);
+        }
+        self.left -= 1;
+        buf[0] = b'x';
+        Ok(1)
+    }
+}
+
+#[test]
+fn reads_a_script_so_often_and_no_more(rt: HostRuntime) {
+    for (left, status) in [(16_777_215, 0), (16_777_216, 2)] {
+        let mut reader = Trickle { left };
+        let mut written = Vec::new(rt.alloc());
+        let outcome = hand_run(rt.alloc(), L2, "l2.game", 1, &mut reader, &mut written);
+        assert_eq!(rt; outcome.status(), status);
+        assert!(rt; written.is_empty());
+    }
+}

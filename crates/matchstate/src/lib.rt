@@ -30,3 +30,6 @@ pub use reading_action::read_action;
 pub use reading_betting::read_betting;
 pub use seating::seat_view;
 pub use view::{MOST_LINE, View, write, write_reserved};
+
+#[cfg(test)]
+mod tests;

@@ -1,4 +1,4 @@
-ghost use Rattle.std.specs.Prelude.{◌≡◌, ℕ, ◌+◌, ◌<◌, ◌≤◌, ◌++◌, OnOk, OnErr, vec_len, vec_capacity};
+ghost use Rattle.std.specs.Prelude.{◌≡◌, ℕ, ◌+◌, ◌<◌, ◌≤◌, ◌++◌, reverse, OnOk, OnErr, vec_len, vec_capacity};
 ghost use Rattle.matchstate.specs.Line.{line_text};
 
 use crate::put::{put, put_number};
@@ -41,6 +41,29 @@ impl Model for View {
     ghost view = { view_in };
 
     ghost invariant = { IsKept };
+}
+
+impl View {
+    /// The position that it is for, counted from 0.
+    pub fn position(&self) -> usize
+        ensures { result ≡ self.now.position }
+    {
+        self.position
+    }
+
+    /// The hand's number, counted from 0.
+    pub fn hand(&self) -> u32
+        ensures { result ≡ self.now.hand }
+    {
+        self.hand
+    }
+
+    /// The actions so far, oldest first.
+    pub fn actions(&self) -> &[Action]
+        ensures { result.now ≡ reverse self.now.past }
+    {
+        &self.actions[..self.count]
+    }
 }
 
 /// Appends the line of a view of this game, without a line end, as the ACPC protocol 2.0.0 writes it.

@@ -37,17 +37,21 @@ step : (world : World) (out : Output) (node : Node) → Reached talk 1 world →
     → Reached talk 1 (after_move world 0 out node)
 step world out node run move = Worlds.more world 0 out node (after_move world 0 out node) run (omega arith) move (is_after_move world 0 out node)
 
--- the only node starts, and hears `c` and a line feed from seat 1
-abbrev hearing : World
-hearing =
+-- the only node starts, seat 1 connects to it and says `c` and a line feed
+abbrev connected : World
+connected =
     let started = after_move new_world 0 nothing (fresh empty_store 1) in
-    after_move started 0 nothing (record (started.nodes 0) { heard = put (started.nodes 0).heard 1 (99 ∷ 10 ∷ []) })
+    after_move started 0 nothing (record (started.nodes 0) { heard = put (started.nodes 0).heard 1 (Some []) })
+
+abbrev hearing : World
+hearing = after_move connected 0 nothing (record (connected.nodes 0) { heard = put (connected.nodes 0).heard 1 (Some (99 ∷ 10 ∷ [])) })
 
 run_hearing : Reached talk 1 hearing
 run_hearing =
     let started = after_move new_world 0 nothing (fresh empty_store 1) in
     let run : Reached talk 1 started = step new_world nothing (fresh empty_store 1) Worlds.start (Moves.starts empty_store refl (inl refl) refl refl) in
-    step started _ _ run (Moves.hears 1 (99 ∷ 10 ∷ []) refl refl refl)
+    let connecting : Reached talk 1 connected = step started _ _ run (Moves.connects 1 refl refl refl) in
+    step connected _ _ connecting (Moves.hears 1 [] (99 ∷ 10 ∷ []) refl refl refl refl)
 
 says_c : HasLine (99 ∷ 10 ∷ []) (99 ∷ [])
 says_c = ([], 10 ∷ [], [], refl, inl refl, inl refl, no_feed)
@@ -72,7 +76,7 @@ act_is_said action =
     let after_note = noted act in
     let after_pass = forwarded act in
     let note : Move talk 1 0 hearing.ever (hearing.nodes 0) (sending (Said 0 1 act)) (with_sent (hearing.nodes 0) (Said 0 1 act ∷ []))
-    = Moves.notes 1 [] (99 ∷ []) act refl tt says_c refl refl refl in
+    = Moves.notes 1 (99 ∷ 10 ∷ []) [] (99 ∷ []) act refl refl tt says_c refl refl refl in
     let pass : Move talk 1 0 after_note.ever (after_note.nodes 0) (sending (Forward 0 act)) (with_sent (after_note.nodes 0) (Forward 0 act ∷ []))
     = Moves.forwards 1 act refl (inl refl) refl refl in
     let noting : Run talk 1 hearing after_note = Worlds.more hearing 0 _ _ after_note Worlds.start (omega arith) note (is_after_move hearing 0 _ _) in (
@@ -87,6 +91,8 @@ act_is_said action =
         seat = 1;
         before = [];
         chosen = tt;
+        bytes = 99 ∷ 10 ∷ [];
+        connected = refl;
         line = 99 ∷ [];
         heard = says_c;
         says = refl;

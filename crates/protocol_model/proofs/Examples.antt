@@ -63,7 +63,7 @@ fresh store starts = record {
   sent = [];
   known = [];
   shown = 0;
-  heard = λ seat. [];
+  heard = λ seat. None;
 }
 
 abbrev getting : Node → Message → Node

@@ -14,3 +14,4 @@ mod Opening
 pub mod Examples
 pub mod NearMisses
 pub mod ActExample
+pub mod Widening

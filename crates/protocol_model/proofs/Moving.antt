@@ -1,5 +1,5 @@
 -- Each move keeps what holds.
-use Rattle.std.proofs.Common.{◌≡◌, ℕ, suc, ◌<◌, ◌⊎◌, inl, inr, true, false, true≢false, Some, List, [], ◌∷◌, ◌++◌, length, refl, ap, sym, subst, subst₂}
+use Rattle.std.proofs.Common.{◌≡◌, ℕ, suc, ◌<◌, ◌⊎◌, inl, inr, true, false, true≢false, Some, List, [], ◌∷◌, ◌++◌, length, refl, ap, sym, subst, subst₂, Option, None}
 use Rattle.paxos_wire.specs.declared.ballot.Ballot.{Ballot}
 use Rattle.slot_log.specs.declared.command.Command.{Command}
 use Rattle.slot_log.specs.declared.command.Command.TheVariants.{Deal, Act}
@@ -215,7 +215,7 @@ starts_keeps : (n i : ℕ) (ever : List Message) (node : Node) (store : Store) �
       sent = [];
       known = [];
       shown = 0;
-      heard = λ seat. [];
+      heard = λ seat. None;
     })
 starts_keeps n i ever node store facts found =
     let holds : Holds i ever store = elim found [ inl e ↦ subst (Holds i ever) (sym e) facts.store | inr e ↦ subst (Holds i ever) (sym e) facts.begun ] in
@@ -230,7 +230,7 @@ starts_keeps n i ever node store facts found =
     }
 
 -- what changes neither stores nor messages
-same_facts : (n i : ℕ) (ever : List Message) (node : Node) (shown : ℕ) (heard : ℕ → List ℕ) → NodeFacts n i ever node
+same_facts : (n i : ℕ) (ever : List Message) (node : Node) (shown : ℕ) (heard : ℕ → Option (List ℕ)) → NodeFacts n i ever node
     → NodeFacts n i ever (record node { shown = shown; heard = heard })
 same_facts n i ever node shown heard facts = record {
   store = facts.store;
@@ -246,11 +246,13 @@ pub move_keeps : (dealer : Dealer) (n i : ℕ) (ever : List Message) (old : Node
     → Facts dealer n ever → NodeFacts n i ever old → Move dealer n i ever old out new → Kept dealer n i ever (out.sent ++ ever) new
 move_keeps dealer n i ever old out new within facts kept (Moves.gets message up here eo en) =
     moved dealer n i ever out _ new _ eo en (silent dealer n i ever _ facts (gets_keeps n i ever old message here kept))
-move_keeps dealer n i ever old out new within facts kept (Moves.hears seat bytes up eo en) =
+move_keeps dealer n i ever old out new within facts kept (Moves.hears seat before bytes up connected eo en) =
     moved dealer n i ever out _ new _ eo en (silent dealer n i ever _ facts (same_facts n i ever old old.shown _ kept))
 move_keeps dealer n i ever old out new within facts kept (Moves.connects seat up eo en) =
     moved dealer n i ever out _ new _ eo en (silent dealer n i ever _ facts (same_facts n i ever old old.shown _ kept))
-move_keeps dealer n i ever old out new within facts kept (Moves.notes seat before line act up knows heard says eo en) =
+move_keeps dealer n i ever old out new within facts kept (Moves.drops seat up eo en) =
+    moved dealer n i ever out _ new _ eo en (silent dealer n i ever _ facts (same_facts n i ever old old.shown _ kept))
+move_keeps dealer n i ever old out new within facts kept (Moves.notes seat bytes before line act up connected knows heard says eo en) =
     moved dealer n i ever out _ new _ eo en (sends dealer n i ever old (Said i seat act) facts kept refl tt tt tt tt)
 move_keeps dealer n i ever old out new within facts kept (Moves.begins ballot slot told up own below tells eo en) =
     moved dealer n i ever out _ new _ eo en (begins_keeps dealer n i ever old ballot slot told facts kept own below tells)

@@ -1,5 +1,5 @@
 -- A run goes on from the stores that it left when it ended.
-use Rattle.std.proofs.Common.{◌≡◌, ◌≢◌, ℕ, zero, suc, ◌<◌, ◌≤◌, inl, inr, true, false, List, [], ◌++◌, refl, ap, sym, ◌∙◌, subst, append_assoc, arith}
+use Rattle.std.proofs.Common.{◌≡◌, ◌≢◌, ℕ, zero, suc, ◌<◌, ◌≤◌, inl, inr, true, false, List, [], ◌++◌, refl, ap, sym, ◌∙◌, subst, append_assoc, arith, None}
 use Rattle.protocol_model.specs.Sets.{IsBeginning}
 use Rattle.protocol_model.specs.Messages.{Message}
 use Rattle.protocol_model.specs.Stores.{Store}
@@ -23,7 +23,7 @@ started node store = record {
   sent = [];
   known = [];
   shown = 0;
-  heard = λ seat. [];
+  heard = λ seat. None;
 }
 
 is_started : (node : Node) (store : Store) → IsStarted (started node store) store

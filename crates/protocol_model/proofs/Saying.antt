@@ -1,5 +1,5 @@
 -- When an act was said.
-use Rattle.std.proofs.Common.{◌≡◌, ℕ, inl, inr, true, List, [], ◌∷◌, ap, sym, subst}
+use Rattle.std.proofs.Common.{◌≡◌, ℕ, inl, inr, true, Some, List, [], ◌∷◌, ap, sym, subst}
 use Rattle.slot_log.specs.declared.command.Command.{Command}
 use Rattle.protocol_model.specs.Sets.{In}
 use Rattle.paxos_wire.specs.declared.ballot.Ballot.{Ballot}
@@ -22,8 +22,10 @@ record Heard (dealer : Dealer) (node : Node) (act : Command) : Type 0 where
   seat : ℕ
   before : List Command
   knows : Knows node.known before
+  bytes : List ℕ
+  connected : node.heard seat ≡ Some bytes
   line : List ℕ
-  heard : HasLine (node.heard seat) line
+  heard : HasLine bytes line
   says : dealer.says before seat line act ≡ true
 
 -- of one message that is no note, none is a note
@@ -66,17 +68,21 @@ move_says : (dealer : Dealer) (n i : ℕ) (ever : List Message) (old : Node) (ou
     → Move dealer n i ever old out new → In (Said sender seat act) out.sent → Heard dealer old act
 move_says dealer n i ever old out new sender seat act (Moves.gets message up there eo en) here =
     absurd (none_sent _ out (ap (λ o. o.sent) eo) here)
-move_says dealer n i ever old out new sender seat act (Moves.hears s bytes up eo en) here =
+move_says dealer n i ever old out new sender seat act (Moves.hears s before bytes up connected eo en) here =
     absurd (none_sent _ out (ap (λ o. o.sent) eo) here)
 move_says dealer n i ever old out new sender seat act (Moves.connects s up eo en) here =
     absurd (none_sent _ out (ap (λ o. o.sent) eo) here)
-move_says dealer n i ever old out new sender seat act (Moves.notes s before line said up knows heard says eo en) here =
+move_says dealer n i ever old out new sender seat act (Moves.drops s up eo en) here =
+    absurd (none_sent _ out (ap (λ o. o.sent) eo) here)
+move_says dealer n i ever old out new sender seat act (Moves.notes s bytes before line said up connected knows heard says eo en) here =
     elim (let h : In (Said sender seat act) (Said i s said ∷ []) = subst (In (Said sender seat act)) (ap (λ o. o.sent) eo) here in h) [
       | inl e ↦ record {
         up = up;
         seat = s;
         before = before;
         knows = knows;
+        bytes = bytes;
+        connected = connected;
         line = line;
         heard = heard;
         says = subst (λ c. dealer.says before s line c ≡ true) (sym (same_act sender seat i s act said e)) says;
@@ -134,6 +140,8 @@ was_said dealer n world sender seat act (Worlds.more between i out node end run 
             seat = heard.seat;
             before = heard.before;
             chosen = knows_chosen n between.ever (between.nodes i).known heard.before (let facts = world_facts dealer n between run in let mine = facts.nodes i in mine.known) heard.knows;
+            bytes = heard.bytes;
+            connected = heard.connected;
             line = heard.line;
             heard = heard.heard;
             says = heard.says;
@@ -150,6 +158,8 @@ was_said dealer n world sender seat act (Worlds.more between i out node end run 
             seat = said.seat;
             before = said.before;
             chosen = said.chosen;
+            bytes = said.bytes;
+            connected = said.connected;
             line = said.line;
             heard = said.heard;
             says = said.says;

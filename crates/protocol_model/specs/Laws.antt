@@ -1,5 +1,5 @@
 -- What holds in every run.
-use Rattle.std.specs.Prelude.{◌≡◌, ℕ, ◌<◌, ◌≤◌, ◌⊎◌, true, false, Some, List, [], ◌∷◌, length}
+use Rattle.std.specs.Prelude.{◌≡◌, ℕ, ◌<◌, ◌≤◌, ◌⊎◌, true, false, Some, List, [], ◌∷◌, length, Bool, None}
 use Rattle.slot_log.specs.declared.command.Command.{Command}
 use Rattle.slot_log.specs.declared.command.Command.TheVariants.{Deal, Act}
 use Rattle.protocol_model.specs.Sets.{In, IsBeginning}
@@ -30,7 +30,7 @@ pub record OneDealer (dealer : Dealer) (n : ℕ) (world : World) : Type 0 where
   pub shown : (shown : Shown) → In shown world.shown → IsOfBeginning dealer commands shown
   pub forward : NeverGoesBack world.shown
 
--- the act was said: at some moment of the run a node's bytes of a seat held a whole line that says it, after commands that were chosen by then
+-- the act was said: at some moment of the run a node's bytes of a seat, since it connected there, held a whole line that says it, after commands that were chosen by then
 pub record WasSaid (dealer : Dealer) (n : ℕ) (world : World) (act : Command) : Type 0 where
   pub moment : World
   pub reached : Reached dealer n moment
@@ -41,8 +41,10 @@ pub record WasSaid (dealer : Dealer) (n : ℕ) (world : World) (act : Command) :
   pub seat : ℕ
   pub before : List Command
   pub chosen : AreChosen n moment.ever before
+  pub bytes : List ℕ
+  pub connected : (moment.nodes node).heard seat ≡ Some bytes
   pub line : List ℕ
-  pub heard : HasLine ((moment.nodes node).heard seat) line
+  pub heard : HasLine bytes line
   pub says : dealer.says before seat line act ≡ true
 
 -- where a command comes from: a deal is some node's own, an act was said
@@ -65,7 +67,7 @@ pub record IsStarted (node : Node) (found : Store) : Type 0 where
   pub sent : node.sent ≡ []
   pub known : node.known ≡ []
   pub shown : node.shown ≡ 0
-  pub heard : (seat : ℕ) → node.heard seat ≡ []
+  pub heard : (seat : ℕ) → node.heard seat ≡ None
 
 -- the run goes on with all nodes started anew, with these stores
 pub record IsOpened (dealer : Dealer) (n : ℕ) (earlier : World) (stores : ℕ → Store) (opened : World) : Type 0 where
@@ -73,3 +75,11 @@ pub record IsOpened (dealer : Dealer) (n : ℕ) (earlier : World) (stores : ℕ 
   pub ever : opened.ever ≡ earlier.ever
   pub shown : opened.shown ≡ earlier.shown
   pub nodes : (i : ℕ) → i < n → IsStarted (opened.nodes i) (stores i)
+
+-- the same dealer, with other deals being a node's own
+abbrev pub with_own : Dealer → (ℕ → Command → Bool) → Dealer
+with_own dealer own = record dealer { own = own }
+
+-- what was a node's own still is
+abbrev pub OwnsMore : Dealer → (ℕ → Command → Bool) → Type 0
+OwnsMore dealer own = (node : ℕ) (command : Command) → dealer.own node command ≡ true → own node command ≡ true

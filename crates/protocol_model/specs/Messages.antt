@@ -19,9 +19,9 @@ vote_of entry = record { ballot = entry.ballot; command = entry.command }
 pub data Message : Type 0 where
   -- the node of the ballot asks for promises
   Prepare : (ballot : Ballot) (slot : ℕ) → Message
-  -- the sender promised to accept nothing of a lower ballot, and tells what it accepted from the slot on
+  -- the sender promised to accept nothing of a lower ballot, and tells what it accepted of the 64 slots from the slot on
   Promise : (sender : ℕ) (ballot : Ballot) (slot : ℕ) (told : List Entry) → Message
-  -- the sender has promised a greater ballot
+  -- the sender has promised a ballot that is not below it
   Refuse : (sender : ℕ) (ballot : Ballot) (slot : ℕ) (promised : Ballot) → Message
   -- the node of the ballot proposes the command
   Accept : (ballot : Ballot) (slot : ℕ) (command : Command) → Message

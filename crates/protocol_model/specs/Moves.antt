@@ -1,5 +1,5 @@
 -- What one node may do, seen from that node and from all that was ever sent.
-use Rattle.std.specs.Prelude.{◌≡◌, ℕ, suc, ◌≤◌, ◌⊎◌, true, false, Some, List, [], ◌∷◌, ◌++◌, length}
+use Rattle.std.specs.Prelude.{◌≡◌, ℕ, suc, ◌≤◌, ◌⊎◌, true, false, Some, List, [], ◌∷◌, ◌++◌, length, None}
 use Rattle.paxos_wire.specs.declared.ballot.Ballot.{Ballot}
 use Rattle.slot_log.specs.declared.command.Command.{Command}
 use Rattle.slot_log.specs.declared.command.Command.TheVariants.{Deal, Act}
@@ -66,15 +66,18 @@ pub data Move (dealer : Dealer) (n i : ℕ) (ever : List Message) (old : Node) (
   -- it gets a message that was sent, by whichever frame, early or late, once or again
   gets : (message : Message) → old.up ≡ true → In message ever
       → out ≡ nothing → new ≡ record old { has = message ∷ old.has } → Move dealer n i ever old out new
-  -- bytes of a seat come
-  hears : (seat : ℕ) (bytes : List ℕ) → old.up ≡ true
-      → out ≡ nothing → new ≡ record old { heard = put old.heard seat (old.heard seat ++ bytes) } → Move dealer n i ever old out new
-  -- a seat connects, or is dropped: what it said before is forgotten
+  -- a seat connects, again too: what it said before is forgotten
   connects : (seat : ℕ) → old.up ≡ true
-      → out ≡ nothing → new ≡ record old { heard = put old.heard seat [] } → Move dealer n i ever old out new
+      → out ≡ nothing → new ≡ record old { heard = put old.heard seat (Some []) } → Move dealer n i ever old out new
+  -- a seat is dropped
+  drops : (seat : ℕ) → old.up ≡ true
+      → out ≡ nothing → new ≡ record old { heard = put old.heard seat None } → Move dealer n i ever old out new
+  -- bytes of a seat that is connected come; those of another are passed over
+  hears : (seat : ℕ) (before bytes : List ℕ) → old.up ≡ true → old.heard seat ≡ Some before
+      → out ≡ nothing → new ≡ record old { heard = put old.heard seat (Some (before ++ bytes)) } → Move dealer n i ever old out new
   -- it notes an act that a seat said in answer to its line after commands that the node knows
-  notes : (seat : ℕ) (before : List Command) (line : List ℕ) (act : Command) → old.up ≡ true
-      → Knows old.known before → HasLine (old.heard seat) line → dealer.says before seat line act ≡ true
+  notes : (seat : ℕ) (bytes : List ℕ) (before : List Command) (line : List ℕ) (act : Command) → old.up ≡ true → old.heard seat ≡ Some bytes
+      → Knows old.known before → HasLine bytes line → dealer.says before seat line act ≡ true
       → out ≡ sending (Said i seat act) → new ≡ with_sent old (Said i seat act ∷ []) → Move dealer n i ever old out new
   -- it begins a ballot of its own above its promise, and promises it first itself
   begins : (ballot : Ballot) (slot : ℕ) (told : List Entry) → old.up ≡ true
@@ -87,7 +90,7 @@ pub data Move (dealer : Dealer) (n i : ℕ) (ever : List Message) (old : Node) (
       → In (Prepare ballot slot) old.has → Below old.store.promise ballot → Tells old.store slot told
       → out ≡ sending (Promise i ballot slot told)
       → new ≡ with_sent (with_store old (promised old.store ballot)) (Promise i ballot slot told ∷ []) → Move dealer n i ever old out new
-  -- in a ballot that it began since its start it proposes at a slot where it proposed nothing since its start
+  -- in a ballot that it began since its start it proposes at a slot where it proposed nothing in that ballot since its start
   proposes : (ballot : Ballot) (first slot : ℕ) (command : Command) → old.up ≡ true
       → In (Prepare ballot first) old.sent → ((other : Command) → In (Accept ballot slot other) old.sent → ⊥)
       → ballot.node ≡ i → MayPropose dealer n i old ballot slot command
@@ -140,7 +143,7 @@ pub data Move (dealer : Dealer) (n i : ℕ) (ever : List Message) (old : Node) (
         sent = [];
         known = [];
         shown = 0;
-        heard = λ seat. [];
+        heard = λ seat. None;
       }
       → Move dealer n i ever old out new
 

@@ -1,5 +1,5 @@
 -- One node of the world.
-use Rattle.std.specs.Prelude.{ℕ, Bool, false, List, [], ◌∷◌, length}
+use Rattle.std.specs.Prelude.{ℕ, Bool, false, List, [], ◌∷◌, length, Option, None}
 use Rattle.slot_log.specs.declared.command.Command.{Command}
 use Rattle.protocol_model.specs.Sets.{In}
 use Rattle.protocol_model.specs.Messages.{Message}
@@ -18,8 +18,8 @@ pub record Node : Type 0 where
   pub known : List (ℕ × Command)
   -- since its start: of how many commands it showed the effect last
   pub shown : ℕ
-  -- the bytes of each seat since it connected, oldest first
-  pub heard : ℕ → List ℕ
+  -- the bytes of each seat since it connected, oldest first; none of a seat that isn't connected
+  pub heard : ℕ → Option (List ℕ)
 
 -- the node knows each command of the list, newest first, as chosen at its slot
 abbrev pub Knows : List (ℕ × Command) → List Command → Type 0
@@ -37,5 +37,5 @@ new_node = record {
   sent = [];
   known = [];
   shown = 0;
-  heard = λ seat. [];
+  heard = λ seat. None;
 }

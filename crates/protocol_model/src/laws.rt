@@ -1,4 +1,4 @@
-ghost use Rattle.std.specs.Prelude.{◌≡◌, ℕ, ◌<◌, ◌≤◌, ◌++◌, List, length};
+ghost use Rattle.std.specs.Prelude.{◌≡◌, Bool, ℕ, ◌<◌, ◌≤◌, ◌++◌, List, length};
 ghost use Rattle.paxos_wire.specs.declared.ballot.Ballot.{Ballot};
 ghost use Rattle.slot_log.specs.declared.command.Command.{Command};
 ghost use Rattle.protocol_model.specs.Sets.{In, IsBeginning};
@@ -6,7 +6,7 @@ ghost use Rattle.protocol_model.specs.Ballots.{Below};
 ghost use Rattle.protocol_model.specs.Messages.{Message, Accept, Chosen};
 ghost use Rattle.protocol_model.specs.Quorums.{IsChosenIn, IsChosen, AreChosen};
 ghost use Rattle.protocol_model.specs.Dealers.{Dealer};
-ghost use Rattle.protocol_model.specs.Laws.{OneDealer, HasOrigin, IsLeft, IsOpened};
+ghost use Rattle.protocol_model.specs.Laws.{OneDealer, HasOrigin, IsLeft, IsOpened, with_own, OwnsMore};
 ghost use Rattle.protocol_model.specs.Nodes.{Node};
 ghost use Rattle.protocol_model.specs.Stores.{Store};
 ghost use Rattle.protocol_model.specs.Moves.{Output, both, Chain};
@@ -77,4 +77,13 @@ pub fn runs_go_on()
         → Run dealer n first between → Run dealer n between last → Run dealer n first last }
     ensures grows { (dealer : Dealer) (n : ℕ) (first last : World) → Run dealer n first last
         → IsBeginning first.ever last.ever × IsBeginning first.shown last.shown }
+{}
+
+/// A run stays one where more deals count as a node's own.
+///
+/// So where a cluster is opened anew with other deals than before, the run before it and the run that goes on are both
+/// runs of the dealer for whom the deals of both are a node's own, and the other laws hold of the two together.
+pub fn owners_may_change()
+    ensures { (dealer : Dealer) (own : ℕ → Command → Bool) (n : ℕ) (first last : World)
+        → OwnsMore dealer own → Run dealer n first last → Run (with_own dealer own) n first last }
 {}

@@ -1,4 +1,4 @@
-use Rattle.std.proofs.Common.{take, drop, sym, ◌∙◌, ap, subst, arith, List, ℕ}
+use Rattle.std.proofs.Common.{take, drop, sym, subst, arith, List, ℕ}
 use Rattle.std.proofs.lemmas.List.{take-append-drop}
 use Rattle.std.specs.Io.KnownBytes.{Appends}
 use Rattle.holdem_table.proofs.Streams.{append_kept, append_twice, take_part, on_err}

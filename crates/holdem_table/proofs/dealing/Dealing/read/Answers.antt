@@ -1,4 +1,4 @@
-use Rattle.std.proofs.Common.{◌≤◌, subst, ℕ}
+use Rattle.std.proofs.Common.{◌≤◌, subst}
 use Rattle.game_def.specs.Game.{Game}
 use Rattle.holdem_table.proofs.Lengths.{says_whole}
 use Rattle.holdem_table.proofs.dealing.Dealing.read.Goals as goal

@@ -1,0 +1,11 @@
+pub mod Choices
+pub mod Distinct
+pub mod Tallies
+pub mod Adding
+pub mod Written
+pub mod Named
+pub mod Joined
+pub mod Settling
+pub mod ByPosition
+pub mod BestOfCards
+pub mod Examples

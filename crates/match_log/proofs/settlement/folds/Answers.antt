@@ -1,0 +1,25 @@
+use Rattle.std.proofs.Common.{◌≡◌, ◌<◌, ◌∙◌, ap, map, length, arith}
+use Rattle.std.specs.List.{range_with_len}
+use Rattle.betting.specs.Betting.{history}
+use Rattle.betting.specs.Turns.{folded}
+use Rattle.match_log.specs.Payoffs.{folds_of}
+use Rattle.match_log.proofs.ByPosition.{push_range, room_in_range, whole_range}
+use Rattle.match_log.proofs.settlement.folds.Goals as goal
+
+pub push-requires : goal.push-requires
+push-requires c =
+    let room : length c.loop-position.folds.items < c.players-position-end.result =
+    room_in_range (folded (history c.args.play.now)) c.loop-position.folds.items c.loop-position.position c.players-position-end.result c.loop-position.invariant (omega arith) in
+    omega (arith, room, c.players-position-end.ensures.most)
+
+pub loop-position-preserved : goal.loop-position-preserved
+loop-position-preserved c =
+    c.push.ensures.items ∙ push_range (folded (history c.args.play.now)) c.loop-position.folds.items c.loop-position.position _ c.loop-position.invariant c.folded.ensures
+
+pub returns : goal.returns
+unfolding folds_of
+returns c =
+    let all : c.loop-position.position ≡ c.args.game.now.players = omega (arith, c.players-position-end.ensures.value) in
+    let same : history c.args.play.now ≡ Rattle.betting.specs.Rounds.turns c.args.game.now c.args.play.now.past = ap (λ game. Rattle.betting.specs.Rounds.turns game c.args.play.now.past) c.requires in
+    whole_range (folded (history c.args.play.now)) c.loop-position.folds.items c.loop-position.position c.args.game.now.players c.loop-position.invariant all
+    ∙ ap (λ past. map (folded past) (range_with_len 0 c.args.game.now.players)) same

@@ -1,0 +1,10 @@
+pub mod BestFive
+pub mod Names
+pub mod NameInside
+pub mod Payoffs
+pub mod Lines
+pub mod Log
+pub mod Fault
+pub mod Check
+pub mod Tally
+pub mod ScoreInside

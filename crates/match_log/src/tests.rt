@@ -1,0 +1,171 @@
+ghost use Rattle.std.specs.Prelude.{◌≤◌};
+
+use crate::{LogFault, LogFaultKind, Name, are_names, score_line, state_line};
+use card_core::Deal;
+use game_def::GameDef;
+use matchstate::{read_betting, read_deal};
+use slot_log::{Command, Table};
+use std::alloc::Global;
+use std::process::Abort;
+use std::test::Fail;
+
+const TWO_LIMIT: &[u8] =
+    b"GAMEDEF\nlimit\nnumPlayers = 2\nnumRounds = 4\nblind = 10 5\nraiseSize = 10 10 20 20\nfirstPlayer = 2 1 1 1\nmaxRaises = 3 4 4 4\nnumSuits = 4\nnumRanks = 13\nnumHoleCards = 2\nnumBoardCards = 0 3 1 1\nEND GAMEDEF\n";
+
+const TWO_NO_LIMIT: &[u8] =
+    b"GAMEDEF\nnolimit\nnumPlayers = 2\nnumRounds = 4\nstack = 20000 20000\nblind = 100 50\nfirstPlayer = 2 1 1 1\nnumSuits = 4\nnumRanks = 13\nnumHoleCards = 2\nnumBoardCards = 0 3 1 1\nEND GAMEDEF\n";
+
+const THREE_NO_LIMIT: &[u8] =
+    b"GAMEDEF\nnolimit\nnumPlayers = 3\nnumRounds = 4\nstack = 1000 150 5000\nblind = 50 100 0\nfirstPlayer = 3 1 1 1\nnumSuits = 4\nnumRanks = 13\nnumHoleCards = 2\nnumBoardCards = 0 3 1 1\nEND GAMEDEF\n";
+
+fn game(rt: &impl Abort, text: &[u8]) -> GameDef {
+    game_def::read(text).expect(rt, "a game")
+}
+
+fn name(rt: &impl Abort, text: &[u8]) -> Name {
+    Name::new(text).expect(rt, "a name")
+}
+
+fn cards(rt: &impl Abort, text: &[u8], players: usize) -> Deal
+    requires least { 2 ≤ players }
+    requires most { players ≤ 10 }
+{
+    read_deal(text, players).expect(rt, "a deal")
+}
+
+/// Deals a hand and plays it.
+fn play(table: &mut Table, hand: u32, deal: Deal, betting: &[u8]) -> Result<(), Fail> {
+    let game = *table.game();
+    table.apply(&Command::Deal { hand, deal })?;
+    let Some(play) = read_betting(betting, &game) else {
+        return Ok(());
+    };
+    for (index, action) in play.actions().iter().enumerate() {
+        table.apply(&Command::Act {
+            hand,
+            index: index as u16,
+            action: *action,
+        })?;
+    }
+    Ok(())
+}
+
+/// A hand's line.
+fn hand_line(
+    rt: &impl Abort,
+    alloc: Global,
+    table: &Table,
+    hand: u32,
+    names: &[Name],
+    expected: &[u8],
+) -> Result<(), Fail> {
+    assert!(rt; are_names(names, table.game().players()));
+    assert!(rt; hand < table.finished());
+    let mut out = Vec::new(alloc);
+    state_line(&mut out, table, hand, names)?;
+    assert!(rt; out.as_slice() == expected);
+    Ok(())
+}
+
+#[test]
+fn the_middle_pot_goes_to_the_short_stack(rt: HostRuntime) -> Result<(), Fail> {
+    let game = game(&rt, THREE_NO_LIMIT);
+    let names = [name(&rt, b"alice"), name(&rt, b"bob"), name(&rt, b"carol")];
+    let mut table = Table::new(rt.alloc(), game, 1);
+    play(
+        &mut table,
+        0,
+        cards(&rt, b"2c7d|AsAh|KsKh/3d8h9c/Jd/4s", 3),
+        b"ccr150r200c/r1000c//",
+    )?;
+    hand_line(
+        &rt,
+        rt.alloc(),
+        &table,
+        0,
+        &names,
+        b"STATE:0:ccr150r200c/r1000c//:2c7d|AsAh|KsKh/3d8h9c/Jd/4s:-1000|300|700:alice|bob|carol\n",
+    )
+}
+
+#[test]
+fn all_chips_go_in_at_once(rt: HostRuntime) -> Result<(), Fail> {
+    let game = game(&rt, TWO_NO_LIMIT);
+    let names = [name(&rt, b"alice"), name(&rt, b"bob")];
+    let mut table = Table::new(rt.alloc(), game, 1);
+    play(
+        &mut table,
+        0,
+        cards(&rt, b"TdAs|8hTc/2c8c3h/9c/Kh", 2),
+        b"r20000c///",
+    )?;
+    hand_line(
+        &rt,
+        rt.alloc(),
+        &table,
+        0,
+        &names,
+        b"STATE:0:r20000c///:TdAs|8hTc/2c8c3h/9c/Kh:-20000|20000:alice|bob\n",
+    )
+}
+
+#[test]
+fn a_match_of_two_hands(rt: HostRuntime) -> Result<(), Fail> {
+    let game = game(&rt, TWO_LIMIT);
+    let names = [name(&rt, b"alice"), name(&rt, b"bob")];
+    let mut table = Table::new(rt.alloc(), game, 2);
+    play(
+        &mut table,
+        0,
+        cards(&rt, b"TdAs|8hTc/2c8c3h/9c/Kh", 2),
+        b"f",
+    )?;
+    play(
+        &mut table,
+        1,
+        cards(&rt, b"2d2h|3d3s/4c5c6c/7c/8d", 2),
+        b"f",
+    )?;
+    hand_line(
+        &rt,
+        rt.alloc(),
+        &table,
+        0,
+        &names,
+        b"STATE:0:f:TdAs|8hTc:5|-5:alice|bob\n",
+    )?;
+    hand_line(
+        &rt,
+        rt.alloc(),
+        &table,
+        1,
+        &names,
+        b"STATE:1:f:2d2h|3d3s:5|-5:bob|alice\n",
+    )?;
+    assert!(rt; are_names(&names, table.game().players()));
+    assert!(rt; table.over());
+    let mut out = Vec::new(rt.alloc());
+    score_line(&mut out, &table, &names)?;
+    assert!(rt; out.as_slice() == b"SCORE:0|0:alice|bob\n".as_slice());
+    Ok(())
+}
+
+#[test]
+fn names_are_short_and_plain(rt: HostRuntime) {
+    assert!(rt; Name::new(b"a.B-c_9").is_some());
+    assert!(rt; Name::new(b"").is_none());
+    assert!(rt; Name::new(b"a b").is_none());
+    assert!(rt; Name::new(&[b'x'; 33]).is_none());
+}
+
+#[test]
+fn faults_say_their_line(rt: HostRuntime) -> Result<(), Fail> {
+    let fault = LogFault {
+        kind: LogFaultKind::WrongValues,
+        line: 2,
+    };
+    assert_eq!(rt; fault.code(), 48);
+    let said = format!(in rt.alloc(); "{fault}")?;
+    assert_eq!(rt; said.as_str(), "48 WrongValues 2");
+    Ok(())
+}
