@@ -47,6 +47,10 @@ all_in_rounds : current_round three_players (played three_players (Call ∷ Call
 unfolding opened
 all_in_rounds = refl
 
+all_in_unfolded : unfolded_count three_players (played three_players (Call ∷ Call ∷ Raise 150 ∷ Raise 200 ∷ Call ∷ Raise 1000 ∷ Call ∷ [])) ≡ 3
+unfolding opened
+all_in_unfolded = refl
+
 all_in_spent : map (spent three_players (played three_players (Call ∷ Call ∷ Raise 150 ∷ Raise 200 ∷ Call ∷ Raise 1000 ∷ Call ∷ []))) (0 ∷ 1 ∷ 2 ∷ []) ≡ 1000 ∷ 150 ∷ 1000 ∷ []
 unfolding opened
 all_in_spent = refl
@@ -131,6 +135,10 @@ folds_over = refl
 folds_round : current_round three_players (played three_players (Raise 300 ∷ Fold ∷ Fold ∷ [])) ≡ 0
 unfolding opened
 folds_round = refl
+
+folds_unfolded : unfolded_count three_players (played three_players (Raise 300 ∷ Fold ∷ Fold ∷ [])) ≡ 1
+unfolding opened
+folds_unfolded = refl
 
 folds_spent : map (spent three_players (played three_players (Raise 300 ∷ Fold ∷ Fold ∷ []))) (0 ∷ 1 ∷ 2 ∷ []) ≡ 50 ∷ 100 ∷ 300 ∷ []
 unfolding opened

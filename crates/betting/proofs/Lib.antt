@@ -11,5 +11,6 @@ pub mod Tally
 pub mod Ranges
 pub mod Start
 pub mod LegalLaws
+pub mod Shown
 pub mod Kept
 pub mod Taken

@@ -1,9 +1,9 @@
 -- What holds of every legal play of every game.
-use Rattle.std.specs.Prelude.{◌≡◌, ℕ, ◌<◌, ◌≤◌, ◌↔◌, false, List, ◌∷◌, ◌++◌, length, Some, None, is_none}
+use Rattle.std.specs.Prelude.{◌≡◌, ℕ, ◌<◌, ◌≤◌, ◌↔◌, true, false, List, ◌∷◌, ◌++◌, length, Some, None, is_none}
 use Rattle.game_def.specs.Game.{Game, IsGame, stack_of}
 use Rattle.betting.specs.declared.action.Action.{Action}
 use Rattle.betting.specs.declared.action.Action.TheVariants.{Call, Raise}
-use Rattle.betting.specs.Turns.{Turn, max_spent, spent, folded}
+use Rattle.betting.specs.Turns.{Turn, max_spent, spent, folded, unfolded_count}
 use Rattle.betting.specs.Rounds.{last_round, current_round, over, to_act, turns}
 use Rattle.betting.specs.Legal.{CanAct, Legal, fault_of}
 use Rattle.betting.specs.Text.{text}
@@ -56,6 +56,10 @@ AllowedWithoutFault = (game : Game) (past : List Turn) (action : Action) → Can
 abbrev pub RoundsGoOn : Type 0
 RoundsGoOn = (game : Game) (past : List Action) (action : Action) → IsGame game → Legal game (action ∷ past)
     → (current_round game (turns game past) ≤ current_round game (turns game (action ∷ past))) × (current_round game (turns game (action ∷ past)) ≤ last_round)
+
+-- where a hand is over and two or more players haven't folded, all rounds are shown
+abbrev pub ShowdownsShowAllRounds : Type 0
+ShowdownsShowAllRounds = (game : Game) (past : List Turn) → over game past ≡ true → 2 ≤ unfolded_count game past → current_round game past ≡ last_round
 
 -- the betting text of a beginning of a hand begins that of the hand
 abbrev pub BettingTextsExtend : Type 0

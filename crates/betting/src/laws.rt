@@ -1,6 +1,6 @@
 //! What holds of every legal play of every game: each law is the contract of a function that does nothing.
 
-ghost use Rattle.betting.specs.Laws.{SomebodyHasTheGreatestAmount, NobodyPassesHisStack, AmountsNeverFall, HandsEnd, SomebodyMayCall, WhoActsIsLive, NobodyActsOnceOver, RaisesGoUp, AllowedWithoutFault, RoundsGoOn, BettingTextsExtend};
+ghost use Rattle.betting.specs.Laws.{SomebodyHasTheGreatestAmount, NobodyPassesHisStack, AmountsNeverFall, HandsEnd, SomebodyMayCall, WhoActsIsLive, NobodyActsOnceOver, RaisesGoUp, AllowedWithoutFault, RoundsGoOn, ShowdownsShowAllRounds, BettingTextsExtend};
 
 /// Some player who hasn't folded has the greatest amount in.
 pub fn somebody_has_the_greatest_amount()
@@ -50,6 +50,11 @@ pub fn allowed_without_fault()
 /// Rounds begin one after another and none again, up to the fourth.
 pub fn rounds_go_on()
     ensures { RoundsGoOn }
+{}
+
+/// Where a hand is over and two or more players haven't folded, all rounds are shown.
+pub fn showdowns_show_all_rounds()
+    ensures { ShowdownsShowAllRounds }
 {}
 
 /// The betting text of a beginning of a hand begins that of the hand.

@@ -111,8 +111,8 @@ impl Deal {
     }
 }
 
-/// Whether no card stands there twice.
-fn are_distinct(cards: &[Card]) -> bool
+/// Whether no card stands twice among these, of which there may be any number, or none.
+pub fn are_distinct(cards: &[Card]) -> bool
     ensures distinct { IsTrue result ↔ IsDistinct nat_eq cards.now }
     ensures cards_of_the_pack { IsTrue result → AllByRecursion (λ card. card < 52) cards.now }
 {

@@ -6,7 +6,7 @@ mod deal;
 mod fault;
 
 pub use card::Card;
-pub use deal::Deal;
+pub use deal::{Deal, are_distinct};
 pub use fault::DealFault;
 
 #[cfg(test)]

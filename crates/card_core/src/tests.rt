@@ -1,4 +1,4 @@
-use crate::{Card, Deal, DealFault};
+use crate::{Card, Deal, DealFault, are_distinct};
 use std::process::Abort;
 use std::test::Fail;
 
@@ -48,6 +48,7 @@ fn a_deal_lies_at_its_places(rt: HostRuntime) {
     assert!(rt; deal.cards() == cards.as_slice());
     assert!(rt; deal.hole(0) == [cards[0], cards[1]]);
     assert!(rt; deal.hole(1) == [cards[2], cards[3]]);
+    assert!(rt; are_distinct(&cards));
     assert!(rt; deal.board() == [cards[4], cards[5], cards[6], cards[7], cards[8]]);
 }
 

@@ -22,7 +22,7 @@ worth_total = then_total (on_total (λ (w : Worth). w.category) nat_cmp_total) (
 abbrev pub is_better : Worth → Worth → Bool
 is_better one other = is_gt (worth_cmp one other)
 
-not_better_itself : (w : Worth) → is_better w w ≡ false
+pub not_better_itself : (w : Worth) → is_better w w ≡ false
 not_better_itself w = ap is_gt (tied_itself worth_total w)
 
 turned_round : (o : Ordering) → is_gt o ≡ true → is_gt (ordering_reverse o) ≡ false

@@ -1,6 +1,7 @@
 -- Pots and payoffs of hands of three to five players, chip by chip.
-use Rattle.std.proofs.Common.{◌≡◌, ◌<◌, ◌≤◌, lit<, lit≤, ℕ, pos, negsuc, Bool, true, false, Some, None, List, [], ◌∷◌, get_or, zero, suc, refl, arith}
+use Rattle.std.proofs.Common.{◌≡◌, ◌<◌, ◌≤◌, lit<, lit≤, ℕ, pos, negsuc, Bool, true, false, Some, None, List, [], ◌∷◌, get_or, zero, suc, refl, sym, ◌∙◌, arith}
 use Rattle.hand_rank.specs.Worth.{Worth}
+use Rattle.side_pots.specs.Laws.{AtMostOneUnfolded}
 use Rattle.side_pots.specs.Amounts.{IsAmount, IsNextAmount, IsLastAmount, lesser, chips_between}
 use Rattle.side_pots.specs.Pots.{is_eligible, chips_at, pot_of, opens_pot, is_same_set, is_winner, winners_of, share, won_at, won, payoffs, total}
 
@@ -155,3 +156,28 @@ first_and_tenth_level = refl
 pub third_and_fourth_level : is_same_set 3 (is_eligible (20 ∷ 3 ∷ 20 ∷ []) none_folded 3) (is_eligible (20 ∷ 3 ∷ 20 ∷ []) none_folded 4) ≡ false
 unfolding is_eligible
 third_and_fourth_level = refl
+
+-- ---- one unfolded player, and two
+
+one_left : (first second : ℕ) → get_or (true ∷ false ∷ true ∷ []) first true ≡ false → get_or (true ∷ false ∷ true ∷ []) second true ≡ false → first ≡ second
+one_left zero second unfolded other = absurd (cc)
+one_left (suc (suc zero)) second unfolded other = absurd (cc)
+one_left (suc (suc (suc first))) second unfolded other = absurd (cc)
+one_left (suc zero) zero unfolded other = absurd (cc)
+one_left (suc zero) (suc zero) unfolded other = refl
+one_left (suc zero) (suc (suc zero)) unfolded other = absurd (cc)
+one_left (suc zero) (suc (suc (suc second))) unfolded other = absurd (cc)
+
+pub one_unfolded : AtMostOneUnfolded (true ∷ false ∷ true ∷ [])
+one_unfolded = one_left
+
+pub not_one_unfolded : AtMostOneUnfolded one_folded → ⊥
+not_one_unfolded alone = let same : ◌≡◌ {A = ℕ} 1 2 = alone 1 2 refl refl in omega arith
+
+-- of one unfolded player the hand doesn't matter, of two it does
+pub same_for_one : payoffs (5 ∷ 10 ∷ 10 ∷ []) (true ∷ false ∷ true ∷ []) (twos ∷ kings ∷ aces ∷ []) ≡ payoffs (5 ∷ 10 ∷ 10 ∷ []) (true ∷ false ∷ true ∷ []) (aces ∷ twos ∷ twos ∷ [])
+unfolding won won_at opens_pot pot_of share is_winner is_eligible
+same_for_one = refl
+
+pub not_same_for_two : payoffs (5 ∷ 10 ∷ 10 ∷ []) one_folded (twos ∷ kings ∷ kings ∷ []) ≡ payoffs (5 ∷ 10 ∷ 10 ∷ []) one_folded (aces ∷ kings ∷ twos ∷ []) → ⊥
+not_same_for_two same = let different = sym split_25 ∙ same ∙ folded_aces in cc

@@ -3,6 +3,7 @@ pub mod Levels
 pub mod BestHands
 pub mod NextAmount
 pub mod OddChips
-pub mod Laws
+pub mod PayoffLaws
 pub mod Settled
+pub mod Alone
 pub mod Examples

@@ -10,7 +10,7 @@ use Rattle.side_pots.specs.Amounts.{IsAmount, IsNextAmount, IsLastAmount, chips_
 use Rattle.side_pots.specs.Pots.{is_eligible, pot_of, is_winner, winners_of, wins, share, won, payoff, payoffs}
 use Rattle.side_pots.proofs.Levels.{IsBottom, owner_within, eligible_reached, sum_by-add, sum_by-nothing, pot_of-top, share_of_set, won_upto, won_upto-next, next_within, last_is_greatest}
 use Rattle.side_pots.proofs.BestHands.{some_winner}
-use Rattle.side_pots.proofs.Laws.{chips_upto_greatest}
+use Rattle.side_pots.proofs.PayoffLaws.{chips_upto_greatest}
 
 -- all pots up to an amount are shared
 pub record IsSettledUpto (spent : List ℕ) (folded : List Bool) (values : List Worth) (gains : List ℕ) (below : ℕ) : Type 0 where

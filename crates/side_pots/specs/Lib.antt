@@ -1,2 +1,3 @@
 pub mod Pots
 pub mod Amounts
+pub mod Laws

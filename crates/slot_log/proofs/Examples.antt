@@ -1,14 +1,15 @@
 -- Worked lists of commands that pin the dealer's definitions; each computes.
-use Rattle.std.proofs.Common.{◌≡◌, ℕ, Bool, true, false, List, [], ◌∷◌, Some, None, refl, arith}
+use Rattle.std.proofs.Common.{◌≡◌, ℕ, ◌<◌, Bool, true, false, List, [], ◌∷◌, Some, None, refl, sym, subst, arith}
 use Rattle.game_def.specs.Game.{Game}
 use Rattle.betting.specs.declared.action.Action.{Action}
 use Rattle.betting.specs.declared.action.Action.TheVariants.{Fold, Call, Raise}
 use Rattle.betting.specs.declared.fault.ActFault.TheVariants.{TooManyRaises}
 use Rattle.betting.specs.Turns.{count_below, max_spent, spent, folded, live, live_count, unfolded_count, has_answered, owes, owing_count, actions_in, raises_in, min_to}
 use Rattle.betting.specs.Rounds.{is_alone, can_bet_on, ends_round, over, current_round, first_from, first_cyclic, search_start, to_act, with_turn, turns}
-use Rattle.betting.specs.Legal.{limit_to, least_raise, greatest_raise, no_raise, wrong_amount, fault_of_raise, fault_at, fault_of}
+use Rattle.betting.specs.Legal.{limit_to, least_raise, greatest_raise, no_raise, wrong_amount, fault_of_raise, fault_at, fault_of, CanAct}
 use Rattle.slot_log.specs.Hand.{Hand}
 use Rattle.slot_log.specs.Dealer.{hands_of, effect_of, reason_of, Fits, hand_at}
+use Rattle.slot_log.specs.Played.{commands_of, deals_of, IsLegalHand, AreEarlierFinished}
 use Rattle.slot_log.specs.declared.command.Command.TheVariants.{Deal, Act}
 use Rattle.slot_log.specs.declared.effect.Effect.TheVariants.{Dealt, Acted, HandOver, MatchOver, None as Nothing}
 use Rattle.slot_log.specs.declared.reason.Reason.TheVariants.{MatchDone, NoHand, HandRunning, WrongHand, WrongIndex, WrongCards, Illegal}
@@ -134,3 +135,48 @@ second_deal_does_not_fit fits = let runs : ◌≡◌ {A = Bool} true false = fit
 
 second_copy_does_not_fit : Fits limit_game 1 (hand first_deal (Call ∷ []) ∷ []) (Act 0 0 Call) → ⊥
 second_copy_does_not_fit fits = let next : ◌≡◌ {A = ℕ} 0 1 = fits.next_index in absurd (omega arith)
+
+-- hands as commands: two that were played, the first with two actions
+pub commands_of_two_hands : commands_of (hand second_deal (Fold ∷ []) ∷ hand first_deal (Fold ∷ Call ∷ []) ∷ []) ≡ Act 1 0 Fold ∷ Deal 1 second_deal ∷ Act 0 1 Fold ∷ Act 0 0 Call ∷ Deal 0 first_deal ∷ []
+commands_of_two_hands = refl
+
+pub commands_of_none : commands_of [] ≡ []
+commands_of_none = refl
+
+pub deals_of_two_hands : deals_of (Act 1 0 Fold ∷ Deal 1 second_deal ∷ Act 0 0 Call ∷ Deal 0 first_deal ∷ []) ≡ second_deal ∷ first_deal ∷ []
+deals_of_two_hands = refl
+
+pub one_fold_is_legal : IsLegalHand limit_game (hand first_deal (Fold ∷ []))
+unfolding opened CanAct
+one_fold_is_legal = record { card_count = refl; legal = (tt, (1, refl, omega arith)) }
+
+-- the player with the greatest blind faces nothing after a call
+pub fold_after_call_is_not_legal : IsLegalHand limit_game (hand first_deal (Fold ∷ Call ∷ [])) → ⊥
+unfolding opened CanAct
+fold_after_call_is_not_legal legal_hand =
+    let can = legal_hand.legal.1 in
+    let acts : Some 0 ≡ Some can.0 = can.1 in
+    let first : 0 ≡ can.0 = cc in
+    let facing : spent limit_game (turns limit_game (Call ∷ [])) can.0 < 10 = can.2 in
+    let less : 10 < 10 = subst (λ position. spent limit_game (turns limit_game (Call ∷ [])) position < 10) (sym first) facing in omega arith
+
+pub deal_for_three_is_not_legal : IsLegalHand limit_game (hand (40 ∷ 41 ∷ first_deal) []) → ⊥
+deal_for_three_is_not_legal legal_hand = let count : ◌≡◌ {A = ℕ} 11 9 = legal_hand.card_count in omega arith
+
+pub newest_runs : AreEarlierFinished limit_game (hand second_deal [] ∷ hand first_deal (Fold ∷ []) ∷ [])
+unfolding opened
+newest_runs = (refl, tt)
+
+-- a hand that is dealt while another runs doesn't come of commands
+pub two_run : AreEarlierFinished limit_game (hand second_deal [] ∷ hand first_deal [] ∷ []) → ⊥
+unfolding opened
+two_run finished = let runs : ◌≡◌ {A = Bool} false true = finished.0 in cc
+
+second_deal_does_nothing : hands_of limit_game 2 (commands_of (hand second_deal [] ∷ hand first_deal [] ∷ [])) ≡ hand first_deal [] ∷ []
+unfolding opened
+second_deal_does_nothing = refl
+
+-- nor does a hand beyond those of the match
+hand_beyond_the_match : hands_of limit_game 1 (commands_of (hand second_deal (Fold ∷ []) ∷ hand first_deal (Fold ∷ []) ∷ [])) ≡ hand first_deal (Fold ∷ []) ∷ []
+unfolding opened
+hand_beyond_the_match = refl

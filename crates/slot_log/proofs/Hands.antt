@@ -18,7 +18,7 @@ sum_by-reverse f [] = refl
 sum_by-reverse f (x ∷ xs) =
     ap (sum_by f) (reverse-cons x xs) ∙ omega (arith, sum_by_push f (reverse xs) x, sum_by-cons f x xs, sum_by-reverse f xs)
 
-count_all : {X : Type 0} (p : X → Bool) (xs : List X) → AllByRecursion (λ x. p x ≡ true) xs → count_by p xs ≡ length xs
+pub count_all : {X : Type 0} (p : X → Bool) (xs : List X) → AllByRecursion (λ x. p x ≡ true) xs → count_by p xs ≡ length xs
 count_all {X} p [] all = refl
 count_all {X} p (x ∷ xs) all =
     let passes : p x ≡ true = all.0 in

@@ -3,4 +3,5 @@ pub mod Allowed
 pub mod Fitting
 pub mod Inside
 pub mod Begin
+pub mod Played
 pub mod Examples

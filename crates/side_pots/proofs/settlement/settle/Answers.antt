@@ -1,7 +1,7 @@
 use Rattle.std.proofs.Common.{◌∙◌, ap}
 use Rattle.side_pots.specs.Amounts.{IsLastAmount}
 use Rattle.side_pots.specs.Pots.{total}
-use Rattle.side_pots.proofs.Laws.{payoffs-total, payoff-last}
+use Rattle.side_pots.proofs.PayoffLaws.{payoffs-total, payoff-last}
 use Rattle.side_pots.proofs.Settled.{settled_none, settled_next, settled_as, pot_has_winner, next_fits, all_fit, gains_length, payoffs_settled, all_is_won, last_from_none, last_within, less_left}
 use Rattle.side_pots.proofs.settlement.settle.Goals as goal
 
