@@ -1,17 +1,25 @@
 -- The definitions on values that are written out: what they hold of, and near misses that they don't.
-use Rattle.std.proofs.Common.{◌≡◌, ℕ, List, [], ◌∷◌, ◌++◌, length, refl, ap, append_assoc, true, false, arith, ◌≤◌}
-use Rattle.std.specs.Prelude.{codes, decimal, Some}
+use Rattle.std.proofs.Common.{◌≡◌, ℕ, List, [], ◌∷◌, ◌++◌, length, refl, ap, append_assoc, true, arith}
+use Rattle.std.specs.Prelude.{codes, decimal, None, Some, Ok, Err}
+use Rattle.std.specs.List.{IsDistinct}
 use Rattle.game_def.specs.Game.{Game}
 use Rattle.game_def.specs.declared.fault_kind.FaultKind.TheVariants.{Unsupported}
-use Rattle.betting.specs.declared.action.Action.TheVariants.{Call}
+use Rattle.betting.specs.declared.action.Action.TheVariants.{Call, Fold}
 use Rattle.betting.specs.declared.fault.ActFault.TheVariants.{TooManyRaises, RaiseTooSmall}
 use Rattle.slot_log.specs.Hand.{Hand}
-use Rattle.slot_log.specs.declared.command.Command.TheVariants.{Act}
+use Rattle.slot_log.specs.declared.command.Command.TheVariants.{Act, Deal}
 use Rattle.slot_log.specs.declared.reason.Reason.TheVariants.{NoHand, Illegal}
-use Rattle.holdem_table.specs.Names.{IsName, AreNames, IsNamesLine, pieces}
-use Rattle.holdem_table.specs.Answer.{Says, Tells, commands_of, is_named, refusal, answer, bad_script}
+use Rattle.match_log.specs.Names.{AreNames}
+use Rattle.match_log.proofs.Examples.{opened}
+use Rattle.holdem_table.specs.Names.{IsNamesLine, pieces}
+use Rattle.holdem_table.specs.Told.{commands_of, names_of}
+use Rattle.holdem_table.specs.Logged.{lettered, logged}
+use Rattle.holdem_table.specs.Answer.{Says, Tells, refusal, reply, answer, bad_script}
 use Rattle.holdem_table.specs.Script.{AreLines, Script, answers}
 use Rattle.holdem_table.specs.Outcome.{status_of, outcome_text}
+use Rattle.match_log.specs.declared.fault_kind.LogFaultKind.TheVariants.{WrongValues}
+use Rattle.holdem_table.specs.Verdict.{status_of as check_status_of, error_text, verdict_text, EndsVerdict}
+use Rattle.holdem_table.specs.declared.check_outcome.CheckOutcome.TheVariants.{Yes, No, Unreadable, StreamFailed as CheckFailed}
 use Rattle.holdem_table.specs.declared.outcome.HandOutcome.TheVariants.{Done, Refused, StreamFailed}
 use Rattle.holdem_table.specs.declared.script_line.ScriptLine.TheVariants.{Names, Told, Bad}
 
@@ -39,40 +47,34 @@ names_have_pieces = refl
 empty_text_is_one_piece : pieces [] ≡ [] ∷ []
 empty_text_is_one_piece = refl
 
-letters_digits_and_signs : IsName (codes "a_b-c.9")
-letters_digits_and_signs = record { least = omega arith; most = omega arith; letters = refl }
-
-no_name_is_empty : ¬ (IsName [])
-no_name_is_empty name = let least : 1 ≤ length (let none : List ℕ = [] in none) = name.least in omega arith
-
-no_space_in_a_name : ¬ (IsName (codes "a b"))
-no_space_in_a_name name = let letters : false ≡ true = name.letters in cc
-
-two_seats : IsNamesLine 2 (codes "names alice|bob")
-two_seats = record {
-  text = codes "alice|bob";
-  form = refl;
-  names = record {
-    each = refl;
-    valid = (record { least = omega arith; most = omega arith; letters = refl }, (record { least = omega arith; most = omega arith; letters = refl }, tt));
-    distinct = (((λ e. let l : 3 ≡ 5 = ap length e in omega arith), tt), (tt, tt));
-  };
+alice_and_bob : AreNames 2 (codes "alice" ∷ codes "bob" ∷ [])
+unfolding IsDistinct
+alice_and_bob = record {
+  one_each = refl;
+  each_name = (
+    record { least = omega arith; most = omega arith; bytes = (refl, (refl, (refl, (refl, (refl, tt))))) },
+    (record { least = omega arith; most = omega arith; bytes = (refl, (refl, (refl, tt))) }, tt),
+  );
+  distinct = ((refl, tt), (tt, tt));
 }
 
-the_same_name_twice : ¬ (AreNames 2 (codes "bob" ∷ codes "bob" ∷ []))
-the_same_name_twice names = names.distinct.0.0 refl
+two_seats : IsNamesLine 2 (codes "alice" ∷ codes "bob" ∷ []) (codes "names alice|bob")
+two_seats = record { are_names = alice_and_bob; form = refl }
 
-a_name_for_each_seat : ¬ (AreNames 3 (codes "alice" ∷ codes "bob" ∷ []))
-a_name_for_each_seat names = let each : length (codes "alice" ∷ codes "bob" ∷ []) ≡ 3 = names.each in omega arith
+a_name_for_each_seat : ¬ (IsNamesLine 3 (codes "alice" ∷ codes "bob" ∷ []) (codes "names alice|bob"))
+a_name_for_each_seat line = let each : length (codes "alice" ∷ codes "bob" ∷ []) ≡ 3 = line.are_names.one_each in omega arith
 
-commands_are_told : commands_of (Bad ∷ Told (Act 0 0 Call) ∷ Names ∷ []) ≡ Act 0 0 Call ∷ []
+no_space_behind_the_names : ¬ (IsNamesLine 2 (codes "alice" ∷ codes "bob" ∷ []) (codes "names alice|bob "))
+no_space_behind_the_names line = let form : codes "names alice|bob " ≡ codes "names alice|bob" = line.form in cc
+
+commands_are_told : commands_of (Bad ∷ Told (Act 0 0 Call) ∷ Names (codes "a" ∷ codes "b" ∷ []) ∷ []) ≡ Act 0 0 Call ∷ []
 commands_are_told = refl
 
-named_by_one_line : is_named (Bad ∷ Names ∷ Bad ∷ []) ≡ true
-named_by_one_line = refl
+names_by_one_line : names_of (Bad ∷ Names (codes "a" ∷ codes "b" ∷ []) ∷ Bad ∷ []) ≡ Some (codes "a" ∷ codes "b" ∷ [])
+names_by_one_line = refl
 
-not_named_by_a_bad_line : is_named (Bad ∷ []) ≡ false
-not_named_by_a_bad_line = refl
+no_names_by_a_bad_line : names_of (Bad ∷ []) ≡ None
+no_names_by_a_bad_line = refl
 
 next_action_of_the_newest_hand : Tells limit_game (new_hand ∷ []) (codes "c") (Act 0 0 Call)
 next_action_of_the_newest_hand = (refl, refl, refl)
@@ -86,8 +88,11 @@ no_other_index told = let index : 1 ≡ length (let past : List ℕ = [] in past
 no_return_behind_an_action : ¬ (Tells limit_game (new_hand ∷ []) (13 ∷ []) (Act 0 0 Call))
 no_return_behind_an_action told = let text : 13 ∷ [] ≡ codes "c" = told.2 in cc
 
-names_come_first : ¬ (Says limit_game false [] (codes "names alice|bob") (Told (Act 0 0 Call)))
+names_come_first : ¬ (Says limit_game None [] (codes "names alice|bob") (Told (Act 0 0 Call)))
 names_come_first says = says
+
+names_come_once : ¬ (Says limit_game (Some (codes "a" ∷ codes "b" ∷ [])) [] (codes "names alice|bob") (Names (codes "alice" ∷ codes "bob" ∷ [])))
+names_come_once says = says
 
 refused_with_its_number : refusal (Illegal TooManyRaises) ≡ codes "E 22 TooManyRaises" ++ 10 ∷ []
 refused_with_its_number = refl
@@ -98,11 +103,42 @@ refused_with_its_amount = ap (λ z. z ++ 10 ∷ []) (append_assoc (codes "E ") (
 no_hand_is_a_bad_line : refusal NoHand ≡ codes "E 110 BadScript" ++ 10 ∷ []
 no_hand_is_a_bad_line = refl
 
-names_are_not_answered : answer limit_game 1 [] Names ≡ []
-names_are_not_answered = refl
+names_bring_no_reply : reply limit_game 1 [] (Names (codes "a" ∷ codes "b" ∷ [])) ≡ []
+names_bring_no_reply = refl
 
-answers_in_order : answers limit_game 1 (Bad ∷ Names ∷ Bad ∷ []) ≡ bad_script ++ bad_script
+answers_in_order : answers limit_game 1 None (Bad ∷ Names (codes "a" ∷ codes "b" ∷ []) ∷ Bad ∷ []) ≡ bad_script ++ bad_script
 answers_in_order = refl
+
+a_letter_for_each_line : lettered true (97 ∷ 10 ∷ 98 ∷ 99 ∷ 10 ∷ []) ≡ codes "L a" ++ 10 ∷ codes "L bc" ++ 10 ∷ []
+a_letter_for_each_line = refl
+
+no_letter_for_no_line : lettered true [] ≡ []
+no_letter_for_no_line = refl
+
+no_log_unless_asked_for : logged limit_game 1 None [] (Names (codes "a" ∷ codes "b" ∷ [])) ≡ []
+no_log_unless_asked_for = refl
+
+header_first : logged limit_game 1 (Some (codes "l2.game")) (Bad ∷ []) (Names (codes "a" ∷ codes "b" ∷ [])) ≡ codes "L # name/game/hands hand l2.game 1\n"
+unfolding opened
+header_first = refl
+
+no_header_for_a_bad_line : logged limit_game 1 (Some (codes "l2.game")) (Names (codes "a" ∷ codes "b" ∷ []) ∷ []) Bad ≡ []
+unfolding opened
+no_header_for_a_bad_line = refl
+
+nothing_while_a_hand_runs : logged limit_game 2 (Some (codes "l2.game")) (Names (codes "a" ∷ codes "b" ∷ []) ∷ []) (Told (Deal 0 dealt)) ≡ []
+unfolding opened
+nothing_while_a_hand_runs = refl
+
+-- the second seat, at position 1, folds at once
+hand_that_ends : logged limit_game 2 (Some (codes "l2.game")) (Told (Deal 0 dealt) ∷ Names (codes "a" ∷ codes "b" ∷ []) ∷ []) (Told (Act 0 0 Fold)) ≡ codes "L STATE:0:f:TdAs|8hTc:5|-5:a|b\n"
+unfolding opened
+hand_that_ends = refl
+
+-- behind the last hand's lines stands the score
+match_that_ends : answer limit_game 1 (Some (codes "l2.game")) (Told (Deal 0 dealt) ∷ Names (codes "a" ∷ codes "b" ∷ []) ∷ []) (Told (Act 0 0 Fold)) ≡ codes "0 MATCHSTATE:0:0:f:TdAs|\n1 MATCHSTATE:1:0:f:|8hTc\nL STATE:0:f:TdAs|8hTc:5|-5:a|b\nL SCORE:5|-5:a|b\n"
+unfolding opened
+match_that_ends = refl
 
 lines_and_a_rest : AreLines (97 ∷ 10 ∷ 98 ∷ 10 ∷ 99 ∷ []) ((98 ∷ []) ∷ (97 ∷ []) ∷ []) (99 ∷ [])
 lines_and_a_rest = record {
@@ -114,7 +150,7 @@ lines_and_a_rest = record {
 no_line_feed_in_a_rest : ¬ (AreLines (97 ∷ 10 ∷ []) [] (97 ∷ 10 ∷ []))
 no_line_feed_in_a_rest lines = lines.partial.1.0 refl
 
-a_rest_is_not_answered : Script limit_game 1 (codes "c") []
+a_rest_is_not_answered : Script limit_game 1 None (codes "c") []
 a_rest_is_not_answered = record {
   lines = [];
   rest = codes "c";
@@ -135,3 +171,30 @@ refused_with_its_line = refl
 
 failed_stream_has_its_number : outcome_text StreamFailed ≡ codes "107 StreamFailed"
 failed_stream_has_its_number = refl
+
+yes_is_0 : check_status_of Yes ≡ 0
+yes_is_0 = refl
+
+no_is_1 : check_status_of (No (record { kind = WrongValues; line = 2 })) ≡ 1
+no_is_1 = refl
+
+unreadable_is_2 : check_status_of Unreadable ≡ 2
+unreadable_is_2 = refl
+
+said_of_a_right_log : verdict_text (Ok tt) ≡ codes "yes\n"
+said_of_a_right_log = refl
+
+said_of_a_wrong_log : verdict_text (Err (record { kind = WrongValues; line = 2 })) ≡ codes "no 2 48 WrongValues\n"
+unfolding opened
+said_of_a_wrong_log = refl
+
+nothing_on_standard_error_of_a_wrong_log : error_text (No (record { kind = WrongValues; line = 2 })) ≡ []
+nothing_on_standard_error_of_a_wrong_log = refl
+
+-- a verdict that was written in part is no yes
+no_yes_by_half : ¬ (EndsVerdict (Ok tt) (Some []) (Some (codes "ye")) Yes)
+no_yes_by_half ends = let written : codes "ye" ≡ codes "yes\n" = ends.1 in cc
+
+-- and it is one by a stream that failed
+half_a_yes : EndsVerdict (Ok tt) (Some []) (Some (codes "ye")) CheckFailed
+half_a_yes = record { shown = codes "ye"; missing = codes "s\n"; whole = refl; written = refl }

@@ -1,11 +1,10 @@
 -- No right script line is longer than 335 bytes.
-use Rattle.std.proofs.Common.{◌≡◌, ℕ, zero, suc, ◌+◌, ◌-◌, ◌*◌, ◌≤◌, List, [], ◌∷◌, ◌++◌, length, take, drop, ◌∙◌, ap, subst, arith, refl, Bool, true, false, inl, inr}
+use Rattle.std.proofs.Common.{◌≡◌, ℕ, zero, suc, ◌+◌, ◌-◌, ◌*◌, ◌≤◌, List, [], ◌∷◌, ◌++◌, length, take, drop, ◌∙◌, ap, subst, arith, refl, inl, inr}
 use Rattle.std.specs.Prelude.{Option, Some, None, map, codes, decimal}
-use Rattle.std.specs.List.{AllByRecursion, flat_map, join_with_byte, range_with_len}
+use Rattle.std.specs.List.{AllByRecursion, flat_map, range_with_len}
 use Rattle.std.proofs.lemmas.Bool.{cases_lt}
 use Rattle.std.proofs.lemmas.Fmt.{length-decimal-le}
 use Rattle.std.proofs.lemmas.List.{length-append, length-take, length-drop, take_all, length-take-le}
-use Rattle.std.proofs.lemmas.List.Splits.{join_with_byte-slice_split}
 use Rattle.game_def.specs.Game.{Game}
 use Rattle.card_core.specs.Card.{text_of}
 use Rattle.card_core.specs.Deal.{IsDeal, hole_of, board_of}
@@ -18,27 +17,27 @@ use Rattle.slot_log.specs.declared.command.Command.{Command}
 use Rattle.slot_log.specs.declared.command.Command.TheVariants.{Deal, Act}
 use Rattle.matchstate.specs.Cards.{cards_text, boards_of, deal_text}
 use Rattle.matchstate.specs.ActionText.{IsActionText, IsRaiseText}
-use Rattle.holdem_table.specs.Names.{IsName, IsNamesLine, pieces}
+use Rattle.match_log.specs.Names.{IsName}
+use Rattle.match_log.specs.Lines.{names_field}
+use Rattle.holdem_table.specs.Names.{IsNamesLine}
 use Rattle.holdem_table.specs.Answer.{Tells, Says}
-use Rattle.holdem_table.proofs.SeatNames.{some_piece}
 use Rattle.holdem_table.specs.declared.script_line.ScriptLine.{ScriptLine}
 use Rattle.holdem_table.specs.declared.script_line.ScriptLine.TheVariants.{Names, Told, Bad}
 
-joined_length : (names : List (List ℕ)) → AllByRecursion IsName names → 1 ≤ length names → length (join_with_byte 124 names) + 1 ≤ 33 * length names
-joined_length [] valid some = absurd (omega arith)
-joined_length (name ∷ []) valid some = let most : length name ≤ 32 = valid.0.most in omega arith
-joined_length (name ∷ next ∷ more) valid some =
+-- names with | between them have 33 bytes each, and one less
+names_length : (name : List ℕ) (others : List (List ℕ)) → AllByRecursion IsName (name ∷ others) → length (names_field (name ∷ others)) + 1 ≤ 33 * length (name ∷ others)
+names_length name [] valid = let most : length name ≤ 32 = valid.0.most in omega (arith, length-append name [])
+names_length name (next ∷ more) valid =
     let most : length name ≤ 32 = valid.0.most in
-    let rest : length (join_with_byte 124 (next ∷ more)) + 1 ≤ 33 * length (next ∷ more) = joined_length (next ∷ more) valid.1 (omega arith) in
-    omega (arith, length-append name (124 ∷ join_with_byte 124 (next ∷ more)))
+    let rest : length (names_field (next ∷ more)) + 1 ≤ 33 * length (next ∷ more) = names_length next more valid.1 in
+    omega (arith, length-append name (124 ∷ names_field (next ∷ more)))
 
-names_length : (players : ℕ) (line : List ℕ) → players ≤ 10 → IsNamesLine players line → length line ≤ 335
-names_length players line most right =
-    let names = right.names in
-    let each : length (pieces right.text) ≡ players = names.each in
-    let whole : length (join_with_byte 124 (pieces right.text)) ≡ length right.text = ap length (join_with_byte-slice_split 124 right.text) in
-    let long : length line ≡ 6 + length right.text = ap length right.form ∙ length-append (codes "names ") right.text in
-    let bound : length (join_with_byte 124 (pieces right.text)) + 1 ≤ 33 * length (pieces right.text) = joined_length (pieces right.text) names.valid (some_piece right.text) in
+line_length : (players : ℕ) (names : List (List ℕ)) (line : List ℕ) → players ≤ 10 → IsNamesLine players names line → length line ≤ 335
+line_length players [] line most right = omega (arith, ap length right.form)
+line_length players (name ∷ others) line most right =
+    let each : length (name ∷ others) ≡ players = right.are_names.one_each in
+    let long : length line ≡ 6 + length (names_field (name ∷ others)) = ap length right.form ∙ length-append (codes "names ") (names_field (name ∷ others)) in
+    let bound = names_length name others right.are_names.each_name in
     omega arith
 
 cards_length : (cards : List ℕ) → length (cards_text cards) ≡ 2 * length cards
@@ -106,20 +105,20 @@ told_length game [] text (Act hand index action) most told = absurd told
 told_length game (newest ∷ earlier) text (Act hand index action) most told = omega (arith, action_length game (turns game newest.past) text action told.2)
 
 -- what the front of a long line says is what the line says: it is bad
-long_line : (game : Game) (named : Bool) (hands : List Hand) (front line : List ℕ) (said : ScriptLine) → game.players ≤ 10 → 336 ≤ length front → 336 ≤ length line → Says game named hands front said → Says game named hands line said
-long_line game false hands front line Names most long longer says = absurd (omega (arith, names_length game.players front most says))
-long_line game false hands front line (Told command) most long longer says = absurd says
-long_line game false hands front line Bad most long longer says = λ right. omega (arith, names_length game.players line most right)
-long_line game true hands front line Names most long longer says = absurd says
-long_line game true hands front line (Told command) most long longer says = absurd (omega (arith, told_length game hands front command most says))
-long_line game true hands front line Bad most long longer says = λ command told. omega (arith, told_length game hands line command most told)
+long_line : (game : Game) (names : Option (List (List ℕ))) (hands : List Hand) (front line : List ℕ) (said : ScriptLine) → game.players ≤ 10 → 336 ≤ length front → 336 ≤ length line → Says game names hands front said → Says game names hands line said
+long_line game None hands front line (Names told) most long longer says = absurd (omega (arith, line_length game.players told front most says))
+long_line game None hands front line (Told command) most long longer says = absurd says
+long_line game None hands front line Bad most long longer says = λ told right. omega (arith, line_length game.players told line most right)
+long_line game (Some names) hands front line (Names told) most long longer says = absurd says
+long_line game (Some names) hands front line (Told command) most long longer says = absurd (omega (arith, told_length game hands front command most says))
+long_line game (Some names) hands front line Bad most long longer says = λ command told. omega (arith, told_length game hands line command most told)
 
 -- what a line says, by its first 336 bytes
-pub says_whole : (game : Game) (named : Bool) (hands : List Hand) (front line : List ℕ) (said : ScriptLine) → game.players ≤ 10 → front ≡ take 336 line → Says game named hands front said → Says game named hands line said
-says_whole game named hands front line said most is_front says =
+pub says_whole : (game : Game) (names : Option (List (List ℕ))) (hands : List Hand) (front line : List ℕ) (said : ScriptLine) → game.players ≤ 10 → front ≡ take 336 line → Says game names hands front said → Says game names hands line said
+says_whole game names hands front line said most is_front says =
     elim (cases_lt 336 (length line)) [
       | inl long ↦ let whole : length front ≡ 336 = ap length is_front ∙ length-take-le 336 line (omega arith) in
-          long_line game named hands front line said most (omega arith) (omega arith) says
-      | inr short ↦ let of_line : List ℕ → Type 0 = λ l. Says game named hands l said in
+          long_line game names hands front line said most (omega arith) (omega arith) says
+      | inr short ↦ let of_line : List ℕ → Type 0 = λ l. Says game names hands l said in
           subst of_line (is_front ∙ take_all 336 line short) says
     ]

@@ -1,9 +1,11 @@
 pub mod Takes
 pub mod Streams
 pub mod SeatNames
+pub mod GameWords
 pub mod Telling
 pub mod Lines
 pub mod Progress
 pub mod Lengths
+pub mod Logging
 pub mod Taking
 pub mod Examples

@@ -11,7 +11,9 @@ use Rattle.betting.specs.declared.action.Action.{Action}
 use Rattle.slot_log.specs.Hand.{Hand}
 use Rattle.slot_log.specs.declared.command.Command.{Command}
 use Rattle.slot_log.specs.declared.command.Command.TheVariants.{Deal, Act}
-use Rattle.holdem_table.specs.Answer.{Tells}
+use Rattle.holdem_table.specs.Answer.{ComesInTurn, Says, Tells}
+use Rattle.holdem_table.specs.declared.script_line.ScriptLine.{ScriptLine}
+use Rattle.holdem_table.specs.declared.script_line.ScriptLine.TheVariants.{Names, Told, Bad}
 
 -- neither a deal nor an action is no command
 no_command : (game : Game) (hands : List Hand) (text : List ℕ) → ((hand : ℕ) (deal : List ℕ) → ¬ (Tells game hands text (Deal hand deal))) → ((hand index : ℕ) (action : Action) → ¬ (Tells game hands text (Act hand index action))) → (command : Command) → ¬ (Tells game hands text command)
@@ -29,3 +31,12 @@ one_more f n =
     let split : map (λ (x : ℕ). x) (range_with_len 0 (n + 1)) ≡ map (λ x. x) (range_with_len 0 n) ++ n ∷ [] = map-range_with_len_more (λ x. x) 0 n n (omega arith) in
     sym (same (n + 1)) ∙ ap (flat_map f) split ∙ flat_map-append f (map (λ x. x) (range_with_len 0 n)) (n ∷ [])
     ∙ ap (λ z. z ++ flat_map f (n ∷ [])) (same n) ∙ ap (λ z. flat_map f (range_with_len 0 n) ++ z) (append-nil (f n))
+
+-- what a line says comes in turn
+pub says_in_turn : (game : Game) (names : Option (List (List ℕ))) (hands : List Hand) (line : List ℕ) (said : ScriptLine) → Says game names hands line said → ComesInTurn game.players names said
+says_in_turn game None hands line (Names told) says = says.are_names.one_each
+says_in_turn game None hands line (Told command) says = says
+says_in_turn game None hands line Bad says = tt
+says_in_turn game (Some names) hands line (Names told) says = says
+says_in_turn game (Some names) hands line (Told command) says = tt
+says_in_turn game (Some names) hands line Bad says = tt

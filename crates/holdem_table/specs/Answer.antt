@@ -1,5 +1,5 @@
 -- What a script line says to the dealer, and the answer to it.
-use Rattle.std.specs.Prelude.{◌≡◌, ℕ, Bool, true, false, List, [], ◌∷◌, ◌++◌, length, Some, None, codes, decimal}
+use Rattle.std.specs.Prelude.{◌≡◌, ℕ, List, [], ◌∷◌, ◌++◌, length, Option, Some, None, codes, decimal}
 use Rattle.std.specs.List.{flat_map, range_with_len}
 use Rattle.std.specs.Option.{option_to_list}
 use Rattle.game_def.specs.Game.{Game}
@@ -17,22 +17,10 @@ use Rattle.matchstate.specs.Cards.{deal_text}
 use Rattle.matchstate.specs.Line.{line_text}
 use Rattle.matchstate.specs.View.{seat_view}
 use Rattle.holdem_table.specs.Names.{IsNamesLine}
+use Rattle.holdem_table.specs.Told.{commands_of}
+use Rattle.holdem_table.specs.Logged.{logged}
 use Rattle.holdem_table.specs.declared.script_line.ScriptLine.{ScriptLine}
 use Rattle.holdem_table.specs.declared.script_line.ScriptLine.TheVariants.{Names, Told, Bad}
-
--- the commands that the lines so far told the dealer, newest first
-abbrev pub commands_of : List ScriptLine → List Command
-commands_of [] = []
-commands_of (Names ∷ before) = commands_of before
-commands_of (Told command ∷ before) = command ∷ commands_of before
-commands_of (Bad ∷ before) = commands_of before
-
--- one of the lines so far named the seats
-abbrev pub is_named : List ScriptLine → Bool
-is_named [] = false
-is_named (Names ∷ before) = true
-is_named (Told command ∷ before) = is_named before
-is_named (Bad ∷ before) = is_named before
 
 -- a line tells the dealer to deal the next hand, by `deal ` and a deal's text, or is the next action of the newest hand
 abbrev pub Tells : Game → List Hand → List ℕ → Command → Type 0
@@ -43,13 +31,22 @@ Tells game (newest ∷ earlier) text (Act hand index action) =
     (hand ≡ length earlier) × (index ≡ length newest.past) × IsActionText game (turns game newest.past) text action
 
 -- what a line says: until the seats are named only a line that names them is right, and after that only a command
-abbrev pub Says : Game → Bool → List Hand → List ℕ → ScriptLine → Type 0
-Says game false hands text Names = IsNamesLine game.players text
-Says game false hands text (Told command) = ⊥
-Says game false hands text Bad = ¬ (IsNamesLine game.players text)
-Says game true hands text Names = ⊥
-Says game true hands text (Told command) = Tells game hands text command
-Says game true hands text Bad = (command : Command) → ¬ (Tells game hands text command)
+abbrev pub Says : Game → Option (List (List ℕ)) → List Hand → List ℕ → ScriptLine → Type 0
+Says game None hands text (Names names) = IsNamesLine game.players names text
+Says game None hands text (Told command) = ⊥
+Says game None hands text Bad = (names : List (List ℕ)) → ¬ (IsNamesLine game.players names text)
+Says game (Some told) hands text (Names names) = ⊥
+Says game (Some told) hands text (Told command) = Tells game hands text command
+Says game (Some told) hands text Bad = (command : Command) → ¬ (Tells game hands text command)
+
+-- names of so many seats come once, and before all commands
+abbrev pub ComesInTurn : ℕ → Option (List (List ℕ)) → ScriptLine → Type 0
+ComesInTurn players None (Names names) = length names ≡ players
+ComesInTurn players None (Told command) = ⊥
+ComesInTurn players None Bad = Unit {0}
+ComesInTurn players (Some told) (Names names) = ⊥
+ComesInTurn players (Some told) (Told command) = Unit {0}
+ComesInTurn players (Some told) Bad = Unit {0}
 
 -- a seat's number, a space, and the line that the seat gets after these hands
 abbrev pub line_for : Game → List Hand → ℕ → List ℕ
@@ -73,13 +70,17 @@ refusal WrongIndex = bad_script
 refusal WrongCards = bad_script
 refusal (Illegal fault) = codes "E " ++ fault_text fault ++ 10 ∷ []
 
--- the answer to a command after others: every seat's line where it takes effect, else why it doesn't
-abbrev pub answer_to : Game → ℕ → List Command → Command → List ℕ
-answer_to game count commands command =
+-- the reply to a command after others: every seat's line where it takes effect, else why it doesn't
+abbrev pub reply_to : Game → ℕ → List Command → Command → List ℕ
+reply_to game count commands command =
     elim (reason_of game count (hands_of game count commands) command) [ None ↦ lines_for game (hands_of game count (command ∷ commands)) | Some reason ↦ refusal reason ]
 
--- the answer to a line after others
-abbrev pub answer : Game → ℕ → List ScriptLine → ScriptLine → List ℕ
-answer game count before Names = []
-answer game count before (Told command) = answer_to game count (commands_of before) command
-answer game count before Bad = bad_script
+-- what a line brings by itself
+abbrev pub reply : Game → ℕ → List ScriptLine → ScriptLine → List ℕ
+reply game count before (Names names) = []
+reply game count before (Told command) = reply_to game count (commands_of before) command
+reply game count before Bad = bad_script
+
+-- the answer to a line after others: its reply, and behind it the log's further lines where the log is printed
+abbrev pub answer : Game → ℕ → Option (List ℕ) → List ScriptLine → ScriptLine → List ℕ
+answer game count log before said = reply game count before said ++ logged game count log before said

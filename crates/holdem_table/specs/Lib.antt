@@ -1,5 +1,9 @@
 pub mod Names
+pub mod Told
+pub mod Logged
+pub mod Further
 pub mod Answer
 pub mod Script
 pub mod Running
 pub mod Outcome
+pub mod Verdict

@@ -1,6 +1,6 @@
-ghost use Rattle.std.specs.Prelude.{◌≡◌, ℕ, List, [], ◌∷◌, ◌++◌, ◌≤◌, ◌<◌, ◌↔◌, IsTrue, IfSome, IfNone, OnOk, codes, take};
+ghost use Rattle.std.specs.Prelude.{◌≡◌, ℕ, List, [], ◌∷◌, ◌++◌, ◌≤◌, ◌<◌, length, IsSome, IsNone, IfSome, IfNone, OnOk, codes, take, Option as Maybe};
 ghost use Rattle.std.specs.List.{flat_map};
-ghost use Rattle.std.specs.Option.{option_to_list};
+ghost use Rattle.std.specs.Option.{option_to_list, ForSome};
 ghost use Rattle.matchstate.specs.Line.{line_text};
 ghost use Rattle.matchstate.specs.View.{seat_view};
 ghost use Rattle.game_def.specs.Game.{Game};
@@ -8,43 +8,61 @@ ghost use Rattle.betting.specs.Fault.{fault_text};
 ghost use Rattle.betting.specs.declared.action.Action.{Action};
 ghost use Rattle.slot_log.specs.declared.command.Command.{Command as Order};
 ghost use Rattle.holdem_table.specs.Names.{IsNamesLine};
-ghost use Rattle.holdem_table.specs.Answer.{Says, Tells, answer, lines_for, line_for, refusal, bad_script};
-ghost use Rattle.holdem_table.specs.Running.{Stands};
+ghost use Rattle.holdem_table.specs.Further.{further_lines, printed, printed_header};
+ghost use Rattle.holdem_table.specs.Answer.{Says, ComesInTurn, Tells, answer, lines_for, line_for, refusal, bad_script};
 ghost use Rattle.holdem_table.specs.declared.script_line.ScriptLine.{ScriptLine as Said};
 
-use crate::names::are_names;
+use crate::game_word::GameWord;
+use crate::log_lines::{put_last_line, put_lettered, put_score};
 use crate::script_line::ScriptLine;
+use crate::seat_names::SeatNames;
 use betting::ActFault;
 use game_def::GameDef;
 use itoa::Buffer;
+use match_log::header;
 use matchstate::{read_action, read_deal, seat_view, write};
 use slot_log::{Command, Effect, Reason, Table};
 use std::alloc::{AllocError, Global};
 use std::io::Write;
 
-/// A match that a script tells: its table, and whether the seats are named.
+/// A match that a script tells: its table, the seats' names once they are told, the word for its game where
+/// the log is printed, and room for the log's next lines.
 #[derive(Drop)]
-pub(crate) struct Dealing {
+pub(crate) struct Dealing<'a> {
     pub(crate) table: Table,
-    pub(crate) named: bool,
+    pub(crate) names: Option<SeatNames>,
+    pub(crate) log: Option<GameWord<'a>>,
+    pub(crate) further: Vec<u8>,
+    ghost seated: { ForSome names (λ told. length told ≡ table.game.players) },
 }
 
-impl Dealing {
-    /// A match of so many hands, 1 to 10000, before the script's first line.
-    pub(crate) fn new(alloc: Global, game: GameDef, hands: u32) -> Dealing
+impl<'a> Dealing<'a> {
+    ghost use Rattle.holdem_table.specs.Running.{Stands};
+
+    /// A match of so many hands, 1 to 10000, before the script's first line. With a word for its game the
+    /// log is printed.
+    pub(crate) fn new(
+        alloc: Global,
+        game: GameDef,
+        log: Option<GameWord<'a>>,
+        hands: u32,
+    ) -> Dealing<'a>
         requires least { 1 ≤ hands }
         requires most { hands ≤ 10000 }
-        ensures { Stands game hands [] result }
+        ensures { Stands game hands log.entry [] result }
     {
         Dealing {
             table: Table::new(alloc, game, hands),
-            named: false,
+            names: None,
+            log,
+            further: Vec::new(alloc),
         }
     }
 
     /// What a line says after the lines so far, by its first 336 bytes: no right line is longer than 335.
     pub(crate) fn read(&self, front: &[u8]) -> ScriptLine
-        ensures { (line : List ℕ) → front.now ≡ take 336 line → Says self.now.table.game self.now.named self.now.table.hands line result }
+        ensures says { (line : List ℕ) → front.now ≡ take 336 line → Says self.now.table.game self.now.names self.now.table.hands line result }
+        ensures in_turn { ComesInTurn self.now.table.game.players self.now.names result }
     {
         self.table.game().limits();
         self.read_line(front)
@@ -52,28 +70,29 @@ impl Dealing {
 
     /// What a line says after the lines so far.
     fn read_line(&self, line: &[u8]) -> ScriptLine
-        ensures { Says self.now.table.game self.now.named self.now.table.hands line.now result }
+        ensures { Says self.now.table.game self.now.names self.now.table.hands line.now result }
     {
-        if self.named {
+        if self.names.is_some() {
             match self.read_command(line) {
                 Some(command) => ScriptLine::Told(command),
                 None => ScriptLine::Bad,
             }
-        } else if self.is_names_line(line) {
-            ScriptLine::Names
         } else {
-            ScriptLine::Bad
+            match self.read_names(line) {
+                Some(names) => ScriptLine::Names(names),
+                None => ScriptLine::Bad,
+            }
         }
     }
 
-    /// Whether a line names the seats.
-    fn is_names_line(&self, line: &[u8]) -> bool
-        ensures { IsTrue result ↔ IsNamesLine self.now.table.game.players line.now }
+    /// The names that a line tells.
+    fn read_names(&self, line: &[u8]) -> Option<SeatNames>
+        ensures found { IfSome result (λ names. IsNamesLine self.now.table.game.players names line.now) }
+        ensures none { IfNone result ((names : List (List ℕ)) → ¬ (IsNamesLine self.now.table.game.players names line.now)) }
     {
-        match line.strip_prefix(b"names ") {
-            Some(text) => are_names(text, self.table.game().players()),
-            None => false,
-        }
+        self.table.game().limits();
+        let text = line.strip_prefix(b"names ")?;
+        SeatNames::read(text, self.table.game().players())
     }
 
     /// What a line tells the dealer.
@@ -117,29 +136,100 @@ impl Dealing {
 
     /// Takes what a line says, and appends the answer to it. An `Err` comes where memory was refused.
     pub(crate) fn take(&mut self, said: ScriptLine, out: &mut Vec<u8>) -> Result<(), AllocError>
-        ensures stands { OnOk result ((game : Game) (count : ℕ) (before : List Said) → Stands game count before self.old → Stands game count (said ∷ before) self.new) }
-        ensures answered { OnOk result ((game : Game) (count : ℕ) (before : List Said) → Stands game count before self.old → out.new.items ≡ out.old.items ++ answer game count before said) }
+        requires { ComesInTurn self.old.table.game.players self.old.names said }
+        ensures stands { OnOk result ((game : Game) (count : ℕ) (log : Maybe (List ℕ)) (before : List Said) → Stands game count log before self.old → Stands game count log (said ∷ before) self.new) }
+        ensures answered { OnOk result ((game : Game) (count : ℕ) (log : Maybe (List ℕ)) (before : List Said) → Stands game count log before self.old → out.new.items ≡ out.old.items ++ answer game count log before said) }
     {
         match said {
-            ScriptLine::Names => {
-                self.named = true;
-                Ok(())
-            }
+            ScriptLine::Names(names) => self.take_names(names, out),
             ScriptLine::Told(command) => self.take_command(&command, out),
             ScriptLine::Bad => put_bad_script(out),
         }
     }
 
+    /// Takes the seats' names, and appends the log's header where the log is printed.
+    fn take_names(&mut self, names: SeatNames, out: &mut Vec<u8>) -> Result<(), AllocError>
+        requires first { IsNone self.old.names }
+        requires seated { length names ≡ self.old.table.game.players }
+        ensures stands { (game : Game) (count : ℕ) (log : Maybe (List ℕ)) (before : List Said) → Stands game count log before self.old → Stands game count log (ScriptLine.Names names ∷ before) self.new }
+        ensures answered { OnOk result ((game : Game) (count : ℕ) (log : Maybe (List ℕ)) (before : List Said) → Stands game count log before self.old → out.new.items ≡ out.old.items ++ answer game count log before (ScriptLine.Names names)) }
+    {
+        self.names = Some(names);
+        self.put_header(out)
+    }
+
+    /// Appends the log's header where the log is printed.
+    fn put_header(&mut self, out: &mut Vec<u8>) -> Result<(), AllocError>
+        ensures table { self.new.table ≡ self.old.table }
+        ensures names { self.new.names ≡ self.old.names }
+        ensures log { self.new.log ≡ self.old.log }
+        ensures some { 1 ≤ self.old.table.count }
+        ensures ok { OnOk result (out.new.items ≡ out.old.items ++ printed_header self.old.log self.old.table.count) }
+    {
+        let hands = self.table.hands();
+        match &self.log {
+            Some(word) => {
+                self.further.clear();
+                header(&mut self.further, b"hand", word.as_bytes(), hands)?;
+                put_lettered(out, &self.further)
+            }
+            None => Ok(()),
+        }
+    }
+
     /// Takes a command, and appends the answer to it.
     fn take_command(&mut self, command: &Command, out: &mut Vec<u8>) -> Result<(), AllocError>
-        ensures named { self.new.named ≡ self.old.named }
-        ensures stands { OnOk result ((game : Game) (count : ℕ) (before : List Said) → Stands game count before self.old → Stands game count (ScriptLine.Told command.now ∷ before) self.new) }
-        ensures answered { OnOk result ((game : Game) (count : ℕ) (before : List Said) → Stands game count before self.old → out.new.items ≡ out.old.items ++ answer game count before (ScriptLine.Told command.now)) }
+        requires { IsSome self.old.names }
+        ensures stands { OnOk result ((game : Game) (count : ℕ) (log : Maybe (List ℕ)) (before : List Said) → Stands game count log before self.old → Stands game count log (ScriptLine.Told command.now ∷ before) self.new) }
+        ensures answered { OnOk result ((game : Game) (count : ℕ) (log : Maybe (List ℕ)) (before : List Said) → Stands game count log before self.old → out.new.items ≡ out.old.items ++ answer game count log before (ScriptLine.Told command.now)) }
     {
         match self.table.apply(command)? {
             Effect::None(reason) => put_refusal(out, reason),
-            _ => self.put_lines(out),
+            _ => self.put_effect(out),
         }
+    }
+
+    /// Appends each seat's line, and the log's further lines where the log is printed.
+    fn put_effect(&mut self, out: &mut Vec<u8>) -> Result<(), AllocError>
+        ensures table { self.new.table ≡ self.old.table }
+        ensures names { self.new.names ≡ self.old.names }
+        ensures log { self.new.log ≡ self.old.log }
+        ensures ok { OnOk result (out.new.items ≡ out.old.items ++ (lines_for self.old.table.game self.old.table.hands ++ printed self.old.log (further_lines self.old.table.game self.old.table.count self.old.names self.old.table.hands))) }
+    {
+        self.put_lines(out)?;
+        self.put_further(out)
+    }
+
+    /// Appends the log's further lines where the log is printed.
+    fn put_further(&mut self, out: &mut Vec<u8>) -> Result<(), AllocError>
+        ensures table { self.new.table ≡ self.old.table }
+        ensures names { self.new.names ≡ self.old.names }
+        ensures log { self.new.log ≡ self.old.log }
+        ensures ok { OnOk result (out.new.items ≡ out.old.items ++ printed self.old.log (further_lines self.old.table.game self.old.table.count self.old.names self.old.table.hands)) }
+    {
+        if self.log.is_none() {
+            return Ok(());
+        }
+        self.write_further()?;
+        put_lettered(out, &self.further)
+    }
+
+    /// Writes the log's further lines after a command that took effect: none while a hand runs.
+    fn write_further(&mut self) -> Result<(), AllocError>
+        ensures table { self.new.table ≡ self.old.table }
+        ensures names { self.new.names ≡ self.old.names }
+        ensures log { self.new.log ≡ self.old.log }
+        ensures ok { OnOk result (self.new.further.items ≡ further_lines self.old.table.game self.old.table.count self.old.names self.old.table.hands) }
+    {
+        self.further.clear();
+        let Some(names) = &self.names else {
+            return Ok(());
+        };
+        if self.table.running() {
+            return Ok(());
+        }
+        put_last_line(&mut self.further, &self.table, names)?;
+        put_score(&mut self.further, &self.table, names)
     }
 
     /// Appends each seat's line.

@@ -1,44 +1,40 @@
 ghost use Rattle.std.specs.Prelude.{◌≤◌, OnOk, OnErr};
 ghost use Rattle.holdem_table.specs.Outcome.{Ends, Answers, Stops};
 
+use crate::game_word::GameWord;
 use crate::outcome::HandOutcome;
 use crate::running::Running;
 use crate::stop::Stop;
-use crate::stream::read_piece;
+use crate::stream::{MOST_READS, PIECE, read_piece};
 use game_def::GameDef;
 use std::alloc::Global;
 use std::io::{Read, Write};
 
-/// The most calls of the reader's `read`, the one that meets the end counted.
-const MOST_READS: u32 = 16_777_216;
-
-/// The most bytes that one call of `read` gives.
-const PIECE: usize = 4096;
-
 /// Runs one dealer over a script, which the reader gives in any pieces: a match of 1 to 10000 hands of the
-/// game that the game file defines. `word` is the word by which the user names the game file.
+/// game that the game file defines. Where `log` has a word for the game, the log is printed too.
 ///
 /// For each line of the script that ends with LF the answer is written and flushed before the next line is
 /// awaited: for a command that takes effect each seat's line (ACPC dealer protocol 2.0.0) behind the seat's
-/// number, for any other line `E CODE Name`. `Done` comes once all of the reader has been read; then just
-/// that was written. `Refused` comes where the game file is refused; then nothing was read or written.
-/// `OutOfMemory` (92) and `StreamFailed` (107: the reader or the writer failed, or the script wasn't at its
-/// end after 16,777,216 reads) may come at any moment; then a beginning of that was written.
+/// number, for any other line but the one that names the seats `E CODE Name`. The log's lines come behind
+/// `L `: its header once the seats are named, the line of a finished hand behind the seats' lines of the
+/// action that ends it, and the score behind the last of these. `Done` comes once all of the reader has been
+/// read; then just that was written. `Refused` comes where the game file is refused; then nothing was read
+/// or written. `OutOfMemory` (92) and `StreamFailed` (107: the reader or the writer failed, or the script
+/// wasn't at its end after 16,777,216 reads) may come at any moment; then a beginning of that was written.
 pub fn hand_run<R: Read, W: Write>(
     alloc: Global,
     game: &[u8],
-    word: &str,
+    log: Option<GameWord<'_>>,
     hands: u32,
     reader: &mut R,
     writer: &mut W,
 ) -> HandOutcome
     requires least { 1 ≤ hands }
     requires most { hands ≤ 10000 }
-    ensures { Ends game.now hands (R.remaining reader.old) (R.remaining reader.new) (W.contents writer.old) (W.contents writer.new) result }
+    ensures { Ends game.now hands log.entry (R.remaining reader.old) (R.remaining reader.new) (W.contents writer.old) (W.contents writer.new) result }
 {
-    let _ = word;
     match game_def::read(game) {
-        Ok(game) => match run_script(alloc, game, hands, reader, writer) {
+        Ok(game) => match run_script(alloc, game, log, hands, reader, writer) {
             Ok(()) => HandOutcome::Done,
             Err(Stop::OutOfMemory) => HandOutcome::OutOfMemory,
             Err(Stop::StreamFailed) => HandOutcome::StreamFailed,
@@ -51,16 +47,17 @@ pub fn hand_run<R: Read, W: Write>(
 fn run_script<R: Read, W: Write>(
     alloc: Global,
     game: GameDef,
+    log: Option<GameWord<'_>>,
     hands: u32,
     reader: &mut R,
     writer: &mut W,
 ) -> Result<(), Stop>
     requires least { 1 ≤ hands }
     requires most { hands ≤ 10000 }
-    ensures ok { OnOk result (Answers game hands (R.remaining reader.old) (R.remaining reader.new) (W.contents writer.old) (W.contents writer.new)) }
-    ensures err { OnErr result (Stops game hands (R.remaining reader.old) (R.remaining reader.new) (W.contents writer.old) (W.contents writer.new)) }
+    ensures ok { OnOk result (Answers game hands log.entry (R.remaining reader.old) (R.remaining reader.new) (W.contents writer.old) (W.contents writer.new)) }
+    ensures err { OnErr result (Stops game hands log.entry (R.remaining reader.old) (R.remaining reader.new) (W.contents writer.old) (W.contents writer.new)) }
 {
-    let mut running = Running::new(alloc, game, hands);
+    let mut running = Running::new(alloc, game, log, hands);
     let mut piece = [0u8; PIECE];
     for _ in 0..MOST_READS {
         match read_piece(reader, &mut piece)? {

@@ -1,19 +1,27 @@
-//! The program `holdem_table`: `hand` runs one dealer over a script.
+//! The program `holdem_table`: `hand` runs one dealer over a script, `check` checks the log of a match.
 #![tactic(auto)]
 
 mod arguments;
+mod check_outcome;
+mod check_run;
 mod dealing;
+mod game_word;
 mod hand_run;
+mod late_file;
 mod line;
-mod names;
+mod log_lines;
 mod outcome;
 mod running;
 mod script_line;
+mod seat_names;
 mod stop;
 mod stream;
 
-use crate::arguments::{HandArguments, command, hand_arguments};
+use crate::arguments::{CheckArguments, HandArguments, Task, command, requested};
+use crate::check_outcome::CheckOutcome;
+use crate::check_run::check_run;
 use crate::hand_run::hand_run;
+use crate::late_file::LateFile;
 use crate::outcome::HandOutcome;
 use clap::error::ErrorKind;
 use clap::{ArgMatches, Error};
@@ -45,8 +53,10 @@ fn refuse_words(rt: &HostRuntime, error: &io::Error) -> u8 {
 /// Runs what the words ask for; the exit status.
 fn run(rt: &HostRuntime, words: &[String]) -> u8 {
     match matches(rt, words) {
-        Ok(matches) => match hand_arguments(&matches) {
-            Some(arguments) => end(rt, hand(rt, arguments)),
+        Ok(matches) => match requested(&matches) {
+            Some(Task::Hand(arguments)) => end(rt, hand(rt, arguments)),
+            Some(Task::Check(arguments)) => end_check(rt, check(rt, arguments)),
+            Some(Task::WrongGameWord) => refuse_game_word(rt),
             None => 2,
         },
         Err(error) => show(rt, &error),
@@ -68,13 +78,21 @@ fn show(rt: &HostRuntime, error: &Error) -> u8 {
     }
 }
 
+/// The exit status where the log of a game is asked for whose word can't stand in a log.
+fn refuse_game_word(rt: &HostRuntime) -> u8 {
+    let _ = eprintln!(rt;
+        "error: with --log GAME must be 1 to 200 printable ASCII characters without space"
+    );
+    2
+}
+
 /// Runs `hand` over standard input and output.
 fn hand(rt: &HostRuntime, arguments: HandArguments<'_>) -> HandOutcome {
     match fs::read(rt, arguments.game) {
         Ok(game) => hand_run(
             rt.alloc(),
             &game,
-            arguments.game,
+            arguments.log,
             arguments.hands,
             &mut rt.reader(),
             &mut io::writer(rt),
@@ -82,6 +100,28 @@ fn hand(rt: &HostRuntime, arguments: HandArguments<'_>) -> HandOutcome {
         Err(error) if error.kind() == io::ErrorKind::OutOfMemory => HandOutcome::OutOfMemory,
         Err(_) => HandOutcome::Unreadable,
     }
+}
+
+/// Runs `check` over a log file and standard output. The log is opened once the game is read.
+fn check(rt: &HostRuntime, arguments: CheckArguments<'_>) -> CheckOutcome {
+    match fs::read(rt, arguments.game) {
+        Ok(game) => check_run(
+            rt.alloc(),
+            &game,
+            &mut LateFile::new(rt, arguments.log),
+            &mut io::writer(rt),
+        ),
+        Err(error) if error.kind() == io::ErrorKind::OutOfMemory => CheckOutcome::OutOfMemory,
+        Err(_) => CheckOutcome::Unreadable,
+    }
+}
+
+/// Prints what standard error gets of a run of `check`; the exit status.
+fn end_check(rt: &HostRuntime, outcome: CheckOutcome) -> u8 {
+    if outcome.status() == 2 {
+        let _ = eprintln!(rt; "{outcome}");
+    }
+    outcome.status()
 }
 
 /// Prints what standard error gets; the exit status.
@@ -92,5 +132,7 @@ fn end(rt: &HostRuntime, outcome: HandOutcome) -> u8 {
     outcome.status()
 }
 
+#[cfg(test)]
+mod check_tests;
 #[cfg(test)]
 mod tests;

@@ -1,10 +1,11 @@
+use crate::seat_names::SeatNames;
 use slot_log::Command;
 
 /// What a script line says.
-#[derive(Clone, Copy, Debug)]
+#[derive(Debug, Drop)]
 pub(crate) enum ScriptLine {
     /// The seats' names, once, before all else.
-    Names,
+    Names(SeatNames),
     /// A command to the dealer.
     Told(Command),
     /// Anything else: 110 `BadScript`.

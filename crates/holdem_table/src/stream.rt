@@ -4,8 +4,14 @@ ghost use Rattle.std.specs.Io.KnownBytes.{Appends, Consumes, IsAtEnd, Keeps};
 use crate::stop::Stop;
 use std::io::{ErrorKind, Read, Write};
 
-/// One read of a piece of the script: how many bytes came, 0 at its end, and none where the read was
-/// interrupted. Where it failed, nothing was read.
+/// The most calls of a reader's `read`, the one that meets the end counted.
+pub(crate) const MOST_READS: u32 = 16_777_216;
+
+/// The most bytes that one call of `read` gives.
+pub(crate) const PIECE: usize = 4096;
+
+/// One read of a piece: how many bytes came, 0 at the end, and none where the read was interrupted. Where it
+/// failed, nothing was read.
 pub(crate) fn read_piece<R: Read>(reader: &mut R, piece: &mut [u8]) -> Result<Option<usize>, Stop>
     requires { 0 < length piece.old }
     ensures within { IfOk result (λ got. IfSome got (λ count. count ≤ length piece.new)) }
@@ -16,8 +22,11 @@ pub(crate) fn read_piece<R: Read>(reader: &mut R, piece: &mut [u8]) -> Result<Op
 {
     match reader.read(piece) {
         Ok(count) => Ok(Some(count)),
-        Err(error) if error.kind() == ErrorKind::Interrupted => Ok(None),
-        Err(_) => Err(Stop::StreamFailed),
+        Err(error) => match error.kind() {
+            ErrorKind::Interrupted => Ok(None),
+            ErrorKind::OutOfMemory => Err(Stop::OutOfMemory),
+            _ => Err(Stop::StreamFailed),
+        },
     }
 }
 

@@ -1,10 +1,11 @@
+use crate::game_word::GameWord;
 use crate::hand_run::hand_run;
 use crate::outcome::HandOutcome;
 use std::cell::Cell;
 use std::io::{Error, ErrorKind, Read, Result as IoResult, Write};
 use std::test::Fail;
 
-const L2: &[u8] = b"GAMEDEF
+pub(crate) const L2: &[u8] = b"GAMEDEF
 limit
 numPlayers = 2
 numRounds = 4
@@ -35,11 +36,32 @@ E 110 BadScript
 1 MATCHSTATE:1:0:rf:|8hTc
 ";
 
+const TWO_HANDS: &[u8] = b"names alice|bob
+deal TdAs|8hTc/2c8c3h/9c/Kh
+f
+deal 2d2h|3d3s/4c5c6c/7c/8d
+f
+";
+
+const ANSWERS_AND_LOG: &[u8] = b"L # name/game/hands hand l2.game 2
+0 MATCHSTATE:0:0::TdAs|
+1 MATCHSTATE:1:0::|8hTc
+0 MATCHSTATE:0:0:f:TdAs|
+1 MATCHSTATE:1:0:f:|8hTc
+L STATE:0:f:TdAs|8hTc:5|-5:alice|bob
+0 MATCHSTATE:1:1::|3d3s
+1 MATCHSTATE:0:1::2d2h|
+0 MATCHSTATE:1:1:f:|3d3s
+1 MATCHSTATE:0:1:f:2d2h|
+L STATE:1:f:2d2h|3d3s:5|-5:bob|alice
+L SCORE:0|0:alice|bob
+";
+
 /// Gives its bytes one at a time, and fails where so many are left.
 #[derive(Drop)]
-struct Slowly<'a> {
-    rest: &'a [u8],
-    fails_at: usize,
+pub(crate) struct Slowly<'a> {
+    pub(crate) rest: &'a [u8],
+    pub(crate) fails_at: usize,
 }
 
 impl Read for Slowly<'_> {
@@ -54,9 +76,9 @@ impl Read for Slowly<'_> {
 
 /// Takes up to three bytes at a time, and fails where so many were taken.
 #[derive(Drop)]
-struct Narrow {
-    taken: Vec<u8>,
-    most: usize,
+pub(crate) struct Narrow {
+    pub(crate) taken: Vec<u8>,
+    pub(crate) most: usize,
 }
 
 impl Write for Narrow {
@@ -119,9 +141,26 @@ impl Write for Listener<'_> {
 #[test]
 fn answers_a_script(rt: HostRuntime) -> Result<(), Fail> {
     let mut written = Vec::new(rt.alloc());
-    let outcome = hand_run(rt.alloc(), L2, "l2.game", 1, &mut &*SCRIPT, &mut written);
+    let outcome = hand_run(rt.alloc(), L2, None, 1, &mut &*SCRIPT, &mut written);
     assert_eq!(rt; outcome.status(), 0);
     assert_eq!(rt; written.as_slice(), ANSWERS);
+    Ok(())
+}
+
+#[test]
+fn prints_the_log_beside_the_answers(rt: HostRuntime) -> Result<(), Fail> {
+    let mut written = Vec::new(rt.alloc());
+    let word = GameWord::new("l2.game").ok_or("a word with a game word's form")?;
+    let outcome = hand_run(
+        rt.alloc(),
+        L2,
+        Some(word),
+        2,
+        &mut &*TWO_HANDS,
+        &mut written,
+    );
+    assert_eq!(rt; outcome.status(), 0);
+    assert_eq!(rt; written.as_slice(), ANSWERS_AND_LOG);
     Ok(())
 }
 
@@ -132,7 +171,7 @@ fn answers_a_script_in_any_pieces(rt: HostRuntime) -> Result<(), Fail> {
         fails_at: 0,
     };
     let mut written = Vec::new(rt.alloc());
-    let outcome = hand_run(rt.alloc(), L2, "l2.game", 1, &mut reader, &mut written);
+    let outcome = hand_run(rt.alloc(), L2, None, 1, &mut reader, &mut written);
     assert!(rt; matches!(outcome, HandOutcome::StreamFailed));
     assert_eq!(rt; written.as_slice(), ANSWERS);
     Ok(())
@@ -145,7 +184,7 @@ fn keeps_what_was_answered_before_the_reader_fails(rt: HostRuntime) -> Result<()
         fails_at: 6,
     };
     let mut written = Vec::new(rt.alloc());
-    let outcome = hand_run(rt.alloc(), L2, "l2.game", 1, &mut reader, &mut written);
+    let outcome = hand_run(rt.alloc(), L2, None, 1, &mut reader, &mut written);
     assert_eq!(rt; outcome.status(), 2);
     assert_eq!(rt;
         format!(in rt.alloc(); "{outcome}")?.as_str(),
@@ -161,7 +200,7 @@ fn stops_where_the_writer_fails(rt: HostRuntime) -> Result<(), Fail> {
         taken: Vec::new(rt.alloc()),
         most: 60,
     };
-    let outcome = hand_run(rt.alloc(), L2, "l2.game", 1, &mut &*SCRIPT, &mut writer);
+    let outcome = hand_run(rt.alloc(), L2, None, 1, &mut &*SCRIPT, &mut writer);
     assert!(rt; matches!(outcome, HandOutcome::StreamFailed));
     assert_eq!(rt; writer.taken.as_slice(), &ANSWERS[..60]);
     Ok(())
@@ -178,7 +217,7 @@ fn answers_each_line_before_the_next_is_awaited(rt: HostRuntime) -> Result<(), F
         heard: Vec::new(rt.alloc()),
         flushed: &flushed,
     };
-    let outcome = hand_run(rt.alloc(), L2, "l2.game", 1, &mut reader, &mut writer);
+    let outcome = hand_run(rt.alloc(), L2, None, 1, &mut reader, &mut writer);
     assert_eq!(rt; outcome.status(), 0);
     assert_eq!(rt; writer.heard.as_slice(), ANSWERS);
     Ok(())
@@ -187,14 +226,7 @@ fn answers_each_line_before_the_next_is_awaited(rt: HostRuntime) -> Result<(), F
 #[test]
 fn refuses_a_game(rt: HostRuntime) -> Result<(), Fail> {
     let mut written = Vec::new(rt.alloc());
-    let outcome = hand_run(
-        rt.alloc(),
-        b"",
-        "empty.game",
-        1,
-        &mut &*SCRIPT,
-        &mut written,
-    );
+    let outcome = hand_run(rt.alloc(), b"", None, 1, &mut &*SCRIPT, &mut written);
     assert_eq!(rt; outcome.status(), 2);
     assert_eq!(rt;
         format!(in rt.alloc(); "{outcome}")?.as_str(),
@@ -206,8 +238,8 @@ fn refuses_a_game(rt: HostRuntime) -> Result<(), Fail> {
 
 /// Gives so many bytes without a line feed, one with each read.
 #[derive(Drop)]
-struct Trickle {
-    left: u32,
+pub(crate) struct Trickle {
+    pub(crate) left: u32,
 }
 
 impl Read for Trickle {
@@ -226,7 +258,7 @@ fn reads_a_script_so_often_and_no_more(rt: HostRuntime) {
     for (left, status) in [(16_777_215, 0), (16_777_216, 2)] {
         let mut reader = Trickle { left };
         let mut written = Vec::new(rt.alloc());
-        let outcome = hand_run(rt.alloc(), L2, "l2.game", 1, &mut reader, &mut written);
+        let outcome = hand_run(rt.alloc(), L2, None, 1, &mut reader, &mut written);
         assert_eq!(rt; outcome.status(), status);
         assert!(rt; written.is_empty());
     }

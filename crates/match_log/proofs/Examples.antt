@@ -138,7 +138,7 @@ no_space_in_a_name name = let space : is_name_byte 32 ≡ true = name.bytes.1.0 
 bob_is_a_name : IsName (codes "bob")
 bob_is_a_name = record { least = omega arith; most = omega arith; bytes = (refl, (refl, (refl, tt))) }
 
-two_names : AreNames 2 alice_and_bob
+pub two_names : AreNames 2 alice_and_bob
 unfolding IsDistinct
 two_names = record { one_each = refl; each_name = (alice_is_a_name, (bob_is_a_name, tt)); distinct = ((refl, tt), (tt, tt)) }
 

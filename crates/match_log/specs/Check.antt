@@ -1,16 +1,20 @@
 -- What is said of a text: that it is the log of a match that is over, or which line is the first at fault, and why.
-use Rattle.std.specs.Prelude.{◌≡◌, ◌≢◌, ℕ, ◌+◌, ◌<◌, ◌≤◌, ◌⊎◌, true, ℤ, List, [], ◌∷◌, ◌++◌, length, codes, Result, Ok, Err}
+use Rattle.std.specs.Prelude.{◌≡◌, ◌≢◌, ℕ, ◌+◌, ◌<◌, ◌≤◌, ◌⊎◌, true, List, [], ◌∷◌, ◌++◌, map, length, codes, decimal, Result, Ok, Err}
+use Rattle.std.specs.Fmt.{signed_decimal}
 use Rattle.std.specs.List.{AllByRecursion}
+use Rattle.std.specs.Str.Parse.{digits_value}
 use Rattle.game_def.specs.Game.{Game}
 use Rattle.card_core.specs.Deal.{IsDeal, player_count}
 use Rattle.betting.specs.Legal.{Legal}
+use Rattle.betting.specs.Text.{text}
 use Rattle.slot_log.specs.Hand.{Hand}
 use Rattle.slot_log.specs.Dealer.{is_finished, is_match_over, hands_of}
 use Rattle.slot_log.specs.declared.command.Command.{Command}
 use Rattle.slot_log.specs.declared.command.Command.TheVariants.{Deal, Act}
 use Rattle.match_log.specs.Names.{IsName, IsGameWord, AreNames, names_by_position}
 use Rattle.match_log.specs.Payoffs.{payoffs_of}
-use Rattle.match_log.specs.Lines.{header_line, state_text, score_line}
+use Rattle.match_log.specs.Lines.{header_line, shown_cards, with_bars, names_field, score_line}
+use Rattle.match_log.specs.Numeral.{IsDecimal, IsWhole}
 use Rattle.match_log.specs.Log.{Title, state_lines, log_lines}
 use Rattle.match_log.specs.declared.fault_kind.LogFaultKind.{LogFaultKind}
 use Rattle.match_log.specs.declared.fault_kind.LogFaultKind.TheVariants.{BadHeader, BadState, WrongNumber, WrongValues, WrongScore}
@@ -23,7 +27,7 @@ pub record IsTitle (title : Title) : Type 0 where
   pub least : 1 ≤ title.hands
   pub most : title.hands ≤ 10000
 
--- no command deals a card twice
+-- what a command deals is a deal: cards of the pack, none of them twice
 abbrev pub DealsFairly : Command → Type 0
 DealsFairly (Deal hand deal) = IsDeal (player_count deal) deal
 DealsFairly (Act hand index action) = Unit {0}
@@ -52,7 +56,8 @@ pub record HasTitle (bytes : List ℕ) (title : Title) (rest : List ℕ) : Type 
   pub is_title : IsTitle title
   pub whole : bytes ≡ header_line title.name title.game title.hands ++ rest
 
--- then come the right lines of these hands (newest first), no more than the match has, and the rest behind them
+-- then come the right lines of these hands (newest first), no more than the match has, and the rest behind them;
+-- where there is no hand yet, the names are any
 pub record HasHands (game : Game) (bytes : List ℕ) (title : Title) (names : List (List ℕ)) (hands : List Hand) (rest : List ℕ) : Type 0 where
   pub behind_header : List ℕ
   pub header : HasTitle bytes title behind_header
@@ -70,40 +75,50 @@ pub record BeginsLine (letters rest : List ℕ) : Type 0 where
   pub one_line : AllByRecursion (λ byte. byte ≢ 10) line
   pub whole : rest ≡ letters ++ (line ++ 10 ∷ behind)
 
--- the names of a line are the seats' by position in a hand of its own number; those of the first line are
--- the seats' names
+-- the names of a line are the seats' by position in a hand of its own number; the first line may have any
+-- names, and so gives the seats theirs
 abbrev pub FitNames : ℕ → List (List ℕ) → List Hand → ℕ → List (List ℕ) → Type 0
 FitNames players names [] number by_position =
     (seats : List (List ℕ)) × AreNames players seats × (by_position ≡ names_by_position players number seats)
 FitNames players names (hand ∷ earlier) number by_position = by_position ≡ names_by_position players number names
 
--- the rest begins with the line of a played hand, whatever its number and its values
-pub record HasState (game : Game) (names : List (List ℕ)) (hands : List Hand) (rest : List ℕ) (number : ℕ) (hand : Hand) (values : List ℤ) : Type 0 where
+-- STATE:hand:betting:cards:values:names, with a number and values of any size as they are said
+unfoldable pub said_text : Game → List ℕ → Hand → List (List ℕ) → List (List ℕ) → List ℕ
+said_text game number hand values names =
+    codes "STATE:" ++ (number ++ 58 ∷ (text game hand.past ++ 58 ∷ (shown_cards game hand.past hand.deal ++ 58 ∷ (with_bars values ++ 58 ∷ (names_field names ++ 10 ∷ [])))))
+
+-- the rest begins with the line of a played hand, whatever decimal says its number and whatever whole numbers
+-- its values
+pub record HasState (game : Game) (names : List (List ℕ)) (hands : List Hand) (rest number : List ℕ) (hand : Hand) (values : List (List ℕ)) : Type 0 where
   pub played : IsPlayed game hand
+  pub numbered : IsDecimal number
   pub value_each : length values ≡ game.players
+  pub whole_values : AllByRecursion IsWhole values
   pub by_position : List (List ℕ)
-  pub names_fit : FitNames game.players names hands number by_position
+  pub names_fit : FitNames game.players names hands (digits_value 10 number) by_position
   pub behind : List ℕ
-  pub whole : rest ≡ state_text game number hand values by_position ++ behind
+  pub whole : rest ≡ said_text game number hand values by_position ++ behind
 
 -- no line of a played hand begins the rest
 abbrev pub HasNoState : Game → List (List ℕ) → List Hand → List ℕ → Type 0
-HasNoState game names hands rest = (number : ℕ) (hand : Hand) (values : List ℤ) → ¬ (HasState game names hands rest number hand values)
+HasNoState game names hands rest = (number : List ℕ) (hand : Hand) (values : List (List ℕ)) → ¬ (HasState game names hands rest number hand values)
 
--- what is wrong behind these hands where a hand's line is due: no line of a hand and no score; the score, or
--- another number; other values than the hand pays; no line at all
+-- what is wrong behind these hands where a hand's line is due: anything else but a hand's line and a whole line that
+-- begins with SCORE:; a whole line that begins with SCORE:, or a hand's line of another number; other values than
+-- the hand pays; no line at all
 abbrev pub IsStateFault : Game → List (List ℕ) → List Hand → List ℕ → LogFaultKind → Type 0
 IsStateFault game names hands rest BadHeader = ⊥
 IsStateFault game names hands rest BadState = (rest ≢ []) × ¬ (BeginsLine (codes "SCORE:") rest) × HasNoState game names hands rest
 IsStateFault game names hands rest WrongNumber =
     BeginsLine (codes "SCORE:") rest
-    ⊎ ((number : ℕ) × (hand : Hand) × (values : List ℤ) × HasState game names hands rest number hand values × (number ≢ length hands))
+    ⊎ ((number : List ℕ) × (hand : Hand) × (values : List (List ℕ)) × HasState game names hands rest number hand values × (number ≢ decimal (length hands)))
 IsStateFault game names hands rest WrongValues =
-    (hand : Hand) × (values : List ℤ) × HasState game names hands rest (length hands) hand values × (values ≢ payoffs_of game hand)
+    (hand : Hand) × (values : List (List ℕ)) × HasState game names hands rest (decimal (length hands)) hand values
+    × (values ≢ map signed_decimal (payoffs_of game hand))
 IsStateFault game names hands rest WrongScore = rest ≡ []
 
--- what is wrong behind all hands of the match, where the score is due: a hand's line; anything else but the
--- score's line
+-- what is wrong behind all hands of the match, where the score is due: a whole line that begins with STATE:; anything
+-- else but the score's line, also that line without its end
 abbrev pub IsScoreFault : Game → List (List ℕ) → List Hand → List ℕ → LogFaultKind → Type 0
 IsScoreFault game names hands rest BadHeader = ⊥
 IsScoreFault game names hands rest BadState = ⊥

@@ -5,6 +5,9 @@ pub mod Payoffs
 pub mod Lines
 pub mod Log
 pub mod Fault
+pub mod Numeral
+pub mod Reading
 pub mod Check
 pub mod Tally
 pub mod ScoreInside
+pub mod Verdict

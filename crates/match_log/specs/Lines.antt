@@ -24,9 +24,13 @@ bar_before (suc place) = 124 ∷ []
 abbrev pub values_field : List ℤ → List ℕ
 values_field values = join_by signed_decimal (124 ∷ []) values
 
+-- texts with | between them
+abbrev pub with_bars : List (List ℕ) → List ℕ
+with_bars texts = join_by (λ text. text) (124 ∷ []) texts
+
 -- names with | between them
 abbrev pub names_field : List (List ℕ) → List ℕ
-names_field names = join_by (λ name. name) (124 ∷ []) names
+names_field names = with_bars names
 
 -- all hole cards, and the board of the rounds reached
 abbrev pub shown_cards : Game → List Action → List ℕ → List ℕ

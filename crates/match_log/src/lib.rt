@@ -1,19 +1,31 @@
-//! The log of a match: a header, a line for each finished hand with what it paid, and the score.
+//! The log of a match: a header, a line for each finished hand with what it paid, and the score. `check` tells
+//! whether a text is a whole one.
 #![tactic(auto)]
 
+mod checked;
+mod checking;
+mod cut;
 mod dealt;
 mod fault;
 mod fault_kind;
 mod fields;
 mod headers;
+pub mod laws;
 mod name;
 mod names;
+mod numeral;
+mod printed;
 mod put;
+mod read_header;
+mod read_names;
+mod read_state;
 mod score;
 mod score_lines;
+mod seats;
 mod settlement;
 mod state_lines;
 
+pub use checking::check;
 pub use fault::LogFault;
 pub use fault_kind::LogFaultKind;
 pub use headers::{MOST_HEADER, header, header_reserved};

@@ -59,9 +59,9 @@ impl Name {
     }
 }
 
-// Whether the bytes are a name.
+/// Whether the bytes are a name.
 #[tactic(auto, using(crate::proofs::Named::name_from_tests, crate::proofs::Named::tests_from_name))]
-fn is_name(bytes: &[u8]) -> bool
+pub(crate) fn is_name(bytes: &[u8]) -> bool
     ensures { IsTrue result ↔ IsName bytes.now }
 {
     !bytes.is_empty() && bytes.len() <= MOST_BYTES && are_name_bytes(bytes)

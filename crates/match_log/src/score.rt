@@ -73,8 +73,8 @@ impl Score {
     }
 }
 
-// At which position a seat's player sits in a hand.
-fn position(players: usize, hand: u32, seat: usize) -> usize
+/// At which position a seat's player sits in a hand.
+pub(crate) fn position(players: usize, hand: u32, seat: usize) -> usize
     requires some { 1 ≤ players }
     requires few { players ≤ 10 }
     requires seat { seat < players }

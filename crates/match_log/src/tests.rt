@@ -1,6 +1,6 @@
 ghost use Rattle.std.specs.Prelude.{◌≤◌};
 
-use crate::{LogFault, LogFaultKind, Name, are_names, score_line, state_line};
+use crate::{LogFault, LogFaultKind, Name, are_names, check, score_line, state_line};
 use card_core::Deal;
 use game_def::GameDef;
 use matchstate::{read_betting, read_deal};
@@ -14,6 +14,9 @@ const TWO_LIMIT: &[u8] =
 
 const TWO_NO_LIMIT: &[u8] =
     b"GAMEDEF\nnolimit\nnumPlayers = 2\nnumRounds = 4\nstack = 20000 20000\nblind = 100 50\nfirstPlayer = 2 1 1 1\nnumSuits = 4\nnumRanks = 13\nnumHoleCards = 2\nnumBoardCards = 0 3 1 1\nEND GAMEDEF\n";
+
+const THREE_LIMIT: &[u8] =
+    b"GAMEDEF\nlimit\nnumPlayers = 3\nnumRounds = 4\nblind = 5 10 0\nraiseSize = 10 10 20 20\nfirstPlayer = 3 1 1 1\nmaxRaises = 3 4 4 4\nnumSuits = 4\nnumRanks = 13\nnumHoleCards = 2\nnumBoardCards = 0 3 1 1\nEND GAMEDEF\n";
 
 const THREE_NO_LIMIT: &[u8] =
     b"GAMEDEF\nnolimit\nnumPlayers = 3\nnumRounds = 4\nstack = 1000 150 5000\nblind = 50 100 0\nfirstPlayer = 3 1 1 1\nnumSuits = 4\nnumRanks = 13\nnumHoleCards = 2\nnumBoardCards = 0 3 1 1\nEND GAMEDEF\n";
@@ -168,4 +171,109 @@ fn faults_say_their_line(rt: HostRuntime) -> Result<(), Fail> {
     let said = format!(in rt.alloc(); "{fault}")?;
     assert_eq!(rt; said.as_str(), "48 WrongValues 2");
     Ok(())
+}
+
+/// Whether a log is told to be one of this game's.
+fn is_log(rt: &impl Abort, game_file: &[u8], log: &[u8]) -> bool {
+    check(log, &game(rt, game_file)).is_ok()
+}
+
+/// Whether a log is told to be wrong at this line, by this fault.
+fn is_wrong(rt: &impl Abort, log: &[u8], line: usize, kind: LogFaultKind) -> bool {
+    match check(log, &game(rt, TWO_LIMIT)) {
+        Ok(()) => false,
+        Err(fault) => fault == LogFault { kind, line },
+    }
+}
+
+#[test]
+fn whole_logs_are_right(rt: HostRuntime) {
+    assert!(rt;
+        is_log(
+            &rt,
+            TWO_LIMIT,
+            b"# name/game/hands m l2.game 1\nSTATE:0:f:TdAs|8hTc:5|-5:alice|bob\nSCORE:5|-5:alice|bob\n",
+        )
+    );
+    assert!(rt;
+        is_log(
+            &rt,
+            TWO_LIMIT,
+            b"# name/game/hands m l2.game 2\nSTATE:0:f:TdAs|8hTc:5|-5:alice|bob\nSTATE:1:f:2d2h|3d3s:5|-5:bob|alice\nSCORE:0|0:alice|bob\n",
+        )
+    );
+    assert!(rt;
+        is_log(
+            &rt,
+            THREE_LIMIT,
+            b"# name/game/hands m l3.game 1\nSTATE:0:cfc/cc/cc/cc:2c3d|4c5d|6c7d/TsJsQs/Ks/As:-5|3|2:alice|bob|carol\nSCORE:-5|3|2:alice|bob|carol\n",
+        )
+    );
+    assert!(rt;
+        is_log(
+            &rt,
+            THREE_NO_LIMIT,
+            b"# name/game/hands m n3.game 1\nSTATE:0:ccr150r200c/r1000c//:2c7d|AsAh|KsKh/3d8h9c/Jd/4s:-1000|300|700:alice|bob|carol\nSCORE:-1000|300|700:alice|bob|carol\n",
+        )
+    );
+    assert!(rt;
+        is_log(
+            &rt,
+            TWO_NO_LIMIT,
+            b"# name/game/hands m n2.game 1\nSTATE:0:r20000c///:TdAs|8hTc/2c8c3h/9c/Kh:-20000|20000:alice|bob\nSCORE:-20000|20000:alice|bob\n",
+        )
+    );
+}
+
+#[test]
+fn the_first_line_at_fault_is_told(rt: HostRuntime) {
+    assert!(rt;
+        is_wrong(
+            &rt,
+            b"# name/game/hands m l2.game 1\nSTATE:0:f:TdAs|8hTc:5|-4:alice|bob\nSCORE:5|-5:alice|bob\n",
+            2,
+            LogFaultKind::WrongValues,
+        )
+    );
+    assert!(rt;
+        is_wrong(
+            &rt,
+            b"# name/game/hands m l2.game 1\nSTATE:0:f:TdAs|8hTc:5|-5:alice|bob\nSCORE:5|-4:alice|bob\n",
+            3,
+            LogFaultKind::WrongScore,
+        )
+    );
+    assert!(rt;
+        is_wrong(
+            &rt,
+            b"# name/game/hands m l2.game 1\nSTATE:0:f:TdAs|8hTd:5|-5:alice|bob\nSCORE:5|-5:alice|bob\n",
+            2,
+            LogFaultKind::BadState,
+        )
+    );
+    assert!(rt;
+        is_wrong(
+            &rt,
+            b"# name/game/hands m l2.game 1\nSTATE:0:f:TdAs|8hTc/2c8c3h:5|-5:alice|bob\nSCORE:5|-5:alice|bob\n",
+            2,
+            LogFaultKind::BadState,
+        )
+    );
+    assert!(rt;
+        is_wrong(
+            &rt,
+            b"# name/game/hands m l2.game 1\nSTATE:1:f:TdAs|8hTc:5|-5:alice|bob\nSCORE:5|-5:alice|bob\n",
+            2,
+            LogFaultKind::WrongNumber,
+        )
+    );
+    assert!(rt;
+        is_wrong(
+            &rt,
+            b"# name/game/hands m l2.game 1\nSTATE:0:f:TdAs|8hTc:5|-5:alice|bob\n",
+            3,
+            LogFaultKind::WrongScore,
+        )
+    );
+    assert!(rt; is_wrong(&rt, b"", 1, LogFaultKind::WrongScore));
 }

@@ -1,10 +1,10 @@
 -- Lines of beginnings of one list of commands agree.
-use Rattle.std.proofs.Common.{◌≡◌, ◌≢◌, ℕ, zero, suc, ◌+◌, ◌-◌, ◌<◌, ◌≤◌, Bool, true, false, cond, eqb, List, [], ◌∷◌, ◌++◌, map, reverse, length, take, drop, get_or, Option, Some, None, refl, sym, ap, ◌∙◌, subst, arith, ◌⊎◌, inl, inr, append_assoc}
+use Rattle.std.proofs.Common.{◌≡◌, ℕ, zero, suc, Bool, true, false, cond, List, [], ◌∷◌, ◌++◌, map, reverse, length, take, drop, get_or, Option, Some, None, refl, sym, ap, ◌∙◌, subst, arith, ◌⊎◌, inl, inr, append_assoc}
 use Rattle.std.specs.List.{slice_get, concat, range_with_len}
 use Rattle.std.specs.Option.{option_map}
 use Rattle.std.proofs.lemmas.Bool.{cases_lt}
 use Rattle.std.proofs.lemmas.Bool.Decides.{eqb_tells}
-use Rattle.std.proofs.lemmas.List.{append-nil, reverse-append, length-reverse, get_or_past, take-append-drop}
+use Rattle.std.proofs.lemmas.List.{reverse-append, get_or_past, take-append-drop}
 use Rattle.std.proofs.lemmas.List.FromFn.{get_or-map-range_with_len, length-map-range_with_len}
 use Rattle.game_def.specs.Game.{Game}
 use Rattle.betting.specs.declared.action.Action.{Action}
@@ -16,9 +16,9 @@ use Rattle.slot_log.specs.Dealer.{hands_of, hands_after, with_command, with_acti
 use Rattle.slot_log.specs.declared.reason.Reason.{Reason}
 use Rattle.slot_log.specs.declared.command.Command.{Command}
 use Rattle.slot_log.specs.declared.command.Command.TheVariants.{Deal, Act}
-use Rattle.matchstate.specs.Cards.{boards_of, holes_seen}
+use Rattle.matchstate.specs.Cards.{boards_of}
 use Rattle.matchstate.specs.View.{View, view_of, sees, rounds_seen, position_of, seat_view}
-use Rattle.matchstate.specs.Line.{line, line_text}
+use Rattle.matchstate.specs.Line.{line_text}
 use Rattle.matchstate.specs.Laws.{IsBeginning, IsTextBeginning, Place, hole, board, card_at, shown_at, AgreeOnHand, Agree, LinesAgree}
 use Rattle.matchstate.proofs.Seats.{newest_at}
 

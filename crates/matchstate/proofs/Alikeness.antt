@@ -1,25 +1,23 @@
 -- Lists of commands that differ only in cards that a seat doesn't see give it the same lines.
-use Rattle.std.proofs.Common.{◌≡◌, ◌≢◌, ℕ, zero, suc, ◌+◌, ◌-◌, ◌*◌, ◌<◌, ◌≤◌, Bool, true, false, not, cond, eqb, leb, List, [], ◌∷◌, ◌++◌, map, reverse, length, take, drop, get_or, Option, Some, None, refl, sym, ap, ◌∙◌, subst, arith, ◌⊎◌, inl, inr, append_assoc}
-use Rattle.std.specs.List.{slice_get, concat, range_with_len, count_by, sum}
+use Rattle.std.proofs.Common.{◌≡◌, ℕ, zero, suc, ◌+◌, ◌-◌, ◌<◌, ◌≤◌, Bool, true, false, not, cond, eqb, List, [], ◌∷◌, ◌++◌, map, length, take, drop, Option, Some, None, refl, sym, ap, ◌∙◌, subst, arith, ◌⊎◌, inl}
+use Rattle.std.specs.List.{slice_get, concat, range_with_len}
 use Rattle.std.specs.Option.{option_map, unwrap_or}
-use Rattle.std.specs.Bool.{IsTrue}
-use Rattle.std.proofs.lemmas.Bool.{cases_lt}
-use Rattle.std.proofs.lemmas.Bool.Decides.{eqb_tells, nat_tests}
-use Rattle.std.proofs.lemmas.List.{append-nil, reverse-append, length-reverse, length-drop, take_all, take-take, drop-take, drop-drop, take-append-drop}
+use Rattle.std.proofs.lemmas.Bool.Decides.{nat_tests}
+use Rattle.std.proofs.lemmas.List.{append-nil, length-drop, take_all, take-take, drop-take, drop-drop, take-append-drop}
 use Rattle.std.proofs.lemmas.List.Sums.{sum_by-cons}
 use Rattle.game_def.specs.Game.{Game}
 use Rattle.betting.specs.declared.action.Action.{Action}
 use Rattle.card_core.specs.Deal.{hole_of, board_of}
 use Rattle.slot_log.specs.Hand.{Hand}
-use Rattle.slot_log.specs.Dealer.{hands_of, hands_after, with_command, with_action, with_deal, reason_of, deal_reason, act_reason, is_finished, is_running, is_match_over, finished_count, hand_at}
+use Rattle.slot_log.specs.Dealer.{hands_of, hands_after, with_command, with_action, with_deal, reason_of, act_reason, is_finished, is_running, is_match_over, finished_count}
 use Rattle.slot_log.specs.declared.reason.Reason.{Reason}
-use Rattle.slot_log.specs.declared.reason.Reason.TheVariants.{MatchDone, HandRunning, WrongHand, WrongCards}
+use Rattle.slot_log.specs.declared.reason.Reason.TheVariants.{MatchDone, HandRunning, WrongHand}
 use Rattle.slot_log.specs.declared.command.Command.{Command}
 use Rattle.slot_log.specs.declared.command.Command.TheVariants.{Deal, Act}
 use Rattle.matchstate.specs.Cards.{boards_of, holes_seen}
 use Rattle.matchstate.specs.View.{View, view_of, sees, rounds_seen, position_of, seat_view}
-use Rattle.matchstate.specs.Line.{line, line_text}
-use Rattle.matchstate.specs.Laws.{Place, hole, board, card_at, board_count, SeesPlace, SeatSees, past_at, SameButUnseen, AllSameButUnseen, Alike, AlikeLines}
+use Rattle.matchstate.specs.Line.{line_text}
+use Rattle.matchstate.specs.Laws.{Place, hole, board, card_at, board_count, SeesPlace, SeatSees, past_at, SameButUnseen, AllSameButUnseen, AlikeLines}
 use Rattle.matchstate.proofs.Seats.{newest_at}
 
 -- hands that differ only in cards at places that aren't seen: newest first, the number of each is how many

@@ -1,11 +1,10 @@
 -- What stands behind a beginning of a betting text: the texts of the actions that follow.
-use Rattle.std.proofs.Common.{◌≡◌, ℕ, zero, suc, ◌+◌, ◌-◌, ◌<◌, ◌≤◌, List, [], ◌∷◌, ◌++◌, reverse, length, replicate, Option, Some, None, decimal, refl, sym, ap, ◌∙◌, subst, arith, append_assoc}
+use Rattle.std.proofs.Common.{◌≡◌, ℕ, ◌<◌, List, [], ◌∷◌, ◌++◌, reverse, length, Option, Some, None, decimal, refl, sym, ap, ◌∙◌, subst, arith, append_assoc}
 use Rattle.std.proofs.lemmas.List.{append-nil, reverse-append, reverse-reverse}
 use Rattle.game_def.specs.Game.{Game}
 use Rattle.betting.specs.declared.action.Action.{Action}
 use Rattle.betting.specs.declared.action.Action.TheVariants.{Fold, Call, Raise}
-use Rattle.betting.specs.Rounds.{turns, current_round}
-use Rattle.betting.specs.Legal.{Legal, CanAct}
+use Rattle.betting.specs.Legal.{Legal}
 use Rattle.betting.specs.Text.{text, action_text}
 use Rattle.matchstate.specs.Reading.{slashes_after, BeginsWith, NoDigitFirst}
 use Rattle.matchstate.proofs.Texts.{text_none, text_next, Legal-before}

@@ -1,12 +1,8 @@
 -- What is seen of a deal is in place, and what is in place is seen of some deal: unused cards fill the rest.
-use Rattle.std.proofs.Common.{◌≡◌, ℕ, zero, suc, ◌+◌, ◌-◌, ◌*◌, ◌<◌, ◌≤◌, min, ◌≢◌, Bool, true, false, cond, eqb, ltb, nat_eq, List, [], ◌∷◌, ◌++◌, map, length, get_or, take, drop, refl, sym, ap, ◌∙◌, subst, arith, ◌⊎◌, inl, inr, length-append, length-drop, length-take, append_assoc}
-use Rattle.std.specs.List.{IsDistinct, AllByRecursion, concat, range_with_len}
+use Rattle.std.proofs.Common.{◌≡◌, ℕ, zero, suc, ◌+◌, ◌<◌, ◌≤◌, ◌≢◌, true, false, cond, eqb, List, [], ◌∷◌, ◌++◌, length, refl, sym, ap, ◌∙◌, arith, inl, inr, length-append}
 use Rattle.std.proofs.lemmas.Bool.Decides.{eqb_tells, nat_tests}
-use Rattle.std.proofs.lemmas.List.{take-take, drop-drop, drop-take, take_at, drop_at, same_lists, length-map, append-nil}
-use Rattle.std.proofs.lemmas.List.FromFn.{fill_by_all, length-map-range_with_len, get_or-map-range_with_len}
-use Rattle.card_core.specs.Deal.{IsDeal, hole_of, board_of}
-use Rattle.matchstate.specs.Cards.{holes_seen, boards_of, all_cards, AreSeenOf, AreSeen, AreInPlace}
-use Rattle.matchstate.proofs.Counts.{count_of, most_of, IsPart, count_of-append, count_of-take-drop, IsPart-from_pack, pack_from_IsPart}
+use Rattle.std.proofs.lemmas.List.{append-nil}
+use Rattle.matchstate.proofs.Counts.{count_of, most_of, IsPart, count_of-append}
 
 -- xs without all places of x
 without : ℕ → List ℕ → List ℕ
@@ -36,7 +32,7 @@ count_of-without x c (y ∷ ys) other =
     ]
 
 -- fewer than m cards leave one below m
-fresh_card : (m : ℕ) (xs : List ℕ) → length xs < m → (c : ℕ) × (c < m) × (count_of c xs ≡ 0)
+pub fresh_card : (m : ℕ) (xs : List ℕ) → length xs < m → (c : ℕ) × (c < m) × (count_of c xs ≡ 0)
 fresh_card zero xs few = absurd (omega arith)
 fresh_card (suc m) xs few =
     elim (eqb_tells (count_of m xs) 0) [
@@ -48,6 +44,9 @@ fresh_card (suc m) xs few =
           (found.0, omega arith, sym (count_of-without m found.0 xs other) ∙ found.2)
     ]
 
+unused_parts : (x : ℕ) (xs ys : List ℕ) → count_of x (xs ++ ys) ≡ 0 → count_of x xs + count_of x ys ≡ 0
+unused_parts x xs ys none = sym (count_of-append x xs ys) ∙ none
+
 -- k unused cards
 pub fresh_cards : (k : ℕ) (xs : List ℕ) → length xs + k ≤ 52 → IsPart xs → (fresh : List ℕ) × (length fresh ≡ k) × IsPart (xs ++ fresh)
 fresh_cards zero xs room part = ([], refl, rw append-nil part)
@@ -56,7 +55,7 @@ fresh_cards (suc k) xs room part =
     let enough : length (xs ++ rest.0) < 52 = omega (arith, length-append xs rest.0, rest.1) in
     let found = fresh_card 52 (xs ++ rest.0) enough in
     let small : found.0 < 52 = found.1 in
-    let unused : count_of found.0 xs + count_of found.0 rest.0 ≡ 0 = sym (count_of-append found.0 xs rest.0) ∙ found.2 in
+    let unused : count_of found.0 xs + count_of found.0 rest.0 ≡ 0 = unused_parts found.0 xs rest.0 found.2 in
     let each : IsPart (xs ++ found.0 ∷ rest.0) = λ x.
     let before : count_of x xs + count_of x rest.0 ≤ most_of x = rw count_of-append at (rest.2 x) in
     rw count_of-append (elim (eqb_tells found.0 x) [

@@ -1,5 +1,5 @@
 -- How often a card stands in a list: distinct cards of the pack stand there at most once.
-use Rattle.std.proofs.Common.{◌≡◌, ℕ, zero, suc, ◌+◌, ◌-◌, ◌<◌, ◌≤◌, Bool, true, false, cond, eqb, ltb, nat_eq, List, [], ◌∷◌, ◌++◌, length, take, drop, refl, sym, ap, ◌∙◌, arith, ◌⊎◌, inl, inr}
+use Rattle.std.proofs.Common.{◌≡◌, ℕ, zero, suc, ◌+◌, ◌<◌, ◌≤◌, Bool, true, false, cond, eqb, ltb, nat_eq, List, [], ◌∷◌, ◌++◌, take, drop, refl, arith, inl, inr}
 use Rattle.std.specs.List.{IsDistinct, AllByRecursion}
 use Rattle.std.proofs.lemmas.Bool.Decides.{eqb_tells, nat_tests}
 
@@ -37,7 +37,7 @@ one_or_more : (b : Bool) (n : ℕ) → b ≡ true → cond b 1 0 + n ≡ 0 → �
 one_or_more true n e h = omega arith
 one_or_more false n e h = cc
 
-from_absent : (x : ℕ) (xs : List ℕ) → count_of x xs ≡ 0 → AllByRecursion (λ y. nat_eq x y ≡ false) xs
+pub from_absent : (x : ℕ) (xs : List ℕ) → count_of x xs ≡ 0 → AllByRecursion (λ y. nat_eq x y ≡ false) xs
 from_absent x [] none = tt
 from_absent x (y ∷ xs) none =
     elim (eqb_tells y x) [

@@ -1,11 +1,10 @@
 -- A deal's text shows all its cards.
-use Rattle.std.proofs.Common.{◌≡◌, ℕ, zero, suc, ◌+◌, ◌-◌, ◌*◌, ◌<◌, ◌≤◌, Bool, true, false, cond, nat_eq, List, [], ◌∷◌, ◌++◌, map, length, take, drop, get_or, replicate, Option, Some, None, refl, sym, ap, ◌∙◌, subst, arith, append_assoc}
-use Rattle.std.specs.List.{AllByRecursion, IsDistinct, concat, range_with_len}
+use Rattle.std.proofs.Common.{◌≡◌, ℕ, zero, suc, ◌+◌, ◌-◌, ◌*◌, ◌<◌, ◌≤◌, true, false, cond, List, [], ◌∷◌, ◌++◌, map, length, take, drop, get_or, replicate, Option, refl, sym, ap, ◌∙◌, arith, append_assoc}
+use Rattle.std.specs.List.{concat, range_with_len}
 use Rattle.std.proofs.lemmas.List.{append-nil, take-append-drop, take-take, drop-take, drop-drop, take_more, map-append, get_or-replicate}
 use Rattle.card_core.specs.Deal.{IsDeal, hole_of, board_of}
-use Rattle.matchstate.specs.Cards.{cards_field, holes_seen, holes_of, boards_of, all_cards, deal_text, AreSeenOf, AreInPlace}
-use Rattle.matchstate.specs.SeenCards.{hole_in, seen_at, AreCounted}
-use Rattle.matchstate.proofs.Seen.{place_from_seen, seen_from_place}
+use Rattle.matchstate.specs.Cards.{holes_seen, holes_of, boards_of, all_cards}
+use Rattle.matchstate.specs.SeenCards.{hole_in, seen_at}
 
 concat_push : (xs : List (List ℕ)) (x : List ℕ) → concat (xs ++ x ∷ []) ≡ concat xs ++ x
 concat_push [] x = append-nil x
@@ -52,27 +51,7 @@ same_map f g a (suc n) same =
     let rest = same_map f g (a + 1) n (λ p low high. same p (omega arith) (omega arith)) in
     cc
 
-all_seen : (players : ℕ) (deal : List ℕ) → players ≤ 10 → holes_of players deal ≡ holes_seen players (seen_at (replicate 10 true)) deal
+pub all_seen : (players : ℕ) (deal : List ℕ) → players ≤ 10 → holes_of players deal ≡ holes_seen players (seen_at (replicate 10 true)) deal
 all_seen players deal few =
     same_map (hole_of deal) (λ p. cond (seen_at (replicate 10 true) p) (hole_of deal p) []) 0 players
     (λ p low high. ap (λ b. cond b (hole_of deal p) []) (sym (get_or-replicate 10 p true false (omega arith))))
-
--- a deal's cards are counted right, where all are seen
-pub deal_counted : (players : ℕ) (deal : List ℕ) → players ≤ 10 → IsDeal players deal → AreCounted players (seen_at (replicate 10 true)) 3 (holes_of players deal) (boards_of deal)
-deal_counted players deal few dealt =
-    let seen : AreSeenOf players (seen_at (replicate 10 true)) 3 (holes_of players deal) (boards_of deal) deal =
-    record { dealt = dealt; hole_cards = all_seen players deal few; board_cards = refl } in
-    let place = place_from_seen players (seen_at (replicate 10 true)) 3 (holes_of players deal) (boards_of deal) deal seen in
-    record { hole_counts = place.hole_counts; board_counts = place.board_counts; pack = place.pack }
-
--- and cards that are counted right and distinct make the deal of that text
-pub deal_from_counted : (players : ℕ) (holes boards : List (List ℕ)) → players ≤ 10 → AreCounted players (seen_at (replicate 10 true)) 3 holes boards → IsDeal players (all_cards holes boards) → cards_field holes boards ≡ deal_text players (all_cards holes boards)
-deal_from_counted players holes boards few counted dealt =
-    let place : AreInPlace players (seen_at (replicate 10 true)) 3 holes boards =
-    record { hole_counts = counted.hole_counts; board_counts = counted.board_counts; pack = counted.pack; distinct = dealt.distinct } in
-    let seen = seen_from_place players (seen_at (replicate 10 true)) 3 holes boards few (omega arith) place in
-    let holes_are : holes ≡ holes_of players seen.0 = seen.1.hole_cards ∙ sym (all_seen players seen.0 few) in
-    let boards_are : boards ≡ boards_of seen.0 = seen.1.board_cards in
-    let cards_are : seen.0 ≡ all_cards holes boards =
-    sym (all_of players seen.0 seen.1.dealt) ∙ ap (λ h. all_cards h (boards_of seen.0)) (sym holes_are) ∙ ap (λ b. all_cards holes b) (sym boards_are) in
-    ap (λ h. cards_field h boards) holes_are ∙ ap (λ b. cards_field (holes_of players seen.0) b) boards_are ∙ ap (deal_text players) cards_are

@@ -1,25 +1,26 @@
 -- Worked lines that pin the definitions; each computes.
-use Rattle.std.proofs.Common.{◌≡◌, ◌≢◌, ℕ, zero, suc, ◌<◌, Bool, true, false, eqb, List, [], ◌∷◌, Option, Some, None, refl, sym, ap, subst, length, arith, ◌⊎◌, inl, inr, map, rules}
-use Rattle.std.specs.Prelude.{codes, decimal, IsTrue}
+use Rattle.std.proofs.Common.{◌≡◌, ◌≤◌, ℕ, zero, suc, Bool, true, false, eqb, List, [], ◌∷◌, Option, Some, None, refl, sym, subst, arith, ◌⊎◌, inl, inr, map, rules}
+use Rattle.std.specs.Prelude.{codes, IsTrue}
 use Rattle.std.specs.Fmt.{digits}
 use Rattle.std.specs.List.{IsDistinct}
 use Rattle.std.proofs.lemmas.Bool.Decides.{nat_tests}
+use Rattle.std.proofs.lemmas.Option.{same_Some}
 use Rattle.game_def.specs.Game.{Game}
 use Rattle.betting.specs.declared.action.Action.{Action}
 use Rattle.betting.specs.declared.action.Action.TheVariants.{Fold, Call, Raise}
 use Rattle.betting.specs.Turns.{count_below, max_spent, spent, folded, live, live_count, unfolded_count, has_answered, owes, owing_count, actions_in, raises_in, min_to}
 use Rattle.betting.specs.Rounds.{is_alone, can_bet_on, ends_round, over, current_round, first_from, first_cyclic, search_start, to_act, with_turn, turns}
-use Rattle.betting.specs.Legal.{limit_to, least_raise, greatest_raise, no_raise, wrong_amount, fault_of_raise, fault_at, fault_of}
+use Rattle.betting.specs.Legal.{limit_to, least_raise, greatest_raise, no_raise, wrong_amount, fault_of_raise, fault_at, fault_of, CanAct}
 use Rattle.betting.specs.Text.{text, action_text}
 use Rattle.slot_log.specs.Hand.{Hand}
 use Rattle.slot_log.specs.Dealer.{hands_of}
-use Rattle.slot_log.specs.declared.command.Command.{Command}
 use Rattle.slot_log.specs.declared.command.Command.TheVariants.{Deal, Act}
-use Rattle.matchstate.specs.Cards.{cards_text, cards_field, deal_text, AreSeen, AreSeenOf, AreInPlace}
+use Rattle.card_core.specs.Deal.{IsDeal}
+use Rattle.matchstate.specs.Cards.{cards_text, deal_text, AreSeen, AreSeenOf}
 use Rattle.matchstate.specs.ActionText.{IsActionText}
-use Rattle.matchstate.specs.View.{View, sees, is_showdown, seat_of, position_of, view_of, seat_view}
+use Rattle.matchstate.specs.View.{View, sees, is_showdown, seat_of, position_of, view_of}
 use Rattle.matchstate.specs.Line.{Fields, HasFields, line, line_text}
-use Rattle.matchstate.specs.Laws.{Place, hole, board, card_at, shown_at, Agree, AgreeOnHand, SeatSees, Alike, IsBeginning}
+use Rattle.matchstate.specs.Laws.{Place, hole, board, card_at, Agree, SeatSees, Alike}
 use Rattle.matchstate.proofs.Seen.{place_from_seen}
 
 -- opens all of them
@@ -163,18 +164,17 @@ no_showdown_after_a_fold = refl
 
 -- ---- what is seen of a deal, and a card that stands there twice
 
-seen_of_the_first_deal : AreSeenOf 2 (λ p. eqb p 1) 1 ([] ∷ (26 ∷ 32 ∷ []) ∷ []) ((0 ∷ 24 ∷ 6 ∷ []) ∷ []) first_deal
+pub first_deal_dealt : IsDeal 2 first_deal
 unfolding opened
-seen_of_the_first_deal =
+first_deal_dealt =
     record {
-      dealt = record {
-        count = refl;
-        cards_of_the_pack = (omega arith, (omega arith, (omega arith, (omega arith, (omega arith, (omega arith, (omega arith, (omega arith, (omega arith, tt)))))))));
-        distinct = search rules;
-      };
-      hole_cards = refl;
-      board_cards = refl;
+      count = refl;
+      cards_of_the_pack = (omega arith, (omega arith, (omega arith, (omega arith, (omega arith, (omega arith, (omega arith, (omega arith, (omega arith, tt)))))))));
+      distinct = search rules;
     }
+
+seen_of_the_first_deal : AreSeenOf 2 (λ p. eqb p 1) 1 ([] ∷ (26 ∷ 32 ∷ []) ∷ []) ((0 ∷ 24 ∷ 6 ∷ []) ∷ []) first_deal
+seen_of_the_first_deal = record { dealt = first_deal_dealt; hole_cards = refl; board_cards = refl }
 
 no_card_twice : AreSeen 2 (λ p. eqb p 0) 0 ((33 ∷ 33 ∷ []) ∷ [] ∷ []) [] → ⊥
 unfolding opened
@@ -188,6 +188,22 @@ no_card_twice seen =
 raise_reads : IsActionText no_limit_pair [] (codes "r200") (Raise 200)
 unfolding opened
 raise_reads = (refl, omega arith)
+
+raise_is_allowed : CanAct limit_pair [] (Raise 20)
+unfolding opened CanAct
+raise_is_allowed =
+    (1, refl, (record { raises_left = omega arith; room = omega arith; somebody_to_call = omega arith; chips_left = omega arith }, omega arith, omega arith))
+
+limit_raise_reads : IsActionText limit_pair [] (codes "r") (Raise 20)
+limit_raise_reads = (refl, inl raise_is_allowed)
+
+limit_raise_is_no_other : IsActionText limit_pair [] (codes "r") (Raise 0) → ⊥
+unfolding opened CanAct
+limit_raise_is_no_other (whole, inl can) =
+    let at : can.0 ≡ 1 = same_Some can.0 1 (sym can.1) in
+    let low : least_raise limit_pair [] 1 ≤ 0 = subst (λ p. least_raise limit_pair [] p ≤ 0) at can.2.1 in
+    absurd (omega arith)
+limit_raise_is_no_other (whole, inr none) = none.1 20 raise_is_allowed
 
 no_leading_zero : IsActionText no_limit_pair [] (codes "r0200") (Raise 200) → ⊥
 unfolding opened

@@ -1,11 +1,11 @@
 -- What is seen of a deal is in place, and what is in place is seen of some deal.
-use Rattle.std.proofs.Common.{◌≡◌, ℕ, zero, suc, ◌+◌, ◌-◌, ◌*◌, ◌<◌, ◌≤◌, min, Bool, true, false, cond, nat_eq, List, [], ◌∷◌, ◌++◌, map, length, get_or, take, drop, refl, sym, ap, ◌∙◌, subst, arith, length-append, length-drop, length-take, append_assoc}
-use Rattle.std.specs.List.{IsDistinct, AllByRecursion, concat, range_with_len}
-use Rattle.std.proofs.lemmas.List.{take-take, drop-drop, drop-take, take_at, drop_at, same_lists, length-map, append-nil}
+use Rattle.std.proofs.Common.{◌≡◌, ℕ, zero, suc, ◌+◌, ◌-◌, ◌*◌, ◌<◌, ◌≤◌, Bool, true, false, cond, List, [], ◌∷◌, ◌++◌, map, length, get_or, take, drop, refl, sym, ap, ◌∙◌, arith, length-append, length-drop, length-take, append_assoc}
+use Rattle.std.specs.List.{AllByRecursion, concat, range_with_len}
+use Rattle.std.proofs.lemmas.List.{take-take, drop-drop, drop-take, take_at, drop_at, length-map, append-nil}
 use Rattle.std.proofs.lemmas.List.FromFn.{fill_by_all, length-map-range_with_len, get_or-map-range_with_len}
 use Rattle.card_core.specs.Deal.{IsDeal, hole_of, board_of}
 use Rattle.matchstate.specs.Cards.{holes_seen, boards_of, all_cards, AreSeenOf, AreSeen, AreInPlace}
-use Rattle.matchstate.proofs.Counts.{count_of, most_of, IsPart, count_of-append, count_of-take-drop, IsPart-from_pack, pack_from_IsPart}
+use Rattle.matchstate.proofs.Counts.{count_of, IsPart, count_of-append, count_of-take-drop, IsPart-from_pack, pack_from_IsPart}
 use Rattle.matchstate.proofs.Completion.{fresh_cards}
 
 -- ---- counts of parts of a list
@@ -59,15 +59,15 @@ count_of-picks x sees given cards a (suc n) =
 
 -- ---- hole cards laid end to end
 
-AreTwos : List (List ℕ) → Type 0
+unfoldable pub AreTwos : List (List ℕ) → Type 0
 AreTwos groups = AllByRecursion (λ group. length group ≡ 2) groups
 
-length-twos : (groups : List (List ℕ)) → AreTwos groups → length (concat groups) ≡ 2 * length groups
+pub length-twos : (groups : List (List ℕ)) → AreTwos groups → length (concat groups) ≡ 2 * length groups
 unfolding AreTwos
 length-twos [] twos = refl
 length-twos (group ∷ groups) twos = omega (arith, length-append group (concat groups), length-twos groups twos.1, twos.0)
 
-hole_of-twos : (groups : List (List ℕ)) (rest : List ℕ) (p : ℕ) → AreTwos groups → p < length groups → hole_of (concat groups ++ rest) p ≡ get_or groups p []
+pub hole_of-twos : (groups : List (List ℕ)) (rest : List ℕ) (p : ℕ) → AreTwos groups → p < length groups → hole_of (concat groups ++ rest) p ≡ get_or groups p []
 unfolding AreTwos
 hole_of-twos [] rest p twos below = absurd (omega arith)
 hole_of-twos (group ∷ groups) rest zero twos below =
@@ -104,7 +104,7 @@ count_of-holes x sees deal a (suc n) =
     elim (sees a) as (λ b. count_of x (cond b (hole_of deal a) []) ≤ count_of x (hole_of deal a)) [ true ↦ omega arith | false ↦ omega arith ] in
     omega arith
 
-abbrev board_parts : List ℕ → List (List ℕ)
+abbrev pub board_parts : List ℕ → List (List ℕ)
 board_parts board = take 3 board ∷ take 1 (drop 3 board) ∷ drop 4 board ∷ []
 
 board_lengths : (rounds : ℕ) (board : List ℕ) → length board ≡ 5 → map length (take rounds (board_parts board)) ≡ take rounds (3 ∷ 1 ∷ 1 ∷ [])
@@ -186,13 +186,13 @@ length-seen_holes sees (hole ∷ holes) a (suc n) shape =
     omega (arith, length-append hole (concat holes), length-seen_holes sees holes (a + 1) n rest)
 
 -- the board completed: the cards that are seen, and those behind them
-data Board : ℕ → List (List ℕ) → Type 0 where
+pub data Board : ℕ → List (List ℕ) → Type 0 where
   unseen : Board 0 []
   flop : {f : List ℕ} → length f ≡ 3 → Board 1 (f ∷ [])
   turn : {f t : List ℕ} → length f ≡ 3 → length t ≡ 1 → Board 2 (f ∷ t ∷ [])
   river : {f t r : List ℕ} → length f ≡ 3 → length t ≡ 1 → length r ≡ 1 → Board 3 (f ∷ t ∷ r ∷ [])
 
-board_from_lengths : (rounds : ℕ) (boards : List (List ℕ)) → rounds ≤ 3 → map length boards ≡ take rounds (3 ∷ 1 ∷ 1 ∷ []) → Board rounds boards
+pub board_from_lengths : (rounds : ℕ) (boards : List (List ℕ)) → rounds ≤ 3 → map length boards ≡ take rounds (3 ∷ 1 ∷ 1 ∷ []) → Board rounds boards
 board_from_lengths zero [] most shape = unseen
 board_from_lengths zero (f ∷ boards) most shape = cc
 board_from_lengths (suc zero) [] most shape = cc
@@ -209,7 +209,7 @@ board_from_lengths (suc (suc (suc zero))) (f ∷ t ∷ r ∷ []) most shape = ri
 board_from_lengths (suc (suc (suc zero))) (f ∷ t ∷ r ∷ more ∷ boards) most shape = cc
 board_from_lengths (suc (suc (suc (suc rounds)))) boards most shape = absurd (omega arith)
 
-length-board : {rounds : ℕ} {boards : List (List ℕ)} → Board rounds boards → length (concat boards) ≤ 5
+pub length-board : {rounds : ℕ} {boards : List (List ℕ)} → Board rounds boards → length (concat boards) ≤ 5
 length-board unseen = omega arith
 length-board (flop {f} a) = omega (arith, length-append f [], a)
 length-board (turn {f} {t} a b) = omega (arith, length-append f (t ++ []), length-append t [], a, b)
@@ -219,7 +219,7 @@ no_more : (xs : List ℕ) → length xs ≡ 0 → xs ≡ []
 no_more [] none = refl
 no_more (x ∷ xs) none = absurd (omega arith)
 
-boards_of-board : {rounds : ℕ} {boards : List (List ℕ)} (rest : List ℕ) → Board rounds boards → length (concat boards) + length rest ≡ 5 → boards ≡ take rounds (board_parts (concat boards ++ rest))
+pub boards_of-board : {rounds : ℕ} {boards : List (List ℕ)} (rest : List ℕ) → Board rounds boards → length (concat boards) + length rest ≡ 5 → boards ≡ take rounds (board_parts (concat boards ++ rest))
 boards_of-board rest unseen five = refl
 boards_of-board rest (flop {f} a) five =
     let e : take 3 ((f ++ []) ++ rest) ≡ f = rw (append_assoc f [] rest) (take_at f rest 3 a) in

@@ -1,7 +1,7 @@
 -- What is in place for one test of the positions is so for another that says the same.
-use Rattle.std.proofs.Common.{◌≡◌, ℕ, zero, suc, ◌+◌, ◌<◌, ◌≤◌, Bool, cond, nat_eq, List, map, length, refl, sym, ap, ◌∙◌, subst, arith}
+use Rattle.std.proofs.Common.{◌≡◌, ℕ, zero, suc, ◌+◌, ◌<◌, ◌≤◌, Bool, cond, nat_eq, List, map, refl, sym, ap, ◌∙◌, subst, arith}
 use Rattle.std.specs.List.{IsDistinct, range_with_len}
-use Rattle.matchstate.specs.Cards.{AreSeen, AreSeenOf, AreInPlace, all_cards}
+use Rattle.matchstate.specs.Cards.{AreSeen, all_cards}
 use Rattle.matchstate.specs.SeenCards.{AreCounted}
 use Rattle.matchstate.proofs.Seen.{place_from_seen, seen_from_place}
 

@@ -1,9 +1,9 @@
 -- Betting texts, action by action, and what stands behind a beginning.
-use Rattle.std.proofs.Common.{◌≡◌, ℕ, zero, suc, ◌+◌, ◌-◌, ◌<◌, ◌≤◌, List, [], ◌∷◌, ◌++◌, reverse, length, take, drop, get_or, replicate, refl, sym, ap, ◌∙◌, subst, arith, append_assoc}
-use Rattle.std.proofs.lemmas.List.{append-nil, reverse-append, reverse-reverse, take_more, drop_more, take-append-drop}
+use Rattle.std.proofs.Common.{◌≡◌, ℕ, ◌+◌, ◌<◌, List, [], ◌∷◌, ◌++◌, reverse, length, take, drop, get_or, refl, sym, ap, ◌∙◌, subst, append_assoc}
+use Rattle.std.proofs.lemmas.List.{reverse-append, take_more, drop_more, take-append-drop}
 use Rattle.game_def.specs.Game.{Game}
 use Rattle.betting.specs.declared.action.Action.{Action}
-use Rattle.betting.specs.Rounds.{current_round, turns}
+use Rattle.betting.specs.Rounds.{turns}
 use Rattle.betting.specs.Legal.{Legal, CanAct}
 use Rattle.betting.specs.Text.{text, action_text}
 use Rattle.matchstate.specs.Reading.{slashes_after}

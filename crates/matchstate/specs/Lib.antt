@@ -8,3 +8,9 @@ pub mod ActionText
 pub mod Reading
 pub mod FieldsInside
 pub mod Fault
+pub mod Answer
+pub mod OneToOne
+pub mod OneLine
+pub mod Positions
+pub mod Beginnings
+pub mod OneReading

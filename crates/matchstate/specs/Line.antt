@@ -1,5 +1,5 @@
 -- The server's line of the ACPC protocol 2.0.0: MATCHSTATE:position:hand:betting:cards.
-use Rattle.std.specs.Prelude.{◌≡◌, ◌≢◌, ℕ, ◌<◌, ◌≤◌, List, [], ◌∷◌, ◌++◌, Option, Result, Ok, Err, codes, decimal}
+use Rattle.std.specs.Prelude.{◌≡◌, ◌≢◌, ℕ, ◌<◌, ◌≤◌, List, ◌∷◌, ◌++◌, Option, Result, Ok, Err, codes, decimal}
 use Rattle.std.specs.Option.{option_map}
 use Rattle.std.specs.List.{AllByRecursion}
 use Rattle.game_def.specs.Game.{Game}
@@ -9,9 +9,9 @@ use Rattle.betting.specs.Legal.{Legal}
 use Rattle.slot_log.specs.declared.command.Command.{Command}
 use Rattle.slot_log.specs.Dealer.{hands_of}
 use Rattle.matchstate.specs.Cards.{cards_field, AreSeen}
-use Rattle.matchstate.specs.View.{View, IsView, seat_view, last_hand, sees, rounds_seen}
+use Rattle.matchstate.specs.View.{View, seat_view, last_hand, sees, rounds_seen}
 use Rattle.matchstate.specs.declared.line_fault.LineFault.{LineFault}
-use Rattle.matchstate.specs.declared.line_fault.LineFault.TheVariants.{NotMatchstate, BadNumber, BadBetting, BadCards}
+use Rattle.matchstate.specs.declared.line_fault.LineFault.TheVariants.{NotMatchstate, BadNumber, BadBetting, BadCards, BadAction}
 
 -- the four fields behind the word
 pub record Fields : Type 0 where
@@ -62,7 +62,7 @@ pub record IsLine (game : Game) (bytes : List ℕ) (view : View) : Type 0 where
   pub betting : IsBetting game fields view.past
   pub cards : AreCards game fields view.position view.past view.holes view.boards
 
--- what a text reads as: the view of a server's line, or the first of its faults
+-- what a text reads as: the view of a server's line, or the first of its faults; a line has no action that could be bad
 abbrev pub ReadsAs : Game → List ℕ → Result View LineFault → Type 0
 ReadsAs game bytes (Ok view) = IsLine game bytes view
 ReadsAs game bytes (Err NotMatchstate) = (fields : Fields) → ¬ (HasFields bytes fields)
@@ -76,6 +76,7 @@ ReadsAs game bytes (Err BadCards) =
     × ((position : ℕ) × (hand : ℕ) × AreNumbers game fields position hand
     × ((past : List Action) × IsBetting game fields past
     × ((holes boards : List (List ℕ)) → ¬ (AreCards game fields position past holes boards))))
+ReadsAs game bytes (Err BadAction) = ⊥
 
 -- the one text of a view
 abbrev pub line_text : View → List ℕ

@@ -1,5 +1,5 @@
 -- One action of a betting text at a time.
-use Rattle.std.specs.Prelude.{◌≡◌, ℕ, ◌-◌, Bool, false, List, [], ◌∷◌, ◌++◌, replicate}
+use Rattle.std.specs.Prelude.{◌≡◌, ℕ, ◌-◌, false, List, [], ◌∷◌, ◌++◌, replicate}
 use Rattle.std.specs.Char.{is_ascii_digit}
 use Rattle.game_def.specs.Game.{Game}
 use Rattle.betting.specs.declared.action.Action.{Action}

@@ -1,5 +1,5 @@
 -- The cards that a line shows, as they are kept.
-use Rattle.std.specs.Prelude.{◌≡◌, ℕ, zero, suc, ◌<◌, length, if◌then◌else◌, Bool, true, false, slice_index_or, List, [], ◌∷◌, ◌++◌, map, take, Option, unwrap_or}
+use Rattle.std.specs.Prelude.{◌≡◌, ℕ, zero, suc, ◌<◌, length, if◌then◌else◌, Bool, false, slice_index_or, List, [], ◌∷◌, ◌++◌, map, take, Option, unwrap_or}
 use Rattle.std.specs.Option.{option_to_list}
 use Rattle.std.specs.List.{AllByRecursion, range_with_len}
 use Rattle.matchstate.specs.Cards.{all_cards}

@@ -1,5 +1,5 @@
 -- What a view's fields keep, and the view that they hold.
-use Rattle.std.specs.Prelude.{ℕ, ◌≤◌, reverse, take}
+use Rattle.std.specs.Prelude.{◌≤◌, reverse, take}
 use Rattle.matchstate.specs.View.{View, IsView}
 use Rattle.matchstate.specs.SeenCards.{holes_in, boards_in}
 use Rattle.matchstate.specs.declared.view.View.TheInside.{Inside}

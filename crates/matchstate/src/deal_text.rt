@@ -1,7 +1,8 @@
-ghost use Rattle.std.specs.Prelude.{◌≡◌, ℕ, ◌≤◌, List, Some, IfSome};
+ghost use Rattle.std.specs.Prelude.{◌≡◌, ℕ, ◌≤◌, List, Some, IfSome, IsSomeAnd, take};
 ghost use Rattle.card_core.specs.Deal.{IsDeal};
-ghost use Rattle.matchstate.specs.Cards.{deal_text};
+ghost use Rattle.matchstate.specs.Cards.{cards_field, holes_of, boards_of, deal_text};
 
+use crate::filling::fill_up;
 use crate::gather::gather;
 use crate::read_seen::read_seen;
 use card_core::Deal;
@@ -15,9 +16,24 @@ pub fn read_deal(bytes: &[u8], players: usize) -> Option<Deal>
     ensures deal { IfSome result (λ deal. IsDeal players deal) }
     ensures only { (deal : List ℕ) → IsDeal players deal → bytes.now ≡ deal_text players deal → result ≡ Some deal }
 {
-    let seen = read_seen(bytes, players, &[true; 10], 3)?;
-    let (cards, count) = gather(&seen, players);
-    match Deal::new(players, &cards[..count]) {
+    read_shown(bytes, players, 3)
+}
+
+/// A deal for 2 to 10 players of which a text shows all hole cards and the board of so many later rounds (0
+/// to 3), as `TdAs|8hTc/2c8c3h` for one; cards that the text doesn't show are any others of the pack. None
+/// where no deal shows just that.
+pub fn read_shown(bytes: &[u8], players: usize, rounds: usize) -> Option<Deal>
+    requires least { 2 ≤ players }
+    requires most { players ≤ 10 }
+    requires rounds { rounds ≤ 3 }
+    ensures deal { IfSome result (λ deal. IsDeal players deal) }
+    ensures found { IfSome result (λ deal. bytes.now ≡ cards_field (holes_of players deal) (take rounds (boards_of deal))) }
+    ensures only { (deal : List ℕ) → IsDeal players deal → bytes.now ≡ cards_field (holes_of players deal) (take rounds (boards_of deal)) → IsSomeAnd result (λ found. (holes_of players found ≡ holes_of players deal) × (take rounds (boards_of found) ≡ take rounds (boards_of deal))) }
+{
+    let seen = read_seen(bytes, players, &[true; 10], rounds)?;
+    let (mut cards, count) = gather(&seen, players);
+    fill_up(&mut cards, count);
+    match Deal::new(players, &cards[..2 * players + 5]) {
         Ok(deal) => Some(deal),
         Err(_) => None,
     }

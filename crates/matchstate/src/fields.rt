@@ -1,4 +1,4 @@
-ghost use Rattle.std.specs.Prelude.{◌≡◌, ℕ, ◌<◌, ◌≤◌, ◌∷◌, ◌++◌, ◌==◌, ◌↔◌, List, IfSome, IsSomeAnd, IsTrue, length, not, codes};
+ghost use Rattle.std.specs.Prelude.{◌≡◌, ℕ, ◌<◌, ◌≤◌, ◌∷◌, ◌++◌, ◌==◌, ◌↔◌, ◌+◌, List, IfSome, IsSomeAnd, IsNone, IsTrue, take, drop, length, not, codes};
 ghost use Rattle.std.specs.List.{prefix_len};
 ghost use Rattle.matchstate.specs.Line.{IsField};
 
@@ -21,6 +21,28 @@ pub(crate) fn cut_field(bytes: &[u8]) -> Option<(&[u8], &[u8])>
         [_, rest @ ..] => Some((field, rest)),
         _ => None,
     }
+}
+
+/// What stands in front of the last `:`, and the field behind it.
+pub(crate) fn cut_last_field(bytes: &[u8]) -> Option<(&[u8], &[u8])>
+    ensures found { IfSome result (λ cut. (bytes.now ≡ cut.0.now ++ 58 ∷ cut.1.now) × IsField cut.1.now) }
+    ensures only { (line field : List ℕ) → IsField field → bytes.now ≡ line ++ 58 ∷ field → IsSomeAnd result (λ cut. (cut.0.now ≡ line) × (cut.1.now ≡ field)) }
+{
+    let place = last_colon(bytes)?;
+    Some((&bytes[..place], &bytes[place + 1..]))
+}
+
+// Where the last `:` stands.
+fn last_colon(bytes: &[u8]) -> Option<usize>
+    ensures found { IfSome result (λ place. (place < length bytes.now) × (bytes.now ≡ take place bytes.now ++ 58 ∷ drop (place + 1) bytes.now) × IsField (drop (place + 1) bytes.now)) }
+    ensures missing { IsNone result → IsField bytes.now }
+{
+    for place in (0..bytes.len()).rev() {
+        if bytes[place] == b':' {
+            return Some(place);
+        }
+    }
+    None
 }
 
 /// Whether no `:` stands in a text.

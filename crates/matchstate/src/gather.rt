@@ -23,6 +23,18 @@ pub(crate) fn gather(seen: &SeenCards, players: usize) -> ([Card; MOST_CARDS], u
     (cards, count)
 }
 
+/// The board cards that are seen, in the order of a line, and how many.
+pub(crate) fn gather_board(seen: &SeenCards) -> ([Card; 5], usize)
+    ensures value { take result.1 result.0 ≡ concat (boards_in seen.now) }
+    ensures count { result.1 ≤ 5 }
+{
+    let mut cards = [Card::from_number(0); 5];
+    let flop = add(&mut cards, 0, &seen.flop);
+    let turn = add(&mut cards, flop, &seen.turn);
+    let count = add(&mut cards, turn, &seen.river);
+    (cards, count)
+}
+
 // Puts the hole cards that are seen in front, and says how many they are.
 fn gather_holes(cards: &mut [Card], players: usize, holes: &[Option<[Card; 2]>; 10]) -> usize
     requires players { players ≤ 10 }

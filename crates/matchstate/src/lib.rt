@@ -1,9 +1,11 @@
 //! The dealer's lines: what a seat may see of a match, as the ACPC protocol 2.0.0 writes it, and back
-//! from a text to what it shows.
+//! from a text to what it shows; and the players' answers, a line and an action.
 #![tactic(auto)]
 
+mod comparison;
 mod deal_text;
 mod fields;
+mod filling;
 mod gather;
 pub mod laws;
 mod line_fault;
@@ -16,17 +18,19 @@ mod read_line;
 mod read_seen;
 mod read_sight;
 mod reading_action;
+mod reading_answer;
 mod reading_betting;
 mod seating;
 mod seen_cards;
 mod sight;
 mod view;
 
-pub use deal_text::read_deal;
+pub use deal_text::{read_deal, read_shown};
 pub use line_fault::LineFault;
 pub use put_betting::{MOST_BETTING, betting_text, betting_text_reserved};
 pub use read_line::read;
 pub use reading_action::read_action;
+pub use reading_answer::read_answer;
 pub use reading_betting::read_betting;
 pub use seating::seat_view;
 pub use view::{MOST_LINE, View, write, write_reserved};

@@ -4,7 +4,7 @@ ghost use Rattle.matchstate.specs.Fault.{fault_code, fault_text};
 use std::fmt;
 use thiserror::Error;
 
-/// Why a text is no server's line of a game. It prints as its number and its name.
+/// Why a text is no server's line or no player's answer in a game. It prints as its number and its name.
 #[derive(Clone, Copy, Debug, PartialEq, Eq, Error)]
 pub enum LineFault {
     /// 40: not the word `MATCHSTATE` and four fields.
@@ -15,6 +15,8 @@ pub enum LineFault {
     BadBetting,
     /// 43: not the cards that a viewer at that position sees of any deal.
     BadCards,
+    /// 44: not the text of an action.
+    BadAction,
 }
 
 impl LineFault {
@@ -27,6 +29,7 @@ impl LineFault {
             LineFault::BadNumber => 41,
             LineFault::BadBetting => 42,
             LineFault::BadCards => 43,
+            LineFault::BadAction => 44,
         }
     }
 }
@@ -40,6 +43,7 @@ impl fmt::Display for LineFault {
             LineFault::BadNumber => f.write_str("41 BadNumber"),
             LineFault::BadBetting => f.write_str("42 BadBetting"),
             LineFault::BadCards => f.write_str("43 BadCards"),
+            LineFault::BadAction => f.write_str("44 BadAction"),
         }
     }
 }

@@ -1,5 +1,5 @@
-ghost use Rattle.std.specs.Prelude.{◌≡◌, ℕ, ◌<◌, ◌≤◌, ◌++◌, List, Some, IfSome, IsSomeAnd, codes};
-ghost use Rattle.matchstate.specs.Line.{Fields, HasFields, AreNumbers, ReadsAs};
+ghost use Rattle.std.specs.Prelude.{◌≡◌, ℕ, ◌<◌, ◌≤◌, ◌++◌, List, Some, IfSome, IsSomeAnd, MatchResult, codes};
+ghost use Rattle.matchstate.specs.Line.{Fields, HasFields, AreNumbers, IsLine, ReadsAs};
 ghost use Rattle.matchstate.specs.FieldsInside.{fields_in};
 
 use crate::fields::{LineFields, cut_field, is_field};
@@ -21,6 +21,16 @@ const LAST_HAND: u32 = 9999;
 pub fn read(bytes: &[u8], game: &GameDef) -> Result<View, LineFault>
     ensures { ReadsAs game.now bytes.now result }
 {
+    match read_played(bytes, game) {
+        Ok((view, _)) => Ok(view),
+        Err(fault) => Err(fault),
+    }
+}
+
+/// The view that a server's line says, and the play of its betting text.
+pub(crate) fn read_played(bytes: &[u8], game: &GameDef) -> Result<(View, Play), LineFault>
+    ensures { MatchResult result (λ read. IsLine game.now bytes.now read.0 × (read.1.game ≡ game.now) × (read.1.past ≡ read.0.past)) (λ fault. ReadsAs game.now bytes.now (Err fault)) }
+{
     let Some(fields) = fields_of(bytes) else {
         return Err(LineFault::NotMatchstate);
     };
@@ -36,14 +46,16 @@ pub fn read(bytes: &[u8], game: &GameDef) -> Result<View, LineFault>
     let taken = play.actions();
     let mut actions = [Action::Fold; MOST_ACTIONS];
     actions[..taken.len()].copy_from_slice(taken);
-    Ok(View {
+    let count = taken.len();
+    let view = View {
         game: *game,
         position,
         hand,
         actions,
-        count: taken.len(),
+        count,
         seen,
-    })
+    };
+    Ok((view, play))
 }
 
 // The four fields behind the word.

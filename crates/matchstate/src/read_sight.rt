@@ -1,5 +1,4 @@
-ghost use Rattle.std.specs.Prelude.{◌≡◌, ℕ, ◌<◌, ◌↔◌, List, IsTrue, IfSome, IsSomeAnd, nat_eq};
-ghost use Rattle.std.specs.List.{AllByRecursion, IsDistinct, list_any};
+ghost use Rattle.std.specs.Prelude.{◌≡◌, ℕ, List, IfSome, IsSomeAnd};
 ghost use Rattle.matchstate.specs.Cards.{cards_field, AreSeen};
 ghost use Rattle.matchstate.specs.SeenCards.{holes_in, boards_in};
 ghost use Rattle.matchstate.specs.View.{sees, rounds_seen};
@@ -9,7 +8,7 @@ use crate::read_seen::read_seen;
 use crate::seen_cards::SeenCards;
 use crate::sight::positions_in_sight;
 use betting::Play;
-use card_core::Card;
+use card_core::are_distinct;
 
 /// The cards that a cards field shows, if a viewer sees just these of some deal after the actions of a play.
 pub(crate) fn read_sight(bytes: &[u8], play: &Play, viewer: usize) -> Option<SeenCards>
@@ -26,22 +25,4 @@ pub(crate) fn read_sight(bytes: &[u8], play: &Play, viewer: usize) -> Option<See
     } else {
         None
     }
-}
-
-// Whether no card stands there twice.
-fn are_distinct(cards: &[Card]) -> bool
-    ensures distinct { IsTrue result ↔ IsDistinct nat_eq cards.now }
-    ensures cards_of_the_pack { IsTrue result → AllByRecursion (λ card. card < 52) cards.now }
-{
-    match cards {
-        [] => true,
-        [first, rest @ ..] => !has_number(rest, first.number()) && are_distinct(rest),
-    }
-}
-
-// Whether a card has this number.
-fn has_number(cards: &[Card], number: u8) -> bool
-    ensures { result ≡ list_any (λ card. nat_eq number card) cards.now }
-{
-    cards.iter().any(|card| card.number() == number)
 }

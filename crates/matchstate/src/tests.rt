@@ -1,4 +1,7 @@
-use crate::{LineFault, betting_text, read, read_betting, read_deal, seat_view, write};
+use crate::{
+    LineFault, betting_text, read, read_answer, read_betting, read_deal, read_shown, seat_view,
+    write,
+};
 use betting::Action;
 use game_def::GameDef;
 use slot_log::{Command, Effect, Table};
@@ -20,8 +23,26 @@ numBoardCards = 0 3 1 1
 END GAMEDEF
 ";
 
+const NO_LIMIT: &[u8] = b"GAMEDEF
+nolimit
+numPlayers = 2
+numRounds = 4
+stack = 20000 20000
+blind = 100 50
+firstPlayer = 2 1 1 1
+numSuits = 4
+numRanks = 13
+numHoleCards = 2
+numBoardCards = 0 3 1 1
+END GAMEDEF
+";
+
 fn game(rt: &impl Abort) -> GameDef {
     game_def::read(LIMIT).expect(rt, "a game")
+}
+
+fn no_limit_game(rt: &impl Abort) -> GameDef {
+    game_def::read(NO_LIMIT).expect(rt, "a game")
 }
 
 #[test]
@@ -61,7 +82,11 @@ fn other_texts_are_no_lines(rt: HostRuntime) {
     let game = game(&rt);
     for (text, fault) in [
         (&b"HELLO:1:2:3:4"[..], LineFault::NotMatchstate),
+        (&b"HELLO"[..], LineFault::NotMatchstate),
         (&b"MATCHSTATE:2:0:c/:|"[..], LineFault::BadNumber),
+        (&b"MATCHSTATE:2:0::TdAs|"[..], LineFault::BadNumber),
+        (&b"MATCHSTATE:0:10000::TdAs|"[..], LineFault::BadNumber),
+        (&b"MATCHSTATE::0::TdAs|"[..], LineFault::BadNumber),
         (&b"MATCHSTATE:0:00::TdAs|"[..], LineFault::BadNumber),
         (
             &b"MATCHSTATE:1:0:c/:|8hTc/2c8c3h"[..],
@@ -79,6 +104,18 @@ fn other_texts_are_no_lines(rt: HostRuntime) {
 }
 
 #[test]
+fn amounts_have_no_leading_zeros(rt: HostRuntime) {
+    let game = no_limit_game(&rt);
+    for text in [
+        &b"MATCHSTATE:0:0:r0200:TdAs|"[..],
+        &b"MATCHSTATE:0:0:r0:TdAs|"[..],
+    ] {
+        assert!(rt; read(text, &game).err() == Some(LineFault::BadBetting));
+    }
+    assert!(rt; read(b"MATCHSTATE:0:0:r200:TdAs|", &game).is_ok());
+}
+
+#[test]
 fn betting_reads_and_prints(rt: HostRuntime) -> Result<(), Fail> {
     let game = game(&rt);
     let play = read_betting(b"rrrc/cc/", &game).expect(&rt, "a play");
@@ -87,5 +124,119 @@ fn betting_reads_and_prints(rt: HostRuntime) -> Result<(), Fail> {
     let mut text = Vec::new(rt.alloc());
     betting_text(&mut text, &play)?;
     assert!(rt; text.as_slice() == &b"rrrc/cc/"[..]);
+    Ok(())
+}
+
+#[test]
+fn a_text_shows_a_deal_up_to_the_flop(rt: HostRuntime) {
+    let deal = read_shown(b"TdAs|8hTc/2c8c3h", 2, 1).expect(&rt, "a deal");
+    let whole = read_deal(b"TdAs|8hTc/2c8c3h/9c/Kh", 2).expect(&rt, "a deal");
+    let [first, second, third, _, _] = deal.board();
+    let [flop, _, last, _, _] = whole.board();
+    assert_eq!(rt; first, flop);
+    assert_eq!(rt; third, last);
+    assert_ne!(rt; first, second);
+    assert_eq!(rt; deal.hole(0), whole.hole(0));
+    assert_eq!(rt; deal.hole(1), whole.hole(1));
+    assert_eq!(rt; read_shown(b"TdAs|8hTc/2c8c3h", 2, 2), None);
+    assert_eq!(rt; read_shown(b"TdAs|8hTd", 2, 0), None);
+}
+
+#[test]
+fn answers_read_as_views_and_actions(rt: HostRuntime) {
+    let game = game(&rt);
+    for (text, position, action) in [
+        (&b"MATCHSTATE:1:0::|8hTc:c"[..], 1, Action::Call),
+        (&b"MATCHSTATE:1:0::|8hTc:r"[..], 1, Action::Raise(20)),
+        (&b"MATCHSTATE:0:0:c:TdAs|:f"[..], 0, Action::Fold),
+        (&b"MATCHSTATE:0:0:rrr:TdAs|:r"[..], 0, Action::Raise(0)),
+    ] {
+        let (view, read) = read_answer(text, &game).ok().expect(&rt, "an answer");
+        assert_eq!(rt; view.position(), position);
+        assert_eq!(rt; view.hand(), 0);
+        assert_eq!(rt; read, action);
+    }
+}
+
+#[test]
+fn other_texts_are_no_answers(rt: HostRuntime) {
+    let game = game(&rt);
+    for (text, fault) in [
+        (&b"HELLO"[..], LineFault::NotMatchstate),
+        (&b"MATCHSTATE:1:0::|8hTc"[..], LineFault::NotMatchstate),
+        (&b"MATCHSTATE:1:0::|8hTc:c:c"[..], LineFault::NotMatchstate),
+        (&b"MATCHSTATE:2:0::|8hTc:c"[..], LineFault::BadNumber),
+        (&b"MATCHSTATE:1:0:x:|8hTc:c"[..], LineFault::BadBetting),
+        (&b"MATCHSTATE:0:0::|8hTc:x"[..], LineFault::BadCards),
+        (&b"MATCHSTATE:1:0::|8hTc:x"[..], LineFault::BadAction),
+        (&b"MATCHSTATE:1:0::|8hTc:r20"[..], LineFault::BadAction),
+        (&b"MATCHSTATE:1:0::|8hTc:"[..], LineFault::BadAction),
+    ] {
+        assert!(rt; read_answer(text, &game).err() == Some(fault));
+    }
+}
+
+#[test]
+fn raises_of_a_no_limit_game_have_an_amount(rt: HostRuntime) {
+    let game = no_limit_game(&rt);
+    for (text, amount) in [
+        (&b"MATCHSTATE:1:0::|8hTc:r0"[..], 0),
+        (&b"MATCHSTATE:1:0::|8hTc:r200"[..], 200),
+        (&b"MATCHSTATE:1:0::|8hTc:r4294967295"[..], 4294967295),
+    ] {
+        let (_, action) = read_answer(text, &game).ok().expect(&rt, "an answer");
+        assert_eq!(rt; action, Action::Raise(amount));
+    }
+    for text in [
+        &b"MATCHSTATE:1:0::|8hTc:r"[..],
+        &b"MATCHSTATE:1:0::|8hTc:r0200"[..],
+        &b"MATCHSTATE:1:0::|8hTc:r4294967296"[..],
+    ] {
+        assert!(rt; read_answer(text, &game).err() == Some(LineFault::BadAction));
+    }
+}
+
+#[test]
+fn a_view_shows_its_cards(rt: HostRuntime) {
+    let game = game(&rt);
+    let deal = read_deal(b"TdAs|8hTc/2c8c3h/9c/Kh", 2).expect(&rt, "a deal");
+    let view = read(b"MATCHSTATE:0:0:rrrc/:TdAs|/2c8c3h", &game)
+        .ok()
+        .expect(&rt, "a line");
+    assert_eq!(rt; view.hole(0), Some(deal.hole(0)));
+    assert_eq!(rt; view.hole(1), None);
+    assert_eq!(rt; view.hole(2), None);
+    let [first, second, third, _, _] = deal.board();
+    assert_eq!(rt;
+        view.board(),
+        [Some(first), Some(second), Some(third), None, None]
+    );
+    assert_eq!(rt; view.actions().len(), 4);
+}
+
+#[test]
+fn views_differ_in_what_they_show(rt: HostRuntime) {
+    let game = game(&rt);
+    let view = read(b"MATCHSTATE:0:0:rrrc/:TdAs|/2c8c3h", &game)
+        .ok()
+        .expect(&rt, "a line");
+    for (text, same) in [
+        (&b"MATCHSTATE:0:0:rrrc/:TdAs|/2c8c3h"[..], true),
+        (&b"MATCHSTATE:1:0:rrrc/:|TdAs/2c8c3h"[..], false),
+        (&b"MATCHSTATE:0:1:rrrc/:TdAs|/2c8c3h"[..], false),
+        (&b"MATCHSTATE:0:0:rrc/:TdAs|/2c8c3h"[..], false),
+        (&b"MATCHSTATE:0:0:rrrc/:TdAh|/2c8c3h"[..], false),
+        (&b"MATCHSTATE:0:0:rrrc/:TdAs|/2c8c3d"[..], false),
+    ] {
+        let other = read(text, &game).ok().expect(&rt, "a line");
+        assert!(rt; view.is_same(&other) == same);
+    }
+}
+
+#[test]
+fn faults_print_their_number_and_name(rt: HostRuntime) -> Result<(), Fail> {
+    assert_eq!(rt; LineFault::BadAction.code(), 44);
+    let text = format!(in rt.alloc(); "{}", LineFault::BadAction)?;
+    assert_eq!(rt; text.as_str(), "44 BadAction");
     Ok(())
 }

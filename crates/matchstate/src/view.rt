@@ -1,11 +1,19 @@
-ghost use Rattle.std.specs.Prelude.{◌≡◌, ℕ, ◌+◌, ◌<◌, ◌≤◌, ◌++◌, reverse, OnOk, OnErr, vec_len, vec_capacity};
-ghost use Rattle.matchstate.specs.Line.{line_text};
+ghost use Rattle.std.specs.Prelude.{◌≡◌, ℕ, ◌+◌, ◌-◌, ◌<◌, ◌≤◌, ◌++◌, ◌↔◌, [], map, length, replicate, reverse, unwrap_or, slice_index_or, IsTrue, Result, Ok, OnOk, OnErr, vec_len, vec_capacity};
+ghost use Rattle.std.specs.List.{concat};
+ghost use Rattle.game_def.specs.Game.{IsGame};
+ghost use Rattle.matchstate.specs.View.{View as Sight, IsView};
+ghost use Rattle.matchstate.specs.Line.{ReadsAs, line_text};
+ghost use Rattle.matchstate.specs.declared.line_fault.LineFault.{LineFault};
 
+use crate::comparison::{are_same_actions, are_same_cards};
+use crate::gather::{gather, gather_board};
+use crate::laws::a_view_has_one_line;
 use crate::put::{put, put_number};
 use crate::put_betting::put_betting;
 use crate::put_seen::put_seen;
 use crate::seen_cards::SeenCards;
 use betting::Action;
+use card_core::Card;
 use game_def::GameDef;
 use std::alloc::AllocError;
 use std::marker::Model;
@@ -20,7 +28,7 @@ pub const MOST_LINE: usize = 4096;
 /// far, the hole cards that he sees and the board of the rounds that have begun.
 ///
 /// Contracts see these parts: the actions newest first, the hole cards by position (none where they aren't
-/// seen), and the board cards of each later round. `view` and `read` alone make one.
+/// seen), and the board cards of each later round. `seat_view`, `read` and `read_answer` alone make one.
 #[derive(Drop)]
 pub struct View {
     pub(crate) game: GameDef,
@@ -44,6 +52,17 @@ impl Model for View {
 }
 
 impl View {
+    /// What holds of every view: it shows what its viewer could see of some hand of its game, and whatever its
+    /// line reads as is the view again.
+    pub fn reads_back(&self)
+        ensures game { IsGame self.now.game }
+        ensures view { IsView self.now }
+        ensures back { (result : Result Sight LineFault) → ReadsAs self.now.game (line_text self.now) result → result ≡ Ok self.now }
+    {
+        self.game.limits();
+        a_view_has_one_line();
+    }
+
     /// The position that it is for, counted from 0.
     pub fn position(&self) -> usize
         ensures { result ≡ self.now.position }
@@ -63,6 +82,47 @@ impl View {
         ensures { result.now ≡ reverse self.now.past }
     {
         &self.actions[..self.count]
+    }
+
+    /// The two hole cards of a position, counted from 0; none where they aren't seen, or the game hasn't that
+    /// position.
+    pub fn hole(&self, position: usize) -> Option<[Card; 2]>
+        ensures { unwrap_or result [] ≡ slice_index_or self.now.holes position [] }
+    {
+        if position < self.game.players() {
+            self.seen.holes[position]
+        } else {
+            None
+        }
+    }
+
+    /// The board: the flop's three cards, the turn and the river, none at the places that aren't seen yet.
+    pub fn board(&self) -> [Option<Card>; 5]
+        ensures { result ≡ map Some (concat self.now.boards) ++ replicate (5 - length (concat self.now.boards)) None }
+    {
+        let (cards, count) = gather_board(&self.seen);
+        let mut board = [None; 5];
+        for place in 0..count {
+            let card = cards[place];
+            board[place] = Some(card);
+        }
+        board
+    }
+
+    /// Whether two views of one game are equal.
+    pub fn is_same(&self, other: &View) -> bool
+        requires { self.now.game ≡ other.now.game }
+        ensures { IsTrue result ↔ self.now ≡ other.now }
+    {
+        if self.position != other.position || self.hand != other.hand {
+            return false;
+        }
+        if !are_same_actions(self.actions(), other.actions()) {
+            return false;
+        }
+        let (cards, count) = gather(&self.seen, self.game.players());
+        let (others, other_count) = gather(&other.seen, other.game.players());
+        are_same_cards(&cards[..count], &others[..other_count])
     }
 }
 

@@ -43,7 +43,7 @@ not_begins_with_4097 : BeginsWith (replicate 4097 97 ++ 10 ∷ []) (replicate 40
 not_begins_with_4097 begins = omega (arith, begins.short, length-replicate {A = ℕ} 4097 97)
 
 -- it is overlong, whether its line feed came or not
-overlong_4097 : (more : List ℕ) → IsOverlong (replicate 4097 97 ++ more) (replicate 4097 97) more
+pub overlong_4097 : (more : List ℕ) → IsOverlong (replicate 4097 97 ++ more) (replicate 4097 97) more
 overlong_4097 more = record { joined = refl; one_line = clear_replicate 4097; long = length-replicate {A = ℕ} 4097 97 }
 
 -- a feed after 4096 bytes comes in time
@@ -60,7 +60,7 @@ not_partial_4097 partial = omega (arith, partial.short, length-replicate {A = �
 not_partial_line : IsPartial (97 ∷ 10 ∷ []) → ⊥
 not_partial_line partial = partial.one_line.1.0 refl
 
-version_zero : IsVersion (codes "VERSION:2.0.0")
+pub version_zero : IsVersion (codes "VERSION:2.0.0")
 version_zero =
     (codes "0", record { digits = All-from_recursion IsAsciiDigit (codes "0") (search rules); least = omega arith; most = omega arith }, refl)
 
@@ -68,7 +68,7 @@ version_nine_digits : IsVersion (codes "VERSION:2.0.001234567")
 version_nine_digits =
     (codes "001234567", record { digits = All-from_recursion IsAsciiDigit (codes "001234567") (search rules); least = omega arith; most = omega arith }, refl)
 
-not_version_one : IsVersion (codes "VERSION:2.1.0") → ⊥
+pub not_version_one : IsVersion (codes "VERSION:2.1.0") → ⊥
 not_version_one version = let differs = ap (λ (l : List ℕ). get_or l 10 0) version.2 in omega (arith, differs)
 
 not_version_bare : IsVersion (codes "VERSION:2.0.") → ⊥

@@ -2,3 +2,8 @@ pub mod Buffered
 pub mod Front
 pub mod Lines
 pub mod Version
+pub mod Fault
+pub mod Saying
+pub mod Session
+pub mod Skipped
+pub mod Laws

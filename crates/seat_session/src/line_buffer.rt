@@ -1,5 +1,6 @@
-ghost use Rattle.std.specs.Prelude.{◌≡◌, ◌≢◌, ◌+◌, ◌<◌, ◌≤◌, ℕ, List, [], ◌∷◌, ◌++◌, length, drop, MatchOption, OnOk, OnErr, vec_len, vec_capacity};
-ghost use Rattle.seat_session.specs.Lines.{HasNoFeed, Breaks, text_of};
+ghost use Rattle.std.specs.Prelude.{◌≡◌, ◌≢◌, ◌+◌, ◌<◌, ◌≤◌, ℕ, List, [], ◌∷◌, ◌++◌, length, drop, MatchOption, OnOk, OnErr, IsTrue, true, false, vec_len, vec_capacity};
+ghost use Rattle.seat_session.specs.Lines.{HasNoFeed, Breaks, BeginsWith, text_of};
+ghost use Rattle.seat_session.specs.Skipped.{Skips, is_skipped};
 ghost use Rattle.seat_session.specs.Front.{IsFrontOf};
 
 use crate::front::Front;
@@ -100,6 +101,17 @@ impl LineBuffer {
         }
     }
 
+    /// Takes the lines in front that are skipped: those that begin with `#` or `;`.
+    pub(crate) fn skip_lines(&mut self)
+        ensures skips { Skips self.old.waiting self.new.waiting }
+        ensures counts { (line rest : List ℕ) → BeginsWith self.new.waiting line rest → is_skipped (text_of line) ≡ false }
+        ensures room { self.old.room ≤ self.new.room }
+    {
+        while skipped_in_front(self) {
+            self.take_line();
+        }
+    }
+
     /// The bytes that weren't taken yet.
     fn waiting(&self) -> &[u8]
         ensures { result.now ≡ self.now.waiting }
@@ -115,6 +127,25 @@ impl LineBuffer {
         self.bytes.clear();
         self.taken = 0;
     }
+}
+
+/// Whether a line that is skipped stands in front.
+fn skipped_in_front(lines: &LineBuffer) -> bool
+    ensures skipped { IsTrue result → (line : List ℕ) × (rest : List ℕ) × BeginsWith lines.now.waiting line rest × (is_skipped (text_of line) ≡ true) }
+    ensures counts { result ≡ false → (line rest : List ℕ) → BeginsWith lines.now.waiting line rest → is_skipped (text_of line) ≡ false }
+{
+    match lines.front() {
+        Front::Line(text) => is_skipped(text),
+        Front::Partial => false,
+        Front::TooLong => false,
+    }
+}
+
+/// Whether a line with this text is skipped.
+fn is_skipped(text: &[u8]) -> bool
+    ensures { result ≡ is_skipped text.now }
+{
+    matches!(text, [b'#' | b';', ..])
 }
 
 /// Drops the first `count` bytes, and moves the others to the front of the memory.

@@ -1,4 +1,4 @@
-use Rattle.std.proofs.Common.{◌≡◌, ℕ, ◌+◌, ◌*◌, ◌≤◌, ◌<◌, ◌++◌, get_or, length, ap, sym, ◌∙◌, arith}
+use Rattle.std.proofs.Common.{◌≡◌, ◌<◌, ◌++◌, get_or, length, ap, sym, ◌∙◌, arith}
 use Rattle.matchstate.specs.SeenCards.{hole_in}
 use Rattle.matchstate.proofs.Dealt.{gather_more}
 use Rattle.matchstate.proofs.gather.gather_holes.Goals as goal

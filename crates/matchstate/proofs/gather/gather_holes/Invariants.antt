@@ -1,4 +1,4 @@
-use Rattle.std.proofs.Common.{◌≡◌, ◌+◌, ◌*◌, ◌≤◌, map, take, length}
+use Rattle.std.proofs.Common.{◌≡◌, ◌*◌, ◌≤◌, map, take, length}
 use Rattle.std.specs.List.{concat}
 use Rattle.matchstate.specs.SeenCards.{hole_in}
 use Rattle.matchstate.proofs.gather.gather_holes.Given as goal

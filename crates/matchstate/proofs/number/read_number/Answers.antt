@@ -1,4 +1,4 @@
-use Rattle.std.proofs.Common.{◌≡◌, ◌≢◌, ℕ, ◌^◌, ◌<◌, decimal, List, sym, ap, ◌∙◌, subst, arith, Ok, Some}
+use Rattle.std.proofs.Common.{◌≡◌, decimal, sym, ap, ◌∙◌, subst, arith, Ok, Some}
 use Rattle.std.specs.Str.{IsUtf8}
 use Rattle.std.proofs.lemmas.Bool.{false≢true}
 use Rattle.std.proofs.lemmas.Slice.Eq.{bytes_eq-Decides}

@@ -1,4 +1,4 @@
-use Rattle.std.proofs.Common.{◌≡◌, ◌+◌, ◌*◌, ◌≤◌, ◌++◌, take, vec_len, length}
+use Rattle.std.proofs.Common.{◌≡◌, ◌+◌, ◌*◌, ◌≤◌, ◌++◌, take, vec_len}
 use Rattle.std.specs.Vec.{vec_capacity}
 use Rattle.matchstate.specs.Cards.{cards_text}
 use Rattle.matchstate.proofs.put.put_cards.Given as goal

@@ -1,10 +1,9 @@
-use Rattle.std.proofs.Common.{◌≡◌, ℕ, ◌-◌, List, ◌∷◌, ◌++◌, reverse, take, replicate, get_or, is_ok, Bool, true, ap, sym, ◌∙◌, subst, arith, rules, refl, append_assoc}
+use Rattle.std.proofs.Common.{◌≡◌, ℕ, ◌-◌, List, ◌∷◌, ◌++◌, reverse, take, replicate, get_or, ap, sym, ◌∙◌, arith, rules, refl, append_assoc}
 use Rattle.std.proofs.lemmas.List.{append-nil}
 use Rattle.game_def.specs.Game.{Game}
 use Rattle.betting.specs.declared.action.Action.{Action}
 use Rattle.betting.specs.declared.action.Action.TheVariants.{Fold}
 use Rattle.betting.specs.Betting.{Betting, history}
-use Rattle.betting.specs.Legal.{CanAct}
 use Rattle.betting.specs.Rounds.{current_round, turns}
 use Rattle.betting.specs.Text.{text, action_text}
 use Rattle.matchstate.specs.Reading.{slashes_after}

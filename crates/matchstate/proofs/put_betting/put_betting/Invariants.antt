@@ -1,4 +1,4 @@
-use Rattle.std.proofs.Common.{◌≡◌, ◌+◌, ◌*◌, ◌≤◌, ◌++◌, take, reverse, vec_len, length}
+use Rattle.std.proofs.Common.{◌≡◌, ◌+◌, ◌*◌, ◌≤◌, ◌++◌, take, reverse, vec_len}
 use Rattle.std.specs.Vec.{vec_capacity}
 use Rattle.betting.specs.Text.{text}
 use Rattle.matchstate.proofs.put_betting.put_betting.Given as goal

@@ -1,4 +1,4 @@
-use Rattle.std.proofs.Common.{◌≡◌, ℕ, ◌+◌, ◌<◌, ◌≤◌, List, ◌++◌, length, get_or, drop, Option, Some, None, refl, sym, ap, ◌∙◌, subst, arith, length-set}
+use Rattle.std.proofs.Common.{◌≡◌, ◌+◌, ◌<◌, ◌++◌, length, get_or, drop, ◌∙◌, arith, length-set}
 use Rattle.matchstate.specs.Cards.{cards_text}
 use Rattle.matchstate.proofs.CardTexts.{card_next, All-at, place_next, text_next_card, pack_next, same_next}
 use Rattle.matchstate.proofs.read_cards.read_cards.Goals as goal

@@ -1,4 +1,4 @@
-use Rattle.std.proofs.Common.{◌≡◌, ℕ, ◌<◌, Some, None, arith}
+use Rattle.std.proofs.Common.{arith}
 use Rattle.matchstate.proofs.read_line.numbers_of.Goals as goal
 
 pub returns-in_err-position-clause-only : goal.returns-in_err-position-clause-only

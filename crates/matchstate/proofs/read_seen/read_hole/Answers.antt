@@ -1,4 +1,4 @@
-use Rattle.std.proofs.Common.{◌≡◌, ℕ, ◌+◌, ◌*◌, ◌≤◌, cond, true, ap, sym, subst, arith, length, length-append, drop}
+use Rattle.std.proofs.Common.{◌≡◌, ap, arith, length, length-append, drop}
 use Rattle.matchstate.proofs.CardTexts.{length_cards_text}
 use Rattle.matchstate.specs.Cards.{cards_text}
 use Rattle.matchstate.proofs.read_seen.read_hole.Goals as goal

@@ -1,10 +1,10 @@
-use Rattle.std.proofs.Common.{◌≡◌, ℕ, ◌+◌, ◌-◌, ◌<◌, ◌≤◌, List, [], ◌∷◌, ◌++◌, Bool, cond, map, Option, Some, None, IsSomeAnd, refl, ap, sym, subst, ◌∙◌, arith, length, take, drop, get_or, length-set}
+use Rattle.std.proofs.Common.{◌≡◌, ℕ, ◌+◌, ◌<◌, ◌≤◌, List, [], ◌∷◌, ◌++◌, cond, map, Option, Some, None, IsSomeAnd, ap, sym, ◌∙◌, arith, length, take, drop, get_or, length-set}
 use Rattle.std.specs.Borrow.{Bor}
 use Rattle.std.specs.List.{join_by}
 use Rattle.std.proofs.lemmas.List.{drop_all, take_all}
 use Rattle.std.proofs.lemmas.List.Prefix.{end_rest}
 use Rattle.matchstate.specs.Cards.{cards_text}
-use Rattle.matchstate.specs.SeenCards.{hole_in, seen_at, separator}
+use Rattle.matchstate.specs.SeenCards.{hole_in, seen_at}
 use Rattle.matchstate.proofs.Joined.{joined, joined_is, hole_next, All-hole, count_of_holes, count_of_hole, text_more, counts_more, pack_more, same_more}
 use Rattle.matchstate.proofs.read_seen.read_holes.Goals as goal
 

@@ -1,4 +1,4 @@
-use Rattle.std.proofs.Common.{◌≡◌, ℕ, ◌+◌, ◌-◌, ◌<◌, ◌≤◌, List, ◌++◌, cond, map, length, take, drop}
+use Rattle.std.proofs.Common.{◌≡◌, ℕ, ◌<◌, ◌≤◌, List, ◌++◌, cond, map, length, take, drop}
 use Rattle.std.specs.List.{AllByRecursion, concat, range_with_len}
 use Rattle.matchstate.specs.SeenCards.{hole_in, seen_at}
 use Rattle.matchstate.proofs.Joined.{joined}

@@ -1,10 +1,10 @@
-use Rattle.std.proofs.Common.{◌≡◌, ℕ, ◌+◌, ◌-◌, ◌<◌, ◌≤◌, List, [], ◌∷◌, ◌++◌, Bool, cond, map, Option, Some, None, IsSomeAnd, refl, ap, sym, subst, ◌∙◌, arith, length, take, drop}
+use Rattle.std.proofs.Common.{◌≡◌, [], ◌∷◌, ◌++◌, map, Option, Some, None, IsSomeAnd, ap, sym, ◌∙◌, arith, length, take, drop}
 use Rattle.std.specs.List.{join_by}
 use Rattle.std.specs.Option.{option_to_list}
 use Rattle.std.proofs.lemmas.List.{drop_all, length-drop}
-use Rattle.matchstate.specs.Cards.{cards_text, cards_field}
-use Rattle.matchstate.specs.SeenCards.{hole_in, holes_in, boards_in, seen_at, AreCounted}
-use Rattle.matchstate.proofs.Parts.{streets_text, Parts, parts_of, field_joined, counted_joined}
+use Rattle.matchstate.specs.Cards.{cards_text}
+use Rattle.matchstate.specs.SeenCards.{hole_in, seen_at}
+use Rattle.matchstate.proofs.Parts.{streets_text, parts_of, field_joined, counted_joined}
 use Rattle.matchstate.proofs.read_seen.read_seen.Goals as goal
 
 missing : {A : Type 0} (P : A → Type 0) (r : Option A) → r ≡ None → IsSomeAnd r P → ⊥

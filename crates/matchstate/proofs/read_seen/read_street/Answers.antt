@@ -1,4 +1,4 @@
-use Rattle.std.proofs.Common.{◌≡◌, ℕ, ◌+◌, ◌*◌, ◌≤◌, ◌<◌, List, [], ◌∷◌, ◌++◌, Bool, cond, true, false, map, Option, Some, None, IsSomeAnd, refl, ap, sym, subst, ◌∙◌, arith, length, length-append, drop}
+use Rattle.std.proofs.Common.{◌≡◌, ℕ, ◌+◌, ◌*◌, List, [], ◌∷◌, ◌++◌, Bool, cond, true, Option, Some, None, IsSomeAnd, ap, sym, ◌∙◌, arith, length, length-append, drop}
 use Rattle.std.specs.Borrow.{Bor}
 use Rattle.std.proofs.lemmas.List.{drop_at}
 use Rattle.matchstate.specs.Cards.{cards_text}

@@ -1,10 +1,9 @@
-use Rattle.std.proofs.Common.{◌≡◌, ℕ, ◌^◌, ◌<◌, ◌≤◌, Bool, true, false, not, List, [], ◌∷◌, Option, Some, None, IsSome, refl, sym, ap, ◌∙◌, subst, arith, ◌⊎◌, inl, inr, decimal, rules}
+use Rattle.std.proofs.Common.{◌≡◌, ℕ, ◌^◌, ◌<◌, ◌≤◌, List, ◌∷◌, Option, Some, None, IsSome, sym, ap, subst, arith, inl, inr, decimal, rules}
 use Rattle.std.specs.Bool.{IsTrue}
 use Rattle.game_def.specs.Game.{Game}
-use Rattle.betting.specs.declared.action.Action.TheVariants.{Raise}
 use Rattle.betting.specs.Turns.{Turn}
-use Rattle.betting.specs.Legal.{CanAct, IsRaiseRange}
-use Rattle.matchstate.specs.ActionText.{IsRaiseText, IsLimitAmount}
+use Rattle.betting.specs.Legal.{IsRaiseRange}
+use Rattle.matchstate.specs.ActionText.{IsRaiseText}
 use Rattle.matchstate.proofs.reading_action.read_amount.Goals as goal
 
 no_limit_only : (sizes : Option (List ℕ)) (game : Game) (past : List Turn) (digits : List ℕ) (amount : ℕ) (read : Option ℕ) → (IsSome sizes → ⊥) → ((n : ℕ) → n < 2 ^ 32 → digits ≡ decimal n → read ≡ Some n) → IsRaiseText sizes game past (114 ∷ digits) amount → read ≡ Some amount

@@ -1,4 +1,4 @@
-use Rattle.std.proofs.Common.{◌≡◌, ℕ, ◌<◌, ◌≤◌, List, [], ◌∷◌, ◌++◌, length, Bool, true, false, eqb, Option, Some, None, IfSome, IsSomeAnd, refl, ap, ◌∙◌, sym, subst, arith, rules}
+use Rattle.std.proofs.Common.{◌≡◌, ℕ, ◌<◌, List, ◌∷◌, ◌++◌, length, Bool, true, false, eqb, Option, Some, None, IsSomeAnd, ap, ◌∙◌, sym, subst, arith}
 use Rattle.std.specs.Borrow.{Bor}
 use Rattle.std.proofs.lemmas.Bool.Decides.{nat_tests}
 use Rattle.game_def.specs.Game.{Game}
@@ -8,7 +8,7 @@ use Rattle.betting.specs.Legal.{Legal}
 use Rattle.betting.specs.Text.{text}
 use Rattle.matchstate.specs.Reading.{BeginsWith}
 use Rattle.matchstate.proofs.Texts.{text_none}
-use Rattle.matchstate.proofs.Behind.{Behind, Next, behind_all, next_behind, behind_none, text_with}
+use Rattle.matchstate.proofs.Behind.{Behind, behind_all, next_behind, behind_none, text_with}
 use Rattle.matchstate.proofs.reading_betting.read_betting.Goals as goal
 
 pub loop-rest-init : goal.loop-rest-init

@@ -1,6 +1,6 @@
-use Rattle.std.proofs.Common.{◌≡◌, ℕ, ◌+◌, ◌-◌, ◌≤◌, Bool, true, false, not, List, [], ◌∷◌, ◌++◌, take, drop, replicate, Option, Some, None, IfSome, IsSomeAnd, is_ok, refl, ap, ◌∙◌, sym, subst, arith}
+use Rattle.std.proofs.Common.{◌≡◌, ℕ, ◌-◌, Bool, true, false, not, List, ◌∷◌, ◌++◌, drop, replicate, Option, Some, None, IfSome, refl, ap, ◌∙◌, sym, subst}
 use Rattle.std.specs.Borrow.{Bor}
-use Rattle.std.proofs.lemmas.List.{take-append-drop, append_assoc}
+use Rattle.std.proofs.lemmas.List.{take-append-drop}
 use Rattle.game_def.specs.Game.{Game}
 use Rattle.betting.specs.declared.action.Action.{Action}
 use Rattle.betting.specs.Betting.{Betting, history}
@@ -8,7 +8,6 @@ use Rattle.betting.specs.Rounds.{current_round, turns}
 use Rattle.betting.specs.Legal.{CanAct}
 use Rattle.betting.specs.Text.{action_text}
 use Rattle.matchstate.specs.ActionText.{IsActionText}
-use Rattle.matchstate.specs.Reading.{BeginsWith, slashes_after, NoDigitFirst}
 use Rattle.matchstate.proofs.Words.{cut_word, action_reads, text_of_read}
 use Rattle.matchstate.proofs.reading_betting.read_turn.Goals as goal
 

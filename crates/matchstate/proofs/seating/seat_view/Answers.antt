@@ -1,4 +1,4 @@
-use Rattle.std.proofs.Common.{◌≡◌, ℕ, ◌+◌, ◌-◌, ◌<◌, ◌≤◌, length, Option, Some, None, refl, sym, ap, ◌∙◌, subst, arith, List}
+use Rattle.std.proofs.Common.{◌≡◌, ℕ, ◌+◌, length, Some, sym, ap, ◌∙◌, arith, List}
 use Rattle.std.specs.Borrow.{Bor}
 use Rattle.game_def.specs.Game.{Game}
 use Rattle.betting.specs.Betting.{Betting}

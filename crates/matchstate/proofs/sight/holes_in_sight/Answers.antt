@@ -1,4 +1,4 @@
-use Rattle.std.proofs.Common.{◌≡◌, ℕ, ◌<◌, ◌≤◌, cond, [], length, ◌∙◌, arith, length-set}
+use Rattle.std.proofs.Common.{◌≡◌, ◌<◌, cond, [], length, ◌∙◌, arith, length-set}
 use Rattle.card_core.specs.Deal.{hole_of}
 use Rattle.matchstate.specs.View.{sees}
 use Rattle.matchstate.proofs.Sights.{sight_next}

@@ -1,11 +1,10 @@
-use Rattle.std.proofs.Common.{◌≡◌, ℕ, ◌<◌, ◌≤◌, List, [], ◌∷◌, ◌++◌, refl, sym, ap, ◌∙◌, subst, arith, append_assoc, take, reverse, decimal, codes}
+use Rattle.std.proofs.Common.{◌≡◌, ◌++◌, sym, ap, ◌∙◌, arith, take, reverse, decimal, codes}
 use Rattle.game_def.specs.Game.{Game}
 use Rattle.betting.specs.Text.{text}
 use Rattle.matchstate.specs.Cards.{cards_field}
 use Rattle.matchstate.specs.SeenCards.{holes_in, boards_in}
 use Rattle.matchstate.specs.View.{View}
 use Rattle.matchstate.specs.Line.{line_text}
-use Rattle.matchstate.specs.ViewInside.{view_in}
 use Rattle.matchstate.proofs.Sights.{spelled}
 use Rattle.matchstate.proofs.view.write_reserved.Goals as goal
 

@@ -9,5 +9,7 @@ returns c = record {
   game_is = ap (λ (m : Match). m.game) c.new.ensures;
   count_is = ap (λ (m : Match). m.count) c.new.ensures;
   hands_are = ap (λ (m : Match). m.hands) c.new.ensures;
-  named_is = refl;
+  names_are = refl;
+  log_is = refl;
+  names_first = refl;
 }

@@ -5,9 +5,9 @@ use Rattle.holdem_table.proofs.Progress.{begins_still, piece_split}
 use Rattle.holdem_table.proofs.running.Running.take_piece.Goals as goal
 
 pub returns-in_err-take_byte-clause-err : goal.returns-in_err-take_byte-clause-err
-returns-in_err-take_byte-clause-err g c = on_err c.from_residual.result _ (λ game count start seen shows.
+returns-in_err-take_byte-clause-err g c = on_err c.from_residual.result _ (λ game count log start seen shows.
     let i = c.loop-byte.byte-index in
     let piece = c.args.piece.now in
-    let begun = c.in_err-take_byte.ensures.err game count start (seen ++ take i piece) (c.loop-byte.invariant game count start seen shows) in
-    let read : List ℕ → Type 0 = λ bytes. Begins game count start bytes (g.W.Write.contents c.take_byte.new.writer) in
-    subst read (piece_split seen piece i (omega arith)) (begins_still game count start _ _ (drop (i + 1) piece) begun))
+    let begun = c.in_err-take_byte.ensures.err game count log start (seen ++ take i piece) (c.loop-byte.invariant game count log start seen shows) in
+    let read : List ℕ → Type 0 = λ bytes. Begins game count log start bytes (g.W.Write.contents c.take_byte.new.writer) in
+    subst read (piece_split seen piece i (omega arith)) (begins_still game count log start _ _ (drop (i + 1) piece) begun))

@@ -1,0 +1,132 @@
+-- The hands of a list of commands that ends the match are played by the rules to their end.
+use Rattle.std.proofs.Common.{◌≡◌, ◌≢◌, ℕ, ◌+◌, ◌*◌, ◌<◌, ◌≤◌, Bool, true, false, not, cond, eqb, leb, List, [], ◌∷◌, length, Option, Some, None, refl, ap, subst, arith}
+use Rattle.std.specs.List.{AllByRecursion}
+use Rattle.std.specs.Option.{option_map}
+use Rattle.std.proofs.lemmas.Bool.Decides.{nat_tests}
+use Rattle.std.proofs.lemmas.List.Sums.{sum_by-cons}
+use Rattle.game_def.specs.Game.{Game}
+use Rattle.card_core.specs.Deal.{IsDeal, player_count}
+use Rattle.betting.specs.declared.action.Action.{Action}
+use Rattle.betting.specs.declared.fault.ActFault.{ActFault}
+use Rattle.betting.specs.Legal.{CanAct, Legal}
+use Rattle.betting.specs.Laws.{AllowedWithoutFault}
+use Rattle.betting.specs.Rounds.{turns}
+use Rattle.slot_log.specs.Hand.{Hand}
+use Rattle.slot_log.specs.Dealer.{is_finished, finished_count, is_running, hands_of, reason_of, with_command}
+use Rattle.slot_log.specs.declared.command.Command.{Command}
+use Rattle.slot_log.specs.declared.command.Command.TheVariants.{Deal, Act}
+use Rattle.slot_log.specs.declared.reason.Reason.{Reason}
+use Rattle.slot_log.specs.declared.reason.Reason.TheVariants.{MatchDone, NoHand, HandRunning, WrongHand, WrongIndex, WrongCards, Illegal}
+use Rattle.match_log.specs.Check.{DealsFairly, IsPlayed}
+use Rattle.match_log.specs.Verdict.{HandsEndFinished}
+
+-- dealt, and legal so far
+pub record IsBegun (game : Game) (hand : Hand) : Type 0 where
+  pub dealt : IsDeal game.players hand.deal
+  pub legal : Legal game hand.past
+
+-- all but the newest are played to their end
+abbrev AreInOrder : Game → List Hand → Type 0
+AreInOrder game [] = Unit {0}
+AreInOrder game (newest ∷ earlier) = IsBegun game newest × AllByRecursion (IsPlayed game) earlier
+
+-- and there are no more than the match has
+record IsCourse (game : Game) (count : ℕ) (hands : List Hand) : Type 0 where
+  in_order : AreInOrder game hands
+  few : length hands ≤ count
+
+finished_all : (game : Game) (hands : List Hand) → AllByRecursion (IsPlayed game) hands → finished_count game hands ≡ length hands
+finished_all game [] all = refl
+finished_all game (hand ∷ earlier) all =
+    let one : ◌≡◌ {A = ℕ} (cond (is_finished game hand) 1 0) 1 = ap (λ (b : Bool). cond b 1 0) all.0.finished in
+    omega (arith, one, sum_by-cons (λ (h : Hand). cond (is_finished game h) 1 0) hand earlier, finished_all game earlier all.1)
+
+stopped : (b : Bool) → not b ≡ false → b ≡ true
+stopped true e = refl
+stopped false e = cc
+
+-- where a test stands before all else and there is no reason, it failed
+past_test : (b : Bool) (reason : Reason) (others : Option Reason) → cond b (Some reason) others ≡ None → (b ≡ false) × (others ≡ None)
+past_test true reason others e = cc
+past_test false reason others e = (refl, e)
+
+no_fault : (fault : Option ActFault) → option_map Illegal fault ≡ None → fault ≡ None
+no_fault None e = refl
+no_fault (Some fault) e = cc
+
+-- no hand runs where there is no reason against a deal
+deal_begins : (game : Game) (count number : ℕ) (deal : List ℕ) (hands : List Hand) → reason_of game count hands (Deal number deal) ≡ None → (finished_count game hands < count) × (is_running game hands ≡ false) × (length deal ≡ 2 * game.players + 5)
+deal_begins game count number deal hands none =
+    let first = past_test (leb count (finished_count game hands)) MatchDone _ none in
+    let second = past_test (is_running game hands) HandRunning _ first.1 in
+    let third = past_test (not (eqb number (finished_count game hands))) WrongHand _ second.1 in
+    let fourth = past_test (not (eqb (length deal) (2 * game.players + 5))) WrongCards _ third.1 in
+    let goes_on : leb count (finished_count game hands) ≡ false = first.0 in
+    let cards : not (eqb (length deal) (2 * game.players + 5)) ≡ false = fourth.0 in
+    (grind (arith, nat_tests), second.0, grind (arith, nat_tests))
+
+-- and the newest hand allows an act
+act_goes_on : AllowedWithoutFault → (game : Game) (count number index : ℕ) (action : Action) (newest : Hand) (earlier : List Hand) → reason_of game count (newest ∷ earlier) (Act number index action) ≡ None → CanAct game (turns game newest.past) action
+act_goes_on law game count number index action newest earlier none =
+    let first = past_test (leb count (finished_count game (newest ∷ earlier))) MatchDone _ none in
+    let second = past_test (is_finished game newest) NoHand _ first.1 in
+    let third = past_test (not (eqb number (length earlier))) WrongHand _ second.1 in
+    let fourth = past_test (not (eqb index (length newest.past))) WrongIndex _ third.1 in
+    (law game (turns game newest.past) action).1 (no_fault _ fourth.1)
+
+none_to_act : (game : Game) (count number index : ℕ) (action : Action) → reason_of game count [] (Act number index action) ≢ None
+none_to_act game count number index action none = let first = past_test (leb count (finished_count game [])) MatchDone _ none in let rest = first.1 in cc
+
+-- where no hand runs all are played to their end
+all_played : (game : Game) (hands : List Hand) → AreInOrder game hands → is_running game hands ≡ false → AllByRecursion (IsPlayed game) hands
+all_played game [] in_order none_runs = tt
+all_played game (newest ∷ earlier) in_order none_runs =
+    (record { dealt = in_order.0.dealt; legal = in_order.0.legal; finished = stopped (is_finished game newest) none_runs }, in_order.1)
+
+command_fits : AllowedWithoutFault → (game : Game) (count : ℕ) (hands : List Hand) (command : Command) → DealsFairly command → reason_of game count hands command ≡ None → IsCourse game count hands → IsCourse game count (with_command hands command)
+command_fits law game count hands (Deal number deal) fair none course =
+    let begins = deal_begins game count number deal hands none in
+    let before : AllByRecursion (IsPlayed game) hands = all_played game hands course.in_order begins.1 in
+    let players : player_count deal ≡ game.players = omega (arith, begins.2) in
+    record {
+      in_order = (record { dealt = subst (λ (n : ℕ). IsDeal n deal) players fair; legal = tt }, before);
+      few = omega (arith, begins.0, finished_all game hands before);
+    }
+command_fits law game count [] (Act number index action) fair none course = absurd (none_to_act game count number index action none)
+command_fits law game count (newest ∷ earlier) (Act number index action) fair none course =
+    let few = course.few in
+    record {
+      in_order =
+          (record { dealt = course.in_order.0.dealt; legal = (course.in_order.0.legal, act_goes_on law game count number index action newest earlier none) }, course.in_order.1);
+      few = omega arith;
+    }
+
+course_of : (law : AllowedWithoutFault) (game : Game) (count : ℕ) (commands : List Command) → AllByRecursion DealsFairly commands → IsCourse game count (hands_of game count commands)
+unfolding hands_of
+course_of law game count [] fair = record { in_order = tt; few = omega arith }
+course_of law game count (command ∷ earlier) fair = by (course_of law game count earlier fair.1) (reason_of game count (hands_of game count earlier) command) refl
+  where
+    by : IsCourse game count (hands_of game count earlier) → (reason : Option Reason) → reason_of game count (hands_of game count earlier) command ≡ reason → IsCourse game count (elim reason [ None ↦ with_command (hands_of game count earlier) command | Some why ↦ hands_of game count earlier ])
+    by before None e = command_fits law game count (hands_of game count earlier) command fair.0 e before
+    by before (Some why) e = before
+
+-- where as many are finished as the match has, the newest is
+finished_newest : (game : Game) (count : ℕ) (hands : List Hand) → IsCourse game count hands → count ≤ finished_count game hands → AllByRecursion (IsPlayed game) hands × (length hands ≡ count)
+finished_newest game count [] course over = (tt, let few = course.few in let none : finished_count game [] ≡ 0 = refl in omega arith)
+finished_newest game count (newest ∷ earlier) course over =
+    by (is_finished game newest) refl
+  where
+    by : (b : Bool) → is_finished game newest ≡ b → AllByRecursion (IsPlayed game) (newest ∷ earlier) × (length (newest ∷ earlier) ≡ count)
+    by true e =
+        let one : ◌≡◌ {A = ℕ} (cond (is_finished game newest) 1 0) 1 = ap (λ (b : Bool). cond b 1 0) e in (
+          (record { dealt = course.in_order.0.dealt; legal = course.in_order.0.legal; finished = e }, course.in_order.1),
+          omega (arith, course.few, over, one, sum_by-cons (λ (h : Hand). cond (is_finished game h) 1 0) newest earlier, finished_all game earlier course.in_order.1),
+        )
+    by false e =
+        let none : ◌≡◌ {A = ℕ} (cond (is_finished game newest) 1 0) 0 = ap (λ (b : Bool). cond b 1 0) e in
+        absurd (omega (arith, course.few, over, none, sum_by-cons (λ (h : Hand). cond (is_finished game h) 1 0) newest earlier, finished_all game earlier course.in_order.1))
+
+pub hands_end_finished : AllowedWithoutFault → HandsEndFinished
+hands_end_finished law game count commands fair over =
+    let enough : count ≤ finished_count game (hands_of game count commands) = grind (arith, nat_tests) in
+    finished_newest game count (hands_of game count commands) (course_of law game count commands fair) enough

@@ -1,0 +1,48 @@
+-- Cards that are put behind others, each of which doesn't stand there yet.
+use Rattle.std.proofs.Common.{◌≡◌, ℕ, zero, suc, ◌+◌, ◌<◌, Bool, true, false, nat_eq, List, [], ◌∷◌, ◌++◌, length, take, set, refl, sym, ◌∙◌, arith}
+use Rattle.std.specs.List.{IsDistinct, AllByRecursion, list_any}
+use Rattle.std.proofs.lemmas.List.{take_more_set}
+use Rattle.std.proofs.lemmas.Bool.Decides.{nat_tests}
+use Rattle.std.proofs.lemmas.Grind.{common_steps}
+use Rattle.matchstate.proofs.Counts.{from_absent}
+use Rattle.matchstate.proofs.Completion.{fresh_card}
+use Rattle.matchstate.proofs.CardTexts.{All-push}
+
+none_from_any : (p : ℕ → Bool) (xs : List ℕ) → list_any p xs ≡ false → AllByRecursion (λ y. p y ≡ false) xs
+none_from_any p [] e = tt
+none_from_any p (x ∷ xs) e = search (arith, common_steps, none_from_any p xs)
+
+any_from_none : (p : ℕ → Bool) (xs : List ℕ) → AllByRecursion (λ y. p y ≡ false) xs → list_any p xs ≡ false
+any_from_none p [] e = refl
+any_from_none p (x ∷ xs) e = let k = any_from_none p xs e.1 in rw (e.0, k) refl
+
+IsDistinct-push : (xs : List ℕ) (x : ℕ) → IsDistinct nat_eq xs → AllByRecursion (λ y. nat_eq x y ≡ false) xs → IsDistinct nat_eq (xs ++ x ∷ [])
+unfolding IsDistinct
+IsDistinct-push [] x distinct apart = (tt, tt)
+IsDistinct-push (y ∷ xs) x distinct apart =
+    let other : nat_eq y x ≡ false = let here = apart.0 in grind (arith, nat_tests) in
+    (All-push (λ z. nat_eq y z ≡ false) xs x distinct.0 other, IsDistinct-push xs x distinct.1 apart.1)
+
+pub distinct_more : (xs : List ℕ) (place card : ℕ) → place < length xs → list_any (λ other. nat_eq card other) (take place xs) ≡ false → IsDistinct nat_eq (take place xs) → IsDistinct nat_eq (take (place + 1) (set xs place card))
+distinct_more xs place card below unused distinct =
+    rw (take_more_set xs place card below) (IsDistinct-push (take place xs) card distinct (none_from_any (λ other. nat_eq card other) (take place xs) unused))
+
+All-take : (P : ℕ → Type 0) (n : ℕ) (xs : List ℕ) → AllByRecursion P xs → AllByRecursion P (take n xs)
+All-take P zero xs all = tt
+All-take P (suc n) [] all = tt
+All-take P (suc n) (x ∷ xs) all = (all.0, All-take P n xs all.1)
+
+pub IsDistinct-take : (n : ℕ) (xs : List ℕ) → IsDistinct nat_eq xs → IsDistinct nat_eq (take n xs)
+unfolding IsDistinct
+IsDistinct-take zero xs distinct = tt
+IsDistinct-take (suc n) [] distinct = tt
+IsDistinct-take (suc n) (x ∷ xs) distinct = (All-take (λ y. nat_eq x y ≡ false) n xs distinct.0, IsDistinct-take n xs distinct.1)
+
+-- fewer than 52 cards can't be the whole pack
+pub not_the_whole_pack : (xs : List ℕ) → length xs < 52 → ((k : ℕ) → k < 52 → list_any (λ card. nat_eq k card) xs ≡ true) → ⊥
+not_the_whole_pack xs few all =
+    let found = fresh_card 52 xs few in
+    let none = any_from_none (λ card. nat_eq found.0 card) xs (from_absent found.0 xs found.2) in
+    let some = all found.0 found.1 in
+    let clash : ◌≡◌ {A = Bool} false true = sym none ∙ some in
+    cc

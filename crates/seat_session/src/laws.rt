@@ -1,0 +1,32 @@
+//! What holds of every session: each law is the contract of a function that does nothing.
+
+ghost use Rattle.seat_session.specs.Laws.{OneAnswer, RunsGoOn, AnyPieces, WholeLines};
+
+use betting::laws::allowed_without_fault;
+use matchstate::laws::a_text_reads_one_way;
+
+/// What a session was given and the hands of a table have one answer: a line says one thing, or has one fault.
+pub fn one_answer()
+    ensures { OneAnswer }
+{
+    a_text_reads_one_way();
+    allowed_without_fault();
+}
+
+/// What happens to a session goes on: its pieces and its answers are those of the events so far and of the
+/// later ones.
+pub fn runs_go_on()
+    ensures { RunsGoOn }
+{}
+
+/// However a seat's bytes are cut into pieces, and whenever its session is asked, the answers are those to the
+/// joined bytes, each by the hands of its time.
+pub fn any_pieces()
+    ensures { AnyPieces }
+{}
+
+/// What a session takes of a seat's bytes are whole lines, and what it says that the seat said is what one
+/// whole line among them says.
+pub fn whole_lines()
+    ensures { WholeLines }
+{}

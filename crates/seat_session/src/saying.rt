@@ -1,0 +1,105 @@
+ghost use Rattle.std.specs.Prelude.{◌≡◌, ◌≢◌, ◌<◌, false, Some, IfSome, IfOk, MatchOption};
+ghost use Rattle.matchstate.specs.View.{seat_view};
+ghost use Rattle.seat_session.specs.Saying.{Greets, Plays, Says, SaidFits};
+ghost use Rattle.seat_session.specs.Lines.{IsPartial};
+ghost use Rattle.seat_session.specs.Session.{is_closed, FrontSays};
+
+use crate::front::Front;
+use crate::line_buffer::LineBuffer;
+use crate::phase::Phase;
+use crate::said::Said;
+use crate::session_fault::SessionFault;
+use crate::version::is_version;
+use betting::{Play, laws};
+use matchstate::{View, read_answer, seat_view};
+use slot_log::{Command, Table};
+
+/// What stands in front says; `None` while no line is whole there.
+pub(crate) fn said_in_front(
+    lines: &LineBuffer,
+    phase: Phase,
+    seat: usize,
+    table: &Table,
+) -> Option<Result<Said, SessionFault>>
+    requires seat { seat < table.now.game.players }
+    requires open { is_closed phase ≡ false }
+    ensures front { MatchOption result (IsPartial lines.now.waiting) (FrontSays table.now.game table.now.hands seat phase lines.now.waiting) }
+    ensures fits { IfSome result (λ answer. IfOk answer (λ said. SaidFits table.now said)) }
+{
+    match lines.front() {
+        Front::Partial => None,
+        Front::TooLong => Some(Err(SessionFault::LineTooLong)),
+        Front::Line(text) => Some(said_by(text, phase, seat, table)),
+    }
+}
+
+// What a line that isn't skipped says.
+fn said_by(text: &[u8], phase: Phase, seat: usize, table: &Table) -> Result<Said, SessionFault>
+    requires seat { seat < table.now.game.players }
+    requires open { is_closed phase ≡ false }
+    ensures says { Says table.now.game table.now.hands seat phase text.now result }
+    ensures fits { IfOk result (λ said. SaidFits table.now said) }
+{
+    match phase {
+        Phase::Greeting => said_first(text),
+        Phase::Ready => said_in_play(text, seat, table),
+        Phase::Closed(fault) => Err(fault),
+    }
+}
+
+// What the first line says.
+fn said_first(text: &[u8]) -> Result<Said, SessionFault>
+    ensures { Greets text.now result }
+{
+    if is_version(text) {
+        Ok(Said::Ready)
+    } else {
+        Err(SessionFault::BadVersion)
+    }
+}
+
+// What a line of the game says.
+fn said_in_play(text: &[u8], seat: usize, table: &Table) -> Result<Said, SessionFault>
+    requires { seat < table.now.game.players }
+    ensures plays { Plays table.now.game table.now.hands seat text.now result }
+    ensures fits { IfOk result (λ said. SaidFits table.now said) }
+{
+    laws::allowed_without_fault();
+    prove!(table.dealt() <= table.hands());
+    let (view, action) = match read_answer(text, table.game()) {
+        Ok(answer) => answer,
+        Err(fault) => return Err(SessionFault::Malformed(fault)),
+    };
+    let Some(play) = current_play(table, seat, &view) else {
+        return Err(SessionFault::NotCurrent);
+    };
+    if play.to_act() != Some(view.position()) {
+        return Err(SessionFault::NotYourTurn);
+    }
+    match play.fault(action) {
+        Some(fault) => Err(SessionFault::Illegal(fault)),
+        None => Ok(Said::Act(Command::Act {
+            hand: view.hand(),
+            index: play.actions().len() as u16,
+            action,
+        })),
+    }
+}
+
+// The betting of the newest hand, where the view is what the seat sees of it.
+fn current_play<'a>(table: &'a Table, seat: usize, view: &View) -> Option<&'a Play>
+    requires seat { seat < table.now.game.players }
+    requires game { view.now.game ≡ table.now.game }
+    ensures { MatchOption result (seat_view table.now.game table.now.hands seat ≢ Some view.now)
+        (λ play. (seat_view table.now.game table.now.hands seat ≡ Some view.now)
+        × (play.now ≡ record { game = table.now.game; past = view.now.past })) }
+{
+    let Some(current) = seat_view(table, seat) else {
+        return None;
+    };
+    if current.is_same(view) {
+        table.play(view.hand())
+    } else {
+        None
+    }
+}
