@@ -1,7 +1,6 @@
 pub mod Takes
 pub mod Streams
 pub mod SeatNames
-pub mod GameWords
 pub mod Telling
 pub mod Lines
 pub mod Progress
@@ -9,3 +8,6 @@ pub mod Lengths
 pub mod Logging
 pub mod Taking
 pub mod Examples
+pub mod OneCut
+pub mod OneSaying
+pub mod OneOutput

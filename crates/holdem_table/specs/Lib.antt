@@ -7,3 +7,4 @@ pub mod Script
 pub mod Running
 pub mod Outcome
 pub mod Verdict
+pub mod OneOutput

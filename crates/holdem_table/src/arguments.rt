@@ -25,6 +25,7 @@ BadState, 47 WrongNumber (of the hand), 48 WrongValues (of the hand), 49 WrongSc
 further line). The exit status is 0 for yes, 1 for no, and 2 where there is no verdict.
 
 Example:
+  holdem_table hand --log l2.game < script | sed -n 's/^L //p' > match.log
   holdem_table check l2.game match.log";
 
 /// What the command line asks for.

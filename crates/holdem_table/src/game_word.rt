@@ -1,11 +1,8 @@
-ghost use Rattle.std.specs.Prelude.{◌≡◌, ◌↔◌, ◌≤◌, ◌&&◌, nat_le, IsSome, IfSome, IsTrue};
-ghost use Rattle.std.specs.List.{list_all};
+ghost use Rattle.std.specs.Prelude.{◌≡◌, ◌↔◌, IsSome, IfSome, IsTrue};
 ghost use Rattle.match_log.specs.Names.{IsGameWord};
 
+use match_log::is_game_word;
 use std::marker::Model;
-
-/// The most characters of a game's word.
-const MOST_CHARACTERS: usize = 200;
 
 /// The word by which a log names its game: 1 to 200 printable ASCII characters without space.
 ///
@@ -46,19 +43,4 @@ impl<'a> GameWord<'a> {
     {
         self.text.as_bytes()
     }
-}
-
-/// Whether the bytes have a game word's form.
-#[tactic(auto, using(crate::proofs::GameWords::word_from_tests, crate::proofs::GameWords::tests_from_word))]
-fn is_game_word(bytes: &[u8]) -> bool
-    ensures { IsTrue result ↔ IsGameWord bytes.now }
-{
-    !bytes.is_empty() && bytes.len() <= MOST_CHARACTERS && are_printable(bytes)
-}
-
-/// Whether each byte is a printable ASCII character other than a space.
-fn are_printable(bytes: &[u8]) -> bool
-    ensures { result ≡ list_all (λ byte. nat_le 33 byte && nat_le byte 126) bytes.now }
-{
-    bytes.iter().all(|byte| *byte >= 33 && *byte <= 126)
 }

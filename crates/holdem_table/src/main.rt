@@ -8,6 +8,7 @@ mod dealing;
 mod game_word;
 mod hand_run;
 mod late_file;
+mod laws;
 mod line;
 mod log_lines;
 mod outcome;

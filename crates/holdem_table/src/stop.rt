@@ -1,3 +1,6 @@
+ghost use Rattle.std.specs.Prelude.{◌≡◌};
+ghost use Rattle.holdem_table.specs.declared.stop.Stop.TheVariants.{OutOfMemory};
+
 use std::alloc::AllocError;
 
 /// Why a run of a script stops before its end.
@@ -10,6 +13,8 @@ pub(crate) enum Stop {
 }
 
 impl From<AllocError> for Stop {
+    ghost from_gives = { λ _ stop. stop ≡ OutOfMemory };
+
     fn from(_: AllocError) -> Stop {
         Stop::OutOfMemory
     }

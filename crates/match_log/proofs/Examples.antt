@@ -162,3 +162,6 @@ plain_word = record {
 
 no_space_in_a_word : IsGameWord (codes "a b") → ⊥
 no_space_in_a_word word = let space : 33 ≤ 32 = word.printable.1.0.0 in absurd (omega arith)
+
+no_empty_word : IsGameWord [] → ⊥
+no_empty_word word = let least : 1 ≤ 0 = word.least in absurd (omega arith)

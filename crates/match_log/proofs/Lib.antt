@@ -34,3 +34,4 @@ pub mod Endings
 pub mod Verdicts
 pub mod VerdictExamples
 pub mod NearMisses
+pub mod Growing

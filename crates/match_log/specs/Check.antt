@@ -103,9 +103,9 @@ pub record HasState (game : Game) (names : List (List ℕ)) (hands : List Hand) 
 abbrev pub HasNoState : Game → List (List ℕ) → List Hand → List ℕ → Type 0
 HasNoState game names hands rest = (number : List ℕ) (hand : Hand) (values : List (List ℕ)) → ¬ (HasState game names hands rest number hand values)
 
--- what is wrong behind these hands where a hand's line is due: anything else but a hand's line and a whole line that
--- begins with SCORE:; a whole line that begins with SCORE:, or a hand's line of another number; other values than
--- the hand pays; no line at all
+-- what is wrong behind these hands where a hand's line is due: something that is neither a hand's line nor a whole
+-- line that begins with SCORE:; a whole line that begins with SCORE:, or a hand's line of another number; a hand's
+-- line of the right number with other values than the hand pays; nothing at all
 abbrev pub IsStateFault : Game → List (List ℕ) → List Hand → List ℕ → LogFaultKind → Type 0
 IsStateFault game names hands rest BadHeader = ⊥
 IsStateFault game names hands rest BadState = (rest ≢ []) × ¬ (BeginsLine (codes "SCORE:") rest) × HasNoState game names hands rest
@@ -118,7 +118,7 @@ IsStateFault game names hands rest WrongValues =
 IsStateFault game names hands rest WrongScore = rest ≡ []
 
 -- what is wrong behind all hands of the match, where the score is due: a whole line that begins with STATE:; anything
--- else but the score's line, also that line without its end
+-- else that isn't the score's whole line, also nothing at all
 abbrev pub IsScoreFault : Game → List (List ℕ) → List Hand → List ℕ → LogFaultKind → Type 0
 IsScoreFault game names hands rest BadHeader = ⊥
 IsScoreFault game names hands rest BadState = ⊥
@@ -129,7 +129,7 @@ IsScoreFault game names hands rest WrongScore =
 
 -- ---- the first line at fault
 
--- the fault of the header, line 1: the empty text lacks a line
+-- what is wrong with line 1: a text that begins with no header; the empty text, which lacks a line
 abbrev pub IsHeaderFault : List ℕ → LogFaultKind → Type 0
 IsHeaderFault bytes BadHeader = (bytes ≢ []) × ((title : Title) (rest : List ℕ) → ¬ (HasTitle bytes title rest))
 IsHeaderFault bytes BadState = ⊥

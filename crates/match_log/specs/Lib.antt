@@ -11,3 +11,4 @@ pub mod Check
 pub mod Tally
 pub mod ScoreInside
 pub mod Verdict
+pub mod Laws

@@ -14,8 +14,9 @@ use slot_log::laws;
 /// paid, the score, and nothing else. It takes no memory.
 ///
 /// An `Err` has the first line at fault, and the first of its faults: 45 `BadHeader`, 46 `BadState`, 47
-/// `WrongNumber`, 48 `WrongValues`, 49 `WrongScore`. A log that ends early is 49 at the line behind its
-/// last, a line behind the score is 49 at that line.
+/// `WrongNumber`, 48 `WrongValues`, 49 `WrongScore`. A log that ends too early behind a whole line is 49 at
+/// the line that is missing, the empty text at line 1; one that ends within a line is 45, 46 or 49 there, as
+/// the header, a hand's line or the score was due. A line behind the score is 49 at that line.
 pub fn check(log: &[u8], game: &GameDef) -> Result<(), LogFault>
     ensures says { Says game.now log.now result }
     // And nothing else is to be said of the text.

@@ -5,7 +5,7 @@ use crate::fault_kind::LogFaultKind;
 use std::fmt;
 use thiserror::Error;
 
-/// Why a text is no log of a match: what is wrong with the first line at fault, and which line that is,
+/// Why a text is no whole log of a match: what is wrong with the first line at fault, and which line that is,
 /// counted from 1.
 #[derive(Clone, Copy, Debug, PartialEq, Eq, Error)]
 pub struct LogFault {

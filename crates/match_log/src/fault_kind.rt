@@ -8,16 +8,17 @@ use std::fmt;
 pub enum LogFaultKind {
     /// The first line is no header.
     BadHeader,
-    /// Where a hand's line is due stands no line of any finished hand: another form, no betting that ends a
-    /// hand, cards that no deal shows, values that are no whole numbers or not one for each player, or names
-    /// that aren't the seats' by position.
+    /// Where a hand's line is due stands no line of any finished hand: another form, a line without its end, no
+    /// betting that ends a hand, cards that no deal shows, values that are no whole numbers or not one for each
+    /// player, or names that aren't the seats' by position.
     BadState,
-    /// A hand's line has another number than the next one, a hand's line stands where the score is due, or
-    /// the score where a hand's line is due.
+    /// A hand's line has another number than the next one, a whole line that begins with `STATE:` stands where
+    /// the score is due, or one that begins with `SCORE:` where a hand's line is due.
     WrongNumber,
     /// The values aren't what the hand pays.
     WrongValues,
-    /// The score isn't what the hands add up to or isn't there, a line is missing, or one is too many.
+    /// Where the score is due stands anything else than its whole line, be it other totals or other names, a
+    /// line is missing, or something stands behind the score.
     WrongScore,
 }
 

@@ -1,4 +1,4 @@
-ghost use Rattle.std.specs.Prelude.{◌≡◌, ◌+◌, ◌<◌, ◌≤◌, ◌++◌, ◌^◌, vec_len, vec_capacity, OnOk, OnErr};
+ghost use Rattle.std.specs.Prelude.{◌≡◌, ◌+◌, ◌≤◌, ◌++◌, vec_len, vec_capacity, OnOk, OnErr};
 ghost use Rattle.match_log.specs.Names.{IsName, IsGameWord};
 ghost use Rattle.match_log.specs.Lines.{header_line};
 
@@ -16,7 +16,6 @@ pub const MOST_HEADER: usize = 263;
 pub fn header(out: &mut Vec<u8>, name: &[u8], game: &[u8], hands: u32) -> Result<(), AllocError>
     requires name { IsName name.now }
     requires game { IsGameWord game.now }
-    requires fits { vec_len out.old + 263 < 2 ^ 63 }
     ensures ok { OnOk result (out.new.items ≡ out.old.items ++ header_line name.now game.now hands) }
     ensures err { OnErr result (out.new.items ≡ out.old.items) }
 {

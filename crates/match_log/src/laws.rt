@@ -1,10 +1,16 @@
 //! What holds of the logs of every match: each law is the contract of a function that does nothing.
 
+ghost use Rattle.match_log.specs.Laws.{LogsGrow};
 ghost use Rattle.match_log.specs.Verdict.{HandsEndFinished, PayoffsAreThoseShown, OneVerdict};
 
 use betting::laws::{allowed_without_fault, nobody_passes_his_stack, showdowns_show_all_rounds};
 use matchstate::laws::{betting_texts_are_one_to_one, deal_texts_are_one_to_one};
 use side_pots::laws::a_lone_player_needs_no_showdown;
+
+/// A log only grows: further commands add to its end, and never shorten or change what stands there.
+pub fn logs_grow()
+    ensures { LogsGrow }
+{}
 
 /// The hands of commands that deal no card twice and end the match are played by the rules to their end, and
 /// are as many as the match has.

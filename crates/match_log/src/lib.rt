@@ -1,5 +1,5 @@
 //! The log of a match: a header, a line for each finished hand with what it paid, and the score. `check` tells
-//! whether a text is a whole one.
+//! whether a text is a whole one, and `laws` says what holds of all of them.
 #![tactic(auto)]
 
 mod checked;
@@ -9,6 +9,7 @@ mod dealt;
 mod fault;
 mod fault_kind;
 mod fields;
+mod game_word;
 mod headers;
 pub mod laws;
 mod name;
@@ -28,6 +29,7 @@ mod state_lines;
 pub use checking::check;
 pub use fault::LogFault;
 pub use fault_kind::LogFaultKind;
+pub use game_word::is_game_word;
 pub use headers::{MOST_HEADER, header, header_reserved};
 pub use name::Name;
 pub use names::are_names;

@@ -1,9 +1,9 @@
-ghost use Rattle.std.specs.Prelude.{◌≡◌, ℕ, ◌^◌, ◌<◌, ◌≤◌, ◌↔◌, List, length, decimal, IfSome, IsNone, IsTrue, Some};
+ghost use Rattle.std.specs.Prelude.{◌≡◌, ℕ, ◌^◌, ◌<◌, ◌≤◌, List, decimal, IfSome, IsNone, Some};
 ghost use Rattle.match_log.specs.Check.{HasTitle};
 ghost use Rattle.match_log.specs.Log.{Title};
-ghost use Rattle.match_log.specs.Names.{IsGameWord};
 
 use crate::cut::{after, cut};
+use crate::game_word::is_game_word;
 use crate::name::is_name;
 use itoa::Buffer;
 
@@ -38,13 +38,6 @@ pub(crate) fn read_header(bytes: &[u8]) -> Option<Header<'_>>
     }
     let hands = read_hands(hands)?;
     Some(Header { hands, behind })
-}
-
-// Whether these are 1 to 200 printable characters without space.
-fn is_game_word(bytes: &[u8]) -> bool
-    ensures { IsTrue result ↔ IsGameWord bytes.now }
-{
-    !bytes.is_empty() && bytes.len() <= 200 && bytes.iter().all(|byte| byte.is_ascii_graphic())
 }
 
 // The number of hands that a decimal says, 1 to 10000.

@@ -1,6 +1,6 @@
 ghost use Rattle.std.specs.Prelude.{◌≤◌};
 
-use crate::{LogFault, LogFaultKind, Name, are_names, check, score_line, state_line};
+use crate::{LogFault, LogFaultKind, Name, are_names, check, is_game_word, score_line, state_line};
 use card_core::Deal;
 use game_def::GameDef;
 use matchstate::{read_betting, read_deal};
@@ -159,6 +159,16 @@ fn names_are_short_and_plain(rt: HostRuntime) {
     assert!(rt; Name::new(b"").is_none());
     assert!(rt; Name::new(b"a b").is_none());
     assert!(rt; Name::new(&[b'x'; 33]).is_none());
+}
+
+#[test]
+fn game_words_are_printable_without_space(rt: HostRuntime) {
+    assert!(rt; is_game_word(b"!holdem.limit.2p.game~"));
+    assert!(rt; is_game_word(&[b'x'; 200]));
+    assert!(rt; !is_game_word(&[b'x'; 201]));
+    assert!(rt; !is_game_word(b""));
+    assert!(rt; !is_game_word(b"l2 game"));
+    assert!(rt; !is_game_word(b"l2\x7f"));
 }
 
 #[test]

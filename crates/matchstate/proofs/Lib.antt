@@ -33,3 +33,4 @@ pub mod LineExamples
 pub mod AlikeExamples
 pub mod OneAnswer
 pub mod SaidExamples
+pub mod RightTexts

@@ -14,3 +14,4 @@ pub mod OneLine
 pub mod Positions
 pub mod Beginnings
 pub mod OneReading
+pub mod RightTexts

@@ -5,6 +5,7 @@ ghost use Rattle.matchstate.specs.OneToOne.{BettingTextsAreOneToOne, CardsFields
 ghost use Rattle.matchstate.specs.OneLine.{TextsAreLines, LinesAreTexts, LinesSayOneView, TextsReadBack};
 ghost use Rattle.matchstate.specs.OneReading.{LinesReadOneWay, AnswersReadOneWay, AnswersAreTexts};
 ghost use Rattle.matchstate.specs.Positions.{SeatsHaveOnePosition};
+ghost use Rattle.matchstate.specs.RightTexts.{TextsAreAnswers};
 ghost use Rattle.matchstate.specs.Beginnings.{BeginningsAreAlike, AlikeThroughout};
 
 use betting::laws::{allowed_without_fault, betting_texts_extend};
@@ -57,6 +58,12 @@ pub fn a_view_has_one_line()
 pub fn a_text_reads_one_way()
     ensures line { LinesReadOneWay }
     ensures answer { AnswersReadOneWay }
+{}
+
+/// The line of what some viewer could see, a colon and the text of an allowed action are an answer that says
+/// them.
+pub fn texts_are_answers()
+    ensures { TextsAreAnswers }
 {}
 
 /// An answer has one text: the line of its view, a colon and the text of its action.

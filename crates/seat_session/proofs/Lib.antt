@@ -6,3 +6,6 @@ pub mod Heard
 pub mod Pieces
 pub mod OneAnswer
 pub mod SessionExamples
+pub mod RightLines
+pub mod EachLine
+pub mod AnswerPins

@@ -7,3 +7,5 @@ pub mod Saying
 pub mod Session
 pub mod Skipped
 pub mod Laws
+pub mod RightLines
+pub mod EachLine

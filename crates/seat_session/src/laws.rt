@@ -1,9 +1,11 @@
 //! What holds of every session: each law is the contract of a function that does nothing.
 
 ghost use Rattle.seat_session.specs.Laws.{OneAnswer, RunsGoOn, AnyPieces, WholeLines};
+ghost use Rattle.seat_session.specs.RightLines.{RightLinesAct};
+ghost use Rattle.seat_session.specs.EachLine.{EachLineAnswered};
 
 use betting::laws::allowed_without_fault;
-use matchstate::laws::a_text_reads_one_way;
+use matchstate::laws::{a_text_reads_one_way, texts_are_answers};
 
 /// What a session was given and the hands of a table have one answer: a line says one thing, or has one fault.
 pub fn one_answer()
@@ -29,4 +31,17 @@ pub fn any_pieces()
 /// whole line among them says.
 pub fn whole_lines()
     ensures { WholeLines }
+{}
+
+/// The line that a seat has now, a colon and the text of an allowed action, from the seat that is to act, are
+/// that act.
+pub fn right_lines_act()
+    ensures { RightLinesAct }
+{
+    texts_are_answers();
+}
+
+/// A session that is asked until there is no answer has answered each whole line that isn't skipped, once.
+pub fn each_line_answered()
+    ensures { EachLineAnswered }
 {}

@@ -1,0 +1,9 @@
+//! What holds of every script: the law is the contract of a function that does nothing.
+
+ghost use Rattle.holdem_table.specs.OneOutput.{OneOutput};
+
+/// A script has one output: its bytes are cut into lines in one way, each line says one thing after the lines
+/// before it, and so one text is written for it.
+pub fn a_script_has_one_output()
+    ensures { OneOutput }
+{}
