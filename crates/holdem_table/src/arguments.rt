@@ -11,8 +11,8 @@ const AFTER_HAND_HELP: &str = "\
 The script comes on standard input, one line after another: first `names NAME|NAME..`, a name for each \
 seat; then for each hand `deal CARDS` with all its cards, as TdAs|8hTc/2c8c3h/9c/Kh, and actions: f, c, \
 and r in a limit game or rN in a no-limit game, which raises to N chips. Each command that takes effect \
-prints every seat's line behind the seat's number; every other line prints E, a number and a name. With \
---log the match's log is printed too, each line behind L: its header, a line for each finished hand, and \
+prints every seat's line behind the seat's number; a line that is refused prints E, a number and a name. \
+With --log the match's log is printed too, each line behind L: its header, a line for each finished hand, and \
 the score. GAME must then be 1 to 200 printable ASCII characters without space.
 
 Example:
@@ -21,8 +21,8 @@ Example:
 const AFTER_CHECK_HELP: &str = "\
 A log is what `hand --log` prints behind L: the header, a line for each hand in order, and the score. It \
 prints yes, or no with the first line at fault, counted from 1, and a number and a name: 45 BadHeader, 46 \
-BadState, 47 WrongNumber (of the hand), 48 WrongValues (of the hand), 49 WrongScore (also a missing or a \
-further line). The exit status is 0 for yes, 1 for no, and 2 where there is no verdict.
+BadState, 47 WrongNumber (of a hand, or of hands), 48 WrongValues (of a hand), 49 WrongScore (also a missing or \
+a further line). The exit status is 0 for yes, 1 for no, and 2 where there is no verdict.
 
 Example:
   holdem_table hand --log l2.game < script | sed -n 's/^L //p' > match.log

@@ -15,12 +15,13 @@ use std::io::{Read, Write};
 ///
 /// For each line of the script that ends with LF the answer is written and flushed before the next line is
 /// awaited: for a command that takes effect each seat's line (ACPC dealer protocol 2.0.0) behind the seat's
-/// number, for any other line but the one that names the seats `E CODE Name`. The log's lines come behind
-/// `L `: its header once the seats are named, the line of a finished hand behind the seats' lines of the
-/// action that ends it, and the score behind the last of these. `Done` comes once all of the reader has been
-/// read; then just that was written. `Refused` comes where the game file is refused; then nothing was read
-/// or written. `OutOfMemory` (92) and `StreamFailed` (107: the reader or the writer failed, or the script
-/// wasn't at its end after 16,777,216 reads) may come at any moment; then a beginning of that was written.
+/// number, for any other line but the one that names the seats `E CODE Name`, for 24 and 25 with the amount.
+/// The log's lines come behind `L `: its header once the seats are named, the line of a finished hand behind
+/// the seats' lines of the action that ends it, and the score behind the last of these. `Done` comes once all
+/// of the reader has been read; then just that was written. `Refused` comes where the game file is refused;
+/// then nothing was read or written. `OutOfMemory` (92, also where the reader was refused memory) and
+/// `StreamFailed` (107: the reader or the writer failed, or the script wasn't at its end after 16,777,216
+/// reads) may come at any moment; then a beginning of that was written.
 pub fn hand_run<R: Read, W: Write>(
     alloc: Global,
     game: &[u8],

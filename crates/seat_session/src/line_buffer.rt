@@ -90,7 +90,7 @@ impl LineBuffer {
         }
     }
 
-    /// Takes all up to the first line feed, and with it. Where none stands there, nothing is taken.
+    /// Takes all up to the first line feed, and the line feed too. Where none stands there, nothing is taken.
     pub fn take_line(&mut self)
         ensures taken { (line rest : List ℕ) → Breaks self.old.waiting line rest → self.new.waiting ≡ rest }
         ensures none { HasNoFeed self.old.waiting → self.new.waiting ≡ self.old.waiting }

@@ -14,7 +14,7 @@ use betting::{Play, laws};
 use matchstate::{View, read_answer, seat_view};
 use slot_log::{Command, Table};
 
-/// What stands in front says; `None` while no line is whole there.
+/// What the line in front says; none while no whole line stands there.
 pub(crate) fn said_in_front(
     lines: &LineBuffer,
     phase: Phase,

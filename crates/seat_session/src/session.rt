@@ -113,9 +113,10 @@ impl Session {
     ///
     /// The first line is `Ready` where it names version 2.0, else 80. Every other line is the command of an
     /// allowed action behind the line that the seat has now, sent while it is to act; or the first of these
-    /// faults: 82 no answer, 83 not the seat's line of now (each line is, before the first deal), 84 another
-    /// is to act, or none (as between hands), 85 not allowed. 4097 bytes without a line feed are 81, whatever
-    /// they begin with. 80 and 81 close the session, which answers them from then on.
+    /// faults: 82 a line that is no answer in this game, 83 an answer behind another line than the seat has now
+    /// (before the first deal every answer is), 84 another seat is to act, or none (as between hands), 85 not
+    /// allowed. 4097 bytes without a line feed are 81, whatever they begin with. 80 and 81 close the session,
+    /// which answers them from then on.
     pub fn next(&mut self, table: &Table) -> Option<Result<Said, SessionFault>>
         requires { self.old.seat < table.now.game.players }
         ensures answer { Answers table.now.game table.now.hands self.old.seat self.old.standing result self.new.standing }
