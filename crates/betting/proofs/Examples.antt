@@ -11,12 +11,12 @@ use Rattle.betting.specs.Rounds.{is_alone, can_bet_on, ends_round, over, current
 use Rattle.betting.specs.Legal.{limit_to, least_raise, greatest_raise, no_raise, wrong_amount, fault_of_raise, fault_at, fault_of, CanAct, Legal, IsRaiseRange}
 use Rattle.betting.proofs.Legal.{can_act-none}
 use Rattle.betting.proofs.Ranges.{range_open}
-use Rattle.betting.specs.Text.{action_text, text}
+use Rattle.betting.specs.Text.{action_text, slash_counts, text}
 use Rattle.betting.specs.Fault.{fault_code, fault_text}
 
 -- opens the definitions
 unfoldable pub opened : ℕ
-unfolding count_below max_spent spent folded live live_count unfolded_count has_answered owes owing_count actions_in raises_in min_to is_alone can_bet_on ends_round over current_round first_from first_cyclic search_start to_act with_turn turns limit_to least_raise greatest_raise no_raise wrong_amount fault_of_raise fault_at fault_of action_text text digits
+unfolding count_below max_spent spent folded live live_count unfolded_count has_answered owes owing_count actions_in raises_in min_to is_alone can_bet_on ends_round over current_round first_from first_cyclic search_start to_act with_turn turns limit_to least_raise greatest_raise no_raise wrong_amount fault_of_raise fault_at fault_of action_text slash_counts text digits
 opened = 0
 
 -- a list of actions, oldest first, as the history that they make
@@ -38,6 +38,10 @@ three_players = record {
 all_in_text : text three_players (reverse (Call ∷ Call ∷ Raise 150 ∷ Raise 200 ∷ Call ∷ Raise 1000 ∷ Call ∷ [])) ≡ codes "ccr150r200c/r1000c//"
 unfolding opened
 all_in_text = refl
+
+all_in_slashes : slash_counts three_players (reverse (Call ∷ Call ∷ Raise 150 ∷ Raise 200 ∷ Call ∷ Raise 1000 ∷ Call ∷ [])) ≡ reverse (0 ∷ 0 ∷ 0 ∷ 0 ∷ 1 ∷ 0 ∷ 2 ∷ [])
+unfolding opened
+all_in_slashes = refl
 
 all_in_over : over three_players (played three_players (Call ∷ Call ∷ Raise 150 ∷ Raise 200 ∷ Call ∷ Raise 1000 ∷ Call ∷ [])) ≡ true
 unfolding opened
@@ -157,6 +161,11 @@ fold_behind_all_in_text = refl
 call_for_less_text : text three_players (reverse (Raise 300 ∷ Call ∷ Call ∷ Call ∷ Raise 700 ∷ Fold ∷ [])) ≡ codes "r300cc/cr700f//"
 unfolding opened
 call_for_less_text = refl
+
+-- behind the fold that ends the hand stand the two rounds that are left
+call_for_less_slashes : slash_counts three_players (reverse (Raise 300 ∷ Call ∷ Call ∷ Call ∷ Raise 700 ∷ Fold ∷ [])) ≡ reverse (0 ∷ 0 ∷ 1 ∷ 0 ∷ 0 ∷ 2 ∷ [])
+unfolding opened
+call_for_less_slashes = refl
 
 call_for_less_spent : map (spent three_players (played three_players (Raise 300 ∷ Call ∷ Call ∷ []))) (0 ∷ 1 ∷ 2 ∷ []) ≡ 300 ∷ 150 ∷ 300 ∷ []
 unfolding opened

@@ -1,5 +1,5 @@
 -- What the fields of a play tell of its history.
-use Rattle.std.proofs.Common.{◌≡◌, ℕ, ◌<◌, ◌≤◌, Bool, true, false, not, List, Option, Some, None, refl, sym, ap, ◌∙◌, arith, subst}
+use Rattle.std.proofs.Common.{◌≡◌, ℕ, ◌<◌, ◌≤◌, Bool, true, false, not, List, take, Option, Some, None, refl, sym, ap, ◌∙◌, arith, subst}
 use Rattle.std.specs.Prelude.{slice_index, slice_index_or, IfSome, is_none, is_some}
 use Rattle.game_def.specs.Game.{Game, stack_of}
 use Rattle.betting.specs.declared.totals.Totals.{Totals}
@@ -11,6 +11,7 @@ use Rattle.betting.specs.TotalsInside.{IsTotals, seat_lives, lives_in, least_by,
 use Rattle.betting.specs.PlayInside.{IsKept, past_of, betting_of}
 use Rattle.betting.specs.Betting.{Betting, history}
 use Rattle.betting.proofs.Counts.{count_below-same}
+use Rattle.betting.proofs.Slashes.{slashes-few}
 use Rattle.betting.proofs.Sound.{Sound, IsNext, next_is, acts_unless_over}
 use Rattle.betting.proofs.Legal.{sound_legal}
 
@@ -55,6 +56,9 @@ module _ (game : Game) (h : List Turn) (t : Totals) (totals : IsTotals game h t)
       let raises : t.raises ≡ raises_in (current_round game h) h = rw totals.round at totals.tally.raises in
       let actions : t.actions ≡ actions_in (current_round game h) h = rw totals.round at totals.tally.actions in
       rw (raises, actions, live_same, totals.tally.most, totals.round) refl
+
+pub kept_few : (d : Inside) → IsKept d → (index : ℕ) → slice_index (take d.count d.slashes) index ≤ 3
+kept_few d kept index = rw kept.slashes (slashes-few d.game (past_of d) index)
 
 none_tested : (o : Option ℕ) (result : Bool) → is_some o ≡ not result → result ≡ is_none o
 none_tested None true e = refl

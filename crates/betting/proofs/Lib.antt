@@ -12,5 +12,6 @@ pub mod Ranges
 pub mod Start
 pub mod LegalLaws
 pub mod Shown
+pub mod Slashes
 pub mod Kept
 pub mod Taken

@@ -6,6 +6,7 @@ use Rattle.betting.specs.declared.action.Action.{Action}
 use Rattle.betting.specs.declared.totals.Totals.{Totals}
 use Rattle.betting.specs.Turns.{count_below, max_spent, spent, folded, live, owes, owing_count, actions_in, raises_in, min_to}
 use Rattle.betting.specs.Rounds.{over, current_round, search_start, to_act, turns}
+use Rattle.betting.specs.Text.{slash_counts}
 use Rattle.betting.specs.declared.play.Play.TheInside.{Inside}
 use Rattle.betting.specs.PlayInside.{IsKept}
 use Rattle.betting.specs.TotalsInside.{IsTotals}
@@ -58,7 +59,16 @@ module _ (game : Game) (is_game : IsGame game) where
     next = ap (λ n. Some n) g ∙ first_acts;
   }
 
-pub kept_start : (game : Game) → IsGame game → (actions : List Action) → length actions ≡ 256 → (totals : Totals) → IsTotals game [] totals
-    → (let fields : Inside = record { game = game; actions = actions; count = 0; totals = totals } in IsKept fields)
-unfolding turns
-kept_start game is_game actions places totals start = record { game = is_game; places = places; count = omega arith; legal = tt; totals = start }
+pub kept_start : (game : Game) → IsGame game → (actions : List Action) → length actions ≡ 256 → (slashes : List ℕ) → length slashes ≡ 256
+    → (totals : Totals) → IsTotals game [] totals
+    → (let fields : Inside = record { game = game; actions = actions; slashes = slashes; count = 0; totals = totals } in IsKept fields)
+unfolding turns slash_counts
+kept_start game is_game actions places slashes slash_places totals start = record {
+  game = is_game;
+  places = places;
+  slash_places = slash_places;
+  count = omega arith;
+  legal = tt;
+  slashes = refl;
+  totals = start;
+}

@@ -1,5 +1,5 @@
 -- An allowed action keeps the fields of a play.
-use Rattle.std.proofs.Common.{◌≡◌, ℕ, ◌+◌, ◌*◌, ◌<◌, ◌≤◌, true, List, [], ◌∷◌, ◌++◌, length, take, set, reverse, Some, None, refl, sym, ap, ◌∙◌, arith, subst, length-take}
+use Rattle.std.proofs.Common.{◌≡◌, ℕ, ◌+◌, ◌-◌, ◌*◌, ◌<◌, ◌≤◌, true, List, [], ◌∷◌, ◌++◌, length, take, set, reverse, Some, None, refl, sym, ap, ◌∙◌, arith, subst, length-take}
 use Rattle.std.proofs.lemmas.List.{reverse-append, length-reverse, take_more_set}
 use Rattle.std.proofs.Math.ListN.{length-set}
 use Rattle.game_def.specs.Game.{Game, stack_of}
@@ -9,13 +9,15 @@ use Rattle.betting.specs.declared.totals.Totals.{Totals}
 use Rattle.betting.specs.declared.play.Play.TheInside.{Inside}
 use Rattle.betting.specs.Turns.{Turn, turn_by, max_spent, owes, owing_count, actions_in, raises_in}
 use Rattle.betting.specs.Rounds.{current_round, to_act, turns}
-use Rattle.betting.specs.Legal.{CanAct, Allows, Legal, fault_of}
+use Rattle.betting.specs.Legal.{CanAct, Allows, Legal}
+use Rattle.betting.specs.Text.{slash_count, slash_counts}
 use Rattle.betting.specs.Betting.{Betting, history}
 use Rattle.betting.specs.TotalsInside.{IsTally, IsTotals, GoesUp, takes, advances}
 use Rattle.betting.specs.PlayInside.{IsKept, past_of, betting_of}
 use Rattle.betting.proofs.Sound.{Sound, IsNext}
 use Rattle.betting.proofs.SoundSteps.{raise_between}
-use Rattle.betting.proofs.Legal.{turns-cons, length-turns, none-can_act}
+use Rattle.betting.proofs.Legal.{turns-cons, length-turns}
+use Rattle.betting.proofs.Slashes.{rounds_fit}
 use Rattle.betting.proofs.Tally.{tally-takes, totals-advance}
 use Rattle.betting.proofs.Kept.{kept_sound, kept_next}
 
@@ -35,18 +37,16 @@ allowed_by game h a position e can =
     let same : can.0 ≡ position = some_same (sym can.1 ∙ e) in
     subst (λ p. Allows game h p a) same can.2
 
-pub can_take : (d : Inside) (b : Betting) → betting_of d ≡ b → IsKept d → (a : Action) (position : ℕ) → d.totals.next ≡ Some position → fault_of b.game (history b) a ≡ None → CanTake d position a
-can_take d b is kept a position e none =
-    let can : CanAct d.game (turns d.game (past_of d)) a =
-    none-can_act d.game (turns d.game (past_of d)) a (subst (λ (w : Betting). fault_of w.game (history w) a ≡ None) (sym is) none) in
+pub can_take : (d : Inside) (b : Betting) → betting_of d ≡ b → IsKept d → (a : Action) (position : ℕ) → d.totals.next ≡ Some position → CanAct b.game (history b) a → CanTake d position a
+can_take d b is kept a position e allowed =
+    let can : CanAct d.game (turns d.game (past_of d)) a = subst (λ (w : Betting). CanAct w.game (history w) a) (sym is) allowed in
     let acts : to_act d.game (turns d.game (past_of d)) ≡ Some position = sym kept.totals.next ∙ e in
     record { kept = kept; acts = acts; next = kept_next d kept position e; allowed = allowed_by d.game (turns d.game (past_of d)) a position acts can }
 
-pub somebody_takes : (d : Inside) (b : Betting) → betting_of d ≡ b → IsKept d → (a : Action) → d.totals.next ≡ None → fault_of b.game (history b) a ≡ None → ⊥
+pub somebody_takes : (d : Inside) (b : Betting) → betting_of d ≡ b → IsKept d → (a : Action) → d.totals.next ≡ None → CanAct b.game (history b) a → ⊥
 unfolding CanAct
-somebody_takes d b is kept a e none =
-    let can : CanAct d.game (turns d.game (past_of d)) a =
-    none-can_act d.game (turns d.game (past_of d)) a (subst (λ (w : Betting). fault_of w.game (history w) a ≡ None) (sym is) none) in
+somebody_takes d b is kept a e allowed =
+    let can : CanAct d.game (turns d.game (past_of d)) a = subst (λ (w : Betting). CanAct w.game (history w) a) (sym is) allowed in
     let wrong : Some can.0 ≡ None = sym can.1 ∙ sym kept.totals.next ∙ e in cc
 
 module _ (d : Inside) (position : ℕ) (a : Action) (can : CanTake d position a) where
@@ -130,20 +130,47 @@ module _ (d : Inside) (position : ℕ) (a : Action) (can : CanTake d position a)
   unfolding CanAct
   taken_legal = (can.kept.legal, (position, can.acts, can.allowed))
 
-  pub taken_kept : (t : Totals) → t ≡ advances d.game (takes d.game d.totals position a) position
-      → (let after : Inside = record { game = d.game; actions = set d.actions d.count a; count = d.count + 1; totals = t } in IsKept after)
-  taken_kept t e = record {
+  -- the fields after the action
+  abbrev pub after_fields : ℕ → Totals → Inside
+  after_fields slash totals = record {
+    game = d.game;
+    actions = set d.actions d.count a;
+    slashes = set d.slashes d.count slash;
+    count = d.count + 1;
+    totals = totals;
+  }
+
+  taken_slash : (t : Totals) → t ≡ advances d.game (takes d.game d.totals position a) position → t.round - d.totals.round ≡ slash_count d.game (past_of d) a
+  taken_slash t e =
+      let after : t.round ≡ current_round d.game (turns d.game (a ∷ past_of d)) = rw e (taken_totals.round) in
+      rw (after, can.kept.totals.round) refl
+
+  taken_slashes : (slash : ℕ) → slash ≡ slash_count d.game (past_of d) a → take (d.count + 1) (set d.slashes d.count slash) ≡ reverse (slash_counts d.game (a ∷ past_of d))
+  unfolding slash_counts
+  taken_slashes slash e =
+      let more : take (d.count + 1) (set d.slashes d.count slash) ≡ take d.count d.slashes ++ (slash ∷ []) = take_more_set d.slashes d.count slash (omega (arith, taken_place, can.kept.slash_places)) in
+      let counts : List ℕ = slash_counts d.game (past_of d) in
+      more ∙ ap (λ front. front ++ (slash ∷ [])) can.kept.slashes ∙ ap (λ n. reverse counts ++ (n ∷ [])) e ∙ sym (reverse-append (slash_count d.game (past_of d) a ∷ []) counts)
+
+  pub taken_kept : (slash : ℕ) (t : Totals) → t ≡ advances d.game (takes d.game d.totals position a) position → slash ≡ t.round - d.totals.round
+      → IsKept (after_fields slash t)
+  taken_kept slash t e is = record {
     game = can.kept.game;
     places = length-set {A = Action} d.actions d.count a ∙ can.kept.places;
+    slash_places = length-set {A = ℕ} d.slashes d.count slash ∙ can.kept.slash_places;
     count = omega (arith, taken_place);
     legal = rw taken_past taken_legal;
+    slashes = rw taken_past (taken_slashes slash (is ∙ taken_slash t e));
     totals = rw (taken_past, e) taken_totals;
   }
 
-  pub taken_value : (b : Betting) → betting_of d ≡ b → (t : Totals)
-      → (let after : Inside = record { game = d.game; actions = set d.actions d.count a; count = d.count + 1; totals = t } in
-      let next : Betting = record { game = b.game; past = a ∷ b.past } in betting_of after ≡ next)
-  taken_value b is t =
+  -- the slashes fit a byte
+  pub taken_few : (t : Totals) → t ≡ advances d.game (takes d.game d.totals position a) position → t.round ≤ 3
+  taken_few t e = let fits : current_round d.game (turns d.game (a ∷ past_of d)) ≤ 3 = rounds_fit d.game (a ∷ past_of d) in rw (e, taken_totals.round) fits
+
+  pub taken_value : (b : Betting) → betting_of d ≡ b → (slash : ℕ) (t : Totals)
+      → (let next : Betting = record { game = b.game; past = a ∷ b.past } in betting_of (after_fields slash t) ≡ next)
+  taken_value b is slash t =
       let with_past : List Action → Betting = λ past. record { game = d.game; past = past } in
       let with_action : Betting → Betting = λ w. record { game = w.game; past = a ∷ w.past } in
       ap with_past taken_past ∙ ap with_action is

@@ -1,12 +1,12 @@
 -- What holds of every legal play of every game.
-use Rattle.std.specs.Prelude.{◌≡◌, ℕ, ◌<◌, ◌≤◌, ◌↔◌, true, false, List, ◌∷◌, ◌++◌, length, Some, None, is_none}
+use Rattle.std.specs.Prelude.{◌≡◌, ℕ, ◌<◌, ◌≤◌, ◌↔◌, true, false, List, ◌∷◌, ◌++◌, length, take, reverse, slice_index, slice_index_or, Some, None, is_none}
 use Rattle.game_def.specs.Game.{Game, IsGame, stack_of}
 use Rattle.betting.specs.declared.action.Action.{Action}
 use Rattle.betting.specs.declared.action.Action.TheVariants.{Call, Raise}
 use Rattle.betting.specs.Turns.{Turn, max_spent, spent, folded, unfolded_count}
 use Rattle.betting.specs.Rounds.{last_round, current_round, over, to_act, turns}
 use Rattle.betting.specs.Legal.{CanAct, Legal, fault_of}
-use Rattle.betting.specs.Text.{text}
+use Rattle.betting.specs.Text.{text, slash_count, slash_counts}
 
 -- some player who hasn't folded has the greatest amount in
 abbrev pub SomebodyHasTheGreatestAmount : Type 0
@@ -64,3 +64,8 @@ ShowdownsShowAllRounds = (game : Game) (past : List Turn) → over game past ≡
 -- the betting text of a beginning of a hand begins that of the hand
 abbrev pub BettingTextsExtend : Type 0
 BettingTextsExtend = (game : Game) (later past : List Action) → (rest : List ℕ) × (text game (later ++ past) ≡ text game past ++ rest)
+
+-- the slashes behind each action, oldest first, are those that it causes after the actions before it
+abbrev pub SlashesStandBehindActions : Type 0
+SlashesStandBehindActions = (game : Game) (actions : List Action) (index : ℕ) (other : Action) → index < length actions
+    → slice_index (reverse (slash_counts game (reverse actions))) index ≡ slash_count game (reverse (take index actions)) (slice_index_or actions index other)

@@ -1,6 +1,6 @@
 //! What holds of every legal play of every game: each law is the contract of a function that does nothing.
 
-ghost use Rattle.betting.specs.Laws.{SomebodyHasTheGreatestAmount, NobodyPassesHisStack, AmountsNeverFall, HandsEnd, SomebodyMayCall, WhoActsIsLive, NobodyActsOnceOver, RaisesGoUp, AllowedWithoutFault, RoundsGoOn, ShowdownsShowAllRounds, BettingTextsExtend};
+ghost use Rattle.betting.specs.Laws.{SomebodyHasTheGreatestAmount, NobodyPassesHisStack, AmountsNeverFall, HandsEnd, SomebodyMayCall, WhoActsIsLive, NobodyActsOnceOver, RaisesGoUp, AllowedWithoutFault, RoundsGoOn, ShowdownsShowAllRounds, BettingTextsExtend, SlashesStandBehindActions};
 
 /// Some player who hasn't folded has the greatest amount in.
 pub fn somebody_has_the_greatest_amount()
@@ -60,4 +60,9 @@ pub fn showdowns_show_all_rounds()
 /// The betting text of a beginning of a hand begins that of the hand.
 pub fn betting_texts_extend()
     ensures { BettingTextsExtend }
+{}
+
+/// The slashes behind each action, oldest first, are those that it causes after the actions before it.
+pub fn slashes_stand_behind_actions()
+    ensures { SlashesStandBehindActions }
 {}

@@ -1,8 +1,9 @@
-ghost use Rattle.std.specs.Prelude.{◌≡◌, ◌∷◌, [], Some, None, IsSome, ◌<◌, ◌≤◌, ◌↔◌, ℕ, List, length, reverse, is_ok, IsOk, IsTrue, IfErr, IfSome, MatchOption, if◌then◌else◌};
+ghost use Rattle.std.specs.Prelude.{◌≡◌, ◌∷◌, [], Some, None, IsSome, ◌<◌, ◌≤◌, ◌↔◌, ℕ, List, length, reverse, slice_index, is_ok, IsOk, IsTrue, IfErr, IfSome, MatchOption, if◌then◌else◌};
 ghost use Rattle.game_def.specs.Game.{stack_of};
 ghost use Rattle.betting.specs.Turns.{spent, folded, max_spent};
 ghost use Rattle.betting.specs.Rounds.{current_round, over, to_act};
 ghost use Rattle.betting.specs.Legal.{CanAct, IsRaiseRange, Legal, fault_of, least_raise, greatest_raise, no_raise, fault_of_raise, fault_at};
+ghost use Rattle.betting.specs.Text.{slash_counts};
 ghost use Rattle.betting.specs.Betting.{history};
 
 use crate::action::Action;
@@ -21,6 +22,7 @@ const MOST_ACTIONS: usize = 256;
 pub struct Play {
     game: GameDef,
     actions: [Action; MOST_ACTIONS],
+    slashes: [u8; MOST_ACTIONS],
     count: usize,
     totals: Totals,
 }
@@ -30,6 +32,13 @@ fn room_for_actions() -> [Action; MOST_ACTIONS]
     ensures { length result ≡ 256 }
 {
     [Action::Fold; MOST_ACTIONS]
+}
+
+/// The room for the numbers of slashes behind them.
+fn room_for_slashes() -> [u8; MOST_ACTIONS]
+    ensures { length result ≡ 256 }
+{
+    [0; MOST_ACTIONS]
 }
 
 impl Model for Play {
@@ -53,6 +62,7 @@ impl Play {
         Play {
             game: *game,
             actions: room_for_actions(),
+            slashes: room_for_slashes(),
             count: 0,
             totals: Totals::new(game),
         }
@@ -74,17 +84,19 @@ impl Play {
         Ok(())
     }
 
-    /// Takes an allowed action.
-    fn take(&mut self, action: Action)
-        requires { fault_of self.old.game (history self.old) action ≡ None }
+    /// Takes an action of the player to act that is known to be allowed, as `act` does where there is no fault.
+    pub fn take(&mut self, action: Action)
+        requires { CanAct self.old.game (history self.old) action }
         ensures { self.new ≡ record { game = self.old.game; past = action ∷ self.old.past } }
     {
         let Some(position) = self.totals.next else {
             unreachable!();
         };
+        let round = self.totals.round;
         self.actions[self.count] = action;
-        self.count += 1;
         self.totals.act(&self.game, position, action);
+        self.slashes[self.count] = self.totals.round.saturating_sub(round) as u8;
+        self.count += 1;
     }
 
     /// The least and the greatest amount that the player to act may raise to, in chips over the whole hand: the
@@ -168,6 +180,16 @@ impl Play {
         ensures legal { Legal self.now.game self.now.past }
     {
         &self.actions[..self.count]
+    }
+
+    /// How many `/` stand behind each action in the betting text of the ACPC protocol 2.0.0, oldest first: one for
+    /// each further round that the text then shows, 0 to 3.
+    pub fn slashes(&self) -> &[u8]
+        ensures value { result.now ≡ reverse (slash_counts self.now.game self.now.past) }
+        ensures places { length result.now ≡ length self.now.past }
+        ensures few { (index : ℕ) → slice_index result.now index ≤ 3 }
+    {
+        &self.slashes[..self.count]
     }
 
     /// Why an action isn't allowed, as `act` would say; none where it is allowed.

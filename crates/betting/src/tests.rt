@@ -128,6 +128,8 @@ fn a_short_all_in_opens_the_betting_again(rt: HostRuntime) {
     assert!(rt; play.finished());
     assert_eq!(rt; play.round(), 3);
     assert_eq!(rt; play.actions().len(), 7);
+    // ccr150r200c/r1000c//
+    assert!(rt; play.slashes() == [0, 0, 0, 0, 1, 0, 2].as_slice());
     assert_spent(&rt, &play, &[1000, 150, 1000]);
     assert_eq!(rt; play.act(Action::Call), Err(ActFault::Finished));
 }

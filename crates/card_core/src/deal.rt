@@ -109,6 +109,13 @@ impl Deal {
             self.cards[first + 4],
         ]
     }
+
+    /// Whether another deal has the same cards at the same places. What `==` of deals says is in no contract.
+    pub fn is_same(&self, other: &Deal) -> bool
+        ensures { IsTrue result ↔ (self.now ≡ other.now) }
+    {
+        self.cards() == other.cards()
+    }
 }
 
 /// Whether no card stands twice among these, of which there may be any number, or none.

@@ -16,11 +16,11 @@ use Rattle.holdem_table.specs.Told.{commands_of, names_of}
 use Rattle.holdem_table.specs.Logged.{lettered, logged}
 use Rattle.holdem_table.specs.Answer.{Says, Tells, refusal, reply, answer, bad_script}
 use Rattle.holdem_table.specs.Script.{AreLines, Script, answers}
-use Rattle.holdem_table.specs.Outcome.{status_of, outcome_text}
+use Rattle.holdem_table.specs.Ending.{status_of, ending_text, words_text}
 use Rattle.match_log.specs.declared.fault_kind.LogFaultKind.TheVariants.{WrongValues}
-use Rattle.holdem_table.specs.Verdict.{status_of as check_status_of, error_text, verdict_text, EndsVerdict}
-use Rattle.holdem_table.specs.declared.check_outcome.CheckOutcome.TheVariants.{Yes, No, Unreadable, StreamFailed as CheckFailed}
-use Rattle.holdem_table.specs.declared.outcome.HandOutcome.TheVariants.{Done, Refused, StreamFailed}
+use Rattle.holdem_table.specs.Verdict.{verdict_text, EndsVerdict}
+use Rattle.holdem_table.specs.declared.ending.Ending.TheVariants.{Done, SaidNo, Refused, Unreadable, StreamFailed}
+use Rattle.holdem_table.specs.declared.wrong_words.WrongWords.TheVariants.{Incomplete}
 use Rattle.holdem_table.specs.declared.script_line.ScriptLine.TheVariants.{Names, Told, Bad}
 
 -- two players, blinds 10 and 5, raises of 10 and 20
@@ -166,20 +166,20 @@ done_is_0 = refl
 refused_is_2 : status_of (Refused (record { kind = Unsupported; line = 9 })) ≡ 2
 refused_is_2 = refl
 
-refused_with_its_line : outcome_text (Refused (record { kind = Unsupported; line = 9 })) ≡ decimal 15 ++ codes " " ++ codes "Unsupported" ++ codes " " ++ decimal 9
+refused_with_its_line : ending_text (Refused (record { kind = Unsupported; line = 9 })) ≡ decimal 15 ++ codes " " ++ codes "Unsupported" ++ codes " " ++ decimal 9
 refused_with_its_line = refl
 
-failed_stream_has_its_number : outcome_text StreamFailed ≡ codes "107 StreamFailed"
+failed_stream_has_its_number : ending_text StreamFailed ≡ codes "107 StreamFailed"
 failed_stream_has_its_number = refl
 
-yes_is_0 : check_status_of Yes ≡ 0
-yes_is_0 = refl
-
-no_is_1 : check_status_of (No (record { kind = WrongValues; line = 2 })) ≡ 1
+no_is_1 : status_of (SaidNo (record { kind = WrongValues; line = 2 })) ≡ 1
 no_is_1 = refl
 
-unreadable_is_2 : check_status_of Unreadable ≡ 2
+unreadable_is_2 : status_of Unreadable ≡ 2
 unreadable_is_2 = refl
+
+wrong_words_are_told : words_text Incomplete ≡ codes "error: the command line lacks its command, or a word of it"
+wrong_words_are_told = refl
 
 said_of_a_right_log : verdict_text (Ok tt) ≡ codes "yes\n"
 said_of_a_right_log = refl
@@ -188,13 +188,13 @@ said_of_a_wrong_log : verdict_text (Err (record { kind = WrongValues; line = 2 }
 unfolding opened
 said_of_a_wrong_log = refl
 
-nothing_on_standard_error_of_a_wrong_log : error_text (No (record { kind = WrongValues; line = 2 })) ≡ []
+nothing_on_standard_error_of_a_wrong_log : ending_text (SaidNo (record { kind = WrongValues; line = 2 })) ≡ []
 nothing_on_standard_error_of_a_wrong_log = refl
 
 -- a verdict that was written in part is no yes
-no_yes_by_half : ¬ (EndsVerdict (Ok tt) (Some []) (Some (codes "ye")) Yes)
+no_yes_by_half : ¬ (EndsVerdict (Ok tt) (Some []) (Some (codes "ye")) Done)
 no_yes_by_half ends = let written : codes "ye" ≡ codes "yes\n" = ends.1 in cc
 
 -- and it is one by a stream that failed
-half_a_yes : EndsVerdict (Ok tt) (Some []) (Some (codes "ye")) CheckFailed
+half_a_yes : EndsVerdict (Ok tt) (Some []) (Some (codes "ye")) StreamFailed
 half_a_yes = record { shown = codes "ye"; missing = codes "s\n"; whole = refl; written = refl }

@@ -2,32 +2,13 @@
 use Rattle.std.specs.Prelude.{◌≡◌, ℕ, List, [], ◌∷◌, ◌++◌, Option, Result, Ok, Err, codes, decimal}
 use Rattle.std.specs.Io.KnownBytes.{Appends, Consumes, IsAtEnd, Keeps}
 use Rattle.game_def.specs.Game.{Game}
-use Rattle.game_def.specs.Fault.{fault_text}
 use Rattle.game_def.specs.GameFile.{IsGameFile}
 use Rattle.game_def.specs.WholeFile.{read_game}
 use Rattle.match_log.specs.Fault.{kind_text}
 use Rattle.match_log.specs.Check.{Says}
 use Rattle.match_log.specs.declared.fault.LogFault.{LogFault}
-use Rattle.holdem_table.specs.declared.check_outcome.CheckOutcome.{CheckOutcome}
-use Rattle.holdem_table.specs.declared.check_outcome.CheckOutcome.TheVariants.{Yes, No, Refused, Unreadable, OutOfMemory, StreamFailed}
-
--- the exit status
-abbrev pub status_of : CheckOutcome → ℕ
-status_of Yes = 0
-status_of (No fault) = 1
-status_of (Refused fault) = 2
-status_of Unreadable = 2
-status_of OutOfMemory = 2
-status_of StreamFailed = 2
-
--- what standard error gets
-abbrev pub error_text : CheckOutcome → List ℕ
-error_text Yes = []
-error_text (No fault) = []
-error_text (Refused fault) = fault_text fault
-error_text Unreadable = codes "104 Unreadable"
-error_text OutOfMemory = codes "92 OutOfMemory"
-error_text StreamFailed = codes "107 StreamFailed"
+use Rattle.holdem_table.specs.declared.ending.Ending.{Ending}
+use Rattle.holdem_table.specs.declared.ending.Ending.TheVariants.{Done, SaidNo, Refused, Unreadable, OutOfMemory, StreamFailed, WrongWords}
 
 -- what is printed of a log: yes, or no with the line at fault and its fault
 abbrev pub verdict_text : Result (Unit {0}) LogFault → List ℕ
@@ -53,27 +34,29 @@ pub record BeginsText (text : List ℕ) (held held_after : Option (List ℕ)) : 
   pub written : Appends held held_after shown
 
 -- how the writing of a verdict ends
-abbrev pub EndsVerdict : Result (Unit {0}) LogFault → Option (List ℕ) → Option (List ℕ) → CheckOutcome → Type 0
-EndsVerdict verdict held held_after Yes = (verdict ≡ Ok tt) × Appends held held_after (verdict_text (Ok tt))
-EndsVerdict verdict held held_after (No fault) = (verdict ≡ Err fault) × Appends held held_after (verdict_text (Err fault))
+abbrev pub EndsVerdict : Result (Unit {0}) LogFault → Option (List ℕ) → Option (List ℕ) → Ending → Type 0
+EndsVerdict verdict held held_after Done = (verdict ≡ Ok tt) × Appends held held_after (verdict_text (Ok tt))
+EndsVerdict verdict held held_after (SaidNo fault) = (verdict ≡ Err fault) × Appends held held_after (verdict_text (Err fault))
 EndsVerdict verdict held held_after (Refused fault) = ⊥
 EndsVerdict verdict held held_after Unreadable = ⊥
 EndsVerdict verdict held held_after OutOfMemory = Keeps held held_after
+EndsVerdict verdict held held_after (WrongWords words) = ⊥
 EndsVerdict verdict held held_after StreamFailed = BeginsText (verdict_text verdict) held held_after
 
 -- how a run ends whose game is this one, over the bytes that a reader has left, and those that a writer holds
-abbrev pub EndsLog : Game → Option (List ℕ) → Option (List ℕ) → Option (List ℕ) → Option (List ℕ) → CheckOutcome → Type 0
-EndsLog game left left_after held held_after Yes = IsJudged game left left_after (Ok tt) × Appends held held_after (verdict_text (Ok tt))
-EndsLog game left left_after held held_after (No fault) =
+abbrev pub EndsLog : Game → Option (List ℕ) → Option (List ℕ) → Option (List ℕ) → Option (List ℕ) → Ending → Type 0
+EndsLog game left left_after held held_after Done = IsJudged game left left_after (Ok tt) × Appends held held_after (verdict_text (Ok tt))
+EndsLog game left left_after held held_after (SaidNo fault) =
     IsJudged game left left_after (Err fault) × Appends held held_after (verdict_text (Err fault))
 EndsLog game left left_after held held_after (Refused fault) = ⊥
 EndsLog game left left_after held held_after Unreadable = SomeRead left left_after × Keeps held held_after
 EndsLog game left left_after held held_after OutOfMemory = SomeRead left left_after × Keeps held held_after
+EndsLog game left left_after held held_after (WrongWords words) = ⊥
 EndsLog game left left_after held held_after StreamFailed =
     (verdict : Result (Unit {0}) LogFault) × IsJudged game left left_after verdict × BeginsText (verdict_text verdict) held held_after
 
 -- how a run over a game file ends
-abbrev pub EndsCheck : List ℕ → Option (List ℕ) → Option (List ℕ) → Option (List ℕ) → Option (List ℕ) → CheckOutcome → Type 0
+abbrev pub EndsCheck : List ℕ → Option (List ℕ) → Option (List ℕ) → Option (List ℕ) → Option (List ℕ) → Ending → Type 0
 EndsCheck text left left_after held held_after (Refused fault) = (read_game text ≡ Err fault) × Keeps left left_after × Keeps held held_after
 EndsCheck text left left_after held held_after outcome =
     (game : Game) × IsGameFile text game × EndsLog game left left_after held held_after outcome

@@ -1,40 +1,20 @@
 ghost use Rattle.std.specs.Prelude.{◌≤◌};
 
+use crate::ending::Ending;
 use crate::game_word::GameWord;
+use crate::help::{AFTER_CHECK_HELP, AFTER_HAND_HELP, AFTER_HELP};
+use crate::wrong_words::WrongWords;
 use clap::{Arg, ArgAction, ArgMatches, Command, value_parser};
 use std::alloc::{AllocError, Global};
 
 /// The most hands of a match.
 const MOST_HANDS: u32 = 10_000;
 
-const AFTER_HAND_HELP: &str = "\
-The script comes on standard input, one line after another: first `names NAME|NAME..`, a name for each \
-seat; then for each hand `deal CARDS` with all its cards, as TdAs|8hTc/2c8c3h/9c/Kh, and actions: f, c, \
-and r in a limit game or rN in a no-limit game, which raises to N chips. Each command that takes effect \
-prints every seat's line behind the seat's number; a line that is refused prints E, a number and a name. \
-With --log the match's log is printed too, each line behind L: its header, a line for each finished hand, and \
-the score. GAME must then be 1 to 200 printable ASCII characters without space.
-
-Example:
-  printf 'names alice|bob\\ndeal TdAs|8hTc/2c8c3h/9c/Kh\\nr\\nc\\n' | holdem_table hand l2.game";
-
-const AFTER_CHECK_HELP: &str = "\
-A log is what `hand --log` prints behind L: the header, a line for each hand in order, and the score. It \
-prints yes, or no with the first line at fault, counted from 1, and a number and a name: 45 BadHeader, 46 \
-BadState, 47 WrongNumber (of a hand, or of hands), 48 WrongValues (of a hand), 49 WrongScore (also a missing or \
-a further line). The exit status is 0 for yes, 1 for no, and 2 where there is no verdict.
-
-Example:
-  holdem_table hand --log l2.game < script | sed -n 's/^L //p' > match.log
-  holdem_table check l2.game match.log";
-
 /// What the command line asks for.
 #[derive(Drop)]
 pub(crate) enum Task<'a> {
     Hand(HandArguments<'a>),
     Check(CheckArguments<'a>),
-    /// The log of a game whose word can't stand in a log.
-    WrongGameWord,
 }
 
 /// What `hand` is asked for.
@@ -63,9 +43,8 @@ pub(crate) struct CheckArguments<'a> {
 pub(crate) fn command<'a>(alloc: Global) -> Result<Command<'a>, AllocError> {
     Command::new(alloc, "holdem_table")
         .version("0.1.0")
-        .about(
-            "Deals Texas hold'em matches by the ACPC dealer protocol 2.0.0, and checks their logs",
-        )
+        .about("Deals Texas hold'em by the ACPC dealer protocol 2.0.0, and checks logs")
+        .after_help(AFTER_HELP)
         .subcommand_required(true)
         .subcommand(hand_command(alloc)?)?
         .subcommand(check_command(alloc)?)
@@ -109,31 +88,50 @@ fn game_argument<'a>(alloc: Global) -> Arg<'a> {
         .help("The game file, in the ACPC game definition format")
 }
 
-/// What a command line asks for; none where it names no command.
-pub(crate) fn requested<'a>(matches: &ArgMatches<'a>) -> Option<Task<'a>> {
-    match matches.subcommand_matches("hand") {
-        Some(matches) => hand_task(matches),
-        None => check_task(matches.subcommand_matches("check")?),
+/// What a command line asks for. The `Err` is `WrongWords`: no command is named, or one with a word missing
+/// (which the command line's reader refuses by itself), or the log is asked for of a game whose word can't
+/// stand in a log.
+pub(crate) fn requested<'a>(matches: &ArgMatches<'a>) -> Result<Task<'a>, Ending> {
+    if let Some(matches) = matches.subcommand_matches("hand") {
+        return hand_task(matches);
     }
+    if let Some(matches) = matches.subcommand_matches("check") {
+        return check_task(matches);
+    }
+    Err(Ending::WrongWords(WrongWords::Incomplete))
 }
 
-fn check_task<'a>(matches: &ArgMatches<'a>) -> Option<Task<'a>> {
-    Some(Task::Check(CheckArguments {
-        game: matches.get_str("game")?,
-        log: matches.get_str("log")?,
+fn check_task<'a>(matches: &ArgMatches<'a>) -> Result<Task<'a>, Ending> {
+    Ok(Task::Check(CheckArguments {
+        game: word(matches, "game")?,
+        log: word(matches, "log")?,
     }))
 }
 
-fn hand_task<'a>(matches: &ArgMatches<'a>) -> Option<Task<'a>> {
-    let game = matches.get_str("game")?;
-    let hands = matches.get_one::<u32>("hands")?.clamp(1, MOST_HANDS);
+fn hand_task<'a>(matches: &ArgMatches<'a>) -> Result<Task<'a>, Ending> {
+    let game = word(matches, "game")?;
+    let hands = match matches.get_one::<u32>("hands") {
+        Some(hands) => hands.clamp(1, MOST_HANDS),
+        None => 1,
+    };
     let log = if matches.get_flag("log") {
-        let Some(word) = GameWord::new(game) else {
-            return Some(Task::WrongGameWord);
-        };
-        Some(word)
+        Some(game_word(game)?)
     } else {
         None
     };
-    Some(Task::Hand(HandArguments { game, log, hands }))
+    Ok(Task::Hand(HandArguments { game, log, hands }))
+}
+
+fn word<'a>(matches: &ArgMatches<'a>, id: &str) -> Result<&'a str, Ending> {
+    match matches.get_str(id) {
+        Some(word) => Ok(word),
+        None => Err(Ending::WrongWords(WrongWords::Incomplete)),
+    }
+}
+
+fn game_word(game: &str) -> Result<GameWord<'_>, Ending> {
+    match GameWord::new(game) {
+        Some(word) => Ok(word),
+        None => Err(Ending::WrongWords(WrongWords::GameWord)),
+    }
 }

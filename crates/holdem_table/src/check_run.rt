@@ -2,7 +2,7 @@ ghost use Rattle.std.specs.Prelude.{◌≡◌, ℕ, List, ◌++◌, OnOk, OnErr,
 ghost use Rattle.std.specs.Io.KnownBytes.{Appends, Consumes, IsAtEnd, Keeps};
 ghost use Rattle.holdem_table.specs.Verdict.{EndsCheck, EndsLog, EndsVerdict, verdict_text};
 
-use crate::check_outcome::CheckOutcome;
+use crate::ending::Ending;
 use crate::stop::Stop;
 use crate::stream::{MOST_READS, PIECE, read_piece, send};
 use game_def::GameDef;
@@ -13,8 +13,8 @@ use std::io::{Read, Write};
 /// Checks the log of a match, which the reader gives in any pieces, against the rules of the game that the
 /// game file defines.
 ///
-/// `Yes` comes exactly where all that was read is the log of a match of this game which is over, whatever the
-/// names in it; then `yes` and LF was written. `No` comes with the first line at fault, from 1; then
+/// `Done` comes exactly where all that was read is the log of a match of this game which is over, whatever the
+/// names in it; then `yes` and LF was written. `SaidNo` comes with the first line at fault, from 1; then
 /// `no LINE CODE Name` and LF was written. `Refused` comes where the game file is refused; then nothing was
 /// read or written. `Unreadable` (104) comes where the reader failed, or the log wasn't at its end after
 /// 16,777,216 reads; then nothing was written, nor where memory was refused (92, `OutOfMemory`).
@@ -24,12 +24,12 @@ pub fn check_run<R: Read, W: Write>(
     game: &[u8],
     reader: &mut R,
     writer: &mut W,
-) -> CheckOutcome
+) -> Ending
     ensures { EndsCheck game.now (R.remaining reader.old) (R.remaining reader.new) (W.contents writer.old) (W.contents writer.new) result }
 {
     match game_def::read(game) {
         Ok(game) => check_log(alloc, &game, reader, writer),
-        Err(fault) => CheckOutcome::Refused(fault),
+        Err(fault) => Ending::Refused(fault),
     }
 }
 
@@ -39,25 +39,29 @@ fn check_log<R: Read, W: Write>(
     game: &GameDef,
     reader: &mut R,
     writer: &mut W,
-) -> CheckOutcome
+) -> Ending
     ensures { EndsLog game.now (R.remaining reader.old) (R.remaining reader.new) (W.contents writer.old) (W.contents writer.new) result }
 {
-    match read_all(alloc, reader) {
+    match read_all(alloc, MOST_READS, reader) {
         Ok(log) => say(alloc, match_log::check(&log, game), writer),
-        Err(Stop::OutOfMemory) => CheckOutcome::OutOfMemory,
-        Err(Stop::StreamFailed) => CheckOutcome::Unreadable,
+        Err(Stop::OutOfMemory) => Ending::OutOfMemory,
+        Err(Stop::StreamFailed) => Ending::Unreadable,
     }
 }
 
-/// Reads to the end.
-fn read_all<R: Read>(alloc: Global, reader: &mut R) -> Result<Vec<u8>, Stop>
+/// Reads to the end, by at most so many reads.
+pub(crate) fn read_all<R: Read>(
+    alloc: Global,
+    most_reads: u32,
+    reader: &mut R,
+) -> Result<Vec<u8>, Stop>
     ensures ok { IfOk result (λ bytes. Consumes (R.remaining reader.old) (R.remaining reader.new) bytes.items) }
     ensures end { OnOk result (IsAtEnd (R.remaining reader.new)) }
     ensures err { OnErr result ((bytes : List ℕ) × Consumes (R.remaining reader.old) (R.remaining reader.new) bytes) }
 {
     let mut bytes = Vec::new(alloc);
     let mut piece = [0u8; PIECE];
-    for _ in 0..MOST_READS {
+    for _ in 0..most_reads {
         match read_piece(reader, &mut piece)? {
             Some(0) => return Ok(bytes),
             Some(count) => bytes.extend_from_slice(&piece[..count])?,
@@ -68,19 +72,19 @@ fn read_all<R: Read>(alloc: Global, reader: &mut R) -> Result<Vec<u8>, Stop>
 }
 
 /// Writes what is said of a log.
-fn say<W: Write>(alloc: Global, verdict: Result<(), LogFault>, writer: &mut W) -> CheckOutcome
+fn say<W: Write>(alloc: Global, verdict: Result<(), LogFault>, writer: &mut W) -> Ending
     ensures { EndsVerdict verdict (W.contents writer.old) (W.contents writer.new) result }
 {
     let mut text = Vec::new(alloc);
     if put_verdict(&mut text, verdict).is_err() {
-        return CheckOutcome::OutOfMemory;
+        return Ending::OutOfMemory;
     }
     if send(writer, &text).is_err() {
-        return CheckOutcome::StreamFailed;
+        return Ending::StreamFailed;
     }
     match verdict {
-        Ok(()) => CheckOutcome::Yes,
-        Err(fault) => CheckOutcome::No(fault),
+        Ok(()) => Ending::Done,
+        Err(fault) => Ending::SaidNo(fault),
     }
 }
 

@@ -1,6 +1,8 @@
-use crate::check_outcome::CheckOutcome;
-use crate::check_run::check_run;
-use crate::tests::{L2, Narrow, Slowly, Trickle};
+use crate::check_run::{check_run, read_all};
+use crate::ending::Ending;
+use crate::stop::Stop;
+use crate::test_streams::{L2, Reading, Writing};
+use std::io::ErrorKind;
 use std::test::Fail;
 
 const LOG: &[u8] = b"# name/game/hands m l2.game 1
@@ -16,45 +18,50 @@ SCORE:5|-5:alice|bob
 #[test]
 fn says_yes_of_a_log(rt: HostRuntime) {
     let mut written = Vec::new(rt.alloc());
-    let outcome = check_run(rt.alloc(), L2, &mut &*LOG, &mut written);
-    assert_eq!(rt; outcome.status(), 0);
+    let ending = check_run(rt.alloc(), L2, &mut &*LOG, &mut written);
+    assert_eq!(rt; ending.status(), 0);
     assert_eq!(rt; written.as_slice(), b"yes\n".as_slice());
 }
 
 #[test]
 fn tells_the_first_line_at_fault(rt: HostRuntime) {
     let mut written = Vec::new(rt.alloc());
-    let outcome = check_run(rt.alloc(), L2, &mut &*WRONG_LOG, &mut written);
-    assert_eq!(rt; outcome.status(), 1);
+    let ending = check_run(rt.alloc(), L2, &mut &*WRONG_LOG, &mut written);
+    assert_eq!(rt; ending.status(), 1);
     assert_eq!(rt; written.as_slice(), b"no 2 48 WrongValues\n".as_slice());
 }
 
 #[test]
+fn reads_a_log_in_any_pieces(rt: HostRuntime) {
+    let mut reader = Reading::new(LOG, 1).interrupted();
+    let mut writer = Writing::interrupted(rt.alloc());
+    let ending = check_run(rt.alloc(), L2, &mut reader, &mut writer);
+    assert_eq!(rt; ending.status(), 0);
+    assert_eq!(rt; writer.taken.as_slice(), b"yes\n".as_slice());
+}
+
+#[test]
 fn says_nothing_of_a_log_that_fails_in_its_midst(rt: HostRuntime) -> Result<(), Fail> {
-    let mut reader = Slowly {
-        rest: LOG,
-        fails_at: 6,
-    };
-    let mut written = Vec::new(rt.alloc());
-    let outcome = check_run(rt.alloc(), L2, &mut reader, &mut written);
-    assert_eq!(rt; outcome.status(), 2);
-    assert_eq!(rt;
-        format!(in rt.alloc(); "{outcome}")?.as_str(),
-        "104 Unreadable"
-    );
-    assert!(rt; written.is_empty());
+    for (kind, text) in [
+        (ErrorKind::BrokenPipe, "104 Unreadable"),
+        (ErrorKind::OutOfMemory, "92 OutOfMemory"),
+    ] {
+        let mut reader = Reading::new(LOG, 1).failing(6, kind);
+        let mut written = Vec::new(rt.alloc());
+        let ending = check_run(rt.alloc(), L2, &mut reader, &mut written);
+        assert_eq!(rt; ending.status(), 2);
+        assert_eq!(rt; format!(in rt.alloc(); "{ending}")?.as_str(), text);
+        assert!(rt; written.is_empty());
+    }
     Ok(())
 }
 
 #[test]
 fn stops_where_the_verdict_is_refused(rt: HostRuntime) -> Result<(), Fail> {
-    let mut writer = Narrow {
-        taken: Vec::new(rt.alloc()),
-        most: 3,
-    };
-    let outcome = check_run(rt.alloc(), L2, &mut &*LOG, &mut writer);
+    let mut writer = Writing::new(rt.alloc(), 3);
+    let ending = check_run(rt.alloc(), L2, &mut &*LOG, &mut writer);
     assert_eq!(rt;
-        format!(in rt.alloc(); "{outcome}")?.as_str(),
+        format!(in rt.alloc(); "{ending}")?.as_str(),
         "107 StreamFailed"
     );
     assert_eq!(rt; writer.taken.as_slice(), b"yes".as_slice());
@@ -62,26 +69,33 @@ fn stops_where_the_verdict_is_refused(rt: HostRuntime) -> Result<(), Fail> {
 }
 
 #[test]
+fn stops_where_the_flush_fails(rt: HostRuntime) {
+    let mut writer = Writing::failing_flush(rt.alloc(), 0);
+    let ending = check_run(rt.alloc(), L2, &mut &*LOG, &mut writer);
+    assert!(rt; matches!(ending, Ending::StreamFailed));
+    assert_eq!(rt; writer.taken.as_slice(), b"yes\n".as_slice());
+}
+
+#[test]
 fn reads_no_log_of_a_refused_game(rt: HostRuntime) -> Result<(), Fail> {
-    let mut reader = LOG;
+    let mut reader = Reading::new(LOG, 4096);
     let mut written = Vec::new(rt.alloc());
-    let outcome = check_run(rt.alloc(), b"", &mut reader, &mut written);
-    assert_eq!(rt; outcome.status(), 2);
+    let ending = check_run(rt.alloc(), b"", &mut reader, &mut written);
+    assert_eq!(rt; ending.status(), 2);
     assert_eq!(rt;
-        format!(in rt.alloc(); "{outcome}")?.as_str(),
+        format!(in rt.alloc(); "{ending}")?.as_str(),
         "10 NoGamedef 0"
     );
-    assert_eq!(rt; reader.len(), LOG.len());
+    assert_eq!(rt; reader.left(), LOG.len());
     Ok(())
 }
 
 #[test]
 fn reads_a_log_so_often_and_no_more(rt: HostRuntime) {
-    for (left, status) in [(16_777_215, 1), (16_777_216, 2)] {
-        let mut reader = Trickle { left };
-        let mut written = Vec::new(rt.alloc());
-        let outcome = check_run(rt.alloc(), L2, &mut reader, &mut written);
-        assert_eq!(rt; outcome.status(), status);
-        assert_eq!(rt; matches!(outcome, CheckOutcome::Unreadable), status == 2);
+    for (bytes, is_read) in [(b"xxx".as_slice(), true), (b"xxxx".as_slice(), false)] {
+        let mut reader = Reading::new(bytes, 1);
+        let read = read_all(rt.alloc(), 4, &mut reader);
+        assert_eq!(rt; read.is_ok(), is_read);
+        assert_eq!(rt; matches!(read, Err(Stop::StreamFailed)), !is_read);
     }
 }

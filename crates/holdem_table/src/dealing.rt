@@ -8,18 +8,17 @@ ghost use Rattle.betting.specs.Fault.{fault_text};
 ghost use Rattle.betting.specs.declared.action.Action.{Action};
 ghost use Rattle.slot_log.specs.declared.command.Command.{Command as Order};
 ghost use Rattle.holdem_table.specs.Names.{IsNamesLine};
-ghost use Rattle.holdem_table.specs.Further.{further_lines, printed, printed_header};
+ghost use Rattle.holdem_table.specs.Further.{further_lines as lines_further, printed, printed_header};
 ghost use Rattle.holdem_table.specs.Answer.{Says, ComesInTurn, Tells, answer, lines_for, line_for, refusal, bad_script};
 ghost use Rattle.holdem_table.specs.declared.script_line.ScriptLine.{ScriptLine as Said};
 
 use crate::game_word::GameWord;
-use crate::log_lines::{put_last_line, put_lettered, put_score};
+use crate::log_lines::put_lettered;
 use crate::script_line::ScriptLine;
-use crate::seat_names::SeatNames;
 use betting::ActFault;
 use game_def::GameDef;
 use itoa::Buffer;
-use match_log::header;
+use match_log::{SeatNames, further_lines, header};
 use matchstate::{read_action, read_deal, seat_view, write};
 use slot_log::{Command, Effect, Reason, Table};
 use std::alloc::{AllocError, Global};
@@ -194,7 +193,7 @@ impl<'a> Dealing<'a> {
         ensures table { self.new.table ≡ self.old.table }
         ensures names { self.new.names ≡ self.old.names }
         ensures log { self.new.log ≡ self.old.log }
-        ensures ok { OnOk result (out.new.items ≡ out.old.items ++ (lines_for self.old.table.game self.old.table.hands ++ printed self.old.log (further_lines self.old.table.game self.old.table.count self.old.names self.old.table.hands))) }
+        ensures ok { OnOk result (out.new.items ≡ out.old.items ++ (lines_for self.old.table.game self.old.table.hands ++ printed self.old.log (lines_further self.old.table.game self.old.table.count self.old.names self.old.table.hands))) }
     {
         self.put_lines(out)?;
         self.put_further(out)
@@ -205,7 +204,7 @@ impl<'a> Dealing<'a> {
         ensures table { self.new.table ≡ self.old.table }
         ensures names { self.new.names ≡ self.old.names }
         ensures log { self.new.log ≡ self.old.log }
-        ensures ok { OnOk result (out.new.items ≡ out.old.items ++ printed self.old.log (further_lines self.old.table.game self.old.table.count self.old.names self.old.table.hands)) }
+        ensures ok { OnOk result (out.new.items ≡ out.old.items ++ printed self.old.log (lines_further self.old.table.game self.old.table.count self.old.names self.old.table.hands)) }
     {
         if self.log.is_none() {
             return Ok(());
@@ -219,17 +218,13 @@ impl<'a> Dealing<'a> {
         ensures table { self.new.table ≡ self.old.table }
         ensures names { self.new.names ≡ self.old.names }
         ensures log { self.new.log ≡ self.old.log }
-        ensures ok { OnOk result (self.new.further.items ≡ further_lines self.old.table.game self.old.table.count self.old.names self.old.table.hands) }
+        ensures ok { OnOk result (self.new.further.items ≡ lines_further self.old.table.game self.old.table.count self.old.names self.old.table.hands) }
     {
         self.further.clear();
         let Some(names) = &self.names else {
             return Ok(());
         };
-        if self.table.running() {
-            return Ok(());
-        }
-        put_last_line(&mut self.further, &self.table, names)?;
-        put_score(&mut self.further, &self.table, names)
+        further_lines(&mut self.further, &self.table, names)
     }
 
     /// Appends each seat's line.

@@ -1,8 +1,8 @@
 ghost use Rattle.std.specs.Prelude.{◌≤◌, OnOk, OnErr};
 ghost use Rattle.holdem_table.specs.Outcome.{Ends, Answers, Stops};
 
+use crate::ending::Ending;
 use crate::game_word::GameWord;
-use crate::outcome::HandOutcome;
 use crate::running::Running;
 use crate::stop::Stop;
 use crate::stream::{MOST_READS, PIECE, read_piece};
@@ -29,27 +29,28 @@ pub fn hand_run<R: Read, W: Write>(
     hands: u32,
     reader: &mut R,
     writer: &mut W,
-) -> HandOutcome
+) -> Ending
     requires least { 1 ≤ hands }
     requires most { hands ≤ 10000 }
     ensures { Ends game.now hands log.entry (R.remaining reader.old) (R.remaining reader.new) (W.contents writer.old) (W.contents writer.new) result }
 {
     match game_def::read(game) {
-        Ok(game) => match run_script(alloc, game, log, hands, reader, writer) {
-            Ok(()) => HandOutcome::Done,
-            Err(Stop::OutOfMemory) => HandOutcome::OutOfMemory,
-            Err(Stop::StreamFailed) => HandOutcome::StreamFailed,
+        Ok(game) => match run_script(alloc, game, log, hands, MOST_READS, reader, writer) {
+            Ok(()) => Ending::Done,
+            Err(Stop::OutOfMemory) => Ending::OutOfMemory,
+            Err(Stop::StreamFailed) => Ending::StreamFailed,
         },
-        Err(fault) => HandOutcome::Refused(fault),
+        Err(fault) => Ending::Refused(fault),
     }
 }
 
-/// Reads the script to its end, and writes the answers.
-fn run_script<R: Read, W: Write>(
+/// Reads the script to its end, by at most so many reads, and writes the answers.
+pub(crate) fn run_script<R: Read, W: Write>(
     alloc: Global,
     game: GameDef,
     log: Option<GameWord<'_>>,
     hands: u32,
+    most_reads: u32,
     reader: &mut R,
     writer: &mut W,
 ) -> Result<(), Stop>
@@ -60,7 +61,7 @@ fn run_script<R: Read, W: Write>(
 {
     let mut running = Running::new(alloc, game, log, hands);
     let mut piece = [0u8; PIECE];
-    for _ in 0..MOST_READS {
+    for _ in 0..most_reads {
         match read_piece(reader, &mut piece)? {
             Some(0) => return Ok(()),
             Some(count) => running.take_piece(&piece[..count], writer)?,

@@ -2,39 +2,50 @@
 #![tactic(auto)]
 
 mod arguments;
-mod check_outcome;
 mod check_run;
 mod dealing;
+mod ending;
 mod game_word;
 mod hand_run;
+mod help;
 mod late_file;
 mod laws;
 mod line;
 mod log_lines;
-mod outcome;
 mod running;
 mod script_line;
-mod seat_names;
 mod stop;
 mod stream;
+mod wrong_words;
 
 use crate::arguments::{CheckArguments, HandArguments, Task, command, requested};
-use crate::check_outcome::CheckOutcome;
 use crate::check_run::check_run;
+use crate::ending::Ending;
 use crate::hand_run::hand_run;
 use crate::late_file::LateFile;
-use crate::outcome::HandOutcome;
+use crate::wrong_words::WrongWords;
 use clap::error::ErrorKind;
 use clap::{ArgMatches, Error};
 use std::process::ExitCode;
 use std::{fs, io};
 
 fn main(rt: HostRuntime) -> ExitCode {
-    let status = match words(&rt) {
+    let ending = match words(&rt) {
         Ok(words) => run(&rt, &words),
-        Err(error) => refuse_words(&rt, &error),
+        Err(error) => no_words(&error),
     };
-    ExitCode::from(status)
+    tell(&rt, ending);
+    ExitCode::from(ending.status())
+}
+
+/// Prints what standard error gets of an ending.
+fn tell(rt: &HostRuntime, ending: Ending) {
+    match ending {
+        Ending::Done | Ending::SaidNo(_) | Ending::WrongWords(WrongWords::Told) => {}
+        _ => {
+            let _ = eprintln!(rt; "{ending}");
+        }
+    }
 }
 
 /// The words of the command line.
@@ -42,23 +53,22 @@ fn words(rt: &HostRuntime) -> io::Result<Vec<String>> {
     Ok(std::env::args(rt)?.collect(rt.alloc())?)
 }
 
-/// The exit status where the words can't be had: memory was refused, or one isn't text.
-fn refuse_words(rt: &HostRuntime, error: &io::Error) -> u8 {
+/// The ending where the words can't be had: memory was refused, or one isn't text.
+fn no_words(error: &io::Error) -> Ending {
     if error.kind() == io::ErrorKind::OutOfMemory {
-        return end(rt, HandOutcome::OutOfMemory);
+        Ending::OutOfMemory
+    } else {
+        Ending::WrongWords(WrongWords::NotText)
     }
-    let _ = eprintln!(rt; "error: the words of the command line must be text in UTF-8");
-    2
 }
 
-/// Runs what the words ask for; the exit status.
-fn run(rt: &HostRuntime, words: &[String]) -> u8 {
+/// Runs what the words ask for.
+fn run(rt: &HostRuntime, words: &[String]) -> Ending {
     match matches(rt, words) {
         Ok(matches) => match requested(&matches) {
-            Some(Task::Hand(arguments)) => end(rt, hand(rt, arguments)),
-            Some(Task::Check(arguments)) => end_check(rt, check(rt, arguments)),
-            Some(Task::WrongGameWord) => refuse_game_word(rt),
-            None => 2,
+            Ok(Task::Hand(arguments)) => hand(rt, arguments),
+            Ok(Task::Check(arguments)) => check(rt, arguments),
+            Err(ending) => ending,
         },
         Err(error) => show(rt, &error),
     }
@@ -69,26 +79,22 @@ fn matches<'a>(rt: &HostRuntime, words: &'a [String]) -> Result<ArgMatches<'a>, 
 }
 
 /// Prints what clap says of a command line that isn't run: help, the version, or what is wrong.
-fn show(rt: &HostRuntime, error: &Error) -> u8 {
+fn show(rt: &HostRuntime, error: &Error) -> Ending {
     if error.kind() == ErrorKind::OutOfMemory {
-        return end(rt, HandOutcome::OutOfMemory);
+        return Ending::OutOfMemory;
     }
-    match error.print(rt) {
-        Ok(()) => error.exit_code() as u8,
-        Err(_) => end(rt, HandOutcome::StreamFailed),
+    if error.print(rt).is_err() {
+        return Ending::StreamFailed;
     }
-}
-
-/// The exit status where the log of a game is asked for whose word can't stand in a log.
-fn refuse_game_word(rt: &HostRuntime) -> u8 {
-    let _ = eprintln!(rt;
-        "error: with --log GAME must be 1 to 200 printable ASCII characters without space"
-    );
-    2
+    if error.exit_code() == 0 {
+        Ending::Done
+    } else {
+        Ending::WrongWords(WrongWords::Told)
+    }
 }
 
 /// Runs `hand` over standard input and output.
-fn hand(rt: &HostRuntime, arguments: HandArguments<'_>) -> HandOutcome {
+fn hand(rt: &HostRuntime, arguments: HandArguments<'_>) -> Ending {
     match fs::read(rt, arguments.game) {
         Ok(game) => hand_run(
             rt.alloc(),
@@ -98,13 +104,12 @@ fn hand(rt: &HostRuntime, arguments: HandArguments<'_>) -> HandOutcome {
             &mut rt.reader(),
             &mut io::writer(rt),
         ),
-        Err(error) if error.kind() == io::ErrorKind::OutOfMemory => HandOutcome::OutOfMemory,
-        Err(_) => HandOutcome::Unreadable,
+        Err(error) => unread(&error),
     }
 }
 
 /// Runs `check` over a log file and standard output. The log is opened once the game is read.
-fn check(rt: &HostRuntime, arguments: CheckArguments<'_>) -> CheckOutcome {
+fn check(rt: &HostRuntime, arguments: CheckArguments<'_>) -> Ending {
     match fs::read(rt, arguments.game) {
         Ok(game) => check_run(
             rt.alloc(),
@@ -112,28 +117,22 @@ fn check(rt: &HostRuntime, arguments: CheckArguments<'_>) -> CheckOutcome {
             &mut LateFile::new(rt, arguments.log),
             &mut io::writer(rt),
         ),
-        Err(error) if error.kind() == io::ErrorKind::OutOfMemory => CheckOutcome::OutOfMemory,
-        Err(_) => CheckOutcome::Unreadable,
+        Err(error) => unread(&error),
     }
 }
 
-/// Prints what standard error gets of a run of `check`; the exit status.
-fn end_check(rt: &HostRuntime, outcome: CheckOutcome) -> u8 {
-    if outcome.status() == 2 {
-        let _ = eprintln!(rt; "{outcome}");
+/// The ending where a file can't be read.
+fn unread(error: &io::Error) -> Ending {
+    if error.kind() == io::ErrorKind::OutOfMemory {
+        Ending::OutOfMemory
+    } else {
+        Ending::Unreadable
     }
-    outcome.status()
-}
-
-/// Prints what standard error gets; the exit status.
-fn end(rt: &HostRuntime, outcome: HandOutcome) -> u8 {
-    if outcome.status() != 0 {
-        let _ = eprintln!(rt; "{outcome}");
-    }
-    outcome.status()
 }
 
 #[cfg(test)]
 mod check_tests;
 #[cfg(test)]
-mod tests;
+mod hand_tests;
+#[cfg(test)]
+mod test_streams;

@@ -1,4 +1,4 @@
-use crate::seat_names::SeatNames;
+use match_log::SeatNames;
 use slot_log::Command;
 
 /// What a script line says.

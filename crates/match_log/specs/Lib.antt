@@ -1,9 +1,11 @@
 pub mod BestFive
 pub mod Names
 pub mod NameInside
+pub mod SeatNamesInside
 pub mod Payoffs
 pub mod Lines
 pub mod Log
+pub mod Further
 pub mod Fault
 pub mod Numeral
 pub mod Reading

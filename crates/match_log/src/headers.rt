@@ -1,4 +1,4 @@
-ghost use Rattle.std.specs.Prelude.{◌≡◌, ◌+◌, ◌≤◌, ◌++◌, vec_len, vec_capacity, OnOk, OnErr};
+ghost use Rattle.std.specs.Prelude.{◌≡◌, ◌+◌, ◌<◌, ◌≤◌, ◌++◌, vec_len, vec_capacity, OnOk, OnErr};
 ghost use Rattle.match_log.specs.Names.{IsName, IsGameWord};
 ghost use Rattle.match_log.specs.Lines.{header_line};
 
@@ -18,6 +18,7 @@ pub fn header(out: &mut Vec<u8>, name: &[u8], game: &[u8], hands: u32) -> Result
     requires game { IsGameWord game.now }
     ensures ok { OnOk result (out.new.items ≡ out.old.items ++ header_line name.now game.now hands) }
     ensures err { OnErr result (out.new.items ≡ out.old.items) }
+    ensures full { OnErr result (vec_capacity out.old < vec_len out.old + 263) }
 {
     out.reserve(MOST_HEADER)?;
     header_reserved(out, name, game, hands);

@@ -1,6 +1,6 @@
 //! What holds of the logs of every match: each law is the contract of a function that does nothing.
 
-ghost use Rattle.match_log.specs.Laws.{LogsGrow};
+ghost use Rattle.match_log.specs.Laws.{LogsGrow, CommandsAddToTheLog, LogsBeginWithTheirHeader};
 ghost use Rattle.match_log.specs.Verdict.{HandsEndFinished, PayoffsAreThoseShown, OneVerdict};
 
 use betting::laws::{allowed_without_fault, nobody_passes_his_stack, showdowns_show_all_rounds};
@@ -10,6 +10,17 @@ use side_pots::laws::a_lone_player_needs_no_showdown;
 /// A log only grows: further commands add to its end, and never shorten or change what stands there.
 pub fn logs_grow()
     ensures { LogsGrow }
+{}
+
+/// What a command adds to the log: nothing where it doesn't fit; else, once the hand is over, its line, and once the
+/// match is over, the score.
+pub fn commands_add_to_the_log()
+    ensures { CommandsAddToTheLog }
+{}
+
+/// Before the first command the log of a match of one hand or more is its header.
+pub fn logs_begin_with_their_header()
+    ensures { LogsBeginWithTheirHeader }
 {}
 
 /// The hands of commands that deal no card twice and end the match are played by the rules to their end, and

@@ -3,6 +3,7 @@ ghost use Rattle.std.specs.List.{All, range_with_len};
 ghost use Rattle.matchstate.specs.View.{position_of};
 ghost use Rattle.match_log.specs.Payoffs.{IsWithin, most_payoff};
 
+use matchstate::position_of;
 use std::marker::Model;
 
 /// What each seat has won and lost in the hands so far, in whole chips.
@@ -57,7 +58,7 @@ impl Score {
     {
         let mut totals = self.totals;
         for seat in 0..payoffs.len() {
-            totals[seat] += payoffs[position(payoffs.len(), self.hands, seat)];
+            totals[seat] += payoffs[position_of(payoffs.len(), self.hands, seat)];
         }
         self.totals = totals;
         self.hands += 1;
@@ -71,15 +72,4 @@ impl Score {
     {
         &self.totals[..players]
     }
-}
-
-/// At which position a seat's player sits in a hand.
-pub(crate) fn position(players: usize, hand: u32, seat: usize) -> usize
-    requires some { 1 ≤ players }
-    requires few { players ≤ 10 }
-    requires seat { seat < players }
-    ensures value { result ≡ position_of players hand seat }
-    ensures within { result < players }
-{
-    (seat + (players - hand as usize % players)) % players
 }

@@ -1,14 +1,13 @@
-ghost use Rattle.std.specs.Prelude.{◌≡◌, ◌+◌, ◌≤◌, ◌++◌, true, length, vec_len, vec_capacity, OnOk, OnErr};
+ghost use Rattle.std.specs.Prelude.{◌≡◌, ◌+◌, ◌<◌, ◌≤◌, ◌++◌, true, length, vec_len, vec_capacity, OnOk, OnErr};
 ghost use Rattle.slot_log.specs.Dealer.{is_match_over};
 ghost use Rattle.match_log.specs.Lines.{score_line as line_of};
-ghost use Rattle.match_log.specs.Names.{AreNames};
 ghost use Rattle.match_log.specs.Tally.{IsTallyOf};
 
 use crate::dealt::dealt_hand;
 use crate::fields::{put_names, put_values};
-use crate::name::Name;
 use crate::put::put;
 use crate::score::Score;
+use crate::seat_names::SeatNames;
 use crate::settlement::payoffs;
 use slot_log::Table;
 use std::alloc::AllocError;
@@ -20,11 +19,12 @@ pub const MOST_SCORE_LINE: usize = 548;
 /// over all hands, in whole chips and in seat order.
 ///
 /// An `Err` comes only where memory was refused; then nothing has changed.
-pub fn score_line(out: &mut Vec<u8>, table: &Table, names: &[Name]) -> Result<(), AllocError>
+pub fn score_line(out: &mut Vec<u8>, table: &Table, names: &SeatNames) -> Result<(), AllocError>
     requires over { is_match_over table.now.game table.now.count table.now.hands ≡ true }
-    requires names { AreNames table.now.game.players names.now }
+    requires names { length names.now ≡ table.now.game.players }
     ensures ok { OnOk result (out.new.items ≡ out.old.items ++ line_of table.now.game names.now table.now.hands) }
     ensures err { OnErr result (out.new.items ≡ out.old.items) }
+    ensures full { OnErr result (vec_capacity out.old < vec_len out.old + 548) }
 {
     out.reserve(MOST_SCORE_LINE)?;
     score_line_reserved(out, table, names);
@@ -32,9 +32,9 @@ pub fn score_line(out: &mut Vec<u8>, table: &Table, names: &[Name]) -> Result<()
 }
 
 /// As `score_line`, where there is room for `MOST_SCORE_LINE` bytes.
-pub fn score_line_reserved(out: &mut Vec<u8>, table: &Table, names: &[Name])
+pub fn score_line_reserved(out: &mut Vec<u8>, table: &Table, names: &SeatNames)
     requires over { is_match_over table.now.game table.now.count table.now.hands ≡ true }
-    requires names { AreNames table.now.game.players names.now }
+    requires names { length names.now ≡ table.now.game.players }
     requires room { vec_len out.old + 548 ≤ vec_capacity out.old }
     ensures items { out.new.items ≡ out.old.items ++ line_of table.now.game names.now table.now.hands }
     ensures len { vec_len out.new ≤ vec_len out.old + 548 }
@@ -44,7 +44,7 @@ pub fn score_line_reserved(out: &mut Vec<u8>, table: &Table, names: &[Name])
     put(out, b"SCORE:");
     put_values(out, score.totals(table.game().players()));
     put(out, b":");
-    put_names(out, names, 0);
+    put_names(out, names.as_slice(), 0);
     put(out, b"\n");
 }
 

@@ -7,9 +7,9 @@ ghost use Rattle.match_log.specs.Numeral.{IsDecimal};
 ghost use Rattle.match_log.specs.Reading.{MayBeSeats};
 
 use crate::name::Name;
-use crate::names::are_names;
 use crate::numeral::remainder;
-use crate::score::position;
+use crate::seat_names::are_names;
+use matchstate::position_of;
 
 /// The seats' names that names by position say in a hand of this number; none where they aren't the names
 /// that are known, or, where none are, no names for so many seats.
@@ -42,7 +42,7 @@ fn by_seat(by_position: &[Name; 10], players: usize, hand: u32) -> [Name; 10]
 {
     let mut seats = *by_position;
     for seat in 0..players {
-        seats[seat] = by_position[position(players, hand, seat)];
+        seats[seat] = by_position[position_of(players, hand, seat)];
     }
     seats
 }

@@ -3,12 +3,11 @@ ghost use Rattle.card_core.specs.Deal.{IsDeal};
 ghost use Rattle.slot_log.specs.Dealer.{finished_count, hand_at};
 ghost use Rattle.slot_log.specs.Hand.{Hand};
 ghost use Rattle.match_log.specs.Lines.{state_line as line_of};
-ghost use Rattle.match_log.specs.Names.{AreNames};
 
 use crate::dealt::dealt_hand;
 use crate::fields::{put_names, put_shown, put_values};
-use crate::name::Name;
 use crate::put::{put, put_number};
+use crate::seat_names::SeatNames;
 use crate::settlement::payoffs;
 use betting::Play;
 use card_core::Deal;
@@ -29,12 +28,13 @@ pub fn state_line(
     out: &mut Vec<u8>,
     table: &Table,
     hand: u32,
-    names: &[Name],
+    names: &SeatNames,
 ) -> Result<(), AllocError>
     requires finished { hand < finished_count table.now.game table.now.hands }
-    requires names { AreNames table.now.game.players names.now }
+    requires names { length names.now ≡ table.now.game.players }
     ensures ok { OnOk result (IsSomeAnd (hand_at table.now.hands hand) (λ found. out.new.items ≡ out.old.items ++ line_of table.now.game names.now hand found)) }
     ensures err { OnErr result (out.new.items ≡ out.old.items) }
+    ensures full { OnErr result (vec_capacity out.old < vec_len out.old + 4208) }
 {
     out.reserve(MOST_STATE_LINE)?;
     state_line_reserved(out, table, hand, names);
@@ -42,9 +42,9 @@ pub fn state_line(
 }
 
 /// As `state_line`, where there is room for `MOST_STATE_LINE` bytes.
-pub fn state_line_reserved(out: &mut Vec<u8>, table: &Table, hand: u32, names: &[Name])
+pub fn state_line_reserved(out: &mut Vec<u8>, table: &Table, hand: u32, names: &SeatNames)
     requires finished { hand < finished_count table.now.game table.now.hands }
-    requires names { AreNames table.now.game.players names.now }
+    requires names { length names.now ≡ table.now.game.players }
     requires room { vec_len out.old + 4208 ≤ vec_capacity out.old }
     ensures items { IsSomeAnd (hand_at table.now.hands hand) (λ found. out.new.items ≡ out.old.items ++ line_of table.now.game names.now hand found) }
     ensures len { vec_len out.new ≤ vec_len out.old + 4208 }
@@ -63,7 +63,7 @@ pub(crate) fn put_hand(
     number: u32,
     play: &Play,
     deal: &Deal,
-    names: &[Name],
+    names: &SeatNames,
 )
     requires same_game { play.now.game ≡ game.now }
     requires dealt { IsDeal game.now.players deal.now }
@@ -84,6 +84,6 @@ pub(crate) fn put_hand(
     put(out, b":");
     put_values(out, payoffs.as_slice());
     put(out, b":");
-    put_names(out, names, number);
+    put_names(out, names.as_slice(), number);
     put(out, b"\n");
 }

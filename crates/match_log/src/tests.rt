@@ -1,6 +1,9 @@
 ghost use Rattle.std.specs.Prelude.{◌≤◌};
 
-use crate::{LogFault, LogFaultKind, Name, are_names, check, is_game_word, score_line, state_line};
+use crate::{
+    LogFault, LogFaultKind, Name, SeatNames, check, further_lines, header, is_game_word,
+    score_line, state_line,
+};
 use card_core::Deal;
 use game_def::GameDef;
 use matchstate::{read_betting, read_deal};
@@ -9,24 +12,27 @@ use std::alloc::Global;
 use std::process::Abort;
 use std::test::Fail;
 
-const TWO_LIMIT: &[u8] =
+const L2: &[u8] =
     b"GAMEDEF\nlimit\nnumPlayers = 2\nnumRounds = 4\nblind = 10 5\nraiseSize = 10 10 20 20\nfirstPlayer = 2 1 1 1\nmaxRaises = 3 4 4 4\nnumSuits = 4\nnumRanks = 13\nnumHoleCards = 2\nnumBoardCards = 0 3 1 1\nEND GAMEDEF\n";
 
-const TWO_NO_LIMIT: &[u8] =
+const N2: &[u8] =
     b"GAMEDEF\nnolimit\nnumPlayers = 2\nnumRounds = 4\nstack = 20000 20000\nblind = 100 50\nfirstPlayer = 2 1 1 1\nnumSuits = 4\nnumRanks = 13\nnumHoleCards = 2\nnumBoardCards = 0 3 1 1\nEND GAMEDEF\n";
 
-const THREE_LIMIT: &[u8] =
+const L3: &[u8] =
     b"GAMEDEF\nlimit\nnumPlayers = 3\nnumRounds = 4\nblind = 5 10 0\nraiseSize = 10 10 20 20\nfirstPlayer = 3 1 1 1\nmaxRaises = 3 4 4 4\nnumSuits = 4\nnumRanks = 13\nnumHoleCards = 2\nnumBoardCards = 0 3 1 1\nEND GAMEDEF\n";
 
-const THREE_NO_LIMIT: &[u8] =
+const N3: &[u8] =
     b"GAMEDEF\nnolimit\nnumPlayers = 3\nnumRounds = 4\nstack = 1000 150 5000\nblind = 50 100 0\nfirstPlayer = 3 1 1 1\nnumSuits = 4\nnumRanks = 13\nnumHoleCards = 2\nnumBoardCards = 0 3 1 1\nEND GAMEDEF\n";
 
 fn game(rt: &impl Abort, text: &[u8]) -> GameDef {
     game_def::read(text).expect(rt, "a game")
 }
 
-fn name(rt: &impl Abort, text: &[u8]) -> Name {
-    Name::new(text).expect(rt, "a name")
+fn seats(rt: &impl Abort, text: &[u8], players: usize) -> SeatNames
+    requires least { 2 ≤ players }
+    requires most { players ≤ 10 }
+{
+    SeatNames::read(text, players).expect(rt, "names")
 }
 
 fn cards(rt: &impl Abort, text: &[u8], players: usize) -> Deal
@@ -59,10 +65,10 @@ fn hand_line(
     alloc: Global,
     table: &Table,
     hand: u32,
-    names: &[Name],
+    names: &SeatNames,
     expected: &[u8],
 ) -> Result<(), Fail> {
-    assert!(rt; are_names(names, table.game().players()));
+    assert_eq!(rt; names.as_slice().len(), table.game().players());
     assert!(rt; hand < table.finished());
     let mut out = Vec::new(alloc);
     state_line(&mut out, table, hand, names)?;
@@ -72,8 +78,8 @@ fn hand_line(
 
 #[test]
 fn the_middle_pot_goes_to_the_short_stack(rt: HostRuntime) -> Result<(), Fail> {
-    let game = game(&rt, THREE_NO_LIMIT);
-    let names = [name(&rt, b"alice"), name(&rt, b"bob"), name(&rt, b"carol")];
+    let game = game(&rt, N3);
+    let names = seats(&rt, b"alice|bob|carol", 3);
     let mut table = Table::new(rt.alloc(), game, 1);
     play(
         &mut table,
@@ -93,8 +99,8 @@ fn the_middle_pot_goes_to_the_short_stack(rt: HostRuntime) -> Result<(), Fail> {
 
 #[test]
 fn all_chips_go_in_at_once(rt: HostRuntime) -> Result<(), Fail> {
-    let game = game(&rt, TWO_NO_LIMIT);
-    let names = [name(&rt, b"alice"), name(&rt, b"bob")];
+    let game = game(&rt, N2);
+    let names = seats(&rt, b"alice|bob", 2);
     let mut table = Table::new(rt.alloc(), game, 1);
     play(
         &mut table,
@@ -114,8 +120,8 @@ fn all_chips_go_in_at_once(rt: HostRuntime) -> Result<(), Fail> {
 
 #[test]
 fn a_match_of_two_hands(rt: HostRuntime) -> Result<(), Fail> {
-    let game = game(&rt, TWO_LIMIT);
-    let names = [name(&rt, b"alice"), name(&rt, b"bob")];
+    let game = game(&rt, L2);
+    let names = seats(&rt, b"alice|bob", 2);
     let mut table = Table::new(rt.alloc(), game, 2);
     play(
         &mut table,
@@ -145,12 +151,41 @@ fn a_match_of_two_hands(rt: HostRuntime) -> Result<(), Fail> {
         &names,
         b"STATE:1:f:2d2h|3d3s:5|-5:bob|alice\n",
     )?;
-    assert!(rt; are_names(&names, table.game().players()));
+    assert_eq!(rt; names.as_slice().len(), table.game().players());
     assert!(rt; table.over());
     let mut out = Vec::new(rt.alloc());
     score_line(&mut out, &table, &names)?;
     assert!(rt; out.as_slice() == b"SCORE:0|0:alice|bob\n".as_slice());
+    out.clear();
+    further_lines(&mut out, &table, &names)?;
+    assert!(rt;
+        out.as_slice() == b"STATE:1:f:2d2h|3d3s:5|-5:bob|alice\nSCORE:0|0:alice|bob\n".as_slice()
+    );
     Ok(())
+}
+
+#[test]
+fn a_log_begins_with_its_header(rt: HostRuntime) -> Result<(), Fail> {
+    let name = Name::new(b"m").expect(&rt, "a name");
+    assert!(rt; is_game_word(b"l2.game"));
+    let mut out = Vec::new(rt.alloc());
+    header(&mut out, name.as_bytes(), b"l2.game", 2)?;
+    assert!(rt; out.as_slice() == b"# name/game/hands m l2.game 2\n".as_slice());
+    Ok(())
+}
+
+#[test]
+fn each_seat_has_a_name_of_its_own(rt: HostRuntime) {
+    for text in [
+        &b"alice"[..],
+        &b"alice|alice"[..],
+        &b"alice|bob|carol"[..],
+        &b"alice|"[..],
+        &b"alice|b b"[..],
+    ] {
+        assert!(rt; SeatNames::read(text, 2).is_none());
+    }
+    assert!(rt; SeatNames::read(b"alice|bob", 2).is_some());
 }
 
 #[test]
@@ -190,7 +225,7 @@ fn is_log(rt: &impl Abort, game_file: &[u8], log: &[u8]) -> bool {
 
 /// Whether a log is told to be wrong at this line, by this fault.
 fn is_wrong(rt: &impl Abort, log: &[u8], line: usize, kind: LogFaultKind) -> bool {
-    match check(log, &game(rt, TWO_LIMIT)) {
+    match check(log, &game(rt, L2)) {
         Ok(()) => false,
         Err(fault) => fault == LogFault { kind, line },
     }
@@ -201,35 +236,35 @@ fn whole_logs_are_right(rt: HostRuntime) {
     assert!(rt;
         is_log(
             &rt,
-            TWO_LIMIT,
+            L2,
             b"# name/game/hands m l2.game 1\nSTATE:0:f:TdAs|8hTc:5|-5:alice|bob\nSCORE:5|-5:alice|bob\n",
         )
     );
     assert!(rt;
         is_log(
             &rt,
-            TWO_LIMIT,
+            L2,
             b"# name/game/hands m l2.game 2\nSTATE:0:f:TdAs|8hTc:5|-5:alice|bob\nSTATE:1:f:2d2h|3d3s:5|-5:bob|alice\nSCORE:0|0:alice|bob\n",
         )
     );
     assert!(rt;
         is_log(
             &rt,
-            THREE_LIMIT,
+            L3,
             b"# name/game/hands m l3.game 1\nSTATE:0:cfc/cc/cc/cc:2c3d|4c5d|6c7d/TsJsQs/Ks/As:-5|3|2:alice|bob|carol\nSCORE:-5|3|2:alice|bob|carol\n",
         )
     );
     assert!(rt;
         is_log(
             &rt,
-            THREE_NO_LIMIT,
+            N3,
             b"# name/game/hands m n3.game 1\nSTATE:0:ccr150r200c/r1000c//:2c7d|AsAh|KsKh/3d8h9c/Jd/4s:-1000|300|700:alice|bob|carol\nSCORE:-1000|300|700:alice|bob|carol\n",
         )
     );
     assert!(rt;
         is_log(
             &rt,
-            TWO_NO_LIMIT,
+            N2,
             b"# name/game/hands m n2.game 1\nSTATE:0:r20000c///:TdAs|8hTc/2c8c3h/9c/Kh:-20000|20000:alice|bob\nSCORE:-20000|20000:alice|bob\n",
         )
     );

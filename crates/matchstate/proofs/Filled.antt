@@ -1,8 +1,9 @@
 -- Cards that are put behind others, each of which doesn't stand there yet.
-use Rattle.std.proofs.Common.{◌≡◌, ℕ, zero, suc, ◌+◌, ◌<◌, Bool, true, false, nat_eq, List, [], ◌∷◌, ◌++◌, length, take, set, refl, sym, ◌∙◌, arith}
+use Rattle.std.proofs.Common.{◌≡◌, ℕ, zero, suc, ◌+◌, ◌<◌, Bool, true, false, inl, inr, nat_eq, List, [], ◌∷◌, ◌++◌, length, take, set, refl, sym, ap, ◌∙◌, arith}
 use Rattle.std.specs.List.{IsDistinct, AllByRecursion, list_any}
 use Rattle.std.proofs.lemmas.List.{take_more_set}
-use Rattle.std.proofs.lemmas.Bool.Decides.{nat_tests}
+use Rattle.std.specs.Prelude.{◌||◌}
+use Rattle.std.proofs.lemmas.Bool.Decides.{eqb_tells, nat_tests}
 use Rattle.std.proofs.lemmas.Grind.{common_steps}
 use Rattle.matchstate.proofs.Counts.{from_absent}
 use Rattle.matchstate.proofs.Completion.{fresh_card}
@@ -26,6 +27,24 @@ IsDistinct-push (y ∷ xs) x distinct apart =
 pub distinct_more : (xs : List ℕ) (place card : ℕ) → place < length xs → list_any (λ other. nat_eq card other) (take place xs) ≡ false → IsDistinct nat_eq (take place xs) → IsDistinct nat_eq (take (place + 1) (set xs place card))
 distinct_more xs place card below unused distinct =
     rw (take_more_set xs place card below) (IsDistinct-push (take place xs) card distinct (none_from_any (λ other. nat_eq card other) (take place xs) unused))
+
+any_push : (p : ℕ → Bool) (xs : List ℕ) (x : ℕ) → list_any p xs ≡ true → list_any p (xs ++ x ∷ []) ≡ true
+any_push p [] x some = cc
+any_push p (y ∷ xs) x some =
+    elim (p y) as (λ b. b || list_any p xs ≡ true → b || list_any p (xs ++ x ∷ []) ≡ true) [ true ↦ λ here. refl | false ↦ λ later. any_push p xs x later ] some
+
+any_last : (p : ℕ → Bool) (xs : List ℕ) (x : ℕ) → p x ≡ true → list_any p (xs ++ x ∷ []) ≡ true
+any_last p [] x here = rw here refl
+any_last p (y ∷ xs) x here = elim (p y) as (λ b. b || list_any p (xs ++ x ∷ []) ≡ true) [ true ↦ refl | false ↦ any_last p xs x here ]
+
+-- where a card is put behind those that have all numbers before its own, they have all numbers before the next
+pub used_more : (xs : List ℕ) (place card number : ℕ) → place < length xs → card ≡ number → ((k : ℕ) → k < number → list_any (λ card. nat_eq k card) (take place xs) ≡ true) → (k : ℕ) → k < number + 1 → list_any (λ card. nat_eq k card) (take (place + 1) (set xs place card)) ≡ true
+used_more xs place card number below same_number used k small =
+    rw (take_more_set xs place card below)
+    (elim (eqb_tells k number) [
+      | inl same ↦ any_last (λ other. nat_eq k other) (take place xs) card (ap (nat_eq k) same_number ∙ same.0)
+      | inr apart ↦ (let other = apart.1 in any_push (λ other. nat_eq k other) (take place xs) card (used k (omega arith)))
+    ])
 
 All-take : (P : ℕ → Type 0) (n : ℕ) (xs : List ℕ) → AllByRecursion P xs → AllByRecursion P (take n xs)
 All-take P zero xs all = tt

@@ -1,11 +1,12 @@
 -- The server's line of the ACPC protocol 2.0.0: MATCHSTATE:position:hand:betting:cards.
-use Rattle.std.specs.Prelude.{◌≡◌, ◌≢◌, ℕ, ◌<◌, ◌≤◌, List, ◌∷◌, ◌++◌, Option, Result, Ok, Err, codes, decimal}
-use Rattle.std.specs.Option.{option_map}
-use Rattle.std.specs.List.{AllByRecursion}
+use Rattle.std.specs.Prelude.{◌≡◌, ◌≢◌, ℕ, ◌<◌, ◌≤◌, List, [], ◌∷◌, ◌++◌, Option, Result, Ok, Err, codes, decimal}
+use Rattle.std.specs.Option.{option_map, option_to_list}
+use Rattle.std.specs.List.{AllByRecursion, flat_map}
 use Rattle.game_def.specs.Game.{Game}
 use Rattle.betting.specs.declared.action.Action.{Action}
 use Rattle.betting.specs.Text.{text}
 use Rattle.betting.specs.Legal.{Legal}
+use Rattle.slot_log.specs.Hand.{Hand}
 use Rattle.slot_log.specs.declared.command.Command.{Command}
 use Rattle.slot_log.specs.Dealer.{hands_of}
 use Rattle.matchstate.specs.Cards.{cards_field, AreSeen}
@@ -87,6 +88,15 @@ line_text view =
       betting = text view.game view.past;
       cards = cards_field view.holes view.boards;
     })
+
+-- the betting text of the newest hand; none before the first deal
+abbrev pub newest_text : Game → List Hand → List ℕ
+newest_text game [] = []
+newest_text game (newest ∷ earlier) = text game newest.past
+
+-- the line that a seat gets after these hands; nothing before the first deal
+abbrev pub seat_text : Game → List Hand → ℕ → List ℕ
+seat_text game hands seat = flat_map line_text (option_to_list (seat_view game hands seat))
 
 -- the line that a seat gets after a list of commands, newest first; none before the first deal
 abbrev pub line : Game → ℕ → List Command → ℕ → Option (List ℕ)

@@ -32,8 +32,9 @@ pub fn read_shown(bytes: &[u8], players: usize, rounds: usize) -> Option<Deal>
 {
     let seen = read_seen(bytes, players, &[true; 10], rounds)?;
     let (mut cards, count) = gather(&seen, players);
-    fill_up(&mut cards, count);
-    match Deal::new(players, &cards[..2 * players + 5]) {
+    let end = 2 * players + 5;
+    fill_up(&mut cards, count, end);
+    match Deal::new(players, &cards[..end]) {
         Ok(deal) => Some(deal),
         Err(_) => None,
     }

@@ -1,4 +1,4 @@
-ghost use Rattle.std.specs.Prelude.{◌≡◌, ℕ, ◌+◌, ◌<◌, ◌≤◌, ◌++◌, [], map, take, length, unwrap_or};
+ghost use Rattle.std.specs.Prelude.{◌≡◌, ℕ, ◌+◌, ◌*◌, ◌<◌, ◌≤◌, ◌++◌, [], map, take, length, unwrap_or};
 ghost use Rattle.std.specs.List.{concat};
 ghost use Rattle.matchstate.specs.Cards.{all_cards};
 ghost use Rattle.matchstate.specs.SeenCards.{hole_in, holes_in, boards_in};
@@ -13,7 +13,7 @@ const MOST_CARDS: usize = 25;
 pub(crate) fn gather(seen: &SeenCards, players: usize) -> ([Card; MOST_CARDS], usize)
     requires { players ≤ 10 }
     ensures value { take result.1 result.0 ≡ all_cards (holes_in players seen.now) (boards_in seen.now) }
-    ensures count { result.1 ≤ 25 }
+    ensures count { result.1 ≤ 2 * players + 5 }
 {
     let mut cards = [Card::from_number(0); MOST_CARDS];
     let holes = gather_holes(&mut cards, players, &seen.holes);
@@ -40,7 +40,7 @@ fn gather_holes(cards: &mut [Card], players: usize, holes: &[Option<[Card; 2]>; 
     requires players { players ≤ 10 }
     requires room { length cards.old ≡ 25 }
     ensures value { take result cards.new ≡ concat (map hole_in (take players holes.now)) }
-    ensures count { result ≤ 20 }
+    ensures count { result ≤ 2 * players }
 {
     let mut count = 0;
     for position in 0..players {

@@ -2,16 +2,17 @@
 //! from a text to what it shows; and the players' answers, a line and an action.
 #![tactic(auto)]
 
+mod betting_field;
 mod comparison;
 mod deal_text;
 mod fields;
 mod filling;
 mod gather;
 pub mod laws;
+mod line;
 mod line_fault;
 mod number;
 mod put;
-mod put_betting;
 mod put_seen;
 mod read_cards;
 mod read_line;
@@ -25,15 +26,16 @@ mod seen_cards;
 mod sight;
 mod view;
 
+pub use betting_field::{BettingText, MOST_BETTING, betting_text, betting_text_reserved};
 pub use deal_text::{read_deal, read_shown};
+pub use line::{MOST_LINE, seat_line, seat_line_reserved, write, write_reserved};
 pub use line_fault::LineFault;
-pub use put_betting::{MOST_BETTING, betting_text, betting_text_reserved};
 pub use read_line::read;
 pub use reading_action::read_action;
 pub use reading_answer::read_answer;
 pub use reading_betting::read_betting;
-pub use seating::seat_view;
-pub use view::{MOST_LINE, View, write, write_reserved};
+pub use seating::{position_of, seat_view};
+pub use view::View;
 
 #[cfg(test)]
 mod tests;

@@ -7,8 +7,8 @@ use crate::line_fault::LineFault;
 use crate::number::read_number;
 use crate::read_sight::read_sight;
 use crate::reading_betting::read_betting;
-use crate::view::{MOST_ACTIONS, View};
-use betting::{Action, Play};
+use crate::view::View;
+use betting::Play;
 use game_def::GameDef;
 
 /// The last of the numbers of hands.
@@ -43,18 +43,7 @@ pub(crate) fn read_played(bytes: &[u8], game: &GameDef) -> Result<(View, Play), 
     let Some(seen) = read_sight(fields.cards, &play, position) else {
         return Err(LineFault::BadCards);
     };
-    let taken = play.actions();
-    let mut actions = [Action::Fold; MOST_ACTIONS];
-    actions[..taken.len()].copy_from_slice(taken);
-    let count = taken.len();
-    let view = View {
-        game: *game,
-        position,
-        hand,
-        actions,
-        count,
-        seen,
-    };
+    let view = View::of(position, hand, &play, seen);
     Ok((view, play))
 }
 

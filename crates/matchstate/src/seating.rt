@@ -3,10 +3,9 @@ ghost use Rattle.card_core.specs.Deal.{IsDeal};
 ghost use Rattle.matchstate.specs.View.{seat_view, view_of, position_of};
 
 use crate::sight::sight;
-use crate::view::{MOST_ACTIONS, View};
-use betting::{Action, Play};
+use crate::view::View;
+use betting::Play;
 use card_core::Deal;
-use game_def::GameDef;
 use slot_log::Table;
 
 /// What a seat, counted from 0 and below the number of players, sees of a match: its view of the hand that
@@ -18,37 +17,27 @@ pub fn seat_view(table: &Table, seat: usize) -> Option<View>
     let hand = table.dealt().checked_sub(1)?;
     let deal = table.deal(hand)?;
     let play = table.play(hand)?;
-    let position = position_of(table.game(), hand, seat);
-    Some(view_of_hand(table.game(), position, hand, deal, play))
+    let position = position_of(table.game().players(), hand, seat);
+    Some(view_of_hand(position, hand, deal, play))
 }
 
-// The position that a seat has in a hand: the positions move on by one seat with each hand.
-fn position_of(game: &GameDef, hand: u32, seat: usize) -> usize
-    requires { seat < game.now.players }
-    ensures value { result ≡ position_of game.now.players hand seat }
-    ensures below { result < game.now.players }
+/// The position that a seat, counted from 0, has in a hand of 2 to 10 players: the positions move on by one seat with
+/// each hand.
+pub fn position_of(players: usize, hand: u32, seat: usize) -> usize
+    requires few { players ≤ 10 }
+    requires seat { seat < players }
+    ensures value { result ≡ position_of players hand seat }
+    ensures below { result < players }
 {
-    let players = game.players();
     (seat + (players - hand as usize % players)) % players
 }
 
-// What the player at a position sees of a hand.
-fn view_of_hand(game: &GameDef, position: usize, hand: u32, deal: &Deal, play: &Play) -> View
-    requires below { position < game.now.players }
+/// What the player at a position sees of a hand.
+fn view_of_hand(position: usize, hand: u32, deal: &Deal, play: &Play) -> View
+    requires below { position < play.now.game.players }
     requires number { hand ≤ 9999 }
-    requires same { play.now.game ≡ game.now }
-    requires dealt { IsDeal game.now.players deal.now }
-    ensures { result ≡ view_of game.now position hand (record { deal = deal.now; past = play.now.past }) }
+    requires dealt { IsDeal play.now.game.players deal.now }
+    ensures { result ≡ view_of play.now.game position hand (record { deal = deal.now; past = play.now.past }) }
 {
-    let taken = play.actions();
-    let mut actions = [Action::Fold; MOST_ACTIONS];
-    actions[..taken.len()].copy_from_slice(taken);
-    View {
-        game: *game,
-        position,
-        hand,
-        actions,
-        count: taken.len(),
-        seen: sight(deal, play, position),
-    }
+    View::of(position, hand, play, sight(deal, play, position))
 }

@@ -1,6 +1,7 @@
 use crate::{
-    LineFault, betting_text, read, read_answer, read_betting, read_deal, read_shown, seat_view,
-    write,
+    BettingText, LineFault, MOST_BETTING, MOST_LINE, betting_text, betting_text_reserved,
+    position_of, read, read_action, read_answer, read_betting, read_deal, read_shown, seat_line,
+    seat_line_reserved, seat_view, write, write_reserved,
 };
 use betting::Action;
 use game_def::GameDef;
@@ -8,7 +9,7 @@ use slot_log::{Command, Effect, Table};
 use std::process::Abort;
 use std::test::Fail;
 
-const LIMIT: &[u8] = b"GAMEDEF
+const L2: &[u8] = b"GAMEDEF
 limit
 numPlayers = 2
 numRounds = 4
@@ -23,7 +24,7 @@ numBoardCards = 0 3 1 1
 END GAMEDEF
 ";
 
-const NO_LIMIT: &[u8] = b"GAMEDEF
+const N2: &[u8] = b"GAMEDEF
 nolimit
 numPlayers = 2
 numRounds = 4
@@ -38,11 +39,11 @@ END GAMEDEF
 ";
 
 fn game(rt: &impl Abort) -> GameDef {
-    game_def::read(LIMIT).expect(rt, "a game")
+    game_def::read(L2).expect(rt, "a game")
 }
 
 fn no_limit_game(rt: &impl Abort) -> GameDef {
-    game_def::read(NO_LIMIT).expect(rt, "a game")
+    game_def::read(N2).expect(rt, "a game")
 }
 
 #[test]
@@ -58,6 +59,53 @@ fn a_seat_sees_its_own_cards(rt: HostRuntime) -> Result<(), Fail> {
     let mut line = Vec::new(rt.alloc());
     write(&mut line, &view, &game)?;
     assert!(rt; line.as_slice() == &b"MATCHSTATE:1:0::|8hTc"[..]);
+    Ok(())
+}
+
+#[test]
+fn all_seats_share_one_betting_text(rt: HostRuntime) -> Result<(), Fail> {
+    let game = game(&rt);
+    let mut table = Table::new(rt.alloc(), game, 1);
+    let deal = read_deal(b"TdAs|8hTc/2c8c3h/9c/Kh", 2).expect(&rt, "a deal");
+    table.apply(&Command::Deal { hand: 0, deal })?;
+    let mut lines = Vec::new(rt.alloc());
+    for (index, action) in [Action::Raise(20), Action::Call].iter().enumerate() {
+        table.apply(&Command::Act {
+            hand: 0,
+            index: index as u16,
+            action: *action,
+        })?;
+    }
+    let betting = BettingText::newest(&table);
+    assert!(rt; betting.as_bytes() == &b"rc/"[..]);
+    assert_eq!(rt; table.game().players(), 2);
+    seat_line(&mut lines, &table, 0, &betting)?;
+    lines.push(b'\n')?;
+    lines.reserve(MOST_LINE)?;
+    seat_line_reserved(&mut lines, &table, 1, &betting);
+    assert!(rt;
+        lines.as_slice() == &b"MATCHSTATE:0:0:rc/:TdAs|/2c8c3h\nMATCHSTATE:1:0:rc/:|8hTc/2c8c3h"[..]
+    );
+    assert_eq!(rt; position_of(2, 1, 0), 1);
+    Ok(())
+}
+
+#[test]
+fn room_is_made_once_for_a_line(rt: HostRuntime) -> Result<(), Fail> {
+    let game = game(&rt);
+    let view = read(b"MATCHSTATE:0:0:rrrc/:TdAs|/2c8c3h", &game)
+        .ok()
+        .expect(&rt, "a line");
+    let mut line = Vec::new(rt.alloc());
+    line.reserve(MOST_LINE)?;
+    write_reserved(&mut line, &view, &game);
+    assert!(rt; line.as_slice() == &b"MATCHSTATE:0:0:rrrc/:TdAs|/2c8c3h"[..]);
+    let play = read_betting(b"rrrc/", &game).expect(&rt, "a play");
+    assert_eq!(rt; read_action(b"f", &play), Some(Action::Fold));
+    let mut text = Vec::new(rt.alloc());
+    text.reserve(MOST_BETTING)?;
+    betting_text_reserved(&mut text, &play);
+    assert!(rt; text.as_slice() == &b"rrrc/"[..]);
     Ok(())
 }
 

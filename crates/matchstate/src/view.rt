@@ -1,28 +1,23 @@
 ghost use Rattle.std.specs.Prelude.{◌≡◌, ℕ, ◌+◌, ◌-◌, ◌<◌, ◌≤◌, ◌++◌, ◌↔◌, [], map, length, replicate, reverse, unwrap_or, slice_index_or, IsTrue, Result, Ok, OnOk, OnErr, vec_len, vec_capacity};
 ghost use Rattle.std.specs.List.{concat};
 ghost use Rattle.game_def.specs.Game.{IsGame};
-ghost use Rattle.matchstate.specs.View.{View as Sight, IsView};
+ghost use Rattle.matchstate.specs.Cards.{AreSeen};
+ghost use Rattle.matchstate.specs.SeenCards.{holes_in, boards_in};
+ghost use Rattle.matchstate.specs.View.{View as Sight, IsView, sees, rounds_seen};
 ghost use Rattle.matchstate.specs.Line.{ReadsAs, line_text};
 ghost use Rattle.matchstate.specs.declared.line_fault.LineFault.{LineFault};
 
 use crate::comparison::{are_same_actions, are_same_cards};
 use crate::gather::{gather, gather_board};
 use crate::laws::a_view_has_one_line;
-use crate::put::{put, put_number};
-use crate::put_betting::put_betting;
-use crate::put_seen::put_seen;
 use crate::seen_cards::SeenCards;
-use betting::Action;
+use betting::{Action, Play};
 use card_core::Card;
 use game_def::GameDef;
-use std::alloc::AllocError;
 use std::marker::Model;
 
 /// The most actions of a hand.
-pub(crate) const MOST_ACTIONS: usize = 256;
-
-/// No line has more bytes.
-pub const MOST_LINE: usize = 4096;
+const MOST_ACTIONS: usize = 256;
 
 /// What a line shows to a viewer of a game: the position that it is for, the hand's number, the actions so
 /// far, the hole cards that he sees and the board of the rounds that have begun.
@@ -35,6 +30,8 @@ pub struct View {
     pub(crate) position: usize,
     pub(crate) hand: u32,
     pub(crate) actions: [Action; MOST_ACTIONS],
+    /// How many `/` stand behind each in the betting text.
+    pub(crate) slashes: [u8; MOST_ACTIONS],
     pub(crate) count: usize,
     pub(crate) seen: SeenCards,
 }
@@ -52,6 +49,29 @@ impl Model for View {
 }
 
 impl View {
+    /// What is seen at a position, counted from 0, in a hand of this number after the actions of a play.
+    pub(crate) fn of(position: usize, hand: u32, play: &Play, seen: SeenCards) -> View
+        requires seated { position < play.now.game.players }
+        requires numbered { hand ≤ 9999 }
+        requires seen { AreSeen play.now.game.players (sees play.now.game play.now.past position) (rounds_seen play.now.game play.now.past) (holes_in play.now.game.players seen) (boards_in seen) }
+        ensures { result ≡ record { game = play.now.game; position = position; hand = hand; past = play.now.past; holes = holes_in play.now.game.players seen; boards = boards_in seen } }
+    {
+        let taken = play.actions();
+        let mut actions = [Action::Fold; MOST_ACTIONS];
+        actions[..taken.len()].copy_from_slice(taken);
+        let mut slashes = [0; MOST_ACTIONS];
+        slashes[..taken.len()].copy_from_slice(play.slashes());
+        View {
+            game: *play.game(),
+            position,
+            hand,
+            actions,
+            slashes,
+            count: taken.len(),
+            seen,
+        }
+    }
+
     /// What holds of every view: it shows what its viewer could see of some hand of its game, and whatever its
     /// line reads as is the view again.
     pub fn reads_back(&self)
@@ -124,37 +144,4 @@ impl View {
         let (others, other_count) = gather(&other.seen, other.game.players());
         are_same_cards(&cards[..count], &others[..other_count])
     }
-}
-
-/// Appends the line of a view of this game, without a line end, as the ACPC protocol 2.0.0 writes it.
-///
-/// An `Err` comes only where memory was refused; then the text is as before.
-pub fn write(out: &mut Vec<u8>, view: &View, game: &GameDef) -> Result<(), AllocError>
-    requires { view.now.game ≡ game.now }
-    ensures ok { OnOk result (out.new.items ≡ out.old.items ++ line_text view.now) }
-    ensures err { OnErr result (out.new.items ≡ out.old.items) }
-    ensures full { OnErr result (vec_capacity out.old < vec_len out.old + 4096) }
-{
-    out.reserve(MOST_LINE)?;
-    write_reserved(out, view, game);
-    Ok(())
-}
-
-/// Appends the line of a view of this game, where `MOST_LINE` bytes are reserved for it: this can't fail.
-pub fn write_reserved(out: &mut Vec<u8>, view: &View, game: &GameDef)
-    requires same { view.now.game ≡ game.now }
-    requires room { vec_len out.old + 4096 ≤ vec_capacity out.old }
-    ensures items { out.new.items ≡ out.old.items ++ line_text view.now }
-    ensures len { vec_len out.new ≤ vec_len out.old + 4096 }
-    ensures capacity { vec_capacity out.old ≤ vec_capacity out.new }
-{
-    let players = game.players();
-    put(out, b"MATCHSTATE:");
-    put_number(out, view.position as u32);
-    put(out, b":");
-    put_number(out, view.hand);
-    put(out, b":");
-    put_betting(out, game, &view.actions[..view.count]);
-    put(out, b":");
-    put_seen(out, players, &view.seen);
 }

@@ -8,10 +8,11 @@ use Rattle.betting.specs.declared.action.Action.{Action}
 use Rattle.betting.specs.declared.action.Action.TheVariants.{Fold, Call, Raise}
 use Rattle.slot_log.specs.declared.command.Command.{Command}
 use Rattle.slot_log.specs.declared.command.Command.TheVariants.{Deal, Act}
+use Rattle.slot_log.specs.Range.{IsAmount}
 use Rattle.paxos_wire.specs.declared.limits.TheConstants.{NODES, HANDS, ACTIONS, MOST_CHIPS}
 use Rattle.paxos_wire.specs.declared.ballot.Ballot.{Ballot}
 use Rattle.byteorder.specs.Endian.{big_bytes}
-use Rattle.paxos_wire.specs.Fits.{IsBallot, IsAmount, AreDealt, IsCommand}
+use Rattle.paxos_wire.specs.Fits.{IsBallot, AreDealt, IsCommand}
 use Rattle.paxos_wire.specs.Spelling.{ballot_text, action_text, deal_text, command_text}
 use Rattle.paxos_wire.specs.Reading.{◌>>=◌, when, byte_at, number_at, below_at, ballot_at, action_of, action_at, are_cards, are_distinct, is_count, deal_of, bytes_at, deal_at, dealt_at, acted_at, command_at}
 use Rattle.paxos_wire.proofs.Steps.{IsBytes, IsBytes-drop, bind_some, when_some, then_some, else_some, either, some_is, Takes, both}

@@ -1,15 +1,17 @@
 -- Frames as they are written byte for byte, and bytes that are none.
-use Rattle.std.proofs.Common.{◌≡◌, ℕ, true, false, nat_eq, lit<, lit≤, List, [], ◌∷◌, Some, None, Ok, Err, refl, rules, codes, arith, inl, inr}
+use Rattle.std.proofs.Common.{◌≡◌, ℕ, zero, suc, ◌+◌, length, true, false, nat_eq, lit<, lit≤, List, [], ◌∷◌, Some, None, Ok, Err, refl, rules, codes, arith, inl, inr}
 use Rattle.std.specs.List.{IsDistinct}
 use Rattle.std.proofs.lemmas.Map.Keys.{apart_from_distinct}
 use Rattle.std.specs.Fmt.{digits}
 use Rattle.betting.specs.declared.action.Action.TheVariants.{Fold, Call, Raise}
 use Rattle.slot_log.specs.declared.command.Command.TheVariants.{Deal, Act}
+use Rattle.slot_log.specs.Range.{IsAmount, IsInRange}
+use Rattle.paxos_wire.specs.declared.limits.TheConstants.{WINDOW, MOST_FRAME, MOST_SINGLE_FRAME}
 use Rattle.paxos_wire.specs.declared.ballot.Ballot.{Ballot}
 use Rattle.paxos_wire.specs.declared.entry.Entry.{Entry}
 use Rattle.paxos_wire.specs.declared.fault.FrameFault.TheVariants.{TooShort, TooLong, BadVersion, BadKind, BadBody}
 use Rattle.paxos_wire.specs.declared.message.Message.TheVariants.{Prepare, Promise, Refuse, Accept, Accepted, Chosen, Ask, Forward}
-use Rattle.paxos_wire.specs.Fits.{IsBallot, IsSlot, IsAmount, IsInRange, AreDealt, IsCommand, IsAct, Rise, IsMessage}
+use Rattle.paxos_wire.specs.Fits.{IsBallot, IsSlot, AreDealt, IsCommand, IsAct, Rise, IsSingle, IsMessage}
 use Rattle.paxos_wire.specs.Spelling.{ballot_text, slot_text, action_text, command_text, entry_text, entries_text, frame}
 use Rattle.paxos_wire.specs.Reading.{below_at, ballot_at, action_of, action_at, is_count, deal_of, deal_at, dealt_at, acted_at, command_at, of_ballot_at, ask_at, message_at, body_of}
 use Rattle.paxos_wire.specs.Faults.{header_fault, fault_of, reading}
@@ -139,6 +141,39 @@ even_count-none dealt = let count = dealt.deal.count in absurd cc
 
 pub deal_is_command : IsCommand (Deal 0 cards)
 deal_is_command = record { numbers = lit< tt; cards = cards_dealt }
+
+-- a deal for ten players
+abbrev pub many_cards : List ℕ
+many_cards = 0 ∷ 1 ∷ 2 ∷ 3 ∷ 4 ∷ 5 ∷ 6 ∷ 7 ∷ 8 ∷ 9 ∷ 10 ∷ 11 ∷ 12 ∷ 13 ∷ 14 ∷ 15 ∷ 16 ∷ 17 ∷ 18 ∷ 19 ∷ 20 ∷ 21 ∷ 22 ∷ 23 ∷ 51 ∷ []
+
+pub many_cards_dealt : AreDealt many_cards
+unfolding IsDistinct
+many_cards_dealt = record { least = lit≤ tt; most = lit≤ tt; deal = record { count = refl; cards_of_the_pack = search rules; distinct = search rules } }
+
+-- no frame of one command is longer than this one
+pub longest_of_one : length (frame (Accept first_ballot 0 (Deal 0 many_cards))) ≡ MOST_SINGLE_FRAME
+unfolding frame
+longest_of_one = refl
+
+pub longest_of_one_is_message : IsMessage (Accept first_ballot 0 (Deal 0 many_cards)) × IsSingle (Accept first_ballot 0 (Deal 0 many_cards))
+longest_of_one_is_message = (record { numbers = (ballot_fits, lit< tt, lit< tt); cards = (many_cards_dealt, tt) }, tt)
+
+-- a promise may tell of one such deal, and is longer then
+pub promise_of_one : length (frame (Promise first_ballot 0 (record { slot = 0; ballot = first_ballot; command = Deal 0 many_cards } ∷ []))) ≡ 56
+unfolding frame
+promise_of_one = refl
+
+pub promise-not_single : IsSingle (Promise first_ballot 0 []) → ⊥
+promise-not_single h = h
+
+-- and no frame is longer than that of one that tells of such a deal at each of its 64 slots
+abbrev pub deals_at : ℕ → ℕ → List Entry
+deals_at zero slot = []
+deals_at (suc count) slot = (record { slot = slot; ballot = first_ballot; command = Deal 0 many_cards }) ∷ deals_at count (slot + 1)
+
+pub longest : length (frame (Promise first_ballot 0 (deals_at WINDOW 0))) ≡ MOST_FRAME
+unfolding frame
+longest = refl
 
 pub call_is_act : IsAct (Act 0 0 Call)
 call_is_act = tt

@@ -6,7 +6,7 @@ use Rattle.std.proofs.lemmas.List.Concat.{flat_map-cons}
 use Rattle.slot_log.specs.declared.command.Command.{Command}
 use Rattle.slot_log.specs.declared.command.Command.TheVariants.{Deal, Act}
 use Rattle.betting.specs.declared.action.Action.TheVariants.{Fold, Call, Raise}
-use Rattle.paxos_wire.specs.declared.limits.TheConstants.{VERSION, LEAST_LENGTH, MOST_LENGTH}
+use Rattle.paxos_wire.specs.declared.limits.TheConstants.{VERSION, LEAST_LENGTH, MOST_LENGTH, MOST_FRAME, MOST_SINGLE_FRAME}
 use Rattle.paxos_wire.specs.declared.entry.Entry.{Entry}
 use Rattle.paxos_wire.specs.declared.fault.FrameFault.{FrameFault}
 use Rattle.paxos_wire.specs.declared.fault.FrameFault.TheVariants.{TooShort, TooLong, BadVersion, BadKind, BadBody}
@@ -15,7 +15,7 @@ use Rattle.paxos_wire.specs.declared.message.Message.TheVariants.{Prepare, Promi
 use Rattle.std.specs.Option.{unwrap_or}
 use Rattle.byteorder.specs.Endian.{big_bytes}
 use Rattle.byteorder.specs.Numbers.{big_number-reads_back}
-use Rattle.paxos_wire.specs.Fits.{IsDealt, IsMessage}
+use Rattle.paxos_wire.specs.Fits.{IsDealt, IsMessage, IsSingle}
 use Rattle.paxos_wire.specs.Spelling.{command_text, entry_text, kind, payload, frame}
 use Rattle.paxos_wire.specs.Reading.{body_of}
 use Rattle.paxos_wire.specs.Faults.{length_field, is_kind, header_fault, fault_of, behind, reading}
@@ -40,7 +40,7 @@ entries_most (e ∷ es) cards =
     let whole : length (flat_map entry_text (e ∷ es)) ≡ length (entry_text e) + length (flat_map entry_text es) = ap length (flat_map-cons entry_text e es) ∙ length-append (entry_text e) (flat_map entry_text es) in
     omega (arith, whole, first, rest)
 
-pub payload_most : (m : Message) → IsMessage m → length (payload m) ≤ MOST_LENGTH
+pub payload_most : (m : Message) → IsMessage m → 4 + length (payload m) ≤ MOST_FRAME
 payload_most (Prepare b s) fits = omega arith
 payload_most (Promise b s es) fits = omega (arith, entries_most es fits.cards, fits.numbers.2.most)
 payload_most (Refuse b s p) fits = omega arith
@@ -49,6 +49,16 @@ payload_most (Accepted b s c) fits = omega (arith, command_most c fits.cards.0)
 payload_most (Chosen s c) fits = omega (arith, command_most c fits.cards.0)
 payload_most (Ask s) fits = omega arith
 payload_most (Forward c) fits = omega (arith, command_most c fits.cards.0)
+
+single_most : (m : Message) → IsMessage m → IsSingle m → 4 + length (payload m) ≤ MOST_SINGLE_FRAME
+single_most (Prepare b s) fits single = omega arith
+single_most (Promise b s es) fits single = absurd single
+single_most (Refuse b s p) fits single = omega arith
+single_most (Accept b s c) fits single = omega (arith, command_most c fits.cards.0)
+single_most (Accepted b s c) fits single = omega (arith, command_most c fits.cards.0)
+single_most (Chosen s c) fits single = omega (arith, command_most c fits.cards.0)
+single_most (Ask s) fits single = omega arith
+single_most (Forward c) fits single = omega (arith, command_most c fits.cards.0)
 
 kind_passes : (m : Message) → is_kind (kind m) ≡ true
 kind_passes (Prepare b s) = refl
@@ -70,7 +80,7 @@ unfolding header_fault frame
 no_header_fault m fits =
     let field : length_field (frame m) ≡ length (payload m) = big_number-reads_back 4 (length (payload m)) (payload m) (omega (arith, payload_most m fits)) in
     let least : ltb (length (payload m)) LEAST_LENGTH ≡ false = le-ltb _ _ (omega arith) in
-    let most : ltb MOST_LENGTH (length (payload m)) ≡ false = le-ltb _ _ (payload_most m fits) in
+    let most : ltb MOST_LENGTH (length (payload m)) ≡ false = le-ltb _ _ (omega (arith, payload_most m fits)) in
     let long : ltb (length (frame m)) 4 ≡ false = le-ltb _ _ (omega arith) in
     let whole : eqb (length (frame m)) (4 + length (payload m)) ≡ true = eq-eqb _ _ (omega arith) in
     rw (long, field, least, most, whole, kind_passes m) refl
@@ -83,6 +93,12 @@ frame_again m fits = rw (no_header_fault m fits, body_again m fits) refl
 pub frame_length : (m : Message) → length (frame m) ≡ 4 + length (payload m)
 unfolding frame
 frame_length m = omega arith
+
+pub frame_most : (m : Message) → IsMessage m → length (frame m) ≤ MOST_FRAME
+frame_most m fits = omega (arith, frame_length m, payload_most m fits)
+
+pub single_frame_most : (m : Message) → IsMessage m → IsSingle m → length (frame m) ≤ MOST_SINGLE_FRAME
+single_frame_most m fits single = omega (arith, frame_length m, single_most m fits single)
 
 -- ---- what was read is a frame
 

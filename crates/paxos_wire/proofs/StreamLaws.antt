@@ -27,7 +27,7 @@ unfolding needed
 needed_is m rest fits =
     let long : ltb (length (frame m ++ rest)) 4 ≡ false = le-ltb _ _ (omega (arith, length-append (frame m) rest, frame_length m)) in
     let least : leb LEAST_LENGTH (length (payload m)) ≡ true = le-leb _ _ (omega arith) in
-    let most : leb (length (payload m)) MOST_LENGTH ≡ true = le-leb _ _ (payload_most m fits) in
+    let most : leb (length (payload m)) MOST_LENGTH ≡ true = le-leb _ _ (omega (arith, payload_most m fits)) in
     rw (long, length_field_is m rest fits, least, most) (omega (arith, frame_length m))
 
 front_of : (m : Message) (rest : List ℕ) → IsMessage m → front (frame m ++ rest) ≡ frame m

@@ -2,11 +2,10 @@
 use Rattle.std.specs.Prelude.{ℕ, ◌+◌, ◌^◌, ◌<◌, ◌≤◌, List, [], ◌∷◌, length, map}
 use Rattle.std.specs.List.{AllByRecursion}
 use Rattle.card_core.specs.Deal.{IsDeal, player_count}
-use Rattle.betting.specs.declared.action.Action.{Action}
-use Rattle.betting.specs.declared.action.Action.TheVariants.{Fold, Call, Raise}
 use Rattle.slot_log.specs.declared.command.Command.{Command}
 use Rattle.slot_log.specs.declared.command.Command.TheVariants.{Deal, Act}
-use Rattle.paxos_wire.specs.declared.limits.TheConstants.{NODES, SLOTS, HANDS, ACTIONS, MOST_CHIPS, WINDOW}
+pub use Rattle.slot_log.specs.Range.{IsInRange}
+use Rattle.paxos_wire.specs.declared.limits.TheConstants.{NODES, SLOTS, WINDOW}
 use Rattle.paxos_wire.specs.declared.ballot.Ballot.{Ballot}
 use Rattle.paxos_wire.specs.declared.entry.Entry.{Entry}
 use Rattle.paxos_wire.specs.declared.message.Message.{Message}
@@ -21,17 +20,6 @@ pub record IsBallot (b : Ballot) : Type 0 where
 -- slots are counted from 0
 abbrev pub IsSlot : ℕ → Type 0
 IsSlot slot = slot < SLOTS
-
--- only a raise has an amount
-abbrev pub IsAmount : Action → Type 0
-IsAmount Fold = Unit {0}
-IsAmount Call = Unit {0}
-IsAmount (Raise amount) = amount ≤ MOST_CHIPS
-
--- the numbers of a command are within their ranges
-abbrev pub IsInRange : Command → Type 0
-IsInRange (Deal hand cards) = hand < HANDS
-IsInRange (Act hand index action) = (hand < HANDS) × (index < ACTIONS) × IsAmount action
 
 -- the cards are those of a deal for two to ten players
 pub record AreDealt (cards : List ℕ) : Type 0 where
@@ -81,6 +69,17 @@ Fits (Accepted ballot slot command) = IsBallot ballot × IsSlot slot × IsInRang
 Fits (Chosen slot command) = IsSlot slot × IsInRange command
 Fits (Ask slot) = IsSlot slot
 Fits (Forward command) = IsAct command × IsInRange command
+
+-- a message of one command at most: any but a Promise, which tells what was accepted at many slots
+abbrev pub IsSingle : Message → Type 0
+IsSingle (Prepare ballot slot) = Unit {0}
+IsSingle (Promise ballot slot entries) = ⊥
+IsSingle (Refuse ballot slot promised) = Unit {0}
+IsSingle (Accept ballot slot command) = Unit {0}
+IsSingle (Accepted ballot slot command) = Unit {0}
+IsSingle (Chosen slot command) = Unit {0}
+IsSingle (Ask slot) = Unit {0}
+IsSingle (Forward command) = Unit {0}
 
 -- the commands that a message carries
 abbrev pub commands : Message → List Command

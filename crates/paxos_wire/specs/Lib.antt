@@ -1,8 +1,10 @@
 pub mod EntriesInside
 pub mod Fits
 pub mod Spelling
+pub mod Kinds
 pub mod Reading
 pub mod Faults
 pub mod Stream
+pub mod Incoming
 pub mod FeedInside
 pub mod Lines

@@ -5,8 +5,8 @@ ghost use Rattle.std.specs.List.{IsDistinct};
 ghost use Rattle.paxos_wire.specs.Reading.{Gives, are_cards, is_count, deal_of, deal_at, dealt_at, acted_at, command_at, entry_at, entry_within};
 
 use crate::entry::Entry;
-use crate::fields::{ballot_of, read_action, read_below, read_byte, read_short_below};
-use crate::limits::{ACTIONS, HANDS, SLOTS};
+use crate::fields::{read_action, read_ballot, read_below, read_byte, read_short_below, read_slot};
+use crate::limits::{ACTIONS, HANDS};
 use card_core::{Card, Deal};
 use slot_log::Command;
 
@@ -60,6 +60,7 @@ fn read_deal(bytes: &[u8]) -> Option<(Deal, &[u8])>
     }
 }
 
+/// The deal of a hand, and the bytes after it.
 #[tactic(auto, unfolding(crate::specs::Reading::dealt_at))]
 fn read_dealt(hand: u32, bytes: &[u8]) -> Option<(Command, &[u8])>
     ensures { Gives (λ x. (x.0, x.1.now)) result (dealt_at hand bytes.now) }
@@ -70,6 +71,7 @@ fn read_dealt(hand: u32, bytes: &[u8]) -> Option<(Command, &[u8])>
     Some((Command::Deal { hand, deal }, rest))
 }
 
+/// An act of a hand, and the bytes after it.
 #[tactic(auto, unfolding(crate::specs::Reading::acted_at))]
 fn read_acted(hand: u32, bytes: &[u8]) -> Option<(Command, &[u8])>
     ensures { Gives (λ x. (x.0, x.1.now)) result (acted_at hand bytes.now) }
@@ -86,8 +88,9 @@ fn read_acted(hand: u32, bytes: &[u8]) -> Option<(Command, &[u8])>
     ))
 }
 
+/// A command, and the bytes after it.
 #[tactic(auto, unfolding(crate::specs::Reading::command_at))]
-pub(crate) fn command_of(bytes: &[u8]) -> Option<(Command, &[u8])>
+pub(crate) fn read_command(bytes: &[u8]) -> Option<(Command, &[u8])>
     ensures { Gives (λ x. (x.0, x.1.now)) result (command_at bytes.now) }
 {
     let (kind, rest) = read_byte(bytes)?;
@@ -99,13 +102,14 @@ pub(crate) fn command_of(bytes: &[u8]) -> Option<(Command, &[u8])>
     }
 }
 
+/// An entry, and the bytes after it.
 #[tactic(auto, unfolding(crate::specs::Reading::entry_at))]
-fn entry_of(bytes: &[u8]) -> Option<(Entry, &[u8])>
+fn read_entry(bytes: &[u8]) -> Option<(Entry, &[u8])>
     ensures { Gives (λ x. (x.0, x.1.now)) result (entry_at bytes.now) }
 {
-    let (slot, rest) = read_below(bytes, SLOTS)?;
-    let (ballot, rest) = ballot_of(rest)?;
-    let Some((command, rest)) = command_of(rest) else {
+    let (slot, rest) = read_slot(bytes)?;
+    let (ballot, rest) = read_ballot(rest)?;
+    let Some((command, rest)) = read_command(rest) else {
         return None;
     };
     Some((
@@ -124,7 +128,7 @@ pub(crate) fn read_entry_within(from: u32, limit: u32, bytes: &[u8]) -> Option<(
     ensures below { IfSome result (λ x. x.0.slot < limit) }
     ensures exact { Gives (λ x. (x.0, x.1.now)) result (entry_within from limit bytes.now) }
 {
-    let Some((entry, rest)) = entry_of(bytes) else {
+    let Some((entry, rest)) = read_entry(bytes) else {
         return None;
     };
     if from <= entry.slot && entry.slot < limit {

@@ -1,50 +1,53 @@
 //! The message of a whole frame, or the frame's first fault.
 
-ghost use Rattle.std.specs.Prelude.{◌≡◌, ◌+◌, ◌≤◌, length, IsNone, IfOk, IfErr, Ok};
+ghost use Rattle.std.specs.Prelude.{◌≡◌, ◌+◌, ◌≤◌, length, slice_index, IfOk, IfErr, OnOk, None, Some, Ok};
 ghost use Rattle.paxos_wire.specs.declared.message.Message.{Message};
 ghost use Rattle.paxos_wire.specs.Fits.{IsMessage};
 ghost use Rattle.paxos_wire.specs.Spelling.{frame};
+ghost use Rattle.paxos_wire.specs.Kinds.{kind_byte};
 ghost use Rattle.paxos_wire.specs.Faults.{header_fault, fault_of, reading};
 
 use crate::fault::FrameFault;
+use crate::kind::Kind;
 use crate::limits::{LEAST_LENGTH, LENGTH_BYTES, MOST_LENGTH, VERSION};
 use crate::message::Message;
-use crate::reading::read_body;
+use crate::reading::message_of_body;
 use byteorder::{BigEndian, ByteOrder};
 
-/// The fault that the length, the version or the kind of a frame shows.
+/// The kind of the message of a frame, or the fault that the frame's length, its version or its kind shows.
 #[tactic(auto, unfolding(crate::specs::Faults::header_fault))]
-fn header_fault(bytes: &[u8]) -> Option<FrameFault>
-    ensures fault { result ≡ header_fault bytes.now }
-    ensures whole { IsNone result → 6 ≤ length bytes.now }
+fn kind_of_frame(bytes: &[u8]) -> Result<Kind, FrameFault>
+    ensures kind { IfOk result (λ kind. (header_fault bytes.now ≡ None) × (slice_index bytes.now 5 ≡ kind_byte kind)) }
+    ensures fault { IfErr result (λ fault. header_fault bytes.now ≡ Some fault) }
+    ensures whole { OnOk result (6 ≤ length bytes.now) }
 {
     if bytes.len() < LENGTH_BYTES {
-        return Some(FrameFault::TooShort);
+        return Err(FrameFault::TooShort);
     }
     let length = BigEndian::read_u32(bytes) as usize;
     if length < LEAST_LENGTH {
-        Some(FrameFault::TooShort)
+        Err(FrameFault::TooShort)
     } else if length > MOST_LENGTH {
-        Some(FrameFault::TooLong)
+        Err(FrameFault::TooLong)
     } else if bytes.len() != LENGTH_BYTES + length {
-        Some(FrameFault::BadBody)
+        Err(FrameFault::BadBody)
     } else if bytes[4] != VERSION {
-        Some(FrameFault::BadVersion)
-    } else if bytes[5] == 0 || bytes[5] > 8 {
-        Some(FrameFault::BadKind)
+        Err(FrameFault::BadVersion)
     } else {
-        None
+        match Kind::of_byte(bytes[5]) {
+            Some(kind) => Ok(kind),
+            None => Err(FrameFault::BadKind),
+        }
     }
 }
 
+/// The message of a frame, all of the bytes, or the frame's first fault.
 #[tactic(auto, unfolding(crate::specs::Faults::reading))]
-pub(crate) fn read_frame(bytes: &[u8]) -> Result<Message, FrameFault>
+pub(crate) fn message_of_frame(bytes: &[u8]) -> Result<Message, FrameFault>
     ensures { result ≡ reading bytes.now }
 {
-    if let Some(fault) = header_fault(bytes) {
-        return Err(fault);
-    }
-    match read_body(bytes[5], &bytes[6..]) {
+    let kind = kind_of_frame(bytes)?;
+    match message_of_body(kind, &bytes[6..]) {
         Some(message) => Ok(message),
         None => Err(FrameFault::BadBody),
     }
@@ -63,5 +66,5 @@ pub fn decode(bytes: &[u8]) -> Result<Message, FrameFault>
     // Else it is the first fault.
     ensures fault { IfErr result (λ f. f ≡ fault_of bytes.now) }
 {
-    read_frame(bytes)
+    message_of_frame(bytes)
 }

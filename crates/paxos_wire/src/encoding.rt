@@ -1,35 +1,21 @@
-//! The one frame of each message, and the texts of ballots and commands, written behind what is there.
+//! The one frame of each message, written behind other bytes.
 
 ghost use Rattle.std.specs.Prelude.{◌≡◌, ◌+◌, ◌<◌, ◌≤◌, ◌++◌, ◌∷◌, [], length, map, IsOk, OnOk, OnErr};
 ghost use Rattle.std.specs.Vec.{vec_len, vec_capacity};
 ghost use Rattle.std.specs.List.{flat_map, AllByRecursion};
-ghost use Rattle.paxos_wire.specs.Fits.{IsDealt, Fits, IsMessage, commands};
+ghost use Rattle.paxos_wire.specs.Fits.{IsDealt, Fits, IsMessage, IsSingle, commands};
 ghost use Rattle.paxos_wire.specs.Spelling.{ballot_text, slot_text, command_text, entry_text, kind, body, payload, frame};
 
 use crate::ballot::Ballot;
 use crate::entry::Entry;
+use crate::kind::Kind;
 use crate::lengths::{frame_len, payload_len};
-use crate::limits::VERSION;
+use crate::limits::{MOST_FRAME, MOST_SINGLE_FRAME, VERSION};
 use crate::message::Message;
 use crate::writing::{put_ballot, put_command, put_entry, put_number};
 use std::alloc::AllocError;
 
-/// The byte that tells a message's kind.
-fn kind_of(message: &Message) -> u8
-    ensures { result ≡ kind message.now }
-{
-    match message {
-        Message::Prepare { .. } => 1,
-        Message::Promise { .. } => 2,
-        Message::Refuse { .. } => 3,
-        Message::Accept { .. } => 4,
-        Message::Accepted { .. } => 5,
-        Message::Chosen { .. } => 6,
-        Message::Ask { .. } => 7,
-        Message::Forward { .. } => 8,
-    }
-}
-
+/// Puts entries behind the last byte.
 fn put_entries(out: &mut Vec<u8>, entries: &[Entry])
     requires { vec_len out.old + length (flat_map entry_text entries.now) ≤ vec_capacity out.old }
     ensures items { out.new.items ≡ out.old.items ++ flat_map entry_text entries.now }
@@ -121,11 +107,14 @@ pub fn encode_reserved(out: &mut Vec<u8>, message: &Message)
     requires room { vec_len out.old + length (frame message.now) ≤ vec_capacity out.old }
     ensures frame { out.new.items ≡ out.old.items ++ frame message.now }
     ensures capacity { vec_capacity out.old ≤ vec_capacity out.new }
+    ensures len { vec_len out.new ≡ vec_len out.old + length (frame message.now) }
+    ensures most { length (frame message.now) ≤ MOST_FRAME }
+    ensures single { IsSingle message.now → length (frame message.now) ≤ MOST_SINGLE_FRAME }
     // The cards of its deals are dealt too, so that the frame decodes to the message.
     ensures message { IsMessage message.now }
 {
     put_number(out, payload_len(message) as u32);
     out.push_reserved(VERSION);
-    out.push_reserved(kind_of(message));
+    out.push_reserved(Kind::of_message(message).byte());
     put_body(out, message);
 }

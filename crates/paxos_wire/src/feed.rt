@@ -1,11 +1,11 @@
-ghost use Rattle.std.specs.Prelude.{◌≡◌, ◌<◌, ◌≤◌, ◌+◌, ◌++◌, ◌↔◌, ℕ, [], List, length, take, drop, Some, Ok, IsNone, IfSome, IfOk, IfErr, OnOk, OnErr};
+ghost use Rattle.std.specs.Prelude.{◌≡◌, ◌<◌, ◌≤◌, ◌+◌, ◌++◌, ◌↔◌, ℕ, [], List, length, take, drop, vec_len, vec_capacity, Some, Ok, IsNone, IfSome, IfOk, IfErr, OnOk, OnErr};
 ghost use Rattle.paxos_wire.specs.declared.message.Message.{Message};
 ghost use Rattle.paxos_wire.specs.Fits.{IsMessage};
 ghost use Rattle.paxos_wire.specs.Spelling.{frame};
 ghost use Rattle.paxos_wire.specs.Faults.{reading};
 ghost use Rattle.paxos_wire.specs.Stream.{needed, IsPartial, IsFaulty, Takes};
 
-use crate::decoding::read_frame;
+use crate::decoding::message_of_frame;
 use crate::fault::FrameFault;
 use crate::limits::{LEAST_LENGTH, LENGTH_BYTES, MOST_LENGTH};
 use crate::message::Message;
@@ -15,7 +15,8 @@ use std::marker::Model;
 
 /// Takes a stream of frames in any pieces, and gives its messages in order, and then its first fault.
 ///
-/// Contracts see a feed as the list of the bytes that it took and that don't belong to a message given yet.
+/// Contracts see the bytes that it took and that don't belong to a message given yet, and how many more bytes may
+/// come without taking memory.
 #[derive(Drop)]
 pub struct Feed {
     bytes: Vec<u8>,
@@ -24,21 +25,24 @@ pub struct Feed {
 }
 
 impl Model for Feed {
-    ghost use Rattle.std.specs.Prelude.{List, ℕ, drop};
+    ghost use Rattle.std.specs.Prelude.{◌-◌, drop, vec_len, vec_capacity};
+    ghost use Rattle.paxos_wire.specs.Incoming.{Incoming};
 
-    ghost Value = { List ℕ };
+    ghost Value = { Incoming };
 
     ghost use Rattle.paxos_wire.specs.FeedInside.{IsKept};
 
-    ghost view = { λ f. drop f.taken f.bytes.items };
+    ghost view = { λ f. record { waiting = drop f.taken f.bytes.items; room = vec_capacity f.bytes - (vec_len f.bytes - f.taken) } };
 
     ghost invariant = { IsKept };
 }
 
 /// Removes so many bytes from the front.
 fn remove_front(bytes: &mut Vec<u8>, count: usize)
-    requires { count ≤ length bytes.old.items }
-    ensures { bytes.new.items ≡ drop count bytes.old.items }
+    requires { count ≤ vec_len bytes.old }
+    ensures items { bytes.new.items ≡ drop count bytes.old.items }
+    ensures len { vec_len bytes.new + count ≡ vec_len bytes.old }
+    ensures capacity { vec_capacity bytes.new ≡ vec_capacity bytes.old }
 {
     let rest = bytes.len() - count;
     bytes.rotate_left(count);
@@ -51,6 +55,8 @@ fn skip(bytes: &mut Vec<u8>, taken: usize, count: usize) -> usize
     requires { taken + count ≤ length bytes.old.items }
     ensures rest { drop result bytes.new.items ≡ drop (taken + count) bytes.old.items }
     ensures within { result ≤ length bytes.new.items }
+    ensures left { vec_len bytes.new + (taken + count) ≡ vec_len bytes.old + result }
+    ensures capacity { vec_capacity bytes.new ≡ vec_capacity bytes.old }
     ensures most { result ≤ LENGTH_BYTES + MOST_LENGTH }
 {
     let all = taken + count;
@@ -89,14 +95,14 @@ fn read_front(bytes: &[u8]) -> Option<(Result<Message, FrameFault>, usize)>
     ensures fault { IfSome result (λ x. IfErr x.0 (λ f. IsFaulty bytes.now f)) }
 {
     let end = front_end(bytes)?;
-    let read = read_frame(&bytes[..end]);
+    let read = message_of_frame(&bytes[..end]);
     Some((read, end))
 }
 
 impl Feed {
     /// A feed that was given nothing. Takes no memory.
     pub fn new(alloc: Global) -> Feed
-        ensures { result ≡ [] }
+        ensures { result.waiting ≡ [] }
     {
         Feed {
             bytes: Vec::new(alloc),
@@ -105,17 +111,49 @@ impl Feed {
         }
     }
 
-    /// Takes the next piece of the stream; a stream at fault takes no more. An `Err` changes nothing.
+    /// Takes the next piece of the stream, of any length; a stream at fault takes no more. An `Err` changes nothing;
+    /// it comes only where `reserve` would have to take memory.
     pub fn feed(&mut self, piece: &[u8]) -> Result<(), AllocError>
-        ensures ok { OnOk result (Takes self.old piece.now self.new) }
+        ensures ok { OnOk result (Takes self.old.waiting piece.now self.new.waiting) }
+        ensures room { self.old.room ≤ self.new.room + length piece.now }
         ensures err { OnErr result (self.new ≡ self.old) }
+        // It fails only where the room is missing.
+        ensures full { OnErr result (self.old.room < length piece.now) }
     {
         if self.fault.is_some() {
             return Ok(());
         }
+        self.reserve(piece.len())?;
+        self.feed_reserved(piece);
+        Ok(())
+    }
+
+    /// Makes room for so many bytes more, so that `feed_reserved` takes no memory for them. An `Err` changes nothing.
+    pub fn reserve(&mut self, more: usize) -> Result<(), AllocError>
+        ensures ok { OnOk result (more ≤ self.new.room) }
+        ensures waiting { self.new.waiting ≡ self.old.waiting }
+        ensures room { self.old.room ≤ self.new.room }
+        ensures err { OnErr result (self.new ≡ self.old) }
+        // It fails only where the room is missing.
+        ensures full { OnErr result (self.old.room < more) }
+    {
         remove_front(&mut self.bytes, self.taken);
         self.taken = 0;
-        self.bytes.extend_from_slice(piece)
+        self.bytes.reserve(more)
+    }
+
+    /// Takes the next piece of the stream into room that was reserved for it; a stream at fault takes no more.
+    pub fn feed_reserved(&mut self, piece: &[u8])
+        requires { length piece.now ≤ self.old.room }
+        ensures takes { Takes self.old.waiting piece.now self.new.waiting }
+        ensures room { self.old.room ≤ self.new.room + length piece.now }
+    {
+        if self.fault.is_some() {
+            return;
+        }
+        remove_front(&mut self.bytes, self.taken);
+        self.taken = 0;
+        self.bytes.extend_from_slice(piece).unwrap();
     }
 
     /// The next message, or the fault in front (50 to 54), told again from then on.
@@ -124,14 +162,15 @@ impl Feed {
     /// fault as soon as its four bytes are there, the others once the frame is whole.
     pub fn next(&mut self) -> Option<Result<Message, FrameFault>>
         // It waits just where the frame isn't whole.
-        ensures partial { IsNone result ↔ IsPartial self.old }
+        ensures partial { IsNone result ↔ IsPartial self.old.waiting }
         ensures waits { IsNone result → self.new ≡ self.old }
         // What it gives stood in front, and the bytes behind it stay.
-        ensures found { IfSome result (λ read. IfOk read (λ m. IsMessage m × (self.old ≡ frame m ++ self.new))) }
+        ensures found { IfSome result (λ read. IfOk read (λ m. IsMessage m × (self.old.waiting ≡ frame m ++ self.new.waiting))) }
         // The message whose frame stands in front is given.
-        ensures only { (m : Message) (rest : List ℕ) → IsMessage m → self.old ≡ frame m ++ rest → (result ≡ Some (Ok m)) × (self.new ≡ rest) }
+        ensures only { (m : Message) (rest : List ℕ) → IsMessage m → self.old.waiting ≡ frame m ++ rest → (result ≡ Some (Ok m)) × (self.new.waiting ≡ rest) }
         // A fault is the first of what stands in front, and everything stays.
-        ensures fault { IfSome result (λ read. IfErr read (λ f. IsFaulty self.old f × (self.new ≡ self.old))) }
+        ensures fault { IfSome result (λ read. IfErr read (λ f. IsFaulty self.old.waiting f × (self.new ≡ self.old))) }
+        ensures room { self.old.room ≤ self.new.room }
     {
         if let Some(fault) = self.fault {
             return Some(Err(fault));

@@ -4,7 +4,7 @@ ghost use Rattle.std.specs.Prelude.{◌≡◌, ◌<◌, ◌^◌, length, IfSome}
 ghost use Rattle.paxos_wire.specs.Reading.{Gives, byte_at, number_at, below_at, ballot_at, action_of, action_at};
 
 use crate::ballot::Ballot;
-use crate::limits::{MOST_CHIPS, NODES};
+use crate::limits::{MOST_CHIPS, NODES, SLOTS};
 use betting::Action;
 use byteorder::{BigEndian, ByteOrder};
 
@@ -58,8 +58,17 @@ pub(crate) fn read_short_below(bytes: &[u8], limit: u16) -> Option<(u16, &[u8])>
     }
 }
 
+/// A slot, and the bytes after it.
+pub(crate) fn read_slot(bytes: &[u8]) -> Option<(u32, &[u8])>
+    ensures below { IfSome result (λ x. x.0 < SLOTS) }
+    ensures exact { Gives (λ x. (x.0, x.1.now)) result (below_at 4 SLOTS bytes.now) }
+{
+    read_below(bytes, SLOTS)
+}
+
+/// A ballot, and the bytes after it.
 #[tactic(auto, unfolding(crate::specs::Reading::ballot_at))]
-pub(crate) fn ballot_of(bytes: &[u8]) -> Option<(Ballot, &[u8])>
+pub(crate) fn read_ballot(bytes: &[u8]) -> Option<(Ballot, &[u8])>
     ensures { Gives (λ x. (x.0, x.1.now)) result (ballot_at bytes.now) }
 {
     let (round, rest) = read_number(bytes)?;
@@ -71,6 +80,7 @@ pub(crate) fn ballot_of(bytes: &[u8]) -> Option<(Ballot, &[u8])>
     }
 }
 
+/// The action that a byte and an amount tell; `None` where they tell none.
 #[tactic(auto, unfolding(crate::specs::Reading::action_of))]
 fn action_of(kind: u8, amount: u32) -> Option<Action>
     ensures { result ≡ action_of kind amount }
@@ -83,6 +93,7 @@ fn action_of(kind: u8, amount: u32) -> Option<Action>
     }
 }
 
+/// An action, and the bytes after it.
 #[tactic(auto, unfolding(crate::specs::Reading::action_at))]
 pub(crate) fn read_action(bytes: &[u8]) -> Option<(Action, &[u8])>
     ensures { Gives (λ x. (x.0, x.1.now)) result (action_at bytes.now) }

@@ -1,10 +1,12 @@
 //! Laws of frames.
 
-ghost use Rattle.std.specs.Prelude.{◌≡◌, List, ℕ, ◌++◌, Ok};
+ghost use Rattle.std.specs.Prelude.{◌≡◌, ◌≤◌, List, ℕ, ◌++◌, length, Ok};
 ghost use Rattle.paxos_wire.specs.declared.message.Message.{Message};
-ghost use Rattle.paxos_wire.specs.Fits.{IsMessage};
+ghost use Rattle.paxos_wire.specs.Fits.{IsMessage, IsSingle};
 ghost use Rattle.paxos_wire.specs.Spelling.{frame};
 ghost use Rattle.paxos_wire.specs.Faults.{reading};
+
+use crate::limits::{MOST_FRAME, MOST_SINGLE_FRAME};
 
 /// What is encoded decodes to the message: reading a message's frame gives that message.
 pub fn frames_read_back()
@@ -14,4 +16,10 @@ pub fn frames_read_back()
 /// No frame begins another, so the frames of a stream are told apart.
 pub fn frames_are_told_apart()
     ensures { (m n : Message) (a b : List ℕ) → IsMessage m → IsMessage n → frame m ++ a ≡ frame n ++ b → (m ≡ n) × (a ≡ b) }
+{}
+
+/// A frame takes 2576 bytes at most, and 46 where it isn't a Promise's: so much room is enough for it.
+pub fn frames_are_short()
+    ensures each { (m : Message) → IsMessage m → length (frame m) ≤ MOST_FRAME }
+    ensures single { (m : Message) → IsMessage m → IsSingle m → length (frame m) ≤ MOST_SINGLE_FRAME }
 {}

@@ -2,17 +2,18 @@
 
 ghost use Rattle.std.specs.Prelude.{◌≡◌, ◌+◌, ◌*◌, ◌≤◌, length};
 ghost use Rattle.std.specs.List.{flat_map};
+ghost use Rattle.paxos_wire.specs.Fits.{IsSingle};
 ghost use Rattle.paxos_wire.specs.Spelling.{command_text, entry_text, payload, frame};
 
 use crate::entry::Entry;
-use crate::limits::{LENGTH_BYTES, MOST_LENGTH, WINDOW};
+use crate::limits::{LENGTH_BYTES, MOST_COMMAND, MOST_FRAME, MOST_SINGLE_FRAME, WINDOW};
 use crate::message::Message;
 use slot_log::Command;
 
 /// How many bytes a command takes in a frame or a record: 15 to 31 for a deal, 12 for an act.
 pub fn command_len(command: &Command) -> usize
     ensures value { result ≡ length (command_text command.now) }
-    ensures most { result ≤ 31 }
+    ensures most { result ≤ MOST_COMMAND }
 {
     match command {
         Command::Deal { deal, .. } => {
@@ -39,7 +40,8 @@ fn entries_len(entries: &[Entry]) -> usize
 /// How many bytes stand in a message's frame behind the length.
 pub(crate) fn payload_len(message: &Message) -> usize
     ensures value { result ≡ length (payload message.now) }
-    ensures most { result ≤ MOST_LENGTH }
+    ensures most { LENGTH_BYTES + result ≤ MOST_FRAME }
+    ensures single { IsSingle message.now → LENGTH_BYTES + result ≤ MOST_SINGLE_FRAME }
 {
     match message {
         Message::Prepare { .. } => 11,
@@ -54,11 +56,13 @@ pub(crate) fn payload_len(message: &Message) -> usize
     }
 }
 
-/// How many bytes a message's frame takes, its length's four among them: at most 4100.
+/// How many bytes a message's frame takes, its length's four among them: at most 2576, and at most 46 for every
+/// message but a Promise.
 #[tactic(auto, unfolding(crate::specs::Spelling::frame))]
 pub fn frame_len(message: &Message) -> usize
     ensures value { result ≡ length (frame message.now) }
-    ensures most { result ≤ LENGTH_BYTES + MOST_LENGTH }
+    ensures most { result ≤ MOST_FRAME }
+    ensures single { IsSingle message.now → result ≤ MOST_SINGLE_FRAME }
 {
     LENGTH_BYTES + payload_len(message)
 }

@@ -21,6 +21,15 @@ pub const MOST_CHIPS: u32 = 2_147_483_647;
 /// The slots from the one that is asked for that a Promise tells of, and so its most entries.
 pub const WINDOW: usize = 64;
 
+/// The bytes of a ballot.
+pub const BALLOT_BYTES: usize = 5;
+
+/// The bytes of a slot.
+pub const SLOT_BYTES: usize = 4;
+
+/// The most bytes of a command: those of a deal for ten players.
+pub const MOST_COMMAND: usize = 31;
+
 /// The least that a frame's length may say: the version byte and the kind.
 pub const LEAST_LENGTH: usize = 2;
 
@@ -29,3 +38,11 @@ pub const MOST_LENGTH: usize = 4096;
 
 /// The bytes of a frame's length itself.
 pub const LENGTH_BYTES: usize = 4;
+
+/// The most bytes of the frame of one command, its length's four among them: those of an Accept, or an Accepted,
+/// of a deal for ten players.
+pub const MOST_SINGLE_FRAME: usize = 46;
+
+/// The most bytes of a frame, its length's four among them: those of a Promise that tells of such a deal at each of
+/// its slots.
+pub const MOST_FRAME: usize = 2576;

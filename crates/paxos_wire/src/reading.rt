@@ -2,18 +2,21 @@
 
 ghost use Rattle.std.specs.Prelude.{◌≡◌, ◌<◌, ◌≤◌, ◌+◌, ◌^◌, length, Some, ◌∷◌, []};
 ghost use Rattle.paxos_wire.specs.declared.message.Message.TheVariants.{Accept, Accepted};
+ghost use Rattle.paxos_wire.specs.declared.limits.TheConstants.{SLOTS};
+ghost use Rattle.paxos_wire.specs.Kinds.{kind_byte};
 ghost use Rattle.paxos_wire.specs.Reading.{Gives, entries_at, promise_at, refuse_at, accept_at, of_ballot_at, chosen_at, ask_at, forward_at, message_at, body_of};
 
 use crate::ballot::Ballot;
-use crate::commands::{command_of, read_entry_within};
+use crate::commands::{read_command, read_entry_within};
 use crate::entries::Entries;
-use crate::fields::{ballot_of, read_below, read_byte};
-use crate::limits::{SLOTS, WINDOW};
+use crate::fields::{read_ballot, read_byte, read_slot};
+use crate::kind::Kind;
+use crate::limits::WINDOW;
 use crate::message::Message;
 use slot_log::Command;
 
 /// `count` entries, with slots that rise from `slot` on and stay below its 64 slots, and the bytes after them.
-fn entries_of(slot: u32, count: u8, bytes: &[u8]) -> Option<(Entries, &[u8])>
+fn read_entries(slot: u32, count: u8, bytes: &[u8]) -> Option<(Entries, &[u8])>
     requires slot { slot < SLOTS }
     requires count { count ≤ WINDOW }
     ensures { Gives (λ x. (x.0, x.1.now)) result (entries_at count slot (slot + WINDOW) bytes.now) }
@@ -34,8 +37,9 @@ fn entries_of(slot: u32, count: u8, bytes: &[u8]) -> Option<(Entries, &[u8])>
     Some((entries, rest))
 }
 
+/// The rest of a Promise behind its slot, and the bytes after it.
 #[tactic(auto, unfolding(crate::specs::Reading::promise_at))]
-fn promise_of(ballot: Ballot, slot: u32, bytes: &[u8]) -> Option<(Message, &[u8])>
+fn read_promise(ballot: Ballot, slot: u32, bytes: &[u8]) -> Option<(Message, &[u8])>
     requires { slot < SLOTS }
     ensures { Gives (λ x. (x.0, x.1.now)) result (promise_at ballot slot bytes.now) }
 {
@@ -43,7 +47,7 @@ fn promise_of(ballot: Ballot, slot: u32, bytes: &[u8]) -> Option<(Message, &[u8]
     if count as usize > WINDOW {
         return None;
     }
-    let Some((entries, rest)) = entries_of(slot, count, rest) else {
+    let Some((entries, rest)) = read_entries(slot, count, rest) else {
         return None;
     };
     Some((
@@ -56,11 +60,12 @@ fn promise_of(ballot: Ballot, slot: u32, bytes: &[u8]) -> Option<(Message, &[u8]
     ))
 }
 
+/// The rest of a Refuse behind its slot, and the bytes after it.
 #[tactic(auto, unfolding(crate::specs::Reading::refuse_at))]
-fn refuse_of(ballot: Ballot, slot: u32, bytes: &[u8]) -> Option<(Message, &[u8])>
+fn read_refuse(ballot: Ballot, slot: u32, bytes: &[u8]) -> Option<(Message, &[u8])>
     ensures { Gives (λ x. (x.0, x.1.now)) result (refuse_at ballot slot bytes.now) }
 {
-    let (promised, rest) = ballot_of(bytes)?;
+    let (promised, rest) = read_ballot(bytes)?;
     Some((
         Message::Refuse {
             ballot,
@@ -71,11 +76,12 @@ fn refuse_of(ballot: Ballot, slot: u32, bytes: &[u8]) -> Option<(Message, &[u8])
     ))
 }
 
+/// The rest of an Accept behind its slot, and the bytes after it.
 #[tactic(auto, unfolding(crate::specs::Reading::accept_at))]
-fn accept_of(ballot: Ballot, slot: u32, bytes: &[u8]) -> Option<(Message, &[u8])>
+fn read_accept(ballot: Ballot, slot: u32, bytes: &[u8]) -> Option<(Message, &[u8])>
     ensures { Gives (λ x. (x.0, x.1.now)) result (accept_at Accept ballot slot bytes.now) }
 {
-    let Some((command, rest)) = command_of(bytes) else {
+    let Some((command, rest)) = read_command(bytes) else {
         return None;
     };
     Some((
@@ -88,11 +94,12 @@ fn accept_of(ballot: Ballot, slot: u32, bytes: &[u8]) -> Option<(Message, &[u8])
     ))
 }
 
+/// The rest of an Accepted behind its slot, and the bytes after it.
 #[tactic(auto, unfolding(crate::specs::Reading::accept_at))]
-fn accepted_of(ballot: Ballot, slot: u32, bytes: &[u8]) -> Option<(Message, &[u8])>
+fn read_accepted(ballot: Ballot, slot: u32, bytes: &[u8]) -> Option<(Message, &[u8])>
     ensures { Gives (λ x. (x.0, x.1.now)) result (accept_at Accepted ballot slot bytes.now) }
 {
-    let Some((command, rest)) = command_of(bytes) else {
+    let Some((command, rest)) = read_command(bytes) else {
         return None;
     };
     Some((
@@ -105,47 +112,50 @@ fn accepted_of(ballot: Ballot, slot: u32, bytes: &[u8]) -> Option<(Message, &[u8
     ))
 }
 
-/// The kinds 1 to 5, which begin with a ballot and a slot.
+/// The fields of a message of the kinds 1 to 5, which begin with a ballot and a slot, and the bytes after them.
 #[tactic(auto, unfolding(crate::specs::Reading::of_ballot_at))]
-fn of_ballot(kind: u8, bytes: &[u8]) -> Option<(Message, &[u8])>
-    requires { kind ≤ 5 }
-    ensures { Gives (λ x. (x.0, x.1.now)) result (of_ballot_at kind bytes.now) }
+fn read_of_ballot(kind: Kind, bytes: &[u8]) -> Option<(Message, &[u8])>
+    requires { kind_byte kind ≤ 5 }
+    ensures { Gives (λ x. (x.0, x.1.now)) result (of_ballot_at (kind_byte kind) bytes.now) }
 {
-    let (ballot, rest) = ballot_of(bytes)?;
-    let (slot, rest) = read_below(rest, SLOTS)?;
+    let (ballot, rest) = read_ballot(bytes)?;
+    let (slot, rest) = read_slot(rest)?;
     match kind {
-        1 => Some((Message::Prepare { ballot, slot }, rest)),
-        2 => promise_of(ballot, slot, rest),
-        3 => refuse_of(ballot, slot, rest),
-        4 => accept_of(ballot, slot, rest),
-        _ => accepted_of(ballot, slot, rest),
+        Kind::Prepare => Some((Message::Prepare { ballot, slot }, rest)),
+        Kind::Promise => read_promise(ballot, slot, rest),
+        Kind::Refuse => read_refuse(ballot, slot, rest),
+        Kind::Accept => read_accept(ballot, slot, rest),
+        _ => read_accepted(ballot, slot, rest),
     }
 }
 
+/// The fields of a Chosen, and the bytes after them.
 #[tactic(auto, unfolding(crate::specs::Reading::chosen_at))]
-fn chosen_of(bytes: &[u8]) -> Option<(Message, &[u8])>
+fn read_chosen(bytes: &[u8]) -> Option<(Message, &[u8])>
     ensures { Gives (λ x. (x.0, x.1.now)) result (chosen_at bytes.now) }
 {
-    let (slot, rest) = read_below(bytes, SLOTS)?;
-    let Some((command, rest)) = command_of(rest) else {
+    let (slot, rest) = read_slot(bytes)?;
+    let Some((command, rest)) = read_command(rest) else {
         return None;
     };
     Some((Message::Chosen { slot, command }, rest))
 }
 
+/// The fields of an Ask, and the bytes after them.
 #[tactic(auto, unfolding(crate::specs::Reading::ask_at))]
-fn ask_of(bytes: &[u8]) -> Option<(Message, &[u8])>
+fn read_ask(bytes: &[u8]) -> Option<(Message, &[u8])>
     ensures { Gives (λ x. (x.0, x.1.now)) result (ask_at bytes.now) }
 {
-    let (slot, rest) = read_below(bytes, SLOTS)?;
+    let (slot, rest) = read_slot(bytes)?;
     Some((Message::Ask { slot }, rest))
 }
 
+/// The fields of a Forward, and the bytes after them.
 #[tactic(auto, unfolding(crate::specs::Reading::forward_at))]
-fn forward_of(bytes: &[u8]) -> Option<(Message, &[u8])>
+fn read_forward(bytes: &[u8]) -> Option<(Message, &[u8])>
     ensures { Gives (λ x. (x.0, x.1.now)) result (forward_at bytes.now) }
 {
-    let Some((command, rest)) = command_of(bytes) else {
+    let Some((command, rest)) = read_command(bytes) else {
         return None;
     };
     match command {
@@ -154,24 +164,25 @@ fn forward_of(bytes: &[u8]) -> Option<(Message, &[u8])>
     }
 }
 
+/// The fields of a message of this kind, and the bytes after them.
 #[tactic(auto, unfolding(crate::specs::Reading::message_at))]
-fn message_of(kind: u8, bytes: &[u8]) -> Option<(Message, &[u8])>
-    ensures { Gives (λ x. (x.0, x.1.now)) result (message_at kind bytes.now) }
+fn read_message(kind: Kind, bytes: &[u8]) -> Option<(Message, &[u8])>
+    ensures { Gives (λ x. (x.0, x.1.now)) result (message_at (kind_byte kind) bytes.now) }
 {
     match kind {
-        0..=5 => of_ballot(kind, bytes),
-        6 => chosen_of(bytes),
-        7 => ask_of(bytes),
-        _ => forward_of(bytes),
+        Kind::Chosen => read_chosen(bytes),
+        Kind::Ask => read_ask(bytes),
+        Kind::Forward => read_forward(bytes),
+        _ => read_of_ballot(kind, bytes),
     }
 }
 
-/// The message of a kind from 1 to 8 with this body, all of the bytes.
+/// The message of this kind with this body, all of the bytes.
 #[tactic(auto, unfolding(crate::specs::Reading::body_of))]
-pub(crate) fn read_body(kind: u8, bytes: &[u8]) -> Option<Message>
-    ensures { result ≡ body_of kind bytes.now }
+pub(crate) fn message_of_body(kind: Kind, bytes: &[u8]) -> Option<Message>
+    ensures { result ≡ body_of (kind_byte kind) bytes.now }
 {
-    let Some((message, rest)) = message_of(kind, bytes) else {
+    let Some((message, rest)) = read_message(kind, bytes) else {
         return None;
     };
     if rest.is_empty() { Some(message) } else { None }

@@ -1,18 +1,20 @@
-//! Ballots and commands by themselves, as they stand in frames and in the records of a journal.
+//! Ballots, slots and commands by themselves, as they stand in frames and in the records of a journal.
 
 ghost use Rattle.std.specs.Prelude.{◌≡◌, ◌+◌, ◌≤◌, ◌++◌, ℕ, List, length, IsOk, OnOk, OnErr, IfSome, IsSomeAnd};
 ghost use Rattle.std.specs.Vec.{vec_len, vec_capacity};
 ghost use Rattle.slot_log.specs.declared.command.Command.{Command};
 ghost use Rattle.paxos_wire.specs.declared.ballot.Ballot.{Ballot};
-ghost use Rattle.paxos_wire.specs.Fits.{IsBallot, IsInRange, IsCommand};
-ghost use Rattle.paxos_wire.specs.Spelling.{ballot_text, command_text};
-ghost use Rattle.paxos_wire.specs.Reading.{Gives, ballot_at, command_at};
+ghost use Rattle.slot_log.specs.Range.{IsInRange};
+ghost use Rattle.paxos_wire.specs.Fits.{IsBallot, IsSlot, IsCommand};
+ghost use Rattle.paxos_wire.specs.Spelling.{ballot_text, slot_text, command_text};
+ghost use Rattle.paxos_wire.specs.Reading.{Gives, below_at, ballot_at, command_at};
+ghost use Rattle.paxos_wire.specs.declared.limits.TheConstants.{SLOTS};
 
 use crate::ballot::Ballot;
-use crate::commands::command_of;
-use crate::fields::ballot_of;
 use crate::lengths::command_len;
+use crate::limits::BALLOT_BYTES;
 use crate::writing::{put_ballot, put_command};
+use crate::{commands, fields};
 use slot_log::Command;
 use std::alloc::AllocError;
 
@@ -23,7 +25,16 @@ pub fn read_ballot(bytes: &[u8]) -> Option<(Ballot, &[u8])>
     ensures only { (b : Ballot) (rest : List ℕ) → IsBallot b → bytes.now ≡ ballot_text b ++ rest → IsSomeAnd result (λ x. (x.0 ≡ b) × (x.1.now ≡ rest)) }
     ensures exact { Gives (λ x. (x.0, x.1.now)) result (ballot_at bytes.now) }
 {
-    ballot_of(bytes)
+    fields::read_ballot(bytes)
+}
+
+/// The slot in front, and the bytes after it; `None` where its four bytes aren't there or it is 4,000,000 or more.
+pub fn read_slot(bytes: &[u8]) -> Option<(u32, &[u8])>
+    ensures found { IfSome result (λ x. IsSlot x.0 × (bytes.now ≡ slot_text x.0 ++ x.1.now)) }
+    ensures only { (s : ℕ) (rest : List ℕ) → IsSlot s → bytes.now ≡ slot_text s ++ rest → IsSomeAnd result (λ x. (x.0 ≡ s) × (x.1.now ≡ rest)) }
+    ensures exact { Gives (λ x. (x.0, x.1.now)) result (below_at 4 SLOTS bytes.now) }
+{
+    fields::read_slot(bytes)
 }
 
 /// The command in front, and the bytes after it; `None` where no command with all its numbers in range is there.
@@ -32,7 +43,7 @@ pub fn read_command(bytes: &[u8]) -> Option<(Command, &[u8])>
     ensures only { (c : Command) (rest : List ℕ) → IsCommand c → bytes.now ≡ command_text c ++ rest → IsSomeAnd result (λ x. (x.0 ≡ c) × (x.1.now ≡ rest)) }
     ensures exact { Gives (λ x. (x.0, x.1.now)) result (command_at bytes.now) }
 {
-    command_of(bytes)
+    commands::read_command(bytes)
 }
 
 /// Appends the five bytes of a ballot. An `Err`, for want of memory, changes no byte.
@@ -43,7 +54,7 @@ pub fn write_ballot(out: &mut Vec<u8>, ballot: Ballot) -> Result<(), AllocError>
     // It fails only where the room is missing.
     ensures room { vec_len out.old + 5 ≤ vec_capacity out.old → IsOk result }
 {
-    out.reserve(5)?;
+    out.reserve(BALLOT_BYTES)?;
     write_ballot_reserved(out, ballot);
     Ok(())
 }

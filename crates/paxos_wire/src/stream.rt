@@ -18,11 +18,11 @@ fn take_message(
     feed: &mut Feed,
     messages: &mut Vec<Message>,
 ) -> Result<Option<Result<(), FrameFault>>, AllocError>
-    ensures stream { OnOk result (stream_of messages.new.items feed.new ≡ stream_of messages.old.items feed.old) }
+    ensures stream { OnOk result (stream_of messages.new.items feed.new.waiting ≡ stream_of messages.old.items feed.old.waiting) }
     ensures each { AllByRecursion IsMessage messages.old.items → AllByRecursion IsMessage messages.new.items }
-    ensures waits { IfOk result (λ taken. IfNone taken (IsPartial feed.new)) }
-    ensures taken { IfOk result (λ taken. IfSome taken (λ r. IfOk r (λ _. length feed.new < length feed.old))) }
-    ensures fault { IfOk result (λ taken. IfSome taken (λ r. IfErr r (λ f. IsFaulty feed.new f))) }
+    ensures waits { IfOk result (λ taken. IfNone taken (IsPartial feed.new.waiting)) }
+    ensures taken { IfOk result (λ taken. IfSome taken (λ r. IfOk r (λ _. length feed.new.waiting < length feed.old.waiting))) }
+    ensures fault { IfOk result (λ taken. IfSome taken (λ r. IfErr r (λ f. IsFaulty feed.new.waiting f))) }
 {
     match feed.next() {
         None => Ok(None),
@@ -39,9 +39,9 @@ fn take_messages(
     feed: &mut Feed,
     messages: &mut Vec<Message>,
 ) -> Result<Option<FrameFault>, AllocError>
-    ensures stream { OnOk result (stream_of messages.new.items feed.new ≡ stream_of messages.old.items feed.old) }
+    ensures stream { OnOk result (stream_of messages.new.items feed.new.waiting ≡ stream_of messages.old.items feed.old.waiting) }
     ensures each { AllByRecursion IsMessage messages.old.items → AllByRecursion IsMessage messages.new.items }
-    ensures rest { IfOk result (λ fault. IsRest fault feed.new) }
+    ensures rest { IfOk result (λ fault. IsRest fault feed.new.waiting) }
 {
     while let Some(taken) = take_message(feed, messages)? {
         if let Err(fault) = taken {

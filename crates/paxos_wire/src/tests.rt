@@ -1,7 +1,7 @@
 use crate::{
-    Ballot, Entries, Entry, Feed, FrameFault, Message, decode, encode, encode_reserved, frame_len,
-    read_ballot, read_command, read_stream, write_ballot, write_ballot_reserved, write_command,
-    write_command_reserved,
+    Ballot, Entries, Entry, Feed, FrameFault, Message, ballot_bytes, command_bytes, decode, encode,
+    encode_reserved, frame_len, read_ballot, read_command, read_slot, read_stream, slot_bytes,
+    write_ballot, write_ballot_reserved, write_command, write_command_reserved,
 };
 use betting::Action;
 use slot_log::Command;
@@ -136,6 +136,15 @@ fn lengths_at_their_limits(rt: HostRuntime) -> Result<(), Fail> {
 }
 
 #[test]
+fn a_piece_goes_into_room_that_was_reserved(rt: HostRuntime) -> Result<(), Fail> {
+    let mut feed = Feed::new(rt.alloc());
+    feed.reserve(PREPARE.len())?;
+    feed.feed_reserved(&PREPARE);
+    assert!(rt; feed.next() == Some(Ok(prepare())));
+    Ok(())
+}
+
+#[test]
 fn a_stream_in_pieces(rt: HostRuntime) -> Result<(), Fail> {
     let mut pieces = Vec::new(rt.alloc());
     pieces.push(Vec::from_slice(rt.alloc(), &PREPARE)?)?;
@@ -169,6 +178,11 @@ fn ballots_and_commands_of_a_record(rt: HostRuntime) -> Result<(), Fail> {
     assert_eq!(rt; read, ballot);
     assert!(rt; rest.len() == 12);
     assert!(rt; read_command(rest).is_some());
+    assert!(rt; ballot_bytes(ballot)[..] == out[..5]);
+    assert!(rt; command_bytes(&command).as_slice() == rest);
+    assert!(rt; slot_bytes(3_999_999)[..] == [0, 0x3d, 8, 0xff][..]);
+    assert!(rt; read_slot(&[0, 0x3d, 8, 0xff]).is_some());
+    assert!(rt; read_slot(&[0, 0x3d, 9, 0]).is_none());
     Ok(())
 }
 

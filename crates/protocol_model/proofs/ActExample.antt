@@ -10,21 +10,22 @@ use Rattle.protocol_model.specs.Stores.{Store, empty_store, promised, voted, Tel
 use Rattle.protocol_model.specs.Stores
 use Rattle.protocol_model.specs.Dealers.{Dealer, HasLine}
 use Rattle.protocol_model.specs.Nodes.{Node, Knows}
+use Rattle.protocol_model.specs.Arrivals.{Arrival, Started, Connected, Came}
 use Rattle.protocol_model.specs.Moves
-use Rattle.protocol_model.specs.Moves.{Output, nothing, sending, with_store, with_sent, Move, Chain}
+use Rattle.protocol_model.specs.Moves.{Output, nothing, sending, taking, with_store, with_sent, Move, Chain}
 use Rattle.protocol_model.specs.Worlds
 use Rattle.protocol_model.specs.Worlds.{World, Run, Reached, new_world}
-use Rattle.protocol_model.specs.Laws.{HasOrigin, IsLeft}
+use Rattle.protocol_model.specs.Laws.{HasOrigin, WasSaid, IsLeft}
 use Rattle.protocol_model.proofs.Runs.{after_move, is_after_move}
 use Rattle.protocol_model.proofs.Sets.{put_cases}
 use Rattle.protocol_model.proofs.Examples.{fresh, no_vote}
 
-abbrev is_c : List ℕ → Bool
+abbrev pub is_c : List ℕ → Bool
 is_c [] = false
 is_c (byte ∷ []) = byte == 99
 is_c (byte ∷ next ∷ more) = false
 
-abbrev talk : Dealer
+abbrev pub talk : Dealer
 talk = record {
   fits = λ before command. true;
   own = λ node command. false;
@@ -40,65 +41,73 @@ step world out node run move = Worlds.more world 0 out node (after_move world 0 
 -- the only node starts, seat 1 connects to it and says `c` and a line feed
 abbrev connected : World
 connected =
-    let started = after_move new_world 0 nothing (fresh empty_store 1) in
-    after_move started 0 nothing (record (started.nodes 0) { heard = put (started.nodes 0).heard 1 (Some []) })
+    let started = after_move new_world 0 (taking [] (Started 0)) (fresh empty_store 1) in
+    after_move started 0 (taking [] (Connected 0 1)) (record (started.nodes 0) { heard = put (started.nodes 0).heard 1 (Some []) })
 
 abbrev hearing : World
-hearing = after_move connected 0 nothing (record (connected.nodes 0) { heard = put (connected.nodes 0).heard 1 (Some (99 ∷ 10 ∷ [])) })
+hearing = after_move connected 0 (taking [] (Came 0 1 (99 ∷ 10 ∷ []))) (record (connected.nodes 0) { heard = put (connected.nodes 0).heard 1 (Some (99 ∷ 10 ∷ [])) })
 
 run_hearing : Reached talk 1 hearing
 run_hearing =
-    let started = after_move new_world 0 nothing (fresh empty_store 1) in
-    let run : Reached talk 1 started = step new_world nothing (fresh empty_store 1) Worlds.start (Moves.starts empty_store refl (inl refl) refl refl) in
+    let started = after_move new_world 0 (taking [] (Started 0)) (fresh empty_store 1) in
+    let run : Reached talk 1 started = step new_world (taking [] (Started 0)) (fresh empty_store 1) Worlds.start (Moves.starts empty_store refl (inl refl) refl refl) in
     let connecting : Reached talk 1 connected = step started _ _ run (Moves.connects 1 refl refl refl) in
-    step connected _ _ connecting (Moves.hears 1 [] (99 ∷ 10 ∷ []) refl refl refl refl)
+    step connected _ _ connecting (Moves.hears 1 (99 ∷ 10 ∷ []) refl refl refl)
 
 says_c : HasLine (99 ∷ 10 ∷ []) (99 ∷ [])
-says_c = ([], 10 ∷ [], [], refl, inl refl, inl refl, no_feed)
-  where
-    no_feed : In {A = ℕ} 10 (99 ∷ []) → ⊥
-    no_feed (inl e) = omega arith
-    no_feed (inr none) = none
+says_c = record { before = []; after = []; whole = refl; starts = inl refl; one_line = (λ e. omega (arith, e), tt) }
 
 -- it notes an act, and passes it on
 abbrev noted : Command → World
-noted act = after_move hearing 0 (sending (Said 0 1 act)) (with_sent (hearing.nodes 0) (Said 0 1 act ∷ []))
+noted act = after_move hearing 0 (sending (Said 0 act)) (with_sent (hearing.nodes 0) (Said 0 act ∷ []))
 
 abbrev forwarded : Command → World
 forwarded act = after_move (noted act) 0 (sending (Forward 0 act)) (with_sent ((noted act).nodes 0) (Forward 0 act ∷ []))
 
 pub act_is_said : (action : _)
     → Reached talk 1 (forwarded (Act 0 0 action))
-    × HasOrigin talk 1 (forwarded (Act 0 0 action)) (Act 0 0 action)
-    × ((forwarded (Act 0 0 action)).ever ≡ Forward 0 (Act 0 0 action) ∷ Said 0 1 (Act 0 0 action) ∷ [])
+    × HasOrigin talk 1 (forwarded (Act 0 0 action)).ever (forwarded (Act 0 0 action)).came (Act 0 0 action)
+    × ((forwarded (Act 0 0 action)).ever ≡ Forward 0 (Act 0 0 action) ∷ Said 0 (Act 0 0 action) ∷ [])
 act_is_said action =
     let act : Command = Act 0 0 action in
     let after_note = noted act in
     let after_pass = forwarded act in
-    let note : Move talk 1 0 hearing.ever (hearing.nodes 0) (sending (Said 0 1 act)) (with_sent (hearing.nodes 0) (Said 0 1 act ∷ []))
+    let note : Move talk 1 0 hearing.ever (hearing.nodes 0) (sending (Said 0 act)) (with_sent (hearing.nodes 0) (Said 0 act ∷ []))
     = Moves.notes 1 (99 ∷ 10 ∷ []) [] (99 ∷ []) act refl refl tt says_c refl refl refl in
     let pass : Move talk 1 0 after_note.ever (after_note.nodes 0) (sending (Forward 0 act)) (with_sent (after_note.nodes 0) (Forward 0 act ∷ []))
-    = Moves.forwards 1 act refl (inl refl) refl refl in
-    let noting : Run talk 1 hearing after_note = Worlds.more hearing 0 _ _ after_note Worlds.start (omega arith) note (is_after_move hearing 0 _ _) in (
+    = Moves.forwards act refl (inl refl) refl refl in (
       step after_note _ _ (step hearing _ _ run_hearing note) pass,
-      record {
-        moment = hearing;
-        reached = run_hearing;
-        goes_on = Worlds.more after_note 0 _ _ after_pass noting (omega arith) pass (is_after_move after_note 0 _ _);
+      inr (let said : WasSaid talk 1 after_pass.ever after_pass.came act = record {
+        sent = [];
+        earlier = hearing.came;
+        moment = record {
+          sent_later = after_pass.ever;
+          all_sent = refl;
+          came_later = [];
+          all_came = refl;
+          no_sooner = λ arrival here. at_once arrival here;
+          no_later = λ arrival here. absurd here;
+        };
         node = 0;
         is_node = omega arith;
-        up = refl;
         seat = 1;
-        before = [];
-        chosen = tt;
         bytes = 99 ∷ 10 ∷ [];
         connected = refl;
         line = 99 ∷ [];
         heard = says_c;
+        before = [];
+        chosen = tt;
         says = refl;
-      },
+      } in said),
       refl,
     )
+  where
+    -- all that came came before anything was sent
+    at_once : (arrival : Arrival) → In arrival hearing.came → arrival.sent ≤ 0
+    at_once arrival (inl e) = omega (arith, ap (λ (a : Arrival). a.sent) e)
+    at_once arrival (inr (inl e)) = omega (arith, ap (λ (a : Arrival). a.sent) e)
+    at_once arrival (inr (inr (inl e))) = omega (arith, ap (λ (a : Arrival). a.sent) e)
+    at_once arrival (inr (inr (inr none))) = absurd none
 
 -- a frame says what its sender says; a Prepare and an Accept are their ballot's node's
 abbrev deal : Command

@@ -1,7 +1,6 @@
 -- One list of chosen commands behind all that was shown.
 use Rattle.std.proofs.Common.{◌≡◌, ℕ, suc, ◌≤◌, ◌⊎◌, inl, inr, true, Some, List, [], ◌∷◌, length, refl, ap, sym, ◌∙◌, subst, arith}
 use Rattle.slot_log.specs.declared.command.Command.{Command}
-use Rattle.slot_log.specs.declared.command.Command.TheVariants.{Deal, Act}
 use Rattle.protocol_model.specs.Sets.{In, IsBeginning}
 use Rattle.protocol_model.specs.Messages.{Message, Accept}
 use Rattle.protocol_model.specs.Quorums.{IsChosen, AreChosen}
@@ -83,12 +82,12 @@ one_dealer dealer n world run =
     }
 
 has_origin : (dealer : Dealer) (n : ℕ) (world : World) (command : Command) → Reached dealer n world → HasSource dealer n world.ever command
-    → HasOrigin dealer n world command
-has_origin dealer n world (Deal hand deal) run source = source
-has_origin dealer n world (Act hand index action) run source = was_said dealer n world source.0 source.1 (Act hand index action) run source.2
+    → HasOrigin dealer n world.ever world.came command
+has_origin dealer n world command run (inl own) = inl own
+has_origin dealer n world command run (inr source) = inr (was_said dealer n world source.0 command run source.1)
 
 pub chosen_has_origin : (dealer : Dealer) (n : ℕ) (world : World) (slot : ℕ) (command : Command) → Reached dealer n world
-    → IsChosen n world.ever slot command → HasOrigin dealer n world command
+    → IsChosen n world.ever slot command → HasOrigin dealer n world.ever world.came command
 chosen_has_origin dealer n world slot command run chosen =
     let facts = (world_facts dealer n world run).facts in
     let right = facts.right (Accept chosen.0 slot command) (chosen_was_proposed dealer n world.ever chosen.0 slot command facts chosen.1) in

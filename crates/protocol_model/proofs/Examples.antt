@@ -10,10 +10,13 @@ use Rattle.protocol_model.specs.Messages.{Vote, entry_of, vote_of, Message, Cove
 use Rattle.protocol_model.specs.Quorums.{IsChosen, HasPromise}
 use Rattle.protocol_model.specs.Stores.{Store, empty_store, promised, voted, Tells}
 use Rattle.protocol_model.specs.Stores
+use Rattle.protocol_model.specs.Backing.{Backs, IsAcceptedToo}
+use Rattle.protocol_model.proofs.Ballots.{at_most_self}
 use Rattle.protocol_model.specs.Dealers.{Dealer, Seat}
 use Rattle.protocol_model.specs.Nodes.{Node}
+use Rattle.protocol_model.specs.Arrivals.{Started}
 use Rattle.protocol_model.specs.Moves
-use Rattle.protocol_model.specs.Moves.{Shown, Output, nothing, sending, with_store, with_sent, Move}
+use Rattle.protocol_model.specs.Moves.{Shown, Output, nothing, sending, taking, with_store, with_sent, Move}
 use Rattle.protocol_model.specs.Worlds
 use Rattle.protocol_model.specs.Worlds.{World, Run, Reached, new_world}
 use Rattle.protocol_model.specs.Laws.{IsLeft, IsOpened}
@@ -71,13 +74,13 @@ getting node message = record node { has = message ∷ node.has }
 
 -- all three start
 abbrev world_1 : World
-world_1 = after_move (after_move (after_move new_world 0 nothing (fresh empty_store 1)) 1 nothing (fresh empty_store 1)) 2 nothing (fresh empty_store 1)
+world_1 = after_move (after_move (after_move new_world 0 (taking [] (Started 0)) (fresh empty_store 1)) 1 (taking [] (Started 1)) (fresh empty_store 1)) 2 (taking [] (Started 2)) (fresh empty_store 1)
 
 run_1 : Reached toy 3 world_1
 run_1 =
-    next _ 2 nothing _
-    (next _ 1 nothing _
-    (next new_world 0 nothing (fresh empty_store 1) Worlds.start (omega arith) (Moves.starts empty_store refl (inl refl) refl refl))
+    next _ 2 (taking [] (Started 2)) _
+    (next _ 1 (taking [] (Started 1)) _
+    (next new_world 0 (taking [] (Started 0)) (fresh empty_store 1) Worlds.start (omega arith) (Moves.starts empty_store refl (inl refl) refl refl))
     (omega arith) (Moves.starts empty_store refl (inl refl) refl refl))
     (omega arith) (Moves.starts empty_store refl (inl refl) refl refl)
 
@@ -104,7 +107,7 @@ empty_tells = record { all = λ slot v covers is. absurd (no_vote v is); only = 
 -- node 0 begins ballot (1, 0) at slot 0, and node 1 promises it
 abbrev world_2 : World
 world_2 =
-    after_move world_1 0 (record { sent = Promise 0 ballot 0 [] ∷ Prepare ballot 0 ∷ []; shown = [] })
+    after_move world_1 0 (record { sent = Promise 0 ballot 0 [] ∷ Prepare ballot 0 ∷ []; shown = []; came = [] })
     (with_sent (with_store (world_1.nodes 0) (promised empty_store ballot)) (Promise 0 ballot 0 [] ∷ Prepare ballot 0 ∷ []))
 
 abbrev world_3 : World
@@ -144,7 +147,7 @@ run_7 : Reached toy 3 world_7
 run_7 =
     next world_6 0 _ _ run_6 (omega arith)
     (Moves.proposes ballot 0 0 deal refl (inr (inl refl)) (λ other here. no_accept other here) refl
-    (inr ((these, omega arith, these_promise), refl, ([], tt, refl, (λ other here. here), refl))) refl refl)
+    (inr ((these, omega arith, these_promise), inl refl, ([], tt, refl, (λ other here. here), refl))) refl refl)
   where
     no_accept : (other : Command) → In (Accept ballot 0 other) (Promise 0 ballot 0 [] ∷ Prepare ballot 0 ∷ []) → ⊥
     no_accept other (inl e) = cc
@@ -186,7 +189,7 @@ abbrev line : Shown
 line = record { node = 0; start = 1; reader = Seat 1; count = 1; text = 1 ∷ [] }
 
 abbrev world_15 : World
-world_15 = after_move world_14 0 (record { sent = []; shown = line ∷ [] }) (record (world_14.nodes 0) { shown = 1 })
+world_15 = after_move world_14 0 (record { sent = []; shown = line ∷ []; came = [] }) (record (world_14.nodes 0) { shown = 1 })
 
 accepted_13 : (node : ℕ) → node < 3 → these node ≡ true → In (Accepted node ballot 0 deal) (world_13.nodes 0).has
 accepted_13 zero within is = inr (inl refl)
@@ -210,7 +213,7 @@ abbrev world_17 : World
 world_17 = after_move world_16 2 nothing (record (world_16.nodes 2) { begun = promised empty_store ballot; up = false })
 
 abbrev world_18 : World
-world_18 = after_move world_17 2 nothing (fresh (promised empty_store ballot) 2)
+world_18 = after_move world_17 2 (taking world_17.ever (Started 2)) (fresh (promised empty_store ballot) 2)
 
 begun_promise : Stores.Append 2 (Prepare ballot 0 ∷ []) empty_store (promised empty_store ballot)
 begun_promise =
@@ -229,7 +232,7 @@ entry = record { slot = 0; ballot = ballot; command = deal }
 
 abbrev world_19 : World
 world_19 =
-    after_move world_18 2 (record { sent = Promise 2 second_ballot 0 [] ∷ Prepare second_ballot 0 ∷ []; shown = [] })
+    after_move world_18 2 (record { sent = Promise 2 second_ballot 0 [] ∷ Prepare second_ballot 0 ∷ []; shown = []; came = [] })
     (with_sent (with_store (world_18.nodes 2) (promised empty_store second_ballot)) (Promise 2 second_ballot 0 [] ∷ Prepare second_ballot 0 ∷ []))
 
 abbrev world_20 : World
@@ -323,3 +326,17 @@ goes_on = opens toy 3 world_17 left is_left
     is_left (suc zero) within = inl (refl, Stores.unchanged _ refl)
     is_left (suc (suc zero)) within = inr (refl, inr refl)
     is_left (suc (suc (suc i))) within = absurd (omega arith)
+
+-- a proposal that its node hasn't accepted yet was sent, and isn't in its store
+not_stored_yet : In (Accept ballot 0 deal) world_7.ever × (Backs (world_7.nodes 0).store (Accept ballot 0 deal) → ⊥)
+not_stored_yet = (inl refl, λ backs. no_vote backs.1.0 backs.1.1)
+
+-- once it has accepted it too, it is
+stored_then : IsAcceptedToo world_9.ever (Accept ballot 0 deal) × Backs (world_9.nodes 0).store (Accept ballot 0 deal)
+stored_then = (inl refl, (at_most_self ballot, (vote, refl, inl refl)))
+
+-- the nodes that were opened count one start more, and that is all that came
+opened_anew : (opened : World) → IsOpened toy 3 world_17 left opened
+    → ((opened.nodes 0).starts ≡ 2)
+    × (opened.came ≡ (record { event = Started 2; sent = 6 }) ∷ (record { event = Started 1; sent = 6 }) ∷ (record { event = Started 0; sent = 6 }) ∷ world_17.came)
+opened_anew opened is = (let one = is.nodes 0 (omega arith) in one.starts, is.came)

@@ -1,8 +1,8 @@
 -- What holds of the messages that were ever sent, whoever is up.
-use Rattle.std.proofs.Common.{◌≡◌, ℕ, ◌<◌, ◌⊎◌, inl, inr, true, List, length}
+use Rattle.std.proofs.Common.{◌≡◌, ℕ, ◌⊎◌, inl, inr, true, List, length}
 use Rattle.paxos_wire.specs.declared.ballot.Ballot.{Ballot}
 use Rattle.slot_log.specs.declared.command.Command.{Command}
-use Rattle.slot_log.specs.declared.command.Command.TheVariants.{Deal, Act}
+use Rattle.protocol_model.specs.Laws.{IsOwned}
 use Rattle.protocol_model.specs.Sets.{In}
 use Rattle.protocol_model.specs.Ballots.{Below, AtMost}
 use Rattle.paxos_wire.specs.declared.entry.Entry.{Entry}
@@ -21,10 +21,9 @@ abbrev pub IsFitting : Dealer → ℕ → List Message → ℕ → Command → T
 IsFitting dealer n ever slot command =
     (before : List Command) × AreChosen n ever before × (slot ≡ length before) × (dealer.fits before command ≡ true)
 
--- a deal is some node's own, an act was noted
+-- some node owns it, or noted that it was said
 abbrev pub HasSource : Dealer → ℕ → List Message → Command → Type 0
-HasSource dealer n ever (Deal hand deal) = (node : ℕ) × (node < n) × (dealer.own node (Deal hand deal) ≡ true)
-HasSource dealer n ever (Act hand index action) = (node : ℕ) × (seat : ℕ) × In (Said node seat (Act hand index action)) ever
+HasSource dealer n ever command = IsOwned dealer n command ⊎ ((node : ℕ) × In (Said node command) ever)
 
 -- what stands behind a message, once and for all
 abbrev pub IsRight : Dealer → ℕ → List Message → Message → Type 0
@@ -37,8 +36,8 @@ IsRight dealer n ever (Accept ballot slot command) =
 IsRight dealer n ever (Accepted sender ballot slot command) = In (Accept ballot slot command) ever
 IsRight dealer n ever (Chosen sender slot command) = IsChosen n ever slot command
 IsRight dealer n ever (Ask sender slot) = Unit {0}
-IsRight dealer n ever (Forward sender act) = (seat : ℕ) × In (Said sender seat act) ever
-IsRight dealer n ever (Said sender seat act) = Unit {0}
+IsRight dealer n ever (Forward sender act) = In (Said sender act) ever
+IsRight dealer n ever (Said sender act) = Unit {0}
 
 -- the entries tell of a vote at the slot, of this ballot or a greater one
 abbrev pub TellsAtLeast : List Entry → ℕ → Ballot → Type 0
@@ -60,8 +59,8 @@ safe_stays n xs ys ballot slot command within (inr f) = inr (promises_stay n xs 
 
 pub source_stays : (dealer : Dealer) (n : ℕ) (xs ys : List Message) (command : Command)
     → Within xs ys → HasSource dealer n xs command → HasSource dealer n ys command
-source_stays dealer n xs ys (Deal hand deal) within s = s
-source_stays dealer n xs ys (Act hand index action) within s = (s.0, s.1, within _ s.2)
+source_stays dealer n xs ys command within (inl own) = inl own
+source_stays dealer n xs ys command within (inr s) = inr (s.0, within _ s.1)
 
 pub right_stays : (dealer : Dealer) (n : ℕ) (xs ys : List Message) (message : Message)
     → Within xs ys → IsRight dealer n xs message → IsRight dealer n ys message
@@ -73,5 +72,5 @@ right_stays dealer n xs ys (Accept ballot slot command) within r =
 right_stays dealer n xs ys (Accepted sender ballot slot command) within r = within _ r
 right_stays dealer n xs ys (Chosen sender slot command) within r = chosen_stays n xs ys slot command within r
 right_stays dealer n xs ys (Ask sender slot) within r = tt
-right_stays dealer n xs ys (Forward sender act) within r = (r.0, within _ r.1)
-right_stays dealer n xs ys (Said sender seat act) within r = tt
+right_stays dealer n xs ys (Forward sender act) within r = within _ r
+right_stays dealer n xs ys (Said sender act) within r = tt

@@ -7,11 +7,17 @@ mod Stores
 mod Sending
 mod Moving
 mod Runs
+mod Backing
 mod Showing
+mod Hearing
 mod Saying
 mod Dealing
 mod Opening
+mod Calling
 pub mod Examples
 pub mod NearMisses
 pub mod ActExample
+pub mod ArrivalExamples
+pub mod BackingExamples
+pub mod CallExamples
 pub mod Widening

@@ -2,7 +2,6 @@
 use Rattle.std.proofs.Common.{◌≡◌, ℕ, suc, ◌<◌, ◌⊎◌, inl, inr, true, false, true≢false, Some, List, [], ◌∷◌, ◌++◌, length, refl, ap, sym, subst, subst₂, Option, None}
 use Rattle.paxos_wire.specs.declared.ballot.Ballot.{Ballot}
 use Rattle.slot_log.specs.declared.command.Command.{Command}
-use Rattle.slot_log.specs.declared.command.Command.TheVariants.{Deal, Act}
 use Rattle.protocol_model.specs.Sets.{In}
 use Rattle.protocol_model.specs.Ballots.{Below, AtMost}
 use Rattle.paxos_wire.specs.declared.entry.Entry.{Entry}
@@ -134,10 +133,10 @@ begins_keeps dealer n i ever node ballot slot told facts kept own below tells =
 
 at_hand_source : (dealer : Dealer) (n i : ℕ) (ever : List Message) (node : Node) (command : Command) → i < n → Facts dealer n ever → NodeFacts n i ever node
     → IsAtHand dealer i node command → HasSource dealer n ever command
-at_hand_source dealer n i ever node (Deal hand deal) within facts kept own = (i, within, own)
-at_hand_source dealer n i ever node (Act hand index action) within facts kept (inl said) = (i, said.0, (kept.sent _ said.1).0)
-at_hand_source dealer n i ever node (Act hand index action) within facts kept (inr passed) =
-    let right = facts.right (Forward passed.0 (Act hand index action)) (kept.has _ passed.1) in (passed.0, right.0, right.1)
+at_hand_source dealer n i ever node command within facts kept (inl own) = inl (i, within, own)
+at_hand_source dealer n i ever node command within facts kept (inr (inl said)) = inr (i, (kept.sent _ said).0)
+at_hand_source dealer n i ever node command within facts kept (inr (inr passed)) =
+    inr (passed.0, facts.right (Forward passed.0 command) (kept.has _ passed.1))
 
 told_fits : (dealer : Dealer) (n : ℕ) (ever : List Message) (ballot : Ballot) (slot : ℕ) (command : Command) → Facts dealer n ever
     → (greatest : Ballot) → In (Accept greatest slot command) ever → IsFitting dealer n ever slot command × HasSource dealer n ever command
@@ -246,14 +245,16 @@ pub move_keeps : (dealer : Dealer) (n i : ℕ) (ever : List Message) (old : Node
     → Facts dealer n ever → NodeFacts n i ever old → Move dealer n i ever old out new → Kept dealer n i ever (out.sent ++ ever) new
 move_keeps dealer n i ever old out new within facts kept (Moves.gets message up here eo en) =
     moved dealer n i ever out _ new _ eo en (silent dealer n i ever _ facts (gets_keeps n i ever old message here kept))
-move_keeps dealer n i ever old out new within facts kept (Moves.hears seat before bytes up connected eo en) =
+move_keeps dealer n i ever old out new within facts kept (Moves.hears seat bytes up eo en) =
     moved dealer n i ever out _ new _ eo en (silent dealer n i ever _ facts (same_facts n i ever old old.shown _ kept))
 move_keeps dealer n i ever old out new within facts kept (Moves.connects seat up eo en) =
     moved dealer n i ever out _ new _ eo en (silent dealer n i ever _ facts (same_facts n i ever old old.shown _ kept))
 move_keeps dealer n i ever old out new within facts kept (Moves.drops seat up eo en) =
     moved dealer n i ever out _ new _ eo en (silent dealer n i ever _ facts (same_facts n i ever old old.shown _ kept))
+move_keeps dealer n i ever old out new within facts kept (Moves.closes seat up eo en) =
+    moved dealer n i ever out _ new _ eo en (silent dealer n i ever _ facts (same_facts n i ever old old.shown _ kept))
 move_keeps dealer n i ever old out new within facts kept (Moves.notes seat bytes before line act up connected knows heard says eo en) =
-    moved dealer n i ever out _ new _ eo en (sends dealer n i ever old (Said i seat act) facts kept refl tt tt tt tt)
+    moved dealer n i ever out _ new _ eo en (sends dealer n i ever old (Said i act) facts kept refl tt tt tt tt)
 move_keeps dealer n i ever old out new within facts kept (Moves.begins ballot slot told up own below tells eo en) =
     moved dealer n i ever out _ new _ eo en (begins_keeps dealer n i ever old ballot slot told facts kept own below tells)
 move_keeps dealer n i ever old out new within facts kept (Moves.promises ballot slot told up here below tells eo en) =
@@ -276,8 +277,8 @@ move_keeps dealer n i ever old out new within facts kept (Moves.tells slot comma
     moved dealer n i ever out _ new _ eo en (sends dealer n i ever old (Chosen i slot command) facts kept refl (kept.known slot command knows) tt tt tt)
 move_keeps dealer n i ever old out new within facts kept (Moves.asks slot up eo en) =
     moved dealer n i ever out _ new _ eo en (sends dealer n i ever old (Ask i slot) facts kept refl tt tt tt tt)
-move_keeps dealer n i ever old out new within facts kept (Moves.forwards seat act up said eo en) =
-    moved dealer n i ever out _ new _ eo en (sends dealer n i ever old (Forward i act) facts kept refl (seat, (kept.sent _ said).0) tt tt tt)
+move_keeps dealer n i ever old out new within facts kept (Moves.forwards act up said eo en) =
+    moved dealer n i ever out _ new _ eo en (sends dealer n i ever old (Forward i act) facts kept refl (kept.sent _ said).0 tt tt tt)
 move_keeps dealer n i ever old out new within facts kept (Moves.shows commands reader text up knows more shown eo en) =
     moved dealer n i ever out _ new _ eo en (silent dealer n i ever _ facts (same_facts n i ever old _ old.heard kept))
 move_keeps dealer n i ever old out new within facts kept (Moves.stops begun up append eo en) =

@@ -7,9 +7,10 @@ use Rattle.protocol_model.specs.Sets.{In, IsBeginning}
 use Rattle.protocol_model.specs.Ballots.{Below, AtMost}
 use Rattle.protocol_model.specs.Messages.{Message, Covers, Promise}
 use Rattle.protocol_model.specs.Quorums.{count, IsQuorum, HasPromise, IsGreatestTold}
-use Rattle.protocol_model.specs.Dealers.{Dealer, AllFit, HasLine, Log}
+use Rattle.protocol_model.specs.Dealers.{Dealer, AllFit, IsLineStart, HasLine, Log}
+use Rattle.protocol_model.specs.Arrivals.{Started}
 use Rattle.protocol_model.specs.Moves
-use Rattle.protocol_model.specs.Moves.{Shown, Output, nothing, Move}
+use Rattle.protocol_model.specs.Moves.{Shown, Output, nothing, taking, Move}
 use Rattle.protocol_model.specs.Nodes.{Node}
 use Rattle.protocol_model.specs.Laws.{NeverGoesBack}
 use Rattle.protocol_model.proofs.Examples.{toy}
@@ -54,22 +55,31 @@ one_deal = (refl, tt)
 not_two_deals : AllFit toy (Deal 0 [] ∷ Deal 0 [] ∷ []) → ⊥
 not_two_deals fits = cc (fits.0)
 
--- `a` and its end stand in the bytes, behind another line
-has_line : HasLine (98 ∷ 10 ∷ 97 ∷ 13 ∷ 10 ∷ 99 ∷ []) (97 ∷ [])
-has_line = (98 ∷ 10 ∷ [], 13 ∷ 10 ∷ [], 99 ∷ [], refl, inr (98 ∷ [], refl), inr refl, no_feed)
-  where
-    no_feed : In {A = ℕ} 10 (97 ∷ []) → ⊥
-    no_feed (inl e) = omega arith
-    no_feed (inr none) = none
+-- `a` stands in the bytes as a whole line, behind another line
+has_line : HasLine (98 ∷ 10 ∷ 97 ∷ 10 ∷ 99 ∷ []) (97 ∷ [])
+has_line = record { before = 98 ∷ 10 ∷ []; after = 99 ∷ []; whole = refl; starts = inr (98 ∷ [], refl); one_line = (λ e. omega (arith, e), tt) }
 
--- an `a` without its end is no line yet
+-- an `a` without a line feed is no line yet
 not_yet : HasLine (97 ∷ []) (97 ∷ []) → ⊥
-not_yet line =
-    let bytes = ap length line.3 in
-    elim line.5 [
-      | inl e ↦ omega (arith, bytes, ap length e, length-append line.0 ((97 ∷ []) ++ (line.1 ++ line.2)), length-append line.1 line.2)
-      | inr e ↦ omega (arith, bytes, ap length e, length-append line.0 ((97 ∷ []) ++ (line.1 ++ line.2)), length-append line.1 line.2)
-    ]
+not_yet line = omega (arith, ap length line.whole, length-append line.before ((97 ∷ []) ++ 10 ∷ line.after))
+
+-- nor is the end of a line
+not_the_end : HasLine (98 ∷ 97 ∷ 10 ∷ []) (97 ∷ []) → ⊥
+not_the_end line = at line.before line.whole line.starts
+  where
+    at : (before : List ℕ) → 98 ∷ 97 ∷ 10 ∷ [] ≡ before ++ 97 ∷ 10 ∷ line.after → IsLineStart before → ⊥
+    at [] e start = grind (arith, e)
+    at (byte ∷ []) e (inl none) = cc
+    at (byte ∷ []) e (inr start) = ends byte start.0 start.1 (grind (arith, e))
+      where
+        ends : (byte : ℕ) (front : List ℕ) → byte ∷ [] ≡ front ++ 10 ∷ [] → byte ≡ 98 → ⊥
+        ends byte [] is e = grind (arith, is)
+        ends byte (x ∷ front) is e = omega (arith, ap length is, length-append front (10 ∷ []))
+    at (byte ∷ next ∷ before) e start = omega (arith, ap length e, length-append before (97 ∷ 10 ∷ line.after))
+
+-- and two lines are no line
+not_two : HasLine (97 ∷ 10 ∷ 97 ∷ 10 ∷ []) (97 ∷ 10 ∷ 97 ∷ []) → ⊥
+not_two line = line.one_line.1.0 refl
 
 -- within a start a node may show more commands, and not fewer; after another start it may
 abbrev shown : ℕ → ℕ → Shown
@@ -192,11 +202,12 @@ wrong_state : (b : Bool) → b ≡ true → b ≡ false → ⊥
 wrong_state b t f = true≢false (sym t ∙ f)
 
 pub down_is_silent : (dealer : Dealer) (n i : ℕ) (ever : List Message) (old : Node) (out : Output) (new : Node)
-    → Move dealer n i ever old out new → old.up ≡ false → (out ≡ nothing) × (new.starts ≡ suc old.starts)
+    → Move dealer n i ever old out new → old.up ≡ false → (out ≡ taking ever (Started i)) × (new.starts ≡ suc old.starts)
 down_is_silent dealer n i ever old out new (Moves.gets message up here eo en) off = absurd (wrong_state old.up up off)
-down_is_silent dealer n i ever old out new (Moves.hears seat before bytes up connected eo en) off = absurd (wrong_state old.up up off)
+down_is_silent dealer n i ever old out new (Moves.hears seat bytes up eo en) off = absurd (wrong_state old.up up off)
 down_is_silent dealer n i ever old out new (Moves.connects seat up eo en) off = absurd (wrong_state old.up up off)
 down_is_silent dealer n i ever old out new (Moves.drops seat up eo en) off = absurd (wrong_state old.up up off)
+down_is_silent dealer n i ever old out new (Moves.closes seat up eo en) off = absurd (wrong_state old.up up off)
 down_is_silent dealer n i ever old out new (Moves.notes seat bytes before line act up connected knows heard says eo en) off = absurd (wrong_state old.up up off)
 down_is_silent dealer n i ever old out new (Moves.begins ballot slot told up own below tells eo en) off = absurd (wrong_state old.up up off)
 down_is_silent dealer n i ever old out new (Moves.promises ballot slot told up here below tells eo en) off = absurd (wrong_state old.up up off)
@@ -208,7 +219,7 @@ down_is_silent dealer n i ever old out new (Moves.learns slot command up chosen 
 down_is_silent dealer n i ever old out new (Moves.believes sender slot command up here eo en) off = absurd (wrong_state old.up up off)
 down_is_silent dealer n i ever old out new (Moves.tells slot command up knows eo en) off = absurd (wrong_state old.up up off)
 down_is_silent dealer n i ever old out new (Moves.asks slot up eo en) off = absurd (wrong_state old.up up off)
-down_is_silent dealer n i ever old out new (Moves.forwards seat act up said eo en) off = absurd (wrong_state old.up up off)
+down_is_silent dealer n i ever old out new (Moves.forwards act up said eo en) off = absurd (wrong_state old.up up off)
 down_is_silent dealer n i ever old out new (Moves.shows commands reader text up knows further is eo en) off = absurd (wrong_state old.up up off)
 down_is_silent dealer n i ever old out new (Moves.stops begun up append eo en) off = absurd (wrong_state old.up up off)
 down_is_silent dealer n i ever old out new (Moves.starts store down found eo en) off = (eo, ap (λ v. v.starts) en)

@@ -67,10 +67,10 @@ world_facts dealer n world run = facts_go_on dealer n new_world world (first_fac
 
 -- the world after a move
 abbrev pub after_move : World → ℕ → Output → Node → World
-after_move world i out node = record { nodes = put world.nodes i node; ever = out.sent ++ world.ever; shown = out.shown ++ world.shown }
+after_move world i out node = record { nodes = put world.nodes i node; ever = out.sent ++ world.ever; shown = out.shown ++ world.shown; came = out.came ++ world.came }
 
 pub is_after_move : (world : World) (i : ℕ) (out : Output) (node : Node) → IsAfter world i out node (after_move world i out node)
-is_after_move world i out node = record { moved = put_same world.nodes i node; others = put_other world.nodes i node; ever = refl; shown = refl }
+is_after_move world i out node = record { moved = put_same world.nodes i node; others = put_other world.nodes i node; ever = refl; shown = refl; came = refl }
 
 pub both_after : (old between new : World) (i : ℕ) (earlier later : Output) (middle node : Node) → IsAfter old i earlier middle between
     → IsAfter between i later node new → IsAfter old i (both later earlier) node new
@@ -79,6 +79,7 @@ both_after old between new i earlier later middle node first second = record {
   others = λ j other. second.others j other ∙ first.others j other;
   ever = second.ever ∙ (ap (λ xs. later.sent ++ xs) first.ever ∙ sym (append_assoc later.sent earlier.sent old.ever));
   shown = second.shown ∙ (ap (λ xs. later.shown ++ xs) first.shown ∙ sym (append_assoc later.shown earlier.shown old.shown));
+  came = second.came ∙ (ap (λ xs. later.came ++ xs) first.came ∙ sym (append_assoc later.came earlier.came old.came));
 }
 
 -- a chain of moves of one node reaches a world
@@ -92,6 +93,7 @@ chain_reaches dealer n first world i out node run within (Moves.none o v eo en) 
     others = λ j other. refl;
     ever = ap (λ (o : Output). o.sent ++ world.ever) (sym eo);
     shown = ap (λ (o : Output). o.shown ++ world.shown) (sym eo);
+    came = ap (λ (o : Output). o.came ++ world.came) (sym eo);
   },
 )
 chain_reaches dealer n first world i out node run within (Moves.more earlier between later o v chain move eo) =
@@ -121,4 +123,4 @@ chain_joins dealer n i ever old earlier between later new chain (Moves.more firs
     subst (λ e. Move dealer n i e middle last new) (sym (append_assoc first.sent earlier.sent ever)) move in
     Moves.more (both first earlier) middle last (both later earlier) new joined here
     (ap (λ o. both o earlier) eo
-    ∙ (λ k. record { sent = append_assoc last.sent first.sent earlier.sent k; shown = append_assoc last.shown first.shown earlier.shown k }))
+    ∙ (λ k. record { sent = append_assoc last.sent first.sent earlier.sent k; shown = append_assoc last.shown first.shown earlier.shown k; came = append_assoc last.came first.came earlier.came k }))

@@ -41,7 +41,7 @@ IsNew ever (Accepted sender ballot slot command) =
 IsNew ever (Chosen sender slot command) = Unit {0}
 IsNew ever (Ask sender slot) = Unit {0}
 IsNew ever (Forward sender act) = Unit {0}
-IsNew ever (Said sender seat act) = Unit {0}
+IsNew ever (Said sender act) = Unit {0}
 
 same_command : (ballot : Ballot) (slot : ℕ) (c d : Command) (message : Message) → Accept ballot slot c ≡ message → Accept ballot slot d ≡ message → c ≡ d
 same_command ballot slot c d message e f = cc

@@ -41,9 +41,10 @@ quiet dealer i old out new o v eo en nothing starts shown =
 move_shows : (dealer : Dealer) (n i : ℕ) (ever : List Message) (old : Node) (out : Output) (new : Node) → Move dealer n i ever old out new
     → IsQuiet old out new ⊎ ShowsOne dealer i old out new
 move_shows dealer n i ever old out new (Moves.gets message up here eo en) = quiet dealer i old out new _ _ eo en refl refl refl
-move_shows dealer n i ever old out new (Moves.hears seat before bytes up connected eo en) = quiet dealer i old out new _ _ eo en refl refl refl
+move_shows dealer n i ever old out new (Moves.hears seat bytes up eo en) = quiet dealer i old out new _ _ eo en refl refl refl
 move_shows dealer n i ever old out new (Moves.connects seat up eo en) = quiet dealer i old out new _ _ eo en refl refl refl
 move_shows dealer n i ever old out new (Moves.drops seat up eo en) = quiet dealer i old out new _ _ eo en refl refl refl
+move_shows dealer n i ever old out new (Moves.closes seat up eo en) = quiet dealer i old out new _ _ eo en refl refl refl
 move_shows dealer n i ever old out new (Moves.notes seat bytes before line act up connected knows heard says eo en) = quiet dealer i old out new _ _ eo en refl refl refl
 move_shows dealer n i ever old out new (Moves.begins ballot slot told up own below tells eo en) = quiet dealer i old out new _ _ eo en refl refl refl
 move_shows dealer n i ever old out new (Moves.promises ballot slot told up here below tells eo en) = quiet dealer i old out new _ _ eo en refl refl refl
@@ -55,7 +56,7 @@ move_shows dealer n i ever old out new (Moves.learns slot command up chosen eo e
 move_shows dealer n i ever old out new (Moves.believes sender slot command up here eo en) = quiet dealer i old out new _ _ eo en refl refl refl
 move_shows dealer n i ever old out new (Moves.tells slot command up knows eo en) = quiet dealer i old out new _ _ eo en refl refl refl
 move_shows dealer n i ever old out new (Moves.asks slot up eo en) = quiet dealer i old out new _ _ eo en refl refl refl
-move_shows dealer n i ever old out new (Moves.forwards seat act up said eo en) = quiet dealer i old out new _ _ eo en refl refl refl
+move_shows dealer n i ever old out new (Moves.forwards act up said eo en) = quiet dealer i old out new _ _ eo en refl refl refl
 move_shows dealer n i ever old out new (Moves.shows commands reader text up knows further is eo en) =
     inr (record {
       commands = commands;

@@ -19,7 +19,7 @@ IsBacked store (Accepted sender ballot slot command) =
 IsBacked store (Chosen sender slot command) = Unit {0}
 IsBacked store (Ask sender slot) = Unit {0}
 IsBacked store (Forward sender act) = Unit {0}
-IsBacked store (Said sender seat act) = Unit {0}
+IsBacked store (Said sender act) = Unit {0}
 
 -- the store of node i backs all that i ever sent, and holds only what was proposed
 pub record Holds (i : ℕ) (ever : List Message) (store : Store) : Type 0 where
@@ -42,7 +42,7 @@ backed_grows old new (Accepted sender ballot slot command) grows b =
 backed_grows old new (Chosen sender slot command) grows b = tt
 backed_grows old new (Ask sender slot) grows b = tt
 backed_grows old new (Forward sender act) grows b = tt
-backed_grows old new (Said sender seat act) grows b = tt
+backed_grows old new (Said sender act) grows b = tt
 
 pub promised_holds : (i : ℕ) (ever : List Message) (store : Store) (ballot : Ballot) → Below store.promise ballot
     → Holds i ever store → Holds i ever (promised store ballot)
@@ -54,7 +54,7 @@ promised_holds i ever store ballot below holds =
       proposed = λ slot v is. ((holds.proposed slot v is).0, at_most_trans v.ballot store.promise ballot (holds.proposed slot v is).1 higher);
     }
 
-some_vote : (v w : Vote) → Some v ≡ Some w → v ≡ w
+pub some_vote : (v w : Vote) → Some v ≡ Some w → v ≡ w
 some_vote v w e = cc
 
 pub voted_holds : (i : ℕ) (ever : List Message) (store : Store) (slot : ℕ) (v : Vote) → AtMost store.promise v.ballot

@@ -1,7 +1,6 @@
 -- A run stays one where more deals are a node's own.
-use Rattle.std.proofs.Common.{◌≡◌, ℕ, inl, inr, Bool, true, List}
+use Rattle.std.proofs.Common.{ℕ, inl, inr, Bool, List}
 use Rattle.slot_log.specs.declared.command.Command.{Command}
-use Rattle.slot_log.specs.declared.command.Command.TheVariants.{Deal, Act}
 use Rattle.paxos_wire.specs.declared.ballot.Ballot.{Ballot}
 use Rattle.protocol_model.specs.Messages.{Message}
 use Rattle.protocol_model.specs.Dealers.{Dealer}
@@ -14,8 +13,8 @@ use Rattle.protocol_model.specs.Laws.{with_own, OwnsMore}
 
 at_hand_widens : (dealer : Dealer) (wider : ℕ → Command → Bool) (i : ℕ) (node : Node) (command : Command) → OwnsMore dealer wider
     → IsAtHand dealer i node command → IsAtHand (with_own dealer wider) i node command
-at_hand_widens dealer wider i node (Deal hand deal) more at_hand = more i (Deal hand deal) at_hand
-at_hand_widens dealer wider i node (Act hand index action) more at_hand = at_hand
+at_hand_widens dealer wider i node command more (inl own) = inl (more i command own)
+at_hand_widens dealer wider i node command more (inr at_hand) = inr at_hand
 
 may_propose_widens : (dealer : Dealer) (wider : ℕ → Command → Bool) (n i : ℕ) (node : Node) (ballot : Ballot) (slot : ℕ) (command : Command) → OwnsMore dealer wider
     → MayPropose dealer n i node ballot slot command → MayPropose (with_own dealer wider) n i node ballot slot command
@@ -26,9 +25,10 @@ may_propose_widens dealer wider n i node ballot slot command more (inr free) =
 move_widens : (dealer : Dealer) (wider : ℕ → Command → Bool) (n i : ℕ) (ever : List Message) (old : Node) (out : Output) (new : Node) → OwnsMore dealer wider
     → Move dealer n i ever old out new → Move (with_own dealer wider) n i ever old out new
 move_widens dealer wider n i ever old out new owns (Moves.gets message up here eo en) = Moves.gets message up here eo en
-move_widens dealer wider n i ever old out new owns (Moves.hears seat before bytes up connected eo en) = Moves.hears seat before bytes up connected eo en
+move_widens dealer wider n i ever old out new owns (Moves.hears seat bytes up eo en) = Moves.hears seat bytes up eo en
 move_widens dealer wider n i ever old out new owns (Moves.connects seat up eo en) = Moves.connects seat up eo en
 move_widens dealer wider n i ever old out new owns (Moves.drops seat up eo en) = Moves.drops seat up eo en
+move_widens dealer wider n i ever old out new owns (Moves.closes seat up eo en) = Moves.closes seat up eo en
 move_widens dealer wider n i ever old out new owns (Moves.notes seat bytes before line act up connected knows heard says eo en) = Moves.notes seat bytes before line act up connected knows heard says eo en
 move_widens dealer wider n i ever old out new owns (Moves.begins ballot slot told up own below tells eo en) = Moves.begins ballot slot told up own below tells eo en
 move_widens dealer wider n i ever old out new owns (Moves.promises ballot slot told up here below tells eo en) = Moves.promises ballot slot told up here below tells eo en
@@ -40,7 +40,7 @@ move_widens dealer wider n i ever old out new owns (Moves.learns slot command up
 move_widens dealer wider n i ever old out new owns (Moves.believes sender slot command up here eo en) = Moves.believes sender slot command up here eo en
 move_widens dealer wider n i ever old out new owns (Moves.tells slot command up knows eo en) = Moves.tells slot command up knows eo en
 move_widens dealer wider n i ever old out new owns (Moves.asks slot up eo en) = Moves.asks slot up eo en
-move_widens dealer wider n i ever old out new owns (Moves.forwards seat act up said eo en) = Moves.forwards seat act up said eo en
+move_widens dealer wider n i ever old out new owns (Moves.forwards act up said eo en) = Moves.forwards act up said eo en
 move_widens dealer wider n i ever old out new owns (Moves.shows commands reader text up knows more shown eo en) = Moves.shows commands reader text up knows more shown eo en
 move_widens dealer wider n i ever old out new owns (Moves.stops begun up append eo en) = Moves.stops begun up append eo en
 move_widens dealer wider n i ever old out new owns (Moves.starts store down found eo en) = Moves.starts store down found eo en

@@ -1,18 +1,18 @@
 -- What the protocol has to know of the dealer whose commands it orders. Lists of commands have the newest first.
-use Rattle.std.specs.Prelude.{◌≡◌, ℕ, ◌⊎◌, Bool, true, Option, Some, List, [], ◌∷◌, ◌++◌}
+use Rattle.std.specs.Prelude.{◌≡◌, ◌≢◌, ℕ, ◌⊎◌, Bool, true, Option, Some, List, [], ◌∷◌, ◌++◌}
+use Rattle.std.specs.List.{AllByRecursion}
 use Rattle.slot_log.specs.declared.command.Command.{Command}
-use Rattle.protocol_model.specs.Sets.{In}
 
 pub record Dealer : Type 0 where
   -- the command takes effect after these
   pub fits : List Command → Command → Bool
-  -- the command is this node's own deal
+  -- the command is this node's own
   pub own : ℕ → Command → Bool
   -- the line that the seat is shown after these; none before the first deal
   pub line : List Command → ℕ → Option (List ℕ)
   -- the whole log after these
   pub log : List Command → List ℕ
-  -- after these, this line of the seat, without its end, says the act
+  -- after these, this line of the seat, without its line feed, says the command
   pub says : List Command → ℕ → List ℕ → Command → Bool
 
 -- each command takes effect after those before it
@@ -30,16 +30,18 @@ abbrev pub text_of : Dealer → List Command → Reader → Option (List ℕ)
 text_of dealer commands (Seat seat) = dealer.line commands seat
 text_of dealer commands Log = Some (dealer.log commands)
 
--- nothing stands before a line, or another line's end does
+-- no line feed stands among the bytes
+abbrev pub HasNoFeed : List ℕ → Type 0
+HasNoFeed bytes = AllByRecursion (λ byte. byte ≢ 10) bytes
+
+-- nothing stands before a line, or another line's line feed does
 abbrev pub IsLineStart : List ℕ → Type 0
 IsLineStart before = (before ≡ []) ⊎ ((front : List ℕ) × (before ≡ front ++ 10 ∷ []))
 
--- LF, or CR and LF
-abbrev pub IsLineEnd : List ℕ → Type 0
-IsLineEnd bytes = (bytes ≡ 10 ∷ []) ⊎ (bytes ≡ 13 ∷ 10 ∷ [])
-
--- the bytes, oldest first, hold the whole line
-abbrev pub HasLine : List ℕ → List ℕ → Type 0
-HasLine bytes line =
-    (before : List ℕ) × (ending : List ℕ) × (after : List ℕ) × (bytes ≡ before ++ (line ++ (ending ++ after)))
-    × IsLineStart before × IsLineEnd ending × (In 10 line → ⊥)
+-- the bytes, oldest first, hold the whole line, with its line feed behind it; what a carriage return at its end says is the dealer's to know
+pub record HasLine (bytes line : List ℕ) : Type 0 where
+  pub before : List ℕ
+  pub after : List ℕ
+  pub whole : bytes ≡ before ++ (line ++ 10 ∷ after)
+  pub starts : IsLineStart before
+  pub one_line : HasNoFeed line

@@ -1,14 +1,15 @@
 -- What holds in every run.
-use Rattle.std.specs.Prelude.{◌≡◌, ℕ, ◌<◌, ◌≤◌, ◌⊎◌, true, false, Some, List, [], ◌∷◌, length, Bool, None}
+use Rattle.std.specs.Prelude.{◌≡◌, ℕ, suc, ◌<◌, ◌≤◌, ◌⊎◌, true, false, Some, List, [], ◌∷◌, ◌++◌, length, Bool, None}
 use Rattle.slot_log.specs.declared.command.Command.{Command}
-use Rattle.slot_log.specs.declared.command.Command.TheVariants.{Deal, Act}
 use Rattle.protocol_model.specs.Sets.{In, IsBeginning}
 use Rattle.protocol_model.specs.Quorums.{AreChosen}
 use Rattle.protocol_model.specs.Stores.{Store, Append}
 use Rattle.protocol_model.specs.Dealers.{Dealer, AllFit, text_of, HasLine}
 use Rattle.protocol_model.specs.Nodes.{Node}
+use Rattle.protocol_model.specs.Messages.{Message}
+use Rattle.protocol_model.specs.Arrivals.{Arrival, heard_in, started_below}
 use Rattle.protocol_model.specs.Moves.{Shown}
-use Rattle.protocol_model.specs.Worlds.{World, Run, Reached}
+use Rattle.protocol_model.specs.Worlds.{World, Run}
 
 -- the text is what its reader is shown after a beginning of the commands
 abbrev pub IsOfBeginning : Dealer → List Command → Shown → Type 0
@@ -30,27 +31,39 @@ pub record OneDealer (dealer : Dealer) (n : ℕ) (world : World) : Type 0 where
   pub shown : (shown : Shown) → In shown world.shown → IsOfBeginning dealer commands shown
   pub forward : NeverGoesBack world.shown
 
--- the act was said: at some moment of the run a node's bytes of a seat, since it connected there, held a whole line that says it, after commands that were chosen by then
-pub record WasSaid (dealer : Dealer) (n : ℕ) (world : World) (act : Command) : Type 0 where
-  pub moment : World
-  pub reached : Reached dealer n moment
-  pub goes_on : Run dealer n moment world
+-- a moment of a history: these messages had been sent and these arrivals had come, and the others were sent and came later
+pub record IsMoment (ever : List Message) (came : List Arrival) (sent : List Message) (earlier : List Arrival) : Type 0 where
+  pub sent_later : List Message
+  pub all_sent : ever ≡ sent_later ++ sent
+  pub came_later : List Arrival
+  pub all_came : came ≡ came_later ++ earlier
+  -- by what each arrival tells of how much had been sent
+  pub no_sooner : (arrival : Arrival) → In arrival earlier → arrival.sent ≤ length sent
+  pub no_later : (arrival : Arrival) → In arrival came_later → length sent ≤ arrival.sent
+
+-- the command was said: at some moment the bytes that had come of a seat, since it connected to a node, held a whole line that says it, after commands that were chosen by then
+pub record WasSaid (dealer : Dealer) (n : ℕ) (ever : List Message) (came : List Arrival) (command : Command) : Type 0 where
+  pub sent : List Message
+  pub earlier : List Arrival
+  pub moment : IsMoment ever came sent earlier
   pub node : ℕ
   pub is_node : node < n
-  pub up : (moment.nodes node).up ≡ true
   pub seat : ℕ
-  pub before : List Command
-  pub chosen : AreChosen n moment.ever before
   pub bytes : List ℕ
-  pub connected : (moment.nodes node).heard seat ≡ Some bytes
+  pub connected : heard_in earlier node seat ≡ Some bytes
   pub line : List ℕ
   pub heard : HasLine bytes line
-  pub says : dealer.says before seat line act ≡ true
+  pub before : List Command
+  pub chosen : AreChosen n sent before
+  pub says : dealer.says before seat line command ≡ true
 
--- where a command comes from: a deal is some node's own, an act was said
-abbrev pub HasOrigin : Dealer → ℕ → World → Command → Type 0
-HasOrigin dealer n world (Deal hand deal) = (node : ℕ) × (node < n) × (dealer.own node (Deal hand deal) ≡ true)
-HasOrigin dealer n world (Act hand index action) = WasSaid dealer n world (Act hand index action)
+-- some node owns it
+abbrev pub IsOwned : Dealer → ℕ → Command → Type 0
+IsOwned dealer n command = (node : ℕ) × (node < n) × (dealer.own node command ≡ true)
+
+-- where a command comes from: some node owns it, or it was said
+abbrev pub HasOrigin : Dealer → ℕ → List Message → List Arrival → Command → Type 0
+HasOrigin dealer n ever came command = IsOwned dealer n command ⊎ WasSaid dealer n ever came command
 
 -- what a start finds of the node where its run ends here, at any moment, inside an append too
 abbrev pub IsLeft : ℕ → Node → Store → Type 0
@@ -58,23 +71,25 @@ IsLeft i node store =
     ((node.up ≡ true) × Append i node.has node.store store)
     ⊎ ((node.up ≡ false) × ((store ≡ node.store) ⊎ (store ≡ node.begun)))
 
--- a node that has just been started with this store
-pub record IsStarted (node : Node) (found : Store) : Type 0 where
-  pub store : node.store ≡ found
-  pub begun : node.begun ≡ found
-  pub up : node.up ≡ true
-  pub has : node.has ≡ []
-  pub sent : node.sent ≡ []
-  pub known : node.known ≡ []
-  pub shown : node.shown ≡ 0
-  pub heard : (seat : ℕ) → node.heard seat ≡ None
+-- the node has just been started anew, with this store
+pub record IsStarted (old : Node) (found : Store) (new : Node) : Type 0 where
+  pub store : new.store ≡ found
+  pub begun : new.begun ≡ found
+  pub up : new.up ≡ true
+  pub starts : new.starts ≡ suc old.starts
+  pub has : new.has ≡ []
+  pub sent : new.sent ≡ []
+  pub known : new.known ≡ []
+  pub shown : new.shown ≡ 0
+  pub heard : (seat : ℕ) → new.heard seat ≡ None
 
 -- the run goes on with all nodes started anew, with these stores
 pub record IsOpened (dealer : Dealer) (n : ℕ) (earlier : World) (stores : ℕ → Store) (opened : World) : Type 0 where
   pub run : Run dealer n earlier opened
   pub ever : opened.ever ≡ earlier.ever
   pub shown : opened.shown ≡ earlier.shown
-  pub nodes : (i : ℕ) → i < n → IsStarted (opened.nodes i) (stores i)
+  pub came : opened.came ≡ started_below n (length earlier.ever) ++ earlier.came
+  pub nodes : (i : ℕ) → i < n → IsStarted (earlier.nodes i) (stores i) (opened.nodes i)
 
 -- the same dealer, with other deals being a node's own
 abbrev pub with_own : Dealer → (ℕ → Command → Bool) → Dealer

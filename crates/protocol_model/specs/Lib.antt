@@ -4,8 +4,11 @@ pub mod Messages
 pub mod Frames
 pub mod Quorums
 pub mod Stores
+pub mod Backing
 pub mod Dealers
 pub mod Nodes
+pub mod Arrivals
 pub mod Moves
+pub mod Calls
 pub mod Worlds
 pub mod Laws

@@ -31,10 +31,10 @@ pub data Message : Type 0 where
   Chosen : (sender : ℕ) (slot : ℕ) (command : Command) → Message
   -- the sender asks for what was chosen from the slot on
   Ask : (sender : ℕ) (slot : ℕ) → Message
-  -- the sender passes on an act that a seat said to it
-  Forward : (sender : ℕ) (act : Command) → Message
-  -- the sender's note to itself that the seat said the act: no frame carries it
-  Said : (sender : ℕ) (seat : ℕ) (act : Command) → Message
+  -- the sender passes on a command that was said to it
+  Forward : (sender : ℕ) (command : Command) → Message
+  -- the sender's note to itself that the command was said to it: no frame carries it
+  Said : (sender : ℕ) (command : Command) → Message
 
 abbrev pub sender_of : Message → ℕ
 sender_of (Prepare ballot slot) = ballot.node
@@ -44,8 +44,8 @@ sender_of (Accept ballot slot command) = ballot.node
 sender_of (Accepted sender ballot slot command) = sender
 sender_of (Chosen sender slot command) = sender
 sender_of (Ask sender slot) = sender
-sender_of (Forward sender act) = sender
-sender_of (Said sender seat act) = sender
+sender_of (Forward sender command) = sender
+sender_of (Said sender command) = sender
 
 -- what is said of a first slot covers 64 slots
 abbrev pub Covers : ℕ → ℕ → Type 0

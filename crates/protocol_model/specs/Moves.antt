@@ -1,8 +1,8 @@
 -- What one node may do, seen from that node and from all that was ever sent.
 use Rattle.std.specs.Prelude.{◌≡◌, ℕ, suc, ◌≤◌, ◌⊎◌, true, false, Some, List, [], ◌∷◌, ◌++◌, length, None}
+use Rattle.std.specs.Option.{option_map}
 use Rattle.paxos_wire.specs.declared.ballot.Ballot.{Ballot}
 use Rattle.slot_log.specs.declared.command.Command.{Command}
-use Rattle.slot_log.specs.declared.command.Command.TheVariants.{Deal, Act}
 use Rattle.protocol_model.specs.Sets.{In, put}
 use Rattle.protocol_model.specs.Ballots.{Below, AtMost}
 use Rattle.paxos_wire.specs.declared.entry.Entry.{Entry}
@@ -11,6 +11,7 @@ use Rattle.protocol_model.specs.Quorums.{IsChosen, IsFree, IsGreatestTold}
 use Rattle.protocol_model.specs.Stores.{Store, promised, voted, Tells, Append}
 use Rattle.protocol_model.specs.Dealers.{Dealer, Reader, text_of, HasLine}
 use Rattle.protocol_model.specs.Nodes.{Node, Knows}
+use Rattle.protocol_model.specs.Arrivals.{Arrival, Event, Started, Connected, Dropped, Closed, Came}
 
 -- a text that a node showed: a line to a seat, or its log of this start as it then stood
 pub record Shown : Type 0 where
@@ -25,16 +26,22 @@ pub record Shown : Type 0 where
 pub record Output : Type 0 where
   pub sent : List Message
   pub shown : List Shown
+  -- what came to the node from outside
+  pub came : List Arrival
 
 abbrev pub nothing : Output
-nothing = record { sent = []; shown = [] }
+nothing = record { sent = []; shown = []; came = [] }
 
 abbrev pub sending : Message → Output
-sending message = record { sent = message ∷ []; shown = [] }
+sending message = record { sent = message ∷ []; shown = []; came = [] }
+
+-- the event comes when all this has been sent
+abbrev pub taking : List Message → Event → Output
+taking ever event = record { sent = []; shown = []; came = (record { event = event; sent = length ever }) ∷ [] }
 
 -- the output of moves, after that of earlier ones
 abbrev pub both : Output → Output → Output
-both later earlier = record { sent = later.sent ++ earlier.sent; shown = later.shown ++ earlier.shown }
+both later earlier = record { sent = later.sent ++ earlier.sent; shown = later.shown ++ earlier.shown; came = later.came ++ earlier.came }
 
 abbrev pub with_store : Node → Store → Node
 with_store node store = record node { store = store; begun = store }
@@ -42,12 +49,11 @@ with_store node store = record node { store = store; begun = store }
 abbrev pub with_sent : Node → List Message → Node
 with_sent node messages = record node { sent = messages ++ node.sent }
 
--- where a node may take a command of its own from: a deal is its own; an act was said to it since its start, or passed on to it
+-- where a node may take a command of its own from: it owns it, it was said to it since its start, or passed on to it
 abbrev pub IsAtHand : Dealer → ℕ → Node → Command → Type 0
-IsAtHand dealer i node (Deal hand deal) = dealer.own i (Deal hand deal) ≡ true
-IsAtHand dealer i node (Act hand index action) =
-    ((seat : ℕ) × In (Said i seat (Act hand index action)) node.sent)
-    ⊎ ((sender : ℕ) × In (Forward sender (Act hand index action)) node.has)
+IsAtHand dealer i node command =
+    (dealer.own i command ≡ true)
+    ⊎ (In (Said i command) node.sent ⊎ ((sender : ℕ) × In (Forward sender command) node.has))
 
 -- the command fits after all that the node knows below the slot, which is the first that it doesn't know
 abbrev pub FitsAtFront : Dealer → Node → ℕ → Command → Type 0
@@ -68,21 +74,25 @@ pub data Move (dealer : Dealer) (n i : ℕ) (ever : List Message) (old : Node) (
       → out ≡ nothing → new ≡ record old { has = message ∷ old.has } → Move dealer n i ever old out new
   -- a seat connects, again too: what it said before is forgotten
   connects : (seat : ℕ) → old.up ≡ true
-      → out ≡ nothing → new ≡ record old { heard = put old.heard seat (Some []) } → Move dealer n i ever old out new
+      → out ≡ taking ever (Connected i seat) → new ≡ record old { heard = put old.heard seat (Some []) } → Move dealer n i ever old out new
   -- a seat is dropped
   drops : (seat : ℕ) → old.up ≡ true
-      → out ≡ nothing → new ≡ record old { heard = put old.heard seat None } → Move dealer n i ever old out new
-  -- bytes of a seat that is connected come; those of another are passed over
-  hears : (seat : ℕ) (before bytes : List ℕ) → old.up ≡ true → old.heard seat ≡ Some before
-      → out ≡ nothing → new ≡ record old { heard = put old.heard seat (Some (before ++ bytes)) } → Move dealer n i ever old out new
-  -- it notes an act that a seat said in answer to its line after commands that the node knows
-  notes : (seat : ℕ) (bytes : List ℕ) (before : List Command) (line : List ℕ) (act : Command) → old.up ≡ true → old.heard seat ≡ Some bytes
-      → Knows old.known before → HasLine bytes line → dealer.says before seat line act ≡ true
-      → out ≡ sending (Said i seat act) → new ≡ with_sent old (Said i seat act ∷ []) → Move dealer n i ever old out new
+      → out ≡ taking ever (Dropped i seat) → new ≡ record old { heard = put old.heard seat None } → Move dealer n i ever old out new
+  -- it closes the connection of a seat itself
+  closes : (seat : ℕ) → old.up ≡ true
+      → out ≡ taking ever (Closed i seat) → new ≡ record old { heard = put old.heard seat None } → Move dealer n i ever old out new
+  -- bytes of a seat come; those of a seat that isn't connected are passed over
+  hears : (seat : ℕ) (bytes : List ℕ) → old.up ≡ true
+      → out ≡ taking ever (Came i seat bytes)
+      → new ≡ record old { heard = put old.heard seat (option_map (λ before. before ++ bytes) (old.heard seat)) } → Move dealer n i ever old out new
+  -- it notes a command that a seat said in answer to its line after commands that the node knows
+  notes : (seat : ℕ) (bytes : List ℕ) (before : List Command) (line : List ℕ) (command : Command) → old.up ≡ true → old.heard seat ≡ Some bytes
+      → Knows old.known before → HasLine bytes line → dealer.says before seat line command ≡ true
+      → out ≡ sending (Said i command) → new ≡ with_sent old (Said i command ∷ []) → Move dealer n i ever old out new
   -- it begins a ballot of its own above its promise, and promises it first itself
   begins : (ballot : Ballot) (slot : ℕ) (told : List Entry) → old.up ≡ true
       → ballot.node ≡ i → Below old.store.promise ballot → Tells old.store slot told
-      → out ≡ record { sent = Promise i ballot slot told ∷ Prepare ballot slot ∷ []; shown = [] }
+      → out ≡ record { sent = Promise i ballot slot told ∷ Prepare ballot slot ∷ []; shown = []; came = [] }
       → new ≡ with_sent (with_store old (promised old.store ballot)) (Promise i ballot slot told ∷ Prepare ballot slot ∷ [])
       → Move dealer n i ever old out new
   -- it promises a ballot above its promise, telling what it accepted in the 64 slots
@@ -120,20 +130,20 @@ pub data Move (dealer : Dealer) (n i : ℕ) (ever : List Message) (old : Node) (
   -- it asks for what was chosen
   asks : (slot : ℕ) → old.up ≡ true
       → out ≡ sending (Ask i slot) → new ≡ with_sent old (Ask i slot ∷ []) → Move dealer n i ever old out new
-  -- it passes on an act that was said to it since its start
-  forwards : (seat : ℕ) (act : Command) → old.up ≡ true → In (Said i seat act) old.sent
-      → out ≡ sending (Forward i act) → new ≡ with_sent old (Forward i act ∷ []) → Move dealer n i ever old out new
+  -- it passes on a command that was said to it since its start
+  forwards : (command : Command) → old.up ≡ true → In (Said i command) old.sent
+      → out ≡ sending (Forward i command) → new ≡ with_sent old (Forward i command ∷ []) → Move dealer n i ever old out new
   -- it shows the effect of the first commands that it knows, of no fewer than it showed last
   shows : (commands : List Command) (reader : Reader) (text : List ℕ) → old.up ≡ true
       → Knows old.known commands → old.shown ≤ length commands → text_of dealer commands reader ≡ Some text
-      → out ≡ record { sent = []; shown = record { node = i; start = old.starts; reader = reader; count = length commands; text = text } ∷ [] }
+      → out ≡ record { sent = []; shown = record { node = i; start = old.starts; reader = reader; count = length commands; text = text } ∷ []; came = [] }
       → new ≡ record old { shown = length commands } → Move dealer n i ever old out new
   -- it stops, perhaps in the middle of an append
   stops : (begun : Store) → old.up ≡ true → Append i old.has old.store begun
       → out ≡ nothing → new ≡ record old { begun = begun; up = false } → Move dealer n i ever old out new
   -- it starts with its store alone, in which the append that was begun is made or isn't
   starts : (store : Store) → old.up ≡ false → (store ≡ old.store) ⊎ (store ≡ old.begun)
-      → out ≡ nothing
+      → out ≡ taking ever (Started i)
       → new ≡ record {
         store = store;
         begun = store;

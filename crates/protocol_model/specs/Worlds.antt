@@ -3,6 +3,7 @@ use Rattle.std.specs.Prelude.{◌≡◌, ◌≢◌, ℕ, ◌<◌, List, [], ◌+
 use Rattle.protocol_model.specs.Messages.{Message}
 use Rattle.protocol_model.specs.Dealers.{Dealer}
 use Rattle.protocol_model.specs.Nodes.{Node, new_node}
+use Rattle.protocol_model.specs.Arrivals.{Arrival}
 use Rattle.protocol_model.specs.Moves.{Shown, Output, Move}
 
 pub record World : Type 0 where
@@ -10,6 +11,8 @@ pub record World : Type 0 where
   -- all that was ever sent, and all that was ever shown, newest first
   pub ever : List Message
   pub shown : List Shown
+  -- and all that ever came from outside
+  pub came : List Arrival
 
 -- node i went on to `new` with this output, and nothing else changed
 pub record IsAfter (old : World) (i : ℕ) (out : Output) (node : Node) (new : World) : Type 0 where
@@ -17,6 +20,7 @@ pub record IsAfter (old : World) (i : ℕ) (out : Output) (node : Node) (new : W
   pub others : (j : ℕ) → j ≢ i → new.nodes j ≡ old.nodes j
   pub ever : new.ever ≡ out.sent ++ old.ever
   pub shown : new.shown ≡ out.shown ++ old.shown
+  pub came : new.came ≡ out.came ++ old.came
 
 -- the n nodes may go from the first world to the last, one move of one node after another, in any order
 pub data Run (dealer : Dealer) (n : ℕ) (first : World) : World → Type 0 where
@@ -27,7 +31,7 @@ pub data Run (dealer : Dealer) (n : ℕ) (first : World) : World → Type 0 wher
 
 -- no node was ever started
 abbrev pub new_world : World
-new_world = record { nodes = λ i. new_node; ever = []; shown = [] }
+new_world = record { nodes = λ i. new_node; ever = []; shown = []; came = [] }
 
 abbrev pub Reached : Dealer → ℕ → World → Type 0
 Reached dealer n world = Run dealer n new_world world

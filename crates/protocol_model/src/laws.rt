@@ -1,15 +1,18 @@
-ghost use Rattle.std.specs.Prelude.{◌≡◌, Bool, ℕ, ◌<◌, ◌≤◌, ◌++◌, List, length};
+ghost use Rattle.std.specs.Prelude.{◌≡◌, Bool, ℕ, ◌<◌, ◌≤◌, ◌++◌, ◌↔◌, List, length, Some};
 ghost use Rattle.paxos_wire.specs.declared.ballot.Ballot.{Ballot};
 ghost use Rattle.slot_log.specs.declared.command.Command.{Command};
 ghost use Rattle.protocol_model.specs.Sets.{In, IsBeginning};
-ghost use Rattle.protocol_model.specs.Ballots.{Below};
-ghost use Rattle.protocol_model.specs.Messages.{Message, Accept, Chosen};
+ghost use Rattle.protocol_model.specs.Ballots.{Below, AtMost};
+ghost use Rattle.protocol_model.specs.Messages.{Vote, Message, sender_of, Prepare, Accept, Accepted, Chosen};
 ghost use Rattle.protocol_model.specs.Quorums.{IsChosenIn, IsChosen, AreChosen};
 ghost use Rattle.protocol_model.specs.Dealers.{Dealer};
 ghost use Rattle.protocol_model.specs.Laws.{OneDealer, HasOrigin, IsLeft, IsOpened, with_own, OwnsMore};
 ghost use Rattle.protocol_model.specs.Nodes.{Node};
-ghost use Rattle.protocol_model.specs.Stores.{Store};
-ghost use Rattle.protocol_model.specs.Moves.{Output, both, Chain};
+ghost use Rattle.protocol_model.specs.Stores.{Store, promised, voted, StoreMove};
+ghost use Rattle.protocol_model.specs.Backing.{Backs, HasNoOther, IsWithinPromise, IsAcceptedToo};
+ghost use Rattle.protocol_model.specs.Arrivals.{heard_in, AreInOrder};
+ghost use Rattle.protocol_model.specs.Moves.{Shown, Output, both, Chain};
+ghost use Rattle.protocol_model.specs.Calls.{IsToSeat, lines_in};
 ghost use Rattle.protocol_model.specs.Worlds.{World, IsAfter, Run, Reached};
 
 /// Moves of one node, one after another, lead from a world of a run to a world of the run; and such chains join.
@@ -63,7 +66,7 @@ pub fn known_is_chosen()
 pub fn one_dealer()
     ensures list { (dealer : Dealer) (n : ℕ) (world : World) → Reached dealer n world → OneDealer dealer n world }
     ensures origin { (dealer : Dealer) (n : ℕ) (world : World) (slot : ℕ) (command : Command)
-        → Reached dealer n world → IsChosen n world.ever slot command → HasOrigin dealer n world command }
+        → Reached dealer n world → IsChosen n world.ever slot command → HasOrigin dealer n world.ever world.came command }
 {}
 
 /// A run may end at any moment, inside an append too, and goes on once all nodes are started again with what it left.
@@ -76,7 +79,7 @@ pub fn runs_go_on()
     ensures joins { (dealer : Dealer) (n : ℕ) (first between last : World)
         → Run dealer n first between → Run dealer n between last → Run dealer n first last }
     ensures grows { (dealer : Dealer) (n : ℕ) (first last : World) → Run dealer n first last
-        → IsBeginning first.ever last.ever × IsBeginning first.shown last.shown }
+        → IsBeginning first.ever last.ever × IsBeginning first.shown last.shown × IsBeginning first.came last.came }
 {}
 
 /// A run stays one where more deals count as a node's own.
@@ -86,4 +89,53 @@ pub fn runs_go_on()
 pub fn owners_may_change()
     ensures { (dealer : Dealer) (own : ℕ → Command → Bool) (n : ℕ) (first last : World)
         → OwnsMore dealer own → Run dealer n first last → Run (with_own dealer own) n first last }
+{}
+
+/// What a node accepted was proposed; and in a ballot that a node began since its start it sent every proposal itself,
+/// since then.
+///
+/// So an answer to a proposal that a node hasn't sent yet is never there.
+pub fn answers_have_proposals()
+    ensures proposed { (dealer : Dealer) (n sender : ℕ) (world : World) (ballot : Ballot) (slot : ℕ) (command : Command)
+        → Reached dealer n world → In (Accepted sender ballot slot command) world.ever → In (Accept ballot slot command) world.ever }
+    ensures own { (dealer : Dealer) (n i : ℕ) (world : World) (ballot : Ballot) (first slot : ℕ) (command : Command)
+        → Reached dealer n world → In (Prepare ballot first) (world.nodes i).sent → In (Accept ballot slot command) world.ever
+        → In (Accept ballot slot command) (world.nodes i).sent }
+{}
+
+/// What a store backs it goes on to back, whatever store move its node makes; and each store that a node of a run may
+/// leave, at any moment, backs all that the node ever sent.
+///
+/// A vote keeps what the store backs where the slot has no other vote of its ballot. A proposal alone isn't stored: a
+/// store has its command once its node has accepted it too.
+pub fn backing_lasts()
+    ensures promise { (store : Store) (ballot : Ballot) (message : Message)
+        → Below store.promise ballot → Backs store message → Backs (promised store ballot) message }
+    ensures vote { (store : Store) (slot : ℕ) (vote : Vote) (message : Message)
+        → IsWithinPromise store → AtMost store.promise vote.ballot → HasNoOther store slot vote
+        → Backs store message → Backs (voted store slot vote) message }
+    ensures moves { (node : ℕ) (has : List Message) (old new : Store) (message : Message)
+        → IsWithinPromise old → StoreMove node has old new
+        → ((slot : ℕ) (vote : Vote) → new.votes slot ≡ Some vote → HasNoOther old slot vote)
+        → IsWithinPromise new × (Backs old message → Backs new message) }
+    ensures left { (dealer : Dealer) (n i : ℕ) (world : World) (store : Store) (message : Message)
+        → Reached dealer n world → IsLeft i (world.nodes i) store → In message world.ever → sender_of message ≡ i
+        → IsAcceptedToo world.ever message → Backs store message }
+    ensures within { (dealer : Dealer) (n i : ℕ) (world : World) (store : Store)
+        → Reached dealer n world → IsLeft i (world.nodes i) store → IsWithinPromise store }
+{}
+
+/// What a node hears of a seat is what came from the seat since it connected there, by the list of all that came; and
+/// that list is in order, each arrival telling how much had been sent by then.
+pub fn arrivals_tell()
+    ensures heard { (dealer : Dealer) (n i seat : ℕ) (world : World)
+        → Reached dealer n world → (world.nodes i).heard seat ≡ heard_in world.came i seat }
+    ensures in_order { (dealer : Dealer) (n : ℕ) (world : World)
+        → Reached dealer n world → AreInOrder world.came (length world.ever) }
+{}
+
+/// The lines that a call's moves show come in the moves' order, and no log is among them.
+pub fn lines_follow()
+    ensures joined { (earlier later : Output) → lines_in (both later earlier).shown ≡ lines_in earlier.shown ++ lines_in later.shown }
+    ensures lines { (shown : List Shown) (line : Shown) → In line (lines_in shown) ↔ In line shown × IsToSeat line }
 {}

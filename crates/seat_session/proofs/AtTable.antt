@@ -1,5 +1,5 @@
 -- What a line of the game says at a table.
-use Rattle.std.proofs.Common.{◌≡◌, ℕ, ◌≤◌, Bool, true, false, List, [], ◌∷◌, ◌++◌, length, reverse, Option, Some, None, Ok, refl, sym, ◌∙◌, ap, arith}
+use Rattle.std.proofs.Common.{◌≡◌, ℕ, ◌≤◌, Bool, true, false, List, [], ◌∷◌, ◌++◌, length, reverse, Option, Some, None, Result, Ok, Err, IfSome, IfOk, refl, sym, ◌∙◌, ap, arith}
 use Rattle.std.specs.Prelude.{codes, decimal}
 use Rattle.std.specs.List.{slice_get}
 use Rattle.std.specs.Option.{option_map}
@@ -12,13 +12,18 @@ use Rattle.betting.specs.Turns.{Turn}
 use Rattle.betting.specs.Rounds.{turns, to_act, over}
 use Rattle.betting.specs.Legal.{fault_of}
 use Rattle.betting.specs.Laws.{AllowedWithoutFault}
-use Rattle.slot_log.specs.Hand.{Hand}
+use Rattle.slot_log.specs.Hand.{Hand, Match}
+use Rattle.slot_log.specs.Range.{IsInRange}
+use Rattle.slot_log.specs.declared.command.Command.{Command}
 use Rattle.slot_log.specs.Dealer.{is_finished, finished_count, hand_at, Fits}
 use Rattle.slot_log.specs.declared.command.Command.TheVariants.{Act}
 use Rattle.matchstate.specs.Line.{IsLine, line_text}
 use Rattle.matchstate.specs.View.{View, view_of, position_of, seat_view}
 use Rattle.matchstate.specs.Answer.{AnswerReadsAs}
-use Rattle.seat_session.specs.Saying.{Echoes, SaysAct}
+use Rattle.seat_session.specs.Saying.{Echoes, SaysAct, SaidFits, IsSaidInRange}
+use Rattle.seat_session.specs.declared.said.Said.{Said}
+use Rattle.seat_session.specs.declared.said.Said.TheVariants.{Ready, Act as Says}
+use Rattle.seat_session.specs.declared.session_fault.SessionFault.{SessionFault}
 
 -- a line that says a view is the view's one text
 pub line_is : (game : Game) (line : List ℕ) (view : View) → IsLine game line view → line ≡ line_text view
@@ -125,3 +130,11 @@ says_act game hands seat text view action hand index reads current turn law faul
   same_hand = same_hand;
   next_index = next_index;
 }
+
+-- what is said fits the table, and so its numbers are in their ranges
+pub said_in_range : (table : Match) (answer : Option (Result Said SessionFault)) → ((command : Command) → Fits table.game table.count table.hands command → IsInRange command)
+    → IfSome answer (λ said. IfOk said (λ s. SaidFits table s)) → IfSome answer (λ said. IfOk said (λ s. IsSaidInRange s))
+said_in_range table None range fits = tt
+said_in_range table (Some (Err fault)) range fits = tt
+said_in_range table (Some (Ok Ready)) range fits = tt
+said_in_range table (Some (Ok (Says command))) range fits = range command fits

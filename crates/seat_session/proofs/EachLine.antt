@@ -7,7 +7,7 @@ use Rattle.game_def.specs.Game.{Game}
 use Rattle.slot_log.specs.Hand.{Hand}
 use Rattle.seat_session.specs.Lines.{HasNoFeed, BeginsWith, text_of}
 use Rattle.seat_session.specs.Skipped.{is_skipped, IsSkippedLine, on_stream, Skips}
-use Rattle.seat_session.specs.Session.{Standing, is_closed, after_line, Hears, AnswersOpen, Answers}
+use Rattle.seat_session.specs.Session.{Standing, is_closed, after_line, FrontSays, Hears, AnswersOpen, Answers}
 use Rattle.seat_session.specs.Laws.{Event, fed, asked, joined, given, Happens}
 use Rattle.seat_session.specs.declared.phase.Phase.{Phase}
 use Rattle.seat_session.specs.declared.phase.Phase.TheVariants.{Greeting, Ready, Closed}
@@ -16,23 +16,16 @@ use Rattle.seat_session.specs.declared.session_fault.SessionFault.{SessionFault}
 use Rattle.seat_session.specs.declared.session_fault.SessionFault.TheVariants.{BadVersion, LineTooLong, Malformed, NotCurrent, NotYourTurn, Illegal}
 use Rattle.seat_session.proofs.Heard.{standing}
 use Rattle.seat_session.proofs.Skipping.{on_stream-append}
-use Rattle.seat_session.specs.EachLine.{EachLineAnswered}
+use Rattle.seat_session.specs.EachLine.{HasLines, EachLineAnswered, NextLineAnswered}
 
 -- how many of the lines aren't skipped
 abbrev counted : List (List ℕ) → ℕ
 counted lines = count_by (λ line. not (is_skipped (text_of line))) lines
 
--- the stream is whole lines, so many of which aren't skipped, and then the rest
-record Takes (stream rest : List ℕ) (count : ℕ) : Type 0 where
-  lines : List (List ℕ)
-  each : AllByRecursion HasNoFeed lines
-  whole : stream ≡ on_stream lines ++ rest
-  counts : count ≡ counted lines
-
-takes_none : (stream rest : List ℕ) → stream ≡ rest → Takes stream rest 0
+takes_none : (stream rest : List ℕ) → stream ≡ rest → HasLines stream rest 0
 takes_none stream rest same = record { lines = []; each = tt; whole = same; counts = refl }
 
-takes_skipped : (stream rest : List ℕ) → Skips stream rest → Takes stream rest 0
+takes_skipped : (stream rest : List ℕ) → Skips stream rest → HasLines stream rest 0
 takes_skipped stream rest skips = record { lines = skips.lines; each = clear skips.lines skips.each; whole = skips.joined; counts = none skips.lines skips.each }
   where
     clear : (lines : List (List ℕ)) → AllByRecursion IsSkippedLine lines → AllByRecursion HasNoFeed lines
@@ -43,7 +36,7 @@ takes_skipped stream rest skips = record { lines = skips.lines; each = clear ski
     none [] each = refl
     none (line ∷ lines) each = let others = none lines each.1 in rw each.0.skipped others
 
-takes_line : (stream line rest : List ℕ) → BeginsWith stream line rest → is_skipped (text_of line) ≡ false → Takes stream rest 1
+takes_line : (stream line rest : List ℕ) → BeginsWith stream line rest → is_skipped (text_of line) ≡ false → HasLines stream rest 1
 takes_line stream line rest begins plain = record {
   lines = line ∷ [];
   each = (begins.breaks.one_line, tt);
@@ -58,7 +51,7 @@ joined_lines (x ∷ xs) ys each others = (each.0, joined_lines xs ys each.1 othe
 joined_count : (xs ys : List (List ℕ)) → counted (xs ++ ys) ≡ counted xs + counted ys
 joined_count xs ys = sum_by-append (λ line. cond (not (is_skipped (text_of line))) 1 0) xs ys
 
-takes_on : (first second third : List ℕ) (count more sum : ℕ) → sum ≡ count + more → Takes first second count → Takes second third more → Takes first third sum
+takes_on : (first second third : List ℕ) (count more sum : ℕ) → sum ≡ count + more → HasLines first second count → HasLines second third more → HasLines first third sum
 takes_on first second third count more sum adds one two = record {
   lines = one.lines ++ two.lines;
   each = joined_lines one.lines two.lines one.each two.each;
@@ -68,7 +61,7 @@ takes_on first second third count more sum adds one two = record {
 }
 
 -- what comes later is no matter
-takes_before : (stream rest more : List ℕ) (count : ℕ) → Takes stream rest count → Takes (stream ++ more) (rest ++ more) count
+takes_before : (stream rest more : List ℕ) (count : ℕ) → HasLines stream rest count → HasLines (stream ++ more) (rest ++ more) count
 takes_before stream rest more count takes = record {
   lines = takes.lines;
   each = takes.each;
@@ -94,7 +87,7 @@ open_at_end game seat fault waiting events new happens unclosed =
 
 -- what waited and what came is what was taken, a line for each answer, and what waits
 abbrev TakesAll : List ℕ → List Event → Standing → Type 0
-TakesAll waiting events new = Takes (waiting ++ joined events) new.waiting (length (given events))
+TakesAll waiting events new = HasLines (waiting ++ joined events) new.waiting (length (given events))
 
 behind_line : (game : Game) (seat : ℕ) (said : Result Said SessionFault) (behind : List ℕ) (events : List Event) (new : Standing)
     → Happens game seat (after_line said behind) events new → is_closed new.phase ≡ false → after_line said behind ≡ standing Ready behind
@@ -112,7 +105,7 @@ skipped_first waiting between events new skips takes =
     (takes_before waiting between.waiting (joined events) 0 (takes_skipped waiting between.waiting skips)) takes
 
 line_first : (game : Game) (hands : List Hand) (seat : ℕ) (old : Standing) (said : Result Said SessionFault) (between : Standing) (events : List Event) (new : Standing)
-    → (hears : Hears game hands seat old said between) → TakesAll hears.line.behind events new → Takes (old.waiting ++ joined events) new.waiting (suc (length (given events)))
+    → (hears : Hears game hands seat old said between) → TakesAll hears.line.behind events new → HasLines (old.waiting ++ joined events) new.waiting (suc (length (given events)))
 line_first game hands seat old said between events new hears takes =
     let skipped = takes_skipped old.waiting hears.rest hears.skips in
     let line = takes_line hears.rest hears.line.line hears.line.behind hears.line.begins hears.counts in
@@ -122,7 +115,7 @@ line_first game hands seat old said between events new hears takes =
 front_first : (game : Game) (hands : List Hand) (seat : ℕ) (phase : Phase) (waiting : List ℕ) (said : Result Said SessionFault) (between : Standing) (events : List Event) (new : Standing)
     → ((behind : List ℕ) → Happens game seat (standing Ready behind) events new → TakesAll behind events new)
     → AnswersOpen game hands seat (standing phase waiting) (Some said) between → Happens game seat between events new → is_closed new.phase ≡ false
-    → Takes (waiting ++ joined events) new.waiting (suc (length (given events)))
+    → HasLines (waiting ++ joined events) new.waiting (suc (length (given events)))
 front_first game hands seat phase waiting said between events new later (inl over) happens unclosed =
     open_at_end game seat LineTooLong [] events new (subst (λ (s : Standing). Happens game seat s events new) over.closed happens) unclosed
 front_first game hands seat phase waiting said between events new later (inr hears) happens unclosed =
@@ -136,9 +129,9 @@ all_taken : (game : Game) (seat : ℕ) (phase : Phase) (waiting : List ℕ) (eve
 all_taken game seat phase waiting [] new happens unclosed =
     takes_none (waiting ++ []) new.waiting (append-nil waiting ∙ ap (λ (s : Standing). s.waiting) (sym happens))
 all_taken game seat Greeting waiting (fed piece ∷ events) new happens unclosed =
-    subst (λ (l : List ℕ). Takes l new.waiting (length (given events))) (append_assoc waiting piece (joined events)) (all_taken game seat Greeting (waiting ++ piece) events new happens unclosed)
+    subst (λ (l : List ℕ). HasLines l new.waiting (length (given events))) (append_assoc waiting piece (joined events)) (all_taken game seat Greeting (waiting ++ piece) events new happens unclosed)
 all_taken game seat Ready waiting (fed piece ∷ events) new happens unclosed =
-    subst (λ (l : List ℕ). Takes l new.waiting (length (given events))) (append_assoc waiting piece (joined events)) (all_taken game seat Ready (waiting ++ piece) events new happens unclosed)
+    subst (λ (l : List ℕ). HasLines l new.waiting (length (given events))) (append_assoc waiting piece (joined events)) (all_taken game seat Ready (waiting ++ piece) events new happens unclosed)
 all_taken game seat (Closed fault) waiting (fed piece ∷ events) new happens unclosed = open_at_end game seat fault waiting (fed piece ∷ events) new happens unclosed
 all_taken game seat (Closed fault) waiting (asked hands answer ∷ events) new happens unclosed = open_at_end game seat fault waiting (asked hands answer ∷ events) new happens unclosed
 all_taken game seat Greeting waiting (asked hands None ∷ events) new happens unclosed =
@@ -160,5 +153,26 @@ pub each_line_answered : EachLineAnswered
 each_line_answered game seat events hands between new happens answers =
     let vain = asked_in_vain game hands seat between.phase between.waiting new answers in
     let taken = all_taken game seat Greeting [] events between happens vain.0 in
-    let all = takes_on (joined events) between.waiting new.waiting (length (given events)) 0 (length (given events)) (omega arith) taken (takes_skipped between.waiting new.waiting vain.1) in
-    (all.lines, all.each, all.whole, omega (arith, all.counts))
+    takes_on (joined events) between.waiting new.waiting (length (given events)) 0 (length (given events)) (omega arith) taken (takes_skipped between.waiting new.waiting vain.1)
+
+-- ---- the line that is answered next
+
+abbrev Next : Game → List Hand → ℕ → Phase → List ℕ → ℕ → Result Said SessionFault → Type 0
+Next game hands seat phase bytes count said = (rest : List ℕ) × HasLines bytes rest count × FrontSays game hands seat phase rest said
+
+next_open : (game : Game) (hands : List Hand) (seat : ℕ) (bytes : List ℕ) (count : ℕ) (phase : Phase) (waiting : List ℕ) (said : Result Said SessionFault) (new : Standing)
+    → HasLines bytes waiting count → AnswersOpen game hands seat (standing phase waiting) (Some said) new → Next game hands seat phase bytes count said
+next_open game hands seat bytes count phase waiting said new taken (inl over) =
+    (over.rest, takes_on bytes waiting over.rest count 0 count (omega arith) taken (takes_skipped waiting over.rest over.skips), inl over.too_long)
+next_open game hands seat bytes count phase waiting said new taken (inr hears) =
+    (hears.rest, takes_on bytes waiting hears.rest count 0 count (omega arith) taken (takes_skipped waiting hears.rest hears.skips), inr hears.line)
+
+next_in : (game : Game) (hands : List Hand) (seat : ℕ) (bytes : List ℕ) (count : ℕ) (phase : Phase) (waiting : List ℕ) (said : Result Said SessionFault) (new : Standing)
+    → is_closed phase ≡ false → HasLines bytes waiting count → Answers game hands seat (standing phase waiting) (Some said) new → Next game hands seat phase bytes count said
+next_in game hands seat bytes count Greeting waiting said new unclosed taken answers = next_open game hands seat bytes count Greeting waiting said new taken answers
+next_in game hands seat bytes count Ready waiting said new unclosed taken answers = next_open game hands seat bytes count Ready waiting said new taken answers
+next_in game hands seat bytes count (Closed fault) waiting said new unclosed taken answers = absurd (let clash : ◌≡◌ {A = Bool} true false = unclosed in cc)
+
+pub next_line_answered : NextLineAnswered
+next_line_answered game seat events hands between said new happens unclosed answers =
+    next_in game hands seat (joined events) (length (given events)) between.phase between.waiting said new unclosed (all_taken game seat Greeting [] events between happens unclosed) answers

@@ -8,4 +8,5 @@ pub mod OneAnswer
 pub mod SessionExamples
 pub mod RightLines
 pub mod EachLine
+pub mod Progress
 pub mod AnswerPins

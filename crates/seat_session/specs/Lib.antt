@@ -9,3 +9,5 @@ pub mod Skipped
 pub mod Laws
 pub mod RightLines
 pub mod EachLine
+pub mod Feeds
+pub mod Progress

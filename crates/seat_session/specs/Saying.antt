@@ -6,6 +6,7 @@ use Rattle.betting.specs.Rounds.{turns, to_act}
 use Rattle.betting.specs.Legal.{CanAct, fault_of}
 use Rattle.slot_log.specs.Hand.{Hand, Match}
 use Rattle.slot_log.specs.Dealer.{Fits}
+use Rattle.slot_log.specs.Range.{IsInRange}
 use Rattle.slot_log.specs.declared.command.Command.TheVariants.{Deal, Act as Acts}
 use Rattle.matchstate.specs.ActionText.{IsActionText}
 use Rattle.matchstate.specs.Answer.{AnswerReadsAs}
@@ -73,3 +74,8 @@ Says game hands seat (Closed fault) text said = ⊥
 abbrev pub SaidFits : Match → Said → Type 0
 SaidFits table Ready = Unit {0}
 SaidFits table (Act command) = Fits table.game table.count table.hands command
+
+-- its numbers are within the ranges of every match, and so of frames: its hand, its index and its amount
+abbrev pub IsSaidInRange : Said → Type 0
+IsSaidInRange Ready = Unit {0}
+IsSaidInRange (Act command) = IsInRange command

@@ -1,6 +1,6 @@
 /// What stands at the front of a stream of lines.
 #[derive(Clone, Copy, Debug)]
-pub enum Front<'a> {
+pub(crate) enum Front<'a> {
     /// Less than a whole line, and no more bytes than a line may have.
     Partial,
     /// A line's text, without its line end (CR LF or LF).

@@ -2,7 +2,8 @@
 
 ghost use Rattle.seat_session.specs.Laws.{OneAnswer, RunsGoOn, AnyPieces, WholeLines};
 ghost use Rattle.seat_session.specs.RightLines.{RightLinesAct};
-ghost use Rattle.seat_session.specs.EachLine.{EachLineAnswered};
+ghost use Rattle.seat_session.specs.EachLine.{EachLineAnswered, NextLineAnswered};
+ghost use Rattle.seat_session.specs.Progress.{AnswersTakeLines, PiecesAddLines, ReadyComesFirst, ReadyComesOnce};
 
 use betting::laws::allowed_without_fault;
 use matchstate::laws::{a_text_reads_one_way, texts_are_answers};
@@ -44,4 +45,31 @@ pub fn right_lines_act()
 /// A session that is asked until there is no answer has answered each whole line that isn't skipped, once.
 pub fn each_line_answered()
     ensures { EachLineAnswered }
+{}
+
+/// When a session answers, each whole line before that isn't skipped was answered once, and this answer is what the
+/// bytes behind those lines say: so too where it closes the session.
+pub fn next_line_answered()
+    ensures { NextLineAnswered }
+{}
+
+/// Each answer that doesn't close a session takes a line feed of what waits, so a session that is asked until there is
+/// no answer, or until it is closed, gives at most one answer more than line feeds wait.
+pub fn answers_take_lines()
+    ensures { AnswersTakeLines }
+{}
+
+/// A piece adds its line feeds to those that wait.
+pub fn pieces_add_lines()
+    ensures { PiecesAddLines }
+{}
+
+/// A session that says `Ready` wasn't ready before, and every answer leaves it ready or closed.
+pub fn ready_comes_first()
+    ensures { ReadyComesFirst }
+{}
+
+/// `Ready` comes at most once a session.
+pub fn ready_comes_once()
+    ensures { ReadyComesOnce }
 {}

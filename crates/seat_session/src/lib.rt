@@ -1,6 +1,7 @@
 //! What comes from a seat over a connection, in any pieces: lines, and the commands that they give.
 #![tactic(auto)]
 
+mod feeds;
 mod front;
 pub mod laws;
 mod line_buffer;
@@ -11,14 +12,10 @@ mod session;
 mod session_fault;
 mod version;
 
-pub use front::Front;
-pub use line_buffer::LineBuffer;
+pub use feeds::line_feeds;
 pub use said::Said;
 pub use session::Session;
 pub use session_fault::SessionFault;
-pub use version::is_version;
 
-#[cfg(test)]
-mod session_tests;
 #[cfg(test)]
 mod tests;

@@ -1,8 +1,10 @@
 ghost use Rattle.std.specs.Prelude.{◌≡◌, ◌≢◌, ◌+◌, ◌<◌, ◌≤◌, ℕ, List, [], ◌∷◌, ◌++◌, length, drop, MatchOption, OnOk, OnErr, IsTrue, true, false, vec_len, vec_capacity};
+ghost use Rattle.seat_session.specs.Feeds.{line_feeds};
 ghost use Rattle.seat_session.specs.Lines.{HasNoFeed, Breaks, BeginsWith, text_of};
 ghost use Rattle.seat_session.specs.Skipped.{Skips, is_skipped};
 ghost use Rattle.seat_session.specs.Front.{IsFrontOf};
 
+use crate::feeds::line_feeds;
 use crate::front::Front;
 use std::alloc::{AllocError, Global};
 use std::marker::Model;
@@ -14,7 +16,7 @@ const LONGEST_LINE: usize = 4096;
 ///
 /// Contracts see the bytes that weren't taken yet, in order, and the room for more.
 #[derive(Drop)]
-pub struct LineBuffer {
+pub(crate) struct LineBuffer {
     bytes: Vec<u8>,
     taken: usize,
 }
@@ -32,7 +34,7 @@ impl Model for LineBuffer {
 
 impl LineBuffer {
     /// A buffer that nothing came to. It takes no memory.
-    pub fn new(alloc: Global) -> LineBuffer
+    pub(crate) fn new(alloc: Global) -> LineBuffer
         ensures { result.waiting ≡ [] }
     {
         LineBuffer {
@@ -43,8 +45,9 @@ impl LineBuffer {
 
     /// Takes the next piece of the stream, of any length. An `Err` changes nothing; it comes only where
     /// `reserve` would have to grow the buffer.
-    pub fn feed(&mut self, piece: &[u8]) -> Result<(), AllocError>
+    pub(crate) fn feed(&mut self, piece: &[u8]) -> Result<(), AllocError>
         ensures ok { OnOk result (self.new.waiting ≡ self.old.waiting ++ piece.now) }
+        ensures room { self.old.room ≤ self.new.room + length piece.now }
         ensures err { OnErr result (self.new ≡ self.old) }
         ensures full { OnErr result (self.old.room < length piece.now) }
     {
@@ -55,7 +58,7 @@ impl LineBuffer {
 
     /// Makes room for so many bytes more, so that `feed_reserved` takes no memory for them. An `Err`
     /// changes nothing.
-    pub fn reserve(&mut self, more: usize) -> Result<(), AllocError>
+    pub(crate) fn reserve(&mut self, more: usize) -> Result<(), AllocError>
         ensures ok { OnOk result (more ≤ self.new.room) }
         ensures waiting { self.new.waiting ≡ self.old.waiting }
         ensures room { self.old.room ≤ self.new.room }
@@ -68,7 +71,7 @@ impl LineBuffer {
     }
 
     /// Takes the next piece of the stream into room that was reserved for it.
-    pub fn feed_reserved(&mut self, piece: &[u8])
+    pub(crate) fn feed_reserved(&mut self, piece: &[u8])
         requires { length piece.now ≤ self.old.room }
         ensures waiting { self.new.waiting ≡ self.old.waiting ++ piece.now }
         ensures room { self.old.room ≤ self.new.room + length piece.now }
@@ -78,8 +81,15 @@ impl LineBuffer {
         self.bytes.extend_from_slice(piece).unwrap();
     }
 
+    /// How many line feeds stand among the bytes that weren't taken yet.
+    pub(crate) fn line_feeds(&self) -> usize
+        ensures { result ≡ line_feeds self.now.waiting }
+    {
+        line_feeds(self.waiting())
+    }
+
     /// What stands at the front of the bytes that weren't taken yet.
-    pub fn front(&self) -> Front<'_>
+    pub(crate) fn front(&self) -> Front<'_>
         ensures { IsFrontOf self.now.waiting result }
     {
         let waiting = self.waiting();
@@ -91,7 +101,7 @@ impl LineBuffer {
     }
 
     /// Takes all up to the first line feed, and the line feed too. Where none stands there, nothing is taken.
-    pub fn take_line(&mut self)
+    pub(crate) fn take_line(&mut self)
         ensures taken { (line rest : List ℕ) → Breaks self.old.waiting line rest → self.new.waiting ≡ rest }
         ensures none { HasNoFeed self.old.waiting → self.new.waiting ≡ self.old.waiting }
         ensures room { self.old.room ≤ self.new.room }
@@ -120,7 +130,7 @@ impl LineBuffer {
     }
 
     /// Drops all bytes.
-    pub fn clear(&mut self)
+    pub(crate) fn clear(&mut self)
         ensures waiting { self.new.waiting ≡ [] }
         ensures room { self.old.room ≤ self.new.room }
     {

@@ -33,7 +33,7 @@ pub(crate) fn said_in_front(
     }
 }
 
-// What a line that isn't skipped says.
+/// What a line that isn't skipped says.
 fn said_by(text: &[u8], phase: Phase, seat: usize, table: &Table) -> Result<Said, SessionFault>
     requires seat { seat < table.now.game.players }
     requires open { is_closed phase ≡ false }
@@ -47,7 +47,7 @@ fn said_by(text: &[u8], phase: Phase, seat: usize, table: &Table) -> Result<Said
     }
 }
 
-// What the first line says.
+/// What the first line says.
 fn said_first(text: &[u8]) -> Result<Said, SessionFault>
     ensures { Greets text.now result }
 {
@@ -58,7 +58,7 @@ fn said_first(text: &[u8]) -> Result<Said, SessionFault>
     }
 }
 
-// What a line of the game says.
+/// What a line of the game says.
 fn said_in_play(text: &[u8], seat: usize, table: &Table) -> Result<Said, SessionFault>
     requires { seat < table.now.game.players }
     ensures plays { Plays table.now.game table.now.hands seat text.now result }
@@ -86,7 +86,7 @@ fn said_in_play(text: &[u8], seat: usize, table: &Table) -> Result<Said, Session
     }
 }
 
-// The betting of the newest hand, where the view is what the seat sees of it.
+/// The betting of the newest hand, where the view is what the seat sees of it.
 fn current_play<'a>(table: &'a Table, seat: usize, view: &View) -> Option<&'a Play>
     requires seat { seat < table.now.game.players }
     requires game { view.now.game ≡ table.now.game }

@@ -1,6 +1,7 @@
 ghost use Rattle.std.specs.Prelude.{◌≡◌, ◌<◌, ◌≤◌, ◌+◌, ℕ, List, length, false, Err, OnOk, OnErr, IfSome, IfOk};
+ghost use Rattle.seat_session.specs.Feeds.{line_feeds};
 ghost use Rattle.seat_session.specs.Lines.{Breaks};
-ghost use Rattle.seat_session.specs.Saying.{SaidFits};
+ghost use Rattle.seat_session.specs.Saying.{SaidFits, IsSaidInRange};
 ghost use Rattle.seat_session.specs.Session.{fresh, closed_by, with_piece, after_line, is_ready, is_closed, Answers};
 
 use crate::line_buffer::LineBuffer;
@@ -67,12 +68,20 @@ impl Session {
         matches!(self.phase, Phase::Closed(_))
     }
 
+    /// How many line feeds wait: each answer takes one at least, but for an answer that closes the session.
+    pub fn line_feeds(&self) -> usize
+        ensures { result ≡ line_feeds self.now.standing.waiting }
+    {
+        self.lines.line_feeds()
+    }
+
     /// Takes the next piece of what the seat sends, of any length; a closed session keeps nothing of it.
     /// Once `next` gave `None`, at most 4096 bytes wait ahead of it. An `Err` changes nothing; it comes only
     /// where `reserve` would have to take memory.
     pub fn feed(&mut self, piece: &[u8]) -> Result<(), AllocError>
         ensures ok { OnOk result (self.new.standing ≡ with_piece self.old.standing piece.now) }
         ensures seat { self.new.seat ≡ self.old.seat }
+        ensures room { self.old.room ≤ self.new.room + length piece.now }
         ensures err { OnErr result (self.new ≡ self.old) }
         ensures full { OnErr result (self.old.room < length piece.now) }
         ensures open { OnErr result (is_closed self.old.standing.phase ≡ false) }
@@ -115,18 +124,21 @@ impl Session {
     /// allowed action behind the line that the seat has now, sent while it is to act; or the first of these
     /// faults: 82 a line that is no answer in this game, 83 an answer behind another line than the seat has now
     /// (before the first deal every answer is), 84 another seat is to act, or none (as between hands), 85 not
-    /// allowed. 4097 bytes without a line feed are 81, whatever they begin with. 80 and 81 close the session,
+    /// allowed. The command fits the table; its hand is below 10000, its index below 256, and the amount of a raise
+    /// at most 2147483647. 4097 bytes without a line feed are 81, whatever they begin with. 80 and 81 close the session,
     /// which answers them from then on.
     pub fn next(&mut self, table: &Table) -> Option<Result<Said, SessionFault>>
         requires { self.old.seat < table.now.game.players }
         ensures answer { Answers table.now.game table.now.hands self.old.seat self.old.standing result self.new.standing }
         ensures fits { IfSome result (λ answer. IfOk answer (λ said. SaidFits table.now said)) }
+        ensures range { IfSome result (λ answer. IfOk answer (λ said. IsSaidInRange said)) }
         ensures seat { self.new.seat ≡ self.old.seat }
         ensures room { self.old.room ≤ self.new.room }
     {
         if let Phase::Closed(fault) = self.phase {
             return Some(Err(fault));
         }
+        table.limits();
         self.lines.skip_lines();
         let Some(said) = said_in_front(&self.lines, self.phase, self.seat, table) else {
             return None;
@@ -135,7 +147,7 @@ impl Session {
         Some(said)
     }
 
-    // Goes on behind the line in front, or closes, by what the line said.
+    /// Goes on behind the line in front, or closes, by what the line said.
     fn go_on(&mut self, said: &Result<Said, SessionFault>)
         ensures line { (line rest : List ℕ) → Breaks self.old.standing.waiting line rest → self.new.standing ≡ after_line said.now rest }
         ensures too_long { said.now ≡ Err SessionFault.LineTooLong → self.new.standing ≡ closed_by SessionFault.LineTooLong }

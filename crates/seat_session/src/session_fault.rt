@@ -41,7 +41,7 @@ impl SessionFault {
         }
     }
 
-    // Whether it closes the session.
+    /// Whether it closes the session.
     pub(crate) fn closes(self) -> bool
         ensures { result ≡ closes self }
     {

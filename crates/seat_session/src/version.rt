@@ -3,7 +3,7 @@ ghost use Rattle.seat_session.specs.Version.{IsRevision, IsVersion};
 
 /// Whether the line names version 2.0 of the protocol: `VERSION:2.0.` and a revision of 1 to 9 digits
 /// (ACPC protocol 2.0.0). Leading zeros of the revision are allowed.
-pub fn is_version(line: &[u8]) -> bool
+pub(crate) fn is_version(line: &[u8]) -> bool
     ensures { IsTrue result ↔ IsVersion line.now }
 {
     match line.strip_prefix(b"VERSION:2.0.") {

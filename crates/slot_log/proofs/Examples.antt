@@ -1,5 +1,5 @@
 -- Worked lists of commands that pin the dealer's definitions; each computes.
-use Rattle.std.proofs.Common.{◌≡◌, ℕ, ◌<◌, Bool, true, false, List, [], ◌∷◌, Some, None, refl, sym, subst, arith}
+use Rattle.std.proofs.Common.{◌≡◌, ℕ, ◌<◌, ◌≤◌, Bool, true, false, List, [], ◌∷◌, Some, None, refl, sym, subst, arith}
 use Rattle.game_def.specs.Game.{Game}
 use Rattle.betting.specs.declared.action.Action.{Action}
 use Rattle.betting.specs.declared.action.Action.TheVariants.{Fold, Call, Raise}
@@ -9,7 +9,8 @@ use Rattle.betting.specs.Rounds.{is_alone, can_bet_on, ends_round, over, current
 use Rattle.betting.specs.Legal.{limit_to, least_raise, greatest_raise, no_raise, wrong_amount, fault_of_raise, fault_at, fault_of, CanAct}
 use Rattle.slot_log.specs.Hand.{Hand}
 use Rattle.slot_log.specs.Dealer.{hands_of, effect_of, reason_of, Fits, hand_at}
-use Rattle.slot_log.specs.Played.{commands_of, deals_of, IsLegalHand, AreEarlierFinished}
+use Rattle.slot_log.specs.Played.{commands_of, deals_of, IsLegalHand, AreEarlierFinished, AreHands}
+use Rattle.slot_log.specs.Range.{IsInRange}
 use Rattle.slot_log.specs.declared.command.Command.TheVariants.{Deal, Act}
 use Rattle.slot_log.specs.declared.effect.Effect.TheVariants.{Dealt, Acted, HandOver, MatchOver, None as Nothing}
 use Rattle.slot_log.specs.declared.reason.Reason.TheVariants.{MatchDone, NoHand, HandRunning, WrongHand, WrongIndex, WrongCards, Illegal}
@@ -180,3 +181,34 @@ second_deal_does_nothing = refl
 hand_beyond_the_match : hands_of limit_game 1 (commands_of (hand second_deal (Fold ∷ []) ∷ hand first_deal (Fold ∷ []) ∷ [])) ≡ hand first_deal (Fold ∷ []) ∷ []
 unfolding opened
 hand_beyond_the_match = refl
+
+-- ---- hands of a match, and ranges
+
+pub two_hands_of_two : AreHands limit_game 2 (hand second_deal [] ∷ hand first_deal (Fold ∷ []) ∷ [])
+unfolding opened CanAct
+two_hands_of_two = record {
+  legal = (record { card_count = refl; legal = tt }, (record { card_count = refl; legal = (tt, (1, refl, omega arith)) }, tt));
+  earlier_finished = (refl, tt);
+  within = omega arith;
+}
+
+two_hands_of_one : AreHands limit_game 1 (hand second_deal [] ∷ hand first_deal (Fold ∷ []) ∷ []) → ⊥
+two_hands_of_one are = let within : 2 ≤ 1 = are.within in omega arith
+
+last_act_in_range : IsInRange (Act 9999 255 (Raise 2147483647))
+last_act_in_range = (omega arith, omega arith, omega arith)
+
+last_deal_in_range : IsInRange (Deal 9999 first_deal)
+last_deal_in_range = omega arith
+
+hand_above_range : IsInRange (Deal 10000 first_deal) → ⊥
+hand_above_range below = omega arith
+
+hand_of_an_act_above_range : IsInRange (Act 10000 0 Call) → ⊥
+hand_of_an_act_above_range below = let hand : 10000 < 10000 = below.0 in omega arith
+
+index_above_range : IsInRange (Act 0 256 Fold) → ⊥
+index_above_range below = let index : 256 < 256 = below.1 in omega arith
+
+amount_above_range : IsInRange (Act 0 0 (Raise 2147483648)) → ⊥
+amount_above_range below = let amount : 2147483648 ≤ 2147483647 = below.2 in omega arith

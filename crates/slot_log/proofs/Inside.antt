@@ -1,7 +1,8 @@
 -- The hands that a table's fields hold.
-use Rattle.std.proofs.Common.{◌≡◌, ℕ, ◌+◌, Bool, not, eqb, cond, [], ◌∷◌, ◌++◌, map, reverse, length, Option, Some, None, refl, sym, ap, ◌∙◌, subst, IfNone}
+use Rattle.std.proofs.Common.{◌≡◌, ℕ, ◌+◌, ◌≤◌, Bool, true, not, eqb, cond, List, [], ◌∷◌, ◌++◌, map, reverse, length, Option, Some, None, refl, sym, ap, ◌∙◌, subst, IfNone}
 use Rattle.std.specs.List.{AllByRecursion}
 use Rattle.std.specs.Option.{option_to_list}
+use Rattle.game_def.specs.Game.{Game}
 use Rattle.betting.specs.Rounds.{over}
 use Rattle.betting.specs.Betting.{history}
 use Rattle.betting.specs.declared.action.Action.{Action}
@@ -15,7 +16,8 @@ use Rattle.slot_log.specs.TableInside.{hands_in, match_of, IsKept}
 use Rattle.slot_log.specs.PlayedHand.{hand_of, IsOf}
 use Rattle.slot_log.specs.declared.played_hand.PlayedHand.{PlayedHand}
 use Rattle.slot_log.specs.declared.table.Table.TheInside.{Inside}
-use Rattle.slot_log.proofs.Hands.{finished_before, finished_with, length-earlier}
+use Rattle.slot_log.specs.Played.{IsLegalHand, AreEarlierFinished, AreHands}
+use Rattle.slot_log.proofs.Hands.{finished_before, finished_with, length-earlier, hands_from, reverse-cons}
 
 pub none_dealt : (t : Inside) → IsKept t → t.newest ≡ None → hands_in t ≡ []
 none_dealt t kept none =
@@ -83,3 +85,47 @@ module _ (t : Inside) (m : Match) (newest : PlayedHand) (hand index : ℕ) (acti
       let earlier = length-earlier t.earlier.items ∙ sym t.earlier.ok.0 in
       subst (λ (n : Match). act_reason n.game n.hands hand index action ≡ act_chain (over newest.play.game (history newest.play)) (eqb hand t.earlier.len) (eqb index (length newest.play.past)) (option_map Illegal (fault_of newest.play.game (history newest.play) action))) view
       (rw (dealt, earlier, same) refl)
+
+-- ---- what a table's hands are
+
+of_game : (game : Game) (hand : PlayedHand) → IsOf game hand → IsLegalHand game (hand_of hand)
+of_game game hand is = record { card_count = is.dealt.count; legal = is.legal }
+
+all_of : (game : Game) (hands : List PlayedHand) → AllByRecursion (IsOf game) hands → AllByRecursion (IsLegalHand game) (map hand_of hands)
+all_of game [] all = tt
+all_of game (hand ∷ hands) all = (of_game game hand all.0, all_of game hands all.1)
+
+all_joined : {X : Type 0} (P : X → Type 0) (xs ys : List X) → AllByRecursion P xs → AllByRecursion P ys → AllByRecursion P (xs ++ ys)
+all_joined P [] ys first second = second
+all_joined P (x ∷ xs) ys first second = (first.0, all_joined P xs ys first.1 second)
+
+all_reversed : {X : Type 0} (P : X → Type 0) (xs : List X) → AllByRecursion P xs → AllByRecursion P (reverse xs)
+all_reversed P [] all = tt
+all_reversed P (x ∷ xs) all = rw (reverse-cons x xs) (all_joined P (reverse xs) (x ∷ []) (all_reversed P xs all.1) (all.0, tt))
+
+all_finished : (game : Game) (hands : List PlayedHand) → AllByRecursion (λ hand. is_finished game (hand_of hand) ≡ true) hands → AllByRecursion (λ hand. is_finished game hand ≡ true) (map hand_of hands)
+all_finished game [] all = tt
+all_finished game (hand ∷ hands) all = (all.0, all_finished game hands all.1)
+
+earlier_are : (game : Game) (newest : Option PlayedHand) (earlier : List PlayedHand) → IfNone newest (earlier ≡ []) → AllByRecursion (λ hand. is_finished game (hand_of hand) ≡ true) earlier
+    → AreEarlierFinished game (hands_from newest earlier)
+earlier_are game None earlier begun all = rw begun tt
+earlier_are game (Some hand) earlier begun all = all_reversed (λ hand. is_finished game hand ≡ true) (map hand_of earlier) (all_finished game earlier all)
+
+newest_are : (game : Game) (newest : Option PlayedHand) → AllByRecursion (IsOf game) (option_to_list newest) → AllByRecursion (IsLegalHand game) (map hand_of (option_to_list newest))
+newest_are game newest all = all_of game (option_to_list newest) all
+
+pub kept_hands : (t : Inside) → IsKept t → AreHands t.game t.count (hands_in t)
+kept_hands t kept = record {
+  legal = all_joined (IsLegalHand t.game) (map hand_of (option_to_list t.newest)) (reverse (map hand_of t.earlier.items))
+      (newest_are t.game t.newest kept.newest_hand)
+      (all_reversed (IsLegalHand t.game) (map hand_of t.earlier.items) (all_of t.game t.earlier.items kept.earlier_hands));
+  earlier_finished = earlier_are t.game t.newest t.earlier.items kept.begun kept.finished;
+  within = kept.within;
+}
+
+pub seen_hands : (t : Inside) (m : Match) → match_of t ≡ m → IsKept t → AreHands m.game m.count m.hands
+seen_hands t m view kept = subst (λ (n : Match). AreHands n.game n.count n.hands) view (kept_hands t kept)
+
+pub seen_count : (t : Inside) (m : Match) → match_of t ≡ m → IsKept t → m.count ≤ 10000
+seen_count t m view kept = subst (λ (n : Match). n.count ≤ 10000) view kept.most

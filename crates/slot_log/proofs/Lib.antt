@@ -5,3 +5,6 @@ pub mod Inside
 pub mod Begin
 pub mod Played
 pub mod Examples
+mod Ranges
+mod Slotted
+pub mod SlotExamples

@@ -3,4 +3,9 @@ pub mod Dealer
 pub mod PlayedHand
 pub mod TableInside
 pub mod Played
+pub mod Range
 pub mod Laws
+pub mod Fault
+pub mod Slots
+pub mod SlotsInside
+pub mod SlotLaws

@@ -1,5 +1,5 @@
 -- Hands as the commands that make them.
-use Rattle.std.specs.Prelude.{◌≡◌, ℕ, ◌+◌, ◌*◌, true, List, [], ◌∷◌, ◌++◌, length}
+use Rattle.std.specs.Prelude.{◌≡◌, ℕ, ◌+◌, ◌*◌, ◌≤◌, true, List, [], ◌∷◌, ◌++◌, length}
 use Rattle.std.specs.List.{AllByRecursion}
 use Rattle.game_def.specs.Game.{Game}
 use Rattle.betting.specs.declared.action.Action.{Action}
@@ -34,3 +34,9 @@ pub record IsLegalHand (game : Game) (hand : Hand) : Type 0 where
 abbrev pub AreEarlierFinished : Game → List Hand → Type 0
 AreEarlierFinished game [] = Unit {0}
 AreEarlierFinished game (newest ∷ earlier) = AllByRecursion (λ hand. is_finished game hand ≡ true) earlier
+
+-- the hands of some match: each legal, all but the newest finished, and no more than the match has
+pub record AreHands (game : Game) (count : ℕ) (hands : List Hand) : Type 0 where
+  pub legal : AllByRecursion (IsLegalHand game) hands
+  pub earlier_finished : AreEarlierFinished game hands
+  pub within : length hands ≤ count

@@ -2,6 +2,7 @@
 use Rattle.std.specs.Prelude.{◌≡◌}
 use Rattle.game_def.specs.Game.{Game}
 use Rattle.card_core.specs.Deal.{IsDeal}
+use Rattle.betting.specs.Legal.{Legal}
 use Rattle.slot_log.specs.Hand.{Hand}
 use Rattle.slot_log.specs.declared.played_hand.PlayedHand.{PlayedHand}
 
@@ -12,3 +13,4 @@ hand_of hand = record { deal = hand.deal; past = hand.play.past }
 pub record IsOf (game : Game) (hand : PlayedHand) : Type 0 where
   pub same_game : hand.play.game ≡ game
   pub dealt : IsDeal game.players hand.deal
+  pub legal : Legal game hand.play.past

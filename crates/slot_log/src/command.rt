@@ -1,3 +1,5 @@
+ghost use Rattle.std.specs.Prelude.{◌≡◌, ◌↔◌, IsTrue};
+
 use betting::Action;
 use card_core::Deal;
 
@@ -15,4 +17,34 @@ pub enum Command {
         index: u16,
         action: Action,
     },
+}
+
+impl Command {
+    /// Whether another command is the same. What `==` of commands says is in no contract.
+    pub fn is_same(&self, other: &Command) -> bool
+        ensures { IsTrue result ↔ (self.now ≡ other.now) }
+    {
+        match (self, other) {
+            (
+                Command::Deal { hand, deal },
+                Command::Deal {
+                    hand: other_hand,
+                    deal: other_deal,
+                },
+            ) => hand == other_hand && deal.is_same(other_deal),
+            (
+                Command::Act {
+                    hand,
+                    index,
+                    action,
+                },
+                Command::Act {
+                    hand: other_hand,
+                    index: other_index,
+                    action: other_action,
+                },
+            ) => hand == other_hand && index == other_index && action == other_action,
+            _ => false,
+        }
+    }
 }

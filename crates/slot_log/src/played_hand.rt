@@ -34,6 +34,6 @@ impl PlayedHand {
         ensures deal { self.new.deal ≡ self.old.deal }
         ensures play { self.new.play ≡ record { game = self.old.play.game; past = action ∷ self.old.play.past } }
     {
-        let _ = self.play.act(action);
+        self.play.take(action);
     }
 }

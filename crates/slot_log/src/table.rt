@@ -5,10 +5,15 @@ ghost use Rattle.slot_log.specs.declared.effect.Effect.TheVariants.{Dealt};
 ghost use Rattle.slot_log.specs.Hand.{Hand};
 ghost use Rattle.slot_log.specs.PlayedHand.{hand_of, IsOf};
 ghost use Rattle.slot_log.specs.TableInside.{NewestAllows};
+ghost use Rattle.game_def.specs.Game.{IsGame};
+ghost use Rattle.slot_log.specs.declared.command.Command.{Command as Order};
+ghost use Rattle.slot_log.specs.Played.{AreHands};
+ghost use Rattle.slot_log.specs.Range.{IsInRange};
 ghost use Rattle.slot_log.specs.Dealer.{Fits, finished_count, is_running, is_match_over, deal_reason, act_reason, reason_of, hands_after, effect_of, effect_of_action, hand_at, with_deal, with_action, IsDealing};
 
 use crate::command::Command;
 use crate::effect::Effect;
+use crate::laws::fitting_is_in_range;
 use crate::played_hand::PlayedHand;
 use crate::reason::Reason;
 use betting::{Action, Play, laws};
@@ -88,7 +93,9 @@ impl Table {
 
     /// How many hands are finished: 0 to `hands()`.
     pub fn finished(&self) -> u32
-        ensures { result ≡ finished_count self.now.game self.now.hands }
+        ensures value { result ≡ finished_count self.now.game self.now.hands }
+        ensures within { result ≤ self.now.count }
+        ensures most { result ≤ 10000 }
     {
         let earlier = self.earlier.len() as u32;
         match &self.newest {
@@ -176,12 +183,27 @@ impl Table {
         }
     }
 
+    /// What holds of every table: its game's limits, and that its hands are legal, all but the newest finished and no
+    /// more than the match has. So the numbers of a command that fits are within their ranges.
+    pub fn limits(&self)
+        ensures game { IsGame self.now.game }
+        ensures hands { AreHands self.now.game self.now.count self.now.hands }
+        ensures most { self.now.count ≤ 10000 }
+        ensures range { (command : Order) → Fits self.now.game self.now.count self.now.hands command → IsInRange command }
+    {
+        fitting_is_in_range();
+        self.game.limits();
+        let _ = &self.count;
+    }
+
     /// Whether a command would take effect now.
     pub fn fits(&self, command: &Command) -> bool
         ensures fitting { IsTrue result ↔ (Fits self.now.game self.now.count self.now.hands command.now) }
         ensures reasonless { result ≡ is_none (reason_of self.now.game self.now.count self.now.hands command.now) }
+        ensures range { IsTrue result → IsInRange command.now }
     {
         laws::allowed_without_fault();
+        self.limits();
         self.reason(command).is_none()
     }
 
@@ -204,16 +226,20 @@ impl Table {
 
     /// Takes a command: where it fits, it takes effect; any other does nothing, and the effect says why.
     ///
-    /// An `Err` comes only where memory for a further hand was refused; then nothing has changed.
+    /// An `Err` comes only at a deal that fits, where memory for a further hand was refused; then nothing has
+    /// changed. Room is taken only by a hand that begins.
     pub fn apply(&mut self, command: &Command) -> Result<Effect, AllocError>
         ensures effect { IfOk result (λ effect. effect ≡ effect_of self.old.game self.old.count self.old.hands command.now) }
         ensures hands { OnOk result (self.new.hands ≡ hands_after self.old.game self.old.count self.old.hands command.now) }
         ensures game { self.new.game ≡ self.old.game }
         ensures count { self.new.count ≡ self.old.count }
-        // Each call takes up the room of one hand at the most.
+        // Each call takes up the room of one hand at the most, and only where it deals one.
         ensures room { OnOk result (self.old.room ≤ self.new.room + 1) }
+        ensures dealt { OnOk result (self.old.room + length self.old.hands ≤ self.new.room + length self.new.hands) }
         ensures err { OnErr result (self.new ≡ self.old) }
         ensures full { OnErr result (self.old.room ≡ 0) }
+        ensures deal { OnErr result (IsDealing command.now) }
+        ensures fitting { OnErr result (reason_of self.old.game self.old.count self.old.hands command.now ≡ None) }
     {
         laws::allowed_without_fault();
         if let Some(reason) = self.reason(command) {
@@ -222,6 +248,22 @@ impl Table {
         match command {
             Command::Deal { deal, .. } => self.begin(*deal),
             Command::Act { action, .. } => Ok(self.act(*action)),
+        }
+    }
+
+    /// Takes a command where there is room for a hand, as `apply` does: this can't fail.
+    pub fn apply_reserved(&mut self, command: &Command) -> Effect
+        requires { 1 ≤ self.old.room }
+        ensures effect { result ≡ effect_of self.old.game self.old.count self.old.hands command.now }
+        ensures hands { self.new.hands ≡ hands_after self.old.game self.old.count self.old.hands command.now }
+        ensures game { self.new.game ≡ self.old.game }
+        ensures count { self.new.count ≡ self.old.count }
+        ensures room { self.old.room ≤ self.new.room + 1 }
+        ensures dealt { self.old.room + length self.old.hands ≤ self.new.room + length self.new.hands }
+    {
+        match self.apply(command) {
+            Ok(effect) => effect,
+            Err(_) => unreachable!(),
         }
     }
 

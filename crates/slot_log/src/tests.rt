@@ -103,7 +103,7 @@ fn a_match_of_two_hands(rt: HostRuntime) -> Result<(), Fail> {
         deal: first,
     };
     assert!(rt; table.fits(&deal));
-    assert_eq!(rt; table.apply(&deal)?, Effect::Dealt);
+    assert_eq!(rt; table.apply_reserved(&deal), Effect::Dealt);
     assert!(rt; table.running());
     assert_eq!(rt; table.dealt(), 1);
     assert_eq!(rt; table.finished(), 0);
@@ -195,6 +195,7 @@ fn a_command_that_does_not_fit_does_nothing(rt: HostRuntime) -> Result<(), Fail>
         };
         assert_eq!(rt; table.reason(&command), reason);
         assert_eq!(rt; table.fits(&command), reason.is_none());
+        assert_eq!(rt; command.is_same(&deal), command == deal);
         assert_eq!(rt; table.apply(&command)?, effect);
     }
     let play = table.play(0).ok_or("the hand")?;
@@ -228,4 +229,83 @@ fn refused_memory_changes_nothing(rt: HostRuntime) {
         assert_eq!(rt; table.deal(hand).copied(), Some(deal_in_turn(&rt, hand)));
         assert!(rt; table.play(hand).is_some_and(|play| play.finished()));
     }
+}
+
+/// The front, and what is known at the slots from 0 to 5, by the index of each act.
+fn assert_known(rt: &impl Abort, log: &SlotLog, front: u32, known: [bool; 6]) {
+    assert_eq!(rt; log.front(), front);
+    assert_eq!(rt; log.commands().len() as u32, front);
+    for slot in 0..6u16 {
+        match log.get(u32::from(slot)) {
+            Some(command) => assert!(rt;
+                known[usize::from(slot)] && command.is_same(&act(0, slot, Action::Call))
+            ),
+            None => assert!(rt; !known[usize::from(slot)]),
+        }
+    }
+}
+
+#[test]
+fn slots_are_known_one_by_one(rt: HostRuntime) -> Result<(), Fail> {
+    let mut log = SlotLog::new(rt.alloc());
+    assert_known(&rt, &log, 0, [false; 6]);
+    assert_eq!(rt; log.put(3, act(0, 3, Action::Call))?, Ok(()));
+    assert_eq!(rt; log.put(1, act(0, 1, Action::Call))?, Ok(()));
+    assert_known(&rt, &log, 0, [false, true, false, true, false, false]);
+    assert_eq!(rt; log.run_with(0), 2);
+    assert_eq!(rt; log.run_with(2), 0);
+    assert_eq!(rt; log.put(0, act(0, 0, Action::Call))?, Ok(()));
+    assert_known(&rt, &log, 2, [true, true, false, true, false, false]);
+    log.reserve(1)?;
+    assert_eq!(rt; log.put_reserved(2, act(0, 2, Action::Call)), Ok(()));
+    assert_known(&rt, &log, 4, [true, true, true, true, false, false]);
+    Ok(())
+}
+
+#[test]
+fn what_is_known_stays(rt: HostRuntime) -> Result<(), Fail> {
+    let mut log = SlotLog::new(rt.alloc());
+    assert_eq!(rt; log.put(0, act(0, 0, Action::Call))?, Ok(()));
+    assert_eq!(rt; log.put(2, act(0, 2, Action::Call))?, Ok(()));
+    for slot in [0, 2] {
+        assert_eq!(rt; log.put(slot, act(0, slot as u16, Action::Call))?, Ok(()));
+        assert_eq!(rt;
+            log.put(slot, act(0, slot as u16, Action::Fold))?,
+            Err(SlotFault::Conflict)
+        );
+    }
+    assert_eq!(rt;
+        log.put(4_000_000, act(0, 0, Action::Call))?,
+        Err(SlotFault::SlotsSpent)
+    );
+    assert_eq!(rt; log.put(3_999_999, act(0, 0, Action::Call))?, Ok(()));
+    assert_known(&rt, &log, 1, [true, false, true, false, false, false]);
+    Ok(())
+}
+
+#[test]
+fn refused_memory_leaves_what_is_known(rt: HostRuntime) {
+    let mut log = SlotLog::new(rt.alloc());
+    for slot in [5, 4, 3, 2, 1, 0] {
+        let front = log.front();
+        if log.put(slot, act(0, slot as u16, Action::Call)).is_err() {
+            assert_eq!(rt; log.front(), front);
+            assert!(rt; log.get(slot).is_none());
+            let again = log.put(slot, act(0, slot as u16, Action::Call));
+            assert!(rt; again == Ok(Ok(())), "the second time");
+        }
+    }
+    assert_known(&rt, &log, 6, [true; 6]);
+}
+
+#[test]
+fn faults_print_their_number_and_name(rt: HostRuntime) -> Result<(), Fail> {
+    for (fault, code, text) in [
+        (SlotFault::Conflict, 30, "30 Conflict"),
+        (SlotFault::SlotsSpent, 31, "31 SlotsSpent"),
+    ] {
+        assert_eq!(rt; fault.code(), code);
+        assert_eq!(rt; format!(in rt.alloc(); "{fault}")?.as_str(), text);
+    }
+    Ok(())
 }

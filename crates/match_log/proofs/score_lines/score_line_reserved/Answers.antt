@@ -1,5 +1,6 @@
-use Rattle.std.proofs.Common.{◌≡◌, ℕ, List, ◌∙◌, ap}
+use Rattle.std.proofs.Common.{◌≡◌, ℕ, List, length, ◌∙◌, ap}
 use Rattle.match_log.specs.Lines.{values_field, names_field}
+use Rattle.match_log.specs.Names.{names_by_position}
 use Rattle.match_log.proofs.Tallies.{totals_as, names_in_seat_order}
 use Rattle.match_log.proofs.Written.{and_then, score_line_written}
 use Rattle.match_log.proofs.score_lines.score_line_reserved.Goals as goal
@@ -13,4 +14,4 @@ returns-clause-items c =
     score_line_written c.args.table.now.game c.args.names.now c.args.table.now.hands before c.put-3.new.out.items _ _ written
     (ap values_field (totals_as c.args.table.now.game c.args.table.now.hands c.score_of-score.result c.totals.result.now c.score_of-score.ensures
     (c.totals.ensures.value ∙ ap (λ (n : ℕ). Rattle.std.specs.Prelude.take n c.score_of-score.result.totals) players) (c.totals.ensures.count ∙ players)))
-    (ap names_field (names_in_seat_order c.args.names.now))
+    (ap (λ (names : List (List ℕ)). names_field (names_by_position (length names) 0 names)) c.as_slice.ensures.value ∙ ap names_field (names_in_seat_order c.args.names.now))

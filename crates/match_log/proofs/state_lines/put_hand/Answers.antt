@@ -1,4 +1,4 @@
-use Rattle.std.proofs.Common.{◌≡◌, ℕ, List, ◌∙◌, ap}
+use Rattle.std.proofs.Common.{◌≡◌, ℕ, List, length, ◌∙◌, ap}
 use Rattle.betting.specs.Rounds.{current_round, turns}
 use Rattle.betting.specs.Text.{text}
 use Rattle.matchstate.specs.View.{rounds_seen}
@@ -20,4 +20,5 @@ returns-clause-items c =
     (ap (λ g. text g c.args.play.now.past) c.requires.same_game)
     (shown_as c.args.game.now c.args.play.now.past c.args.deal.now c.round.result c.requires.dealt rounds)
     (ap values_field (c.as_slice.ensures.value ∙ c.payoffs-payoffs.ensures.value))
-    (ap (λ (n : ℕ). names_field (names_by_position n c.args.number c.args.names.now)) c.requires.names)
+    (ap (λ (names : List (List ℕ)). names_field (names_by_position (length names) c.args.number names)) c.as_slice-2.ensures.value
+    ∙ ap (λ (n : ℕ). names_field (names_by_position n c.args.number c.args.names.now)) c.requires.names)

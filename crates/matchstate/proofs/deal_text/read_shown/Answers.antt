@@ -2,7 +2,6 @@ use Rattle.std.proofs.Common.{◌≡◌, ◌+◌, ◌*◌, true, false, nat_eq, 
 use Rattle.std.specs.List.{IsDistinct}
 use Rattle.matchstate.specs.Cards.{cards_field, holes_of, boards_of, all_cards}
 use Rattle.matchstate.specs.SeenCards.{holes_in, boards_in}
-use Rattle.matchstate.proofs.Filled.{IsDistinct-take}
 use Rattle.matchstate.proofs.Shown.{shown_counted, shown_from_filled}
 use Rattle.matchstate.proofs.deal_text.read_shown.Goals as goal
 
@@ -42,6 +41,6 @@ returns-in-Err-clause-only c =
     let same = c.in_ok-seen.ensures.only (holes_of c.args.players deal) (take c.args.rounds (boards_of deal)) shown.0 is in
     let cards : take c.gather-cards.result.1 c.gather-cards.result.0 ≡ all_cards (holes_of c.args.players deal) (take c.args.rounds (boards_of deal)) =
     c.gather-cards.ensures.value ∙ ap (λ h. all_cards h (boards_in seen)) same.0 ∙ ap (λ b. all_cards (holes_of c.args.players deal) b) same.1 in
-    let filled : IsDistinct nat_eq c.fill_up.new.cards = c.fill_up.ensures.distinct (subst (IsDistinct nat_eq) (sym cards) shown.1) in
-    let clash : false ≡ true = c.in-Err.ensures.ok.1 (search rules, IsDistinct-take (2 * c.args.players + 5) c.fill_up.new.cards filled) in
+    let filled : IsDistinct nat_eq (take (2 * c.args.players + 5) c.fill_up.new.cards) = c.fill_up.ensures.distinct (subst (IsDistinct nat_eq) (sym cards) shown.1) in
+    let clash : false ≡ true = c.in-Err.ensures.ok.1 (search rules, filled) in
     cc

@@ -24,8 +24,9 @@ returns c =
     ap (option_map (λ (d : Bor (List ℕ)). d.now)) (sym c.in_ok-deal.was) ∙ c.deal.ensures.value in
     let its_past : Some c.in_ok-play.play.now.past ≡ option_map (λ found. found.past) (hand_at table.hands hand) =
     ap (option_map (λ (p : Bor Betting). p.now.past)) (sym c.in_ok-play.was) ∙ c.play.ensures.value in
-    let position = c.position_of-position.ensures.value ∙ ap (λ (g : Game). position_of g.players hand c.args.seat) c.game.ensures in
+    let same : c.in_ok-play.play.now.game ≡ table.game = c.in_ok-play.ensures.game in
+    let position = c.position_of-position.ensures.value ∙ ap (λ n. position_of n hand c.args.seat) (c.players.ensures.value ∙ ap (λ (g : Game). g.players) c.game.ensures) in
     let is = c.view_of_hand.ensures
-    ∙ ap (λ (g : Game). view_of g c.position_of-position.result hand (let h : Hand = record { deal = c.in_ok-deal.deal.now; past = c.in_ok-play.play.now.past } in h)) c.game-2.ensures
+    ∙ ap (λ (g : Game). view_of g c.position_of-position.result hand (let h : Hand = record { deal = c.in_ok-deal.deal.now; past = c.in_ok-play.play.now.past } in h)) same
     ∙ ap (λ p. view_of table.game p hand (let h : Hand = record { deal = c.in_ok-deal.deal.now; past = c.in_ok-play.play.now.past } in h)) position in
     seat_view_is table.game table.hands c.args.seat hand c.in_ok-deal.deal.now c.in_ok-play.play.now.past c.view_of_hand.result count its_deal its_past is

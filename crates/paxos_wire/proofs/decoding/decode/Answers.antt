@@ -5,10 +5,10 @@ use Rattle.paxos_wire.proofs.Readers.{frame_found, frame_fault}
 use Rattle.paxos_wire.proofs.decoding.decode.Goals as goal
 
 pub returns-clause-found : goal.returns-clause-found
-returns-clause-found c = frame_found c.args.bytes.now c.read_frame.result (λ i. omega (arith, c.type_inv.bytes i)) c.read_frame.ensures
+returns-clause-found c = frame_found c.args.bytes.now c.message_of_frame.result (λ i. omega (arith, c.type_inv.bytes i)) c.message_of_frame.ensures
 
 pub returns-clause-only : goal.returns-clause-only
-returns-clause-only c = λ m fits is. c.read_frame.ensures ∙ ap reading is ∙ frame_again m fits
+returns-clause-only c = λ m fits is. c.message_of_frame.ensures ∙ ap reading is ∙ frame_again m fits
 
 pub returns-clause-fault : goal.returns-clause-fault
-returns-clause-fault c = frame_fault c.args.bytes.now c.read_frame.result c.read_frame.ensures
+returns-clause-fault c = frame_fault c.args.bytes.now c.message_of_frame.result c.message_of_frame.ensures

@@ -7,7 +7,7 @@ use Rattle.paxos_wire.proofs.Readers.{front_found, front_only}
 use Rattle.paxos_wire.proofs.records.read_ballot.Goals as goal
 
 pub returns-clause-found : goal.returns-clause-found
-returns-clause-found c = front_found ballot_text IsBallot ballot_at c.args.bytes.now c.ballot_of.result (λ x read. ballot_takes c.args.bytes.now x (λ i. omega (arith, c.type_inv.bytes i)) read) c.ballot_of.ensures
+returns-clause-found c = front_found ballot_text IsBallot ballot_at c.args.bytes.now c.read_ballot.result (λ x read. ballot_takes c.args.bytes.now x (λ i. omega (arith, c.type_inv.bytes i)) read) c.read_ballot.ensures
 
 pub returns-clause-only : goal.returns-clause-only
-returns-clause-only c = λ b rest fits is. front_only ballot_text IsBallot ballot_at c.args.bytes.now c.ballot_of.result c.ballot_of.ensures b rest (ballot_again b rest fits) is
+returns-clause-only c = λ b rest fits is. front_only ballot_text IsBallot ballot_at c.args.bytes.now c.read_ballot.result c.read_ballot.ensures b rest (ballot_again b rest fits) is

@@ -6,7 +6,7 @@ use Rattle.paxos_wire.proofs.stream.read_stream.Given as goal
 
 abbrev pub invariant-loop-piece : goal.invariant-loop-piece
 invariant-loop-piece l = record {
-  stream : flat_map (λ piece. piece.items) (take l.piece-index l.pieces) ≡ stream_of l.messages.items l.feed;
+  stream : flat_map (λ piece. piece.items) (take l.piece-index l.pieces) ≡ stream_of l.messages.items l.feed.waiting;
   each : AllByRecursion IsMessage l.messages.items;
-  partial : IsPartial l.feed;
+  partial : IsPartial l.feed.waiting;
 }

@@ -1,4 +1,5 @@
-use Rattle.betting.proofs.Taken.{can_take, somebody_takes, taken_place, taker_seat, taker_place, taken_round, taker_owes, taken_room, taken_raises, taken_up, taken_kept, taken_value}
+use Rattle.std.proofs.Common.{arith, ◌≤◌}
+use Rattle.betting.proofs.Taken.{can_take, somebody_takes, taken_place, taker_seat, taker_place, taken_round, taker_owes, taken_room, taken_raises, taken_up, taken_kept, taken_value, taken_few}
 use Rattle.betting.proofs.play.Play.take.Goals as goal
 
 pub unreachable-requires : goal.unreachable-requires
@@ -28,8 +29,18 @@ act-requires-clause-raises c = taken_raises c.self.inside c.in-Some.position c.a
 pub act-requires-clause-above : goal.act-requires-clause-above
 act-requires-clause-above c = taken_up c.self.inside c.in-Some.position c.args.action (can_take c.self.inside c.args.self.now c.self.view_is c.self.invariant c.args.action c.in-Some.position c.in-Some.is c.requires)
 
+pub overflow_cast-self : goal.overflow_cast-self
+overflow_cast-self c =
+    let few : c.act.new.self.round ≤ 3 = taken_few c.self.inside c.in-Some.position c.args.action (can_take c.self.inside c.args.self.now c.self.view_is c.self.invariant c.args.action c.in-Some.position c.in-Some.is c.requires) c.act.new.self c.act.ensures in
+    omega (arith, c.saturating_sub.ensures, few)
+
+pub bounds-self-inside-self-inside-2 : goal.bounds-self-inside-self-inside-2
+bounds-self-inside-self-inside-2 c = taken_place c.self.inside c.in-Some.position c.args.action (can_take c.self.inside c.args.self.now c.self.view_is c.self.invariant c.args.action c.in-Some.position c.in-Some.is c.requires)
+
 pub invariant_of-self : goal.invariant_of-self
-invariant_of-self c = taken_kept c.self.inside c.in-Some.position c.args.action (can_take c.self.inside c.args.self.now c.self.view_is c.self.invariant c.args.action c.in-Some.position c.in-Some.is c.requires) c.act.new.self c.act.ensures
+invariant_of-self c =
+    taken_kept c.self.inside c.in-Some.position c.args.action (can_take c.self.inside c.args.self.now c.self.view_is c.self.invariant c.args.action c.in-Some.position c.in-Some.is c.requires) c.saturating_sub.result c.act.new.self c.act.ensures c.saturating_sub.ensures
 
 pub returns : goal.returns
-returns c = taken_value c.self.inside c.in-Some.position c.args.action (can_take c.self.inside c.args.self.now c.self.view_is c.self.invariant c.args.action c.in-Some.position c.in-Some.is c.requires) c.args.self.now c.self.view_is c.act.new.self
+returns c =
+    taken_value c.self.inside c.in-Some.position c.args.action (can_take c.self.inside c.args.self.now c.self.view_is c.self.invariant c.args.action c.in-Some.position c.in-Some.is c.requires) c.args.self.now c.self.view_is c.saturating_sub.result c.act.new.self

@@ -17,6 +17,6 @@ loop-seat-preserved c =
     let within : All (IsWithin (most_payoff * hands)) old =
     subst (λ (h : ℕ). All (IsWithin (most_payoff * h)) old) same_hands (subst (λ (xs : List ℤ). All (IsWithin (most_payoff * c.self.inside.hands)) xs) same_totals c.self.invariant.within) in
     added_more old c.loop-seat.totals hands c.loop-seat.seat (λ seat. get_or c.args.payoffs.now (position_of n hands seat) (pos 0))
-    (get_or c.args.payoffs.now c.position.result (pos 0)) _ c.requires.more (omega (arith, c.requires.few)) (ap length (sym same_totals) ∙ c.self.invariant.places) within
-    (All-get_or (IsWithin most_payoff) c.args.payoffs.now c.position.result (pos 0) c.position.ensures.within c.requires.within)
-    (ap (λ p. get_or c.args.payoffs.now p (pos 0)) (c.position.ensures.value ∙ ap (λ h. position_of n h c.loop-seat.seat) same_hands)) refl c.loop-seat.invariant
+    (get_or c.args.payoffs.now c.position_of.result (pos 0)) _ c.requires.more (omega (arith, c.requires.few)) (ap length (sym same_totals) ∙ c.self.invariant.places) within
+    (All-get_or (IsWithin most_payoff) c.args.payoffs.now c.position_of.result (pos 0) c.position_of.ensures.below c.requires.within)
+    (ap (λ p. get_or c.args.payoffs.now p (pos 0)) (c.position_of.ensures.value ∙ ap (λ h. position_of n h c.loop-seat.seat) same_hands)) refl c.loop-seat.invariant

@@ -21,3 +21,9 @@ returns-clause-fitting c =
       λ passed. fits_from_none c.allowed_without_fault.ensures table.game table.count table.hands c.args.command.now (sym c.reason.ensures ∙ none_from_test c.reason.result c.is_none.result c.is_none.ensures passed),
       λ fits. test_from_none c.reason.result c.is_none.result c.is_none.ensures (c.reason.ensures ∙ none_from_fits c.allowed_without_fault.ensures table.game table.count table.hands c.args.command.now fits),
     )
+
+pub returns-clause-range : goal.returns-clause-range
+returns-clause-range c passed =
+    let table = c.args.self.now in
+    c.limits.ensures.range c.args.command.now
+    (fits_from_none c.allowed_without_fault.ensures table.game table.count table.hands c.args.command.now (sym c.reason.ensures ∙ none_from_test c.reason.result c.is_none.result c.is_none.ensures passed))

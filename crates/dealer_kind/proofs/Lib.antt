@@ -1,0 +1,5 @@
+mod Owning
+mod Fitting
+mod Holding
+mod Saying
+pub mod Examples

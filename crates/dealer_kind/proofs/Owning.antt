@@ -1,0 +1,55 @@
+-- Whose commands are whose.
+use Rattle.std.proofs.Common.{◌≡◌, ℕ, inl, inr, Bool, true, false, ◌||◌, List, Option, Some, None, refl, ap, sym, ◌∙◌}
+use Rattle.slot_log.specs.declared.command.Command.{Command}
+use Rattle.slot_log.specs.declared.command.Command.TheVariants.{Deal, Act}
+use Rattle.protocol_model.specs.Messages.{Message}
+use Rattle.protocol_model.specs.Arrivals.{Arrival}
+use Rattle.protocol_model.specs.Laws.{HasOrigin, WasSaid, OwnsMore}
+use Rattle.dealer_kind.specs.Kind.{Setting, says, dealer_of}
+use Rattle.dealer_kind.specs.Owning.{OwnsDeals, either, IsDealtOrSaid}
+use Rattle.std.specs.Prelude.{slice_get}
+use Rattle.slot_log.specs.Dealer.{IsDealing}
+use Rattle.dealer_kind.specs.Sources.{deals as deals_from, owns}
+use Rattle.dealer_kind.specs.declared.source.Source.{Source}
+use Rattle.dealer_kind.specs.Laws.{OriginsAreOfTheirKind, LinesSayActs}
+
+pub lines_say_acts : LinesSayActs
+lines_say_acts setting before seat line (Deal hand deal) said dealing = cc
+lines_say_acts setting before seat line (Act hand index action) said dealing = dealing
+
+pub origins : OriginsAreOfTheirKind
+origins setting own n ever came (Deal hand deal) deals (inl owned) = owned
+origins setting own n ever came (Deal hand deal) deals (inr said) = absurd (lines_say_acts setting said.before said.seat said.line (Deal hand deal) said.says tt)
+origins setting own n ever came (Act hand index action) deals (inl owned) = absurd (deals owned.0 (Act hand index action) owned.2)
+origins setting own n ever came (Act hand index action) deals (inr said) = said
+
+or_first : (a b : Bool) → a ≡ true → (a || b) ≡ true
+or_first true b is = refl
+or_first false b is = cc
+
+or_second : (a b : Bool) → b ≡ true → (a || b) ≡ true
+or_second true b is = refl
+or_second false b is = is
+
+pub first_owns : (setting : Setting) (own other : ℕ → Command → Bool) → OwnsMore (dealer_of setting own) (either own other)
+first_owns setting own other node command is = or_first (own node command) (other node command) is
+
+pub second_owns : (setting : Setting) (own other : ℕ → Command → Bool) → OwnsMore (dealer_of setting other) (either own other)
+second_owns setting own other node command is = or_second (own node command) (other node command) is
+
+either_deals : (own other : ℕ → Command → Bool) (node : ℕ) (command : Command) (P : Type 0) (a : Bool) → own node command ≡ a
+    → (own node command ≡ true → P) → (other node command ≡ true → P) → (a || other node command) ≡ true → P
+either_deals own other node command P true is first second owned = first is
+either_deals own other node command P false is first second owned = second owned
+
+pub deals : (own other : ℕ → Command → Bool) → OwnsDeals own → OwnsDeals other → OwnsDeals (either own other)
+deals own other first second node command owned =
+    either_deals own other node command _ (own node command) refl (first node command) (second node command) owned
+
+deals_alone : (players : ℕ) (source : Option Source) (command : Command) → deals_from players source command ≡ true → IsDealing command
+deals_alone players None command owned = absurd cc
+deals_alone players (Some source) (Deal hand deal) owned = tt
+deals_alone players (Some source) (Act hand index action) owned = absurd cc
+
+pub sources_own_deals : (players : ℕ) (sources : List Source) → OwnsDeals (owns players sources)
+sources_own_deals players sources node command owned = deals_alone players (slice_get sources node) command owned

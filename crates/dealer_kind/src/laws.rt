@@ -1,0 +1,74 @@
+//! What holds of the dealers of matches: each law is the contract of a function that does nothing.
+
+ghost use Rattle.std.specs.Prelude.{◌≡◌, ◌↔◌, ℕ, ◌<◌, Bool, true, List};
+ghost use Rattle.slot_log.specs.declared.command.Command.{Command};
+ghost use Rattle.slot_log.specs.Dealer.{Fits};
+ghost use Rattle.protocol_model.specs.Quorums.{IsChosen};
+ghost use Rattle.protocol_model.specs.Worlds.{World, Reached};
+ghost use Rattle.protocol_model.specs.Laws.{with_own, OwnsMore};
+ghost use Rattle.dealer_kind.specs.Kind.{Setting, hands_after, dealer_of, fits};
+ghost use Rattle.dealer_kind.specs.Owning.{OwnsDeals, either, IsDealtOrSaid};
+ghost use Rattle.dealer_kind.specs.Sources.{owns};
+ghost use Rattle.dealer_kind.specs.declared.source.Source.{Source};
+ghost use Rattle.dealer_kind.specs.Laws.{OriginsAreOfTheirKind, LinesSayActs, SessionsSay, SaidIsHeard, OneMeaningOfLines, AnswersAreHeard};
+
+use matchstate::laws::an_answer_has_one_text;
+use protocol_model::laws::one_dealer;
+use seat_session::laws::{right_lines_act, whole_lines};
+use slot_log::laws::fits_without_reason;
+
+/// What a line says is an act, and what is a node's own by its source is a deal; and where each node's own commands are deals, a chosen deal is some node's own and a
+/// chosen act was said.
+pub fn deals_are_owned_and_acts_are_said()
+    ensures acts { LinesSayActs }
+    ensures origins { OriginsAreOfTheirKind }
+    ensures sources { (players : ℕ) (sources : List Source) → OwnsDeals (owns players sources) }
+    ensures chosen { (setting : Setting) (own : ℕ → Command → Bool) (n : ℕ) (world : World) (slot : ℕ) (command : Command)
+        → OwnsDeals own → Reached (dealer_of setting own) n world → IsChosen n world.ever slot command
+        → IsDealtOrSaid (dealer_of setting own) n world.ever world.came command }
+{
+    one_dealer();
+}
+
+/// The dealer of a match is the same but for whose commands are whose; and by either of two, each node owns what it owns
+/// by the first, and deals alone where both own deals alone.
+pub fn owners_may_widen()
+    ensures same { (setting : Setting) (own other : ℕ → Command → Bool) → with_own (dealer_of setting own) other ≡ dealer_of setting other }
+    ensures first { (setting : Setting) (own other : ℕ → Command → Bool) → OwnsMore (dealer_of setting own) (either own other) }
+    ensures second { (setting : Setting) (own other : ℕ → Command → Bool) → OwnsMore (dealer_of setting other) (either own other) }
+    ensures deals { (own other : ℕ → Command → Bool) → OwnsDeals own → OwnsDeals other → OwnsDeals (either own other) }
+{}
+
+/// A command fits the protocol's dealer exactly where it fits the hands that the commands before it make.
+pub fn fitting_is_the_tables()
+    ensures { (setting : Setting) (before : List Command) (command : Command)
+        → (fits setting before command ≡ true) ↔ Fits setting.game setting.title.hands (hands_after setting before) command }
+{
+    fits_without_reason();
+}
+
+/// What a session takes from a line as an act of its seat is what the line says to the protocol, and the other way round.
+pub fn sessions_say()
+    ensures heard { SessionsSay }
+    ensures only { SaidIsHeard }
+{
+    an_answer_has_one_text();
+    fits_without_reason();
+    right_lines_act();
+}
+
+/// Sessions and the protocol mean the same by a whole line among bytes, and by bytes without a line feed.
+pub fn lines_are_lines()
+    ensures { OneMeaningOfLines }
+{}
+
+/// An act that a session answers stands, in a whole line that says it, among the bytes that came since the session began.
+///
+/// These are the premises of the protocol's note that a command was said.
+pub fn answers_are_heard()
+    ensures { AnswersAreHeard }
+{
+    an_answer_has_one_text();
+    whole_lines();
+    fits_without_reason();
+}

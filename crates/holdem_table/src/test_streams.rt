@@ -1,0 +1,205 @@
+//! What the tests of all commands read from and write to: readers and writers that trickle, are interrupted,
+//! fail, or talk to each other; and the game that they play.
+
+use std::alloc::Global;
+use std::cell::Cell;
+use std::io::{Error, ErrorKind, Read, Result as IoResult, Write};
+
+pub(crate) const L2: &[u8] = b"GAMEDEF
+limit
+numPlayers = 2
+numRounds = 4
+blind = 10 5
+raiseSize = 10 10 20 20
+firstPlayer = 2 1 1 1
+maxRaises = 3 4 4 4
+numSuits = 4
+numRanks = 13
+numHoleCards = 2
+numBoardCards = 0 3 1 1
+END GAMEDEF
+";
+
+/// Gives so many bytes at a time.
+#[derive(Drop)]
+pub(crate) struct Reading<'a> {
+    rest: &'a [u8],
+    most: usize,
+    /// How many bytes are left where reads begin to fail, and how they fail.
+    failure: Option<(usize, ErrorKind)>,
+    /// Whether every second read is interrupted, and whether the next one is.
+    interrupts: bool,
+    interrupted: bool,
+}
+
+impl<'a> Reading<'a> {
+    /// Gives at most `most` bytes with each read.
+    pub(crate) fn new(rest: &'a [u8], most: usize) -> Reading<'a> {
+        Reading {
+            rest,
+            most,
+            failure: None,
+            interrupts: false,
+            interrupted: false,
+        }
+    }
+
+    /// Fails so, from where so many bytes are left.
+    pub(crate) fn failing(self, left: usize, kind: ErrorKind) -> Reading<'a> {
+        Reading {
+            rest: self.rest,
+            most: self.most,
+            failure: Some((left, kind)),
+            interrupts: self.interrupts,
+            interrupted: self.interrupted,
+        }
+    }
+
+    /// Is interrupted at every second read, the first one too.
+    pub(crate) fn interrupted(self) -> Reading<'a> {
+        Reading {
+            rest: self.rest,
+            most: self.most,
+            failure: self.failure,
+            interrupts: true,
+            interrupted: true,
+        }
+    }
+
+    /// How many bytes weren't read.
+    pub(crate) fn left(&self) -> usize {
+        self.rest.len()
+    }
+}
+
+impl Read for Reading<'_> {
+    fn read(&mut self, buf: &mut [u8]) -> IoResult<usize> {
+        if self.interrupts && self.interrupted {
+            self.interrupted = false;
+            return Err(Error::from(ErrorKind::Interrupted));
+        }
+        self.interrupted = true;
+        if let Some((left, kind)) = self.failure {
+            if self.rest.len() <= left {
+                return Err(Error::from(kind));
+            }
+        }
+        let count = buf.len().min(self.most);
+        self.rest.read(&mut buf[..count])
+    }
+}
+
+/// Takes up to three bytes at a time.
+#[derive(Drop)]
+pub(crate) struct Writing {
+    pub(crate) taken: Vec<u8>,
+    /// Where so many bytes were taken, writes fail.
+    most: usize,
+    /// Once so many flushes were made, flushes fail.
+    flushes: u32,
+    /// Whether every second write is interrupted, and whether the next one is.
+    interrupts: bool,
+    interrupted: bool,
+}
+
+impl Writing {
+    /// Fails once so many bytes were taken.
+    pub(crate) fn new(alloc: Global, most: usize) -> Writing {
+        Writing {
+            taken: Vec::new(alloc),
+            most,
+            flushes: u32::MAX,
+            interrupts: false,
+            interrupted: false,
+        }
+    }
+
+    /// Takes all bytes, and fails at the flush after so many.
+    pub(crate) fn failing_flush(alloc: Global, flushes: u32) -> Writing {
+        Writing {
+            taken: Vec::new(alloc),
+            most: usize::MAX,
+            flushes,
+            interrupts: false,
+            interrupted: false,
+        }
+    }
+
+    /// Takes all bytes, and is interrupted at every second write, the first one too.
+    pub(crate) fn interrupted(alloc: Global) -> Writing {
+        Writing {
+            taken: Vec::new(alloc),
+            most: usize::MAX,
+            flushes: u32::MAX,
+            interrupts: true,
+            interrupted: true,
+        }
+    }
+}
+
+impl Write for Writing {
+    fn write(&mut self, buf: &[u8]) -> IoResult<usize> {
+        if self.interrupts && self.interrupted {
+            self.interrupted = false;
+            return Err(Error::from(ErrorKind::Interrupted));
+        }
+        self.interrupted = true;
+        if self.taken.len() >= self.most {
+            return Err(Error::from(ErrorKind::BrokenPipe));
+        }
+        let count = buf.len().min(3);
+        self.taken.extend_from_slice(&buf[..count])?;
+        Ok(count)
+    }
+
+    fn flush(&mut self) -> IoResult<()> {
+        if self.flushes == 0 {
+            return Err(Error::from(ErrorKind::StorageFull));
+        }
+        self.flushes -= 1;
+        Ok(())
+    }
+}
+
+/// One end of a pipe: the next line comes only once the answer to the one before it was flushed.
+#[derive(Drop)]
+pub(crate) struct Talker<'a> {
+    pub(crate) rest: &'a [u8],
+    pub(crate) flushed: &'a Cell<bool>,
+}
+
+impl Read for Talker<'_> {
+    fn read(&mut self, buf: &mut [u8]) -> IoResult<usize> {
+        if !self.flushed.get() {
+            return Err(Error::from(ErrorKind::WouldBlock));
+        }
+        self.flushed.set(false);
+        let line = match self.rest.iter().position(|byte| *byte == b'\n') {
+            Some(place) => place + 1,
+            None => self.rest.len(),
+        };
+        let count = line.min(buf.len());
+        buf[..count].copy_from_slice(&self.rest[..count]);
+        self.rest = &self.rest[count..];
+        Ok(count)
+    }
+}
+
+/// The other end of the pipe.
+#[derive(Drop)]
+pub(crate) struct Listener<'a> {
+    pub(crate) heard: Vec<u8>,
+    pub(crate) flushed: &'a Cell<bool>,
+}
+
+impl Write for Listener<'_> {
+    fn write(&mut self, buf: &[u8]) -> IoResult<usize> {
+        self.heard.extend_from_slice(buf)?;
+        Ok(buf.len())
+    }
+
+    fn flush(&mut self) -> IoResult<()> {
+        self.flushed.set(true);
+        Ok(())
+    }
+}

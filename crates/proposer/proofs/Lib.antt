@@ -1,0 +1,5 @@
+pub mod Counting
+pub mod Greatest
+pub mod Safe
+pub mod Kept
+pub mod Examples

@@ -1,0 +1,5 @@
+pub mod Told
+pub mod Campaigns
+pub mod ProposerInside
+pub mod Counted
+pub mod Laws

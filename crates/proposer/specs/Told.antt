@@ -1,0 +1,22 @@
+-- What promises tell of a slot, and the entry of the greatest ballot among it.
+use Rattle.std.specs.Prelude.{ℕ, ◌==◌, Bool, true, false, nat_lt, if◌then◌else◌, List, [], ◌∷◌, Option, Some, None}
+use Rattle.paxos_wire.specs.declared.ballot.Ballot.{Ballot}
+use Rattle.paxos_wire.specs.declared.entry.Entry.{Entry}
+
+-- the test of the order of ballots: by round, then by node
+abbrev pub is_below : Ballot → Ballot → Bool
+is_below a b = if nat_lt a.round b.round then true else if a.round == b.round then nat_lt a.node b.node else false
+
+-- of two entries of the slot that of the greater ballot; an entry of another slot counts for nothing
+abbrev pub better : Option Entry → ℕ → Entry → Option Entry
+better None slot entry = if entry.slot == slot then Some entry else None
+better (Some best) slot entry = if entry.slot == slot then (if is_below best.ballot entry.ballot then Some entry else Some best) else Some best
+
+-- the best of what there was and of the entries of a promise
+abbrev pub best_in : Option Entry → ℕ → List Entry → Option Entry
+best_in best slot [] = best
+best_in best slot (entry ∷ entries) = best_in (better best slot entry) slot entries
+
+abbrev pub best_after : Option Entry → ℕ → Option (List Entry) → Option Entry
+best_after best slot None = best
+best_after best slot (Some told) = best_in best slot told

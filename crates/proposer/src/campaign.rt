@@ -1,0 +1,167 @@
+ghost use Rattle.std.specs.Prelude.{◌≡◌, ℕ, ◌<◌, ◌≤◌, is_some, None};
+ghost use Rattle.protocol_model.specs.Quorums.{count};
+ghost use Rattle.proposer.specs.Told.{is_below, better, best_in};
+ghost use Rattle.proposer.specs.Campaigns.{greatest_told, promise_by, has_quorum, is_outbid, with_promise, is_same_ballot, new_campaign, proposal_by, with_mark};
+
+use crate::accept::Accept;
+use crate::fault::ProposeFault;
+use paxos_wire::limits::{NODES, WINDOW};
+use paxos_wire::{Ballot, Entries, Entry};
+use slot_log::Command;
+
+/// One place for each node that there may be.
+const PLACES: usize = NODES as usize;
+
+/// A ballot that a proposer began: what it was promised in it, and where it proposed.
+#[derive(Drop)]
+pub struct Campaign {
+    /// The proposer's own.
+    pub ballot: Ballot,
+    /// The first of the 64 slots that its Prepare covers.
+    pub first: u32,
+    /// By node: what its promise tells, where it was counted.
+    pub promises: [Option<Entries>; PLACES],
+    /// By slot, from the first on: whether a command was proposed there.
+    pub proposed: [bool; WINDOW],
+}
+
+fn is_same(a: Ballot, b: Ballot) -> bool
+    ensures { result ≡ is_same_ballot a b }
+{
+    a.round == b.round && a.node == b.node
+}
+
+fn is_below(a: Ballot, b: Ballot) -> bool
+    ensures { result ≡ is_below a b }
+{
+    a.round < b.round || a.round == b.round && a.node < b.node
+}
+
+fn better(best: Option<Entry>, slot: u32, entry: Entry) -> Option<Entry>
+    ensures { result ≡ better best slot entry }
+{
+    if entry.slot != slot {
+        return best;
+    }
+    match best {
+        None => Some(entry),
+        Some(other) => {
+            if is_below(other.ballot, entry.ballot) {
+                Some(entry)
+            } else {
+                Some(other)
+            }
+        }
+    }
+}
+
+fn best_in(best: Option<Entry>, slot: u32, entries: &[Entry]) -> Option<Entry>
+    ensures { result ≡ best_in best slot entries.now }
+{
+    let mut best = best;
+    for entry in entries {
+        best = better(best, slot, *entry);
+    }
+    best
+}
+
+impl Campaign {
+    /// A ballot that nobody promised yet.
+    pub fn new(ballot: Ballot, first: u32) -> Campaign
+        ensures { result ≡ new_campaign ballot first }
+    {
+        Campaign {
+            ballot,
+            first,
+            promises: [None; PLACES],
+            proposed: [false; WINDOW],
+        }
+    }
+
+    /// Whether more than half of the nodes promised it.
+    pub fn has_quorum(&self, nodes: u8) -> bool
+        requires { nodes ≤ NODES }
+        ensures { result ≡ has_quorum nodes self.now }
+    {
+        let mut promised: usize = 0;
+        for node in 0..nodes as usize {
+            if self.promises[node].is_some() {
+                promised += 1;
+            }
+        }
+        (nodes as usize) < 2 * promised
+    }
+
+    /// Whether the ballot that was promised is above it.
+    pub fn is_outbid(&self, promised: Ballot) -> bool
+        ensures { result ≡ is_outbid (Some self.now) promised }
+    {
+        is_below(self.ballot, promised)
+    }
+
+    /// Counts a promise: of this ballot and first slot, the first of its node, while no quorum has promised.
+    pub fn on_promise(&mut self, nodes: u8, from: u8, ballot: Ballot, first: u32, told: &Entries)
+        requires few { nodes ≤ NODES }
+        requires from { from < nodes }
+        ensures { self.new ≡ with_promise nodes self.old from ballot first told.now }
+    {
+        if self.has_quorum(nodes) || !is_same(ballot, self.ballot) || first != self.first {
+            return;
+        }
+        let place = from as usize;
+        if self.promises[place].is_none() {
+            self.promises[place] = Some(*told);
+        }
+    }
+
+    fn told(&self, nodes: u8, slot: u32) -> Option<Entry>
+        requires { nodes ≤ NODES }
+        ensures { result ≡ greatest_told self.now slot nodes }
+    {
+        let mut best: Option<Entry> = None;
+        for node in 0..nodes as usize {
+            if let Some(told) = &self.promises[node] {
+                best = best_in(best, slot, told.as_slice());
+            }
+        }
+        best
+    }
+
+    /// What is proposed at the slot.
+    pub fn propose(
+        &mut self,
+        nodes: u8,
+        slot: u32,
+        own: Option<Command>,
+    ) -> Result<Option<Accept>, ProposeFault>
+        requires { nodes ≤ NODES }
+        ensures proposal { result ≡ proposal_by nodes self.old slot own }
+        ensures marked { self.new ≡ with_mark self.old result }
+    {
+        if !self.has_quorum(nodes) {
+            return Ok(None);
+        }
+        if slot < self.first || slot - self.first >= WINDOW as u32 {
+            return Err(ProposeFault::OutOfWindow);
+        }
+        let place = (slot - self.first) as usize;
+        if self.proposed[place] {
+            return Ok(None);
+        }
+        let value = match self.told(nodes, slot) {
+            Some(entry) => Some(entry.command),
+            None => own,
+        };
+        match value {
+            None => Ok(None),
+            Some(command) => {
+                self.proposed[place] = true;
+                Ok(Some(Accept {
+                    ballot: self.ballot,
+                    slot,
+                    command,
+                }))
+            }
+        }
+    }
+}

@@ -1,0 +1,40 @@
+//! What holds of what a proposer counts and proposes: each law is the contract of a function that does nothing.
+
+ghost use Rattle.proposer.specs.Laws.{GreatestDecides, ProposalsAreSafe, QuorumLeads, LeaderProposes, ProposesOnce, BeginCounts, BeginCountsAll, BeginMarks, PromiseCounts, PromiseCountsAll, PromiseMarks, OthersCount, OthersCountAll, OthersMark, ProposalCounts, ProposalCountsAll, ProposalMarks, PromiseStays, ProposalStays};
+
+/// What is proposed is what the counted promises make safe: the told command of the greatest ballot, or where none was
+/// told the own one, once at a slot, in a window of 64.
+///
+/// Where the promises that were counted are among the messages that a node has, that is the condition under which the
+/// model of nodes lets it propose.
+pub fn proposals_are_safe()
+    ensures greatest { GreatestDecides }
+    ensures safe { ProposalsAreSafe }
+    ensures once { ProposesOnce }
+{}
+
+/// A campaign leads exactly where promises of more than half of the nodes came, and then proposes what there is to
+/// propose, unless it did so at that slot.
+pub fn leaders_propose()
+    ensures quorum { QuorumLeads }
+    ensures proposes { LeaderProposes }
+{}
+
+/// That nothing is counted but what came, that nothing that came is left out, and that marks stand exactly where
+/// proposals were sent: all three hold from the beginning of a ballot on, as messages come and go.
+pub fn counts_are_kept()
+    ensures begin { BeginCounts }
+    ensures begin_all { BeginCountsAll }
+    ensures begin_marks { BeginMarks }
+    ensures promise { PromiseCounts }
+    ensures promise_all { PromiseCountsAll }
+    ensures promise_marks { PromiseMarks }
+    ensures others { OthersCount }
+    ensures others_all { OthersCountAll }
+    ensures others_marks { OthersMark }
+    ensures proposal { ProposalCounts }
+    ensures proposal_all { ProposalCountsAll }
+    ensures proposal_marks { ProposalMarks }
+    ensures promise_stays { PromiseStays }
+    ensures proposal_stays { ProposalStays }
+{}

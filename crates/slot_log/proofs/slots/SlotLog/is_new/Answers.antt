@@ -1,0 +1,11 @@
+use Rattle.std.proofs.Common.{◌≢◌, subst, arith}
+use Rattle.slot_log.specs.Slots.{Slots, IsLog}
+use Rattle.slot_log.proofs.Slotted.{none_spent}
+use Rattle.slot_log.proofs.slots.SlotLog.is_new.Goals as goal
+
+pub returns-then-slot-ge-SLOTS-clause-conflict : goal.returns-then-slot-ge-SLOTS-clause-conflict
+returns-then-slot-ge-SLOTS-clause-conflict c = (
+  λ same. absurd (cc),
+  λ there. absurd (none_spent c.args.self.now.log c.args.slot (λ known. known ≢ c.args.command.now)
+      (subst (λ (s : Slots). IsLog s.log) c.self.view_is c.self.invariant.log) (omega (arith, c.if-slot-ge-SLOTS.true)) there),
+)
