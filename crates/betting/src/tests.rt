@@ -4,7 +4,7 @@ use std::process::Abort;
 use std::test::Fail;
 
 /// Three players, no-limit, with unequal stacks.
-const THREE: &[u8] = b"GAMEDEF
+const N3: &[u8] = b"GAMEDEF
 nolimit
 numPlayers = 3
 numRounds = 4
@@ -36,7 +36,7 @@ END GAMEDEF
 ";
 
 /// Two players, limit, with deep stacks.
-const DEEP_LIMIT: &[u8] = b"GAMEDEF
+const L2: &[u8] = b"GAMEDEF
 limit
 numPlayers = 2
 numRounds = 4
@@ -99,7 +99,7 @@ fn assert_spent(rt: &impl Abort, play: &Play, amounts: &[u32]) {
 
 #[test]
 fn a_short_all_in_opens_the_betting_again(rt: HostRuntime) {
-    let mut play = Play::new(&game(&rt, THREE));
+    let mut play = Play::new(&game(&rt, N3));
     assert_eq!(rt; play.to_act(), Some(2));
     take_all(&rt, &mut play, &[Action::Call, Action::Call]);
     assert_eq!(rt; play.to_act(), Some(1));
@@ -136,7 +136,7 @@ fn a_short_all_in_opens_the_betting_again(rt: HostRuntime) {
 
 #[test]
 fn folds_end_the_hand_in_their_round(rt: HostRuntime) {
-    let mut play = Play::new(&game(&rt, THREE));
+    let mut play = Play::new(&game(&rt, N3));
     take_all(
         &rt,
         &mut play,
@@ -167,7 +167,7 @@ fn limit_raises_have_one_amount(rt: HostRuntime) {
 
 #[test]
 fn a_round_has_its_most_raises(rt: HostRuntime) {
-    let mut play = Play::new(&game(&rt, DEEP_LIMIT));
+    let mut play = Play::new(&game(&rt, L2));
     take_all(
         &rt,
         &mut play,

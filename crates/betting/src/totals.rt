@@ -12,7 +12,7 @@ use game_def::GameDef;
 pub(crate) const MOST_PLAYERS: usize = 10;
 
 /// The most actions of a round.
-const MOST_ACTIONS: usize = 64;
+const MOST_ACTIONS_OF_A_ROUND: usize = 64;
 
 /// The last round of a hand; rounds count from 0.
 const LAST_ROUND: usize = 3;
@@ -182,7 +182,7 @@ impl Totals {
         let stack = game.stack(position);
         if self.raises >= usize::from(game.max_raises(self.round)) {
             Some(ActFault::TooManyRaises)
-        } else if self.actions + game.players() > MOST_ACTIONS {
+        } else if self.actions + game.players() > MOST_ACTIONS_OF_A_ROUND {
             Some(ActFault::RoundFull)
         } else if self.live_count(game) < 2 {
             Some(ActFault::NobodyToCall)

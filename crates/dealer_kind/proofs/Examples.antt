@@ -4,15 +4,15 @@ use Rattle.std.specs.Prelude.{codes, slice_get}
 use Rattle.betting.specs.declared.action.Action.TheVariants.{Fold, Call, Raise}
 use Rattle.slot_log.specs.declared.command.Command.{Command}
 use Rattle.slot_log.specs.declared.command.Command.TheVariants.{Deal, Act}
-use Rattle.slot_log.specs.Dealer.{IsDealing}
 use Rattle.matchstate.specs.Line.{line}
 use Rattle.match_log.proofs.Examples.{opened, two_players, ten_ace, twos_threes, alice_and_bob}
 use Rattle.protocol_model.specs.Dealers.{Dealer, text_of, Seat, Log}
+use Rattle.protocol_model.specs.Arrivals.{Arrival, heard_in}
 use Rattle.deck_draw.specs.Deck.{drawn}
 use Rattle.dealer_kind.specs.Kind.{Setting, dealer_of}
-use Rattle.dealer_kind.specs.Owning.{OwnsDeals, either}
+use Rattle.dealer_kind.specs.Owning.{OwnsDeals, either, IsDealtOrSaid}
 use Rattle.dealer_kind.specs.Sources.{deal_of, is_deal, owns, HasDeals}
-use Rattle.dealer_kind.specs.Plans.{HasNodes}
+use Rattle.dealer_kind.specs.Plans.{IsSetting, HasNodes}
 use Rattle.dealer_kind.specs.declared.source.Source.{Source}
 use Rattle.dealer_kind.specs.declared.source.Source.TheVariants.{Seed, Listed}
 
@@ -30,6 +30,31 @@ deals_are_the_nodes_own : (first second : Source) → deal_of 2 first 0 ≡ Some
     → (owns 2 (first ∷ second ∷ []) 0 (Deal 0 ten_ace) ≡ true) × (owns 2 (first ∷ second ∷ []) 1 (Deal 0 ten_ace) ≡ false)
     × (owns 2 (first ∷ second ∷ []) 2 (Deal 0 ten_ace) ≡ false)
 deals_are_the_nodes_own first second ten twos = (ap (λ d. is_deal d ten_ace) ten, ap (λ d. is_deal d ten_ace) twos, refl)
+
+-- by either of two each node owns what it owns by the second too
+by_the_second : either (λ node command. false) (λ node command. true) 0 (Deal 0 ten_ace) ≡ true
+by_the_second = refl
+
+by_neither : either (λ node command. false) (λ node command. false) 0 (Deal 0 ten_ace) ≡ false
+by_neither = refl
+
+-- a node that owned all commands would own acts
+owns_acts : OwnsDeals (λ node command. true) → ⊥
+owns_acts owns = owns 0 (Act 0 0 Call) refl
+
+-- an act that every node owned, and that nobody said, comes from nowhere
+unsaid_act : IsDealtOrSaid (dealer_of setting (λ node command. true)) 3 [] [] (Act 0 0 Call) → ⊥
+unsaid_act said = none (none_before said.moment.came_later said.earlier said.moment.all_came)
+  where
+    none_before : (later earlier : List Arrival) → [] ≡ later ++ earlier → earlier ≡ []
+    none_before [] earlier e = sym e
+    none_before (arrival ∷ later) earlier e = absurd cc
+
+    not_connected : (bytes : List ℕ) → (let nobody : Option (List ℕ) = None in nobody) ≡ Some bytes → ⊥
+    not_connected bytes e = cc
+
+    none : said.earlier ≡ [] → ⊥
+    none e = not_connected said.bytes (sym (ap (λ came. heard_in came said.node said.seat) e) ∙ said.connected)
 
 -- an act is nobody's own
 no_act : (first : Source) → owns 2 (first ∷ []) 0 (Act 0 0 Call) ≡ false
@@ -128,6 +153,10 @@ unfolding opened
 not_the_old_line = refl
 
 -- ---- limits
+
+-- a match has a hand at least
+no_hands : IsSetting (record setting { title = record setting.title { hands = 0 } }) → ⊥
+no_hands within = omega (arith, within.least)
 
 three : HasNodes 3
 three = inl refl

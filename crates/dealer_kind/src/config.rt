@@ -8,10 +8,8 @@ ghost use Rattle.dealer_kind.specs.Plans.{HasNodes, IsPlan};
 use crate::source::Source;
 use game_def::GameDef;
 use match_log::{Name, SeatNames, is_game_word};
+use slot_log::limits::HANDS;
 use std::marker::Model;
-
-/// The most hands of a match.
-const MOST_HANDS: u32 = 10_000;
 
 /// A match and the nodes that deal it: what all nodes share, and where each node's own deals come from.
 ///
@@ -59,7 +57,7 @@ impl Config {
         let _name = name.as_bytes();
         let is_right = is_game_word(&game_word)
             && names.as_slice().len() == game.players()
-            && (1..=MOST_HANDS).contains(&hands)
+            && (1..=HANDS).contains(&hands)
             && (sources.len() == 3 || sources.len() == 5)
             && sources
                 .iter()

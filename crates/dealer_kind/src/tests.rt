@@ -7,7 +7,7 @@ use std::process::Abort;
 use std::test::Fail;
 
 /// Two players, limit.
-const LIMIT: &[u8] =
+const L2: &[u8] =
     b"GAMEDEF\nlimit\nnumPlayers = 2\nnumRounds = 4\nblind = 10 5\nraiseSize = 10 10 20 20\nfirstPlayer = 2 1 1 1\nmaxRaises = 3 4 4 4\nnumSuits = 4\nnumRanks = 13\nnumHoleCards = 2\nnumBoardCards = 0 3 1 1\nEND GAMEDEF\n";
 
 /// `TdAs|8hTc/2c8c3h/9c/Kh`.
@@ -27,7 +27,7 @@ fn ten_ace(rt: &impl Abort) -> Deal {
 }
 
 fn game(rt: &impl Abort) -> GameDef {
-    game_def::read(LIMIT).expect(rt, "a game")
+    game_def::read(L2).expect(rt, "a game")
 }
 
 fn listed(alloc: Global, deal: Deal) -> Result<Source, Fail> {

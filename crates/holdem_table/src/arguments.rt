@@ -5,10 +5,8 @@ use crate::game_word::GameWord;
 use crate::help::{AFTER_CHECK_HELP, AFTER_HAND_HELP, AFTER_HELP};
 use crate::wrong_words::WrongWords;
 use clap::{Arg, ArgAction, ArgMatches, Command, value_parser};
+use slot_log::limits::HANDS;
 use std::alloc::{AllocError, Global};
-
-/// The most hands of a match.
-const MOST_HANDS: u32 = 10_000;
 
 /// What the command line asks for.
 #[derive(Drop)]
@@ -54,7 +52,7 @@ fn hand_command<'a>(alloc: Global) -> Result<Command<'a>, AllocError> {
     let hands = Arg::new(alloc, "hands")
         .long("hands")
         .value_name("N")
-        .value_parser(value_parser!(u32).range(1..=MOST_HANDS as i64))
+        .value_parser(value_parser!(u32).range(1..=HANDS as i64))
         .default_value("1")
         .help("The number of hands, 1 to 10000");
     let log = Arg::new(alloc, "log")
@@ -111,7 +109,7 @@ fn check_task<'a>(matches: &ArgMatches<'a>) -> Result<Task<'a>, Ending> {
 fn hand_task<'a>(matches: &ArgMatches<'a>) -> Result<Task<'a>, Ending> {
     let game = word(matches, "game")?;
     let hands = match matches.get_one::<u32>("hands") {
-        Some(hands) => hands.clamp(1, MOST_HANDS),
+        Some(hands) => hands.clamp(1, HANDS),
         None => 1,
     };
     let log = if matches.get_flag("log") {

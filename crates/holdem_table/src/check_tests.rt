@@ -58,13 +58,15 @@ fn says_nothing_of_a_log_that_fails_in_its_midst(rt: HostRuntime) -> Result<(), 
 
 #[test]
 fn stops_where_the_verdict_is_refused(rt: HostRuntime) -> Result<(), Fail> {
-    let mut writer = Writing::new(rt.alloc(), 3);
-    let ending = check_run(rt.alloc(), L2, &mut &*LOG, &mut writer);
-    assert_eq!(rt;
-        format!(in rt.alloc(); "{ending}")?.as_str(),
-        "107 StreamFailed"
-    );
-    assert_eq!(rt; writer.taken.as_slice(), b"yes".as_slice());
+    for failure in [ErrorKind::BrokenPipe, ErrorKind::OutOfMemory] {
+        let mut writer = Writing::failing(rt.alloc(), 3, failure);
+        let ending = check_run(rt.alloc(), L2, &mut &*LOG, &mut writer);
+        assert_eq!(rt;
+            format!(in rt.alloc(); "{ending}")?.as_str(),
+            "107 StreamFailed"
+        );
+        assert_eq!(rt; writer.taken.as_slice(), b"yes".as_slice());
+    }
     Ok(())
 }
 

@@ -98,10 +98,12 @@ fn keeps_what_was_answered_before_the_reader_fails(rt: HostRuntime) -> Result<()
 
 #[test]
 fn stops_where_the_writer_fails(rt: HostRuntime) {
-    let mut writer = Writing::new(rt.alloc(), 60);
-    let ending = hand_run(rt.alloc(), L2, None, 1, &mut &*SCRIPT, &mut writer);
-    assert!(rt; matches!(ending, Ending::StreamFailed));
-    assert_eq!(rt; writer.taken.as_slice(), &ANSWERS[..60]);
+    for failure in [ErrorKind::BrokenPipe, ErrorKind::OutOfMemory] {
+        let mut writer = Writing::failing(rt.alloc(), 60, failure);
+        let ending = hand_run(rt.alloc(), L2, None, 1, &mut &*SCRIPT, &mut writer);
+        assert!(rt; matches!(ending, Ending::StreamFailed));
+        assert_eq!(rt; writer.taken.as_slice(), &ANSWERS[..60]);
+    }
 }
 
 #[test]

@@ -93,8 +93,9 @@ impl Read for Reading<'_> {
 #[derive(Drop)]
 pub(crate) struct Writing {
     pub(crate) taken: Vec<u8>,
-    /// Where so many bytes were taken, writes fail.
+    /// Where so many bytes were taken, writes fail, and how they fail.
     most: usize,
+    failure: ErrorKind,
     /// Once so many flushes were made, flushes fail.
     flushes: u32,
     /// Whether every second write is interrupted, and whether the next one is.
@@ -103,11 +104,12 @@ pub(crate) struct Writing {
 }
 
 impl Writing {
-    /// Fails once so many bytes were taken.
-    pub(crate) fn new(alloc: Global, most: usize) -> Writing {
+    /// Fails so once so many bytes were taken.
+    pub(crate) fn failing(alloc: Global, most: usize, failure: ErrorKind) -> Writing {
         Writing {
             taken: Vec::new(alloc),
             most,
+            failure,
             flushes: u32::MAX,
             interrupts: false,
             interrupted: false,
@@ -119,6 +121,7 @@ impl Writing {
         Writing {
             taken: Vec::new(alloc),
             most: usize::MAX,
+            failure: ErrorKind::BrokenPipe,
             flushes,
             interrupts: false,
             interrupted: false,
@@ -130,6 +133,7 @@ impl Writing {
         Writing {
             taken: Vec::new(alloc),
             most: usize::MAX,
+            failure: ErrorKind::BrokenPipe,
             flushes: u32::MAX,
             interrupts: true,
             interrupted: true,
@@ -145,7 +149,7 @@ impl Write for Writing {
         }
         self.interrupted = true;
         if self.taken.len() >= self.most {
-            return Err(Error::from(ErrorKind::BrokenPipe));
+            return Err(Error::from(self.failure));
         }
         let count = buf.len().min(3);
         self.taken.extend_from_slice(&buf[..count])?;

@@ -15,6 +15,7 @@ use Rattle.match_log.specs.Payoffs.{values_of, amounts_of, folds_of, payoffs_of,
 use Rattle.match_log.specs.Lines.{header_line, state_text, state_line, score_text, score_line}
 use Rattle.match_log.specs.Names.{IsName, IsGameWord, AreNames, is_name_byte, names_by_position}
 use Rattle.match_log.specs.Log.{Title, state_lines, log_of, log_lines}
+use Rattle.match_log.specs.Further.{log_added}
 
 -- opens the definitions
 unfoldable pub opened : ℕ
@@ -123,6 +124,29 @@ one_running = refl
 nothing_dealt : log_lines two_players two_hands alice_and_bob [] ≡ codes "# name/game/hands m l2.game 2\n"
 unfolding opened
 nothing_dealt = refl
+
+-- the fold that ends a hand adds its line, and the last one the score behind it
+fold_adds : log_added two_players 2 alice_and_bob (Deal 0 ten_ace ∷ []) (Act 0 0 Fold) ≡ codes "STATE:0:f:TdAs|8hTc:5|-5:alice|bob\n"
+unfolding opened
+fold_adds = refl
+
+last_fold_adds : log_added two_players 2 alice_and_bob (Deal 1 twos_threes ∷ Act 0 0 Fold ∷ Deal 0 ten_ace ∷ []) (Act 1 0 Fold) ≡ codes "STATE:1:f:2d2h|3d3s:5|-5:bob|alice\nSCORE:0|0:alice|bob\n"
+unfolding opened
+last_fold_adds = refl
+
+-- a hand that goes on adds nothing, nor does a deal: the line of the hand before isn't given again
+call_adds_nothing : log_added two_players 2 alice_and_bob (Deal 0 ten_ace ∷ []) (Act 0 0 Call) ≡ []
+unfolding opened
+call_adds_nothing = refl
+
+deal_adds_nothing : log_added two_players 2 alice_and_bob (Act 0 0 Fold ∷ Deal 0 ten_ace ∷ []) (Deal 1 twos_threes) ≡ []
+unfolding opened
+deal_adds_nothing = refl
+
+-- and neither does what doesn't fit, though a finished hand stands there
+second_fold_adds_nothing : log_added two_players 2 alice_and_bob (Act 0 0 Fold ∷ Deal 0 ten_ace ∷ []) (Act 0 0 Fold) ≡ []
+unfolding opened
+second_fold_adds_nothing = refl
 
 -- ---- names
 

@@ -10,7 +10,7 @@ use Rattle.match_log.specs.Numeral.{IsDecimal, IsWhole}
 use Rattle.match_log.specs.Lines.{shown_cards, with_bars, names_field, state_line}
 use Rattle.match_log.specs.Tally.{IsTallyOf}
 use Rattle.match_log.specs.declared.checked.Checked.{Checked}
-use Rattle.match_log.specs.declared.read_state.StateFields.{StateFields}
+use Rattle.match_log.specs.declared.state_fields.StateFields.{StateFields}
 
 -- no such byte stands in the text
 abbrev pub IsFreeOf : ℕ → List ℕ → Type 0

@@ -8,11 +8,11 @@ ghost use Rattle.match_log.specs.Reading.{HasSaid, IsNext};
 use crate::cut::begins_line;
 use crate::fault_kind::LogFaultKind;
 use crate::name::Name;
-use crate::printed::{after_score, are_values_printed, is_number_printed};
-use crate::read_state::read_state;
+use crate::printed_text::{after_score, are_values_printed, is_number_printed};
 use crate::score::Score;
 use crate::seats::seats;
 use crate::settlement::payoffs;
+use crate::state_fields::read_state;
 use game_def::GameDef;
 
 /// What the lines of a log have said so far, each of them right.

@@ -6,7 +6,7 @@ use crate::checked::Checked;
 use crate::fault::LogFault;
 use crate::fault_kind::LogFaultKind;
 use crate::laws::one_verdict;
-use crate::read_header::read_header;
+use crate::log_header::read_header;
 use game_def::GameDef;
 use slot_log::laws;
 

@@ -15,7 +15,7 @@ pub(crate) fn cut(bytes: &[u8], byte: u8) -> Option<(&[u8], &[u8])>
     }
 }
 
-// How many bytes stand before the first such byte.
+/// How many bytes stand before the first such byte.
 fn front_len(bytes: &[u8], byte: u8) -> usize
     ensures value { result ≡ prefix_len (λ other. not (other == byte)) bytes.now }
     ensures within { result ≤ length bytes.now }

@@ -9,7 +9,7 @@ use crate::name::Name;
 use crate::put::{put, put_amount, put_cards};
 use card_core::{Card, Deal};
 
-// Appends the `|` in front of all pieces but the first, for which there is room.
+/// Appends the `|` in front of all pieces but the first, for which there is room.
 fn put_bar(out: &mut Vec<u8>, place: usize)
     requires { vec_len out.old + 1 ≤ vec_capacity out.old }
     ensures items { out.new.items ≡ out.old.items ++ bar_before place }
@@ -64,7 +64,7 @@ pub(crate) fn put_shown(out: &mut Vec<u8>, deal: &Deal, rounds: usize)
     put_board(out, deal, rounds);
 }
 
-// Appends the hole cards by position, with `|` between them.
+/// Appends the hole cards by position, with `|` between them.
 fn put_holes(out: &mut Vec<u8>, deal: &Deal)
     requires { vec_len out.old + 50 ≤ vec_capacity out.old }
     ensures items { out.new.items ≡ out.old.items ++ join_by cards_text (124 ∷ []) (holes_of (player_count deal.now) deal.now) }
@@ -77,7 +77,7 @@ fn put_holes(out: &mut Vec<u8>, deal: &Deal)
     }
 }
 
-// Appends the board of so many later rounds.
+/// Appends the board of so many later rounds.
 fn put_board(out: &mut Vec<u8>, deal: &Deal, rounds: usize)
     requires rounds { rounds ≤ 3 }
     requires room { vec_len out.old + 13 ≤ vec_capacity out.old }
@@ -103,7 +103,7 @@ fn put_board(out: &mut Vec<u8>, deal: &Deal, rounds: usize)
     }
 }
 
-// Appends `/` and the cards of a round.
+/// Appends `/` and the cards of a round.
 fn put_street(out: &mut Vec<u8>, cards: &[Card])
     requires { vec_len out.old + (2 * length cards.now + 1) ≤ vec_capacity out.old }
     ensures items { out.new.items ≡ out.old.items ++ (47 ∷ cards_text cards.now) }

@@ -1,5 +1,14 @@
 //! The log of a match: a header, a line for each finished hand with what it paid, and the score. `check` tells
 //! whether a text is a whole one, and `laws` says what holds of all of them.
+//!
+//! A writer begins with `header`, and after each command that took effect appends `further_lines`: nothing while a
+//! hand runs, the line of a hand that has ended, and the score once the match is over (`state_line` and
+//! `score_line` write one of them alone). Names are `Name`, and those of all seats `SeatNames`. Calls with
+//! `reserved` in their name take no memory where there is room for the most that they append, a constant beside
+//! each. A reader calls `check` with all bytes of a log; it takes no memory.
+//!
+//! The test `a_match_of_two_hands` writes a log, `whole_logs_are_right` checks some. Faults: `LogFault`, with its
+//! line from 1 and a `LogFaultKind` from 45 to 49; what they mean stands in `specs/Check.antt`.
 #![tactic(auto)]
 
 mod checked;
@@ -9,30 +18,29 @@ mod dealt;
 mod fault;
 mod fault_kind;
 mod fields;
-mod further;
 mod game_word;
-mod headers;
 pub mod laws;
+mod log_addition;
+mod log_header;
 mod name;
+mod names_text;
 mod numeral;
-mod printed;
+mod printed_text;
 mod put;
-mod read_header;
-mod read_names;
-mod read_state;
 mod score;
 mod score_lines;
 mod seat_names;
 mod seats;
 mod settlement;
+mod state_fields;
 mod state_lines;
 
 pub use checking::check;
 pub use fault::LogFault;
 pub use fault_kind::LogFaultKind;
-pub use further::{MOST_FURTHER, further_lines, further_lines_reserved};
 pub use game_word::is_game_word;
-pub use headers::{MOST_HEADER, header, header_reserved};
+pub use log_addition::{MOST_FURTHER, further_lines, further_lines_reserved};
+pub use log_header::{MOST_HEADER, header, header_reserved};
 pub use name::Name;
 pub use score_lines::{MOST_SCORE_LINE, score_line, score_line_reserved};
 pub use seat_names::SeatNames;

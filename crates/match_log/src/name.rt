@@ -67,7 +67,7 @@ pub(crate) fn is_name(bytes: &[u8]) -> bool
     !bytes.is_empty() && bytes.len() <= MOST_BYTES && are_name_bytes(bytes)
 }
 
-// Whether each byte may stand in a name.
+/// Whether each byte may stand in a name.
 fn are_name_bytes(bytes: &[u8]) -> bool
     ensures { result ≡ list_all is_name_byte bytes.now }
 {

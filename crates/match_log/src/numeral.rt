@@ -20,7 +20,7 @@ pub(crate) fn is_decimal(bytes: &[u8]) -> bool
     are_digits(bytes)
 }
 
-// Whether each byte is a digit.
+/// Whether each byte is a digit.
 fn are_digits(bytes: &[u8]) -> bool
     ensures { result ≡ list_all is_ascii_digit bytes.now }
 {

@@ -48,7 +48,7 @@ pub fn score_line_reserved(out: &mut Vec<u8>, table: &Table, names: &SeatNames)
     put(out, b"\n");
 }
 
-// What each seat won and lost in the hands that were dealt.
+/// What each seat won and lost in the hands that were dealt.
 fn score_of(table: &Table) -> Score
     ensures { IsTallyOf table.now.game table.now.hands result }
 {

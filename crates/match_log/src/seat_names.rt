@@ -4,7 +4,7 @@ ghost use Rattle.match_log.specs.Lines.{names_field};
 ghost use Rattle.match_log.specs.Names.{IsName, AreNames};
 
 use crate::name::Name;
-use crate::read_names::read_names;
+use crate::names_text::read_names;
 use std::marker::Model;
 
 /// The most seats of a match.

@@ -34,7 +34,7 @@ pub(crate) fn seats(
     if fit { Some(seats) } else { None }
 }
 
-// Names by position put into the order of seats, in a hand of this number.
+/// Names by position put into the order of seats, in a hand of this number.
 fn by_seat(by_position: &[Name; 10], players: usize, hand: u32) -> [Name; 10]
     requires least { 1 ≤ players }
     requires most { players ≤ 10 }
@@ -47,7 +47,7 @@ fn by_seat(by_position: &[Name; 10], players: usize, hand: u32) -> [Name; 10]
     seats
 }
 
-// Whether these are the same names.
+/// Whether these are the same names.
 fn are_same(names: &[Name], others: &[Name]) -> bool
     requires { length names.now ≡ length others.now }
     ensures { IsTrue result ↔ (names.now ≡ others.now) }

@@ -1,5 +1,14 @@
-//! What nodes say to each other, byte for byte: ballots, commands and messages, the one frame of each
-//! message, and the messages of a stream of frames, however it is cut into pieces.
+//! What nodes say to each other, byte for byte: ballots, commands and messages, the one frame of each message, and
+//! the messages of a stream of frames, however it is cut into pieces.
+//!
+//! A `Message` is written by `encode` and read by `decode`; a stream of frames is read by a `Feed`, which takes
+//! pieces by `feed` and gives messages by `next`, or at once by `read_stream`. `limits` has the ranges of all
+//! numbers. Ballots, slots and commands of a record are written and read by calls of their own. Calls with
+//! `reserved` in their name take no memory; `frame_len` and `command_len` say how much room they want.
+//!
+//! The test `frames_read_and_write_alike` goes from messages to frames and back, `a_stream_in_pieces` through a
+//! feed. Faults: `FrameFault`, 50 to 54, the first in the order that `specs/Faults.antt` states; a stream at fault
+//! tells its fault from then on. `docs/FORMATS.md` has all bytes in a table.
 #![tactic(auto)]
 
 mod ballot;

@@ -1,4 +1,5 @@
-//! The ranges of the numbers in frames, each in this one place.
+//! The ranges of the numbers in frames, each in this one place; those of hands, actions and slots are the sequential
+//! dealer's.
 
 /// The version byte that frames are written with.
 pub const VERSION: u8 = 1;
@@ -7,13 +8,13 @@ pub const VERSION: u8 = 1;
 pub const NODES: u8 = 5;
 
 /// Slots are numbered from 0 to one below this.
-pub const SLOTS: u32 = 4_000_000;
+pub const SLOTS: u32 = slot_log::limits::SLOTS;
 
 /// Hands are numbered from 0 to one below this.
-pub const HANDS: u32 = 10_000;
+pub const HANDS: u32 = slot_log::limits::HANDS;
 
 /// The actions of a hand are numbered from 0 to one below this.
-pub const ACTIONS: u16 = 256;
+pub const ACTIONS: u16 = slot_log::limits::ACTIONS;
 
 /// The greatest amount of a raise, in whole chips.
 pub const MOST_CHIPS: u32 = 2_147_483_647;

@@ -1,5 +1,5 @@
 -- A run in which a seat says an act, and definitions that the run of three nodes doesn't show.
-use Rattle.std.proofs.Common.{◌≡◌, ℕ, ◌≤◌, inl, inr, Bool, true, false, ◌==◌, None, Some, List, [], ◌∷◌, refl, ap, sym, ◌∙◌, arith}
+use Rattle.std.proofs.Common.{◌≡◌, ℕ, ◌≤◌, inl, inr, Bool, true, false, true≢false, ◌==◌, None, Some, List, [], ◌∷◌, refl, ap, sym, ◌∙◌, arith}
 use Rattle.paxos_wire.specs.declared.message.Message.TheVariants as frame
 use Rattle.slot_log.specs.declared.command.Command.{Command}
 use Rattle.slot_log.specs.declared.command.Command.TheVariants.{Deal, Act}
@@ -12,13 +12,13 @@ use Rattle.protocol_model.specs.Dealers.{Dealer, HasLine}
 use Rattle.protocol_model.specs.Nodes.{Node, Knows}
 use Rattle.protocol_model.specs.Arrivals.{Arrival, Started, Connected, Came}
 use Rattle.protocol_model.specs.Moves
-use Rattle.protocol_model.specs.Moves.{Output, nothing, sending, taking, with_store, with_sent, Move, Chain}
+use Rattle.protocol_model.specs.Moves.{Output, nothing, sending, taking, with_store, with_sent, IsAtHand, Move, Chain}
 use Rattle.protocol_model.specs.Worlds
 use Rattle.protocol_model.specs.Worlds.{World, Run, Reached, new_world}
 use Rattle.protocol_model.specs.Laws.{HasOrigin, WasSaid, IsLeft}
 use Rattle.protocol_model.proofs.Runs.{after_move, is_after_move}
 use Rattle.protocol_model.proofs.Sets.{put_cases}
-use Rattle.protocol_model.proofs.Examples.{fresh, no_vote}
+use Rattle.protocol_model.proofs.Examples.{fresh, no_vote, toy}
 
 abbrev pub is_c : List ℕ → Bool
 is_c [] = false
@@ -124,6 +124,33 @@ sends = refl
 
 begins : sender_of (Prepare (record { round = 7; node = 1 }) 5) ≡ 1
 begins = refl
+
+-- a command is at hand that was passed on to the node, that it noted itself, or that it owns
+passed_on : IsAtHand talk 1 (record (fresh empty_store 1) { has = Forward 0 deal ∷ [] }) deal
+passed_on = inr (inr (0, inl refl))
+
+noted_here : IsAtHand talk 1 (with_sent (fresh empty_store 1) (Said 1 deal ∷ [])) deal
+noted_here = inr (inl (inl refl))
+
+its_own : IsAtHand toy 0 (fresh empty_store 1) deal
+its_own = inl refl
+
+-- what another node noted or owns isn't, nor is anything of a node to which nothing was said
+noted_elsewhere : IsAtHand talk 1 (with_sent (fresh empty_store 1) (Said 0 deal ∷ [])) deal → ⊥
+noted_elsewhere (inl e) = true≢false (sym e)
+noted_elsewhere (inr (inl (inl e))) = omega (arith, ap sender_of e)
+noted_elsewhere (inr (inl (inr none))) = none
+noted_elsewhere (inr (inr passed)) = passed.1
+
+owned_elsewhere : IsAtHand toy 1 (fresh empty_store 1) deal → ⊥
+owned_elsewhere (inl e) = true≢false (sym e)
+owned_elsewhere (inr (inl none)) = none
+owned_elsewhere (inr (inr passed)) = passed.1
+
+nothing_at_hand : IsAtHand talk 1 (fresh empty_store 1) deal → ⊥
+nothing_at_hand (inl e) = true≢false (sym e)
+nothing_at_hand (inr (inl none)) = none
+nothing_at_hand (inr (inr passed)) = passed.1
 
 -- the command at slot 0 is the last of the list
 knows : Knows ((1, deal) ∷ (0, Deal 0 []) ∷ []) (deal ∷ Deal 0 [] ∷ [])

@@ -1,5 +1,5 @@
 -- Worked examples of what sessions answer, and near misses.
-use Rattle.std.proofs.Common.{◌≡◌, ℕ, Bool, true, false, List, [], ◌∷◌, ◌++◌, length, get_or, inr, Option, Some, None, Result, Ok, Err, refl, sym, ap, arith, rules, replicate, inl}
+use Rattle.std.proofs.Common.{◌≡◌, ℕ, ◌<◌, Bool, true, false, List, [], ◌∷◌, ◌++◌, length, get_or, inr, Option, Some, None, Result, Ok, Err, refl, sym, ap, arith, rules, replicate, inl}
 use Rattle.std.specs.Prelude.{codes}
 use Rattle.std.specs.List.{AllByRecursion}
 use Rattle.std.proofs.lemmas.List.{length-append}
@@ -19,7 +19,9 @@ use Rattle.matchstate.proofs.Examples.{opened, limit_pair, first_deal, first_dea
 use Rattle.seat_session.specs.Fault.{fault_text}
 use Rattle.seat_session.specs.Lines.{HasNoFeed, IsPartial, text_of}
 use Rattle.seat_session.specs.Skipped.{is_skipped, IsSkippedLine, on_stream, Skips}
-use Rattle.seat_session.specs.Saying.{Greets, Echoes, Plays, SaidFits}
+use Rattle.seat_session.specs.Feeds.{line_feeds}
+use Rattle.seat_session.specs.Progress.{says_ready}
+use Rattle.seat_session.specs.Saying.{Greets, Echoes, Plays, SaidFits, IsSaidInRange}
 use Rattle.seat_session.specs.Session.{Standing, fresh, closed_by, with_piece, after_line, Answers}
 use Rattle.seat_session.specs.Laws.{Event, fed, asked, Given, joined, given, HoldsLine, IsRestOf, Happens, Gives}
 use Rattle.seat_session.specs.declared.phase.Phase.TheVariants.{Greeting, Ready as InPlay}
@@ -343,3 +345,25 @@ not_the_end_of_a_line holds = none holds.before holds.whole
 
 rest_of_a_line : IsRestOf (97 ∷ 10 ∷ 98 ∷ []) (standing InPlay (98 ∷ []))
 rest_of_a_line = λ unclosed. ((97 ∷ []) ∷ [], refl)
+
+-- ---- what is counted, and in which range it is
+
+two_feeds : line_feeds (97 ∷ 10 ∷ 98 ∷ 10 ∷ 99 ∷ []) ≡ 2
+two_feeds = refl
+
+-- a carriage return ends no line
+no_feed : line_feeds (97 ∷ 13 ∷ 99 ∷ []) ≡ 0
+no_feed = refl
+
+version_counts : says_ready (Ok Ready) ≡ true
+version_counts = refl
+
+call_counts_not : says_ready (Ok (Act (Acts 0 0 Call))) ≡ false
+call_counts_not = refl
+
+fault_counts_not : says_ready (Err NotCurrent) ≡ false
+fault_counts_not = refl
+
+-- no hand has an action of index 256
+index_256_is_out_of_range : IsSaidInRange (Act (Acts 0 256 Call)) → ⊥
+index_256_is_out_of_range within = let index : 256 < 256 = within.1 in absurd (omega (arith, index))

@@ -7,7 +7,7 @@ use std::process::Abort;
 use std::test::Fail;
 
 /// Two players, limit.
-const LIMIT: &[u8] = b"GAMEDEF
+const L2: &[u8] = b"GAMEDEF
 limit
 numPlayers = 2
 numRounds = 4
@@ -26,7 +26,7 @@ type Answer = Result<Said, SessionFault>;
 
 /// A match of one hand after these actions in it.
 fn table_after(rt: &impl Abort, alloc: Global, actions: &[Action]) -> Result<Table, Fail> {
-    let game = game_def::read(LIMIT).expect(rt, "a game");
+    let game = game_def::read(L2).expect(rt, "a game");
     let mut table = Table::new(alloc, game, 1);
     let deal = read_deal(b"TdAs|8hTc/2c8c3h/9c/Kh", 2).expect(rt, "a deal");
     let dealing = Command::Deal { hand: 0, deal };
@@ -177,7 +177,7 @@ fn faults(rt: HostRuntime) -> Result<(), Fail> {
 
 #[test]
 fn faults_at_other_tables(rt: HostRuntime) -> Result<(), Fail> {
-    let game = game_def::read(LIMIT).expect(&rt, "a game");
+    let game = game_def::read(L2).expect(&rt, "a game");
     let undealt = Table::new(rt.alloc(), game, 1);
     let line = b"MATCHSTATE:1:0::|8hTc:c\n";
     let told = fault_told(&rt, rt.alloc(), &undealt, 1, line)?;

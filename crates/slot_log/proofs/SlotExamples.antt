@@ -8,6 +8,7 @@ use Rattle.slot_log.specs.declared.known.Known.{Known}
 use Rattle.slot_log.specs.declared.slot_fault.SlotFault.TheVariants.{Conflict, SlotsSpent}
 use Rattle.slot_log.specs.Fault.{fault_code, fault_text}
 use Rattle.slot_log.specs.Slots.{Log, IsLog, front, known_by, known_at, with_command}
+use Rattle.slot_log.specs.SlotLaws.{known_count}
 
 -- the command that shall stand at a slot
 abbrev numbered : ℕ → Command
@@ -42,6 +43,12 @@ unknown_beyond = refl
 
 hole_filled : with_command with_hole 2 (numbered 2) ≡ log_by (numbered 4 ∷ numbered 3 ∷ numbered 2 ∷ numbered 1 ∷ numbered 0 ∷ []) []
 hole_filled = refl
+
+four_known : known_count with_hole ≡ 4
+four_known = refl
+
+five_known : known_count (with_command with_hole 2 (numbered 2)) ≡ 5
+five_known = refl
 
 -- behind the next hole stays what stands there
 filled_up_to_a_hole : with_command (log_by [] (at 1 ∷ at 3 ∷ [])) 0 (numbered 0) ≡ log_by (numbered 1 ∷ numbered 0 ∷ []) (at 3 ∷ [])

@@ -9,7 +9,7 @@ use Rattle.slot_log.specs.declared.known.Known.{Known}
 use Rattle.slot_log.specs.declared.limits.TheConstants.{SLOTS}
 use Rattle.slot_log.specs.Slots.{Log, IsLog, Rise, front, known_by, find, known_at, with_known, settled, with_command}
 use Rattle.slot_log.specs.SlotsInside.{run_of}
-use Rattle.slot_log.specs.SlotLaws.{FrontIsFirstHole, SlotsEnd, OneMoreIsKnown, FrontsGoOn}
+use Rattle.slot_log.specs.SlotLaws.{FrontIsFirstHole, SlotsEnd, OneMoreIsKnown, FrontsGoOn, CommandsAreKept, known_count}
 use Rattle.slot_log.proofs.Hands.{reverse-cons}
 
 -- ---- places in a list
@@ -244,6 +244,28 @@ one_more_is_known log slot command is within none =
 
 pub fronts_go_on : FrontsGoOn
 fronts_go_on log slot command = settled_below log.below (with_known (known_by slot command) log.beyond)
+
+-- ---- how many commands are known
+
+one_more : (new : Known) (known : List Known) → length (with_known new known) ≡ length known + 1
+one_more new [] = refl
+one_more new (known ∷ others) =
+    elim (cases_lt new.slot known.slot) [
+      | inl before ↦ rw (lt-ltb new.slot known.slot before) omega arith
+      | inr behind ↦ rw (le-ltb new.slot known.slot behind) omega (arith, one_more new others)
+    ]
+
+none_lost : (below : List Command) (beyond : List Known) → known_count (settled below beyond) ≡ length below + length beyond
+none_lost below [] = refl
+none_lost below (known ∷ others) =
+    elim (cases_eq known.slot (length below)) [
+      | inl same ↦ rw (eq-eqb known.slot (length below) same) omega (arith, none_lost (known.command ∷ below) others)
+      | inr other ↦ rw (ne_eqb known.slot (length below) other) refl
+    ]
+
+pub commands_are_kept : CommandsAreKept
+commands_are_kept log slot command =
+    omega (arith, none_lost log.below (with_known (known_by slot command) log.beyond), one_more (known_by slot command) log.beyond)
 
 -- ---- by how much the front goes on
 

@@ -1,5 +1,5 @@
 -- What holds of every log of slots.
-use Rattle.std.specs.Prelude.{◌≡◌, ◌==◌, ℕ, ◌<◌, if◌then◌else◌, List, ◌++◌, Some, None, IsSome}
+use Rattle.std.specs.Prelude.{◌≡◌, ◌==◌, ℕ, ◌+◌, ◌<◌, if◌then◌else◌, List, ◌++◌, length, Some, None, IsSome}
 use Rattle.slot_log.specs.declared.command.Command.{Command}
 use Rattle.slot_log.specs.declared.limits.TheConstants.{SLOTS}
 use Rattle.slot_log.specs.Slots.{Log, IsLog, front, known_at, with_command}
@@ -22,3 +22,11 @@ OneMoreIsKnown = (log : Log) (slot : ℕ) (command : Command) → IsLog log → 
 -- the commands below the front stay there
 abbrev pub FrontsGoOn : Type 0
 FrontsGoOn = (log : Log) (slot : ℕ) (command : Command) → (later : List Command) × ((with_command log slot command).below ≡ later ++ log.below)
+
+-- how many commands are known, below the front and beyond it
+abbrev pub known_count : Log → ℕ
+known_count log = length log.below + length log.beyond
+
+-- a command that becomes known is one more, and none is lost
+abbrev pub CommandsAreKept : Type 0
+CommandsAreKept = (log : Log) (slot : ℕ) (command : Command) → known_count (with_command log slot command) ≡ known_count log + 1

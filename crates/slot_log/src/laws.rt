@@ -1,7 +1,7 @@
 //! What holds of the hands of every match and of every log of slots: each law is the contract of a function that does nothing.
 
 ghost use Rattle.slot_log.specs.Laws.{HandsComeOfCommands, CommandsDealTheHands, FitsWithoutReason, CommandsMakeHands, FittingIsInRange, NewestIsFound};
-ghost use Rattle.slot_log.specs.SlotLaws.{FrontIsFirstHole, SlotsEnd, OneMoreIsKnown, FrontsGoOn};
+ghost use Rattle.slot_log.specs.SlotLaws.{FrontIsFirstHole, SlotsEnd, OneMoreIsKnown, FrontsGoOn, CommandsAreKept};
 
 use betting::laws::{allowed_without_fault, hands_end, raises_go_up};
 
@@ -65,4 +65,10 @@ pub fn one_more_is_known()
 /// The commands below the front stay there when a further command becomes known.
 pub fn fronts_go_on()
     ensures { FrontsGoOn }
+{}
+
+/// Where one more command becomes known, those below the front and those beyond it are one more together: the front
+/// goes on over commands that are known, and none is lost.
+pub fn commands_are_kept()
+    ensures { CommandsAreKept }
 {}

@@ -79,6 +79,13 @@ impl SlotLog {
         &self.below
     }
 
+    /// How many commands are known beyond the front.
+    pub fn ahead(&self) -> usize
+        ensures { result ≡ length self.now.log.beyond }
+    {
+        self.beyond.len()
+    }
+
     /// How far the front goes on where a command becomes known at this slot: 0 where it isn't the front's.
     pub fn run_with(&self, slot: u32) -> usize
         ensures { (command : Command) → result + front self.now.log ≡ front (with_command self.now.log slot command) }

@@ -280,7 +280,7 @@ impl Table {
         self.earlier.reserve(hands)
     }
 
-    // Begins a hand.
+    /// Begins a hand.
     fn begin(&mut self, deal: Deal) -> Result<Effect, AllocError>
         requires none_runs { is_running self.old.game self.old.hands ≡ false }
         requires goes_on { finished_count self.old.game self.old.hands < self.old.count }
@@ -301,7 +301,7 @@ impl Table {
         Ok(Effect::Dealt)
     }
 
-    // Takes the action of the player to act.
+    /// Takes the action of the player to act.
     fn act(&mut self, action: Action) -> Effect
         requires { NewestAllows self.old.game self.old.hands action }
         ensures hands { self.new.hands ≡ with_action self.old.hands action }

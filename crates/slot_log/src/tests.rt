@@ -5,7 +5,7 @@ use std::process::Abort;
 use std::test::Fail;
 
 /// Two players, limit.
-const LIMIT: &[u8] = b"GAMEDEF
+const L2: &[u8] = b"GAMEDEF
 limit
 numPlayers = 2
 numRounds = 4
@@ -92,7 +92,7 @@ fn act(hand: u32, index: u16, action: Action) -> Command {
 
 #[test]
 fn a_match_of_two_hands(rt: HostRuntime) -> Result<(), Fail> {
-    let game = game_def::read(LIMIT).expect(&rt, "a game");
+    let game = game_def::read(L2).expect(&rt, "a game");
     let mut table = Table::new(rt.alloc(), game, 2);
     assert_eq!(rt; table.game().players(), 2);
     assert_eq!(rt; table.hands(), 2);
@@ -152,7 +152,7 @@ fn a_match_of_two_hands(rt: HostRuntime) -> Result<(), Fail> {
 
 #[test]
 fn a_command_that_does_not_fit_does_nothing(rt: HostRuntime) -> Result<(), Fail> {
-    let game = game_def::read(LIMIT).expect(&rt, "a game");
+    let game = game_def::read(L2).expect(&rt, "a game");
     let mut table = Table::new(rt.alloc(), game, 1);
     let [deal, deal_of_the_next_hand, deal_for_three] = [
         Command::Deal {
@@ -208,7 +208,7 @@ fn a_command_that_does_not_fit_does_nothing(rt: HostRuntime) -> Result<(), Fail>
 
 #[test]
 fn refused_memory_changes_nothing(rt: HostRuntime) {
-    let game = game_def::read(LIMIT).expect(&rt, "a game");
+    let game = game_def::read(L2).expect(&rt, "a game");
     let mut table = Table::new(rt.alloc(), game, 10);
     for hand in 0..10 {
         let deal = Command::Deal {
