@@ -16,6 +16,8 @@ TASKS = [
     ("five-card-hands", "values of five cards", 2_598_960, None),
     ("draws", "deals drawn", 20_000, None),
     ("best-of-seven", "best fives of seven", 200_000, "draws"),
+    ("sevens-by-counts", "sevens ranked by counts", 2_118_760, None),
+    ("sevens-by-fives", "sevens ranked by all fives", 2_118_760, None),
     ("short-hands", "actions of hands of 8", 20_000_000, None),
     ("long-hands", "actions of hands of 256", 20_000_000, None),
     ("encode", "frames written", 1_000_000, None),
@@ -37,13 +39,17 @@ def fastest(task, runs):
 
 def main():
     runs = int(sys.argv[1]) if len(sys.argv) > 1 else 5
-    times = {}
+    times, outputs = {}, {}
     for task, piece, count, without in TASKS:
         seconds, output = fastest(task, runs)
-        times[task] = seconds
+        times[task], outputs[task] = seconds, output
         seconds = max(seconds - times.get(without, 0), 1e-9)
         print(f"{task}: {count / seconds:,.0f} {piece} a second ({seconds:.3f} s for {count:,})")
         print(f"  {output}")
+    if outputs["sevens-by-counts"] != outputs["sevens-by-fives"]:
+        sys.exit("the two bodies rank sevens differently")
+    ratio = times["sevens-by-fives"] / times["sevens-by-counts"]
+    print(f"by counts a seven takes {ratio:.0f} times less than by all fives")
     ratio = times["long-hands"] / times["short-hands"]
     print(f"an action of a long hand takes {ratio:.2f} times as long as one of a short hand")
 

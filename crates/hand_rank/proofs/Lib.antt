@@ -2,4 +2,15 @@ pub mod Counts
 pub mod Ranked
 pub mod Permutations
 pub mod Greatest
+pub mod Sets
+pub mod Totals
+pub mod Picks
+pub mod Groups
+pub mod Straights
+pub mod Reading
+pub mod Chosen
+pub mod Profiles
+pub mod Bests
+pub mod Reached
+pub mod Values
 pub mod Examples

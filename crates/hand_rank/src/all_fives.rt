@@ -7,10 +7,11 @@ use crate::five::value_of_slice;
 use crate::hand_value::HandValue;
 use card_core::Card;
 
-/// The value of the best five of seven distinct cards, a player's two hole cards and the five board cards
-/// of Texas hold'em: some five of them have it, and no five of them have a greater one. Suits break no
-/// tie, and the order of the cards is of no account.
-pub fn best_of_seven(cards: &[Card; 7]) -> HandValue
+/// The same as `best_of_seven`, from the values of all fives: the plain body, to compare with.
+///
+/// Some five of the seven distinct cards have the value, and no five of them have a greater one. Suits break
+/// no tie, and the order of the cards is of no account.
+pub fn best_of_all_fives(cards: &[Card; 7]) -> HandValue
     requires { IsDistinct nat_eq cards.now }
     ensures { IsBestOf cards.now result }
 {

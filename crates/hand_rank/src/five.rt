@@ -8,26 +8,26 @@ use crate::hand_value::HandValue;
 use arrayvec::ArrayVec;
 use card_core::Card;
 
-const STRAIGHT_FLUSH: u8 = 8;
+pub(crate) const STRAIGHT_FLUSH: u8 = 8;
 
-const FOUR_OF_A_KIND: u8 = 7;
+pub(crate) const FOUR_OF_A_KIND: u8 = 7;
 
-const FULL_HOUSE: u8 = 6;
+pub(crate) const FULL_HOUSE: u8 = 6;
 
-const FLUSH: u8 = 5;
+pub(crate) const FLUSH: u8 = 5;
 
-const STRAIGHT: u8 = 4;
+pub(crate) const STRAIGHT: u8 = 4;
 
-const THREE_OF_A_KIND: u8 = 3;
+pub(crate) const THREE_OF_A_KIND: u8 = 3;
 
-const TWO_PAIRS: u8 = 2;
+pub(crate) const TWO_PAIRS: u8 = 2;
 
-const PAIR: u8 = 1;
+pub(crate) const PAIR: u8 = 1;
 
-const HIGH_CARD: u8 = 0;
+pub(crate) const HIGH_CARD: u8 = 0;
 
 /// The four suits: clubs, diamonds, hearts, spades.
-const SUITS: [u8; 4] = [0, 1, 2, 3];
+pub(crate) const SUITS: [u8; 4] = [0, 1, 2, 3];
 
 /// The tops that a straight can have, from the ace down to the five.
 const STRAIGHT_TOPS: [u8; 10] = [12, 11, 10, 9, 8, 7, 6, 5, 4, 3];
@@ -83,7 +83,7 @@ fn is_flush(cards: &[Card]) -> bool
 }
 
 /// How many of the cards have the suit.
-fn suit_count(cards: &[Card], suit: u8) -> usize
+pub(crate) fn suit_count(cards: &[Card], suit: u8) -> usize
     ensures { result ≡ suit_total cards.now suit }
 {
     cards.iter().filter(|card| card.suit() == suit).count()

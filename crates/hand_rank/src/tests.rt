@@ -1,7 +1,7 @@
 ghost use Rattle.std.specs.Prelude.{◌<◌, nat_eq};
 ghost use Rattle.std.specs.List.{All, IsDistinct};
 
-use crate::{HandValue, best_of_seven, value_of_five};
+use crate::{HandValue, best_of_all_fives, best_of_seven, value_of_five};
 use card_core::Card;
 use std::process::Abort;
 
@@ -20,13 +20,13 @@ fn value(rt: &impl Abort, cards: [[u8; 2]; 5]) -> HandValue {
     ])
 }
 
-/// The category and ranks of the best five of seven cards, given by their numbers.
-fn best(numbers: [u8; 7]) -> (u8, [u8; 5])
+/// The category and ranks of the best five of seven cards, given by their numbers, as both bodies find them.
+fn best(rt: &impl Abort, numbers: [u8; 7]) -> (u8, [u8; 5])
     requires cards { All (λ number. number < 52) numbers }
     requires distinct { IsDistinct nat_eq numbers }
 {
     let [a, b, c, d, e, f, g] = numbers;
-    let value = best_of_seven(&[
+    let cards = [
         Card::from_number(a),
         Card::from_number(b),
         Card::from_number(c),
@@ -34,26 +34,28 @@ fn best(numbers: [u8; 7]) -> (u8, [u8; 5])
         Card::from_number(e),
         Card::from_number(f),
         Card::from_number(g),
-    ]);
+    ];
+    let value = best_of_seven(&cards);
+    assert_eq!(rt; value, best_of_all_fives(&cards));
     (value.category(), value.ranks())
 }
 
 #[test]
 fn best_of_seven_cards(rt: HostRuntime) {
     // Ac Ad Kc Kd Qc Qd 2s
-    let three_pairs = best([48, 49, 44, 45, 40, 41, 3]);
+    let three_pairs = best(&rt, [48, 49, 44, 45, 40, 41, 3]);
     assert_eq!(rt; three_pairs, (2, [12, 12, 11, 11, 10]));
     // Ac 2d 3h 4s 5c Kd Qs
-    let wheel = best([48, 1, 6, 11, 12, 45, 43]);
+    let wheel = best(&rt, [48, 1, 6, 11, 12, 45, 43]);
     assert_eq!(rt; wheel, (4, [3, 0, 0, 0, 0]));
     // Ac Ad Ah Kc Kd Kh 2s
-    let two_triples = best([48, 49, 50, 44, 45, 46, 3]);
+    let two_triples = best(&rt, [48, 49, 50, 44, 45, 46, 3]);
     assert_eq!(rt; two_triples, (6, [12, 12, 12, 11, 11]));
     // 3c 4d 5h 6s 7c 8d Ac
-    let six_in_a_row = best([4, 9, 14, 19, 20, 25, 48]);
+    let six_in_a_row = best(&rt, [4, 9, 14, 19, 20, 25, 48]);
     assert_eq!(rt; six_in_a_row, (4, [6, 0, 0, 0, 0]));
     // 2h 4h 6h 7h 9h 8s Tc: a flush of hearts beside the straight up to the ten
-    let flush_and_straight = best([2, 10, 18, 22, 30, 27, 32]);
+    let flush_and_straight = best(&rt, [2, 10, 18, 22, 30, 27, 32]);
     assert_eq!(rt; flush_and_straight, (5, [7, 5, 4, 2, 0]));
 }
 

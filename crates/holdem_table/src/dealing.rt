@@ -1,8 +1,6 @@
 ghost use Rattle.std.specs.Prelude.{◌≡◌, ℕ, List, [], ◌∷◌, ◌++◌, ◌≤◌, ◌<◌, length, IsSome, IsNone, IfSome, IfNone, OnOk, codes, take, Option as Maybe};
-ghost use Rattle.std.specs.List.{flat_map};
-ghost use Rattle.std.specs.Option.{option_to_list, ForSome};
-ghost use Rattle.matchstate.specs.Line.{line_text};
-ghost use Rattle.matchstate.specs.View.{seat_view};
+ghost use Rattle.std.specs.Option.{ForSome};
+ghost use Rattle.matchstate.specs.Line.{newest_text};
 ghost use Rattle.game_def.specs.Game.{Game};
 ghost use Rattle.betting.specs.Fault.{fault_text};
 ghost use Rattle.betting.specs.declared.action.Action.{Action};
@@ -19,7 +17,7 @@ use betting::ActFault;
 use game_def::GameDef;
 use itoa::Buffer;
 use match_log::{SeatNames, further_lines, header};
-use matchstate::{read_action, read_deal, seat_view, write};
+use matchstate::{BettingText, read_action, read_deal, seat_line};
 use slot_log::{Command, Effect, Reason, Table};
 use std::alloc::{AllocError, Global};
 use std::io::Write;
@@ -231,32 +229,28 @@ impl<'a> Dealing<'a> {
     fn put_lines(&self, out: &mut Vec<u8>) -> Result<(), AllocError>
         ensures { OnOk result (out.new.items ≡ out.old.items ++ lines_for self.now.table.game self.now.table.hands) }
     {
+        let betting = BettingText::newest(&self.table);
         for seat in 0..self.table.game().players() {
-            self.put_line(seat, out)?;
+            self.put_line(seat, &betting, out)?;
         }
         Ok(())
     }
 
-    /// Appends a seat's line.
-    fn put_line(&self, seat: usize, out: &mut Vec<u8>) -> Result<(), AllocError>
-        requires { seat < self.now.table.game.players }
+    /// Appends a seat's line, by the betting text of the newest hand.
+    fn put_line(
+        &self,
+        seat: usize,
+        betting: &BettingText,
+        out: &mut Vec<u8>,
+    ) -> Result<(), AllocError>
+        requires seat { seat < self.now.table.game.players }
+        requires betting { betting.now ≡ newest_text self.now.table.game self.now.table.hands }
         ensures { OnOk result (out.new.items ≡ out.old.items ++ line_for self.now.table.game self.now.table.hands seat) }
     {
         out.extend_from_slice(Buffer::new().format(seat).as_bytes())?;
         out.extend_from_slice(b" ")?;
-        self.put_view(seat, out)?;
+        seat_line(out, &self.table, seat, betting)?;
         out.extend_from_slice(b"\n")
-    }
-
-    /// Appends what a seat sees, which is nothing before the first deal.
-    fn put_view(&self, seat: usize, out: &mut Vec<u8>) -> Result<(), AllocError>
-        requires { seat < self.now.table.game.players }
-        ensures { OnOk result (out.new.items ≡ out.old.items ++ flat_map line_text (option_to_list (seat_view self.now.table.game self.now.table.hands seat))) }
-    {
-        match seat_view(&self.table, seat) {
-            Some(view) => write(out, &view, self.table.game()),
-            None => Ok(()),
-        }
     }
 }
 

@@ -2,7 +2,7 @@ ghost use Rattle.std.specs.Prelude.{◌≡◌, ℕ, ◌+◌, ◌*◌, ◌<◌, �
 ghost use Rattle.betting.specs.Text.{text, action_text, slash_counts};
 ghost use Rattle.matchstate.specs.Line.{newest_text};
 
-use crate::put::put;
+use crate::appending::put;
 use betting::laws::slashes_stand_behind_actions;
 use betting::{Action, Play};
 use game_def::GameDef;

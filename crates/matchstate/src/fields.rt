@@ -32,7 +32,7 @@ pub(crate) fn cut_last_field(bytes: &[u8]) -> Option<(&[u8], &[u8])>
     Some((&bytes[..place], &bytes[place + 1..]))
 }
 
-// Where the last `:` stands.
+/// Where the last `:` stands.
 fn last_colon(bytes: &[u8]) -> Option<usize>
     ensures found { IfSome result (λ place. (place < length bytes.now) × (bytes.now ≡ take place bytes.now ++ 58 ∷ drop (place + 1) bytes.now) × IsField (drop (place + 1) bytes.now)) }
     ensures missing { IsNone result → IsField bytes.now }
@@ -52,7 +52,7 @@ pub(crate) fn is_field(bytes: &[u8]) -> bool
     field_len(bytes) == bytes.len()
 }
 
-// How many bytes stand before the first `:`.
+/// How many bytes stand before the first `:`.
 fn field_len(bytes: &[u8]) -> usize
     ensures value { result ≡ prefix_len (λ byte. not (byte == 58)) bytes.now }
     ensures within { result ≤ length bytes.now }

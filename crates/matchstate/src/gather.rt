@@ -35,7 +35,7 @@ pub(crate) fn gather_board(seen: &SeenCards) -> ([Card; 5], usize)
     (cards, count)
 }
 
-// Puts the hole cards that are seen in front, and says how many they are.
+/// Puts the hole cards that are seen in front, and says how many they are.
 fn gather_holes(cards: &mut [Card], players: usize, holes: &[Option<[Card; 2]>; 10]) -> usize
     requires players { players ≤ 10 }
     requires room { length cards.old ≡ 25 }
@@ -49,7 +49,7 @@ fn gather_holes(cards: &mut [Card], players: usize, holes: &[Option<[Card; 2]>; 
     count
 }
 
-// Puts the cards of a group, if any, behind those so far, and says how many they are then.
+/// Puts the cards of a group, if any, behind those so far, and says how many they are then.
 fn add<const N: usize>(cards: &mut [Card], count: usize, group: &Option<[Card; N]>) -> usize
     requires few { N ≤ 3 }
     requires room { count + N ≤ length cards.old }

@@ -2,6 +2,7 @@
 //! from a text to what it shows; and the players' answers, a line and an action.
 #![tactic(auto)]
 
+mod appending;
 mod betting_field;
 mod comparison;
 mod deal_text;
@@ -12,7 +13,6 @@ pub mod laws;
 mod line;
 mod line_fault;
 mod number;
-mod put;
 mod put_seen;
 mod read_cards;
 mod read_line;
@@ -26,10 +26,12 @@ mod seen_cards;
 mod sight;
 mod view;
 
+pub use appending::{put, put_cards, put_number};
 pub use betting_field::{BettingText, MOST_BETTING, betting_text, betting_text_reserved};
 pub use deal_text::{read_deal, read_shown};
 pub use line::{MOST_LINE, seat_line, seat_line_reserved, write, write_reserved};
 pub use line_fault::LineFault;
+pub use number::read_number;
 pub use read_line::read;
 pub use reading_action::read_action;
 pub use reading_answer::read_answer;

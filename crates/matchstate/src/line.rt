@@ -3,8 +3,8 @@ ghost use Rattle.matchstate.specs.Cards.{cards_field};
 ghost use Rattle.matchstate.specs.SeenCards.{holes_in, boards_in};
 ghost use Rattle.matchstate.specs.Line.{joined, line_text, newest_text, seat_text};
 
+use crate::appending::{put, put_number};
 use crate::betting_field::BettingText;
-use crate::put::{put, put_number};
 use crate::put_seen::put_seen;
 use crate::seating::position_of;
 use crate::seen_cards::SeenCards;

@@ -2,8 +2,8 @@ ghost use Rattle.std.specs.Prelude.{◌≡◌, ℕ, ◌^◌, ◌<◌, Some, IfSo
 
 use itoa::Buffer;
 
-/// The number that the bytes write as a decimal without leading zeros.
-pub(crate) fn read_number(bytes: &[u8]) -> Option<u32>
+/// The number below 2^32 that the bytes write as a decimal without leading zeros; `None` for any other bytes.
+pub fn read_number(bytes: &[u8]) -> Option<u32>
     ensures found { IfSome result (λ number. bytes.now ≡ decimal number) }
     ensures only { (number : ℕ) → number < 2 ^ 32 → bytes.now ≡ decimal number → result ≡ Some number }
 {

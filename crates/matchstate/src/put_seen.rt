@@ -4,7 +4,7 @@ ghost use Rattle.std.specs.Option.{option_to_list};
 ghost use Rattle.matchstate.specs.Cards.{cards_text, cards_field};
 ghost use Rattle.matchstate.specs.SeenCards.{hole_in, holes_in, boards_in};
 
-use crate::put::{put, put_cards};
+use crate::appending::{put, put_cards};
 use crate::seen_cards::SeenCards;
 use card_core::Card;
 
@@ -25,7 +25,7 @@ pub(crate) fn put_seen(out: &mut Vec<u8>, players: usize, seen: &SeenCards)
     put_street(out, &seen.river);
 }
 
-// Appends the hole cards by position, with `|` between them.
+/// Appends the hole cards by position, with `|` between them.
 fn put_holes(out: &mut Vec<u8>, players: usize, holes: &[Option<[Card; 2]>; 10])
     requires players { players ≤ 10 }
     requires room { vec_len out.old + 50 ≤ vec_capacity out.old }
@@ -41,7 +41,7 @@ fn put_holes(out: &mut Vec<u8>, players: usize, holes: &[Option<[Card; 2]>; 10])
     }
 }
 
-// Appends the two cards of a position, where they are seen.
+/// Appends the two cards of a position, where they are seen.
 fn put_hole(out: &mut Vec<u8>, hole: &Option<[Card; 2]>)
     requires { vec_len out.old + 4 ≤ vec_capacity out.old }
     ensures items { out.new.items ≡ out.old.items ++ cards_text (hole_in hole.now) }
@@ -53,7 +53,7 @@ fn put_hole(out: &mut Vec<u8>, hole: &Option<[Card; 2]>)
     }
 }
 
-// Appends `/` and the cards of a round, where it has begun.
+/// Appends `/` and the cards of a round, where it has begun.
 fn put_street<const N: usize>(out: &mut Vec<u8>, street: &Option<[Card; N]>)
     requires most { N ≤ 3 }
     requires room { vec_len out.old + (2 * N + 1) ≤ vec_capacity out.old }

@@ -47,7 +47,7 @@ pub(crate) fn read_played(bytes: &[u8], game: &GameDef) -> Result<(View, Play), 
     Ok((view, play))
 }
 
-// The four fields behind the word.
+/// The four fields behind the word.
 fn fields_of(bytes: &[u8]) -> Option<LineFields<'_>>
     ensures found { IfSome result (λ fields. HasFields bytes.now (fields_in fields)) }
     ensures only { (fields : Fields) → HasFields bytes.now fields → IsSomeAnd result (λ found. fields_in found ≡ fields) }
@@ -67,7 +67,7 @@ fn fields_of(bytes: &[u8]) -> Option<LineFields<'_>>
     })
 }
 
-// What stands behind the word that begins each line.
+/// What stands behind the word that begins each line.
 fn after_word(bytes: &[u8]) -> Option<&[u8]>
     ensures found { IfSome result (λ rest. bytes.now ≡ codes "MATCHSTATE:" ++ rest.now) }
     ensures only { (behind : List ℕ) → bytes.now ≡ codes "MATCHSTATE:" ++ behind → IsSomeAnd result (λ rest. rest.now ≡ behind) }
@@ -75,7 +75,7 @@ fn after_word(bytes: &[u8]) -> Option<&[u8]>
     bytes.strip_prefix(b"MATCHSTATE:")
 }
 
-// The position and the number of the hand.
+/// The position and the number of the hand.
 fn numbers_of(fields: &LineFields, game: &GameDef) -> Option<(usize, u32)>
     ensures found { IfSome result (λ numbers. AreNumbers game.now (fields_in fields.now) numbers.0 numbers.1) }
     ensures only { (position hand : ℕ) → AreNumbers game.now (fields_in fields.now) position hand → result ≡ Some (position, hand) }

@@ -66,7 +66,7 @@ fn read_holes(
     Some((holes, bytes.len() - rest.len()))
 }
 
-// What stands behind the `|` before a position's hole cards; none stands before the first.
+/// What stands behind the `|` before a position's hole cards; none stands before the first.
 fn after_separator(bytes: &[u8], position: usize) -> Option<&[u8]>
     ensures found { IfSome result (λ rest. bytes.now ≡ separator position ++ rest.now) }
     ensures only { (behind : List ℕ) → bytes.now ≡ separator position ++ behind → IsSomeAnd result (λ rest. rest.now ≡ behind) }
@@ -78,14 +78,14 @@ fn after_separator(bytes: &[u8], position: usize) -> Option<&[u8]>
     }
 }
 
-// How many bytes the hole cards of a position take.
+/// How many bytes the hole cards of a position take.
 fn hole_len(seen: bool) -> usize
     ensures { result ≡ (if seen then 4 else 0) }
 {
     if seen { 4 } else { 0 }
 }
 
-// The two cards of a position that is seen, none of another.
+/// The two cards of a position that is seen, none of another.
 fn read_hole(bytes: &[u8], seen: bool) -> Option<Option<[Card; 2]>>
     ensures found { IfSome result (λ hole. bytes.now ≡ cards_text (hole_in hole) ++ drop (if seen then 4 else 0) bytes.now) }
     ensures count { IfSome result (λ hole. length (hole_in hole) ≡ (if seen then 2 else 0)) }

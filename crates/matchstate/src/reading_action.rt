@@ -21,7 +21,7 @@ pub fn read_action(bytes: &[u8], play: &Play) -> Option<Action>
     }
 }
 
-// The amount of a raise, by what stands behind its r.
+/// The amount of a raise, by what stands behind its r.
 fn read_amount(digits: &[u8], play: &Play) -> Option<u32>
     ensures found { IfSome result (λ amount. IsRaiseText play.now.game.raise_sizes play.now.game (history play.now) (114 ∷ digits.now) amount) }
     ensures only { (amount : ℕ) → IsRaiseText play.now.game.raise_sizes play.now.game (history play.now) (114 ∷ digits.now) amount → result ≡ Some amount }

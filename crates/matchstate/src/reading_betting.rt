@@ -25,7 +25,7 @@ pub fn read_betting(bytes: &[u8], game: &GameDef) -> Option<Play>
     Some(play)
 }
 
-// Takes the action at the front, and gives what stands behind the slashes that it causes.
+/// Takes the action at the front, and gives what stands behind the slashes that it causes.
 fn read_turn<'a>(bytes: &'a [u8], play: &mut Play) -> Option<&'a [u8]>
     requires some { 0 < length bytes.now }
     requires limits { IsGame play.old.game }
@@ -43,7 +43,7 @@ fn read_turn<'a>(bytes: &'a [u8], play: &mut Play) -> Option<&'a [u8]>
     after_slashes(behind, play.round().saturating_sub(before))
 }
 
-// How many bytes an action's text has at the most, a letter and the digits behind it.
+/// How many bytes an action's text has at the most, a letter and the digits behind it.
 fn word_len(bytes: &[u8]) -> usize
     requires { 0 < length bytes.now }
     ensures value { result ≡ 1 + prefix_len is_ascii_digit (drop 1 bytes.now) }
@@ -52,7 +52,7 @@ fn word_len(bytes: &[u8]) -> usize
     1 + digits_len(&bytes[1..])
 }
 
-// How many digits stand in front.
+/// How many digits stand in front.
 fn digits_len(bytes: &[u8]) -> usize
     ensures value { result ≡ prefix_len is_ascii_digit bytes.now }
     ensures within { result ≤ length bytes.now }
@@ -65,7 +65,7 @@ fn digits_len(bytes: &[u8]) -> usize
     bytes.len()
 }
 
-// What stands behind so many slashes.
+/// What stands behind so many slashes.
 fn after_slashes(bytes: &[u8], count: usize) -> Option<&[u8]>
     requires { count ≤ 3 }
     ensures found { IfSome result (λ rest. bytes.now ≡ replicate count 47 ++ rest.now) }

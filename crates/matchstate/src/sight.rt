@@ -30,7 +30,7 @@ pub(crate) fn sight(deal: &Deal, play: &Play, viewer: usize) -> SeenCards
     }
 }
 
-// The hole cards that a viewer sees, by position.
+/// The hole cards that a viewer sees, by position.
 fn holes_in_sight(deal: &Deal, play: &Play, viewer: usize) -> [Option<[Card; 2]>; 10]
     requires { IsDeal play.now.game.players deal.now }
     ensures { map hole_in (take play.now.game.players result) ≡ holes_seen play.now.game.players (sees play.now.game play.now.past viewer) deal.now }
@@ -43,7 +43,7 @@ fn holes_in_sight(deal: &Deal, play: &Play, viewer: usize) -> [Option<[Card; 2]>
     holes
 }
 
-// The hole cards of a position, where a viewer sees them.
+/// The hole cards of a position, where a viewer sees them.
 fn hole_in_sight(deal: &Deal, play: &Play, viewer: usize, position: usize) -> Option<[Card; 2]>
     requires deal { IsDeal play.now.game.players deal.now }
     requires below { position < play.now.game.players }
@@ -68,7 +68,7 @@ pub(crate) fn positions_in_sight(play: &Play, viewer: usize) -> [bool; 10]
     seen
 }
 
-// Whether a viewer sees a position's hole cards.
+/// Whether a viewer sees a position's hole cards.
 fn is_in_sight(play: &Play, viewer: usize, position: usize) -> bool
     requires { position < play.now.game.players }
     ensures { result ≡ sees play.now.game play.now.past viewer position }
@@ -76,14 +76,14 @@ fn is_in_sight(play: &Play, viewer: usize, position: usize) -> bool
     position == viewer || (has_come_to_showdown(play) && !play.folded(position))
 }
 
-// Whether the hand is over with two or more players who haven't folded.
+/// Whether the hand is over with two or more players who haven't folded.
 fn has_come_to_showdown(play: &Play) -> bool
     ensures { result ≡ is_showdown play.now.game play.now.past }
 {
     play.finished() && 2 <= unfolded(play)
 }
 
-// How many players haven't folded.
+/// How many players haven't folded.
 #[tactic(auto, unfolding(betting::specs::Turns::count_below, betting::specs::Turns::unfolded_count))]
 fn unfolded(play: &Play) -> usize
     ensures { result ≡ unfolded_count play.now.game (history play.now) }

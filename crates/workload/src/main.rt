@@ -1,8 +1,10 @@
 //! Runs the layers of the dealer on many values, for tests against outside vectors and for timing from outside.
 //!
 //! Each argument names what to run, and prints counts and checksums: `five-card-hands`, `best-of-seven`, `draws`,
-//! `short-hands`, `long-hands`, `encode`, `decode`; `decks`, which reads lines `seed hand players deal`; and `frames`,
-//! which reads lines of a frame in hexadecimal and `ok` or its fault.
+//! `sevens-by-counts`, `sevens-by-fives`, `sevens`, `short-hands`, `long-hands`, `encode`, `decode`; `decks`, which reads
+//! lines `seed hand players deal`; and `frames`, which reads lines of a frame in hexadecimal and `ok` or its fault. The
+//! tasks of the store work on the file `workload.journal`: `store-append`, `store-appends`, `store-short`, `store-long`,
+//! `store-open-short`, `store-open-long`.
 #![tactic(auto)]
 
 mod decks;
@@ -10,9 +12,14 @@ mod frame_speed;
 mod frames;
 mod hand_play;
 mod hands;
+mod sevens;
+mod stores;
 mod task;
 
 use hand_play::Policy;
+use sevens::Body;
+use std::fs::File;
+use std::rt::Files;
 use std::{env, io};
 use task::Task;
 
@@ -28,10 +35,13 @@ fn main(rt: HostRuntime) -> io::Result<()> {
 }
 
 /// Runs one task and prints what it found.
-fn run(rt: &(impl Input + Print + AllocGlobal), task: Task) -> io::Result<()> {
+fn run(rt: &(impl Input + Print + AllocGlobal + Files<File = File>), task: Task) -> io::Result<()> {
     match task {
         Task::FiveCardHands => hands::print_categories(rt),
         Task::BestOfSeven => hands::print_best_of_seven(rt),
+        Task::SevensByCounts => sevens::print_all(rt, Body::Counts),
+        Task::SevensByFives => sevens::print_all(rt, Body::AllFives),
+        Task::Sevens => sevens::print_compared(rt),
         Task::Draws => hands::print_draws(rt),
         Task::Decks => decks::print_checked(rt),
         Task::ShortHands => hand_play::print_played(rt, Policy::Call),
@@ -39,5 +49,11 @@ fn run(rt: &(impl Input + Print + AllocGlobal), task: Task) -> io::Result<()> {
         Task::Encode => frame_speed::print_encoded(rt),
         Task::Decode => frame_speed::print_decoded(rt),
         Task::Frames => frames::print_checked(rt),
+        Task::Append => stores::print_appended(rt, 1),
+        Task::Appends => stores::print_many_appended(rt),
+        Task::ShortJournal => stores::print_written(rt, 10_000),
+        Task::LongJournal => stores::print_written(rt, 1_000_000),
+        Task::OpenShort => stores::print_opened(rt, 10_000),
+        Task::OpenLong => stores::print_opened(rt, 1_000_000),
     }
 }

@@ -7,6 +7,12 @@ pub enum Task {
     BestOfSeven,
     /// Draws the same deals alone.
     Draws,
+    /// Ranks all seven-card hands with two fixed cards, by counts.
+    SevensByCounts,
+    /// Ranks the same hands, by all fives.
+    SevensByFives,
+    /// Ranks the same hands and a million drawn ones by both, and counts where they differ.
+    Sevens,
     /// Compares decks that are read with those that are drawn.
     Decks,
     /// Plays short hands.
@@ -19,6 +25,18 @@ pub enum Task {
     Decode,
     /// Reads frames, and compares what they read as with what stands beside them.
     Frames,
+    /// Appends one promise to a store on a file.
+    Append,
+    /// Appends many promises to a store on a file.
+    Appends,
+    /// Writes a journal of 10,000 records.
+    ShortJournal,
+    /// Writes a journal of 1,000,000 records.
+    LongJournal,
+    /// Opens the store of the short journal.
+    OpenShort,
+    /// Opens the store of the long journal.
+    OpenLong,
 }
 
 impl Task {
@@ -27,6 +45,9 @@ impl Task {
         match name {
             "five-card-hands" => Some(Task::FiveCardHands),
             "best-of-seven" => Some(Task::BestOfSeven),
+            "sevens-by-counts" => Some(Task::SevensByCounts),
+            "sevens-by-fives" => Some(Task::SevensByFives),
+            "sevens" => Some(Task::Sevens),
             "draws" => Some(Task::Draws),
             "decks" => Some(Task::Decks),
             "short-hands" => Some(Task::ShortHands),
@@ -34,6 +55,12 @@ impl Task {
             "encode" => Some(Task::Encode),
             "decode" => Some(Task::Decode),
             "frames" => Some(Task::Frames),
+            "store-append" => Some(Task::Append),
+            "store-appends" => Some(Task::Appends),
+            "store-short" => Some(Task::ShortJournal),
+            "store-long" => Some(Task::LongJournal),
+            "store-open-short" => Some(Task::OpenShort),
+            "store-open-long" => Some(Task::OpenLong),
             _ => None,
         }
     }

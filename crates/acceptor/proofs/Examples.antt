@@ -1,0 +1,100 @@
+-- Answers of an acceptor, worked out.
+use Rattle.std.proofs.Common.{◌≡◌, ℕ, ◌==◌, if◌then◌else◌, true, false, [], ◌∷◌, Option, Some, None, refl}
+use Rattle.betting.specs.declared.action.Action.TheVariants.{Fold, Call}
+use Rattle.paxos_wire.specs.declared.ballot.Ballot.{Ballot}
+use Rattle.paxos_wire.specs.declared.entry.Entry.{Entry}
+use Rattle.slot_log.specs.declared.command.Command.{Command}
+use Rattle.slot_log.specs.declared.command.Command.TheVariants.{Act}
+use Rattle.protocol_model.specs.Messages.{Vote}
+use Rattle.protocol_model.specs.Stores.{Store, voted}
+use Rattle.acceptor.specs.declared.answers.PrepareAnswer.TheVariants.{Promise, Refuse as RefusePrepare}
+use Rattle.acceptor.specs.declared.answers.AcceptAnswer.TheVariants.{Accepted, Refuse as RefuseAccept}
+use Rattle.acceptor.specs.Answers.{is_below, is_same, told_of, answer_to_prepare, prepared, answer_to_accept, accepted}
+
+abbrev ballot : ℕ → ℕ → Ballot
+ballot round node = record { round = round; node = node }
+
+abbrev fold : Command
+fold = Act 0 0 Fold
+
+abbrev call : Command
+call = Act 0 0 Call
+
+abbrev vote : Ballot → Command → Vote
+vote b c = record { ballot = b; command = c }
+
+abbrev entry : ℕ → Ballot → Command → Entry
+entry slot b c = record { slot = slot; ballot = b; command = c }
+
+-- ---- ballots: by round, then by node
+
+pub later_round : is_below (ballot 1 4) (ballot 2 0) ≡ true
+later_round = refl
+
+pub not_itself : is_below (ballot 2 1) (ballot 2 1) ≡ false
+not_itself = refl
+
+pub other_node : is_same (ballot 2 1) (ballot 2 0) ≡ false
+other_node = refl
+
+-- ---- a store that promised (3, 1), and accepted at slots 9, 10, 73 and 74
+
+abbrev votes : ℕ → Option Vote
+votes slot =
+    if slot == 9 then Some (vote (ballot 1 0) fold)
+    else if slot == 10 then Some (vote (ballot 3 1) call)
+    else if slot == 73 then Some (vote (ballot 2 2) fold)
+    else if slot == 74 then Some (vote (ballot 1 0) call)
+    else None
+
+abbrev store : Store
+store = record { promise = ballot 3 1; votes = votes }
+
+-- slot 9 stands before the window, and 74 behind it
+pub told_from_10 : told_of store 10 ≡ entry 10 (ballot 3 1) call ∷ entry 73 (ballot 2 2) fold ∷ []
+told_from_10 = refl
+
+pub told_from_75 : told_of store 75 ≡ []
+told_from_75 = refl
+
+pub promised_above : answer_to_prepare (ballot 3 2) 10 store ≡ Promise (ballot 3 2) 10 (entry 10 (ballot 3 1) call ∷ entry 73 (ballot 2 2) fold ∷ [])
+promised_above = refl
+
+pub promise_stored : prepared (ballot 3 2) store ≡ record { promise = ballot 3 2; votes = votes }
+promise_stored = refl
+
+pub not_promised_again : answer_to_prepare (ballot 3 1) 10 store ≡ RefusePrepare (ballot 3 1) 10 (ballot 3 1)
+not_promised_again = refl
+
+pub not_promised_below : answer_to_prepare (ballot 2 4) 10 store ≡ RefusePrepare (ballot 2 4) 10 (ballot 3 1)
+not_promised_below = refl
+
+pub refusal_stores_nothing : prepared (ballot 2 4) store ≡ store
+refusal_stores_nothing = refl
+
+-- ---- proposals
+
+pub accepted_in_the_promised : answer_to_accept (ballot 3 1) 11 fold store ≡ Accepted (ballot 3 1) 11 fold
+accepted_in_the_promised = refl
+
+pub stored_at_its_slot : (accepted (ballot 3 1) 11 fold store).votes 11 ≡ Some (vote (ballot 3 1) fold)
+stored_at_its_slot = refl
+
+pub accepted_above : accepted (ballot 4 0) 73 call store ≡ voted store 73 (vote (ballot 4 0) call)
+accepted_above = refl
+
+pub promise_goes_up : (accepted (ballot 4 0) 73 call store).promise ≡ ballot 4 0
+promise_goes_up = refl
+
+-- the ballot has its vote there: that command is told, and nothing is written
+pub told_what_is_stored : answer_to_accept (ballot 3 1) 10 fold store ≡ Accepted (ballot 3 1) 10 call
+told_what_is_stored = refl
+
+pub stored_once : accepted (ballot 3 1) 10 fold store ≡ store
+stored_once = refl
+
+pub refused_below : answer_to_accept (ballot 3 0) 11 fold store ≡ RefuseAccept (ballot 3 0) 11 (ballot 3 1)
+refused_below = refl
+
+pub refused_stores_nothing : accepted (ballot 3 0) 11 fold store ≡ store
+refused_stores_nothing = refl

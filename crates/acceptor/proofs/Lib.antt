@@ -1,0 +1,6 @@
+pub mod Ballots
+pub mod Told
+pub mod Votes
+pub mod Exits
+pub mod Stored
+pub mod Examples

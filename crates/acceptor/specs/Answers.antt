@@ -1,0 +1,84 @@
+-- What an acceptor answers, and what it keeps then, by what it kept.
+use Rattle.std.specs.Prelude.{ℕ, zero, suc, ◌+◌, ◌==◌, Bool, true, false, nat_lt, if◌then◌else◌, List, [], ◌∷◌, ◌++◌, Option, Some, None}
+use Rattle.paxos_wire.specs.declared.limits.TheConstants.{WINDOW}
+use Rattle.paxos_wire.specs.declared.ballot.Ballot.{Ballot}
+use Rattle.paxos_wire.specs.declared.entry.Entry.{Entry}
+use Rattle.slot_log.specs.declared.command.Command.{Command}
+use Rattle.protocol_model.specs.Messages.{Vote, entry_of}
+use Rattle.protocol_model.specs.Stores.{Store, promised, voted}
+use Rattle.acceptor.specs.declared.answers.PrepareAnswer.{PrepareAnswer}
+use Rattle.acceptor.specs.declared.answers.PrepareAnswer.TheVariants.{Promise, Refuse as RefusePrepare}
+use Rattle.acceptor.specs.declared.answers.AcceptAnswer.{AcceptAnswer}
+use Rattle.acceptor.specs.declared.answers.AcceptAnswer.TheVariants.{Accepted, Refuse as RefuseAccept}
+
+-- the test of the order of ballots: by round, then by node
+abbrev pub is_below : Ballot → Ballot → Bool
+is_below a b = if nat_lt a.round b.round then true else if a.round == b.round then nat_lt a.node b.node else false
+
+abbrev pub is_same : Ballot → Ballot → Bool
+is_same a b = if a.round == b.round then a.node == b.node else false
+
+-- ---- what is read of a store
+
+-- the entry of what was found at a slot
+abbrev pub told_pair : ℕ → Option (Ballot × Command) → List Entry
+told_pair slot None = []
+told_pair slot (Some found) = record { slot = slot; ballot = found.0; command = found.1 } ∷ []
+
+abbrev pub command_found : Option (Ballot × Command) → Option Command
+command_found None = None
+command_found (Some found) = Some found.1
+
+-- the command of a vote of this very ballot
+abbrev pub stored_command : Ballot → Option Vote → Option Command
+stored_command ballot None = None
+stored_command ballot (Some vote) = if is_same vote.ballot ballot then Some vote.command else None
+
+-- ---- a Prepare
+
+-- the entry of a slot where something was accepted
+abbrev pub told_at : ℕ → Option Vote → List Entry
+told_at slot None = []
+told_at slot (Some vote) = entry_of slot vote ∷ []
+
+-- the entries of so many slots from the first on, in their order
+abbrev pub told_from : Store → ℕ → ℕ → List Entry
+told_from store first zero = []
+told_from store first (suc places) = told_from store first places ++ told_at (first + places) (store.votes (first + places))
+
+-- those of the 64 slots
+abbrev pub told_of : Store → ℕ → List Entry
+told_of store first = told_from store first WINDOW
+
+-- a ballot above what it promised is promised
+abbrev pub answer_to_prepare : Ballot → ℕ → Store → PrepareAnswer
+answer_to_prepare ballot slot store =
+    if is_below store.promise ballot then Promise ballot slot (told_of store slot) else RefusePrepare ballot slot store.promise
+
+abbrev pub prepared : Ballot → Store → Store
+prepared ballot store = if is_below store.promise ballot then promised store ballot else store
+
+-- ---- a proposal
+
+-- the slot has a vote of this ballot
+abbrev pub has_voted : Option Vote → Ballot → Bool
+has_voted None ballot = false
+has_voted (Some vote) ballot = is_same vote.ballot ballot
+
+-- the command that is accepted: that of the vote, where there is one of the ballot already
+abbrev pub command_in : Option Vote → Ballot → Command → Command
+command_in None ballot command = command
+command_in (Some vote) ballot command = if is_same vote.ballot ballot then vote.command else command
+
+-- a proposal of no ballot below what it promised is accepted
+abbrev pub answer_to_accept : Ballot → ℕ → Command → Store → AcceptAnswer
+answer_to_accept ballot slot command store =
+    if is_below ballot store.promise then RefuseAccept ballot slot store.promise
+    else Accepted ballot slot (command_in (store.votes slot) ballot command)
+
+-- once a ballot and slot: where a vote of the ballot is there, it stays
+abbrev pub accepted : Ballot → ℕ → Command → Store → Store
+accepted ballot slot command store =
+    if is_below ballot store.promise then store
+    else if has_voted (store.votes slot) ballot then store
+    else voted store slot (record { ballot = ballot; command = command })

@@ -1,0 +1,4 @@
+pub mod Answers
+pub mod Taken
+pub mod Stored
+pub mod Laws

@@ -1,0 +1,38 @@
+-- What a call makes of an acceptor's store, however it ends.
+use Rattle.std.specs.Prelude.{◌≡◌, ◌⊎◌, ℕ, ◌≤◌, true, List, Result, IsTrue, IsErrOf, IfOk, IfErr}
+use Rattle.protocol_model.specs.Stores as model
+use Rattle.promise_store.specs.declared.disk.Disk.{Ghosts}
+use Rattle.promise_store.specs.declared.store.Store.{Store}
+use Rattle.promise_store.specs.declared.fault.StoreFault.{StoreFault}
+use Rattle.promise_store.specs.declared.fault.StoreFault.TheVariants.{Disk, OutOfMemory}
+use Rattle.promise_store.specs.Disks.{Rose}
+use Rattle.promise_store.specs.Settled.{OnlyReads}
+use Rattle.promise_store.specs.Keeping.{disk_of, is_closed, held_of, Keeps, Leaves, LeavesDuring}
+use Rattle.promise_store.specs.Appended.{IsAsBefore}
+
+module _ {D : Type 0} (g : Ghosts D) where
+  -- a call of an acceptor whose store keeps one of the model: after Ok it gave the answer and keeps the next; at each moment
+  -- of the call and behind it, whatever it answered, each image of the disk stands for what was kept or for the next
+  pub record Taken {T : Type 0} (answer : model.Store → T) (next : model.Store → model.Store) (before after : Store D) (result : Result T StoreFault) : Type 0 where
+    pub ok : (head : List ℕ) (held : model.Store) → Keeps g head held before → IsTrue g.is_honest
+        → IfOk result (λ given. (given ≡ answer held) × Keeps g head (next held) after)
+    pub any_moment : (head : List ℕ) (held : model.Store) → Keeps g head held before → IsTrue g.is_honest
+        → LeavesDuring g head held (next held) (disk_of before) (disk_of after)
+    pub leaves : (head : List ℕ) (held : model.Store) → Keeps g head held before → IsTrue g.is_honest → Leaves g head held (next held) (disk_of after)
+    -- 63 comes only where a call of the disk failed, and closes the store
+    pub failed : IsErrOf result Disk → Rose (g.count (disk_of before)) (g.count (disk_of after)) × (is_closed after ≡ true)
+    -- want of memory changes nothing
+    pub unchanged : IsErrOf result OutOfMemory → IsAsBefore g before after
+    pub only : (head : List ℕ) (held : model.Store) → Keeps g head held before → IsTrue g.is_honest → IfErr result (λ fault. (fault ≡ Disk) ⊎ (fault ≡ OutOfMemory))
+    pub begun : g.begun (disk_of after) ≡ g.begun (disk_of before)
+    pub counts : g.count (disk_of before) ≤ g.count (disk_of after)
+
+  -- what was read of a store, which keeps what it kept
+  pub record Read {T : Type 0} (answer : model.Store → T) (before after : Store D) (result : Result T StoreFault) : Type 0 where
+    pub ok : (head : List ℕ) (held : model.Store) → Keeps g head held before → IsTrue g.is_honest
+        → IfOk result (λ given. (given ≡ answer held) × Keeps g head held after)
+    pub reads : OnlyReads g (disk_of before) (disk_of after)
+    pub failed : IsErrOf result Disk → Rose (g.count (disk_of before)) (g.count (disk_of after)) × (is_closed after ≡ true)
+    pub held : held_of after ≡ held_of before
+    pub memory : IsErrOf result OutOfMemory → ⊥
+    pub only : (head : List ℕ) (held : model.Store) → Keeps g head held before → IsTrue g.is_honest → IfErr result (λ fault. fault ≡ Disk)

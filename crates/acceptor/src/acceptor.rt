@@ -1,0 +1,147 @@
+ghost use Rattle.std.specs.Prelude.{◌≡◌, ◌+◌, ◌≤◌, ℕ, IsOk, OnOk, IsErrOf};
+ghost use Rattle.paxos_wire.specs.Fits.{IsBallot, IsSlot, IsInRange};
+ghost use Rattle.promise_store.specs.Room.{room};
+ghost use Rattle.acceptor.specs.Answers.{answer_to_prepare, prepared, answer_to_accept, accepted};
+
+use crate::answers::{AcceptAnswer, PrepareAnswer};
+use crate::telling::{entries_from, is_below, stored_in};
+use paxos_wire::Ballot;
+use promise_store::laws::{records_are_moves, what_is_kept_is_left};
+use promise_store::{Disk, Store, StoreFault};
+use slot_log::Command;
+use std::alloc::AllocError;
+
+/// The acceptor of one node: what it promised and accepted stands in its store.
+///
+/// Contracts see it as its store. Each call reads what it needs before its one append, if it makes one; after a fault
+/// but want of memory the store is to be opened again.
+#[derive(Drop)]
+pub struct Acceptor<D: Disk> {
+    store: Store<D>,
+}
+
+impl<D: Disk> Acceptor<D> {
+    ghost use Rattle.promise_store.specs.Keeping.{disk_of, held_of};
+    ghost use Rattle.promise_store.specs.Appended.{IsAsBefore};
+    ghost use Rattle.acceptor.specs.Stored.{store_of};
+    ghost use Rattle.acceptor.specs.Taken.{Taken};
+
+    /// The acceptor with this store, which was created or opened.
+    pub fn new(store: Store<D>) -> Acceptor<D>
+        ensures { store_of result ≡ store }
+    {
+        Acceptor { store }
+    }
+
+    /// Its store.
+    pub fn store(&self) -> &Store<D>
+        ensures { result.now ≡ store_of self.now }
+    {
+        &self.store
+    }
+
+    /// Hands the disk back, with what the store kept on it.
+    pub fn close(self) -> D
+        ensures { result ≡ disk_of (store_of self) }
+    {
+        self.store.close()
+    }
+
+    /// Makes room for accepting at so many slots more, so that `on_accept_reserved` takes no memory. An `Err` changes
+    /// nothing but the room.
+    pub fn reserve(&mut self, slots: usize) -> Result<(), AllocError>
+        ensures room { OnOk result (slots ≤ room (held_of (store_of self.new))) }
+        ensures succeeds { slots ≤ room (held_of (store_of self.old)) → IsOk result }
+        ensures more { room (held_of (store_of self.old)) ≤ room (held_of (store_of self.new)) }
+        ensures same { IsAsBefore D.Disk (store_of self.old) (store_of self.new) }
+    {
+        self.store.reserve(slots)
+    }
+
+    /// Answers a Prepare, that of its own node too: a ballot above all that it promised is promised, and told is what
+    /// was accepted at the 64 slots from the slot on. It takes no memory; 64 entries may be read before the append.
+    ///
+    /// Refused are 63 where the disk failed, and 64 at a closed store.
+    pub fn on_prepare(&mut self, ballot: Ballot, slot: u32) -> Result<PrepareAnswer, StoreFault>
+        requires ballot { IsBallot ballot }
+        requires slot { IsSlot slot }
+        ensures taken { Taken D.Disk (answer_to_prepare ballot slot) (prepared ballot) (store_of self.old) (store_of self.new) result }
+        ensures memory { IsErrOf result StoreFault.OutOfMemory → ⊥ }
+    {
+        records_are_moves();
+        what_is_kept_is_left::<D>();
+        let promised = self.store.held().promised();
+        if !is_below(promised, ballot) {
+            return Ok(PrepareAnswer::Refuse {
+                ballot,
+                slot,
+                promised,
+            });
+        }
+        let entries = entries_from(&mut self.store, slot)?;
+        self.store.promise(ballot)?;
+        Ok(PrepareAnswer::Promise {
+            ballot,
+            slot,
+            entries,
+        })
+    }
+
+    /// Answers a proposal, that of its own node too: it is accepted unless a ballot above it was promised. Where a
+    /// command was accepted at the slot in this very ballot, that one stays and is told, and nothing is written.
+    ///
+    /// Refused are 92 where there is no memory for the slot, 63 where the disk failed, and 64 at a closed store.
+    pub fn on_accept(
+        &mut self,
+        ballot: Ballot,
+        slot: u32,
+        command: Command,
+    ) -> Result<AcceptAnswer, StoreFault>
+        requires ballot { IsBallot ballot }
+        requires slot { IsSlot slot }
+        requires command { IsInRange command }
+        ensures { Taken D.Disk (answer_to_accept ballot slot command) (accepted ballot slot command) (store_of self.old) (store_of self.new) result }
+    {
+        self.reserve(1)?;
+        self.on_accept_reserved(ballot, slot, command)
+    }
+
+    /// The same where there is room for one slot: it takes no memory.
+    pub fn on_accept_reserved(
+        &mut self,
+        ballot: Ballot,
+        slot: u32,
+        command: Command,
+    ) -> Result<AcceptAnswer, StoreFault>
+        requires ballot { IsBallot ballot }
+        requires slot { IsSlot slot }
+        requires command { IsInRange command }
+        requires room { 1 ≤ room (held_of (store_of self.old)) }
+        ensures taken { Taken D.Disk (answer_to_accept ballot slot command) (accepted ballot slot command) (store_of self.old) (store_of self.new) result }
+        ensures memory { IsErrOf result StoreFault.OutOfMemory → ⊥ }
+    {
+        records_are_moves();
+        what_is_kept_is_left::<D>();
+        let promised = self.store.held().promised();
+        if is_below(ballot, promised) {
+            return Ok(AcceptAnswer::Refuse {
+                ballot,
+                slot,
+                promised,
+            });
+        }
+        if let Some(stored) = stored_in(&mut self.store, ballot, slot)? {
+            return Ok(AcceptAnswer::Accepted {
+                ballot,
+                slot,
+                command: stored,
+            });
+        }
+        self.store.accept_reserved(ballot, slot, &command)?;
+        Ok(AcceptAnswer::Accepted {
+            ballot,
+            slot,
+            command,
+        })
+    }
+}

@@ -1,0 +1,36 @@
+use paxos_wire::{Ballot, Entries};
+use slot_log::Command;
+
+/// What an acceptor answers a Prepare with.
+#[derive(Clone, Copy, Debug, PartialEq, Eq)]
+pub enum PrepareAnswer {
+    /// It promised the ballot, and tells what it accepted at the 64 slots from the slot on, by rising slots.
+    Promise {
+        ballot: Ballot,
+        slot: u32,
+        entries: Entries,
+    },
+    /// It has promised a ballot that isn't below.
+    Refuse {
+        ballot: Ballot,
+        slot: u32,
+        promised: Ballot,
+    },
+}
+
+/// What an acceptor answers a proposal with.
+#[derive(Clone, Copy, Debug, PartialEq, Eq)]
+pub enum AcceptAnswer {
+    /// It accepted this command at the slot in the ballot.
+    Accepted {
+        ballot: Ballot,
+        slot: u32,
+        command: Command,
+    },
+    /// It has promised a ballot above.
+    Refuse {
+        ballot: Ballot,
+        slot: u32,
+        promised: Ballot,
+    },
+}

@@ -1,0 +1,9 @@
+pub mod Same
+pub mod Counting
+pub mod Cells
+pub mod Kept
+pub mod Known
+pub mod Places
+pub mod Log
+pub mod Heard
+pub mod Examples

@@ -1,0 +1,14 @@
+use Rattle.std.proofs.Common.{◌∙◌, ap, arith}
+use Rattle.learner.specs.Tallies.{skipped}
+use Rattle.learner.proofs.Places.{put_new, put_at}
+use Rattle.learner.proofs.tally.count.Goals as goal
+
+pub returns-then-place-len-clause-items : goal.returns-then-place-len-clause-items
+returns-then-place-len-clause-items c =
+    c.push_reserved.ensures.items
+    ∙ put_new c.args.ballot c.args.command.now c.args.from c.args.tallies.now.items (omega (arith, c.args.tallies.now.ok.0, c.skipped-place.ensures.value, ap (skipped c.args.ballot c.args.command.now) c.deref.ensures.value))
+
+pub returns-clause-items : goal.returns-clause-items
+returns-clause-items c =
+    put_at c.args.ballot c.args.command.now c.args.from c.skipped-place.result c.index_mut-tally.result.now c.args.tallies.now.items
+    (c.skipped-place.ensures.value ∙ ap (skipped c.args.ballot c.args.command.now) c.deref.ensures.value) (omega (arith, c.args.tallies.now.ok.0)) c.index_mut-tally.ensures.value

@@ -1,0 +1,13 @@
+-- What the fields of a learner keep, and what it counted and knows by them.
+use Rattle.std.specs.Prelude.{◌≡◌, ◌≤◌, length}
+use Rattle.paxos_wire.specs.declared.limits.TheConstants.{NODES, WINDOW}
+use Rattle.learner.specs.declared.learner.Learner.TheInside.{Inside}
+use Rattle.learner.specs.Learning.{Learning}
+use Rattle.learner.specs.Cells.{learned_by, room_by}
+
+abbrev pub learning_of : Inside → Learning
+learning_of s = record { learned = learned_by s.nodes s.cells.items s.log.log; room = room_by s.log.room s.cells.items }
+
+pub record IsKept (s : Inside) : Type 0 where
+  pub few : s.nodes ≤ NODES
+  pub cells : length s.cells.items ≡ WINDOW

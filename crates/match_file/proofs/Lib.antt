@@ -1,0 +1,5 @@
+pub mod Each
+pub mod Views
+pub mod Told
+pub mod Outing
+pub mod Wider

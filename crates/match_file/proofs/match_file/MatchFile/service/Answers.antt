@@ -1,0 +1,7 @@
+use Rattle.match_file.proofs.match_file.MatchFile.service.Goals as goal
+
+pub returns-in_default-clause-fault : goal.returns-in_default-clause-fault
+returns-in_default-clause-fault c = ((c.in_ok-stores.stores.now, c.in_ok-stores.ensures.found), c.in_default.ensures)
+
+pub returns-in_default-port-clause-fault : goal.returns-in_default-port-clause-fault
+returns-in_default-port-clause-fault c = ((c.in_ok-stores.stores.now, c.in_ok-stores.ensures.found), (c.in-Some.logs.now, c.in-Some.ensures), c.in_default-port.ensures)

@@ -1,0 +1,16 @@
+-- The keys of a match file.
+use Rattle.std.specs.Prelude.{ℕ, List, codes}
+use Rattle.match_file.specs.declared.key.Key.{Key}
+use Rattle.match_file.specs.declared.key.Key.TheVariants.{Name, Game, Hands, Names, Node, Stores, Logs, Port, Outage}
+
+-- a key as it stands in the file
+abbrev pub key_text : Key → List ℕ
+key_text Name = codes "name"
+key_text Game = codes "game"
+key_text Hands = codes "hands"
+key_text Names = codes "names"
+key_text Node = codes "node"
+key_text Stores = codes "stores"
+key_text Logs = codes "logs"
+key_text Port = codes "port"
+key_text Outage = codes "outage"

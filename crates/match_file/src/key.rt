@@ -1,0 +1,44 @@
+ghost use Rattle.std.specs.Prelude.{◌≡◌};
+ghost use Rattle.match_file.specs.Keys.{key_text};
+
+/// A key of a match file. They are tested in this order.
+#[derive(Clone, Copy, Debug, PartialEq, Eq)]
+pub enum Key {
+    /// The name of the match.
+    Name,
+    /// The name of the game's file.
+    Game,
+    /// The number of hands.
+    Hands,
+    /// The seats' names.
+    Names,
+    /// The nodes, each with the source of its deals.
+    Node,
+    /// The folder of the nodes' stores.
+    Stores,
+    /// The folder of the nodes' logs.
+    Logs,
+    /// The first of the ports.
+    Port,
+    /// When nodes are out.
+    Outage,
+}
+
+impl Key {
+    /// The key as it stands in the file.
+    pub fn text(self) -> &'static str
+        ensures { result.now ≡ key_text self }
+    {
+        match self {
+            Key::Name => "name",
+            Key::Game => "game",
+            Key::Hands => "hands",
+            Key::Names => "names",
+            Key::Node => "node",
+            Key::Stores => "stores",
+            Key::Logs => "logs",
+            Key::Port => "port",
+            Key::Outage => "outage",
+        }
+    }
+}

@@ -1,0 +1,27 @@
+//! Match files: TOML texts that say which match is played, by which nodes, and where its stores, logs and ports are.
+//!
+//! `MatchFile::read` takes the text, `game` says which game file to read next, and `config` answers with the match
+//! that file and game file say. `stores` and `service` answer what the nodes on disk and over TCP need besides. Each
+//! looks at its keys in the order in which they are listed and answers the first fault; keys that it doesn't look at
+//! are passed over, right or wrong. Nothing here opens a file.
+#![tactic(auto)]
+
+mod config;
+mod entries;
+mod key;
+mod match_fault;
+mod match_file;
+mod node_tables;
+mod outage;
+mod outages;
+mod seat_names;
+mod service;
+
+pub use key::Key;
+pub use match_fault::MatchFault;
+pub use match_file::MatchFile;
+pub use outage::Outage;
+pub use service::Service;
+
+#[cfg(test)]
+mod tests;

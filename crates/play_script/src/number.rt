@@ -1,0 +1,47 @@
+ghost use Rattle.std.specs.Prelude.{◌≡◌, ◌<◌, true, MatchOption};
+ghost use Rattle.std.specs.Char.{is_ascii_digit};
+ghost use Rattle.std.specs.List.{list_all};
+ghost use Rattle.play_script.specs.Orders.{IsNumber, Names, IsAbsent};
+
+/// The number that digits write, below 2 ^ 64.
+pub(crate) fn number(bytes: &[u8]) -> Option<u64>
+    ensures { MatchOption result (IsAbsent (IsNumber bytes.now)) (IsNumber bytes.now) }
+{
+    if bytes.is_empty() || !are_digits(bytes) {
+        return None;
+    }
+    match str::from_utf8(bytes) {
+        Ok(text) => match text.parse::<u64>() {
+            Ok(number) => Some(number),
+            Err(_) => None,
+        },
+        Err(_) => None,
+    }
+}
+
+/// Whether each byte is a digit.
+fn are_digits(bytes: &[u8]) -> bool
+    ensures { result ≡ list_all is_ascii_digit bytes.now }
+{
+    bytes.iter().all(|byte| byte.is_ascii_digit())
+}
+
+/// The number of one of so many things.
+pub(crate) fn named(bytes: &[u8], count: u64) -> Option<u64>
+    ensures { MatchOption result (IsAbsent (Names count bytes.now)) (Names count bytes.now) }
+{
+    match number(bytes) {
+        Some(number) if number < count => Some(number),
+        _ => None,
+    }
+}
+
+/// The number of one of so many nodes or seats.
+pub(crate) fn place(bytes: &[u8], count: usize) -> Option<usize>
+    ensures { MatchOption result (IsAbsent (Names count bytes.now)) (Names count bytes.now) }
+{
+    match named(bytes, count as u64) {
+        Some(number) => Some(number as usize),
+        None => None,
+    }
+}

@@ -1,0 +1,83 @@
+-- The two writes of an append, each had on the disk before the next call.
+use Rattle.std.proofs.Common.{◌≡◌, inl, inr, ⊎_elim, ℕ, ◌+◌, ◌≤◌, List, [], ◌∷◌, ◌++◌, length, sym, ◌∙◌, ap, subst, arith, take, drop, length-append, length-drop}
+use Rattle.std.proofs.lemmas.List.{length-take-le}
+use Rattle.std.specs.Prelude.{IsTrue, Result, Ok, Err, OnOk}
+use Rattle.promise_store.specs.declared.disk.Disk.{Ghosts}
+use Rattle.promise_store.specs.Disks.{Torn, Holds, Only, During, TornFrom}
+use Rattle.promise_store.specs.declared.records.Record.{Record}
+use Rattle.promise_store.specs.Records.{IsRecord, record_text}
+use Rattle.promise_store.specs.Journals.{IsJournal, gate_behind, IsEither}
+use Rattle.promise_store.specs.Settled.{IsSettled}
+use Rattle.promise_store.proofs.Writes.{within, torn_behind, IsStaged, staged_by, staged_long, gate_torn, gate_written, place_push}
+
+-- from one disk to the next, and on
+pub goes_on : (past between since : ℕ → List ℕ → Type 0) (P Q R : List ℕ → Type 0) → During past between P → During between since Q
+    → ((image : List ℕ) → P image → R image) → ((image : List ℕ) → Q image → R image) → During past since R
+goes_on past between since P Q R first second p q t image left =
+    ⊎_elim (λ earlier. ⊎_elim (λ was. inl was) (λ now. inr (p image now)) (first t image earlier)) (λ now. inr (q image now)) (second t image left)
+
+module _ {D : Type 0} (g : Ghosts D) (honest : (disk : D) (image : List ℕ) → g.images disk image → IsTrue g.is_honest)
+    (head : List ℕ) (records : List Record) (r : Record) (fits : IsRecord r) (gate : ℕ) (before : D) (settled : IsSettled g head records gate before) where
+  pub before_opens : (image : List ℕ) → g.images before image → IsJournal head image records
+  before_opens image left = subst (λ (l : List ℕ). IsJournal head l records) (sym (settled.durable image left)) (settled.journal (honest before image left))
+
+  pub inside : IsTrue g.is_honest → gate + 1 ≤ length (g.seen before)
+  inside true_disk = omega (arith, settled.at_gate true_disk, within head records r fits (g.seen before) (settled.journal true_disk))
+
+  -- behind the gate
+  pub stage_leaves : (at n : ℕ) → (IsTrue g.is_honest → at ≡ gate + 1) → (image : List ℕ) → TornFrom at n (g.images before) image → IsJournal head image records
+  stage_leaves at n is image (old, left, torn) =
+      let true_disk = honest before old left in
+      let same : at ≡ gate_behind head records + 1 = is true_disk ∙ ap (λ (k : ℕ). k + 1) (settled.at_gate true_disk) in
+      torn_behind head records r fits (g.seen before) (settled.journal true_disk) n image
+      (subst (λ (k : ℕ). Torn k n (g.seen before) image) same (subst (λ (l : List ℕ). Torn at n l image) (settled.durable old left) torn))
+
+  module _ (at : ℕ) (is : IsTrue g.is_honest → at ≡ gate + 1) (between : D)
+      (written : IsTrue g.is_honest → Holds (g.seen before) at (record_text r ++ 0 ∷ []) (g.seen between)) (only : Only (g.seen between) (g.images between)) where
+    pub staged : IsTrue g.is_honest → IsStaged head records r (g.seen between)
+    staged true_disk =
+        let same : at ≡ gate_behind head records + 1 = is true_disk ∙ ap (λ (k : ℕ). k + 1) (settled.at_gate true_disk) in
+        staged_by head records r fits (g.seen before) (settled.journal true_disk) (g.seen between)
+        (subst (λ (k : ℕ). Holds (g.seen before) k (record_text r ++ 0 ∷ []) (g.seen between)) same (written true_disk))
+
+    pub still_inside : IsTrue g.is_honest → gate ≤ length (g.seen between)
+    still_inside true_disk = omega (arith, settled.at_gate true_disk, staged_long head records r fits (g.seen between) (staged true_disk))
+
+    -- the gate
+    pub gate_leaves : (image : List ℕ) → TornFrom gate 1 (g.images between) image → IsEither head records (records ++ r ∷ []) image
+    gate_leaves image (old, left, torn) =
+        gate_torn head records r fits (g.seen between) (staged (honest between old left)) image
+        (subst (λ (k : ℕ). Torn k 1 (g.seen between) image) (settled.at_gate (honest between old left)) (subst (λ (l : List ℕ). Torn gate 1 l image) (only old left) torn))
+
+    pub settles : (after : D) (end : ℕ) → end ≡ gate + length (record_text r ++ 0 ∷ []) → (IsTrue g.is_honest → Holds (g.seen between) gate (1 ∷ []) (g.seen after)) → Only (g.seen after) (g.images after)
+        → IsSettled g head (records ++ r ∷ []) end after
+    settles after end ends holds durable = record {
+      journal = λ true_disk. gate_written head records r fits (g.seen between) (staged true_disk) (g.seen after) (subst (λ (k : ℕ). Holds (g.seen between) k (1 ∷ []) (g.seen after)) (settled.at_gate true_disk) (holds true_disk));
+      at_gate = λ true_disk. ends ∙ ap (λ (k : ℕ). k + length (record_text r ++ 0 ∷ [])) (settled.at_gate true_disk) ∙ sym (place_push head records r fits);
+      durable = durable;
+    }
+
+pub on_ok : {T E : Type 0} (result : Result T E) (P Q : Type 0) → (P → Q) → OnOk result P → OnOk result Q
+on_ok (Ok x) P Q f p = f p
+on_ok (Err e) P Q f p = p
+
+pub on_ok_both : {T E : Type 0} (result : Result T E) (P Q R : Type 0) → (P → Q → R) → OnOk result P → OnOk result Q → OnOk result R
+on_ok_both (Ok x) P Q R f p q = f p q
+on_ok_both (Err e) P Q R f p q = p
+
+-- the same where the first is known under a premise
+pub on_ok_two : {T E : Type 0} (result : Result T E) (H P Q R : Type 0) → ((H → P) → Q → R) → (H → OnOk result P) → OnOk result Q → OnOk result R
+on_ok_two (Ok x) H P Q R f p q = f p q
+on_ok_two (Err e) H P Q R f p q = q
+
+pub holds_long : (old : List ℕ) (at : ℕ) (bytes new : List ℕ) → at ≤ length old → Holds old at bytes new → (at + length bytes ≤ length new) × (length old ≤ length new)
+holds_long old at bytes new within holds =
+    let long = ap length holds in
+    let all = length-append (take at old ++ bytes) (drop (at + length bytes) old) in
+    let front = length-append (take at old) bytes in
+    let first = length-take-le at old within in
+    let last = length-drop (at + length bytes) old in
+    (omega arith, omega arith)
+
+pub settled_at : {D : Type 0} (g : Ghosts D) (head : List ℕ) (records : List Record) (gate place_now : ℕ) (disk : D) → IsSettled g head records gate disk → (IsTrue g.is_honest → place_now ≡ gate) → IsSettled g head records place_now disk
+settled_at g head records gate place_now disk settled is = record { journal = settled.journal; at_gate = λ true_disk. is true_disk ∙ settled.at_gate true_disk; durable = settled.durable }

@@ -1,0 +1,117 @@
+-- What calls make of a file in memory.
+use Rattle.std.proofs.Common.{◌≡◌, ◌⊎◌, inl, inr, ℕ, zero, suc, ◌+◌, ◌-◌, ◌≤◌, min, max, Bool, true, false, List, [], ◌∷◌, ◌++◌, length, take, drop, map, reverse, refl, sym, ◌∙◌, ap, subst, arith, length-append, length-drop}
+use Rattle.std.specs.Prelude.{◌%◌, ◌/◌, replicate}
+use Rattle.std.proofs.lemmas.Bool.{cases_lt}
+use Rattle.std.proofs.lemmas.List.{take_min, take-take, take-append-le, drop_at, drop_all, length-take-le, length-replicate, reverse-append, map-append, append-nil}
+use Rattle.promise_store.specs.Disks.{Torn, TornFrom, Within, Holds, Elapses}
+use Rattle.promise_store.specs.declared.call.Call.{Call}
+use Rattle.promise_store.specs.Calls.{Event, wrote, synced, stopped, event_of, events, grown, landed, Write, picked, contents, Reaches, IsImage, Had, Since}
+
+pub torn_same : (at n : ℕ) (file : List ℕ) → Torn at n file file
+torn_same at n file = record { before = take_min at file; after = refl; no_shorter = omega arith; no_longer = omega arith }
+
+length-grown : (file : List ℕ) (end : ℕ) → length (grown file end) ≡ max (length file) end
+length-grown file end = omega (arith, length-append file (replicate (end - length file) 0), length-replicate {A = ℕ} (end - length file) 0)
+
+no_zeros : (file : List ℕ) (end : ℕ) → end ≤ length file → replicate {A = ℕ} (end - length file) 0 ≡ []
+no_zeros file end within = let none : end - length file ≡ 0 = omega arith in ap (λ (k : ℕ). replicate {A = ℕ} k 0) none
+
+drop_grown : (file : List ℕ) (end : ℕ) → drop end (grown file end) ≡ drop end file
+drop_grown file end = elim (cases_lt (length file) end) [
+  | inl past ↦ drop_all end (grown file end) (omega (arith, length-grown file end)) ∙ sym (drop_all end file (omega arith))
+  | inr within ↦ ap (λ (l : List ℕ). drop end (file ++ l)) (no_zeros file end within) ∙ ap (λ (l : List ℕ). drop end l) (append-nil file)
+]
+
+torn_grown : (at n : ℕ) (file : List ℕ) → Torn at n file (grown file (at + n))
+torn_grown at n file = record {
+  before = take-append-le (min at (length file)) file (replicate (at + n - length file) 0) (omega arith) ∙ take_min at file;
+  after = drop_grown file (at + n);
+  no_shorter = omega (arith, length-grown file (at + n));
+  no_longer = omega (arith, length-grown file (at + n));
+}
+
+module _ (at n : ℕ) (file piece : List ℕ) (size : length piece ≡ n) where
+  abbrev big : List ℕ
+  big = grown file (at + n)
+
+  front : length (take at big) ≡ at
+  front = length-take-le at big (omega (arith, length-grown file (at + n)))
+
+  torn_over : Torn at n file (take at big ++ piece ++ drop (at + n) big)
+  torn_over =
+      let m = min at (length file) in
+      let ends : length (take at big ++ piece) ≡ at + n = omega (arith, length-append (take at big) piece, front, size) in
+      record {
+        before =
+            take-append-le m (take at big ++ piece) (drop (at + n) big) (omega (arith, ends))
+            ∙ take-append-le m (take at big) piece (omega (arith, front))
+            ∙ take-take m at big (omega arith)
+            ∙ (torn_grown at n file).before;
+        after = drop_at (take at big ++ piece) (drop (at + n) big) (at + n) ends ∙ drop_grown file (at + n);
+        no_shorter = omega (arith, length-append (take at big ++ piece) (drop (at + n) big), ends, length-drop (at + n) big, length-grown file (at + n));
+        no_longer = omega (arith, length-append (take at big ++ piece) (drop (at + n) big), ends, length-drop (at + n) big, length-grown file (at + n));
+      }
+
+pub torn_landed : (digit : ℕ) (file : List ℕ) (at : ℕ) (bytes : List ℕ) → Torn at (length bytes) file (landed digit file at bytes)
+torn_landed zero file at bytes = torn_grown at (length bytes) file
+torn_landed (suc zero) file at bytes = torn_over at (length bytes) file bytes refl
+torn_landed (suc (suc digit)) file at bytes =
+    let same : length (replicate (length bytes) 1) ≡ length bytes = length-replicate (length bytes) 1 in
+    let torn = torn_over at (length bytes) file (replicate (length bytes) 1) same in
+    subst (λ (k : ℕ). Torn at (length bytes) file (take at (grown file (at + length bytes)) ++ replicate (length bytes) 1 ++ drop (at + k) (grown file (at + length bytes)))) (sym same) torn
+
+pub holds_landed : (file : List ℕ) (at : ℕ) (bytes : List ℕ) → at ≤ length file → Holds file at bytes (landed 1 file at bytes)
+holds_landed file at bytes within =
+    ap (λ (l : List ℕ). l ++ bytes ++ drop (at + length bytes) (grown file (at + length bytes))) (take-append-le at file (replicate (at + length bytes - length file) 0) within)
+    ∙ ap (λ (l : List ℕ). take at file ++ bytes ++ l) (drop_grown file (at + length bytes))
+
+pub reaches_picked : (file : List ℕ) (writes : List Write) (pick : ℕ) → Reaches file writes (picked file writes pick)
+reaches_picked file [] pick = refl
+reaches_picked file (write ∷ writes) pick =
+    (landed (pick % 3) file write.0 write.1, torn_landed (pick % 3) file write.0 write.1, reaches_picked (landed (pick % 3) file write.0 write.1) writes (pick / 3))
+
+-- through one write more
+reaches_more : (file : List ℕ) (writes : List Write) (write : Write) (image : List ℕ) → Reaches file (writes ++ write ∷ []) image → (between : List ℕ) × Reaches file writes between × Torn write.0 (length write.1) between image
+reaches_more file [] write image (between, torn, is) = (file, refl, subst (λ (l : List ℕ). Torn write.0 (length write.1) file l) (sym is) torn)
+reaches_more file (first ∷ writes) write image (between, torn, reaches) =
+    let rest = reaches_more between writes write image reaches in (rest.0, (between, torn, rest.1), rest.2)
+
+module _ (calls : List Event) where
+  seen_write : (at : ℕ) (bytes : List ℕ) (done : Bool) → Torn at (length bytes) (contents calls).seen (contents (wrote at bytes done ∷ calls)).seen
+  seen_write at bytes true = torn_landed 1 (contents calls).seen at bytes
+  seen_write at bytes false = torn_same at (length bytes) (contents calls).seen
+
+  pub write_follows : (at : ℕ) (bytes : List ℕ) (done : Bool) → Within (TornFrom at (length bytes) (IsImage (contents calls))) (IsImage (contents (wrote at bytes done ∷ calls)))
+  write_follows at bytes done image (inl is) =
+      ((contents calls).seen, inl refl, subst (λ (l : List ℕ). Torn at (length bytes) (contents calls).seen l) (sym is) (seen_write at bytes done))
+  write_follows at bytes done image (inr reaches) =
+      let more = reaches_more (contents calls).base (contents calls).pending (at, bytes) image reaches in (more.0, inr more.1, more.2)
+
+  pub elapses_more : (event : Event) → Elapses (length calls) (length (event ∷ calls)) (λ t. Since t calls) (λ t. Since t (event ∷ calls)) (IsImage (contents (event ∷ calls)))
+  elapses_more event = record { later = omega arith; nothing_else = was; keeps = λ t image le past. inr (kept t image le past) }
+    where
+      was : (t : ℕ) (image : List ℕ) → Since t (event ∷ calls) image → Since t calls image ⊎ IsImage (contents (event ∷ calls)) image
+      was t image (inl now) = inr now
+      was t image (inr (inl here)) = inl (inl here.1)
+      was t image (inr (inr had)) = inl (inr had)
+
+      kept : (t : ℕ) (image : List ℕ) → t ≤ length calls → Since t calls image → Had t (event ∷ calls) image
+      kept t image le (inl now) = inl (le, now)
+      kept t image le (inr had) = inr had
+
+  pub elapses_same : Elapses (length calls) (length calls) (λ t. Since t calls) (λ t. Since t calls) (IsImage (contents calls))
+  elapses_same = record { later = omega arith; nothing_else = λ t image since. inl since; keeps = λ t image le since. since }
+
+  pub only_synced : (image : List ℕ) → IsImage (contents (synced ∷ calls)) image → image ≡ (contents calls).seen
+  only_synced image (inl is) = is
+  only_synced image (inr is) = is
+
+  pub stop_leaves : (pick : ℕ) → IsImage (contents calls) (contents (stopped pick ∷ calls)).seen
+  stop_leaves pick = inr (reaches_picked (contents calls).base (contents calls).pending pick)
+
+  pub only_stopped : (pick : ℕ) (image : List ℕ) → IsImage (contents (stopped pick ∷ calls)) image → IsImage (contents calls) image
+  only_stopped pick image (inl is) = subst (IsImage (contents calls)) (sym is) (stop_leaves pick)
+  only_stopped pick image (inr is) = subst (IsImage (contents calls)) (sym is) (stop_leaves pick)
+
+pub events_push : (calls : List Call) (call : Call) → events (calls ++ call ∷ []) ≡ event_of call ∷ events calls
+events_push calls call = ap reverse (map-append event_of calls (call ∷ [])) ∙ reverse-append (map event_of calls) (event_of call ∷ [])

@@ -1,0 +1,13 @@
+pub mod Gated
+pub mod Writes
+pub mod Appends
+pub mod Journals
+pub mod Holding
+pub mod Ordered
+pub mod Calls
+pub mod Backing
+pub mod Greatest
+pub mod Entries
+pub mod Opening
+pub mod Storing
+pub mod Examples

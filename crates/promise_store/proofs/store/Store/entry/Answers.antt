@@ -1,0 +1,17 @@
+use Rattle.std.proofs.Common.{◌∙◌, sym, ap, Some}
+use Rattle.promise_store.specs.Shown.{vote_pair}
+use Rattle.promise_store.proofs.Entries.{indexed}
+use Rattle.promise_store.proofs.store.Store.entry.Goals as goal
+
+pub returns-in-Ok-clause-found : goal.returns-in-Ok-clause-found
+returns-in-Ok-clause-found g c head held keeps honest =
+    let store = c.args.self.now in
+    let entry = indexed head (g.D.Disk.seen store.disk) keeps.records (keeps.settled.journal honest) c.args.slot store.held c.in-Some.placed (keeps.indexes honest) (sym c.find.ensures ∙ c.in-Some.is) in
+    let read = c.in-Ok.ensures.found honest entry.0.ballot c.args.slot entry.0.command entry.2.is_record entry.2.few entry.2.text in
+    ap Some read ∙ sym (ap vote_pair (ap (λ s. s.votes c.args.slot) keeps.is ∙ entry.1))
+
+pub returns-after-matches-clause-sound : goal.returns-after-matches-clause-sound
+returns-after-matches-clause-sound g c head held keeps honest =
+    let store = c.args.self.now in
+    let entry = indexed head (g.D.Disk.seen store.disk) keeps.records (keeps.settled.journal honest) c.args.slot store.held c.in-Some.placed (keeps.indexes honest) (sym c.find.ensures ∙ c.in-Some.is) in
+    c.in-Err.ensures.found honest entry.0.ballot c.args.slot entry.0.command entry.2.is_record entry.2.few entry.2.text

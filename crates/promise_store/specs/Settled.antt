@@ -1,0 +1,29 @@
+-- What a disk keeps of a journal, and what calls make of it.
+use Rattle.std.specs.Prelude.{◌≡◌, ℕ, ◌≤◌, List, IsTrue}
+use Rattle.promise_store.specs.declared.disk.Disk.{Ghosts}
+use Rattle.promise_store.specs.declared.records.Record.{Record}
+use Rattle.promise_store.specs.Disks.{Only, During, Within}
+use Rattle.promise_store.specs.Journals.{IsJournal, gate_behind, IsEither}
+
+module _ {D : Type 0} (g : Ghosts D) where
+  -- from the one to the other the disk was only read or synced: a read gives the same, and a crash leaves nothing that it didn't leave before
+  pub record OnlyReads (before after : D) : Type 0 where
+    pub seen : g.seen after ≡ g.seen before
+    pub begun : g.begun after ≡ g.begun before
+    pub images : Within (g.images before) (g.images after)
+    pub during : During (g.since before) (g.since after) (g.images before)
+    pub counts : g.count before ≤ g.count after
+
+  -- the disk has these records, nothing else may be left of it, and the gate behind them stands at this place
+  pub record IsSettled (head : List ℕ) (records : List Record) (gate : ℕ) (disk : D) : Type 0 where
+    pub journal : IsTrue g.is_honest → IsJournal head (g.seen disk) records
+    pub at_gate : IsTrue g.is_honest → gate ≡ gate_behind head records
+    pub durable : Only (g.seen disk) (g.images disk)
+
+  -- each image stands for the one or for the other
+  abbrev pub LeavesRecords : List ℕ → List Record → List Record → D → Type 0
+  LeavesRecords head old new disk = Within (IsEither head old new) (g.images disk)
+
+  -- each image at each moment from the one disk on does, or was an image before
+  abbrev pub LeavesRecordsDuring : List ℕ → List Record → List Record → D → D → Type 0
+  LeavesRecordsDuring head old new before after = During (g.since before) (g.since after) (IsEither head old new)

@@ -1,0 +1,108 @@
+//! A file of the operating system. No contract can say what it holds, so it isn't honest, and has no images.
+
+ghost use Rattle.std.specs.Prelude.{◌≤◌, [], false};
+ghost use Rattle.promise_store.specs.NoDisk.{none_left, never_honest, never_left};
+ghost use Rattle.promise_store.specs.Disks.{Rose};
+
+use crate::disk::{Disk, DiskFault};
+use std::fs::File;
+use std::os::unix::fs::FileExt;
+
+/// A disk that is a file. `stop` does nothing to it.
+///
+/// No contract says what a file holds: whether it keeps to what `Disk` says is trusted. After a sync that failed, every
+/// later one fails too, since the system may have forgotten what it then tells as written.
+#[derive(Drop)]
+pub struct FileDisk {
+    file: File,
+    failures: u64,
+    /// A sync failed.
+    unsure: bool,
+}
+
+fn count_failure(failures: &mut u64) -> DiskFault
+    ensures rose { Rose failures.old failures.new }
+    ensures more { failures.old ≤ failures.new }
+{
+    *failures = failures.saturating_add(1);
+    DiskFault
+}
+
+impl FileDisk {
+    /// The disk of an open file that may be read and written.
+    pub fn new(file: File) -> FileDisk {
+        FileDisk {
+            file,
+            failures: 0,
+            unsure: false,
+        }
+    }
+}
+
+impl Disk for FileDisk {
+    ghost is_honest = { false };
+
+    ghost seen = { λ _. [] };
+
+    ghost images = { λ _ _. none_left };
+
+    ghost moment = { λ _. 0 };
+
+    ghost since = { λ _ _ _. none_left };
+
+    ghost count = { λ f. f.failures };
+
+    ghost begun = { λ _. [] };
+
+    ghost counts_now = { λ f t image now. now };
+
+    ghost only_now = { λ f image since. since };
+
+    ghost honest_images = { λ f image now. never_left now };
+
+    ghost is_small = { λ f honest. never_honest honest };
+
+    ghost seen_may_stay = { λ f honest. never_honest honest };
+
+    fn failures(&self) -> u64 {
+        self.failures
+    }
+
+    fn begin(&mut self) {}
+
+    fn len(&mut self) -> Result<usize, DiskFault> {
+        match self.file.metadata() {
+            Ok(data) => Ok(data.len() as usize),
+            Err(_) => Err(count_failure(&mut self.failures)),
+        }
+    }
+
+    fn read(&mut self, at: usize, buffer: &mut [u8]) -> Result<(), DiskFault> {
+        match self.file.read_exact_at(buffer, at as u64) {
+            Ok(()) => Ok(()),
+            Err(_) => Err(count_failure(&mut self.failures)),
+        }
+    }
+
+    fn write_at(&mut self, at: usize, bytes: &[u8]) -> Result<(), DiskFault> {
+        match self.file.write_all_at(bytes, at as u64) {
+            Ok(()) => Ok(()),
+            Err(_) => Err(count_failure(&mut self.failures)),
+        }
+    }
+
+    fn sync(&mut self) -> Result<(), DiskFault> {
+        if self.unsure {
+            return Err(count_failure(&mut self.failures));
+        }
+        match self.file.sync_data() {
+            Ok(()) => Ok(()),
+            Err(_) => {
+                self.unsure = true;
+                Err(count_failure(&mut self.failures))
+            }
+        }
+    }
+
+    fn stop(&mut self, _pick: u64) {}
+}

@@ -1,0 +1,233 @@
+//! A file in memory, which keeps a record of its calls; each call is told whether it is to fail.
+
+ghost use Rattle.std.specs.Prelude.{◌≡◌, ◌∷◌, ◌++◌, [], ◌+◌, ◌<◌, ◌≤◌, ◌%◌, ◌/◌, ◌^◌, List, ℕ, length, take, drop, map, IsTrue, IfOk, OnOk, OnErr, false};
+ghost use Rattle.promise_store.specs.Disks.{Holds, TornFrom, Within, Only, Elapses, Counts, Rose};
+ghost use Rattle.promise_store.specs.Calls.{event_of, events, landed, picked, write_of, IsTied};
+
+use crate::call::Call;
+use crate::disk::DiskFault;
+use std::alloc::{AllocError, Global};
+
+/// A file in memory.
+#[derive(Drop)]
+pub struct Medium {
+    alloc: Global,
+    /// What a read gives.
+    bytes: Vec<u8>,
+    /// What was on the disk at the last sync or stop.
+    base: Vec<u8>,
+    /// All calls that changed it.
+    calls: Vec<Call>,
+    /// The first of them since the last sync or stop.
+    unsynced: usize,
+    /// How many of them there were when it was begun.
+    begun: usize,
+    failures: u64,
+    ghost tied: { IsTied bytes.items base.items unsynced begun calls.items },
+}
+
+fn fail(failures: &mut u64) -> DiskFault
+    ensures rose { Rose failures.old failures.new }
+    ensures more { failures.old ≤ failures.new }
+{
+    *failures = failures.saturating_add(1);
+    DiskFault
+}
+
+/// What a digit makes of a write: 0 the old bytes, with zeros past the old end; 1 the new bytes; else ones.
+fn land(
+    alloc: Global,
+    file: &[u8],
+    digit: u64,
+    at: usize,
+    bytes: &[u8],
+) -> Result<Vec<u8>, AllocError>
+    ensures { IfOk result (λ v. v.items ≡ landed digit file.now at bytes.now) }
+{
+    let end = at.checked_add(bytes.len()).ok_or(AllocError)?;
+    let mut next = file.to_vec(alloc)?;
+    if end > next.len() {
+        next.resize(end, 0)?;
+    }
+    match digit {
+        0 => {}
+        1 => next[at..end].copy_from_slice(bytes),
+        _ => next[at..end].fill(1),
+    }
+    Ok(next)
+}
+
+/// What the digits of the pick make of the writes.
+fn pick_image(alloc: Global, base: &[u8], calls: &[Call], pick: u64) -> Result<Vec<u8>, AllocError>
+    ensures { IfOk result (λ v. v.items ≡ picked base.now (map write_of calls.now) pick) }
+{
+    let mut image = base.to_vec(alloc)?;
+    let mut digits = pick;
+    for call in calls {
+        image = match call {
+            Call::Wrote { at, bytes, done: _ } => land(alloc, &image, digits % 3, *at, bytes)?,
+            Call::Synced => land(alloc, &image, digits % 3, 0, &[])?,
+            Call::Stopped { pick: _ } => land(alloc, &image, digits % 3, 0, &[])?,
+        };
+        digits /= 3;
+    }
+    Ok(image)
+}
+
+/// Puts a call behind the last one.
+fn note(calls: &mut Vec<Call>, call: Call) -> Result<(), AllocError>
+    ensures items { OnOk result (calls.new.items ≡ calls.old.items ++ call ∷ []) }
+    ensures events { OnOk result (events calls.new.items ≡ event_of call ∷ events calls.old.items) }
+    ensures err { OnErr result (calls.new.items ≡ calls.old.items) }
+{
+    calls.push(call)?;
+    Ok(())
+}
+
+impl Medium {
+    ghost use Rattle.promise_store.specs.Media.{seen_of, images_of, moment_of, since_of, count_of, begun_of};
+
+    /// An empty file.
+    pub fn new(alloc: Global) -> Medium {
+        Medium {
+            alloc,
+            bytes: Vec::new(alloc),
+            base: Vec::new(alloc),
+            calls: Vec::new(alloc),
+            unsynced: 0,
+            begun: 0,
+            failures: 0,
+        }
+    }
+
+    /// What a read gives.
+    pub fn bytes(&self) -> &[u8]
+        ensures value { result.now ≡ seen_of self.now }
+        ensures small { length (seen_of self.now) < 2 ^ 63 }
+    {
+        &self.bytes
+    }
+
+    /// All calls that changed it.
+    pub fn calls(&self) -> &[Call] {
+        &self.calls
+    }
+
+    pub fn failures(&self) -> u64
+        ensures { result ≡ count_of self.now }
+    {
+        self.failures
+    }
+
+    pub fn begin(&mut self)
+        ensures begun { begun_of self.new ≡ seen_of self.old }
+        ensures seen { seen_of self.new ≡ seen_of self.old }
+        ensures crash { Within (images_of self.old) (images_of self.new) }
+        ensures time { Elapses (moment_of self.old) (moment_of self.new) (since_of self.old) (since_of self.new) (images_of self.new) }
+        ensures failed { count_of self.new ≡ count_of self.old }
+    {
+        self.begun = self.calls.len();
+    }
+
+    pub fn len(&mut self, passes: bool) -> Result<usize, DiskFault>
+        ensures len { IfOk result (λ n. n ≡ length (seen_of self.old)) }
+        ensures seen { seen_of self.new ≡ seen_of self.old }
+        ensures begun { begun_of self.new ≡ begun_of self.old }
+        ensures crash { Within (images_of self.old) (images_of self.new) }
+        ensures time { Elapses (moment_of self.old) (moment_of self.new) (since_of self.old) (since_of self.new) (images_of self.new) }
+        ensures failed { Counts result (count_of self.old) (count_of self.new) }
+    {
+        if !passes {
+            return Err(fail(&mut self.failures));
+        }
+        Ok(self.bytes.len())
+    }
+
+    pub fn read(&mut self, passes: bool, at: usize, buffer: &mut [u8]) -> Result<(), DiskFault>
+        ensures bytes { OnOk result (buffer.new ≡ take (length buffer.old) (drop at (seen_of self.old))) }
+        ensures seen { seen_of self.new ≡ seen_of self.old }
+        ensures begun { begun_of self.new ≡ begun_of self.old }
+        ensures crash { Within (images_of self.old) (images_of self.new) }
+        ensures time { Elapses (moment_of self.old) (moment_of self.new) (since_of self.old) (since_of self.new) (images_of self.new) }
+        ensures failed { Counts result (count_of self.old) (count_of self.new) }
+    {
+        let len = self.bytes.len();
+        if !passes || at > len || buffer.len() > len - at {
+            return Err(fail(&mut self.failures));
+        }
+        buffer.copy_from_slice(&self.bytes[at..at + buffer.len()]);
+        Ok(())
+    }
+
+    pub fn write_at(&mut self, passes: bool, at: usize, bytes: &[u8]) -> Result<(), DiskFault>
+        ensures written { at ≤ length (seen_of self.old) → OnOk result (Holds (seen_of self.old) at bytes.now (seen_of self.new)) }
+        ensures begun { begun_of self.new ≡ begun_of self.old }
+        ensures crash { Within (TornFrom at (length bytes.now) (images_of self.old)) (images_of self.new) }
+        ensures time { Elapses (moment_of self.old) (moment_of self.new) (since_of self.old) (since_of self.new) (images_of self.new) }
+        ensures failed { Counts result (count_of self.old) (count_of self.new) }
+    {
+        let Ok(copy) = bytes.to_vec(self.alloc) else {
+            return Err(fail(&mut self.failures));
+        };
+        let Ok(next) = land(self.alloc, &self.bytes, 1, at, bytes) else {
+            return Err(fail(&mut self.failures));
+        };
+        let call = Call::Wrote {
+            at,
+            bytes: copy,
+            done: passes,
+        };
+        if note(&mut self.calls, call).is_err() {
+            return Err(fail(&mut self.failures));
+        }
+        if !passes {
+            return Err(fail(&mut self.failures));
+        }
+        self.bytes = next;
+        Ok(())
+    }
+
+    pub fn sync(&mut self, passes: bool) -> Result<(), DiskFault>
+        ensures durable { OnOk result (Only (seen_of self.old) (images_of self.new)) }
+        ensures seen { seen_of self.new ≡ seen_of self.old }
+        ensures begun { begun_of self.new ≡ begun_of self.old }
+        ensures crash { Within (images_of self.old) (images_of self.new) }
+        ensures time { Elapses (moment_of self.old) (moment_of self.new) (since_of self.old) (since_of self.new) (images_of self.new) }
+        ensures failed { Counts result (count_of self.old) (count_of self.new) }
+    {
+        if !passes {
+            return Err(fail(&mut self.failures));
+        }
+        let Ok(copy) = self.bytes.to_vec(self.alloc) else {
+            return Err(fail(&mut self.failures));
+        };
+        if note(&mut self.calls, Call::Synced).is_err() {
+            return Err(fail(&mut self.failures));
+        }
+        self.base = copy;
+        self.unsynced = self.calls.len();
+        Ok(())
+    }
+
+    pub fn stop(&mut self, pick: u64)
+        ensures left { images_of self.old (seen_of self.new) }
+        ensures begun { begun_of self.new ≡ begun_of self.old }
+        ensures crash { Within (images_of self.old) (images_of self.new) }
+        ensures time { Elapses (moment_of self.old) (moment_of self.new) (since_of self.old) (since_of self.new) (images_of self.new) }
+        ensures failed { count_of self.new ≡ count_of self.old }
+    {
+        let Ok(image) = pick_image(self.alloc, &self.base, &self.calls[self.unsynced..], pick)
+        else {
+            return;
+        };
+        let Ok(copy) = image.to_vec(self.alloc) else {
+            return;
+        };
+        if note(&mut self.calls, Call::Stopped { pick }).is_err() {
+            return;
+        }
+        self.bytes = image;
+        self.base = copy;
+        self.unsynced = self.calls.len();
+    }
+}

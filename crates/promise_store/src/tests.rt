@@ -1,0 +1,395 @@
+ghost use Rattle.paxos_wire.specs.Fits.{IsInRange};
+
+use super::*;
+use paxos_wire::{Ballot, read_command};
+use slot_log::Command;
+use std::alloc::Global;
+use std::fs;
+use std::fs::File;
+use std::process::Abort;
+use std::test::Fail;
+
+const FIRST: Ballot = Ballot { round: 1, node: 0 };
+
+/// `TdAs|8hTc/2c8c3h/9c/Kh` of hand 0.
+const DEAL: [u8; 15] = [
+    0x01, 0, 0, 0, 0, 0x09, 0x21, 0x33, 0x1a, 0x20, 0x00, 0x18, 0x06, 0x1c, 0x2e,
+];
+
+/// Node 0 of 3 after a promise of (1, 0) and an accept of the deal in it at slot 0.
+const JOURNAL: [u8; 46] = [
+    0x48, 0x44, 0x4a, 0x31, 0, 3, 0, 0, 1, 0, 6, 1, 0, 0, 0, 1, 0, 1, 0, 25, 2, 0, 0, 0, 1, 0, 0,
+    0, 0, 0, 0x01, 0, 0, 0, 0, 0x09, 0x21, 0x33, 0x1a, 0x20, 0x00, 0x18, 0x06, 0x1c, 0x2e, 0,
+];
+
+fn deal(rt: &impl Abort) -> Command
+    ensures { IsInRange result }
+{
+    match read_command(&DEAL) {
+        Some((command, _)) => command,
+        None => panic!(rt; "a deal"),
+    }
+}
+
+/// A disk in memory with these bytes.
+fn disk_with(alloc: Global, bytes: &[u8], fuses: &[u64]) -> Result<MemoryDisk, Fail> {
+    let mut disk = MemoryDisk::new(alloc, fuses)?;
+    disk.write_at(0, bytes)?;
+    Ok(disk)
+}
+
+/// What opening a file as node 0 of 3 answers: the fault's number, or 0.
+fn answer(alloc: Global, bytes: &[u8]) -> Result<u8, Fail> {
+    let disk = disk_with(alloc, bytes, &[])?;
+    match Store::open(alloc, disk, 0, 3) {
+        Ok(_) => Ok(0),
+        Err((_, fault)) => Ok(fault.code()),
+    }
+}
+
+/// A next number of the generator of Lehmer (multiplier 48271 modulo 2^31 - 1).
+fn next(seed: &mut u64) -> u64 {
+    *seed = *seed % 2_147_483_647 * 48_271 % 2_147_483_647;
+    *seed
+}
+
+#[test]
+fn journal_byte_by_byte(rt: HostRuntime) -> Result<(), Fail> {
+    let alloc = rt.alloc();
+    let disk = MemoryDisk::new(alloc, &[])?;
+    let Ok(mut store) = Store::create(alloc, disk, 0, 3) else {
+        panic!(rt; "create");
+    };
+    store.promise(FIRST)?;
+    store.accept(FIRST, 0, &deal(&rt))?;
+    assert_eq!(rt; store.held().promised(), FIRST);
+    let placed = store.held().find(0).ok_or("no entry")?;
+    assert_eq!(rt; placed.place, 20);
+    assert_eq!(rt; placed.length, 25);
+    assert_eq!(rt; store.entry(0)?, Some((FIRST, deal(&rt))));
+    assert_eq!(rt; store.entry(1)?, None);
+    let disk = store.close();
+    assert_eq!(rt; disk.bytes(), JOURNAL.as_slice());
+    let Ok(mut store) = Store::open(alloc, disk, 0, 3) else {
+        panic!(rt; "open");
+    };
+    assert_eq!(rt; store.held().promised(), FIRST);
+    assert_eq!(rt; store.entry(0)?, Some((FIRST, deal(&rt))));
+    Ok(())
+}
+
+/// What is left of create, open and one promise of a disk that fails from its call of this number on, once it stopped
+/// with this pick: whether the promise is there; `None` where create or open failed.
+fn left_of_a_promise(
+    rt: &impl Abort,
+    alloc: Global,
+    calls: u64,
+    pick: u64,
+) -> Result<Option<bool>, Fail> {
+    let disk = MemoryDisk::new(alloc, &[calls])?;
+    let Ok(store) = Store::create(alloc, disk, 0, 3) else {
+        return Ok(None);
+    };
+    let Ok(mut store) = Store::open(alloc, store.close(), 0, 3) else {
+        return Ok(None);
+    };
+    if store.promise(FIRST).is_err() {
+        assert_eq!(rt; store.promise(FIRST), Err(StoreFault::Closed));
+        assert_eq!(rt; store.entry(0), Err(StoreFault::Closed));
+    }
+    let mut disk = store.close();
+    disk.stop(pick);
+    let Ok(store) = Store::open(alloc, disk, 0, 3) else {
+        panic!(rt; "open behind the stop");
+    };
+    Ok(Some(store.held().promised() == FIRST))
+}
+
+/// Create takes two calls, open four here, and a promise four.
+#[test]
+fn stops_in_a_promise(rt: HostRuntime) -> Result<(), Fail> {
+    let alloc = rt.alloc();
+    let mut kept = false;
+    let mut lost = false;
+    for pick in 0..9u64 {
+        for calls in 0..6u64 {
+            assert_eq!(rt; left_of_a_promise(&rt, alloc, calls, pick)?, None);
+        }
+        assert_eq!(rt; left_of_a_promise(&rt, alloc, 6, pick)?, Some(false));
+        assert_eq!(rt; left_of_a_promise(&rt, alloc, 7, pick)?, Some(false));
+        for calls in 8..10u64 {
+            match left_of_a_promise(&rt, alloc, calls, pick)? {
+                Some(true) => kept = true,
+                Some(false) => lost = true,
+                None => panic!(rt; "neither"),
+            }
+        }
+        assert_eq!(rt; left_of_a_promise(&rt, alloc, 10, pick)?, Some(true));
+    }
+    assert!(rt; kept);
+    assert!(rt; lost);
+    Ok(())
+}
+
+/// The append of the accept, stopped between its third and its fourth call, is there or isn't.
+#[test]
+fn stops_before_the_last_sync(rt: HostRuntime) -> Result<(), Fail> {
+    let alloc = rt.alloc();
+    for pick in 0..3u64 {
+        let disk = MemoryDisk::new(alloc, &[9])?;
+        let Ok(mut store) = Store::create(alloc, disk, 0, 3) else {
+            panic!(rt; "create");
+        };
+        store.promise(FIRST)?;
+        assert_eq!(rt; store.accept(FIRST, 0, &deal(&rt)), Err(StoreFault::Disk));
+        let mut disk = store.close();
+        disk.stop(pick);
+        let Ok(mut store) = Store::open(alloc, disk, 0, 3) else {
+            panic!(rt; "open");
+        };
+        assert_eq!(rt; store.held().promised(), FIRST);
+        let entry = store.entry(0)?;
+        assert_eq!(rt;
+            entry,
+            if pick == 0 {
+                None
+            } else {
+                Some((FIRST, deal(&rt)))
+            }
+        );
+    }
+    Ok(())
+}
+
+#[test]
+fn malformed_journals(rt: HostRuntime) -> Result<(), Fail> {
+    let alloc = rt.alloc();
+    assert_eq!(rt; answer(alloc, &[])?, 60);
+    assert_eq!(rt; answer(alloc, &JOURNAL[..7])?, 61);
+    assert_eq!(rt; answer(alloc, &JOURNAL[..8])?, 61);
+    assert_eq!(rt;
+        answer(alloc, &[0x48, 0x44, 0x4a, 0x31, 1, 3, 0, 0, 0])?,
+        61
+    );
+    assert_eq!(rt;
+        answer(alloc, &[0x48, 0x44, 0x4a, 0x31, 0, 5, 0, 0, 0])?,
+        61
+    );
+    assert_eq!(rt; answer(alloc, &[0x48, 0x44, 0x4a, 0x31, 0, 3, 0, 0, 0])?, 0);
+    let no_gate = [
+        0x48, 0x44, 0x4a, 0x31, 0, 3, 0, 0, 1, 0, 6, 1, 0, 0, 0, 1, 0,
+    ];
+    assert_eq!(rt; answer(alloc, &no_gate)?, 62);
+    let too_long = [
+        0x48, 0x44, 0x4a, 0x31, 0, 3, 0, 0, 1, 0, 7, 1, 0, 0, 0, 1, 0, 0,
+    ];
+    assert_eq!(rt; answer(alloc, &too_long)?, 62);
+    let mut shut = JOURNAL;
+    shut[17] = 2;
+    let Ok(mut store) = Store::open(alloc, disk_with(alloc, &shut, &[])?, 0, 3) else {
+        panic!(rt; "open");
+    };
+    assert_eq!(rt; store.held().promised(), FIRST);
+    assert_eq!(rt; store.entry(0)?, None);
+    Ok(())
+}
+
+/// A journal of twenty records: promises of rounds 1 to 10, and accepts in them at slots 0 to 9.
+fn twenty(rt: &impl Abort, alloc: Global) -> Result<MemoryDisk, Fail> {
+    let Ok(mut store) = Store::create(alloc, MemoryDisk::new(alloc, &[])?, 0, 3) else {
+        panic!(rt; "create");
+    };
+    for slot in 0..10u32 {
+        let ballot = Ballot {
+            round: slot + 1,
+            node: 0,
+        };
+        store.promise(ballot)?;
+        store.accept(ballot, slot, &deal(rt))?;
+    }
+    Ok(store.close())
+}
+
+#[test]
+fn random_and_changed_journals(rt: HostRuntime) -> Result<(), Fail> {
+    let alloc = rt.alloc();
+    let mut seed = 7;
+    for _ in 0..1000u32 {
+        let mut bytes = [0u8; 64];
+        let len = next(&mut seed) as usize % 65;
+        for byte in bytes.iter_mut() {
+            *byte = (next(&mut seed) % 3) as u8;
+        }
+        let code = answer(alloc, &bytes[..len])?;
+        assert_eq!(rt; code, if len == 0 { 60 } else { 61 });
+    }
+    let journal = twenty(&rt, alloc)?;
+    let whole = journal.bytes();
+    for len in 0..whole.len() {
+        let code = answer(alloc, &whole[..len])?;
+        assert!(rt; matches!(code, 60..=62));
+    }
+    let mut changed = whole.to_vec(alloc)?;
+    for at in 0..changed.len() {
+        let byte = changed[at];
+        changed[at] = byte.wrapping_add(1 + (next(&mut seed) % 255) as u8);
+        let code = answer(alloc, &changed)?;
+        assert!(rt; matches!(code, 0 | 61 | 62));
+        changed[at] = byte;
+    }
+    Ok(())
+}
+
+/// Each call of create, an append and open fails alone; what then is opened is what was asked for, or what was before.
+#[test]
+fn each_call_fails_once(rt: HostRuntime) -> Result<(), Fail> {
+    let alloc = rt.alloc();
+    let mut faults = 0u32;
+    for call in 0..13u64 {
+        let disk = OnceDisk::new(alloc, call);
+        let disk = match Store::create(alloc, disk, 0, 3) {
+            Ok(store) => store.close(),
+            Err((disk, fault)) => {
+                assert_eq!(rt; fault, StoreFault::Disk);
+                faults = faults.saturating_add(1);
+                match Store::create(alloc, disk, 0, 3) {
+                    Ok(store) => store.close(),
+                    Err(_) => panic!(rt; "create again"),
+                }
+            }
+        };
+        let mut store = match Store::open(alloc, disk, 0, 3) {
+            Ok(store) => store,
+            Err((disk, fault)) => {
+                assert_eq!(rt; fault, StoreFault::Disk);
+                faults = faults.saturating_add(1);
+                match Store::open(alloc, disk, 0, 3) {
+                    Ok(store) => store,
+                    Err(_) => panic!(rt; "open again"),
+                }
+            }
+        };
+        let stored = store.accept(FIRST, 0, &deal(&rt));
+        let mut disk = store.close();
+        if stored.is_err() {
+            faults = faults.saturating_add(1);
+            disk.stop(0);
+        }
+        let mut store = match Store::open(alloc, disk, 0, 3) {
+            Ok(store) => store,
+            Err((disk, fault)) => {
+                assert_eq!(rt; fault, StoreFault::Disk);
+                faults = faults.saturating_add(1);
+                match Store::open(alloc, disk, 0, 3) {
+                    Ok(store) => store,
+                    Err(_) => panic!(rt; "open at last"),
+                }
+            }
+        };
+        let entry = store.entry(0);
+        if call == 0 || stored.is_ok() && entry.is_ok() {
+            assert_eq!(rt; entry, Ok(Some((FIRST, deal(&rt)))));
+        }
+    }
+    assert_eq!(rt; faults, 12);
+    Ok(())
+}
+
+#[test]
+fn a_file_is_opened_cut_short_at_each_byte(rt: HostRuntime) -> Result<(), Fail> {
+    let alloc = rt.alloc();
+    let path = "cut.journal";
+    let file = File::options()
+        .read(true)
+        .write(true)
+        .create(true)
+        .truncate(true)
+        .open(&rt, path)?;
+    let Ok(mut store) = Store::create(alloc, FileDisk::new(file), 0, 3) else {
+        panic!(rt; "create");
+    };
+    store.promise(FIRST)?;
+    store.accept(FIRST, 0, &deal(&rt))?;
+    let Ok(mut store) = Store::open(alloc, store.close(), 0, 3) else {
+        panic!(rt; "open");
+    };
+    assert_eq!(rt; store.held().promised(), FIRST);
+    assert_eq!(rt; store.entry(0)?, Some((FIRST, deal(&rt))));
+    assert_eq!(rt; fs::read(&rt, path)?.as_slice(), JOURNAL.as_slice());
+    for cut in 0..46u64 {
+        let len = 45 - cut;
+        let file = File::options().read(true).write(true).open(&rt, path)?;
+        file.set_len(len)?;
+        let code = match Store::open(alloc, FileDisk::new(file), 0, 3) {
+            Ok(_) => 0,
+            Err((_, fault)) => fault.code(),
+        };
+        let expected = match len {
+            0 => 60,
+            1..=8 => 61,
+            _ => 62,
+        };
+        assert_eq!(rt; code, expected, "{len} bytes");
+    }
+    fs::remove_file(&rt, path)?;
+    Ok(())
+}
+
+/// No contract says what a file does: the same calls on a file and in memory answer the same and leave the same bytes.
+#[test]
+fn a_file_answers_as_memory_does(rt: HostRuntime) -> Result<(), Fail> {
+    let alloc = rt.alloc();
+    let path = "calls.journal";
+    let file = File::options()
+        .read(true)
+        .write(true)
+        .create(true)
+        .truncate(true)
+        .open(&rt, path)?;
+    let mut on_file = FileDisk::new(file);
+    let mut in_memory = MemoryDisk::new(alloc, &[])?;
+    let mut seed = 11;
+    for _ in 0..400u32 {
+        let kind = next(&mut seed) % 4;
+        let at = next(&mut seed) as usize % 300;
+        let count = next(&mut seed) as usize % 40;
+        let mut bytes = [0u8; 40];
+        for byte in bytes.iter_mut() {
+            *byte = (next(&mut seed) % 256) as u8;
+        }
+        match kind {
+            0 => assert_eq!(rt;
+                on_file.write_at(at, &bytes[..count]),
+                in_memory.write_at(at, &bytes[..count])
+            ),
+            1 => {
+                let mut other = bytes;
+                let read = on_file.read(at, &mut bytes[..count]);
+                assert_eq!(rt; read, in_memory.read(at, &mut other[..count]));
+                if read.is_ok() {
+                    assert_eq!(rt; bytes, other);
+                }
+            }
+            2 => assert_eq!(rt; on_file.len(), in_memory.len()),
+            _ => assert_eq!(rt; on_file.sync(), in_memory.sync()),
+        }
+    }
+    assert_eq!(rt; on_file.failures(), in_memory.failures());
+    assert_eq!(rt; fs::read(&rt, path)?.as_slice(), in_memory.bytes());
+    fs::remove_file(&rt, path)?;
+    Ok(())
+}
+
+#[test]
+fn faults_print_as_number_and_name(rt: HostRuntime) -> Result<(), Fail> {
+    let alloc = rt.alloc();
+    assert_eq!(rt;
+        format!(in alloc; "{}", StoreFault::NoStore)?.as_str(),
+        "60 NoStore"
+    );
+    assert_eq!(rt;
+        format!(in alloc; "{}", StoreFault::Closed)?.as_str(),
+        "64 Closed"
+    );
+    Ok(())
+}
