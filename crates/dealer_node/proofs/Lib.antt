@@ -1,0 +1,10 @@
+pub mod Cutting
+pub mod Applied
+pub mod Printed
+pub mod Sent
+pub mod Posted
+pub mod Telling
+pub mod Answered
+pub mod Draining
+pub mod Seating
+pub mod Told

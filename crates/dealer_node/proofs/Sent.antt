@@ -1,0 +1,34 @@
+-- Frames to all nodes but one.
+use Rattle.std.proofs.Common.{◌≡◌, ℕ, ◌+◌, Bool, true, false, List, [], ◌∷◌, ◌++◌, refl, ap, sym, ◌∙◌, append_assoc, add-one, eq-eqb}
+use Rattle.std.specs.Prelude.{map, ◌==◌, if◌then◌else◌}
+use Rattle.std.proofs.lemmas.Bool.{ne_eqb}
+use Rattle.std.proofs.lemmas.List.{map-append, append-nil}
+use Rattle.paxos_wire.specs.declared.message.Message.{Message}
+use Rattle.node_rules.specs.Sending.{Frame, one, to_first}
+use Rattle.dealer_node.specs.Texts.{Marked}
+use Rattle.dealer_node.specs.Turned.{posted}
+
+pub to_none : (node : ℕ) (message : Message) → map posted (to_first 0 node message) ≡ []
+unfolding to_first
+to_none node message = refl
+
+one_more : (other node : ℕ) (message : Message) → to_first (other + 1) node message ≡ to_first other node message ++ (if other == node then [] else one other message)
+unfolding to_first
+one_more other node message = rw add-one refl
+
+-- the next node gets one
+pub sent_on : (old texts new : List (Marked ℕ)) (other node : ℕ) (message : Message) → texts ≡ old ++ map posted (to_first other node message) → new ≡ texts ++ map posted (one other message)
+    → (other ≡ node → ⊥) → new ≡ old ++ map posted (to_first (other + 1) node message)
+sent_on old texts new other node message before e differ =
+    let all : to_first (other + 1) node message ≡ to_first other node message ++ one other message =
+    one_more other node message ∙ ap (λ b. to_first other node message ++ (if b then [] else one other message)) (ne_eqb other node differ) in
+    e ∙ ap (λ t. t ++ map posted (one other message)) before ∙ append_assoc old (map posted (to_first other node message)) (map posted (one other message))
+    ∙ ap (λ t. old ++ t) (sym (map-append posted (to_first other node message) (one other message)) ∙ ap (map posted) (sym all))
+
+-- and the node itself none
+pub kept_on : (old texts new : List (Marked ℕ)) (other node : ℕ) (message : Message) → texts ≡ old ++ map posted (to_first other node message) → new ≡ texts
+    → other ≡ node → new ≡ old ++ map posted (to_first (other + 1) node message)
+kept_on old texts new other node message before e same =
+    let all : to_first (other + 1) node message ≡ to_first other node message =
+    one_more other node message ∙ ap (λ b. to_first other node message ++ (if b then [] else one other message)) (eq-eqb other node same) ∙ append-nil (to_first other node message) in
+    e ∙ before ∙ ap (λ t. old ++ map posted t) (sym all)

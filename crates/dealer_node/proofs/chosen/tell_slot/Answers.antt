@@ -1,0 +1,8 @@
+use Rattle.dealer_node.proofs.Told.{told_none, told_some}
+use Rattle.dealer_node.proofs.chosen.tell_slot.Goals as goal
+
+pub returns-in-None-clause-texts : goal.returns-in-None-clause-texts
+returns-in-None-clause-texts c = told_none c.args.frames.now.texts c.args.log.now.log c.args.to c.args.slot c.in-None.ensures
+
+pub returns-clause-texts : goal.returns-clause-texts
+returns-clause-texts c = told_some c.args.frames.now.texts c.send.new.frames.texts c.args.log.now.log c.args.to c.args.slot c.in-Some.command.now c.in-Some.ensures c.send.ensures.texts

@@ -1,0 +1,40 @@
+use Rattle.std.proofs.Common.{◌≡◌, ◌+◌, ◌*◌, ◌≤◌, ◌++◌, length, map, [], ℕ, arith, sym, ◌∙◌, ap}
+use Rattle.std.proofs.lemmas.List.{append-nil}
+use Rattle.dealer_node.specs.Texts.{Written, byte_total}
+use Rattle.dealer_node.proofs.Sent.{to_none, sent_on, kept_on}
+use Rattle.dealer_node.proofs.sending.send_to_others.Goals as goal
+use Rattle.dealer_node.proofs.sending.send_to_others.Goals.{then-to-number, else-to-number}
+
+pub loop-to-init : goal.loop-to-init
+loop-to-init c = record {
+  texts = sym (ap (λ t. c.args.frames.now.texts ++ t) (to_none c.args.number c.args.message.now) ∙ append-nil c.args.frames.now.texts);
+  text_room = omega arith;
+  byte_room = omega arith;
+  len = omega arith;
+  size = omega arith;
+}
+
+pub send-requires-clause-bytes : goal.send-requires-clause-bytes
+send-requires-clause-bytes c =
+    let short = c.frame_len.ensures.single c.requires.single in
+    omega (arith, short, c.frame_len.ensures.value, c.requires.bytes)
+
+pub loop-to-preserved : goal.loop-to-preserved
+loop-to-preserved c =
+    let short = c.frame_len.ensures.single c.requires.single in
+    elim c.if-to-number.branch [
+      | then-to-number w ↦ record {
+        texts = sent_on c.args.frames.now.texts c.loop-to.frames.texts c.if-to-number.frames.texts c.loop-to.to c.args.number c.args.message.now c.loop-to.invariant.texts (ap (λ (f : Written ℕ). f.texts) w.frames-is ∙ w.send.ensures.texts) w.if-to-number.true;
+        text_room = omega (arith, ap (λ (f : Written ℕ). f.text_room) w.frames-is);
+        byte_room = omega (arith, short, c.frame_len.ensures.value, ap (λ (f : Written ℕ). f.byte_room) w.frames-is);
+        len = omega (arith, ap (λ (f : Written ℕ). length f.texts) w.frames-is);
+        size = omega (arith, short, c.frame_len.ensures.value, ap (λ (f : Written ℕ). byte_total f.texts) w.frames-is);
+      }
+      | else-to-number w ↦ record {
+        texts = kept_on c.args.frames.now.texts c.loop-to.frames.texts c.if-to-number.frames.texts c.loop-to.to c.args.number c.args.message.now c.loop-to.invariant.texts (ap (λ (f : Written ℕ). f.texts) w.frames-is) w.if-to-number.false;
+        text_room = omega (arith, ap (λ (f : Written ℕ). f.text_room) w.frames-is);
+        byte_room = omega (arith, ap (λ (f : Written ℕ). f.byte_room) w.frames-is);
+        len = omega (arith, ap (λ (f : Written ℕ). length f.texts) w.frames-is);
+        size = omega (arith, ap (λ (f : Written ℕ). byte_total f.texts) w.frames-is);
+      }
+    ]

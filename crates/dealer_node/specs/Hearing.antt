@@ -1,0 +1,61 @@
+-- What a seat's bytes do at a node, as the rules have it.
+use Rattle.std.specs.Prelude.{◌≡◌, ℕ, ◌+◌, ◌≤◌, ◌<◌, false, List, Option, Some, None, Result, Ok, Err, length}
+use Rattle.paxos_wire.specs.declared.ballot.Ballot.{Ballot}
+use Rattle.paxos_wire.specs.Fits.{IsAct, IsInRange}
+use Rattle.slot_log.specs.Hand.{Match}
+use Rattle.slot_log.specs.declared.command.Command.{Command}
+use Rattle.seat_session.specs.Feeds.{line_feeds}
+use Rattle.seat_session.specs.Session.{Standing as Talk, Conversation, with_piece, is_closed}
+use Rattle.seat_session.specs.declared.said.Said.{Said}
+use Rattle.seat_session.specs.declared.said.Said.TheVariants.{Ready, Act}
+use Rattle.seat_session.specs.declared.session_fault.SessionFault.{SessionFault}
+use Rattle.node_rules.specs.Standings.{Place, applied}
+use Rattle.node_rules.specs.Turns.{Turn, joined}
+use Rattle.node_rules.specs.Seats.{answering, answering_all, Drains, left}
+use Rattle.dealer_node.specs.Outs.{Told, both_told}
+use Rattle.dealer_node.specs.Turned.{told_of, talk_of}
+use Rattle.dealer_node.specs.Scenes.{IsTableOf}
+
+-- what is said can be handed on: an act has its numbers in their ranges
+abbrev pub IsForwardable : Result Said SessionFault → Type 0
+IsForwardable (Ok Ready) = Unit {0}
+IsForwardable (Ok (Act command)) = IsAct command × IsInRange command
+IsForwardable (Err fault) = Unit {0}
+
+-- the table, the promise, the act that waits, and what was made behind other things, are those of a turn
+pub record IsHeard (place : Place) (table : Match) (promised : Ballot) (turn : Turn) (pending : Option Command) (before now : Told) : Type 0 where
+  pub hands : IsTableOf place.setting (applied turn.after) table
+  pub promise : turn.after.store.promise ≡ promised
+  pub waits : pending ≡ turn.after.pending
+  pub told : now ≡ both_told before (told_of turn)
+
+-- one answer is taken
+abbrev pub TakesAnswer : Place → Match → Ballot → ℕ → Result Said SessionFault → Option Command → Option Command → Told → Told → Type 0
+TakesAnswer place table promised seat said old new earlier later =
+    (turn : Turn) (before : Told) → IsHeard place table promised turn old before earlier
+    → IsHeard place table promised (joined turn (answering place seat said turn.after)) new before later
+
+-- answers are taken in order
+abbrev pub TakesAnswers : Place → Match → Ballot → ℕ → List (Result Said SessionFault) → Option Command → Option Command → Told → Told → Type 0
+TakesAnswers place table promised seat answers old new earlier later =
+    (turn : Turn) (before : Told) → IsHeard place table promised turn old before earlier
+    → IsHeard place table promised (answering_all place seat answers turn) new before later
+
+-- all that waits is answered, and the answers are taken in order
+pub record Hears (place : Place) (table : Match) (promised : Ballot) (seat : ℕ) (old new : Talk) (waited waits : Option Command) (earlier later : Told) : Type 0 where
+  pub answers : List (Result Said SessionFault)
+  pub drains : Drains table.game table.hands seat old answers new
+  pub taken : TakesAnswers place table promised seat answers waited waits earlier later
+
+-- a piece of a seat's bytes: without a session it is passed over, and a session that it closes is dropped
+abbrev pub HearsPiece : Place → Match → Ballot → ℕ → List ℕ → Option Conversation → Option Conversation → Option Command → Option Command → Told → Told → Type 0
+HearsPiece place table promised seat piece None session waited waits earlier later = (session ≡ None) × (waits ≡ waited) × (later ≡ earlier)
+HearsPiece place table promised seat piece (Some old) session waited waits earlier later =
+    (talk : Talk) × Hears place table promised seat (with_piece old.standing piece) talk waited waits earlier later × (talk_of session ≡ left talk)
+
+-- a session that can take a piece without memory, and gives fewer answers to it than these
+pub record CanHear (seat : ℕ) (piece : List ℕ) (limit : ℕ) (session : Conversation) : Type 0 where
+  pub own : session.seat ≡ seat
+  pub stays : is_closed session.standing.phase ≡ false
+  pub room : length piece ≤ session.room
+  pub few : line_feeds session.standing.waiting + line_feeds piece < limit

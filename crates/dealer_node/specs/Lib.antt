@@ -1,0 +1,10 @@
+pub mod Texts
+pub mod Outs
+pub mod Turned
+pub mod Posts
+pub mod PostInside
+pub mod Scenes
+pub mod Rooms
+pub mod Hearing
+pub mod Seated
+pub mod SeatsInside

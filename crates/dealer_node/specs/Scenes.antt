@@ -1,0 +1,21 @@
+-- A table, an act that waits and texts, as a scene of the rules.
+use Rattle.std.specs.Prelude.{◌≡◌, List, ◌++◌, map, Option}
+use Rattle.slot_log.specs.Hand.{Match}
+use Rattle.slot_log.specs.declared.command.Command.{Command}
+use Rattle.dealer_kind.specs.Kind.{Setting, hands_after}
+use Rattle.node_rules.specs.Applying.{Scene}
+use Rattle.dealer_node.specs.declared.reader.Reader.{Reader}
+use Rattle.dealer_node.specs.Texts.{Marked}
+use Rattle.dealer_node.specs.Turned.{printed}
+
+-- the table has the hands that these commands make
+pub record IsTableOf (setting : Setting) (applied : List Command) (table : Match) : Type 0 where
+  pub game : table.game ≡ setting.game
+  pub count : table.count ≡ setting.title.hands
+  pub hands : table.hands ≡ hands_after setting applied
+
+-- the table is that of the commands applied, the act that waits is the scene's, and what it shows stands behind other texts
+pub record IsScene (setting : Setting) (scene : Scene) (table : Match) (pending : Option Command) (before texts : List (Marked Reader)) : Type 0 where
+  pub hands : IsTableOf setting scene.applied table
+  pub waits : pending ≡ scene.pending
+  pub shown : texts ≡ before ++ map printed scene.shown

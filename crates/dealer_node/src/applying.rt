@@ -1,0 +1,88 @@
+ghost use Rattle.std.specs.Prelude.{◌≡◌, ◌+◌, ◌*◌, ◌≤◌, List, length};
+ghost use Rattle.node_rules.specs.Applying.{Scene, kept, taking, taking_all};
+ghost use Rattle.slot_log.specs.declared.command.Command.{Command as Order};
+ghost use Rattle.dealer_kind.specs.Kind.{hands_after};
+ghost use Rattle.dealer_node.specs.declared.reader.Reader.{Reader as Reads};
+ghost use Rattle.dealer_node.specs.Texts.{Marked, byte_total};
+ghost use Rattle.dealer_node.specs.Turned.{talks};
+ghost use Rattle.dealer_node.specs.Scenes.{IsScene, IsTableOf};
+
+use crate::lines::show_news;
+use crate::post::Post;
+use crate::reader::Reader;
+use crate::texts::Texts;
+use seat_session::Session;
+use slot_log::{Command, Table};
+
+/// Forgets an act that waits and doesn't fit.
+fn forget(pending: &mut Option<Command>, post: &Post, table: &Table)
+    ensures { (applied : List Order) → IsTableOf post.now.setting applied table.now → pending.new ≡ kept post.now.setting applied pending.old }
+{
+    let _ = post;
+    if let Some(act) = pending {
+        if !table.fits(act) {
+            *pending = None;
+        }
+    }
+}
+
+/// Applies a command: one that takes effect is shown, and an act that waits is forgotten once it doesn't fit.
+fn take(
+    table: &mut Table,
+    pending: &mut Option<Command>,
+    post: &Post,
+    sessions: &[Option<Session>],
+    command: &Command,
+    shown: &mut Texts<Reader>,
+)
+    requires game { table.old.game ≡ post.now.setting.game }
+    requires count { table.old.count ≡ post.now.setting.title.hands }
+    requires seats { length sessions.now ≡ table.old.game.players }
+    requires room { 1 ≤ table.old.room }
+    requires texts { 11 ≤ shown.old.text_room }
+    requires bytes { 45716 ≤ shown.old.byte_room }
+    ensures scene { (scene : Scene) (before : List (Marked Reads)) → IsScene post.now.setting scene table.old pending.old before shown.old.texts
+        → IsScene post.now.setting (taking post.now.setting (talks sessions.now) command.now scene) table.new pending.new before shown.new.texts }
+    ensures game { table.new.game ≡ table.old.game }
+    ensures count { table.new.count ≡ table.old.count }
+    ensures room { table.old.room ≤ table.new.room + 1 }
+    ensures text_room { shown.old.text_room ≤ shown.new.text_room + 11 }
+    ensures byte_room { shown.old.byte_room ≤ shown.new.byte_room + 45716 }
+    ensures len { length shown.new.texts ≤ length shown.old.texts + 11 }
+    ensures size { byte_total shown.new.texts ≤ byte_total shown.old.texts + 45716 }
+{
+    let fits = table.fits(command);
+    table.apply_reserved(command);
+    show_news(shown, fits, post, table, sessions);
+    forget(pending, post, table);
+}
+
+/// Applies commands in order, for all of which there is room.
+pub(crate) fn take_all(
+    table: &mut Table,
+    pending: &mut Option<Command>,
+    post: &Post,
+    sessions: &[Option<Session>],
+    commands: &[Command],
+    shown: &mut Texts<Reader>,
+)
+    requires game { table.old.game ≡ post.now.setting.game }
+    requires count { table.old.count ≡ post.now.setting.title.hands }
+    requires seats { length sessions.now ≡ table.old.game.players }
+    requires room { length commands.now ≤ table.old.room }
+    requires texts { 11 * length commands.now ≤ shown.old.text_room }
+    requires bytes { 45716 * length commands.now ≤ shown.old.byte_room }
+    ensures scene { (scene : Scene) (before : List (Marked Reads)) → IsScene post.now.setting scene table.old pending.old before shown.old.texts
+        → IsScene post.now.setting (taking_all post.now.setting (talks sessions.now) commands.now scene) table.new pending.new before shown.new.texts }
+    ensures game { table.new.game ≡ table.old.game }
+    ensures count { table.new.count ≡ table.old.count }
+    ensures room { table.old.room ≤ table.new.room + length commands.now }
+    ensures text_room { shown.old.text_room ≤ shown.new.text_room + 11 * length commands.now }
+    ensures byte_room { shown.old.byte_room ≤ shown.new.byte_room + 45716 * length commands.now }
+    ensures len { length shown.new.texts ≤ length shown.old.texts + 11 * length commands.now }
+    ensures size { byte_total shown.new.texts ≤ byte_total shown.old.texts + 45716 * length commands.now }
+{
+    for command in commands {
+        take(table, pending, post, sessions, command, shown);
+    }
+}

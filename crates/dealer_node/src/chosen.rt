@@ -1,0 +1,77 @@
+ghost use Rattle.std.specs.Prelude.{◌≡◌, ◌+◌, ◌-◌, ◌*◌, ◌≤◌, ◌<◌, ◌++◌, ℕ, map, min, Some, length};
+ghost use Rattle.paxos_wire.specs.Fits.{IsInRange, IsSlot};
+ghost use Rattle.paxos_wire.specs.declared.message.Message.TheVariants.{Ask as Asking};
+ghost use Rattle.slot_log.specs.Slots.{front, known_at};
+ghost use Rattle.slot_log.specs.declared.command.Command.{Command as Order};
+ghost use Rattle.node_rules.specs.Sending.{one};
+ghost use Rattle.node_rules.specs.Learning.{next_window, telling_from};
+ghost use Rattle.dealer_node.specs.Rooms.{Grows};
+ghost use Rattle.dealer_node.specs.Turned.{posted};
+
+use crate::sending::send;
+use crate::texts::Texts;
+use paxos_wire::limits::{SLOTS, WINDOW};
+use paxos_wire::{Message, frame_len};
+use slot_log::SlotLog;
+
+/// Asks a node for what was chosen from a slot on.
+pub(crate) fn ask(frames: &mut Texts<u8>, to: u8, slot: u32)
+    requires slot { IsSlot slot }
+    requires texts { 1 ≤ frames.old.text_room }
+    requires bytes { 46 ≤ frames.old.byte_room }
+    ensures texts { frames.new.texts ≡ frames.old.texts ++ map posted (one to (Asking slot)) }
+    ensures grows { Grows frames.old frames.new 1 46 }
+{
+    let message = Message::Ask { slot };
+    let _ = frame_len(&message);
+    send(frames, to, &message);
+}
+
+/// How many slots an Ask for a slot is answered with: those from the slot on that lie below the front and below the
+/// next multiple of 64 above the slot.
+pub(crate) fn told_slots(log: &SlotLog, slot: u32) -> u32
+    requires { IsSlot slot }
+    ensures value { result ≡ min (front log.now.log) (next_window slot) - slot }
+    ensures most { result ≤ 64 }
+    ensures within { slot + result ≤ front log.now.log + slot }
+{
+    let window = WINDOW as u32;
+    let next = (slot / window + 1) * window;
+    log.front().min(next).saturating_sub(slot)
+}
+
+/// Tells a node the command of a slot as chosen, where it is known.
+fn tell_slot(frames: &mut Texts<u8>, to: u8, log: &SlotLog, slot: u32)
+    requires slot { IsSlot slot }
+    requires commands { (command : Order) → known_at log.now.log slot ≡ Some command → IsInRange command }
+    requires texts { 1 ≤ frames.old.text_room }
+    requires bytes { 46 ≤ frames.old.byte_room }
+    ensures texts { frames.new.texts ≡ frames.old.texts ++ map posted (telling_from log.now.log to slot 1) }
+    ensures grows { Grows frames.old frames.new 1 46 }
+{
+    match log.get(slot) {
+        None => return,
+        Some(command) => {
+            let message = Message::Chosen {
+                slot,
+                command: *command,
+            };
+            let _ = frame_len(&message);
+            send(frames, to, &message);
+        }
+    }
+}
+
+/// Tells a node the commands of so many slots from one on as chosen, each that is known.
+pub(crate) fn tell(frames: &mut Texts<u8>, to: u8, log: &SlotLog, slot: u32, slots: u32)
+    requires slots { slot + slots ≤ SLOTS }
+    requires commands { (one : ℕ) (command : Order) → known_at log.now.log one ≡ Some command → IsInRange command }
+    requires texts { slots ≤ frames.old.text_room }
+    requires bytes { 46 * slots ≤ frames.old.byte_room }
+    ensures texts { frames.new.texts ≡ frames.old.texts ++ map posted (telling_from log.now.log to slot slots) }
+    ensures grows { Grows frames.old frames.new slots (46 * slots) }
+{
+    for step in 0..slots {
+        tell_slot(frames, to, log, slot + step);
+    }
+}

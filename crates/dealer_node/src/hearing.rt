@@ -1,0 +1,233 @@
+ghost use Rattle.std.specs.Prelude.{◌≡◌, ◌+◌, ◌*◌, ◌≤◌, ◌<◌, ◌++◌, ◌&&◌, false, map, is_none, if◌then◌else◌, [], Ok, Err, Some, None, IfSome, vec_len, vec_capacity};
+ghost use Rattle.std.specs.Option.{ForSome};
+ghost use Rattle.slot_log.specs.Dealer.{reason_of};
+ghost use Rattle.paxos_wire.specs.Fits.{IsAct, IsInRange};
+ghost use Rattle.paxos_wire.specs.declared.message.Message.TheVariants.{Forward as Forwarding};
+ghost use Rattle.seat_session.specs.Feeds.{line_feeds};
+ghost use Rattle.seat_session.specs.Session.{is_closed};
+ghost use Rattle.seat_session.specs.declared.said.Said.TheVariants.{Ready as SaidReady, Act as SaidAct};
+ghost use Rattle.node_rules.specs.Sending.{one};
+ghost use Rattle.node_rules.specs.Seats.{is_others};
+ghost use Rattle.dealer_node.specs.Outs.{told_by};
+ghost use Rattle.dealer_node.specs.Posts.{place_at};
+ghost use Rattle.dealer_node.specs.Turned.{posted};
+ghost use Rattle.dealer_node.specs.Rooms.{Grows, Tells};
+ghost use Rattle.dealer_node.specs.Hearing.{IsForwardable, TakesAnswer, Hears, HearsPiece, CanHear};
+
+use crate::lines::show_line;
+use crate::made::Made;
+use crate::post::Post;
+use crate::seat_fault::SeatFault;
+use crate::sending::send;
+use crate::texts::Texts;
+use matchstate::BettingText;
+use paxos_wire::{Ballot, Message, frame_len};
+use seat_session::laws::{answers_take_lines, pieces_add_lines, ready_comes_first};
+use seat_session::{Said, Session, SessionFault};
+use slot_log::{Command, Table};
+
+/// Lets an act wait where it fits and none does.
+fn wait(pending: &mut Option<Command>, table: &Table, act: &Command)
+    ensures { pending.new ≡ (if is_none pending.old && is_none (reason_of table.now.game table.now.count table.now.hands act.now) then Some act.now else pending.old) }
+{
+    if pending.is_none() && table.fits(act) {
+        *pending = Some(*act);
+    }
+}
+
+/// Whether the promised ballot is another node's.
+fn is_others(post: &Post, promised: Ballot) -> bool
+    ensures { result ≡ is_others (place_at post.now) promised }
+{
+    promised.round > 0 && promised.node < post.nodes() && promised.node != post.node()
+}
+
+/// Hands an act on to the node whose ballot was promised, where that is another.
+fn forward(frames: &mut Texts<u8>, post: &Post, promised: Ballot, act: &Command)
+    requires act { IsAct act.now }
+    requires numbers { IsInRange act.now }
+    requires texts { 1 ≤ frames.old.text_room }
+    requires bytes { 46 ≤ frames.old.byte_room }
+    ensures texts { frames.new.texts ≡ frames.old.texts ++ map posted (if is_others (place_at post.now) promised then one promised.node (Forwarding act.now) else []) }
+    ensures grows { Grows frames.old frames.new 1 46 }
+{
+    if is_others(post, promised) {
+        let message = Message::Forward { command: *act };
+        let _ = frame_len(&message);
+        send(frames, promised.node, &message);
+    }
+}
+
+/// A seat that gets ready is shown its line.
+fn take_ready(
+    seat: usize,
+    post: &Post,
+    promised: Ballot,
+    table: &Table,
+    pending: &Option<Command>,
+    made: &mut Made,
+)
+    requires game { table.now.game ≡ post.now.setting.game }
+    requires seat { seat < table.now.game.players }
+    requires texts { 1 ≤ made.old.shown.text_room }
+    requires bytes { 4096 ≤ made.old.shown.byte_room }
+    ensures taken { TakesAnswer (place_at post.now) table.now promised seat (Ok SaidReady) pending.now pending.now (told_by made.old) (told_by made.new) }
+    ensures shown { Grows made.old.shown made.new.shown 1 4096 }
+    ensures rest { made.new ≡ record made.old { shown = made.new.shown } }
+{
+    show_line(
+        &mut made.shown,
+        post,
+        table,
+        seat,
+        &BettingText::newest(table),
+    );
+}
+
+/// An act waits where it fits and none does, and goes on to the node whose ballot was promised, where that is another.
+fn take_act(
+    act: &Command,
+    seat: usize,
+    post: &Post,
+    promised: Ballot,
+    table: &Table,
+    pending: &mut Option<Command>,
+    made: &mut Made,
+)
+    requires act { IsForwardable (Ok (SaidAct act.now)) }
+    requires texts { 1 ≤ made.old.frames.text_room }
+    requires bytes { 46 ≤ made.old.frames.byte_room }
+    ensures taken { TakesAnswer (place_at post.now) table.now promised seat (Ok (SaidAct act.now)) pending.old pending.new (told_by made.old) (told_by made.new) }
+    ensures frames { Grows made.old.frames made.new.frames 1 46 }
+    ensures rest { made.new ≡ record made.old { frames = made.new.frames } }
+{
+    wait(pending, table, act);
+    forward(&mut made.frames, post, promised, act);
+}
+
+/// A fault is told.
+fn take_fault(
+    fault: SessionFault,
+    seat: usize,
+    post: &Post,
+    promised: Ballot,
+    table: &Table,
+    pending: &Option<Command>,
+    made: &mut Made,
+)
+    requires { vec_len made.old.faults < vec_capacity made.old.faults }
+    ensures taken { TakesAnswer (place_at post.now) table.now promised seat (Err fault) pending.now pending.now (told_by made.old) (told_by made.new) }
+    ensures faults { Tells made.old made.new 1 }
+    ensures rest { made.new ≡ record made.old { faults = made.new.faults } }
+{
+    made.faults.push_reserved(SeatFault { seat, fault });
+}
+
+/// Takes an answer of a seat's session.
+fn take_answer(
+    said: &Result<Said, SessionFault>,
+    seat: usize,
+    post: &Post,
+    promised: Ballot,
+    table: &Table,
+    pending: &mut Option<Command>,
+    made: &mut Made,
+)
+    requires game { table.now.game ≡ post.now.setting.game }
+    requires seat { seat < table.now.game.players }
+    requires act { IsForwardable said.now }
+    requires frames { 1 ≤ made.old.frames.text_room }
+    requires frame_bytes { 46 ≤ made.old.frames.byte_room }
+    requires texts { said.now ≡ Ok SaidReady → 1 ≤ made.old.shown.text_room }
+    requires text_bytes { said.now ≡ Ok SaidReady → 4096 ≤ made.old.shown.byte_room }
+    requires faults { vec_len made.old.faults < vec_capacity made.old.faults }
+    ensures taken { TakesAnswer (place_at post.now) table.now promised seat said.now pending.old pending.new (told_by made.old) (told_by made.new) }
+    ensures frames { Grows made.old.frames made.new.frames 1 46 }
+    ensures shown { Grows made.old.shown made.new.shown 1 4096 }
+    ensures still { (said.now ≡ Ok SaidReady → ⊥) → made.new.shown ≡ made.old.shown }
+    ensures faults { Tells made.old made.new 1 }
+{
+    match said {
+        Ok(Said::Ready) => take_ready(seat, post, promised, table, pending, made),
+        Ok(Said::Act(act)) => take_act(act, seat, post, promised, table, pending, made),
+        Err(fault) => take_fault(*fault, seat, post, promised, table, pending, made),
+    }
+}
+
+/// Takes all answers to what waits, up to none or to the first that closes the session.
+fn drain(
+    session: &mut Session,
+    limit: usize,
+    post: &Post,
+    promised: Ballot,
+    table: &Table,
+    pending: &mut Option<Command>,
+    made: &mut Made,
+)
+    requires game { table.now.game ≡ post.now.setting.game }
+    requires seat { session.old.seat < table.now.game.players }
+    requires stays { is_closed session.old.standing.phase ≡ false }
+    requires limit { line_feeds session.old.standing.waiting < limit }
+    requires frames { limit ≤ made.old.frames.text_room }
+    requires frame_bytes { 46 * limit ≤ made.old.frames.byte_room }
+    requires texts { 1 ≤ made.old.shown.text_room }
+    requires text_bytes { 4096 ≤ made.old.shown.byte_room }
+    requires faults { vec_len made.old.faults + limit ≤ vec_capacity made.old.faults }
+    ensures hears { Hears (place_at post.now) table.now promised session.old.seat session.old.standing session.new.standing pending.old pending.new (told_by made.old) (told_by made.new) }
+    ensures seat { session.new.seat ≡ session.old.seat }
+    ensures frames { Grows made.old.frames made.new.frames limit (46 * limit) }
+    ensures shown { Grows made.old.shown made.new.shown 1 4096 }
+    ensures faults { Tells made.old made.new limit }
+{
+    answers_take_lines();
+    ready_comes_first();
+    for step in 0..limit {
+        match session.next(table) {
+            None => return,
+            Some(said) => {
+                take_answer(&said, session.seat(), post, promised, table, pending, made);
+                if session.is_closed() {
+                    return;
+                }
+            }
+        }
+    }
+}
+
+/// Takes a piece of a seat's bytes; a session that it closes is dropped.
+pub(crate) fn hear(
+    session: Option<Session>,
+    seat: usize,
+    piece: &[u8],
+    limit: usize,
+    post: &Post,
+    promised: Ballot,
+    table: &Table,
+    pending: &mut Option<Command>,
+    made: &mut Made,
+) -> Option<Session>
+    requires game { table.now.game ≡ post.now.setting.game }
+    requires seat { seat < table.now.game.players }
+    requires session { ForSome session (λ s. CanHear seat piece.now limit s) }
+    requires frames { limit ≤ made.old.frames.text_room }
+    requires frame_bytes { 46 * limit ≤ made.old.frames.byte_room }
+    requires texts { 1 ≤ made.old.shown.text_room }
+    requires text_bytes { 4096 ≤ made.old.shown.byte_room }
+    requires faults { vec_len made.old.faults + limit ≤ vec_capacity made.old.faults }
+    ensures hears { HearsPiece (place_at post.now) table.now promised seat piece.now session result pending.old pending.new (told_by made.old) (told_by made.new) }
+    ensures own { IfSome result (λ s. s.seat ≡ seat) }
+    ensures stays { IfSome result (λ s. is_closed s.standing.phase ≡ false) }
+    ensures frames { Grows made.old.frames made.new.frames limit (46 * limit) }
+    ensures shown { Grows made.old.shown made.new.shown 1 4096 }
+    ensures faults { Tells made.old made.new limit }
+{
+    pieces_add_lines();
+    let mut session = session?;
+    session.feed_reserved(piece);
+    drain(&mut session, limit, post, promised, table, pending, made);
+    if session.is_closed() {
+        None
+    } else {
+        Some(session)
+    }
+}

@@ -1,0 +1,152 @@
+ghost use Rattle.std.specs.Prelude.{◌≡◌, ◌+◌, ◌*◌, ◌≤◌, ◌<◌, ◌++◌, ◌∷◌, [], length, map, if◌then◌else◌};
+ghost use Rattle.matchstate.specs.Line.{newest_text};
+ghost use Rattle.node_rules.specs.Showing.{is_connected, seat_line, seat_lines, log_piece, news, header};
+ghost use Rattle.dealer_node.specs.Texts.{byte_total};
+ghost use Rattle.dealer_node.specs.Turned.{printed, talk_of, talks};
+
+use crate::post::Post;
+use crate::reader::Reader;
+use crate::texts::{Run, Texts};
+use match_log::{further_lines_reserved, header_reserved};
+use matchstate::{BettingText, seat_line_reserved};
+use seat_session::Session;
+use slot_log::Table;
+
+/// Whether a seat is connected: its session is ready.
+pub(crate) fn is_connected(session: &Option<Session>) -> bool
+    ensures { result ≡ is_connected (talk_of session.now) }
+{
+    match session {
+        None => false,
+        Some(session) => session.is_ready(),
+    }
+}
+
+/// Shows a seat its line; nothing before the first deal. This is the betting text of the newest hand.
+pub(crate) fn show_line(
+    shown: &mut Texts<Reader>,
+    post: &Post,
+    table: &Table,
+    seat: usize,
+    betting: &BettingText,
+)
+    requires game { table.now.game ≡ post.now.setting.game }
+    requires seat { seat < table.now.game.players }
+    requires betting { betting.now ≡ newest_text table.now.game table.now.hands }
+    requires texts { 1 ≤ shown.old.text_room }
+    requires bytes { 4096 ≤ shown.old.byte_room }
+    ensures texts { shown.new.texts ≡ shown.old.texts ++ map printed (seat_line post.now.setting table.now.hands seat) }
+    ensures text_room { shown.old.text_room ≤ shown.new.text_room + 1 }
+    ensures byte_room { shown.old.byte_room ≤ shown.new.byte_room + 4096 }
+    ensures len { length shown.new.texts ≤ length shown.old.texts + 1 }
+    ensures size { byte_total shown.new.texts ≤ byte_total shown.old.texts + 4096 }
+{
+    if table.dealt() == 0 {
+        return;
+    }
+    let start = shown.bytes.len();
+    seat_line_reserved(&mut shown.bytes, table, seat, betting);
+    let len = shown.bytes.len() - start;
+    shown.runs.push_reserved(Run {
+        mark: Reader::Seat(seat),
+        len,
+    });
+}
+
+/// Shows each connected seat its line, in order of seats.
+pub(crate) fn show_lines(
+    shown: &mut Texts<Reader>,
+    post: &Post,
+    table: &Table,
+    sessions: &[Option<Session>],
+)
+    requires game { table.now.game ≡ post.now.setting.game }
+    requires seats { length sessions.now ≡ table.now.game.players }
+    requires texts { length sessions.now ≤ shown.old.text_room }
+    requires bytes { 4096 * length sessions.now ≤ shown.old.byte_room }
+    ensures texts { shown.new.texts ≡ shown.old.texts ++ map printed (seat_lines post.now.setting table.now.hands 0 (talks sessions.now)) }
+    ensures text_room { shown.old.text_room ≤ shown.new.text_room + length sessions.now }
+    ensures byte_room { shown.old.byte_room ≤ shown.new.byte_room + 4096 * length sessions.now }
+    ensures len { length shown.new.texts ≤ length shown.old.texts + length sessions.now }
+    ensures size { byte_total shown.new.texts ≤ byte_total shown.old.texts + 4096 * length sessions.now }
+{
+    let betting = BettingText::newest(table);
+    for (seat, session) in sessions.iter().enumerate() {
+        if is_connected(session) {
+            show_line(shown, post, table, seat, &betting);
+        }
+    }
+}
+
+/// Shows the log what it has further after a command that took effect; nothing while a hand runs.
+pub(crate) fn show_log(shown: &mut Texts<Reader>, post: &Post, table: &Table)
+    requires game { table.now.game ≡ post.now.setting.game }
+    requires count { table.now.count ≡ post.now.setting.title.hands }
+    requires texts { 1 ≤ shown.old.text_room }
+    requires bytes { 4756 ≤ shown.old.byte_room }
+    ensures texts { shown.new.texts ≡ shown.old.texts ++ map printed (log_piece post.now.setting table.now.hands) }
+    ensures text_room { shown.old.text_room ≤ shown.new.text_room + 1 }
+    ensures byte_room { shown.old.byte_room ≤ shown.new.byte_room + 4756 }
+    ensures len { length shown.new.texts ≤ length shown.old.texts + 1 }
+    ensures size { byte_total shown.new.texts ≤ byte_total shown.old.texts + 4756 }
+{
+    if table.running() {
+        return;
+    }
+    let start = shown.bytes.len();
+    further_lines_reserved(&mut shown.bytes, table, post.names());
+    let len = shown.bytes.len() - start;
+    shown.runs.push_reserved(Run {
+        mark: Reader::Log,
+        len,
+    });
+}
+
+/// Shows what is new after a command, where it took effect: to the connected seats their lines, then to the log its own.
+pub(crate) fn show_news(
+    shown: &mut Texts<Reader>,
+    took: bool,
+    post: &Post,
+    table: &Table,
+    sessions: &[Option<Session>],
+)
+    requires game { table.now.game ≡ post.now.setting.game }
+    requires count { table.now.count ≡ post.now.setting.title.hands }
+    requires seats { length sessions.now ≡ table.now.game.players }
+    requires texts { 11 ≤ shown.old.text_room }
+    requires bytes { 45716 ≤ shown.old.byte_room }
+    ensures texts { shown.new.texts ≡ shown.old.texts ++ map printed (if took then news post.now.setting (talks sessions.now) table.now.hands else []) }
+    ensures text_room { shown.old.text_room ≤ shown.new.text_room + 11 }
+    ensures byte_room { shown.old.byte_room ≤ shown.new.byte_room + 45716 }
+    ensures len { length shown.new.texts ≤ length shown.old.texts + 11 }
+    ensures size { byte_total shown.new.texts ≤ byte_total shown.old.texts + 45716 }
+{
+    if took {
+        table.game().limits();
+        show_lines(shown, post, table, sessions);
+        show_log(shown, post, table);
+    }
+}
+
+/// Shows the log its header.
+pub(crate) fn show_header(shown: &mut Texts<Reader>, post: &Post)
+    requires texts { 1 ≤ shown.old.text_room }
+    requires bytes { 263 ≤ shown.old.byte_room }
+    ensures texts { shown.new.texts ≡ shown.old.texts ++ map printed (header post.now.setting ∷ []) }
+    ensures len { length shown.new.texts ≤ length shown.old.texts + 1 }
+    ensures size { byte_total shown.new.texts ≤ byte_total shown.old.texts + 263 }
+{
+    post.limits();
+    let start = shown.bytes.len();
+    header_reserved(
+        &mut shown.bytes,
+        post.name().as_bytes(),
+        post.game_word(),
+        post.hands(),
+    );
+    let len = shown.bytes.len() - start;
+    shown.runs.push_reserved(Run {
+        mark: Reader::Log,
+        len,
+    });
+}

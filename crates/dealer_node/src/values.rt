@@ -1,0 +1,30 @@
+ghost use Rattle.std.specs.Prelude.{◌≡◌};
+ghost use Rattle.node_rules.specs.Standings.{Standing, applied};
+ghost use Rattle.node_rules.specs.Proposing.{own_value, is_over};
+ghost use Rattle.dealer_node.specs.Posts.{place_at};
+ghost use Rattle.dealer_node.specs.Scenes.{IsTableOf};
+
+use crate::post::Post;
+use slot_log::{Command, Table};
+
+/// What a node would propose where it is free to: its own deal where it fits, and else the act that waits.
+pub(crate) fn own_value(post: &Post, table: &Table, pending: &Option<Command>) -> Option<Command>
+    ensures { (s : Standing) → IsTableOf (place_at post.now).setting (applied s) table.now → pending.now ≡ s.pending → result ≡ own_value (place_at post.now) s }
+{
+    let hand = table.finished();
+    if let Some(deal) = post.deal(hand) {
+        let dealing = Command::Deal { hand, deal };
+        if table.fits(&dealing) {
+            return Some(dealing);
+        }
+    }
+    *pending
+}
+
+/// Whether the match is over.
+pub(crate) fn is_over(post: &Post, table: &Table) -> bool
+    ensures { (s : Standing) → IsTableOf (place_at post.now).setting (applied s) table.now → result ≡ is_over (place_at post.now) s }
+{
+    let _ = post;
+    table.over()
+}

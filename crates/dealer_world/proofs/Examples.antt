@@ -1,0 +1,288 @@
+-- Records, read out; and records that aren't so.
+use Rattle.std.proofs.Common.{◌≡◌, ℕ, zero, suc, ◌+◌, ◌*◌, ◌<◌, ◌≤◌, inl, inr, Bool, true, false, cond, Option, Some, None, List, [], ◌∷◌, ◌++◌, length, take, refl, ap, sym, ◌∙◌, subst, arith}
+use Rattle.paxos_wire.specs.Reading.{body_of, message_at, ask_at, below_at}
+use Rattle.paxos_wire.specs.Faults.{header_fault, reading}
+use Rattle.slot_log.specs.declared.command.Command.{Command}
+use Rattle.protocol_model.specs.Sets.{In, IsBeginning}
+use Rattle.protocol_model.specs.Messages.{Ask}
+use Rattle.protocol_model.specs.Arrivals as model
+use Rattle.protocol_model.specs.Dealers.{Dealer, Seat, Log}
+use Rattle.protocol_model.specs.Moves.{Shown}
+use Rattle.protocol_model.specs.Quorums.{count, AreChosen}
+use Rattle.protocol_model.specs.Laws.{NeverGoesBack}
+use Rattle.dealer_world.specs.declared.rows.Entry.{Entry}
+use Rattle.dealer_world.specs.Rows.{cut, start_of, AreEnds}
+use Rattle.dealer_world.specs.Records.{Frame, Arrived, Delivered, Came, Connected, Dropped, Arrival, Piece, Record, no_record, Line, lines_of, logs_of, start_count, last_start, said_by, said}
+use Rattle.dealer_world.specs.Unforged.{IsAmong, IsUnforged}
+use Rattle.dealer_world.specs.Hearing.{heard_by, WasHeard}
+use Rattle.dealer_world.specs.Headline.{Era, AreTexts, OneList}
+use Rattle.dealer_world.specs.Calls.{Made, nothing_made, AreTold, Brings}
+use Rattle.dealer_world.specs.Views.{grown}
+
+-- ---- frames and what they say
+
+-- node 1 asks for what was chosen from slot 1 on
+asking : List ℕ
+asking = 0 ∷ 0 ∷ 0 ∷ 6 ∷ 1 ∷ 7 ∷ 0 ∷ 0 ∷ 0 ∷ 1 ∷ []
+
+abbrev asks : Frame
+asks = record { from = 1; to = 0; bytes = asking }
+
+asked : said_by asks ≡ Ask 1 1 ∷ []
+unfolding asking reading header_fault body_of message_at ask_at below_at
+asked = refl
+
+-- the same frame of another sender says another message
+asked_by_another : said_by (record asks { from = 2 }) ≡ Ask 2 1 ∷ []
+unfolding asking reading header_fault body_of message_at ask_at below_at
+asked_by_another = refl
+
+-- bytes that are no frame say nothing
+abbrev broken : Frame
+broken = record { from = 1; to = 0; bytes = 0 ∷ 0 ∷ 0 ∷ 2 ∷ 1 ∷ 9 ∷ [] }
+
+nothing_said : said_by broken ≡ []
+unfolding reading header_fault
+nothing_said = refl
+
+both_said : said (broken ∷ asks ∷ []) ≡ Ask 1 1 ∷ []
+unfolding asking reading header_fault body_of message_at ask_at below_at
+both_said = refl
+
+-- ---- what was shown
+
+abbrev line_at : ℕ → ℕ → ℕ → ℕ → Piece
+line_at node start seat byte = record { node = node; start = start; reader = Seat seat; text = byte ∷ [] }
+
+abbrev log_at : ℕ → ℕ → ℕ → Piece
+log_at node start byte = record { node = node; start = start; reader = Log; text = byte ∷ [] }
+
+-- node 0 logs twice and shows a line between, node 1 logs once, and node 0 once more after its second start
+abbrev pieces : List Piece
+pieces = log_at 0 0 1 ∷ log_at 1 0 2 ∷ line_at 0 0 1 7 ∷ log_at 0 0 3 ∷ log_at 0 1 4 ∷ line_at 0 1 0 8 ∷ []
+
+abbrev shown : Record
+shown = record { sent = []; delivered = []; starts = (record { node = 0; start = 0 }) ∷ (record { node = 1; start = 0 }) ∷ (record { node = 0; start = 1 }) ∷ []; shown = pieces }
+
+lines_apart : lines_of pieces ≡ (record { node = 0; start = 0; seat = 1; text = 7 ∷ [] }) ∷ (record { node = 0; start = 1; seat = 0; text = 8 ∷ [] }) ∷ []
+lines_apart = refl
+
+-- a log for each start: what node 0 logged after its second start isn't in its first log, nor is what node 1 logged
+logs_apart : logs_of shown ≡ (record { node = 0; start = 0; text = 1 ∷ 3 ∷ [] }) ∷ (record { node = 1; start = 0; text = 2 ∷ [] }) ∷ (record { node = 0; start = 1; text = 4 ∷ [] }) ∷ []
+logs_apart = refl
+
+starts_counted : (start_count shown.starts 0 ≡ 2) × (last_start shown.starts 0 ≡ 1) × (last_start shown.starts 1 ≡ 0) × (start_count shown.starts 2 ≡ 0)
+starts_counted = (refl, refl, refl, refl)
+
+-- a log is shown as a whole each time
+abbrev text_at : ℕ → ℕ → ℕ → List ℕ → Shown
+text_at node start count text = record { node = node; start = start; reader = Log; count = count; text = text }
+
+whole_logs : AreTexts (text_at 0 0 1 (1 ∷ 3 ∷ []) ∷ text_at 0 0 0 (1 ∷ []) ∷ []) (log_at 0 0 3 ∷ log_at 0 0 1 ∷ [])
+whole_logs = (record { node = refl; start = refl; reader = refl; whole = refl }, (record { node = refl; start = refl; reader = refl; whole = refl }, tt))
+
+short : (a b : List ℕ) → length a ≡ 1 → length b ≡ 2 → a ≡ b → ⊥
+short a b one two same = let e = ap length same in omega arith
+
+-- and not only what was added
+part_of_a_log : AreTexts (text_at 0 0 1 (3 ∷ []) ∷ text_at 0 0 0 (1 ∷ []) ∷ []) (log_at 0 0 3 ∷ log_at 0 0 1 ∷ []) → ⊥
+part_of_a_log (is, rest) = short (3 ∷ []) (1 ∷ 3 ∷ []) refl refl is.whole
+
+-- ---- no frame is forged
+
+abbrev delivered_at : ℕ → Frame → Arrival
+delivered_at sent frame = record { what = Delivered frame; sent_before = sent }
+
+-- a frame may be delivered twice
+unforged : IsUnforged (asks ∷ []) (delivered_at 1 asks ∷ delivered_at 1 asks ∷ [])
+unforged arrival (inl is) = subst (λ (a : Arrival). IsAmong (take a.sent_before (asks ∷ [])) a.what) (sym is) (inl refl)
+unforged arrival (inr (inl is)) = subst (λ (a : Arrival). IsAmong (take a.sent_before (asks ∷ [])) a.what) (sym is) (inl refl)
+unforged arrival (inr (inr none)) = elim none [ ]
+
+-- not before it was sent
+too_early : IsUnforged (asks ∷ []) (delivered_at 0 asks ∷ []) → ⊥
+too_early is = is (delivered_at 0 asks) (inl refl)
+
+two_is_not_one : (a b : ℕ) → a ≡ 2 → b ≡ 1 → a ≡ b → ⊥
+two_is_not_one a b two one same = omega arith
+
+-- not with another sender, nor with other bytes
+other_sender : IsUnforged (asks ∷ []) (delivered_at 1 (record asks { from = 2 }) ∷ []) → ⊥
+other_sender is = elim (is (delivered_at 1 (record asks { from = 2 })) (inl refl)) [
+  | inl same ↦ absurd (two_is_not_one 2 1 refl refl (ap (λ (f : Frame). f.from) same))
+  | inr none ↦ elim none [ ]
+]
+
+never_sent : IsUnforged [] (delivered_at 1 broken ∷ []) → ⊥
+never_sent is = is (delivered_at 1 broken) (inl refl)
+
+-- ---- what a seat had sent
+
+abbrev arrival_of : Arrived → Arrival
+arrival_of what = record { what = what; sent_before = 0 }
+
+abbrev talk : List Arrival
+talk = arrival_of (Came 0 1 (5 ∷ [])) ∷ arrival_of (Connected 0 1) ∷ arrival_of (Came 0 1 (6 ∷ [])) ∷ arrival_of (Came 1 1 (9 ∷ [])) ∷ arrival_of (Came 0 1 (7 ∷ [])) ∷ []
+
+-- from the connection on, and of that node alone
+since_connected : heard_by talk 0 1 ≡ Some (6 ∷ 7 ∷ [])
+since_connected = refl
+
+elsewhere : (heard_by talk 1 1 ≡ None) × (heard_by talk 0 0 ≡ None)
+elsewhere = (refl, refl)
+
+-- what was heard at some time was heard, also where the seat was dropped since
+once_heard : WasHeard (talk ++ arrival_of (Dropped 0 1) ∷ []) 0 1 (6 ∷ [])
+once_heard = (3, refl)
+
+dropped_since : heard_by (talk ++ arrival_of (Dropped 0 1) ∷ []) 0 1 ≡ None
+dropped_since = refl
+
+-- connected again, what came before is forgotten
+again : heard_by (talk ++ arrival_of (Connected 0 1) ∷ []) 0 1 ≡ Some []
+again = refl
+
+-- ---- how a record grows
+
+-- node 0 answers a frame of node 1, and shows a line and a log line
+abbrev made : Made
+made = record { frames = (record { from = 0; to = 1; bytes = [] }) ∷ []; texts = (record { reader = Seat 1; text = 9 ∷ [] }) ∷ (record { reader = Log; text = 5 ∷ [] }) ∷ []; began = false }
+
+grows : grown (record shown { sent = asks ∷ [] }) 0 (Delivered asks ∷ []) made ≡ record {
+  sent = asks ∷ (record { from = 0; to = 1; bytes = [] }) ∷ [];
+  delivered = delivered_at 1 asks ∷ [];
+  starts = shown.starts;
+  shown = pieces ++ line_at 0 1 1 9 ∷ log_at 0 1 5 ∷ [];
+}
+grows = refl
+
+-- a start of node 0 begins its third log, and what it shows is of that start
+starts_again : grown shown 0 [] (record { frames = []; texts = (record { reader = Log; text = 1 ∷ [] }) ∷ []; began = true }) ≡ record {
+  sent = [];
+  delivered = [];
+  starts = shown.starts ++ (record { node = 0; start = 2 }) ∷ [];
+  shown = pieces ++ log_at 0 2 1 ∷ [];
+}
+starts_again = refl
+
+-- a call that makes nothing and to which nothing came leaves the record as it is
+stays : grown shown 1 [] nothing_made ≡ shown
+stays = refl
+
+-- what a call shows of the log is told as the whole log
+told : AreTold 0 2 (1 ∷ []) ((record { node = 0; start = 2; reader = Log; count = 3; text = 1 ∷ 5 ∷ [] }) ∷ (record { node = 0; start = 2; reader = Seat 1; count = 3; text = 9 ∷ [] }) ∷ [])
+    ((record { reader = Log; text = 5 ∷ [] }) ∷ (record { reader = Seat 1; text = 9 ∷ [] }) ∷ [])
+told = (record { of_node = refl; in_start = refl; to_reader = refl; whole = refl }, (record { of_node = refl; in_start = refl; to_reader = refl; whole = refl }, tt))
+
+-- the node may close a connection behind a seat's bytes, and not before them
+closed_behind : Brings 0 (Came 0 1 (5 ∷ [])) (model.Closed 0 1 ∷ model.Came 0 1 (5 ∷ []) ∷ [])
+closed_behind = inr refl
+
+closed_before : Brings 0 (Came 0 1 (5 ∷ [])) (model.Came 0 1 (5 ∷ []) ∷ model.Closed 0 1 ∷ []) → ⊥
+closed_before (inl e) = cc
+closed_before (inr e) = cc
+
+-- ---- one list
+
+-- nothing shown: the empty list is behind it
+abbrev quiet : Era
+quiet = record { sources = []; record_of = no_record }
+
+none_counted : (quorum : ℕ → Bool) (n : ℕ) → ((node : ℕ) → node < n → quorum node ≡ false) → count quorum n ≡ 0
+none_counted quorum zero none = refl
+none_counted quorum (suc n) none =
+    ap (λ b. cond b (1 + count quorum n) (count quorum n)) (none n (omega arith)) ∙ none_counted quorum n (λ node less. none node (omega arith))
+
+no_member : (quorum : ℕ → Bool) (node : ℕ) (b : Bool) → quorum node ≡ b → (quorum node ≡ true → ⊥) → quorum node ≡ false
+no_member quorum node true is never = absurd (never is)
+no_member quorum node false is never = is
+
+-- where no frame says anything, nothing is chosen
+nothing_chosen : (n : ℕ) (commands : List Command) → AreChosen n [] commands → commands ≡ []
+nothing_chosen n [] chosen = refl
+nothing_chosen n (command ∷ before) ((ballot, (quorum, most, all)), rest) =
+    let none = none_counted quorum n (λ node less. no_member quorum node (quorum node) refl (λ is. all node less is)) in
+    let more : n < 2 * count quorum n = most in
+    absurd (omega arith)
+
+nothing_behind : (dealer : Dealer) → OneList dealer 3 (quiet ∷ [])
+nothing_behind dealer = record {
+  commands = [];
+  chosen = tt;
+  fitting = tt;
+  shown = (
+    record {
+      lines = λ line there. elim there [ ];
+      logs = λ log there. elim there [ ];
+      texts = [];
+      are_texts = tt;
+      of_beginnings = λ text there. elim there [ ];
+      forward = tt;
+    },
+    tt,
+  );
+  origin = λ slot command (ballot, (quorum, most, all)).
+      let none = none_counted quorum 3 (λ node less. no_member quorum node (quorum node) refl (λ is. all node less is)) in
+      let more : 3 < 2 * count quorum 3 = most in
+      absurd (omega arith);
+}
+
+-- a line that no chosen commands are behind: a dealer shows none before the first deal
+abbrev invented : Era
+invented = record { sources = []; record_of = record no_record { shown = line_at 0 0 1 7 ∷ [] } }
+
+only_empty : (first : List Command) → IsBeginning first [] → first ≡ []
+only_empty first ([], is) = sym is
+only_empty first (command ∷ later, is) = absurd cc
+
+clash : (shown : Option (List ℕ)) (text : List ℕ) → shown ≡ Some text → shown ≡ None → ⊥
+clash shown text some none = cc
+
+nothing_behind_a_line : (dealer : Dealer) → ((seat : ℕ) → dealer.line [] seat ≡ None) → OneList dealer 3 (invented ∷ []) → ⊥
+nothing_behind_a_line dealer before_deals one =
+    let line : Line = record { node = 0; start = 0; seat = 1; text = 7 ∷ [] } in
+    let is = one.shown.0.lines line (inl refl) in
+    let empty : one.commands ≡ [] = nothing_chosen 3 one.commands one.chosen in
+    let first : is.0 ≡ [] = only_empty is.0 (subst (IsBeginning is.0) empty is.1) in
+    let shows : dealer.line is.0 1 ≡ Some (7 ∷ []) = is.2 in
+    let none : dealer.line is.0 1 ≡ None = ap (λ commands. dealer.line commands 1) first ∙ before_deals 1 in
+    clash (dealer.line is.0 1) (7 ∷ []) shows none
+
+-- two lines of one start, the later after fewer commands, are not in order
+abbrev two_lines : List Shown
+two_lines = (record { node = 0; start = 0; reader = Seat 1; count = 1; text = 7 ∷ [] }) ∷ (record { node = 0; start = 0; reader = Seat 1; count = 2; text = 8 ∷ [] }) ∷ []
+
+goes_back : NeverGoesBack two_lines → ⊥
+goes_back (latest, rest) =
+    let fewer : 2 ≤ 1 = latest (record { node = 0; start = 0; reader = Seat 1; count = 2; text = 8 ∷ [] }) (inl refl) refl refl in
+    omega arith
+
+-- a start between them, and they are
+after_a_start : NeverGoesBack ((record { node = 0; start = 1; reader = Seat 1; count = 1; text = 7 ∷ [] }) ∷ (record { node = 0; start = 0; reader = Seat 1; count = 2; text = 8 ∷ [] }) ∷ [])
+after_a_start = ((λ shown there same_node same_start. absurd (another shown there same_start)), ((λ shown there same_node same_start. elim there [ ]), tt))
+  where
+    another : (shown : Shown) → In shown ((record { node = 0; start = 0; reader = Seat 1; count = 2; text = 8 ∷ [] }) ∷ []) → shown.start ≡ 1 → ⊥
+    another shown (inl is) start = let zero_start : shown.start ≡ 0 = ap (λ (s : Shown). s.start) is in omega arith
+    another shown (inr none) start = elim none [ ]
+
+-- ---- rows of one buffer
+
+abbrev ends_at : ℕ → ℕ → Entry ℕ
+ends_at mark end = record { mark = mark; end = end }
+
+-- three rows, the second without bytes
+rows_cut : cut 0 (ends_at 8 2 ∷ ends_at 9 2 ∷ ends_at 7 3 ∷ []) (5 ∷ 6 ∷ 4 ∷ []) ≡ (record { mark = 8; text = 5 ∷ 6 ∷ [] }) ∷ (record { mark = 9; text = [] }) ∷ (record { mark = 7; text = 4 ∷ [] }) ∷ []
+rows_cut = refl
+
+second_starts : (start_of 0 (ends_at 8 2 ∷ ends_at 7 3 ∷ []) 0 ≡ 0) × (start_of 0 (ends_at 8 2 ∷ ends_at 7 3 ∷ []) 1 ≡ 2)
+second_starts = (refl, refl)
+
+ends_in_order : AreEnds 0 (ends_at 8 2 ∷ ends_at 7 3 ∷ []) 3
+ends_in_order = (omega arith, (omega arith, refl))
+
+-- a buffer with a byte more than its rows, and a row that ends before it begins
+byte_too_many : AreEnds 0 (ends_at 8 2 ∷ []) 3 → ⊥
+byte_too_many (least, last) = let is : 2 ≡ 3 = last in omega arith
+
+ends_before_it_begins : AreEnds 0 (ends_at 8 2 ∷ ends_at 7 1 ∷ []) 1 → ⊥
+ends_before_it_begins (first, (second, last)) = let is : 2 ≤ 1 = second in omega arith

@@ -1,0 +1,14 @@
+pub mod Rows
+pub mod Records
+pub mod KeptFrames
+pub mod KeptArrivals
+pub mod Unforged
+pub mod Hearing
+pub mod Headline
+pub mod Calls
+pub mod Views
+pub mod Behind
+pub mod Openings
+pub mod RecordLaws
+pub mod Runs
+pub mod RuleRuns

@@ -1,0 +1,101 @@
+ghost use Rattle.std.specs.Prelude.{◌≡◌, ◌+◌, ◌≤◌, ◌++◌, ◌∷◌, [], length, slice_get, Some, OnOk, IfSome, IsNone, ◌↔◌};
+ghost use Rattle.dealer_world.specs.KeptArrivals.{arrival_of};
+
+use crate::rows::Rows;
+use std::alloc::{AllocError, Global};
+use std::marker::Model;
+
+/// What reached a running node from outside, but for its bytes. Nodes and seats are counted from 0.
+#[derive(Clone, Copy, Debug, Drop)]
+pub enum What {
+    /// A frame, whose bytes these are.
+    Frame { from: u8, to: u8 },
+    /// Bytes that a seat sent to the node.
+    Line { node: u8, seat: u8 },
+    /// The seat connected to the node; it has no bytes.
+    Connect { node: u8, seat: u8 },
+    /// The seat was dropped there; it has no bytes.
+    Drop { node: u8, seat: u8 },
+}
+
+/// What reached a node, and how many frames had been sent before.
+#[derive(Clone, Copy, Debug, Drop)]
+pub(crate) struct Came {
+    pub(crate) what: What,
+    pub(crate) sent_before: usize,
+}
+
+/// What reached a running node from outside: its bytes, and how many frames had been sent before.
+#[derive(Clone, Copy, Debug)]
+pub struct Arrival<'a> {
+    pub what: What,
+    pub bytes: &'a [u8],
+    pub sent_before: usize,
+}
+
+/// All that reached running nodes from outside, in order, in one buffer.
+#[derive(Drop)]
+pub struct Arrivals {
+    rows: Rows<Came>,
+}
+
+impl Model for Arrivals {
+    ghost use Rattle.dealer_world.specs.KeptArrivals.{Kept, arrivals_of};
+
+    ghost Value = { Kept };
+
+    ghost view = { λ a. record { arrivals = arrivals_of a.rows.rows; arrival_room = a.rows.row_room; byte_room = a.rows.byte_room } };
+}
+
+impl Arrivals {
+    /// Nothing. It takes no memory; what `reserve` takes comes from this allocator.
+    pub fn new(alloc: Global) -> Arrivals
+        ensures { result.arrivals ≡ [] }
+    {
+        Arrivals {
+            rows: Rows::new(alloc),
+        }
+    }
+
+    /// How many there are.
+    pub fn len(&self) -> usize
+        ensures { result ≡ length self.now.arrivals }
+    {
+        self.rows.len()
+    }
+
+    /// The arrival of this number, counted from 0; `None` where there are no more.
+    pub fn get(&self, number: usize) -> Option<Arrival<'_>>
+        ensures found { IfSome result (λ arrival. slice_get self.now.arrivals number ≡ Some (arrival_of arrival.what arrival.sent_before arrival.bytes.now)) }
+        ensures none { IsNone result ↔ (length self.now.arrivals ≤ number) }
+    {
+        match self.rows.get(number) {
+            Some((came, bytes)) => Some(Arrival {
+                what: came.what,
+                bytes,
+                sent_before: came.sent_before,
+            }),
+            None => None,
+        }
+    }
+
+    /// Makes room for so many arrivals more, of so many bytes in all. An `Err` changes nothing that came.
+    pub fn reserve(&mut self, arrivals: usize, bytes: usize) -> Result<(), AllocError>
+        ensures same { self.new.arrivals ≡ self.old.arrivals }
+        ensures arrival_room { OnOk result (arrivals ≤ self.new.arrival_room) }
+        ensures byte_room { OnOk result (bytes ≤ self.new.byte_room) }
+    {
+        self.rows.reserve(arrivals, bytes)
+    }
+
+    /// Puts an arrival behind the last, into room that was reserved for it.
+    pub fn push_reserved(&mut self, what: What, bytes: &[u8], sent_before: usize)
+        requires arrival { 1 ≤ self.old.arrival_room }
+        requires bytes { length bytes.now ≤ self.old.byte_room }
+        ensures arrivals { self.new.arrivals ≡ self.old.arrivals ++ arrival_of what sent_before bytes.now ∷ [] }
+        ensures arrival_room { self.old.arrival_room ≤ self.new.arrival_room + 1 }
+        ensures byte_room { self.old.byte_room ≤ self.new.byte_room + length bytes.now }
+    {
+        self.rows.push_reserved(Came { what, sent_before }, bytes);
+    }
+}

@@ -1,0 +1,105 @@
+//! What holds of every run of the protocol, and what follows for whoever reads a cluster's record: each law is the
+//! contract of a function that does nothing.
+
+ghost use Rattle.std.specs.Prelude.{◌≡◌, ℕ, ◌≤◌, List, length};
+ghost use Rattle.paxos_wire.specs.declared.ballot.Ballot.{Ballot};
+ghost use Rattle.slot_log.specs.declared.command.Command.{Command};
+ghost use Rattle.protocol_model.specs.Sets.{In, IsBeginning};
+ghost use Rattle.protocol_model.specs.Ballots.{Below};
+ghost use Rattle.protocol_model.specs.Messages.{Accept};
+ghost use Rattle.protocol_model.specs.Quorums.{IsChosenIn, IsChosen, AreChosen};
+ghost use Rattle.protocol_model.specs.Dealers.{Dealer};
+ghost use Rattle.protocol_model.specs.Laws.{OneDealer, HasOrigin};
+ghost use Rattle.protocol_model.specs.Worlds.{World, Reached};
+ghost use Rattle.dealer_world.specs.RecordLaws.{LinesOfRecordsAgree, AlikeListsShowTheSame, CompleteLogsAreMatchLogs};
+ghost use Rattle.dealer_world.specs.RuleRuns.{RunsShowOneList, RunsAreBacked};
+
+use dealer_kind::laws::{deals_are_owned_and_acts_are_said, owners_may_widen};
+use matchstate::laws::{agree, beginnings_are_alike};
+use node_rules::laws::calls_are_sound;
+use protocol_model::laws::{
+    backing_lasts, chains_reach, one_dealer as protocol_one_dealer, owners_may_change,
+};
+
+/// What is chosen stays chosen: in every run, of any number of nodes, whatever was lost, repeated or late and whoever
+/// stopped and started again at any moment.
+///
+/// If a command was chosen at a slot in a ballot, each proposal of a greater ballot there carries it. So each slot has
+/// at most one chosen command, and of two lists of commands chosen at the first slots the shorter is a beginning of
+/// the longer. (The safety theorem of 'Paxos Made Simple'.)
+pub fn one_choice()
+    ensures carried { (dealer : Dealer) (n : ℕ) (world : World) (lower greater : Ballot) (slot : ℕ) (chosen command : Command)
+        → Reached dealer n world → IsChosenIn n world.ever lower slot chosen
+        → Below lower greater → In (Accept greater slot command) world.ever → command ≡ chosen }
+    ensures one { (dealer : Dealer) (n : ℕ) (world : World) (slot : ℕ) (a b : Command)
+        → Reached dealer n world → IsChosen n world.ever slot a → IsChosen n world.ever slot b → a ≡ b }
+    ensures lists { (dealer : Dealer) (n : ℕ) (world : World) (shorter longer : List Command)
+        → Reached dealer n world → AreChosen n world.ever shorter → AreChosen n world.ever longer
+        → length shorter ≤ length longer → IsBeginning shorter longer }
+{
+    protocol_model::laws::one_choice();
+}
+
+/// All that is shown comes from one dealer: in every run there is one list of chosen commands, each of which fits after
+/// those before it, such that each line and each log shows the effect of a beginning of that list, and within one start
+/// of a node these beginnings never get shorter.
+///
+/// And no command is invented: a chosen deal is some node's own, and a chosen act was said. At a moment of the run the
+/// bytes that a seat had sent to a node since it connected there held a whole line that says the act, in answer to the
+/// seat's line after commands that were chosen by then.
+pub fn one_dealer()
+    ensures list { (dealer : Dealer) (n : ℕ) (world : World) → Reached dealer n world → OneDealer dealer n world }
+    ensures origin { (dealer : Dealer) (n : ℕ) (world : World) (slot : ℕ) (command : Command)
+        → Reached dealer n world → IsChosen n world.ever slot command → HasOrigin dealer n world.ever world.came command }
+{
+    protocol_model::laws::one_dealer();
+}
+
+/// Any two lines of one match agree, of whatever nodes, starts and seats: they are of different hands, or one's
+/// actions begin the other's and so do their betting texts, and no place shows two cards.
+///
+/// This follows wherever one list is behind the records, as it is after every step of a cluster.
+pub fn lines_of_records_agree()
+    ensures { LinesOfRecordsAgree }
+{
+    agree();
+}
+
+/// A seat's lines tell it nothing that is hidden from it: where another list of commands differs from the one behind
+/// the records only in cards that the seat doesn't see, each of its lines is also its line after a beginning of that
+/// list.
+pub fn alike_lists_show_the_same()
+    ensures { AlikeListsShowTheSame }
+{
+    beginnings_are_alike();
+}
+
+/// A log whose match is over is one that `match_log::check` accepts: its payoffs are those of the pots.
+pub fn complete_logs_are_match_logs()
+    ensures { CompleteLogsAreMatchLogs }
+{}
+
+/// In every run of a cluster whose nodes keep the rules, over all its eras, in which no frame was forged, there is one
+/// list of chosen commands behind all lines and logs.
+pub fn runs_show_one_list()
+    ensures { RunsShowOneList }
+{
+    calls_are_sound();
+    chains_reach();
+    protocol_one_dealer();
+    owners_may_change();
+    deals_are_owned_and_acts_are_said();
+    owners_may_widen();
+}
+
+/// And what each node said by its frames both stores back that its next start may find.
+pub fn runs_are_backed()
+    ensures { RunsAreBacked }
+{
+    calls_are_sound();
+    chains_reach();
+    owners_may_change();
+    deals_are_owned_and_acts_are_said();
+    owners_may_widen();
+    backing_lasts();
+}

@@ -1,0 +1,253 @@
+-- Where the path of a call begins, and what it is when it ends.
+use Rattle.std.proofs.Common.{◌≡◌, ℕ, zero, suc, inl, inr, true, List, [], ◌∷◌, ◌++◌, Option, Some, None, Result, Ok, Err, refl, sym, ap, subst, ◌∙◌, arith, length, reverse}
+use Rattle.std.specs.Prelude.{slice_get}
+use Rattle.std.proofs.lemmas.List.{reverse-append, length-reverse}
+use Rattle.std.proofs.lemmas.Option.{slice_get_within}
+use Rattle.paxos_wire.specs.declared.ballot.Ballot.{Ballot}
+use Rattle.paxos_wire.specs.declared.entry.Entry.{Entry}
+use Rattle.slot_log.specs.Slots.{Log, front, known_at}
+use Rattle.slot_log.specs.declared.command.Command.{Command}
+use Rattle.protocol_model.specs.Sets.{In}
+use Rattle.protocol_model.specs.Messages.{Message, Prepare, Promise, Accept}
+use Rattle.protocol_model.specs.Calls.{HasGotAtMost}
+use Rattle.protocol_model.specs.Nodes.{Node, Knows as KnowsCommands}
+use Rattle.protocol_model.specs.Arrivals.{Arrival, Event}
+use Rattle.protocol_model.specs.Moves.{nothing, more, none, gets}
+use Rattle.proposer.specs.declared.campaign.Campaign.{Campaign}
+use Rattle.proposer.specs.Campaigns.{with_promise, counting_from}
+use Rattle.seat_session.specs.Session.{Standing as Talk}
+use Rattle.dealer_kind.specs.Kind.{log_of}
+use Rattle.node_rules.specs.Standings.{Standing, applied, front_of}
+use Rattle.node_rules.specs.Turns.{Turn, Refusal, still, behind, and_then}
+use Rattle.node_rules.specs.Rules.{highest}
+use Rattle.node_rules.specs.Seen.{ballots_in}
+use Rattle.node_rules.specs.Being.{Campaigns, IsProposer, AreSessions, Knows, IsOf}
+use Rattle.node_rules.specs.Called.{AreShown, events_of, Taken}
+use Rattle.node_rules.proofs.Sets.{in_split}
+use Rattle.node_rules.proofs.Carrying.{nothing_carried, nothing_lost}
+use Rattle.node_rules.proofs.Telling.{nothing_shown}
+use Rattle.node_rules.proofs.Ordering.{sees_more}
+use Rattle.node_rules.specs.Given.{Given}
+use Rattle.node_rules.proofs.Keeping.{with_got, IsNoPromise, got_knows, got_learner, got_pending}
+use Rattle.node_rules.proofs.Paths.{Hearing, Scope, dealer_in, first_in, Path, Goes, has_in}
+use Rattle.node_rules.proofs.Settling.{below_front}
+
+-- ---- the commands below the front are known
+
+got_before : {A : Type 0} (xs ys : List A) (n : ℕ) (d : A) → slice_get xs n ≡ Some d → slice_get (xs ++ ys) n ≡ Some d
+got_before [] ys n d e = absurd (cc)
+got_before (x ∷ xs) ys zero d e = e
+got_before (x ∷ xs) ys (suc n) d e = got_before xs ys n d e
+
+got_last : {A : Type 0} (xs : List A) (d : A) → slice_get (xs ++ d ∷ []) (length xs) ≡ Some d
+got_last [] d = refl
+got_last (x ∷ xs) d = got_last xs d
+
+below_known : (known : List (ℕ × Command)) (below : List Command) → ((slot : ℕ) (c : Command) → slice_get (reverse below) slot ≡ Some c → In (slot, c) known)
+    → KnowsCommands known below
+below_known known [] h = tt
+below_known known (c ∷ rest) h = (
+  h (length rest) c (ap (λ (l : List Command). slice_get l (length rest)) (reverse-append (c ∷ []) rest)
+      ∙ (ap (λ k. slice_get (reverse rest ++ c ∷ []) k) (sym (length-reverse rest)) ∙ got_last (reverse rest) c)),
+  below_known known rest (λ slot d e. h slot d (ap (λ (l : List Command). slice_get l slot) (reverse-append (c ∷ []) rest) ∙ got_before (reverse rest) (c ∷ []) slot d e)),
+)
+
+commands_known : (log : Log) (known : List (ℕ × Command)) → ((slot : ℕ) (c : Command) → known_at log slot ≡ Some c → In (slot, c) known) → KnowsCommands known log.below
+commands_known log known h =
+    below_known known log.below (λ slot c e. h slot c (below_front log slot
+    (let w = slice_get_within (reverse log.below) slot c e in let l = length-reverse log.below in omega arith) ∙ e))
+
+-- ---- a path begins
+
+abbrev pub hearing_of : Standing → Node → Hearing
+hearing_of s node = record { bytes = node.heard; talks = s.sessions }
+
+-- the node runs, and the scope is that of its call
+pub record Runs (x : Scope) (s : Standing) : Type 0 where
+  pub of : IsOf x.own x.place s (first_in x)
+  pub up : s.up ≡ true
+  pub log : x.log ≡ log_of x.place.setting (applied s)
+  pub start : (first_in x).starts ≡ x.start
+  pub had : (first_in x).has ≡ x.had
+
+-- nothing came
+pub begin : (x : Scope) (s : Standing) → Runs x s → x.messages ≡ [] → Path x [] (hearing_of s (first_in x)) (applied s) (still s)
+begin x s r quiet = record {
+  sent = [];
+  shown = [];
+  got = [];
+  node = first_in x;
+  chain = none _ _ refl refl;
+  knows = (r.of.runs r.up).knows;
+  commands = commands_known s.learned.log (first_in x).known (r.of.runs r.up).knows.learner.knows;
+  hears = refl;
+  talks = refl;
+  runs = r.up;
+  begun = r.of.begun ∙ ((r.of.runs r.up).unbegun ∙ sym r.of.store);
+  unbegun = (r.of.runs r.up).unbegun;
+  starts = r.start;
+  has = r.had;
+  carry = nothing_carried x.place.nodes x.place.node;
+  all = nothing_lost x.place.nodes x.place.node;
+  pieces = λ ends. nothing_shown x.place.node x.start x.log;
+  logged = λ ends. r.log;
+  unshown = λ q. refl;
+  unvoted = λ q k b l c h. absurd h;
+  unstored = λ q. refl;
+  got_only = λ m h. absurd h;
+  got_all = λ m h. absurd (subst (λ (l : List Message). In m l) quiet h);
+}
+
+-- one message came, and the standing has it
+begin_with : (x : Scope) (s after : Standing) (m : Message) → Runs x s → x.messages ≡ m ∷ []
+    → In m x.world.ever → after.sessions ≡ s.sessions → after.up ≡ true → after.begun ≡ after.store → after.learned ≡ s.learned
+    → Knows (dealer_in x) x.place (applied s) after (with_got (first_in x) m)
+    → Path x [] (hearing_of s (first_in x)) (applied s) (still after)
+begin_with x s after m r one sent talks runs unbegun learned knows = record {
+  sent = [];
+  shown = [];
+  got = m ∷ [];
+  node = with_got (first_in x) m;
+  chain = more _ (first_in x) nothing _ _ (none _ _ refl refl) (gets m (r.of.up ∙ r.up) sent refl refl) refl;
+  knows = knows;
+  commands = commands_known s.learned.log (first_in x).known (r.of.runs r.up).knows.learner.knows;
+  hears = refl;
+  talks = talks;
+  runs = runs;
+  begun = r.of.begun ∙ ((r.of.runs r.up).unbegun ∙ sym r.of.store);
+  unbegun = unbegun;
+  starts = r.start;
+  has = ap (λ (l : List Message). m ∷ l) r.had;
+  carry = nothing_carried x.place.nodes x.place.node;
+  all = nothing_lost x.place.nodes x.place.node;
+  pieces = λ ends. nothing_shown x.place.node x.start x.log;
+  logged = λ ends. r.log;
+  unshown = λ q. refl;
+  unvoted = λ q k b l c h. absurd h;
+  unstored = λ q. refl;
+  got_only = λ o h. elim h [ inl e ↦ inl (subst (λ (l : List Message). In o l) (sym one) (inl e)) | inr old ↦ absurd old ];
+  got_all = λ o h. subst (λ (l : List Message). In o l) one h;
+}
+
+-- a message of another node that is no promise
+pub begin_frame : (x : Scope) (s : Standing) (m : Message) (bs : List Ballot) → Runs x s → x.messages ≡ m ∷ []
+    → In m x.world.ever → IsNoPromise m → ballots_in m ≡ bs
+    → Path x [] (hearing_of s (first_in x)) (applied s) (still (record s { seen = highest s.seen bs }))
+begin_frame x s m bs r one sent other ballots =
+    begin_with x s (record s { seen = highest s.seen bs }) m r one sent refl r.up (r.of.runs r.up).unbegun refl
+    (got_knows x.given (dealer_in x) x.place (applied s) s (first_in x) m (highest s.seen bs) other
+    (sees_more (first_in x).has m (first_in x).store.promise s.seen bs ballots (r.of.runs r.up).knows.seen) (r.of.runs r.up).knows)
+
+-- ---- a promise is got and counted
+
+some_is : (a b : Campaign) → ◌≡◌ {A = Option Campaign} (Some a) (Some b) → a ≡ b
+some_is a b e = cc
+
+promise_campaign : (g : Given) (n i : ℕ) (node : Node) (front : ℕ) (c : Campaign) (from : ℕ) (ballot : Ballot) (first : ℕ) (told : List Entry)
+    → Campaigns n i node c → Campaigns n i (with_got node (Promise from ballot first told)) (with_promise n c from ballot first told)
+promise_campaign g n i node front c from ballot first told h = record {
+  own = ap (λ (b : Ballot). b.node) stays.0 ∙ h.own;
+  promised = h.promised ∙ sym stays.0;
+  prepared = subst (λ (b : Ballot). In (Prepare b (with_promise n c from ballot first told).first) node.sent) (sym stays.0)
+      (subst (λ (k : ℕ). In (Prepare c.ballot k) node.sent) (sym stays.1) h.prepared);
+  counts = g.promise n (m ∷ node.has) c from ballot first told (inl refl) (g.others node.has c m h.counts);
+  counts_all = g.promise_all n node.has c from ballot first told h.counts_all;
+  marks = g.promise_marks n node.sent c from ballot first told h.marks;
+  votes = λ s v e b. subst (λ (y : Ballot). In (Accept y s v.command) node.sent) (sym stays.0) (h.votes s v e (b ∙ stays.0));
+}
+  where
+    m : Message
+    m = Promise from ballot first told
+
+    stays : ((with_promise n c from ballot first told).ballot ≡ c.ballot) × ((with_promise n c from ballot first told).first ≡ c.first)
+    stays = g.promise_stays n c from ballot first told
+
+promise_proposer : (g : Given) (n i : ℕ) (node : Node) (front : ℕ) (c : Option Campaign) (from : ℕ) (ballot : Ballot) (first : ℕ) (told : List Entry)
+    → IsProposer n i node front c → IsProposer n i (with_got node (Promise from ballot first told)) front (counting_from n c from ballot first told)
+promise_proposer g n i node front None from ballot first told p = record {
+  is_campaign = tt;
+  began = p.began;
+  proposed = p.proposed;
+  stands = λ b f st near left. let found = p.stands b f (record { began = st.began; promised = st.promised; unrefused = λ k r s up h. st.unrefused k r s up (inr h) }) near left in
+      absurd (let e = found.1 in cc);
+}
+promise_proposer g n i node front (Some c) from ballot first told p = record {
+  is_campaign = promise_campaign g n i node front c from ballot first told p.is_campaign;
+  began = p.began;
+  proposed = p.proposed;
+  stands = λ b f st near left.
+      let found = p.stands b f (record { began = st.began; promised = st.promised; unrefused = λ k r s up h. st.unrefused k r s up (inr h) }) near left in
+      let same : c ≡ found.0 = some_is c found.0 found.1 in
+      let stays = g.promise_stays n c from ballot first told in
+      (with_promise n c from ballot first told, refl, stays.0 ∙ (ap (λ (y : Campaign). y.ballot) same ∙ found.2), stays.1 ∙ (ap (λ (y : Campaign). y.first) same ∙ found.3));
+}
+
+pub begin_promise : (x : Scope) (s : Standing) (from : ℕ) (ballot : Ballot) (first : ℕ) (told : List Entry) (bs : List Ballot) → Runs x s
+    → x.messages ≡ Promise from ballot first told ∷ [] → In (Promise from ballot first told) x.world.ever
+    → ballots_in (Promise from ballot first told) ≡ bs
+    → Path x [] (hearing_of s (first_in x)) (applied s)
+    (still (record s { seen = highest s.seen bs; campaign = counting_from x.place.nodes s.campaign from ballot first told }))
+begin_promise x s from ballot first told bs r one sent ballots =
+    begin_with x s (record s { seen = highest s.seen bs; campaign = counting_from x.place.nodes s.campaign from ballot first told }) m r one sent refl r.up (r.of.runs r.up).unbegun refl
+    (record {
+      up = k.up;
+      store = k.store;
+      within = k.within;
+      proposer = promise_proposer x.given x.place.nodes x.place.node (first_in x) (front_of s) s.campaign from ballot first told k.proposer;
+      learner = got_learner x.place.nodes (first_in x).has (first_in x).known m s k.learner;
+      pending = got_pending (dealer_in x) x.place.node (first_in x) m (applied s) s.pending k.pending;
+      places = k.places;
+      shown = k.shown;
+      seen = sees_more (first_in x).has m (first_in x).store.promise s.seen bs ballots k.seen;
+    })
+  where
+    m : Message
+    m = Promise from ballot first told
+
+    k : Knows (dealer_in x) x.place (applied s) s (first_in x)
+    k = (r.of.runs r.up).knows
+
+-- ---- stages one after another
+
+pub and_goes : (x : Scope) (came : List Arrival) (heard : Hearing) (r : Result Turn Refusal) (next : Standing → Result Turn Refusal) → Goes x came heard r
+    → ((u : Turn) → Path x came heard (applied u.after) u → Goes x came heard (behind u (next u.after))) → Goes x came heard (and_then r next)
+and_goes x came heard (Ok u) next goes step = step u goes
+and_goes x came heard (Err e) next goes step = goes
+
+-- ---- a path ends
+
+pub finish : (x : Scope) (came : List Arrival) (heard : Hearing) (turn : Turn) (events : List (List Event)) → x.ends ≡ true → Path x came heard (applied turn.after) turn
+    → ((m : Message) → In m x.had → In m (first_in x).has)
+    → AreSessions x.place.setting.game heard.talks heard.bytes → In (events_of came) events
+    → Taken x.own x.place x.world.ever (first_in x) x.log x.messages events turn.frames turn.shown turn.after
+finish x came heard turn events ends p kept sessions happened = record {
+  called = record {
+    output = record { sent = p.sent; shown = p.shown; came = came };
+    last = p.node;
+    chain = p.chain;
+    of = record {
+      up = p.knows.up ∙ sym p.runs;
+      store = p.knows.store;
+      begun = p.begun ∙ (p.knows.store ∙ sym p.unbegun);
+      runs = λ up. record {
+        unbegun = p.unbegun;
+        knows = p.knows;
+        sessions = subst (λ (h : ℕ → Option (List ℕ)). AreSessions x.place.setting.game turn.after.sessions h) (sym p.hears)
+            (subst (λ (l : List (Option Talk)). AreSessions x.place.setting.game l heard.bytes) (sym p.talks) sessions);
+      };
+    };
+    carry = p.carry;
+    shown = subst (λ (k : ℕ). AreShown x.place.node k x.log turn.shown p.shown) (sym p.starts) (p.pieces ends);
+    logged = λ up. p.logged ends;
+    got = got_from;
+    happened = happened;
+  };
+  all_carried = p.all;
+  all_got = λ m h. has_in x came heard (applied turn.after) turn p m h;
+}
+  where
+    got_from : HasGotAtMost (first_in x).has x.messages p.sent p.node.has
+    got_from m h = elim (in_split p.got x.had m (subst (λ (l : List Message). In m l) p.has h)) [
+      | inl new ↦ elim (p.got_only m new) [ inl a ↦ inr (inl a) | inr b ↦ inr (inr b) ]
+      | inr old ↦ inl (kept m old)
+    ]

@@ -1,0 +1,152 @@
+-- The turns of calls are chains of moves.
+use Rattle.std.proofs.Common.{◌≡◌, ℕ, suc, inl, Bool, true, false, if◌then◌else◌, List, [], ◌∷◌, None, Result, Ok, Err, refl, sym, ap, subst, length}
+use Rattle.paxos_wire.specs.Faults.{reading}
+use Rattle.slot_log.specs.declared.command.Command.{Command}
+use Rattle.protocol_model.specs.Sets.{In}
+use Rattle.protocol_model.specs.Arrivals.{Event, Started}
+use Rattle.protocol_model.specs.Worlds.{World}
+use Rattle.protocol_model.specs.Messages.{Message}
+use Rattle.dealer_kind.specs.Kind.{log_of}
+use Rattle.node_rules.specs.Standings.{Place, Standing, applied, no_sessions}
+use Rattle.node_rules.specs.Turns.{Turn, Refusal, Down, still}
+use Rattle.node_rules.specs.Calls.{Call, Start, Tick, Line, Connect, Drop, Stop}
+use Rattle.node_rules.specs.Calls as call
+use Rattle.node_rules.specs.Rules.{starting, stopping, IsTurnUp, IsTurnDown, IsTurnBy}
+use Rattle.node_rules.specs.Seats.{connecting, dropping}
+use Rattle.node_rules.specs.Called.{came_in, Comes, log_before, taken_events, Taken}
+use Rattle.node_rules.specs.Given.{Given}
+use Rattle.node_rules.specs.Sound.{Stands, TurnsAreChains}
+use Rattle.node_rules.proofs.Paths.{Scope, first_in, Goes}
+use Rattle.node_rules.proofs.Beginning.{Runs, hearing_of, finish}
+use Rattle.node_rules.proofs.Framing.{frame_goes, tick_goes}
+use Rattle.node_rules.proofs.Closing.{close}
+use Rattle.node_rules.proofs.Hearing.{Sits, connect_sits, drop_sits, piece_sits}
+use Rattle.node_rules.proofs.Starting.{nobody, start_goes, nothing_all, stop_taken}
+
+abbrev pub scope_of : Given → (own : ℕ → Command → Bool) (place : Place) (world : World) (s : Standing) → Stands own place world s → Bool → List Message → Scope
+scope_of g own place world s st ends messages = record {
+  given = g;
+  own = own;
+  place = place;
+  world = world;
+  is_place = st.is_place;
+  reached = st.reached;
+  start = (world.nodes place.node).starts;
+  had = (world.nodes place.node).has;
+  log = log_before place s;
+  messages = messages;
+  ends = ends;
+}
+
+-- the log of a node that runs, and of one that doesn't
+pub log_is : (place : Place) (s : Standing) → s.up ≡ true → log_before place s ≡ log_of place.setting (applied s)
+log_is place s up = ap (λ (b : Bool). if b then log_of place.setting (applied s) else []) up
+
+no_log : (place : Place) (s : Standing) → s.up ≡ false → log_before place s ≡ []
+no_log place s down = ap (λ (b : Bool). if b then log_of place.setting (applied s) else []) down
+
+pub runs_in : (g : Given) (own : ℕ → Command → Bool) (place : Place) (world : World) (s : Standing) (st : Stands own place world s) → s.up ≡ true → (ends : Bool) (messages : List Message)
+    → Runs (scope_of g own place world s st ends messages) s
+runs_in g own place world s st up ends messages = record { of = st.of; up = up; log = log_is place s up; start = refl; had = refl }
+
+pub ok_is : (t u : Turn) → ◌≡◌ {A = Result Turn Refusal} (Ok t) (Ok u) → t ≡ u
+ok_is t u e = cc
+
+pub ok_not : (t : Turn) (r : Refusal) → ◌≡◌ {A = Result Turn Refusal} (Ok t) (Err r) → ⊥
+ok_not t r e = cc
+
+-- ---- a node that runs
+
+-- where the seats of a path are those of its end
+ends_up : (x : Scope) (turn : Turn) (events : List (List Event)) → x.ends ≡ true → x.had ≡ (first_in x).has → Sits x turn events
+    → Taken x.own x.place x.world.ever (first_in x) x.log x.messages events turn.frames turn.shown turn.after
+ends_up x turn events ends same sits =
+    finish x sits.came sits.heard turn events ends sits.path (λ m h. subst (λ (l : List Message). In m l) same h) sits.sessions sits.happened
+
+-- the piece, and then the close
+line_goes : (x : Scope) (turn heard : Turn) (events : List (List Event)) → x.ends ≡ true → x.had ≡ (first_in x).has → (sits : Sits x heard events)
+    → Goes x sits.came sits.heard (Ok turn) → Taken x.own x.place x.world.ever (first_in x) x.log x.messages events turn.frames turn.shown turn.after
+line_goes x turn heard events ends same sits goes =
+    finish x sits.came sits.heard turn events ends goes (λ m h. subst (λ (l : List Message). In m l) same h) sits.sessions sits.happened
+
+chain_up : (g : Given) (own : ℕ → Command → Bool) (place : Place) (world : World) (s : Standing) (turn : Turn) (called : Call) (st : Stands own place world s) → s.up ≡ true
+    → Comes place world.ever called → IsTurnUp place s called (Ok turn)
+    → Taken own place world.ever (world.nodes place.node) (log_before place s) (came_in called) (taken_events place.node true called) turn.frames turn.shown turn.after
+chain_up g own place world s turn (Start found) st up comes h =
+    subst (λ (t : Turn). Taken own place world.ever (world.nodes place.node) (log_before place s) [] ([] ∷ []) t.frames t.shown t.after) (sym (ok_is turn (still s) h))
+    (nothing_all own place world.ever (world.nodes place.node) (log_before place s) ([] ∷ []) s st.of (λ y. log_is place s y) (inl refl))
+chain_up g own place world s turn Tick st up comes h =
+    let x : Scope = scope_of g own place world s st true [] in
+    finish x [] (hearing_of s (first_in x)) turn ([] ∷ []) refl
+    (subst (Goes x [] (hearing_of s (first_in x))) (sym h) (tick_goes x s refl (runs_in g own place world s st up true []) refl))
+    (λ m k. k) (st.of.runs up).sessions (inl refl)
+chain_up g own place world s turn (call.Frame from bytes) st up comes h =
+    let x : Scope = scope_of g own place world s st true (came_in (call.Frame from bytes)) in
+    finish x [] (hearing_of s (first_in x)) turn ([] ∷ []) refl
+    (subst (Goes x [] (hearing_of s (first_in x))) (sym h) (frame_goes x s from (reading bytes) refl (runs_in g own place world s st up true (came_in (call.Frame from bytes))) refl comes))
+    (λ m k. k) (st.of.runs up).sessions (inl refl)
+chain_up g own place world s turn (Line seat bytes) st up comes (heard, hears, e) =
+    let x : Scope = scope_of g own place world s st true [] in
+    let sits = (piece_sits x s seat bytes heard (runs_in g own place world s st up true []) refl comes hears).0 in
+    line_goes x turn heard (taken_events place.node true (Line seat bytes)) refl refl sits
+    (subst (Goes x sits.came sits.heard) (sym e) (close x sits.came sits.heard heard refl sits.path))
+chain_up g own place world s turn (Connect seat) st up comes h =
+    let x : Scope = scope_of g own place world s st true [] in
+    ends_up x turn (taken_events place.node true (Connect seat)) refl refl
+    (subst (λ (t : Turn). Sits x t (taken_events place.node true (Connect seat))) (sym (ok_is turn (connecting seat s) h))
+    (connect_sits x s seat (runs_in g own place world s st up true []) refl comes))
+chain_up g own place world s turn (Drop seat) st up comes h =
+    let x : Scope = scope_of g own place world s st true [] in
+    ends_up x turn (taken_events place.node true (Drop seat)) refl refl
+    (subst (λ (t : Turn). Sits x t (taken_events place.node true (Drop seat))) (sym (ok_is turn (dropping seat s) h))
+    (drop_sits x s seat (runs_in g own place world s st up true []) refl comes))
+chain_up g own place world s turn Stop st up comes h =
+    subst (λ (t : Turn). Taken own place world.ever (world.nodes place.node) (log_before place s) [] ([] ∷ []) t.frames t.shown t.after) (sym (ok_is turn (stopping place s) h))
+    (stop_taken own place world.ever (world.nodes place.node) (log_before place s) ([] ∷ []) s st.of up (inl refl))
+
+-- ---- one that is down
+
+never_ok : (t : Turn) → ◌≡◌ {A = Result Turn Refusal} (Ok t) (Err Down) → ⊥
+never_ok t e = ok_not t Down e
+
+chain_down : (g : Given) (own : ℕ → Command → Bool) (place : Place) (world : World) (s : Standing) (turn : Turn) (called : Call) (st : Stands own place world s) → s.up ≡ false
+    → IsTurnDown place s called (Ok turn)
+    → Taken own place world.ever (world.nodes place.node) (log_before place s) (came_in called) (taken_events place.node false called) turn.frames turn.shown turn.after
+chain_down g own place world s turn (Start found) st down (found_left, h) =
+    let x : Scope = record {
+      given = g;
+      own = own;
+      place = place;
+      world = world;
+      is_place = st.is_place;
+      reached = st.reached;
+      start = suc (world.nodes place.node).starts;
+      had = [];
+      log = log_before place s;
+      messages = [];
+      ends = true;
+    } in
+    subst (λ (t : Turn). Taken own place world.ever (world.nodes place.node) (log_before place s) [] (taken_events place.node false (Start found)) t.frames t.shown t.after) (sym (ok_is turn (starting place found) h))
+    (finish x ((record { event = Started place.node; sent = length world.ever }) ∷ []) (record { bytes = λ seat. None; talks = no_sessions place }) (starting place found)
+    (taken_events place.node false (Start found)) refl
+    (start_goes x s found st.of down found_left refl refl refl (no_log place s down) refl)
+    (λ m k. absurd k) (nobody place) (inl refl))
+chain_down g own place world s turn Tick st down h = absurd (never_ok turn h)
+chain_down g own place world s turn (call.Frame from bytes) st down h = absurd (never_ok turn h)
+chain_down g own place world s turn (Line seat bytes) st down h = absurd (never_ok turn h)
+chain_down g own place world s turn (Connect seat) st down h = absurd (never_ok turn h)
+chain_down g own place world s turn (Drop seat) st down h = absurd (never_ok turn h)
+chain_down g own place world s turn Stop st down h =
+    subst (λ (t : Turn). Taken own place world.ever (world.nodes place.node) (log_before place s) [] ([] ∷ []) t.frames t.shown t.after) (sym (ok_is turn (still s) h))
+    (nothing_all own place world.ever (world.nodes place.node) (log_before place s) ([] ∷ []) s st.of (λ y. log_is place s y) (inl refl))
+
+-- ---- either
+
+chain_by : (g : Given) (own : ℕ → Command → Bool) (place : Place) (world : World) (s : Standing) (turn : Turn) (called : Call) (b : Bool) (st : Stands own place world s) → s.up ≡ b
+    → Comes place world.ever called → IsTurnBy b place s called (Ok turn)
+    → Taken own place world.ever (world.nodes place.node) (log_before place s) (came_in called) (taken_events place.node b called) turn.frames turn.shown turn.after
+chain_by g own place world s turn called true st e comes h = chain_up g own place world s turn called st e comes h
+chain_by g own place world s turn called false st e comes h = chain_down g own place world s turn called st e h
+
+pub turns_are_chains : Given → TurnsAreChains
+turns_are_chains g called own place world s turn st comes h = chain_by g own place world s turn called s.up st refl comes h

@@ -1,0 +1,139 @@
+-- Frames and ticks are paths.
+use Rattle.std.proofs.Common.{◌≡◌, ◌≢◌, ℕ, ◌<◌, inl, inr, Bool, true, false, if◌then◌else◌, ◌&&◌, List, [], ◌∷◌, Some, Result, Ok, Err, refl, sym, subst, ◌∙◌}
+use Rattle.std.specs.Prelude.{is_none}
+use Rattle.paxos_wire.specs.declared.fault.FrameFault.{FrameFault}
+use Rattle.paxos_wire.specs.declared.message.Message.{Message as Wire}
+use Rattle.paxos_wire.specs.declared.message.Message.TheVariants as frame
+use Rattle.slot_log.specs.declared.command.Command.{Command}
+use Rattle.protocol_model.specs.Sets.{In}
+use Rattle.protocol_model.specs.Messages.{Message, Prepare, Promise, Refuse, Accept, Accepted, Chosen, Ask, Forward}
+use Rattle.protocol_model.specs.Frames.{carried}
+use Rattle.protocol_model.specs.Arrivals.{Arrival}
+use Rattle.learner.specs.Learning.{answer_to_chosen, believing as with_chosen}
+use Rattle.dealer_kind.specs.Kind.{fits}
+use Rattle.node_rules.specs.Standings.{Standing, applied, front_of}
+use Rattle.node_rules.specs.Turns.{Turn, Refusal, still, behind, and_then}
+use Rattle.node_rules.specs.Accepting.{preparing}
+use Rattle.node_rules.specs.Learning.{learning, asking_on, telling}
+use Rattle.node_rules.specs.Proposing.{ticking, closing}
+use Rattle.node_rules.specs.Seats.{waiting, pending_act}
+use Rattle.node_rules.specs.Rules.{ballots_of, seeing, taking, asking, on_read}
+use Rattle.node_rules.specs.Being.{IsPending}
+use Rattle.node_rules.specs.Called.{said_in, IsSent}
+use Rattle.node_rules.proofs.Sets.{in_later}
+use Rattle.node_rules.proofs.Paths.{Hearing, Scope, dealer_in, first_in, Path, Goes, has_in}
+use Rattle.node_rules.proofs.Steps.{go_on}
+use Rattle.node_rules.proofs.Promising.{prepare}
+use Rattle.node_rules.proofs.Voting.{accept}
+use Rattle.node_rules.proofs.Learning.{count, tell}
+use Rattle.node_rules.proofs.Asking.{behind_still, ask_on, ask_above, tell_known, with_pending, give_up}
+use Rattle.node_rules.proofs.Closing.{close}
+use Rattle.node_rules.proofs.Ticking.{tick}
+use Rattle.node_rules.proofs.Beginning.{Runs, hearing_of, begin, begin_frame, begin_promise, and_goes}
+
+-- ---- an act that another node hands on
+
+waits_by : (x : Scope) (came : List Arrival) (heard : Hearing) (t : Turn) (p : Path x came heard (applied t.after) t) (act : Command) (a b : Bool)
+    → fits x.place.setting (applied t.after) act ≡ b
+    → (sender : ℕ) → In (Forward sender act) p.node.has
+    → IsPending (dealer_in x) x.place.node p.node (applied t.after) (if a && b then Some act else t.after.pending)
+waits_by x came heard t p act true true e sender had = (inr (inr (sender, had)), e)
+waits_by x came heard t p act true false e sender had = p.knows.pending
+waits_by x came heard t p act false b e sender had = p.knows.pending
+
+pub hand_on : (x : Scope) (came : List Arrival) (heard : Hearing) (t : Turn) (p : Path x came heard (applied t.after) t) (sender : ℕ) (act : Command) → In (Forward sender act) p.node.has
+    → Path x came heard (applied t.after) (record t { after = pending_act x.place act t.after })
+hand_on x came heard t p sender act had =
+    with_pending x came heard (applied t.after) t (waiting x.place act t.after) p
+    (waits_by x came heard t p act (is_none t.after.pending) (fits x.place.setting (applied t.after) act) refl sender had)
+
+-- ---- each message
+
+stood : (x : Scope) (came : List Arrival) (heard : Hearing) (s : Standing) (r : Result Turn Refusal) → Goes x came heard (behind (still s) r) → Goes x came heard r
+stood x came heard s r goes = subst (Goes x came heard) (behind_still s r) goes
+
+-- what another node tells as chosen, and what is asked for then
+pub chosen_goes : (x : Scope) (s : Standing) (from slot : ℕ) (command : Command) → Runs x s → x.messages ≡ carried from (frame.Chosen slot command)
+    → IsSent x.place x.world.ever from (carried from (frame.Chosen slot command))
+    → Goes x [] (hearing_of s (first_in x)) (taking x.place from (frame.Chosen slot command) (seeing (frame.Chosen slot command) s))
+chosen_goes x s from slot command r one sent =
+    let h : Hearing = hearing_of s (first_in x) in
+    let m : Message = Chosen from slot command in
+    let p = begin_frame x s m [] r one (sent.sent m (inl refl)) tt refl in
+    let s0 : Standing = seeing (frame.Chosen slot command) s in
+    and_goes x [] h (learning x.place (answer_to_chosen s0.learned.log slot command) (with_chosen s0.learned slot command) s0) (λ told. Ok (asking_on from (front_of s0) told))
+    (stood x [] h s0 (learning x.place (answer_to_chosen s0.learned.log slot command) (with_chosen s0.learned slot command) s0)
+    (tell x [] h (still s0) from slot command p (has_in x [] h (applied s) (still s0) p m (subst (λ (l : List Message). In m l) (sym one) (inl refl)))
+    (in_later p.sent x.world.ever m (sent.sent m (inl refl)))))
+    (λ u q. ask_on x [] h u from (front_of s0) q sent.node sent.other)
+
+taken : (x : Scope) (s : Standing) (from : ℕ) (w : Wire) → x.ends ≡ true → Runs x s
+    → x.messages ≡ carried from w → IsSent x.place x.world.ever from (carried from w)
+    → Goes x [] (hearing_of s (first_in x)) (taking x.place from w (seeing w s))
+taken x s from (frame.Prepare ballot slot) ends r one sent =
+    let h : Hearing = hearing_of s (first_in x) in
+    let m : Message = Prepare ballot slot in
+    let p = begin_frame x s m (ballot ∷ []) r one (sent.sent m (inl refl)) tt refl in
+    stood x [] h (seeing (frame.Prepare ballot slot) s) (Ok (preparing from ballot slot (seeing (frame.Prepare ballot slot) s)))
+    (prepare x [] h (still (seeing (frame.Prepare ballot slot) s)) from ballot slot ends p (has_in x [] h (applied s) _ p m (subst (λ (l : List Message). In m l) (sym one) (inl refl))) sent.node sent.other)
+taken x s from (frame.Promise ballot slot told) ends r one sent =
+    begin_promise x s from ballot slot told (ballots_of (frame.Promise ballot slot told)) r one (sent.sent (Promise from ballot slot told) (inl refl)) refl
+taken x s from (frame.Refuse ballot slot promised) ends r one sent =
+    let h : Hearing = hearing_of s (first_in x) in
+    let m : Message = Refuse from ballot slot promised in
+    let p = begin_frame x s m (ballot ∷ promised ∷ []) r one (sent.sent m (inl refl)) tt refl in
+    give_up x [] h (applied s) (still (seeing (frame.Refuse ballot slot promised) s)) promised from ballot slot p
+    (has_in x [] h (applied s) _ p m (subst (λ (l : List Message). In m l) (sym one) (inl refl)))
+taken x s from (frame.Accept ballot slot command) ends r one sent =
+    let h : Hearing = hearing_of s (first_in x) in
+    let m : Message = Accept ballot slot command in
+    let p = begin_frame x s m (ballot ∷ []) r one (sent.sent m (inl refl)) tt refl in
+    stood x [] h (seeing (frame.Accept ballot slot command) s) _
+    (accept x [] h (still (seeing (frame.Accept ballot slot command) s)) ends from ballot slot command p (has_in x [] h (applied s) _ p m (subst (λ (l : List Message). In m l) (sym one) (inl refl)))
+    sent.node sent.other (λ e. sent.other (sym (sent.sender m (inl refl)) ∙ e)))
+taken x s from (frame.Accepted ballot slot command) ends r one sent =
+    let h : Hearing = hearing_of s (first_in x) in
+    let m : Message = Accepted from ballot slot command in
+    let p = begin_frame x s m (ballot ∷ []) r one (sent.sent m (inl refl)) tt refl in
+    stood x [] h (seeing (frame.Accepted ballot slot command) s) _
+    (count x [] h (still (seeing (frame.Accepted ballot slot command) s)) from ballot slot command p (has_in x [] h (applied s) _ p m (subst (λ (l : List Message). In m l) (sym one) (inl refl))) sent.node)
+taken x s from (frame.Chosen slot command) ends r one sent = chosen_goes x s from slot command r one sent
+taken x s from (frame.Ask slot) ends r one sent =
+    let h : Hearing = hearing_of s (first_in x) in
+    let m : Message = Ask from slot in
+    let p = begin_frame x s m [] r one (sent.sent m (inl refl)) tt refl in
+    stood x [] h (seeing (frame.Ask slot) s) (Ok (telling from slot (seeing (frame.Ask slot) s))) (tell_known x [] h (still (seeing (frame.Ask slot) s)) from slot p sent.node sent.other)
+taken x s from (frame.Forward act) ends r one sent =
+    let h : Hearing = hearing_of s (first_in x) in
+    let m : Message = Forward from act in
+    let p = begin_frame x s m [] r one (sent.sent m (inl refl)) tt refl in
+    hand_on x [] h (still (seeing (frame.Forward act) s)) p from act (has_in x [] h (applied s) _ p m (subst (λ (l : List Message). In m l) (sym one) (inl refl)))
+
+asked : (x : Scope) (came : List Arrival) (heard : Hearing) (t : Turn) (from : ℕ) (w : Wire) → Path x came heard (applied t.after) t → from < x.place.nodes → from ≢ x.place.node
+    → Goes x came heard (behind t (Ok (asking from w t.after)))
+asked x came heard t from (frame.Prepare ballot slot) p below other = ask_above x came heard t from slot p below other
+asked x came heard t from (frame.Promise ballot slot told) p below other = go_on x came heard (applied t.after) t p
+asked x came heard t from (frame.Refuse ballot slot promised) p below other = go_on x came heard (applied t.after) t p
+asked x came heard t from (frame.Accept ballot slot command) p below other = ask_above x came heard t from slot p below other
+asked x came heard t from (frame.Accepted ballot slot command) p below other = ask_above x came heard t from slot p below other
+asked x came heard t from (frame.Chosen slot command) p below other = go_on x came heard (applied t.after) t p
+asked x came heard t from (frame.Ask slot) p below other = go_on x came heard (applied t.after) t p
+asked x came heard t from (frame.Forward act) p below other = go_on x came heard (applied t.after) t p
+
+-- a whole frame
+pub frame_goes : (x : Scope) (s : Standing) (from : ℕ) (read : Result Wire FrameFault) → x.ends ≡ true → Runs x s
+    → x.messages ≡ said_in from read → IsSent x.place x.world.ever from (said_in from read)
+    → Goes x [] (hearing_of s (first_in x)) (on_read x.place from read s)
+frame_goes x s from (Err fault) ends r one sent = tt
+frame_goes x s from (Ok w) ends r one sent =
+    let h : Hearing = hearing_of s (first_in x) in
+    and_goes x [] h (and_then (taking x.place from w (seeing w s)) (closing x.place)) (λ closed. Ok (asking from w closed))
+    (and_goes x [] h (taking x.place from w (seeing w s)) (closing x.place) (taken x s from w ends r one sent) (λ u q. close x [] h u ends q))
+    (λ u q. asked x [] h u from w q sent.node sent.other)
+
+-- a tick
+pub tick_goes : (x : Scope) (s : Standing) → x.ends ≡ true → Runs x s → x.messages ≡ []
+    → Goes x [] (hearing_of s (first_in x)) (and_then (ticking x.place s) (closing x.place))
+tick_goes x s ends r quiet =
+    let h : Hearing = hearing_of s (first_in x) in
+    and_goes x [] h (ticking x.place s) (closing x.place) (stood x [] h s (ticking x.place s) (tick x [] h (still s) ends (begin x s r quiet))) (λ u q. close x [] h u ends q)

@@ -1,0 +1,412 @@
+-- Calls that stop in their append: the chain as far as the append, with nothing shown.
+use Rattle.std.proofs.Common.{◌≡◌, ◌≢◌, ℕ, zero, suc, ◌<◌, ◌≤◌, ◌+◌, ◌*◌, ◌⊎◌, inl, inr, Bool, true, false, not, if◌then◌else◌, ◌==◌, ◌&&◌, List, [], ◌∷◌, Option, Some, None, Result, Ok, Err, refl, sym, ap, subst, ◌∙◌, arith, get_or, set, replicate, get_or-set_other}
+use Rattle.std.specs.Prelude.{nat_lt, nat_le, is_some}
+use Rattle.std.proofs.lemmas.Bool.{le-ltb}
+use Rattle.std.proofs.lemmas.Bool.Decides.{eqb_tells}
+use Rattle.paxos_wire.specs.declared.limits.TheConstants.{SLOTS, NODES}
+use Rattle.paxos_wire.specs.declared.ballot.Ballot.{Ballot}
+use Rattle.paxos_wire.specs.declared.entry.Entry.{Entry}
+use Rattle.paxos_wire.specs.declared.fault.FrameFault.{FrameFault}
+use Rattle.paxos_wire.specs.declared.message.Message.{Message as Wire}
+use Rattle.paxos_wire.specs.declared.message.Message.TheVariants as frame
+use Rattle.slot_log.specs.declared.command.Command.{Command}
+use Rattle.slot_log.specs.declared.slot_fault.SlotFault.{SlotFault}
+use Rattle.protocol_model.specs.Sets.{In}
+use Rattle.protocol_model.specs.Ballots.{Below, AtMost}
+use Rattle.protocol_model.specs.Messages.{Message, Prepare, Promise, Refuse, Accept, Accepted, Ask, Forward, sender_of}
+use Rattle.protocol_model.specs.Frames.{carried}
+use Rattle.protocol_model.specs.Stores.{Store, promised, voted, Append, unchanged, moved, own_promise, promise, vote}
+use Rattle.protocol_model.specs.Calls.{HasGotAtMost}
+use Rattle.protocol_model.specs.Quorums.{count as count_in}
+use Rattle.protocol_model.specs.Nodes.{Node}
+use Rattle.protocol_model.specs.Arrivals.{Arrival}
+use Rattle.protocol_model.specs.Moves.{Shown, Chain, nothing, sending as sends, with_sent, more, gets, proposes}
+use Rattle.proposer.specs.declared.accept.Accept.{Accept as Made}
+use Rattle.proposer.specs.declared.campaign.Campaign.{Campaign}
+use Rattle.proposer.specs.declared.fault.ProposeFault.{ProposeFault}
+use Rattle.proposer.specs.Told.{is_below}
+use Rattle.proposer.specs.declared.fault.ProposeFault.TheVariants.{OutOfWindow}
+use Rattle.proposer.specs.Laws.{IsSafe}
+use Rattle.proposer.specs.Campaigns.{next_ballot, new_campaign, has_promised, is_counted, with_promise, leads, is_covered, is_proposed, accept_of, value_of, greatest_told, proposal_from, marked_from}
+use Rattle.learner.specs.Learning.{Learned, answer_to, hearing}
+use Rattle.node_rules.specs.Standings.{Standing, applied, front_of, with_stored, idle}
+use Rattle.dealer_kind.specs.Plans.{HasNodes}
+use Rattle.node_rules.specs.Sending.{one, to_others}
+use Rattle.node_rules.specs.Turns.{Turn, Refusal, Spent, still, sending, joined, behind, and_then}
+use Rattle.node_rules.specs.Learning.{learning, counting_vote, telling, asking_above}
+use Rattle.node_rules.specs.Accepting.{told_by, is_of_ballot, stored_in, storing, promising, refusing, preparing, voting, accepting}
+use Rattle.node_rules.specs.Proposing.{higher, greatest_seen, is_over, is_spent, beginning, ticking, own_value, proposing, closing_by, proposal_at, closing}
+use Rattle.node_rules.specs.Rules.{ballots_of, seeing, taking, asking, on_read}
+use Rattle.node_rules.specs.Being.{Campaigns}
+use Rattle.node_rules.specs.Called.{said_in, IsSent}
+use Rattle.node_rules.proofs.Sets.{in_split}
+use Rattle.node_rules.proofs.Ordering.{self, higher_is, below_if, at_most_if_not}
+use Rattle.node_rules.proofs.Keeping.{with_got}
+use Rattle.node_rules.proofs.Paths.{Hearing, Scope, dealer_in, first_in, Path, Goes, has_in, never, regroup}
+use Rattle.node_rules.proofs.Promising.{refuse}
+use Rattle.node_rules.proofs.Learning.{count}
+use Rattle.node_rules.proofs.Closing.{IsMade, made_by, campaigns_of, may}
+use Rattle.node_rules.proofs.Asking.{tell_known, give_up, behind_still}
+use Rattle.node_rules.proofs.Framing.{hand_on, chosen_goes}
+use Rattle.node_rules.proofs.Ticking.{above}
+use Rattle.node_rules.proofs.Beginning.{Runs, hearing_of, begin, begin_frame, begin_promise}
+
+-- the chain of a call that stops here, whose append may leave this store
+pub record Halted (x : Scope) (came : List Arrival) (store : Store) : Type 0 where
+  pub sent : List Message
+  pub last : Node
+  pub chain : Chain (dealer_in x) x.place.nodes x.place.node x.world.ever (first_in x) (record { sent = sent; shown = []; came = came }) last
+  pub up : last.up ≡ true
+  pub same_store : last.store ≡ (first_in x).store
+  pub append : Append x.place.node last.has last.store store
+  pub own : (message : Message) → In message sent → sender_of message ≡ x.place.node
+  pub unvoted : (sender : ℕ) (ballot : Ballot) (slot : ℕ) (command : Command) → In (Accepted sender ballot slot command) sent → ⊥
+  pub got : HasGotAtMost (first_in x).has x.messages sent last.has
+
+-- what the node has on a path
+got_at_most : (x : Scope) (came : List Arrival) (heard : Hearing) (upto : List Command) (t : Turn) → x.had ≡ (first_in x).has → (p : Path x came heard upto t)
+    → HasGotAtMost (first_in x).has x.messages p.sent p.node.has
+got_at_most x came heard upto t same p m h = elim (in_split p.got x.had m (subst (λ (l : List Message). In m l) p.has h)) [
+  | inl new ↦ elim (p.got_only m new) [ inl a ↦ inr (inl a) | inr b ↦ inr (inr b) ]
+  | inr old ↦ inl (subst (λ (l : List Message). In m l) same old)
+]
+
+-- a path may stop at any append of its node
+pub halt : (x : Scope) (came : List Arrival) (heard : Hearing) (upto : List Command) (t : Turn) (store : Store) → x.ends ≡ false → x.had ≡ (first_in x).has
+    → (p : Path x came heard upto t) → Append x.place.node p.node.has p.node.store store → Halted x came store
+halt x came heard upto t store q same p append = record {
+  sent = p.sent;
+  last = p.node;
+  chain = subst (λ (l : List Shown). Chain (dealer_in x) x.place.nodes x.place.node x.world.ever (first_in x) (record { sent = p.sent; shown = l; came = came }) p.node) (p.unshown q) p.chain;
+  up = p.knows.up;
+  same_store = p.unstored q;
+  append = append;
+  own = p.carry.own;
+  unvoted = p.unvoted q;
+  got = got_at_most x came heard upto t same p;
+}
+
+-- where nothing is appended
+pub halt_same : (x : Scope) (came : List Arrival) (heard : Hearing) (upto : List Command) (t : Turn) → x.ends ≡ false → x.had ≡ (first_in x).has
+    → (p : Path x came heard upto t) → Halted x came t.after.store
+halt_same x came heard upto t q same p = halt x came heard upto t t.after.store q same p (unchanged _ (sym p.knows.store))
+
+-- ---- what a result leaves
+
+abbrev pub Leaves : (x : Scope) (came : List Arrival) → Result Turn Refusal → Type 0
+Leaves x came (Ok turn) = Halted x came turn.after.store
+Leaves x came (Err refusal) = Unit {0}
+
+-- a stage goes on with nothing stored; or it stored something, and the node doesn't lead then
+abbrev pub Rests : (x : Scope) (came : List Arrival) (heard : Hearing) → Result Turn Refusal → Type 0
+Rests x came heard (Ok turn) = Path x came heard (applied turn.after) turn ⊎ (Halted x came turn.after.store × (leads x.place.nodes turn.after.campaign ≡ false))
+Rests x came heard (Err refusal) = Unit {0}
+
+pub rests_of : (x : Scope) (came : List Arrival) (heard : Hearing) (r : Result Turn Refusal) → Goes x came heard r → Rests x came heard r
+rests_of x came heard (Ok turn) p = inl p
+rests_of x came heard (Err e) p = tt
+
+pub leaves_behind : (x : Scope) (came : List Arrival) (u : Turn) (r : Result Turn Refusal) → Leaves x came r → Leaves x came (behind u r)
+leaves_behind x came u (Ok v) h = h
+leaves_behind x came u (Err e) h = tt
+
+-- ---- the close
+
+-- a node that doesn't lead proposes nothing
+unled_by : (n : ℕ) (c : Option Campaign) (front : ℕ) (own : Option Command) → leads n c ≡ false → proposal_from n c front own ≡ Ok None
+unled_by n None front own e = refl
+unled_by n (Some c) front own e = ap (λ (b : Bool). if not b then Ok None else if not (is_covered c.first front) then Err OutOfWindow
+    else if is_proposed c front then Ok None
+    else Ok (accept_of c front (value_of (greatest_told c front n) own))) e
+
+close_unled_by : (x : Scope) (came : List Arrival) (s : Standing) (store : Store) (a b : Bool) (r : Result (Option Made) ProposeFault) → a ≡ false → r ≡ Ok None → s.store ≡ store → Halted x came store
+    → Leaves x came (if a && b then Ok (still (idle s)) else closing_by x.place r (record s { campaign = marked_from s.campaign r }))
+close_unled_by x came s store true b r e er es h = absurd (never e)
+close_unled_by x came s store false b (Err f) e er es h = absurd (cc)
+close_unled_by x came s store false b (Ok (Some made)) e er es h = absurd (cc)
+close_unled_by x came s store false b (Ok None) e er es h = subst (Halted x came) (sym es) h
+
+close_unled : (x : Scope) (came : List Arrival) (s : Standing) → leads x.place.nodes s.campaign ≡ false → Halted x came s.store → Leaves x came (closing x.place s)
+close_unled x came s e h =
+    close_unled_by x came s s.store (leads x.place.nodes s.campaign) (nat_le SLOTS (front_of s)) (proposal_at x.place s) e (unled_by x.place.nodes s.campaign (front_of s) (own_value x.place s) e) refl h
+
+-- what is left where a vote is counted: the store stays
+counted_leaves : (x : Scope) (came : List Arrival) (s : Standing) {A : Type 0} (answer : Result A SlotFault) (new : Learned) → Halted x came s.store → Leaves x came (learning x.place answer new s)
+counted_leaves x came s (Ok a) new h = h
+counted_leaves x came s (Err e) new h = tt
+
+vote_append : (i : ℕ) (has : List Message) (old : Store) (ballot : Ballot) (slot : ℕ) (command : Command) (b : Bool) → In (Accept ballot slot command) has → AtMost old.promise ballot
+    → Append i has old (if b then old else voted old slot (record { ballot = ballot; command = command }))
+vote_append i has old ballot slot command true had up = unchanged _ refl
+vote_append i has old ballot slot command false had up = moved _ _ (unchanged _ refl) (vote ballot slot command had up refl)
+
+-- the node proposes, and stops as it votes for that
+halt_proposed : (x : Scope) (came : List Arrival) (heard : Hearing) (t : Turn) (c : Campaign) (made : Made) → x.ends ≡ false → x.had ≡ (first_in x).has
+    → (p : Path x came heard (applied t.after) t) → IsMade x.place t.after c made → Halted x came (storing t.after.store made.ballot made.slot made.command)
+halt_proposed x came heard t c made q same p is = record {
+  sent = accept ∷ p.sent;
+  last = with_got (with_sent p.node (accept ∷ [])) accept;
+  chain = subst (λ (l : List Shown). Chain (dealer_in x) x.place.nodes x.place.node x.world.ever (first_in x) (record { sent = accept ∷ p.sent; shown = l; came = came }) (with_got (with_sent p.node (accept ∷ [])) accept)) (p.unshown q)
+      (more _ (with_sent p.node (accept ∷ [])) nothing _ _
+      (more _ p.node (sends accept) _ _ p.chain
+      (proposes made.ballot c.first made.slot made.command p.knows.up
+      (subst (λ (b : Ballot). In (Prepare b c.first) p.node.sent) (sym safe.ballot) camp.prepared)
+      (λ other h. x.given.once x.place.nodes p.node.sent c (front_of t.after) (own_value x.place t.after) made other camp.marks is.made_so h)
+      (ap (λ (b : Ballot). b.node) safe.ballot ∙ camp.own) (may x came heard t p c made safe) refl refl) refl)
+      (gets accept p.knows.up (inl refl) refl refl) refl);
+  up = p.knows.up;
+  same_store = p.unstored q;
+  append = subst (λ (st : Store). Append x.place.node (accept ∷ p.node.has) p.node.store (storing st made.ballot made.slot made.command)) p.knows.store
+      (vote_append x.place.node (accept ∷ p.node.has) p.node.store made.ballot made.slot made.command (is_of_ballot (p.node.store.votes made.slot) made.ballot) (inl refl)
+      (subst (AtMost p.node.store.promise) (camp.promised ∙ sym safe.ballot) (self p.node.store.promise)));
+  own = λ m h. elim h [ inl e ↦ ap sender_of e ∙ (ap (λ (b : Ballot). b.node) safe.ballot ∙ camp.own) | inr old ↦ p.carry.own m old ];
+  unvoted = λ k b l d h. unvoted_now k b l d h;
+  got = λ m h. got_now m h;
+}
+  where
+    accept : Message
+    accept = Accept made.ballot made.slot made.command
+
+    camp : Campaigns x.place.nodes x.place.node p.node c
+    camp = campaigns_of x.place.nodes x.place.node p.node t.after.campaign c is.has p.knows.proposer.is_campaign
+
+    safe : IsSafe x.place.nodes p.node.has c (front_of t.after) (own_value x.place t.after) made
+    safe = x.given.safe x.place.nodes p.node.has c (front_of t.after) (own_value x.place t.after) made camp.counts is.made_so
+
+    unvoted_now : (k : ℕ) (b : Ballot) (l : ℕ) (d : Command) → In (Accepted k b l d) (accept ∷ p.sent) → ⊥
+    unvoted_now k b l d (inl e) = cc
+    unvoted_now k b l d (inr old) = p.unvoted q k b l d old
+
+    got_now : (m : Message) → In m (accept ∷ p.node.has) → In m (first_in x).has ⊎ (In m x.messages ⊎ In m (accept ∷ p.sent))
+    got_now m (inl e) = inr (inr (inl e))
+    got_now m (inr old) = elim (got_at_most x came heard (applied t.after) t same p m old) [
+      | inl had ↦ inl had
+      | inr new ↦ elim new [ inl a ↦ inr (inl a) | inr b ↦ inr (inr (inr b)) ]
+    ]
+
+proposal_leaves : (x : Scope) (came : List Arrival) (heard : Hearing) (t : Turn) (made : Made) → x.ends ≡ false → x.had ≡ (first_in x).has
+    → (p : Path x came heard (applied t.after) t) → (found : (f : Campaign) × IsMade x.place t.after f made) → (c : Option Campaign)
+    → Leaves x came (proposing x.place made (record t.after { campaign = c }))
+proposal_leaves x came heard t made q same p found c =
+    leaves_behind x came (sending (to_others x.place (frame.Accept made.ballot made.slot made.command)) s) (voting x.place made.ballot made.slot made.command s)
+    (leaves_behind x came (sending (to_others x.place (frame.Accepted made.ballot made.slot stored)) after) (counting_vote x.place x.place.node made.ballot made.slot stored after)
+    (counted_leaves x came after (answer_to after.learned x.place.node made.ballot made.slot stored) (hearing after.learned x.place.node made.ballot made.slot stored)
+    (halt_proposed x came heard t found.0 made q same p found.1)))
+  where
+    s : Standing
+    s = record t.after { campaign = c }
+
+    stored : Command
+    stored = stored_in (t.after.store.votes made.slot) made.ballot made.command
+
+    after : Standing
+    after = with_stored s (storing t.after.store made.ballot made.slot made.command)
+
+closing_leaves : (x : Scope) (came : List Arrival) (heard : Hearing) (t : Turn) (b : Bool) (r : Result (Option Made) ProposeFault) → x.ends ≡ false → x.had ≡ (first_in x).has
+    → (p : Path x came heard (applied t.after) t) → proposal_at x.place t.after ≡ r
+    → Leaves x came (if b then Ok (still (idle t.after)) else closing_by x.place r (record t.after { campaign = marked_from t.after.campaign r }))
+closing_leaves x came heard t true r q same p e = halt_same x came heard (applied t.after) t q same p
+closing_leaves x came heard t false (Ok None) q same p e = halt_same x came heard (applied t.after) t q same p
+closing_leaves x came heard t false (Err f) q same p e = halt_same x came heard (applied t.after) t q same p
+closing_leaves x came heard t false (Ok (Some made)) q same p e =
+    proposal_leaves x came heard t made q same p (made_by x.place t.after made t.after.campaign refl e) (marked_from t.after.campaign (Ok (Some made)))
+
+close_leaves : (x : Scope) (came : List Arrival) (heard : Hearing) (t : Turn) → x.ends ≡ false → x.had ≡ (first_in x).has → Path x came heard (applied t.after) t
+    → Leaves x came (closing x.place t.after)
+close_leaves x came heard t q same p =
+    closing_leaves x came heard t (leads x.place.nodes t.after.campaign && nat_le SLOTS (front_of t.after)) (proposal_at x.place t.after) q same p refl
+
+-- a stage, and then the close
+pub then_closes : (x : Scope) (came : List Arrival) (heard : Hearing) (r : Result Turn Refusal) → x.ends ≡ false → x.had ≡ (first_in x).has → Rests x came heard r
+    → Leaves x came (and_then r (closing x.place))
+then_closes x came heard (Ok u) q same (inl p) = leaves_behind x came u (closing x.place u.after) (close_leaves x came heard u q same p)
+then_closes x came heard (Ok u) q same (inr (h, unled)) = leaves_behind x came u (closing x.place u.after) (close_unled x came u.after unled h)
+then_closes x came heard (Err e) q same rests = tt
+
+-- ---- each message
+
+prepare_rests_by : (x : Scope) (came : List Arrival) (heard : Hearing) (t : Turn) (from : ℕ) (ballot : Ballot) (slot : ℕ) (b : Bool) → x.ends ≡ false → x.had ≡ (first_in x).has
+    → is_below t.after.store.promise ballot ≡ b → (p : Path x came heard (applied t.after) t) → In (Prepare ballot slot) p.node.has → from < x.place.nodes → from ≢ x.place.node
+    → Rests x came heard (behind t (Ok (if b then promising from ballot slot t.after else refusing from ballot slot t.after)))
+prepare_rests_by x came heard t from ballot slot false q same e p had below other = inl (refuse x came heard (applied t.after) t from ballot slot p below other)
+prepare_rests_by x came heard t from ballot slot true q same e p had below other =
+    inr (
+      halt x came heard (applied t.after) t (promised t.after.store ballot) q same p
+          (subst (λ (st : Store). Append x.place.node p.node.has p.node.store (promised st ballot)) p.knows.store
+          (moved _ _ (unchanged _ refl) (promise ballot slot had (subst (λ (st : Store). Below st.promise ballot) (sym p.knows.store) (below_if t.after.store.promise ballot e)) refl))),
+      refl,
+    )
+
+learned_rests : (x : Scope) (came : List Arrival) (heard : Hearing) (u : Turn) (s : Standing) {A : Type 0} (answer : Result A SlotFault) (new : Learned) → s.campaign ≡ None → Halted x came s.store
+    → Rests x came heard (behind u (learning x.place answer new s))
+learned_rests x came heard u s (Ok a) new none h = inr (h, ap (leads x.place.nodes) none)
+learned_rests x came heard u s (Err e) new none h = tt
+
+accept_rests_by : (x : Scope) (came : List Arrival) (heard : Hearing) (t : Turn) (from : ℕ) (ballot : Ballot) (slot : ℕ) (command : Command) (b : Bool) → x.ends ≡ false → x.had ≡ (first_in x).has
+    → is_below ballot t.after.store.promise ≡ b → (p : Path x came heard (applied t.after) t) → In (Accept ballot slot command) p.node.has → from < x.place.nodes → from ≢ x.place.node
+    → Rests x came heard (behind t (if b then Ok (refusing from ballot slot t.after) else voting x.place ballot slot command (idle t.after)))
+accept_rests_by x came heard t from ballot slot command true q same e p had below other = inl (refuse x came heard (applied t.after) t from ballot slot p below other)
+accept_rests_by x came heard t from ballot slot command false q same e p had below other =
+    let stored : Command = stored_in (t.after.store.votes slot) ballot command in
+    let after : Standing = with_stored (idle t.after) (storing t.after.store ballot slot command) in
+    let u : Turn = sending (to_others x.place (frame.Accepted ballot slot stored)) after in
+    subst (Rests x came heard) (regroup t u (counting_vote x.place x.place.node ballot slot stored after))
+    (learned_rests x came heard (joined t u) after (answer_to after.learned x.place.node ballot slot stored) (hearing after.learned x.place.node ballot slot stored) refl
+    (halt x came heard (applied t.after) t (storing t.after.store ballot slot command) q same p
+    (subst (λ (st : Store). Append x.place.node p.node.has p.node.store (storing st ballot slot command)) p.knows.store
+    (vote_append x.place.node p.node.has p.node.store ballot slot command (is_of_ballot (p.node.store.votes slot) ballot) had
+    (subst (λ (st : Store). AtMost st.promise ballot) (sym p.knows.store) (at_most_if_not ballot t.after.store.promise e))))))
+
+rested : (x : Scope) (came : List Arrival) (heard : Hearing) (s : Standing) (r : Result Turn Refusal) → Rests x came heard (behind (still s) r) → Rests x came heard r
+rested x came heard s r rests = subst (Rests x came heard) (behind_still s r) rests
+
+taken_rests : (x : Scope) (s : Standing) (from : ℕ) (w : Wire) → x.ends ≡ false → x.had ≡ (first_in x).has → Runs x s
+    → x.messages ≡ carried from w → IsSent x.place x.world.ever from (carried from w)
+    → Rests x [] (hearing_of s (first_in x)) (taking x.place from w (seeing w s))
+taken_rests x s from (frame.Prepare ballot slot) q same r one sent =
+    let h : Hearing = hearing_of s (first_in x) in
+    let m : Message = Prepare ballot slot in
+    let s0 : Standing = seeing (frame.Prepare ballot slot) s in
+    let p = begin_frame x s m (ballot ∷ []) r one (sent.sent m (inl refl)) tt refl in
+    rested x [] h s0 (Ok (preparing from ballot slot s0))
+    (prepare_rests_by x [] h (still s0) from ballot slot (is_below s0.store.promise ballot) q same refl p
+    (has_in x [] h (applied s) (still s0) p m (subst (λ (l : List Message). In m l) (sym one) (inl refl))) sent.node sent.other)
+taken_rests x s from (frame.Promise ballot slot told) q same r one sent =
+    inl (begin_promise x s from ballot slot told (ballots_of (frame.Promise ballot slot told)) r one (sent.sent (Promise from ballot slot told) (inl refl)) refl)
+taken_rests x s from (frame.Refuse ballot slot promised) q same r one sent =
+    let h : Hearing = hearing_of s (first_in x) in
+    let m : Message = Refuse from ballot slot promised in
+    let s0 : Standing = seeing (frame.Refuse ballot slot promised) s in
+    let p = begin_frame x s m (ballot ∷ promised ∷ []) r one (sent.sent m (inl refl)) tt refl in
+    inl (give_up x [] h (applied s) (still s0) promised from ballot slot p (has_in x [] h (applied s) (still s0) p m (subst (λ (l : List Message). In m l) (sym one) (inl refl))))
+taken_rests x s from (frame.Accept ballot slot command) q same r one sent =
+    let h : Hearing = hearing_of s (first_in x) in
+    let m : Message = Accept ballot slot command in
+    let s0 : Standing = seeing (frame.Accept ballot slot command) s in
+    let p = begin_frame x s m (ballot ∷ []) r one (sent.sent m (inl refl)) tt refl in
+    rested x [] h s0 (accepting x.place from ballot slot command s0)
+    (accept_rests_by x [] h (still s0) from ballot slot command (is_below ballot s0.store.promise) q same refl p
+    (has_in x [] h (applied s) (still s0) p m (subst (λ (l : List Message). In m l) (sym one) (inl refl))) sent.node sent.other)
+taken_rests x s from (frame.Accepted ballot slot command) q same r one sent =
+    let h : Hearing = hearing_of s (first_in x) in
+    let m : Message = Accepted from ballot slot command in
+    let s0 : Standing = seeing (frame.Accepted ballot slot command) s in
+    let p = begin_frame x s m (ballot ∷ []) r one (sent.sent m (inl refl)) tt refl in
+    rested x [] h s0 (counting_vote x.place from ballot slot command s0)
+    (rests_of x [] h (behind (still s0) (counting_vote x.place from ballot slot command s0))
+    (count x [] h (still s0) from ballot slot command p (has_in x [] h (applied s) (still s0) p m (subst (λ (l : List Message). In m l) (sym one) (inl refl))) sent.node))
+taken_rests x s from (frame.Chosen slot command) q same r one sent = rests_of x [] (hearing_of s (first_in x)) (taking x.place from (frame.Chosen slot command) (seeing (frame.Chosen slot command) s)) (chosen_goes x s from slot command r one sent)
+taken_rests x s from (frame.Ask slot) q same r one sent =
+    let h : Hearing = hearing_of s (first_in x) in
+    let m : Message = Ask from slot in
+    let s0 : Standing = seeing (frame.Ask slot) s in
+    let p = begin_frame x s m [] r one (sent.sent m (inl refl)) tt refl in
+    rested x [] h s0 (Ok (telling from slot s0)) (inl (tell_known x [] h (still s0) from slot p sent.node sent.other))
+taken_rests x s from (frame.Forward act) q same r one sent =
+    let h : Hearing = hearing_of s (first_in x) in
+    let m : Message = Forward from act in
+    let s0 : Standing = seeing (frame.Forward act) s in
+    let p = begin_frame x s m [] r one (sent.sent m (inl refl)) tt refl in
+    inl (hand_on x [] h (still s0) p from act (has_in x [] h (applied s) (still s0) p m (subst (λ (l : List Message). In m l) (sym one) (inl refl))))
+
+-- asking stores nothing
+above_by : (x : Scope) (came : List Arrival) (from slot : ℕ) (s : Standing) (b : Bool) → Halted x came s.store
+    → Halted x came (if b then sending (one from (frame.Ask slot)) s else still s).after.store
+above_by x came from slot s true h = h
+above_by x came from slot s false h = h
+
+above_leaves : (x : Scope) (came : List Arrival) (from slot : ℕ) (s : Standing) → Halted x came s.store → Halted x came (asking_above from slot s).after.store
+above_leaves x came from slot s h = above_by x came from (front_of s) s (nat_lt (front_of s) slot) h
+
+asked_leaves : (x : Scope) (came : List Arrival) (from : ℕ) (w : Wire) (s : Standing) → Halted x came s.store → Halted x came (asking from w s).after.store
+asked_leaves x came from (frame.Prepare ballot slot) s h = above_leaves x came from slot s h
+asked_leaves x came from (frame.Promise ballot slot told) s h = h
+asked_leaves x came from (frame.Refuse ballot slot promised) s h = h
+asked_leaves x came from (frame.Accept ballot slot command) s h = above_leaves x came from slot s h
+asked_leaves x came from (frame.Accepted ballot slot command) s h = above_leaves x came from slot s h
+asked_leaves x came from (frame.Chosen slot command) s h = h
+asked_leaves x came from (frame.Ask slot) s h = h
+asked_leaves x came from (frame.Forward act) s h = h
+
+then_asks : (x : Scope) (came : List Arrival) (from : ℕ) (w : Wire) (r : Result Turn Refusal) → Leaves x came r → Leaves x came (and_then r (λ closed. Ok (asking from w closed)))
+then_asks x came from w (Ok u) h = asked_leaves x came from w u.after h
+then_asks x came from w (Err e) h = tt
+
+-- a frame that stops in its append
+pub frame_leaves : (x : Scope) (s : Standing) (from : ℕ) (read : Result Wire FrameFault) → x.ends ≡ false → x.had ≡ (first_in x).has → Runs x s
+    → x.messages ≡ said_in from read → IsSent x.place x.world.ever from (said_in from read)
+    → Leaves x [] (on_read x.place from read s)
+frame_leaves x s from (Err fault) q same r one sent = tt
+frame_leaves x s from (Ok w) q same r one sent =
+    then_asks x [] from w (and_then (taking x.place from w (seeing w s)) (closing x.place))
+    (then_closes x [] (hearing_of s (first_in x)) (taking x.place from w (seeing w s)) q same (taken_rests x s from w q same r one sent))
+
+-- ---- a tick
+
+none_step : (b : Bool) (n : ℕ) → (b ≡ true → ⊥) → n ≡ 0 → (if b then 1 + n else n) ≡ 0
+none_step true n not_so e = absurd (not_so refl)
+none_step false n not_so e = e
+
+none_counted : (chosen : ℕ → Bool) (n : ℕ) → ((k : ℕ) → k < n → chosen k ≡ true → ⊥) → count_in chosen n ≡ 0
+none_counted chosen zero none = refl
+none_counted chosen (suc n) none = none_step (chosen n) (count_in chosen n) (none n (omega arith)) (none_counted chosen n (λ k l is. none k (omega arith) is))
+
+one_step : (b : Bool) (n : ℕ) → (b ≡ true → n ≡ 0) → n ≤ 1 → (if b then 1 + n else n) ≤ 1
+one_step true n zero_then l = let e = zero_then refl in omega (arith, e)
+one_step false n zero_then l = l
+
+one_counted : (chosen : ℕ → Bool) (i n : ℕ) → ((k : ℕ) → chosen k ≡ true → k ≡ i) → count_in chosen n ≤ 1
+one_counted chosen i zero single = omega arith
+one_counted chosen i (suc n) single = one_step (chosen n) (count_in chosen n)
+    (λ e. none_counted chosen n (λ k l is. let a = single k is in let b = single n e in absurd (omega (arith, a, b)))) (one_counted chosen i n single)
+
+none_at : (m k : ℕ) → get_or (replicate m (let none : Option (List Entry) = None in none)) k None ≡ None
+none_at zero k = refl
+none_at (suc m) zero = refl
+none_at (suc m) (suc k) = none_at m k
+
+counted_at : (i : ℕ) (told : List Entry) (k : ℕ) → is_some (get_or (set (replicate NODES None) i (Some told)) k None) ≡ true → k ≡ i
+counted_at i told k e = by_case (eqb_tells k i)
+  where
+    by_case : ((k == i) ≡ true) × (k ≡ i) ⊎ ((k == i) ≡ false) × (k ≢ i) → k ≡ i
+    by_case (inl same) = same.1
+    by_case (inr other) =
+        let none : get_or (set (replicate NODES None) i (Some told)) k None ≡ None = get_or-set_other (replicate NODES None) i k (Some told) None other.1 ∙ none_at NODES k in
+        let clash : false ≡ true = sym (ap is_some none) ∙ e in absurd (cc)
+
+alone_by : (i : ℕ) (ballot : Ballot) (first : ℕ) (told : List Entry) (b : Bool) (k : ℕ)
+    → has_promised (if b then record (new_campaign ballot first) { promises = set (replicate NODES None) i (Some told) } else new_campaign ballot first) k ≡ true → k ≡ i
+alone_by i ballot first told true k e = counted_at i told k e
+alone_by i ballot first told false k e = let clash : false ≡ true = sym (ap is_some (none_at NODES k)) ∙ e in absurd (cc)
+
+three_nodes : (n : ℕ) → HasNodes n → 3 ≤ n
+three_nodes n (inl e) = omega (arith, e)
+three_nodes n (inr e) = omega (arith, e)
+
+-- one node's promise is no quorum
+alone_leads_not : (n i : ℕ) (ballot : Ballot) (first : ℕ) (told : List Entry) → HasNodes n → leads n (Some (with_promise n (new_campaign ballot first) i ballot first told)) ≡ false
+alone_leads_not n i ballot first told few =
+    le-ltb n (2 * count_in (has_promised (with_promise n (new_campaign ballot first) i ballot first told)) n)
+    (let h = one_counted (has_promised (with_promise n (new_campaign ballot first) i ballot first told)) i n
+    (λ k e. alone_by i ballot first told (is_counted n (new_campaign ballot first) i ballot first) k e) in
+    let m = three_nodes n few in omega arith)
+
+tick_rests_by : (x : Scope) (s : Standing) (over spent : Bool) → x.ends ≡ false → x.had ≡ (first_in x).has → Runs x s → x.messages ≡ []
+    → Rests x [] (hearing_of s (first_in x)) (if over then Ok (still s) else if spent then Err Spent else Ok (beginning x.place (next_ballot x.place.node (greatest_seen s)) s))
+tick_rests_by x s true spent q same r quiet = inl (begin x s r quiet)
+tick_rests_by x s false true q same r quiet = tt
+tick_rests_by x s false false q same r quiet =
+    let p = begin x s r quiet in
+    let ballot : Ballot = next_ballot x.place.node (greatest_seen s) in
+    inr (
+      halt x [] (hearing_of s (first_in x)) (applied s) (still s) (promised s.store ballot) q same p
+          (subst (λ (st : Store). Append x.place.node p.node.has p.node.store (promised st ballot)) p.knows.store
+          (moved _ _ (unchanged _ refl) (own_promise ballot refl
+          (subst (λ (st : Store). Below st.promise ballot) (sym p.knows.store) (above s.store.promise (higher s.seen s.store.promise) x.place.node (higher_is s.seen s.store.promise).1)) refl))),
+      alone_leads_not x.place.nodes x.place.node ballot (front_of s) (told_by s.store (front_of s)) x.is_place.few,
+    )
+
+-- a tick that stops in its append
+pub tick_leaves : (x : Scope) (s : Standing) → x.ends ≡ false → x.had ≡ (first_in x).has → Runs x s → x.messages ≡ [] → Leaves x [] (and_then (ticking x.place s) (closing x.place))
+tick_leaves x s q same r quiet =
+    then_closes x [] (hearing_of s (first_in x)) (ticking x.place s) q same (tick_rests_by x s (is_over x.place s) (is_spent s) q same r quiet)

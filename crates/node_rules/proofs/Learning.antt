@@ -1,0 +1,403 @@
+-- What is counted and known, on the path of a call.
+use Rattle.std.proofs.Common.{◌≡◌, ℕ, ◌<◌, ◌≤◌, ◌+◌, ◌⊎◌, inl, inr, Bool, true, false, not, if◌then◌else◌, ◌==◌, List, [], ◌∷◌, ◌++◌, Option, Some, None, Result, Ok, Err, refl, sym, ap, subst, ◌∙◌, arith, length}
+use Rattle.std.specs.Prelude.{nat_lt, is_none, IsOk}
+use Rattle.std.proofs.lemmas.Bool.{ltb-true, ltb-false, eqb-true, eqb-false}
+use Rattle.std.proofs.lemmas.List.{append-nil, length-append}
+use Rattle.paxos_wire.specs.declared.limits.TheConstants.{WINDOW}
+use Rattle.paxos_wire.specs.declared.ballot.Ballot.{Ballot}
+use Rattle.slot_log.specs.declared.limits.TheConstants.{SLOTS}
+use Rattle.slot_log.specs.declared.slot_fault.SlotFault.{SlotFault}
+use Rattle.slot_log.specs.declared.slot_fault.SlotFault.TheVariants.{Conflict as KnownOther}
+use Rattle.slot_log.specs.Slots.{Log, IsLog, front, known_at, with_command}
+use Rattle.slot_log.specs.declared.command.Command.{Command}
+use Rattle.protocol_model.specs.Sets.{In}
+use Rattle.protocol_model.specs.Messages.{Message, Accepted, Chosen}
+use Rattle.protocol_model.specs.Quorums.{IsChosen, IsChosenIn}
+use Rattle.protocol_model.specs.Dealers.{Dealer}
+use Rattle.protocol_model.specs.Nodes.{Node, Knows as KnowsCommands}
+use Rattle.protocol_model.specs.Arrivals.{Arrival}
+use Rattle.protocol_model.specs.Moves.{Chain, nothing, more, learns, believes}
+use Rattle.protocol_model.specs.Worlds.{World, Reached, IsAfter, new_world}
+use Rattle.proposer.specs.declared.campaign.Campaign.{Campaign}
+use Rattle.learner.specs.declared.chosen.Chosen.{Chosen as Learnt}
+use Rattle.learner.specs.Same.{is_same}
+use Rattle.learner.specs.Learning.{Learned, is_open, is_other, known_with, knowing, counting, completes, answer_to, hearing, answer_to_chosen, believing as with_chosen}
+use Rattle.learner.specs.Counted.{IsOpen, CountsFrom, CountsAll, KnowsChosen}
+use Rattle.node_rules.specs.Standings.{applied, front_of}
+use Rattle.node_rules.specs.Sending.{Frame}
+use Rattle.node_rules.specs.Showing.{Piece}
+use Rattle.node_rules.specs.Called.{Carry, CarryAll, AreShown, log_after}
+use Rattle.node_rules.specs.Turns.{Turn, joined, behind}
+use Rattle.node_rules.specs.Applying.{scene_of, applying}
+use Rattle.node_rules.specs.Learning.{learning, counting_vote}
+use Rattle.node_rules.specs.Being.{IsCampaign, IsProposer, IsLearner, IsPending}
+use Rattle.node_rules.specs.Given.{Given}
+use Rattle.node_rules.proofs.Keeping.{commands_more}
+use Rattle.node_rules.proofs.Paths.{Hearing, Scope, dealer_in, first_in, Path, Goes}
+use Rattle.node_rules.proofs.Settling.{settle, at_scene}
+
+-- ---- tests
+
+open_by : (log : Log) (slot : ℕ) (a b c : Bool) → nat_lt slot (front log) ≡ a → nat_lt slot (front log + WINDOW) ≡ b → nat_lt slot SLOTS ≡ c
+    → (if a then false else if b then c else false) ≡ true → IsOpen log slot
+open_by log slot true b c ea eb ec h = absurd (cc)
+open_by log slot false false c ea eb ec h = absurd (cc)
+open_by log slot false true c ea eb ec h = record {
+  reached = ltb-false slot (front log) ea;
+  within = ltb-true slot (front log + WINDOW) eb;
+  is_slot = ltb-true slot SLOTS (ec ∙ h);
+}
+
+open_if : (log : Log) (slot : ℕ) → is_open log slot ≡ true → IsOpen log slot
+open_if log slot h = open_by log slot _ _ _ refl refl refl h
+
+-- ---- no other command is known where one was chosen
+
+world_now : (x : Scope) (came : List Arrival) (heard : Hearing) (upto : List Command) (t : Turn) (p : Path x came heard upto t)
+    → (later : World) × Reached (dealer_in x) x.place.nodes later × IsAfter x.world x.place.node (record { sent = p.sent; shown = p.shown; came = came }) p.node later
+world_now x came heard upto t p =
+    x.given.reach (dealer_in x) x.place.nodes x.place.node new_world x.world (record { sent = p.sent; shown = p.shown; came = came }) p.node
+    x.reached x.is_place.node p.chain
+
+same_if : (g : Given) (a b : Command) → a ≡ b → not (is_same a b) ≡ false
+same_if g a b e = ap not ((g.same a b).1 e)
+
+not_other : (g : Given) (known : Option Command) (command : Command) → ((other : Command) → known ≡ Some other → other ≡ command) → is_other known command ≡ false
+not_other g None command h = refl
+not_other g (Some other) command h = same_if g other command (h other refl)
+
+no_conflict : (x : Scope) (came : List Arrival) (heard : Hearing) (upto : List Command) (t : Turn) (p : Path x came heard upto t) (slot : ℕ) (command : Command)
+    → IsChosen x.place.nodes p.node.has slot command ⊎ ((sender : ℕ) × In (Chosen sender slot command) (p.sent ++ x.world.ever))
+    → is_other (known_at t.after.learned.log slot) command ≡ false
+no_conflict x came heard upto t p slot command source = not_other x.given (known_at t.after.learned.log slot) command one
+  where
+    now : (later : World) × Reached (dealer_in x) x.place.nodes later × IsAfter x.world x.place.node (record { sent = p.sent; shown = p.shown; came = came }) p.node later
+    now = world_now x came heard upto t p
+
+    chosen : IsChosen x.place.nodes now.0.ever slot command
+    chosen = elim source [
+      | inl had ↦ x.given.answered (dealer_in x) x.place.nodes x.place.node now.0 slot command now.1
+          (subst (λ (y : Node). IsChosen x.place.nodes y.has slot command) (sym now.2.moved) had)
+      | inr told ↦ x.given.told (dealer_in x) x.place.nodes told.0 now.0 slot command now.1
+          (subst (λ (l : List Message). In (Chosen told.0 slot command) l) (sym now.2.ever) told.1)
+    ]
+
+    one : (other : Command) → known_at t.after.learned.log slot ≡ Some other → other ≡ command
+    one other e = x.given.one_choice (dealer_in x) x.place.nodes now.0 slot other command now.1
+        (x.given.known (dealer_in x) x.place.nodes x.place.node now.0 slot other now.1
+        (subst (λ (y : Node). In (slot, other) y.known) (sym now.2.moved) (p.knows.learner.knows slot other e))) chosen
+
+-- ---- one more command is known
+
+known_split : (slot k : ℕ) (c d : Command) (b : Bool) (old : Option Command) → (k == slot) ≡ b → (if b then Some c else old) ≡ Some d → ((k ≡ slot) × (c ≡ d)) ⊎ (old ≡ Some d)
+known_split slot k c d true old e h = inl (eqb-true k slot e, (let s : c ≡ d = cc in s))
+known_split slot k c d false old e h = inr h
+
+known_new : (slot k : ℕ) (c d : Command) (b : Bool) (old : Option Command) → (k == slot) ≡ b → k ≡ slot → c ≡ d → (if b then Some c else old) ≡ Some d
+known_new slot k c d true old e same is = ap (λ a. Some a) is
+known_new slot k c d false old e same is = absurd (eqb-false k slot e same)
+
+known_old : (log : Log) (slot k : ℕ) (c d : Command) (b : Bool) → (k == slot) ≡ b → known_at log slot ≡ None → known_at log k ≡ Some d → (if b then Some c else known_at log k) ≡ Some d
+known_old log slot k c d true e none h =
+    let clash : ◌≡◌ {A = Option Command} None (Some d) = sym none ∙ (ap (known_at log) (sym (eqb-true k slot e)) ∙ h) in absurd (cc)
+known_old log slot k c d false e none h = h
+
+pair_is : (s t : ℕ) (c d : Command) → ◌≡◌ {A = ℕ × Command} (s, c) (t, d) → (s ≡ t) × (c ≡ d)
+pair_is s t c d e = (ap (λ (p : ℕ × Command). p.0) e, ap (λ (p : ℕ × Command). p.1) e)
+
+-- ---- the node learns
+
+abbrev with_known : Node → List (ℕ × Command) → Node
+with_known node known = record node { known = known }
+
+known_campaign : (n i : ℕ) (node : Node) (known : List (ℕ × Command)) (c : Option Campaign) → IsCampaign n i node c → IsCampaign n i (with_known node known) c
+known_campaign n i node known None h = tt
+known_campaign n i node known (Some c) h = record {
+  own = h.own;
+  promised = h.promised;
+  prepared = h.prepared;
+  counts = h.counts;
+  counts_all = h.counts_all;
+  marks = h.marks;
+  votes = h.votes;
+}
+
+known_proposer : (n i : ℕ) (node : Node) (known : List (ℕ × Command)) (at further : ℕ) (c : Option Campaign) → at ≤ further → IsProposer n i node at c
+    → IsProposer n i (with_known node known) further c
+known_proposer n i node known at further c low p = record {
+  is_campaign = known_campaign n i node known c p.is_campaign;
+  began = λ b f h. let old = p.began b f h in (old.0, old.1, (let l = old.2 in omega arith));
+  proposed = p.proposed;
+  stands = λ b f st near left. p.stands b f (record { began = st.began; promised = st.promised; unrefused = st.unrefused }) (omega arith) (omega arith);
+}
+
+known_pending : (d : Dealer) (i : ℕ) (node : Node) (known : List (ℕ × Command)) (upto : List Command) (c : Option Command) → IsPending d i node upto c
+    → IsPending d i (with_known node known) upto c
+known_pending d i node known upto None h = tt
+known_pending d i node known upto (Some c) h = h
+
+-- a learner with one command more, or the same
+abbrev Knew : Log → Log → List (ℕ × Command) → List (ℕ × Command) → ℕ → Command → Type 0
+Knew old new before known slot command = ((new ≡ old) × (known ≡ before)) ⊎ ((new ≡ with_command old slot command) × (known_at old slot ≡ None) × (known ≡ (slot, command) ∷ before))
+
+later_by : (g : Given) (old new : Log) (before known : List (ℕ × Command)) (slot : ℕ) (command : Command) → Knew old new before known slot command
+    → (later : List Command) × (new.below ≡ later ++ old.below)
+later_by g old new before known slot command (inl same) = ([], ap (λ (l : Log). l.below) same.0)
+later_by g old new before known slot command (inr one) =
+    let on = g.goes_on old slot command in (on.0, ap (λ (l : Log). l.below) one.0 ∙ on.1)
+
+-- the path goes on with what was learned, of which nothing was applied yet
+learned : (x : Scope) (came : List Arrival) (heard : Hearing) (t : Turn) (p : Path x came heard (applied t.after) t) (new : Learned) (known : List (ℕ × Command))
+    → (later : List Command) → new.log.below ≡ later ++ applied t.after
+    → IsLearner x.place.nodes p.node.has known new
+    → Chain (dealer_in x) x.place.nodes x.place.node x.world.ever (first_in x) (record { sent = p.sent; shown = p.shown; came = came }) (with_known p.node known)
+    → ((commands : List Command) → KnowsCommands p.node.known commands → KnowsCommands known commands)
+    → Path x came heard (applied t.after) (at_scene t new (scene_of t.after))
+learned x came heard t p new known later e learner chain wider =
+    record {
+      sent = p.sent;
+      shown = p.shown;
+      got = p.got;
+      node = with_known p.node known;
+      chain = chain;
+      knows = record {
+        up = p.knows.up;
+        store = p.knows.store;
+        within = p.knows.within;
+        proposer = known_proposer x.place.nodes x.place.node p.node known (front_of t.after) (front new.log) t.after.campaign
+            (let h = ap length e ∙ length-append later (applied t.after) in omega (arith, h)) p.knows.proposer;
+        learner = learner;
+        pending = known_pending (dealer_in x) x.place.node p.node known (applied t.after) t.after.pending p.knows.pending;
+        places = p.knows.places;
+        shown = p.knows.shown;
+        seen = p.knows.seen;
+      };
+      commands = wider (applied t.after) p.commands;
+      hears = p.hears;
+      talks = p.talks;
+      runs = p.runs;
+      begun = p.begun;
+      unbegun = p.unbegun;
+      starts = p.starts;
+      has = p.has;
+      carry = subst (λ (l : List Frame). Carry x.place.nodes x.place.node l p.sent) (sym (append-nil t.frames)) p.carry;
+      all = subst (λ (l : List Frame). CarryAll x.place.nodes x.place.node l p.sent) (sym (append-nil t.frames)) p.all;
+      pieces = λ ends. subst (λ (l : List Piece). AreShown x.place.node x.start x.log l p.shown) (sym (append-nil t.shown)) (p.pieces ends);
+      logged = λ ends. ap (log_after x.log) (append-nil t.shown) ∙ p.logged ends;
+      unshown = p.unshown;
+      unvoted = p.unvoted;
+      unstored = p.unstored;
+      got_only = p.got_only;
+      got_all = p.got_all;
+    }
+
+-- the learner's part, where its log goes on or stays
+learner_by : (g : Given) (n : ℕ) (has : List Message) (known wider : List (ℕ × Command)) (slot : ℕ) (command : Command) (old new : Learned) (in_time : List Message)
+    → IsLearner n has known old → Knew old.log new.log known wider slot command → slot < SLOTS → new.nodes ≡ old.nodes
+    → ((m : Message) → In m in_time → In m has) → CountsFrom in_time new → CountsAll in_time new → KnowsChosen in_time new
+    → IsLearner n has wider new
+learner_by g n has known wider slot command old new in_time l (inl same) is_slot nodes came counts all chosen = record {
+  nodes = nodes ∙ l.nodes;
+  log = subst IsLog (sym same.0) l.log;
+  knows = λ k c e. subst (λ (y : List (ℕ × Command)). In (k, c) y) (sym same.1) (l.knows k c (ap (λ (y : Log). known_at y k) (sym same.0) ∙ e));
+  only = λ k c h. ap (λ (y : Log). known_at y k) same.0 ∙ l.only k c (subst (λ (y : List (ℕ × Command)). In (k, c) y) same.1 h);
+  in_time = in_time;
+  came = came;
+  counts = counts;
+  counts_all = all;
+  knows_chosen = chosen;
+}
+learner_by g n has known wider slot command old new in_time l (inr one) is_slot nodes came counts all chosen = record {
+  nodes = nodes ∙ l.nodes;
+  log = subst IsLog (sym one.0) law.0;
+  knows = λ k c e. subst (λ (y : List (ℕ × Command)). In (k, c) y) (sym one.2) (knows k c (known_split slot k command c (k == slot) (known_at old.log k) refl (sym (law.1 k) ∙ (ap (λ (y : Log). known_at y k) (sym one.0) ∙ e))));
+  only = λ k c h. ap (λ (y : Log). known_at y k) one.0 ∙ (law.1 k ∙ only k c (subst (λ (y : List (ℕ × Command)). In (k, c) y) one.2 h));
+  in_time = in_time;
+  came = came;
+  counts = counts;
+  counts_all = all;
+  knows_chosen = chosen;
+}
+  where
+    law : IsLog (with_command old.log slot command) × ((other : ℕ) → known_at (with_command old.log slot command) other ≡ (if other == slot then Some command else known_at old.log other))
+    law = g.one_more old.log slot command l.log is_slot one.1
+
+    knows : (k : ℕ) (c : Command) → ((k ≡ slot) × (command ≡ c)) ⊎ (known_at old.log k ≡ Some c) → In (k, c) ((slot, command) ∷ known)
+    knows k c (inl new_one) = inl (λ i. (new_one.0 i, sym new_one.1 i))
+    knows k c (inr before) = inr (l.knows k c before)
+
+    only : (k : ℕ) (c : Command) → In (k, c) ((slot, command) ∷ known) → (if k == slot then Some command else known_at old.log k) ≡ Some c
+    only k c (inl e) = let s = pair_is k slot c command e in known_new slot k command c (k == slot) (known_at old.log k) refl s.0 (sym s.1)
+    only k c (inr before) = known_old old.log slot k command c (k == slot) refl one.1 (l.only k c before)
+
+-- ---- a command becomes known, or was known
+
+known_with_by : (log : Log) (slot : ℕ) (command : Command) (held : Option Command) → known_at log slot ≡ held → (known : List (ℕ × Command))
+    → (more : List (ℕ × Command)) × Knew log (if is_none held then with_command log slot command else log) known more slot command
+known_with_by log slot command None e known = ((slot, command) ∷ known, inr (refl, e, refl))
+known_with_by log slot command (Some other) e known = (known, inl (refl, refl))
+
+-- what shows that it was chosen
+abbrev Shows : Scope → List Message → Node → ℕ → Command → Type 0
+Shows x sent node slot command = IsChosen x.place.nodes node.has slot command ⊎ ((sender : ℕ) × In (Chosen sender slot command) node.has)
+
+inform_by : (x : Scope) (came : List Arrival) (heard : Hearing) (upto : List Command) (t : Turn) (p : Path x came heard upto t) (log : Log) (slot : ℕ) (command : Command) (held : Option Command)
+    → known_at log slot ≡ held → Shows x p.sent p.node slot command
+    → (known : List (ℕ × Command)) × Knew log (if is_none held then with_command log slot command else log) p.node.known known slot command
+    × Chain (dealer_in x) x.place.nodes x.place.node x.world.ever (first_in x) (record { sent = p.sent; shown = p.shown; came = came }) (with_known p.node known)
+    × ((commands : List Command) → KnowsCommands p.node.known commands → KnowsCommands known commands)
+inform_by x came heard upto t p log slot command (Some other) e source = (p.node.known, inl (refl, refl), p.chain, λ cs h. h)
+inform_by x came heard upto t p log slot command None e (inl chosen) = (
+  (slot, command) ∷ p.node.known,
+  inr (refl, e, refl),
+  more _ p.node nothing _ _ p.chain (learns slot command p.knows.up chosen refl refl) refl,
+  λ cs h. commands_more p.node.known (slot, command) cs h,
+)
+inform_by x came heard upto t p log slot command None e (inr told) = (
+  (slot, command) ∷ p.node.known,
+  inr (refl, e, refl),
+  more _ p.node nothing _ _ p.chain (believes told.0 slot command p.knows.up told.1 refl refl) refl,
+  λ cs h. commands_more p.node.known (slot, command) cs h,
+)
+
+-- ---- the path of what is learned
+
+-- where what is known is this, with these votes that came in time, it is applied
+apply_known : (x : Scope) (came : List Arrival) (heard : Hearing) (t : Turn) (p : Path x came heard (applied t.after) t) (new : Learned) (slot : ℕ) (command : Command) (in_time : List Message)
+    → new.log ≡ known_with t.after.learned.log slot command → slot < SLOTS → new.nodes ≡ t.after.learned.nodes → Shows x p.sent p.node slot command
+    → ((m : Message) → In m in_time → In m p.node.has) → CountsFrom in_time new → CountsAll in_time new → KnowsChosen in_time new
+    → Path x came heard new.log.below (joined t (applying x.place new t.after))
+apply_known x came heard t p new slot command in_time e is_slot nodes source cames counts all chosen =
+    let told = inform_by x came heard (applied t.after) t p t.after.learned.log slot command (known_at t.after.learned.log slot) refl source in
+    let knew : Knew t.after.learned.log new.log p.node.known told.0 slot command = subst (λ (l : Log). Knew t.after.learned.log l p.node.known told.0 slot command) (sym e) told.1 in
+    let on = later_by x.given t.after.learned.log new.log p.node.known told.0 slot command knew in
+    settle x came heard t new on.0 on.1
+    (learned x came heard t p new told.0 on.0 on.1
+    (learner_by x.given x.place.nodes p.node.has p.node.known told.0 slot command t.after.learned new in_time p.knows.learner knew is_slot nodes cames counts all chosen)
+    told.2 told.3)
+
+-- where the log stays
+apply_same : (x : Scope) (came : List Arrival) (heard : Hearing) (t : Turn) (p : Path x came heard (applied t.after) t) (new : Learned) (in_time : List Message)
+    → new.log ≡ t.after.learned.log → new.nodes ≡ t.after.learned.nodes
+    → ((m : Message) → In m in_time → In m p.node.has) → CountsFrom in_time new → CountsAll in_time new → KnowsChosen in_time new
+    → Path x came heard new.log.below (joined t (applying x.place new t.after))
+apply_same x came heard t p new in_time e nodes cames counts all chosen =
+    settle x came heard t new [] (ap (λ (l : Log). l.below) e)
+    (learned x came heard t p new p.node.known [] (ap (λ (l : Log). l.below) e)
+    (record {
+      nodes = nodes ∙ p.knows.learner.nodes;
+      log = subst IsLog (sym e) p.knows.learner.log;
+      knows = λ k c h. p.knows.learner.knows k c (ap (λ (y : Log). known_at y k) (sym e) ∙ h);
+      only = λ k c h. ap (λ (y : Log). known_at y k) e ∙ p.knows.learner.only k c h;
+      in_time = in_time;
+      came = cames;
+      counts = counts;
+      counts_all = all;
+      knows_chosen = chosen;
+    })
+    p.chain (λ cs h. h))
+
+-- ---- a node's vote is counted
+
+-- chosen by these messages, it is by those among which they are
+chosen_more : (n m : ℕ) (messages has : List Message) (ballot : Ballot) (slot : ℕ) (command : Command) → n ≡ m → ((o : Message) → In o messages → In o has)
+    → IsChosenIn n messages ballot slot command → IsChosenIn m has ballot slot command
+chosen_more n m messages has ballot slot command same inside h =
+    subst (λ (k : ℕ). IsChosenIn k has ballot slot command) same (h.0, h.1, λ node below is. inside (Accepted node ballot slot command) (h.2 node below is))
+
+in_time_had : (in_time has : List Message) (m : Message) → In m has → ((o : Message) → In o in_time → In o has) → (o : Message) → In o (m ∷ in_time) → In o has
+in_time_had in_time has m h came o (inl e) = subst (λ (k : Message). In k has) (sym e) h
+in_time_had in_time has m h came o (inr i) = came o i
+
+count_by : (x : Scope) (came : List Arrival) (heard : Hearing) (t : Turn) (from : ℕ) (ballot : Ballot) (slot : ℕ) (command : Command) (ahead done other : Bool)
+    (p : Path x came heard (applied t.after) t) → In (Accepted from ballot slot command) p.node.has → from < x.place.nodes
+    → is_open t.after.learned.log slot ≡ ahead → completes t.after.learned from ballot slot command ≡ done → is_other (known_at t.after.learned.log slot) command ≡ other
+    → (answer : Result (Option Learnt) SlotFault) → answer_to t.after.learned from ballot slot command ≡ answer
+    → answer ≡ (if not ahead then Ok None else if not done then Ok None else if other then Err KnownOther else Ok (Some (record { slot = slot; command = command })))
+    → (new : Learned) → hearing t.after.learned from ballot slot command ≡ new
+    → new ≡ (if not ahead then t.after.learned else if not done then counting t.after.learned from ballot slot command else if other then t.after.learned
+    else knowing (counting t.after.learned from ballot slot command) slot command)
+    → Goes x came heard (behind t (learning x.place answer new t.after))
+count_by x came heard t from ballot slot command false done other p had below eo ed er (Err f) ea answers new en is = absurd (cc)
+count_by x came heard t from ballot slot command false done other p had below eo ed er (Ok a) ea answers new en is =
+    let l = p.knows.learner in
+    let same : t.after.learned ≡ new = sym is in
+    apply_same x came heard t p new l.in_time (ap (λ (y : Learned). y.log) is) (ap (λ (y : Learned). y.nodes) is) l.came
+    (subst (CountsFrom l.in_time) same l.counts) (subst (CountsAll l.in_time) same l.counts_all) (subst (KnowsChosen l.in_time) same l.knows_chosen)
+count_by x came heard t from ballot slot command true false other p had below eo ed er (Err f) ea answers new en is = absurd (cc)
+count_by x came heard t from ballot slot command true false other p had below eo ed er (Ok a) ea answers new en is =
+    let l = p.knows.learner in
+    let g = x.given in
+    let at : IsOpen t.after.learned.log slot = open_if t.after.learned.log slot eo in
+    let ok : IsOk (answer_to t.after.learned from ballot slot command) = subst IsOk (sym ea) refl in
+    let low : from < t.after.learned.nodes = subst (λ (k : ℕ). from < k) (sym l.nodes) below in
+    let m : Message = Accepted from ballot slot command in
+    apply_same x came heard t p new (m ∷ l.in_time) (ap (λ (y : Learned). y.log) is) (ap (λ (y : Learned). y.nodes) is) (in_time_had l.in_time p.node.has m had l.came)
+    (subst (CountsFrom (m ∷ l.in_time)) en (g.answer_counts (m ∷ l.in_time) t.after.learned from ballot slot command (inl refl) (g.more l.in_time t.after.learned m l.counts)))
+    (subst (CountsAll (m ∷ l.in_time)) en (g.answer_counts_all l.in_time t.after.learned from ballot slot command low at ok l.counts_all))
+    (subst (KnowsChosen (m ∷ l.in_time)) en (g.answers_known l.in_time t.after.learned from ballot slot command l.log at low ok l.counts l.counts_all l.knows_chosen))
+count_by x came heard t from ballot slot command true true true p had below eo ed er answer ea answers new en is =
+    let l = p.knows.learner in
+    let m : Message = Accepted from ballot slot command in
+    let chosen : IsChosenIn x.place.nodes p.node.has ballot slot command =
+    chosen_more t.after.learned.nodes x.place.nodes (m ∷ l.in_time) p.node.has ballot slot command l.nodes (in_time_had l.in_time p.node.has m had l.came)
+    (x.given.completed (m ∷ l.in_time) t.after.learned from ballot slot command (x.given.more l.in_time t.after.learned m l.counts) (inl refl) (open_if t.after.learned.log slot eo) ed) in
+    let clash : true ≡ false = sym er ∙ no_conflict x came heard (applied t.after) t p slot command (inl (ballot, chosen)) in absurd (cc)
+count_by x came heard t from ballot slot command true true false p had below eo ed er (Err f) ea answers new en is = absurd (cc)
+count_by x came heard t from ballot slot command true true false p had below eo ed er (Ok a) ea answers new en is =
+    let l = p.knows.learner in
+    let g = x.given in
+    let at : IsOpen t.after.learned.log slot = open_if t.after.learned.log slot eo in
+    let ok : IsOk (answer_to t.after.learned from ballot slot command) = subst IsOk (sym ea) refl in
+    let low : from < t.after.learned.nodes = subst (λ (k : ℕ). from < k) (sym l.nodes) below in
+    let m : Message = Accepted from ballot slot command in
+    let chosen : IsChosenIn x.place.nodes p.node.has ballot slot command =
+    chosen_more t.after.learned.nodes x.place.nodes (m ∷ l.in_time) p.node.has ballot slot command l.nodes (in_time_had l.in_time p.node.has m had l.came)
+    (g.completed (m ∷ l.in_time) t.after.learned from ballot slot command (g.more l.in_time t.after.learned m l.counts) (inl refl) at ed) in
+    apply_known x came heard t p new slot command (m ∷ l.in_time) (ap (λ (y : Learned). y.log) is) at.is_slot (ap (λ (y : Learned). y.nodes) is) (inl (ballot, chosen))
+    (in_time_had l.in_time p.node.has m had l.came)
+    (subst (CountsFrom (m ∷ l.in_time)) en (g.answer_counts (m ∷ l.in_time) t.after.learned from ballot slot command (inl refl) (g.more l.in_time t.after.learned m l.counts)))
+    (subst (CountsAll (m ∷ l.in_time)) en (g.answer_counts_all l.in_time t.after.learned from ballot slot command low at ok l.counts_all))
+    (subst (KnowsChosen (m ∷ l.in_time)) en (g.answers_known l.in_time t.after.learned from ballot slot command l.log at low ok l.counts l.counts_all l.knows_chosen))
+
+-- a vote that the node has is counted, and what it completes is applied
+pub count : (x : Scope) (came : List Arrival) (heard : Hearing) (t : Turn) (from : ℕ) (ballot : Ballot) (slot : ℕ) (command : Command)
+    (p : Path x came heard (applied t.after) t) → In (Accepted from ballot slot command) p.node.has → from < x.place.nodes
+    → Goes x came heard (behind t (counting_vote x.place from ballot slot command t.after))
+count x came heard t from ballot slot command p had below =
+    count_by x came heard t from ballot slot command _ _ _ p had below refl refl refl (answer_to t.after.learned from ballot slot command) refl refl
+    (hearing t.after.learned from ballot slot command) refl refl
+
+-- ---- what is told as chosen
+
+tell_by : (x : Scope) (came : List Arrival) (heard : Hearing) (t : Turn) (sender slot : ℕ) (command : Command) (ahead other : Bool)
+    (p : Path x came heard (applied t.after) t) → In (Chosen sender slot command) p.node.has → In (Chosen sender slot command) (p.sent ++ x.world.ever)
+    → is_open t.after.learned.log slot ≡ ahead → is_other (known_at t.after.learned.log slot) command ≡ other
+    → (answer : Result (Unit {0}) SlotFault) → answer ≡ (if not ahead then Ok tt else if other then Err KnownOther else Ok tt)
+    → (new : Learned) → with_chosen t.after.learned slot command ≡ new
+    → new ≡ (if not ahead then t.after.learned else if other then t.after.learned else knowing t.after.learned slot command)
+    → Goes x came heard (behind t (learning x.place answer new t.after))
+tell_by x came heard t sender slot command false other p had sent eo er (Err f) answers new en is = absurd (cc)
+tell_by x came heard t sender slot command false other p had sent eo er (Ok a) answers new en is =
+    let l = p.knows.learner in
+    let same : t.after.learned ≡ new = sym is in
+    apply_same x came heard t p new l.in_time (ap (λ (y : Learned). y.log) is) (ap (λ (y : Learned). y.nodes) is) l.came
+    (subst (CountsFrom l.in_time) same l.counts) (subst (CountsAll l.in_time) same l.counts_all) (subst (KnowsChosen l.in_time) same l.knows_chosen)
+tell_by x came heard t sender slot command true true p had sent eo er answer answers new en is =
+    let clash : true ≡ false = sym er ∙ no_conflict x came heard (applied t.after) t p slot command (inr (sender, sent)) in absurd (cc)
+tell_by x came heard t sender slot command true false p had sent eo er (Err f) answers new en is = absurd (cc)
+tell_by x came heard t sender slot command true false p had sent eo er (Ok a) answers new en is =
+    let l = p.knows.learner in
+    let g = x.given in
+    apply_known x came heard t p new slot command l.in_time (ap (λ (y : Learned). y.log) is) (open_if t.after.learned.log slot eo).is_slot (ap (λ (y : Learned). y.nodes) is) (inr (sender, had)) l.came
+    (subst (CountsFrom l.in_time) en (g.chosen_counts l.in_time t.after.learned slot command l.counts))
+    (subst (CountsAll l.in_time) en (g.chosen_counts_all l.in_time t.after.learned slot command l.counts_all))
+    (subst (KnowsChosen l.in_time) en (g.chosen_known l.in_time t.after.learned slot command l.log l.knows_chosen))
+
+-- what another node tells as chosen is known, and applied
+pub tell : (x : Scope) (came : List Arrival) (heard : Hearing) (t : Turn) (sender slot : ℕ) (command : Command)
+    (p : Path x came heard (applied t.after) t) → In (Chosen sender slot command) p.node.has → In (Chosen sender slot command) (p.sent ++ x.world.ever)
+    → Goes x came heard (behind t (learning x.place (answer_to_chosen t.after.learned.log slot command) (with_chosen t.after.learned slot command) t.after))
+tell x came heard t sender slot command p had sent =
+    tell_by x came heard t sender slot command _ _ p had sent refl refl (answer_to_chosen t.after.learned.log slot command) refl
+    (with_chosen t.after.learned slot command) refl refl

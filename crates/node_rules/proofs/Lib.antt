@@ -1,0 +1,25 @@
+mod Sets
+mod Carrying
+mod Telling
+mod Ordering
+mod Keeping
+mod Paths
+mod Steps
+mod Promising
+mod Showing
+mod Settling
+mod Learning
+mod Voting
+mod Asking
+mod Closing
+mod Ticking
+mod Beginning
+mod Framing
+mod Halting
+mod Answering
+mod Sitting
+mod Hearing
+mod Starting
+mod Chaining
+mod Sounding
+pub mod Examples

@@ -1,0 +1,224 @@
+-- Applying what the front has passed, on the path of a call.
+use Rattle.std.proofs.Common.{◌≡◌, ℕ, zero, suc, ◌<◌, ◌≤◌, Bool, true, false, if◌then◌else◌, List, [], ◌∷◌, ◌++◌, Option, Some, None, refl, sym, ap, subst, ◌∙◌, arith, length, drop, reverse, append_assoc}
+use Rattle.std.specs.Prelude.{slice_get, nat_lt}
+use Rattle.std.proofs.lemmas.List.{append-nil, reverse-append, reverse-reverse, length-reverse}
+use Rattle.std.proofs.lemmas.Bool.{ltb-false}
+use Rattle.slot_log.specs.Slots.{Log, front, find, known_at}
+use Rattle.slot_log.specs.declared.command.Command.{Command}
+use Rattle.protocol_model.specs.Dealers.{Dealer}
+use Rattle.protocol_model.specs.Nodes.{Node, Knows as KnowsCommands}
+use Rattle.protocol_model.specs.Arrivals.{Arrival}
+use Rattle.protocol_model.specs.Moves.{Shown, Chain}
+use Rattle.proposer.specs.declared.campaign.Campaign.{Campaign}
+use Rattle.learner.specs.Learning.{Learned}
+use Rattle.seat_session.specs.Session.{Standing as Talk}
+use Rattle.dealer_kind.specs.Kind.{Setting, fits, hands_after, log_of}
+use Rattle.node_rules.specs.Standings.{applied}
+use Rattle.node_rules.specs.Showing.{Piece, news}
+use Rattle.node_rules.specs.Turns.{Turn, joined}
+use Rattle.node_rules.specs.Applying.{Scene, kept, taking, taking_all, passed, scene_of, applying}
+use Rattle.node_rules.specs.Being.{IsCampaign, IsProposer, IsPending}
+use Rattle.node_rules.specs.Called.{AreShown, log_after}
+use Rattle.node_rules.proofs.Showing.{Shows, show_news, adds_nothing}
+use Rattle.node_rules.proofs.Paths.{Hearing, Scope, dealer_in, first_in, Path, never}
+
+-- ---- the node shows
+
+abbrev pub with_shown : Node → ℕ → Node
+with_shown node shown = record node { shown = shown }
+
+shown_campaign : (n i : ℕ) (node : Node) (last : ℕ) (c : Option Campaign) → IsCampaign n i node c → IsCampaign n i (with_shown node last) c
+shown_campaign n i node last None h = tt
+shown_campaign n i node last (Some c) h = record {
+  own = h.own;
+  promised = h.promised;
+  prepared = h.prepared;
+  counts = h.counts;
+  counts_all = h.counts_all;
+  marks = h.marks;
+  votes = h.votes;
+}
+
+pub shown_proposer : (n i : ℕ) (node : Node) (last at : ℕ) (c : Option Campaign) → IsProposer n i node at c → IsProposer n i (with_shown node last) at c
+shown_proposer n i node last at c p = record {
+  is_campaign = shown_campaign n i node last c p.is_campaign;
+  began = p.began;
+  proposed = p.proposed;
+  stands = λ b f st. p.stands b f (record { began = st.began; promised = st.promised; unrefused = st.unrefused });
+}
+
+-- ---- the act that waits
+
+pending_by : (d : Dealer) (i : ℕ) (node : Node) (last : ℕ) (upto : List Command) (act : Command) (b : Bool) (setting : Setting) → fits setting upto act ≡ b
+    → d.fits ≡ fits setting → (old : List Command) → IsPending d i node old (Some act) → IsPending d i (with_shown node last) upto (if b then Some act else None)
+pending_by d i node last upto act true setting e same old h = (h.0, ap (λ f. f upto act) same ∙ e)
+pending_by d i node last upto act false setting e same old h = tt
+
+pending_kept : (x : Scope) (node : Node) (last : ℕ) (old upto : List Command) (c : Option Command) → IsPending (dealer_in x) x.place.node node old c
+    → IsPending (dealer_in x) x.place.node (with_shown node last) upto (kept x.place.setting upto c)
+pending_kept x node last old upto None h = tt
+pending_kept x node last old upto (Some act) h = pending_by (dealer_in x) x.place.node node last upto act (fits x.place.setting upto act) x.place.setting refl refl old h
+
+-- ---- one command
+
+-- the turn, and behind it a scene of applying
+abbrev pub at_scene : Turn → Learned → Scene → Turn
+at_scene t learned scene = joined t (record { after = record t.after { learned = learned; pending = scene.pending }; frames = []; shown = scene.shown; faults = [] })
+
+take_by : (x : Scope) (came : List Arrival) (heard : Hearing) (t : Turn) (learned : Learned) (scene : Scene) (command : Command) (b : Bool)
+    → fits x.place.setting scene.applied command ≡ b → Path x came heard scene.applied (at_scene t learned scene)
+    → known_at learned.log (length scene.applied) ≡ Some command
+    → Path x came heard (command ∷ scene.applied)
+    (at_scene t learned (record {
+      applied = command ∷ scene.applied;
+      pending = kept x.place.setting (command ∷ scene.applied) scene.pending;
+      shown = scene.shown ++ (if b then news x.place.setting t.after.sessions (hands_after x.place.setting (command ∷ scene.applied)) else []);
+    }))
+take_by x came heard t learned scene command b fit p at = by_ends x.ends refl
+  where
+    known : KnowsCommands p.node.known (command ∷ scene.applied)
+    known = (p.knows.learner.knows (length scene.applied) command at, p.commands)
+
+    added : List Piece
+    added = if b then news x.place.setting t.after.sessions (hands_after x.place.setting (command ∷ scene.applied)) else []
+
+    begun : x.ends ≡ true → Shows x came p.node p.sent (command ∷ scene.applied) (log_of x.place.setting scene.applied) (t.shown ++ scene.shown)
+    begun ends = record {
+      shown = p.shown;
+      last = p.node.shown;
+      low = (let h = p.knows.shown in omega arith);
+      chain = p.chain;
+      are = p.pieces ends;
+      logged = p.logged ends;
+    }
+
+    shows_by : (y : Bool) → fits x.place.setting scene.applied command ≡ y → x.ends ≡ true
+        → Shows x came p.node p.sent (command ∷ scene.applied) (log_of x.place.setting (command ∷ scene.applied))
+        ((t.shown ++ scene.shown) ++ (if y then news x.place.setting t.after.sessions (hands_after x.place.setting (command ∷ scene.applied)) else []))
+    shows_by true e ends = show_news x came p.node p.sent scene.applied command (t.shown ++ scene.shown) t.after.sessions p.knows.places e p.knows.up p.starts known (begun ends)
+    shows_by false e ends =
+        subst (λ (l : List ℕ). Shows x came p.node p.sent (command ∷ scene.applied) l ((t.shown ++ scene.shown) ++ [])) (sym (adds_nothing x.given x.place.setting scene.applied command e))
+        (subst (Shows x came p.node p.sent (command ∷ scene.applied) (log_of x.place.setting scene.applied)) (sym (append-nil (t.shown ++ scene.shown))) (begun ends))
+
+    shows : x.ends ≡ true → Shows x came p.node p.sent (command ∷ scene.applied) (log_of x.place.setting (command ∷ scene.applied)) (t.shown ++ (scene.shown ++ added))
+    shows ends = subst (Shows x came p.node p.sent (command ∷ scene.applied) (log_of x.place.setting (command ∷ scene.applied)))
+        (append_assoc t.shown scene.shown added) (shows_by b fit ends)
+
+    path_with : (shown : List Shown) (last : ℕ) → last ≤ suc (length scene.applied)
+        → Chain (dealer_in x) x.place.nodes x.place.node x.world.ever (first_in x) (record { sent = p.sent; shown = shown; came = came }) (with_shown p.node last)
+        → (x.ends ≡ true → AreShown x.place.node x.start x.log (t.shown ++ (scene.shown ++ added)) shown)
+        → (x.ends ≡ true → log_after x.log (t.shown ++ (scene.shown ++ added)) ≡ log_of x.place.setting (command ∷ scene.applied))
+        → (x.ends ≡ false → shown ≡ [])
+        → Path x came heard (command ∷ scene.applied)
+        (at_scene t learned (record {
+          applied = command ∷ scene.applied;
+          pending = kept x.place.setting (command ∷ scene.applied) scene.pending;
+          shown = scene.shown ++ added;
+        }))
+    path_with shown last low chain pieces logged unshown = record {
+      sent = p.sent;
+      shown = shown;
+      got = p.got;
+      node = with_shown p.node last;
+      chain = chain;
+      knows = record {
+        up = p.knows.up;
+        store = p.knows.store;
+        within = p.knows.within;
+        proposer = shown_proposer x.place.nodes x.place.node p.node last (front learned.log) t.after.campaign p.knows.proposer;
+        learner = p.knows.learner;
+        pending = pending_kept x p.node last scene.applied (command ∷ scene.applied) scene.pending p.knows.pending;
+        places = p.knows.places;
+        shown = low;
+        seen = p.knows.seen;
+      };
+      commands = known;
+      hears = p.hears;
+      talks = p.talks;
+      runs = p.runs;
+      begun = p.begun;
+      unbegun = p.unbegun;
+      starts = p.starts;
+      has = p.has;
+      carry = p.carry;
+      all = p.all;
+      pieces = pieces;
+      logged = logged;
+      unshown = unshown;
+      unvoted = p.unvoted;
+      unstored = p.unstored;
+      got_only = p.got_only;
+      got_all = p.got_all;
+    }
+
+    by_ends : (ends : Bool) → x.ends ≡ ends
+        → Path x came heard (command ∷ scene.applied)
+        (at_scene t learned (record {
+          applied = command ∷ scene.applied;
+          pending = kept x.place.setting (command ∷ scene.applied) scene.pending;
+          shown = scene.shown ++ added;
+        }))
+    by_ends true e = let s = shows e in path_with s.shown s.last s.low s.chain (λ y. s.are) (λ y. s.logged) (λ q. absurd (never (sym e ∙ q)))
+    by_ends false e = path_with p.shown p.node.shown (let h = p.knows.shown in omega arith) p.chain (λ y. absurd (never (sym y ∙ e))) (λ y. absurd (never (sym y ∙ e))) p.unshown
+
+take : (x : Scope) (came : List Arrival) (heard : Hearing) (t : Turn) (learned : Learned) (scene : Scene) (command : Command)
+    → Path x came heard scene.applied (at_scene t learned scene) → known_at learned.log (length scene.applied) ≡ Some command
+    → Path x came heard (command ∷ scene.applied) (at_scene t learned (taking x.place.setting t.after.sessions command scene))
+take x came heard t learned scene command p at = take_by x came heard t learned scene command (fits x.place.setting scene.applied command) refl p at
+
+-- ---- all that the front has passed
+
+dropped : {A : Type 0} (n : ℕ) (xs : List A) (y : A) (ys : List A) → drop n xs ≡ y ∷ ys → (n < length xs) × (slice_get xs n ≡ Some y) × (drop (suc n) xs ≡ ys)
+dropped zero [] y ys e = absurd (cc)
+dropped zero (z ∷ zs) y ys e = (omega arith, (let h : z ≡ y = cc in ap (λ a. Some a) h), (let h : zs ≡ ys = cc in h))
+dropped (suc n) [] y ys e = absurd (cc)
+dropped (suc n) (z ∷ zs) y ys e = let t = dropped n zs y ys e in (omega (arith, t.0), t.1, t.2)
+
+below_if : (log : Log) (slot : ℕ) (b : Bool) → nat_lt slot (front log) ≡ b → slot < front log
+    → (if b then slice_get (reverse log.below) slot else find log.beyond slot) ≡ slice_get (reverse log.below) slot
+below_if log slot true e l = refl
+below_if log slot false e l = absurd (let h = ltb-false slot (front log) e in omega arith)
+
+pub below_front : (log : Log) (slot : ℕ) → slot < front log → known_at log slot ≡ slice_get (reverse log.below) slot
+below_front log slot l = below_if log slot _ refl l
+
+loop : (x : Scope) (came : List Arrival) (heard : Hearing) (t : Turn) (learned : Learned) (cs : List Command) (scene : Scene)
+    → Path x came heard scene.applied (at_scene t learned scene) → drop (length scene.applied) (reverse learned.log.below) ≡ cs
+    → Path x came heard (taking_all x.place.setting t.after.sessions cs scene).applied (at_scene t learned (taking_all x.place.setting t.after.sessions cs scene))
+unfolding taking_all
+loop x came heard t learned [] scene p e = p
+loop x came heard t learned (c ∷ cs) scene p e =
+    let d = dropped (length scene.applied) (reverse learned.log.below) c cs e in
+    let l : length scene.applied < front learned.log = (let h = d.0 in let k = length-reverse learned.log.below in omega arith) in
+    loop x came heard t learned cs (taking x.place.setting t.after.sessions c scene)
+    (take x came heard t learned scene c p (below_front learned.log (length scene.applied) l ∙ d.1)) d.2
+
+all_applied : (setting : Setting) (talks : List (Option Talk)) (cs : List Command) (scene : Scene)
+    → (taking_all setting talks cs scene).applied ≡ reverse cs ++ scene.applied
+unfolding taking_all
+all_applied setting talks [] scene = refl
+all_applied setting talks (c ∷ cs) scene =
+    all_applied setting talks cs (taking setting talks c scene)
+    ∙ (sym (append_assoc (reverse cs) (c ∷ []) scene.applied) ∙ ap (λ (l : List Command). l ++ scene.applied) (sym (reverse-append (c ∷ []) cs)))
+
+drop_front : {A : Type 0} (xs ys : List A) → drop (length ys) (ys ++ xs) ≡ xs
+drop_front xs [] = refl
+drop_front xs (y ∷ ys) = drop_front xs ys
+
+-- the commands that the front has passed, behind those before it, are all
+passed_all : (old new : Log) (later : List Command) → new.below ≡ later ++ old.below → reverse (passed old new) ++ old.below ≡ new.below
+passed_all old new later e =
+    let turned : reverse new.below ≡ reverse old.below ++ reverse later = ap reverse e ∙ reverse-append later old.below in
+    let rest : passed old new ≡ reverse later = ap (drop (front old)) turned ∙ (ap (λ k. drop k (reverse old.below ++ reverse later)) (sym (length-reverse old.below)) ∙ drop_front (reverse later) (reverse old.below)) in
+    ap (λ (l : List Command). reverse l ++ old.below) rest ∙ (ap (λ (l : List Command). l ++ old.below) (reverse-reverse later) ∙ sym e)
+
+-- once this is known, with nothing of it shown, it is applied
+pub settle : (x : Scope) (came : List Arrival) (heard : Hearing) (t : Turn) (learned : Learned) (later : List Command)
+    → learned.log.below ≡ later ++ applied t.after
+    → Path x came heard (applied t.after) (at_scene t learned (scene_of t.after))
+    → Path x came heard learned.log.below (joined t (applying x.place learned t.after))
+settle x came heard t learned later e p =
+    let cs : List Command = passed t.after.learned.log learned.log in
+    subst (λ (l : List Command). Path x came heard l (joined t (applying x.place learned t.after)))
+    (all_applied x.place.setting t.after.sessions cs (scene_of t.after) ∙ passed_all t.after.learned.log learned.log later e)
+    (loop x came heard t learned cs (scene_of t.after) p refl)

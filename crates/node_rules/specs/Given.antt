@@ -1,0 +1,82 @@
+-- The laws of the layers below that the laws here stand on.
+use Rattle.std.proofs.Common.{◌≡◌, ℕ, ◌<◌, ◌++◌, List}
+use Rattle.slot_log.specs.declared.command.Command.{Command}
+use Rattle.slot_log.specs.Laws.{CommandsMakeHands, FitsWithoutReason}
+use Rattle.slot_log.specs.SlotLaws.{FrontIsFirstHole, SlotsEnd, OneMoreIsKnown, FrontsGoOn}
+use Rattle.protocol_model.specs.Sets.{In}
+use Rattle.protocol_model.specs.Messages.{Message, Chosen}
+use Rattle.protocol_model.specs.Quorums.{IsChosen}
+use Rattle.protocol_model.specs.Stores.{Store}
+use Rattle.protocol_model.specs.Backing.{IsWithinPromise}
+use Rattle.protocol_model.specs.Dealers.{Dealer}
+use Rattle.protocol_model.specs.Nodes.{Node}
+use Rattle.protocol_model.specs.Moves.{Output, both, Chain}
+use Rattle.protocol_model.specs.Worlds.{World, Reached, Run, IsAfter}
+use Rattle.protocol_model.specs.Laws.{IsLeft}
+use Rattle.proposer.specs.Laws as proposer
+use Rattle.learner.specs.Laws as learner
+use Rattle.match_log.specs.Laws.{CommandsAddToTheLog, LogsBeginWithTheirHeader}
+use Rattle.seat_session.specs.Laws.{WholeLines, RunsGoOn}
+use Rattle.dealer_kind.specs.Laws.{AnswersAreHeard}
+
+pub record Given : Type 0 where
+  pub reach : (dealer : Dealer) (n i : ℕ) (first world : World) (out : Output) (node : Node)
+      → Run dealer n first world → i < n → Chain dealer n i world.ever (world.nodes i) out node
+      → (later : World) × Run dealer n first later × IsAfter world i out node later
+  pub join : (dealer : Dealer) (n i : ℕ) (ever : List Message) (old : Node) (earlier : Output) (between : Node) (later : Output) (new : Node)
+      → Chain dealer n i ever old earlier between → Chain dealer n i (earlier.sent ++ ever) between later new
+      → Chain dealer n i ever old (both later earlier) new
+  pub one_choice : (dealer : Dealer) (n : ℕ) (world : World) (slot : ℕ) (a b : Command)
+      → Reached dealer n world → IsChosen n world.ever slot a → IsChosen n world.ever slot b → a ≡ b
+  pub known : (dealer : Dealer) (n i : ℕ) (world : World) (slot : ℕ) (command : Command)
+      → Reached dealer n world → In (slot, command) (world.nodes i).known → IsChosen n world.ever slot command
+  pub told : (dealer : Dealer) (n sender : ℕ) (world : World) (slot : ℕ) (command : Command)
+      → Reached dealer n world → In (Chosen sender slot command) world.ever → IsChosen n world.ever slot command
+  pub answered : (dealer : Dealer) (n i : ℕ) (world : World) (slot : ℕ) (command : Command)
+      → Reached dealer n world → IsChosen n (world.nodes i).has slot command → IsChosen n world.ever slot command
+  pub within : (dealer : Dealer) (n i : ℕ) (world : World) (store : Store)
+      → Reached dealer n world → IsLeft i (world.nodes i) store → IsWithinPromise store
+  -- the proposer
+  pub safe : proposer.ProposalsAreSafe
+  pub begin : proposer.BeginCounts
+  pub begin_all : proposer.BeginCountsAll
+  pub begin_marks : proposer.BeginMarks
+  pub promise : proposer.PromiseCounts
+  pub promise_all : proposer.PromiseCountsAll
+  pub promise_marks : proposer.PromiseMarks
+  pub others : proposer.OthersCount
+  pub others_all : proposer.OthersCountAll
+  pub others_marks : proposer.OthersMark
+  pub proposal : proposer.ProposalCounts
+  pub proposal_all : proposer.ProposalCountsAll
+  pub proposal_marks : proposer.ProposalMarks
+  pub promise_stays : proposer.PromiseStays
+  pub proposal_stays : proposer.ProposalStays
+  pub once : proposer.ProposesOnce
+  -- the learner
+  pub same : learner.SameIsEqual
+  pub completed : learner.CompletedIsChosen
+  pub new_counts : learner.NewCounts
+  pub new_counts_all : learner.NewCountsAll
+  pub answer_counts : learner.AnswerCounts
+  pub answer_counts_all : learner.AnswerCountsAll
+  pub passed_over : learner.OthersArePassedOver
+  pub chosen_counts : learner.ChosenCounts
+  pub chosen_counts_all : learner.ChosenCountsAll
+  pub more : learner.MoreMessages
+  pub nodes_stay : learner.NodesStay
+  pub new_knows : learner.NewKnows
+  pub answers_known : learner.AnswersAreKnown
+  pub chosen_known : learner.ChosenAreKnown
+  -- the log of slots, the match's log, and sessions
+  pub hole : FrontIsFirstHole
+  pub slots_end : SlotsEnd
+  pub one_more : OneMoreIsKnown
+  pub goes_on : FrontsGoOn
+  pub adds : CommandsAddToTheLog
+  pub header : LogsBeginWithTheirHeader
+  pub whole : WholeLines
+  pub runs_on : RunsGoOn
+  pub make : CommandsMakeHands
+  pub fits : FitsWithoutReason
+  pub heard : AnswersAreHeard

@@ -1,0 +1,17 @@
+pub mod Standings
+pub mod Sending
+pub mod Showing
+pub mod Turns
+pub mod Applying
+pub mod Learning
+pub mod Accepting
+pub mod Proposing
+pub mod Seats
+pub mod Calls
+pub mod Rules
+pub mod Seen
+pub mod Being
+pub mod Called
+pub mod Given
+pub mod Sound
+pub mod Calm
