@@ -78,7 +78,7 @@ def time_opening(folder, runs):
 
 def main():
     runs = int(sys.argv[1]) if len(sys.argv) > 1 else 5
-    with tempfile.TemporaryDirectory(dir=sys.argv[2] if len(sys.argv) > 2 else ".") as folder:
+    with tempfile.TemporaryDirectory(dir=Path(sys.argv[2] if len(sys.argv) > 2 else ".").resolve()) as folder:
         compare_appends(folder, runs)
         time_opening(folder, runs)
 

@@ -8,7 +8,7 @@ use Rattle.match_log.specs.Fault.{kind_text}
 use Rattle.match_log.specs.Check.{Says}
 use Rattle.match_log.specs.declared.fault.LogFault.{LogFault}
 use Rattle.holdem_table.specs.declared.ending.Ending.{Ending}
-use Rattle.holdem_table.specs.declared.ending.Ending.TheVariants.{Done, SaidNo, Refused, Unreadable, OutOfMemory, StreamFailed, WrongWords}
+use Rattle.holdem_table.specs.declared.ending.Ending.TheVariants.{Done, SaidNo, Refused, Match, StoreExists, Store, Unreadable, OutOfMemory, StreamFailed, WrongWords}
 
 -- what is printed of a log: yes, or no with the line at fault and its fault
 abbrev pub verdict_text : Result (Unit {0}) LogFault → List ℕ
@@ -38,6 +38,9 @@ abbrev pub EndsVerdict : Result (Unit {0}) LogFault → Option (List ℕ) → Op
 EndsVerdict verdict held held_after Done = (verdict ≡ Ok tt) × Appends held held_after (verdict_text (Ok tt))
 EndsVerdict verdict held held_after (SaidNo fault) = (verdict ≡ Err fault) × Appends held held_after (verdict_text (Err fault))
 EndsVerdict verdict held held_after (Refused fault) = ⊥
+EndsVerdict verdict held held_after (Match fault) = ⊥
+EndsVerdict verdict held held_after StoreExists = ⊥
+EndsVerdict verdict held held_after (Store fault) = ⊥
 EndsVerdict verdict held held_after Unreadable = ⊥
 EndsVerdict verdict held held_after OutOfMemory = Keeps held held_after
 EndsVerdict verdict held held_after (WrongWords words) = ⊥
@@ -49,6 +52,9 @@ EndsLog game left left_after held held_after Done = IsJudged game left left_afte
 EndsLog game left left_after held held_after (SaidNo fault) =
     IsJudged game left left_after (Err fault) × Appends held held_after (verdict_text (Err fault))
 EndsLog game left left_after held held_after (Refused fault) = ⊥
+EndsLog game left left_after held held_after (Match fault) = ⊥
+EndsLog game left left_after held held_after StoreExists = ⊥
+EndsLog game left left_after held held_after (Store fault) = ⊥
 EndsLog game left left_after held held_after Unreadable = SomeRead left left_after × Keeps held held_after
 EndsLog game left left_after held held_after OutOfMemory = SomeRead left left_after × Keeps held held_after
 EndsLog game left left_after held held_after (WrongWords words) = ⊥

@@ -2,7 +2,7 @@ ghost use Rattle.std.specs.Prelude.{◌≤◌};
 
 use crate::ending::Ending;
 use crate::game_word::GameWord;
-use crate::help::{AFTER_CHECK_HELP, AFTER_HAND_HELP, AFTER_HELP};
+use crate::help::{AFTER_CHECK_HELP, AFTER_HAND_HELP, AFTER_HELP, AFTER_INIT_HELP};
 use crate::wrong_words::WrongWords;
 use clap::{Arg, ArgAction, ArgMatches, Command, value_parser};
 use slot_log::limits::HANDS;
@@ -13,6 +13,8 @@ use std::alloc::{AllocError, Global};
 pub(crate) enum Task<'a> {
     Hand(HandArguments<'a>),
     Check(CheckArguments<'a>),
+    /// The word that names the match file.
+    Init(&'a str),
 }
 
 /// What `hand` is asked for.
@@ -45,7 +47,8 @@ pub(crate) fn command<'a>(alloc: Global) -> Result<Command<'a>, AllocError> {
         .after_help(AFTER_HELP)
         .subcommand_required(true)
         .subcommand(hand_command(alloc)?)?
-        .subcommand(check_command(alloc)?)
+        .subcommand(check_command(alloc)?)?
+        .subcommand(init_command(alloc)?)
 }
 
 fn hand_command<'a>(alloc: Global) -> Result<Command<'a>, AllocError> {
@@ -79,6 +82,17 @@ fn check_command<'a>(alloc: Global) -> Result<Command<'a>, AllocError> {
         .arg(log)
 }
 
+fn init_command<'a>(alloc: Global) -> Result<Command<'a>, AllocError> {
+    let file = Arg::new(alloc, "match")
+        .value_name("MATCH")
+        .required(true)
+        .help("The match file");
+    Command::new(alloc, "init")
+        .about("Makes the empty stores of a match's nodes")
+        .after_help(AFTER_INIT_HELP)
+        .arg(file)
+}
+
 fn game_argument<'a>(alloc: Global) -> Arg<'a> {
     Arg::new(alloc, "game")
         .value_name("GAME")
@@ -95,6 +109,9 @@ pub(crate) fn requested<'a>(matches: &ArgMatches<'a>) -> Result<Task<'a>, Ending
     }
     if let Some(matches) = matches.subcommand_matches("check") {
         return check_task(matches);
+    }
+    if let Some(matches) = matches.subcommand_matches("init") {
+        return Ok(Task::Init(word(matches, "match")?));
     }
     Err(Ending::WrongWords(WrongWords::Incomplete))
 }

@@ -1,10 +1,14 @@
 ghost use Rattle.std.specs.Prelude.{◌≡◌, Some};
 ghost use Rattle.holdem_table.specs.Ending.{status_of, ending_text};
+ghost use Rattle.holdem_table.specs.declared.ending.Ending.TheVariants.{Match, OutOfMemory};
 
 use crate::wrong_words::WrongWords;
 use game_def::GameFault;
+use match_file::MatchFault;
 use match_log::LogFault;
-use std::fmt;
+use promise_store::StoreFault;
+use std::alloc::AllocError;
+use std::{fmt, io};
 
 /// How a run of the program ends: its exit status, and what standard error gets. All commands end in one of
 /// these ways.
@@ -16,6 +20,12 @@ pub enum Ending {
     SaidNo(LogFault),
     /// The game file is refused.
     Refused(GameFault),
+    /// The match file is refused.
+    Match(MatchFault),
+    /// 103: a store file is there already.
+    StoreExists,
+    /// A store can't be made.
+    Store(StoreFault),
     /// 104: a file can't be read.
     Unreadable,
     /// 92: memory was refused.
@@ -27,6 +37,15 @@ pub enum Ending {
 }
 
 impl Ending {
+    /// The ending where a file can't be read.
+    pub(crate) fn unread(error: &io::Error) -> Ending {
+        if error.kind() == io::ErrorKind::OutOfMemory {
+            Ending::OutOfMemory
+        } else {
+            Ending::Unreadable
+        }
+    }
+
     /// The program's exit status.
     pub fn status(self) -> u8
         ensures { result ≡ status_of self }
@@ -47,10 +66,29 @@ impl fmt::Display for Ending {
         match self {
             Ending::Done | Ending::SaidNo(_) => Ok(()),
             Ending::Refused(fault) => write!(f, "{fault}"),
+            Ending::Match(fault) => write!(f, "{fault}"),
+            Ending::StoreExists => f.write_str("103 StoreExists"),
+            Ending::Store(fault) => write!(f, "{fault}"),
             Ending::Unreadable => f.write_str("104 Unreadable"),
             Ending::OutOfMemory => f.write_str("92 OutOfMemory"),
             Ending::StreamFailed => f.write_str("107 StreamFailed"),
             Ending::WrongWords(words) => f.write_str(words.text()),
         }
+    }
+}
+
+impl From<MatchFault> for Ending {
+    ghost from_gives = { λ fault ending. ending ≡ Match fault };
+
+    fn from(fault: MatchFault) -> Ending {
+        Ending::Match(fault)
+    }
+}
+
+impl From<AllocError> for Ending {
+    ghost from_gives = { λ _ ending. ending ≡ OutOfMemory };
+
+    fn from(_: AllocError) -> Ending {
+        Ending::OutOfMemory
     }
 }

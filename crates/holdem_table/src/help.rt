@@ -69,3 +69,28 @@ Example:
   holdem_table hand --log examples/l2.game < script > played
   sed -n 's/^L //p' played > match.log
   holdem_table check examples/l2.game match.log";
+
+pub(crate) const AFTER_INIT_HELP: &str = "\
+MATCH is a match file: TOML with name, game, hands, names, a node table for
+each of three or five nodes, and stores, the folder of the stores. Its paths
+go from the working folder; the game file is read too.
+
+Made are the files node0.journal, node1.journal and so on in that folder, each
+written and synced before the next is made, and at last the folder is synced.
+The folder must be there. Nothing is printed on standard output.
+
+A store keeps what a node promised, so no store may be thrown away while its
+match is played. Where init ends in the middle (63), no node has used what it
+made: delete the node files in the folder and run it again.
+
+Exit status:
+  0  all stores were made
+  2  the command line is wrong, MATCH is refused (100, 101, 102), MATCH or the
+     game can't be read (104), a store file is there already (103; then
+     nothing was made or touched), a file can't be made or written (63), or
+     memory was refused (92); standard error says which
+docs/FAULTS.md says of each number what it means and what to do about it.
+
+Example:
+  mkdir stores
+  holdem_table init examples/three.toml";

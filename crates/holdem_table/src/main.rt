@@ -1,4 +1,5 @@
-//! The program `holdem_table`: `hand` runs one dealer over a script, `check` checks the log of a match.
+//! The program `holdem_table`: `hand` runs one dealer over a script, `check` checks the log of a match, `init` makes the
+//! stores of a match's nodes.
 #![tactic(auto)]
 
 mod arguments;
@@ -8,6 +9,7 @@ mod ending;
 mod game_word;
 mod hand_run;
 mod help;
+mod init;
 mod late_file;
 mod laws;
 mod line;
@@ -22,6 +24,7 @@ use crate::arguments::{CheckArguments, HandArguments, Task, command, requested};
 use crate::check_run::check_run;
 use crate::ending::Ending;
 use crate::hand_run::hand_run;
+use crate::init::init;
 use crate::late_file::LateFile;
 use crate::wrong_words::WrongWords;
 use clap::error::ErrorKind;
@@ -68,6 +71,7 @@ fn run(rt: &HostRuntime, words: &[String]) -> Ending {
         Ok(matches) => match requested(&matches) {
             Ok(Task::Hand(arguments)) => hand(rt, arguments),
             Ok(Task::Check(arguments)) => check(rt, arguments),
+            Ok(Task::Init(path)) => init(rt, path),
             Err(ending) => ending,
         },
         Err(error) => show(rt, &error),
@@ -104,7 +108,7 @@ fn hand(rt: &HostRuntime, arguments: HandArguments<'_>) -> Ending {
             &mut rt.reader(),
             &mut io::writer(rt),
         ),
-        Err(error) => unread(&error),
+        Err(error) => Ending::unread(&error),
     }
 }
 
@@ -117,16 +121,7 @@ fn check(rt: &HostRuntime, arguments: CheckArguments<'_>) -> Ending {
             &mut LateFile::new(rt, arguments.log),
             &mut io::writer(rt),
         ),
-        Err(error) => unread(&error),
-    }
-}
-
-/// The ending where a file can't be read.
-fn unread(error: &io::Error) -> Ending {
-    if error.kind() == io::ErrorKind::OutOfMemory {
-        Ending::OutOfMemory
-    } else {
-        Ending::Unreadable
+        Err(error) => Ending::unread(&error),
     }
 }
 
