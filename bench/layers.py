@@ -22,6 +22,9 @@ TASKS = [
     ("long-hands", "actions of hands of 256", 20_000_000, None),
     ("encode", "frames written", 1_000_000, None),
     ("decode", "frames read", 1_000_000, None),
+    ("promises", "promises counted by a proposer", 1_000_000, None),
+    ("answers", "answers counted by a learner", 5_000_000, None),
+    ("refusals", "proposals refused by an acceptor", 5_000_000, None),
 ]
 
 

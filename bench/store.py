@@ -37,6 +37,27 @@ int main(void) {
 }
 """
 
+MOST_MEMORY = r"""
+#include <fcntl.h>
+#include <stdio.h>
+#include <sys/resource.h>
+#include <sys/wait.h>
+#include <unistd.h>
+int main(int count, char **words) {
+    struct rusage used;
+    int status;
+    pid_t child = fork();
+    if (child == 0) {
+        dup2(open("/dev/null", O_WRONLY), 1);
+        execv(words[1], words + 1);
+        _exit(127);
+    }
+    if (count < 2 || wait4(child, &status, 0, &used) != child || status) return 1;
+    printf("%ld\n", used.ru_maxrss);
+    return 0;
+}
+"""
+
 
 def timed(words, folder):
     started = time.perf_counter()
@@ -44,20 +65,26 @@ def timed(words, folder):
     return time.perf_counter() - started, ran.stdout.decode().strip()
 
 
+def built(name, source, folder):
+    """The path of a C program, built of this text."""
+    path = Path(folder) / name
+    path.with_suffix(".c").write_text(source)
+    subprocess.run(["cc", "-O2", "-o", path, path.with_suffix(".c")], check=True)
+    return path
+
+
 def most_memory(words, folder):
-    """The most memory that a run had, in bytes."""
-    code = f"import resource, subprocess; subprocess.run({words!r}, cwd={str(folder)!r}, stdout=subprocess.DEVNULL, check=True); print(resource.getrusage(resource.RUSAGE_CHILDREN).ru_maxrss)"
-    return 1024 * int(subprocess.run([sys.executable, "-c", code], capture_output=True, check=True).stdout)
+    """The most memory that a run had, in bytes. A process begins with the memory of the one that started it, so a small one does."""
+    starter = built("most_memory", MOST_MEMORY, folder)
+    return 1024 * int(subprocess.run([starter, *words], cwd=folder, capture_output=True, check=True).stdout)
 
 
 def compare_appends(folder, runs):
-    source = Path(folder) / "calls.c"
-    source.write_text(SAME_CALLS)
-    subprocess.run(["cc", "-O2", "-o", Path(folder) / "calls", source], check=True)
+    calls = built("calls", SAME_CALLS, folder)
     ours, theirs = [], []
     for _ in range(runs):
         ours.append(timed([PROGRAM, "store-appends"], folder)[0])
-        theirs.append(timed([Path(folder) / "calls"], folder)[0])
+        theirs.append(timed([calls], folder)[0])
     ours, theirs = min(ours), min(theirs)
     print(f"appends: {APPENDS / ours:,.0f} a second, the same calls in C {APPENDS / theirs:,.0f}: {theirs / ours:.2f} of it")
 

@@ -1,5 +1,5 @@
 -- Answers of an acceptor, worked out.
-use Rattle.std.proofs.Common.{◌≡◌, ℕ, ◌==◌, if◌then◌else◌, true, false, [], ◌∷◌, Option, Some, None, refl}
+use Rattle.std.proofs.Common.{◌≡◌, ℕ, ◌==◌, if◌then◌else◌, true, false, inl, inr, [], ◌∷◌, Option, Some, None, Ok, Err, refl, arith}
 use Rattle.betting.specs.declared.action.Action.TheVariants.{Fold, Call}
 use Rattle.paxos_wire.specs.declared.ballot.Ballot.{Ballot}
 use Rattle.paxos_wire.specs.declared.entry.Entry.{Entry}
@@ -7,9 +7,15 @@ use Rattle.slot_log.specs.declared.command.Command.{Command}
 use Rattle.slot_log.specs.declared.command.Command.TheVariants.{Act}
 use Rattle.protocol_model.specs.Messages.{Vote}
 use Rattle.protocol_model.specs.Stores.{Store, voted}
+use Rattle.promise_store.specs.declared.disk.Disk.{Ghosts}
+use Rattle.promise_store.specs.declared.store.Store.{Store as StoreOn}
+use Rattle.promise_store.specs.declared.fault.StoreFault.TheVariants.{Closed}
+use Rattle.promise_store.specs.Keeping.{is_closed}
+use Rattle.acceptor.specs.declared.answers.PrepareAnswer.{PrepareAnswer}
 use Rattle.acceptor.specs.declared.answers.PrepareAnswer.TheVariants.{Promise, Refuse as RefusePrepare}
 use Rattle.acceptor.specs.declared.answers.AcceptAnswer.TheVariants.{Accepted, Refuse as RefuseAccept}
-use Rattle.acceptor.specs.Answers.{is_below, is_same, told_of, answer_to_prepare, prepared, answer_to_accept, accepted}
+use Rattle.acceptor.specs.Answers.{is_below, is_same, told_of, answer_to_prepare, refusal_of_prepare, prepared, AnswersPrepare, answer_to_accept, refusal_of_accept, accepted, AnswersAccept}
+use Rattle.acceptor.specs.Taken.{NeedsStore}
 
 abbrev ballot : ℕ → ℕ → Ballot
 ballot round node = record { round = round; node = node }
@@ -72,7 +78,46 @@ not_promised_below = refl
 pub refusal_stores_nothing : prepared (ballot 2 4) store ≡ store
 refusal_stores_nothing = refl
 
+-- what the promise (3, 1) refuses by itself: its own ballot, and what is below
+pub refused_by_the_promise : refusal_of_prepare (ballot 3 1) 10 (ballot 3 1) ≡ Some (RefusePrepare (ballot 3 1) 10 (ballot 3 1))
+refused_by_the_promise = refl
+
+pub not_refused_above : refusal_of_prepare (ballot 3 2) 10 (ballot 3 1) ≡ None
+not_refused_above = refl
+
+-- ---- answers that frames carry
+
+pub nothing_told : AnswersPrepare (ballot 3 2) 10 (Promise (ballot 3 2) 10 [])
+nothing_told = (refl, refl, record { most = omega arith; each = tt; rise = tt })
+
+-- slot 74 isn't one of the 64 from slot 10 on
+pub no_answer_past_the_window : AnswersPrepare (ballot 3 2) 10 (Promise (ballot 3 2) 10 (entry 74 (ballot 1 0) call ∷ [])) → ⊥
+no_answer_past_the_window answers = let past = answers.2.rise.1 in omega (arith, past)
+
+-- an acceptor that has promised nothing has no ballot to tell
+pub no_refusal_without_a_promise : AnswersAccept (ballot 3 0) 11 (RefuseAccept (ballot 3 0) 11 (ballot 0 0)) → ⊥
+no_refusal_without_a_promise answers = let first = answers.2.first in omega (arith, first)
+
+pub no_answer_to_another_slot : AnswersAccept (ballot 3 1) 11 (Accepted (ballot 3 1) 12 call) → ⊥
+no_answer_to_another_slot answers = let same = answers.1 in omega (arith, same)
+
+-- ---- closed stores
+
+-- what needs the store has no answer of a closed one
+pub closed_stores_are_silent : {D : Type 0} (g : Ghosts D) (before after : StoreOn D) (answer : PrepareAnswer) → is_closed before ≡ true → NeedsStore g None before after (Ok answer) → ⊥
+closed_stores_are_silent g before after answer closed needs = elim (needs.closed refl closed) [ inl e ↦ cc | inr e ↦ cc ]
+
+-- and an open one doesn't say that it is closed
+pub open_stores_answer : {D : Type 0} (g : Ghosts D) (before after : StoreOn D) → is_closed before ≡ false → NeedsStore g {T = PrepareAnswer} None before after (Err Closed) → ⊥
+open_stores_answer g before after opened needs = let closed = (needs.opened refl).1 in cc
+
 -- ---- proposals
+
+pub proposal_refused_by_the_promise : refusal_of_accept (ballot 3 0) 11 (ballot 3 1) ≡ Some (RefuseAccept (ballot 3 0) 11 (ballot 3 1))
+proposal_refused_by_the_promise = refl
+
+pub promised_ballot_not_refused : refusal_of_accept (ballot 3 1) 11 (ballot 3 1) ≡ None
+promised_ballot_not_refused = refl
 
 pub accepted_in_the_promised : answer_to_accept (ballot 3 1) 11 fold store ≡ Accepted (ballot 3 1) 11 fold
 accepted_in_the_promised = refl

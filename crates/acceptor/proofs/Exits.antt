@@ -52,6 +52,9 @@ module _ {D : Type 0} (g : Ghosts D) where
     failed = λ e. absurd (cc);
     memory = λ e. absurd (cc);
     only = λ head held keeps honest. tt;
+    closed = λ e. absurd (cc);
+    stays = refl;
+    faults = tt;
   }
 
   -- what the store's index shows
@@ -64,6 +67,9 @@ module _ {D : Type 0} (g : Ghosts D) where
     failed = λ e. absurd (cc);
     memory = λ e. absurd (cc);
     only = λ head held keeps honest. tt;
+    closed = λ e. absurd (cc);
+    stays = refl;
+    faults = tt;
   }
 
   -- one more was read
@@ -77,6 +83,9 @@ module _ {D : Type 0} (g : Ghosts D) where
     failed = λ e. absurd (cc);
     memory = λ e. absurd (cc);
     only = λ head held keeps honest. tt;
+    closed = λ e. absurd (cc);
+    stays = k.stays ∙ h.stays;
+    faults = tt;
   }
 
   fault_is : {T U : Type 0} (x y : StoreFault) → ◌≡◌ {A = Result T StoreFault} (Err x) (Err y) → ◌≡◌ {A = Result U StoreFault} (Err x) (Err y)
@@ -84,14 +93,19 @@ module _ {D : Type 0} (g : Ghosts D) where
 
   -- or wasn't
   pub read_failed : {T U V : Type 0} (first : model.Store → T) (then : model.Store → U) (answer : model.Store → V) (before between after : Store D) (x : T) (fault : StoreFault)
-      → Read g first before between (Ok x) → Read g then between after (Err fault) → Read g answer before after (Err fault)
-  read_failed first then answer before between after x fault h k = record {
+      → Read g first before between (Ok x) → Read g then between after (Err fault) → (is_closed before ≡ true → between ≡ before) → Read g answer before after (Err fault)
+  read_failed first then answer before between after x fault h k same = record {
     ok = λ head held keeps honest. tt;
     reads = reads_on (disk_of before) (disk_of between) (disk_of after) h.reads k.reads;
     held = k.held ∙ h.held;
     failed = λ e. let f = k.failed (fault_is fault Disk e) in (rose_from _ _ _ h.reads.counts f.0, f.1);
     memory = λ e. k.memory (fault_is fault OutOfMemory e);
     only = λ head held keeps honest. k.only head held (h.ok head held keeps honest).1 honest;
+    closed = λ e.
+        let c = k.closed (fault_is fault Closed e) in
+        let was : is_closed before ≡ true = sym h.stays ∙ c.0 in (was, subst (λ (s : Store D). IsAsBefore g s after) (same was) c.1);
+    stays = tt;
+    faults = k.faults;
   }
 
   -- ---- ends

@@ -31,6 +31,10 @@ not_memory (Err f) (inl disk) e = cc
 not_memory (Err f) (inr (inl closed)) e = cc
 not_memory (Err f) (inr (inr bad)) e = cc
 
+pub open_still : {T : Type 0} (r : Result T StoreFault) (P : Type 0) → ((IsErrOf r Disk → ⊥) → P) → OnOk r P
+open_still (Ok x) P h = h (λ e. cc)
+open_still (Err e) P h = tt
+
 -- ---- reading
 
 pub pair_told : (slot : ℕ) (o : Option Vote) → told_pair slot (vote_pair o) ≡ told_at slot o

@@ -1,13 +1,16 @@
 -- What a promise tells.
 use Rattle.std.proofs.Common.{ℕ, zero, suc, ◌≡◌, ◌<◌, ◌≤◌, ◌+◌, ◌-◌, ◌⊎◌, inl, inr, List, [], ◌∷◌, ◌++◌, Option, Some, None, refl, sym, ◌∙◌, ap, subst, arith, length, length-append}
+use Rattle.std.specs.Prelude.{IfSome}
 use Rattle.std.specs.List.{AllByRecursion}
 use Rattle.paxos_wire.specs.declared.limits.TheConstants.{WINDOW}
+use Rattle.paxos_wire.specs.declared.ballot.Ballot.{Ballot}
 use Rattle.paxos_wire.specs.declared.entry.Entry.{Entry}
-use Rattle.paxos_wire.specs.Fits.{IsEntry, AreEntries, Rise}
+use Rattle.slot_log.specs.declared.command.Command.{Command}
+use Rattle.paxos_wire.specs.Fits.{IsInRange, IsEntry, AreEntries, Rise}
 use Rattle.protocol_model.specs.Sets.{In}
 use Rattle.protocol_model.specs.Messages.{Vote, entry_of, vote_of}
 use Rattle.protocol_model.specs.Stores.{Store, Tells}
-use Rattle.acceptor.specs.Answers.{told_at, told_from, told_of}
+use Rattle.acceptor.specs.Answers.{told_at, told_pair, told_from, told_of, command_found}
 
 in_front : {A : Type 0} (x : A) (xs ys : List A) → In x xs → In x (xs ++ ys)
 in_front x [] ys m = absurd m
@@ -124,3 +127,32 @@ module _ (store : Store) (fits : (slot : ℕ) (vote : Vote) → store.votes slot
 
 pub told_are_entries : (store : Store) (first : ℕ) → ((slot : ℕ) (vote : Vote) → store.votes slot ≡ Some vote → IsEntry (entry_of slot vote)) → AreEntries first (told_of store first)
 told_are_entries store first fits = record { most = told_count store first WINDOW; each = told_each store fits first WINDOW; rise = told_rise store first WINDOW }
+
+-- ---- whatever a store gives
+
+pair_rises : (slot : ℕ) (found : Option (Ballot × Command)) → Rise slot (slot + 1) (told_pair slot found)
+pair_rises slot None = tt
+pair_rises slot (Some vote) = (omega arith, omega arith, tt)
+
+abbrev pub IsVoteAt : ℕ → Option (Ballot × Command) → Type 0
+IsVoteAt slot found = IfSome found (λ vote. IsEntry (record { slot = slot; ballot = vote.0; command = vote.1 }))
+
+pair_fits : (slot : ℕ) (found : Option (Ballot × Command)) → IsVoteAt slot found → AllByRecursion IsEntry (told_pair slot found)
+pair_fits slot None fits = tt
+pair_fits slot (Some vote) fits = (fits, tt)
+
+-- one slot further
+pub more_fit : (first place : ℕ) (entries all : List Entry) (found : Option (Ballot × Command))
+    → all ≡ entries ++ told_pair (first + place) found → AllByRecursion IsEntry entries → Rise first (first + place) entries → IsVoteAt (first + place) found
+    → AllByRecursion IsEntry all × Rise first (first + (place + 1)) all
+more_fit first place entries all found is each rise fits =
+    let next : first + place + 1 ≡ first + (place + 1) = omega arith in rw is (
+      all_append IsEntry entries _ each (pair_fits (first + place) found fits),
+      subst (λ (m : ℕ). Rise first m (entries ++ told_pair (first + place) found)) next
+          (rise_append first (first + place) (first + place + 1) entries (told_pair (first + place) found) (omega arith) (omega arith) rise (pair_rises (first + place) found)),
+    )
+
+-- the command of what was found
+pub command_fits : (slot : ℕ) (found : Option (Ballot × Command)) → IsVoteAt slot found → IfSome (command_found found) IsInRange
+command_fits slot None fits = tt
+command_fits slot (Some vote) fits = fits.command

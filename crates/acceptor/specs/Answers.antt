@@ -1,5 +1,6 @@
 -- What an acceptor answers, and what it keeps then, by what it kept.
-use Rattle.std.specs.Prelude.{ℕ, zero, suc, ◌+◌, ◌==◌, Bool, true, false, nat_lt, if◌then◌else◌, List, [], ◌∷◌, ◌++◌, Option, Some, None}
+use Rattle.std.specs.Prelude.{◌≡◌, ℕ, zero, suc, ◌+◌, ◌==◌, Bool, true, false, nat_lt, if◌then◌else◌, List, [], ◌∷◌, ◌++◌, Option, Some, None}
+use Rattle.paxos_wire.specs.Fits.{IsBallot, IsInRange, AreEntries}
 use Rattle.paxos_wire.specs.declared.limits.TheConstants.{WINDOW}
 use Rattle.paxos_wire.specs.declared.ballot.Ballot.{Ballot}
 use Rattle.paxos_wire.specs.declared.entry.Entry.{Entry}
@@ -55,8 +56,17 @@ abbrev pub answer_to_prepare : Ballot → ℕ → Store → PrepareAnswer
 answer_to_prepare ballot slot store =
     if is_below store.promise ballot then Promise ballot slot (told_of store slot) else RefusePrepare ballot slot store.promise
 
+-- any other is refused by the promise alone, which is told
+abbrev pub refusal_of_prepare : Ballot → ℕ → Ballot → Option PrepareAnswer
+refusal_of_prepare ballot slot promise = if is_below promise ballot then None else Some (RefusePrepare ballot slot promise)
+
 abbrev pub prepared : Ballot → Store → Store
 prepared ballot store = if is_below store.promise ballot then promised store ballot else store
+
+-- an answer that a frame carries: of that ballot and slot, its numbers within their ranges
+abbrev pub AnswersPrepare : Ballot → ℕ → PrepareAnswer → Type 0
+AnswersPrepare ballot slot (Promise b s entries) = (b ≡ ballot) × (s ≡ slot) × AreEntries slot entries
+AnswersPrepare ballot slot (RefusePrepare b s promise) = (b ≡ ballot) × (s ≡ slot) × IsBallot promise
 
 -- ---- a proposal
 
@@ -76,9 +86,18 @@ answer_to_accept ballot slot command store =
     if is_below ballot store.promise then RefuseAccept ballot slot store.promise
     else Accepted ballot slot (command_in (store.votes slot) ballot command)
 
+-- any other is refused by the promise alone, which is told
+abbrev pub refusal_of_accept : Ballot → ℕ → Ballot → Option AcceptAnswer
+refusal_of_accept ballot slot promise = if is_below ballot promise then Some (RefuseAccept ballot slot promise) else None
+
 -- once a ballot and slot: where a vote of the ballot is there, it stays
 abbrev pub accepted : Ballot → ℕ → Command → Store → Store
 accepted ballot slot command store =
     if is_below ballot store.promise then store
     else if has_voted (store.votes slot) ballot then store
     else voted store slot (record { ballot = ballot; command = command })
+
+-- an answer that a frame carries
+abbrev pub AnswersAccept : Ballot → ℕ → AcceptAnswer → Type 0
+AnswersAccept ballot slot (Accepted b s command) = (b ≡ ballot) × (s ≡ slot) × IsInRange command
+AnswersAccept ballot slot (RefuseAccept b s promise) = (b ≡ ballot) × (s ≡ slot) × IsBallot promise

@@ -1,14 +1,18 @@
 -- What a call makes of an acceptor's store, however it ends.
-use Rattle.std.specs.Prelude.{◌≡◌, ◌⊎◌, ℕ, ◌≤◌, true, List, Result, IsTrue, IsErrOf, IfOk, IfErr}
+use Rattle.std.specs.Prelude.{◌≡◌, ◌⊎◌, ℕ, ◌≤◌, true, List, Option, Result, IsTrue, IsNone, IfSome, IsErrOf, IfOk, IfErr, OnOk, MatchResult}
 use Rattle.protocol_model.specs.Stores as model
 use Rattle.promise_store.specs.declared.disk.Disk.{Ghosts}
 use Rattle.promise_store.specs.declared.store.Store.{Store}
 use Rattle.promise_store.specs.declared.fault.StoreFault.{StoreFault}
-use Rattle.promise_store.specs.declared.fault.StoreFault.TheVariants.{Disk, OutOfMemory}
+use Rattle.promise_store.specs.declared.fault.StoreFault.TheVariants.{Disk, Closed, BadRecord, OutOfMemory}
 use Rattle.promise_store.specs.Disks.{Rose}
 use Rattle.promise_store.specs.Settled.{OnlyReads}
 use Rattle.promise_store.specs.Keeping.{disk_of, is_closed, held_of, Keeps, Leaves, LeavesDuring}
 use Rattle.promise_store.specs.Appended.{IsAsBefore}
+
+-- what may be refused at any store, whatever its disk is: 62 of one that isn't honest alone
+abbrev pub IsFault : StoreFault → Type 0
+IsFault fault = (fault ≡ Disk) ⊎ ((fault ≡ Closed) ⊎ (fault ≡ BadRecord))
 
 module _ {D : Type 0} (g : Ghosts D) where
   -- a call of an acceptor whose store keeps one of the model: after Ok it gave the answer and keeps the next; at each moment
@@ -27,6 +31,17 @@ module _ {D : Type 0} (g : Ghosts D) where
     pub begun : g.begun (disk_of after) ≡ g.begun (disk_of before)
     pub counts : g.count (disk_of before) ≤ g.count (disk_of after)
 
+  -- a call over any store, whatever its disk is: what the promise that it shows refuses by itself asks no more of the
+  -- store; every other call asks it to be open
+  pub record NeedsStore {T : Type 0} (refusal : Option T) (before after : Store D) (result : Result T StoreFault) : Type 0 where
+    -- such a refusal is told, also at a closed store, unless memory is wanted; and nothing changes
+    pub refused : IfSome refusal (λ told. MatchResult result (λ given. given ≡ told) (λ fault. fault ≡ OutOfMemory) × IsAsBefore g before after)
+    -- any other call is 64 at a closed store, unless memory is wanted
+    pub closed : IsNone refusal → is_closed before ≡ true → IsErrOf result Closed ⊎ IsErrOf result OutOfMemory
+    -- 64 comes of nothing else, and nothing changes then
+    pub opened : IsErrOf result Closed → IsNone refusal × (is_closed before ≡ true) × IsAsBefore g before after
+    pub only : IfErr result (λ fault. IsFault fault ⊎ (fault ≡ OutOfMemory))
+
   -- what was read of a store, which keeps what it kept
   pub record Read {T : Type 0} (answer : model.Store → T) (before after : Store D) (result : Result T StoreFault) : Type 0 where
     pub ok : (head : List ℕ) (held : model.Store) → Keeps g head held before → IsTrue g.is_honest
@@ -36,3 +51,7 @@ module _ {D : Type 0} (g : Ghosts D) where
     pub held : held_of after ≡ held_of before
     pub memory : IsErrOf result OutOfMemory → ⊥
     pub only : (head : List ℕ) (held : model.Store) → Keeps g head held before → IsTrue g.is_honest → IfErr result (λ fault. fault ≡ Disk)
+    -- 64 comes of a closed store, which is left as it was; one that was read stays open
+    pub closed : IsErrOf result Closed → (is_closed before ≡ true) × IsAsBefore g before after
+    pub stays : OnOk result (is_closed after ≡ is_closed before)
+    pub faults : IfErr result IsFault

@@ -1,7 +1,9 @@
-ghost use Rattle.std.specs.Prelude.{◌≡◌, ◌+◌, ◌≤◌, ℕ, IsOk, OnOk, IsErrOf};
+ghost use Rattle.std.specs.Prelude.{◌≡◌, ◌⊎◌, ◌+◌, ◌≤◌, ℕ, List, IsTrue, IsOk, OnOk, IfOk, IsErrOf};
 ghost use Rattle.paxos_wire.specs.Fits.{IsBallot, IsSlot, IsInRange};
-ghost use Rattle.promise_store.specs.Room.{room};
-ghost use Rattle.acceptor.specs.Answers.{answer_to_prepare, prepared, answer_to_accept, accepted};
+ghost use Rattle.protocol_model.specs.Ballots.{no_ballot};
+ghost use Rattle.protocol_model.specs.Stores as model;
+ghost use Rattle.promise_store.specs.Room.{promised_in, room, ShowSame};
+ghost use Rattle.acceptor.specs.Answers.{answer_to_prepare, refusal_of_prepare, prepared, AnswersPrepare, answer_to_accept, refusal_of_accept, accepted, AnswersAccept};
 
 use crate::answers::{AcceptAnswer, PrepareAnswer};
 use crate::telling::{entries_from, is_below, stored_in};
@@ -21,10 +23,10 @@ pub struct Acceptor<D: Disk> {
 }
 
 impl<D: Disk> Acceptor<D> {
-    ghost use Rattle.promise_store.specs.Keeping.{disk_of, held_of};
+    ghost use Rattle.promise_store.specs.Keeping.{disk_of, held_of, Keeps};
     ghost use Rattle.promise_store.specs.Appended.{IsAsBefore};
     ghost use Rattle.acceptor.specs.Stored.{store_of};
-    ghost use Rattle.acceptor.specs.Taken.{Taken};
+    ghost use Rattle.acceptor.specs.Taken.{Taken, NeedsStore};
 
     /// The acceptor with this store, which was created or opened.
     pub fn new(store: Store<D>) -> Acceptor<D>
@@ -38,6 +40,15 @@ impl<D: Disk> Acceptor<D> {
         ensures { result.now ≡ store_of self.now }
     {
         &self.store
+    }
+
+    /// The greatest ballot that it promised or accepted in; round 0 of node 0 where there is none.
+    pub fn promised(&self) -> Ballot
+        ensures value { result ≡ promised_in (held_of (store_of self.now)) }
+        ensures kept { (head : List ℕ) (held : model.Store) → Keeps D.Disk head held (store_of self.now) → IsTrue D.is_honest → result ≡ held.promise }
+        ensures range { (result ≡ no_ballot) ⊎ IsBallot result }
+    {
+        self.store.held().promised()
     }
 
     /// Hands the disk back, with what the store kept on it.
@@ -54,6 +65,7 @@ impl<D: Disk> Acceptor<D> {
         ensures succeeds { slots ≤ room (held_of (store_of self.old)) → IsOk result }
         ensures more { room (held_of (store_of self.old)) ≤ room (held_of (store_of self.new)) }
         ensures same { IsAsBefore D.Disk (store_of self.old) (store_of self.new) }
+        ensures shows { ShowSame (held_of (store_of self.old)) (held_of (store_of self.new)) }
     {
         self.store.reserve(slots)
     }
@@ -61,11 +73,15 @@ impl<D: Disk> Acceptor<D> {
     /// Answers a Prepare, that of its own node too: a ballot above all that it promised is promised, and told is what
     /// was accepted at the 64 slots from the slot on. It takes no memory; 64 entries may be read before the append.
     ///
-    /// Refused are 63 where the disk failed, and 64 at a closed store.
+    /// Refused are 63 where the disk failed, and 64 at a closed store, which still tells by `Refuse` that a ballot isn't
+    /// above what it promised.
     pub fn on_prepare(&mut self, ballot: Ballot, slot: u32) -> Result<PrepareAnswer, StoreFault>
         requires ballot { IsBallot ballot }
         requires slot { IsSlot slot }
         ensures taken { Taken D.Disk (answer_to_prepare ballot slot) (prepared ballot) (store_of self.old) (store_of self.new) result }
+        ensures needs { NeedsStore D.Disk (refusal_of_prepare ballot slot (promised_in (held_of (store_of self.old)))) (store_of self.old) (store_of self.new) result }
+        ensures fits { IfOk result (AnswersPrepare ballot slot) }
+        ensures room { room (held_of (store_of self.new)) ≡ room (held_of (store_of self.old)) }
         ensures memory { IsErrOf result StoreFault.OutOfMemory → ⊥ }
     {
         records_are_moves();
@@ -90,7 +106,8 @@ impl<D: Disk> Acceptor<D> {
     /// Answers a proposal, that of its own node too: it is accepted unless a ballot above it was promised. Where a
     /// command was accepted at the slot in this very ballot, that one stays and is told, and nothing is written.
     ///
-    /// Refused are 92 where there is no memory for the slot, 63 where the disk failed, and 64 at a closed store.
+    /// Refused are 92 where there is no room for the slot and no memory for it, 63 where the disk failed, and 64 at a
+    /// closed store, which still tells by `Refuse` that a ballot is below what it promised.
     pub fn on_accept(
         &mut self,
         ballot: Ballot,
@@ -100,7 +117,11 @@ impl<D: Disk> Acceptor<D> {
         requires ballot { IsBallot ballot }
         requires slot { IsSlot slot }
         requires command { IsInRange command }
-        ensures { Taken D.Disk (answer_to_accept ballot slot command) (accepted ballot slot command) (store_of self.old) (store_of self.new) result }
+        ensures taken { Taken D.Disk (answer_to_accept ballot slot command) (accepted ballot slot command) (store_of self.old) (store_of self.new) result }
+        ensures needs { NeedsStore D.Disk (refusal_of_accept ballot slot (promised_in (held_of (store_of self.old)))) (store_of self.old) (store_of self.new) result }
+        ensures fits { IfOk result (AnswersAccept ballot slot) }
+        ensures room { room (held_of (store_of self.old)) ≤ room (held_of (store_of self.new)) + 1 }
+        ensures full { IsErrOf result StoreFault.OutOfMemory → room (held_of (store_of self.old)) ≡ 0 }
     {
         self.reserve(1)?;
         self.on_accept_reserved(ballot, slot, command)
@@ -118,6 +139,9 @@ impl<D: Disk> Acceptor<D> {
         requires command { IsInRange command }
         requires room { 1 ≤ room (held_of (store_of self.old)) }
         ensures taken { Taken D.Disk (answer_to_accept ballot slot command) (accepted ballot slot command) (store_of self.old) (store_of self.new) result }
+        ensures needs { NeedsStore D.Disk (refusal_of_accept ballot slot (promised_in (held_of (store_of self.old)))) (store_of self.old) (store_of self.new) result }
+        ensures fits { IfOk result (AnswersAccept ballot slot) }
+        ensures room { room (held_of (store_of self.old)) ≤ room (held_of (store_of self.new)) + 1 }
         ensures memory { IsErrOf result StoreFault.OutOfMemory → ⊥ }
     {
         records_are_moves();

@@ -9,3 +9,6 @@ mod telling;
 
 pub use acceptor::Acceptor;
 pub use answers::{AcceptAnswer, PrepareAnswer};
+
+#[cfg(test)]
+mod tests;

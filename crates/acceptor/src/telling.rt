@@ -1,5 +1,7 @@
-ghost use Rattle.std.specs.Prelude.{◌≡◌, ◌+◌, ◌^◌, ◌<◌, ◌≤◌, ◌++◌, ℕ, length};
-ghost use Rattle.paxos_wire.specs.Fits.{IsSlot};
+ghost use Rattle.std.specs.Prelude.{◌≡◌, ◌+◌, ◌^◌, ◌<◌, ◌≤◌, ◌++◌, ℕ, length, true, None, IsErrOf, IfOk, IfSome, MatchResult};
+ghost use Rattle.paxos_wire.specs.Fits.{IsSlot, IsInRange, IsEntry, AreEntries};
+ghost use Rattle.promise_store.specs.declared.fault.StoreFault.TheVariants.{Closed};
+ghost use Rattle.promise_store.specs.Keeping.{is_closed};
 ghost use Rattle.promise_store.specs.Shown.{vote_pair};
 ghost use Rattle.acceptor.specs.Answers.{is_below, is_same, told_of, told_pair, command_found, stored_command};
 ghost use Rattle.acceptor.specs.Taken.{Read};
@@ -28,7 +30,9 @@ fn vote_at<D: Disk>(
     store: &mut Store<D>,
     slot: u32,
 ) -> Result<Option<(Ballot, Command)>, StoreFault>
-    ensures { Read D.Disk (λ held. vote_pair (held.votes slot)) store.old store.new result }
+    ensures read { Read D.Disk (λ held. vote_pair (held.votes slot)) store.old store.new result }
+    ensures closed { is_closed store.old ≡ true → IsErrOf result Closed }
+    ensures range { IfOk result (λ found. IfSome found (λ vote. IsEntry (record { slot = slot; ballot = vote.0; command = vote.1 }))) }
 {
     store.entry(slot)
 }
@@ -51,7 +55,9 @@ fn tell(entries: &mut Entries, slot: u32, found: Option<(Ballot, Command)>)
 /// Reads what was accepted at the 64 slots from the first on.
 pub(crate) fn entries_from<D: Disk>(store: &mut Store<D>, first: u32) -> Result<Entries, StoreFault>
     requires { IsSlot first }
-    ensures { Read D.Disk (λ held. told_of held first) store.old store.new result }
+    ensures read { Read D.Disk (λ held. told_of held first) store.old store.new result }
+    ensures closed { is_closed store.old ≡ true → IsErrOf result Closed }
+    ensures range { IfOk result (λ entries. AreEntries first entries) }
 {
     let mut entries = Entries::new();
     for place in 0..WINDOW as u32 {
@@ -78,7 +84,9 @@ pub(crate) fn stored_in<D: Disk>(
     ballot: Ballot,
     slot: u32,
 ) -> Result<Option<Command>, StoreFault>
-    ensures { Read D.Disk (λ held. stored_command ballot (held.votes slot)) store.old store.new result }
+    ensures read { Read D.Disk (λ held. stored_command ballot (held.votes slot)) store.old store.new result }
+    ensures closed { is_closed store.old ≡ true → MatchResult result (λ stored. (stored ≡ None) × (store.new ≡ store.old)) (λ fault. fault ≡ Closed) }
+    ensures range { IfOk result (λ stored. IfSome stored IsInRange) }
 {
     let Some(placed) = store.held().find(slot) else {
         return Ok(None);

@@ -4,10 +4,10 @@ use Rattle.std.specs.Prelude.{slice_index, slice_index_or, IfSome, is_none, is_s
 use Rattle.game_def.specs.Game.{Game, stack_of}
 use Rattle.betting.specs.declared.totals.Totals.{Totals}
 use Rattle.betting.specs.declared.play.Play.TheInside.{Inside}
-use Rattle.betting.specs.Turns.{Turn, max_spent, spent, folded, live, live_count, actions_in, raises_in, min_to}
+use Rattle.betting.specs.Turns.{Turn, count_below, max_spent, spent, folded, live, live_count, unfolded_count, actions_in, raises_in, min_to}
 use Rattle.betting.specs.Rounds.{over, current_round, to_act, turns}
 use Rattle.betting.specs.Legal.{limit_to, least_raise, greatest_raise, no_raise}
-use Rattle.betting.specs.TotalsInside.{IsTotals, seat_lives, lives_in, least_by, greatest_by, no_raise_by}
+use Rattle.betting.specs.TotalsInside.{IsTotals, seat_lives, seat_stays, lives_in, least_by, greatest_by, no_raise_by}
 use Rattle.betting.specs.PlayInside.{IsKept, past_of, betting_of}
 use Rattle.betting.specs.Betting.{Betting, history}
 use Rattle.betting.proofs.Counts.{count_below-same}
@@ -88,6 +88,12 @@ module _ (d : Inside) (b : Betting) (is : betting_of d ≡ b) (kept : IsKept d) 
 
   pub seen_folded : (p : ℕ) → p < b.game.players → slice_index_or d.totals.folded p false ≡ folded (history b) p
   seen_folded p = subst (λ (w : Betting). p < w.game.players → slice_index_or d.totals.folded p false ≡ folded (history w) p) is (kept.totals.tally.folded_each p)
+
+  pub seen_unfolded : count_below (seat_stays d.totals) d.game.players ≡ unfolded_count b.game (history b)
+  unfolding unfolded_count
+  seen_unfolded =
+      subst (λ (w : Betting). count_below (seat_stays d.totals) d.game.players ≡ count_below (λ position. not (folded (history w) position)) w.game.players) is
+      (count_below-same (seat_stays d.totals) (λ position. not (folded (turns d.game (past_of d)) position)) d.game.players (λ p within. ap not (kept.totals.tally.folded_each p within)))
 
   pub seen_over : is_none d.totals.next ≡ over b.game (history b)
   seen_over = subst (λ (w : Betting). is_none d.totals.next ≡ over w.game (history w)) is (kept_over d kept)

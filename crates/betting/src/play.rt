@@ -1,6 +1,6 @@
 ghost use Rattle.std.specs.Prelude.{◌≡◌, ◌∷◌, [], Some, None, IsSome, ◌<◌, ◌≤◌, ◌↔◌, ℕ, List, length, reverse, slice_index, is_ok, IsOk, IsTrue, IfErr, IfSome, MatchOption, if◌then◌else◌};
 ghost use Rattle.game_def.specs.Game.{stack_of};
-ghost use Rattle.betting.specs.Turns.{spent, folded, max_spent};
+ghost use Rattle.betting.specs.Turns.{spent, folded, unfolded_count, max_spent};
 ghost use Rattle.betting.specs.Rounds.{current_round, over, to_act};
 ghost use Rattle.betting.specs.Legal.{CanAct, IsRaiseRange, Legal, fault_of, least_raise, greatest_raise, no_raise, fault_of_raise, fault_at};
 ghost use Rattle.betting.specs.Text.{slash_counts};
@@ -154,6 +154,13 @@ impl Play {
     {
         let folded = &self.totals.folded;
         folded[position]
+    }
+
+    /// How many positions haven't given the hand up.
+    pub fn unfolded(&self) -> usize
+        ensures { result ≡ unfolded_count self.now.game (history self.now) }
+    {
+        self.totals.unfolded_count(&self.game)
     }
 
     /// The last of the rounds that the betting text shows, 0 to 3: the one that has begun, the last one after

@@ -150,6 +150,7 @@ fn folds_end_the_hand_in_their_round(rt: HostRuntime) {
     for (position, gone) in [(0, true), (1, true), (2, false)] {
         assert_eq!(rt; play.folded(position), gone);
     }
+    assert_eq!(rt; play.unfolded(), 1);
 }
 
 #[test]

@@ -110,7 +110,7 @@ impl Totals {
     }
 
     /// How many positions haven't folded.
-    fn unfolded_count(&self, game: &GameDef) -> usize
+    pub(crate) fn unfolded_count(&self, game: &GameDef) -> usize
         ensures { result ≡ stays_in game.now self.now }
     {
         let mut count = 0;

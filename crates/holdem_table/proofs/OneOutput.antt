@@ -1,12 +1,14 @@
 -- A script has one output.
 use Rattle.std.proofs.Common.{sym, ◌∙◌, ap, subst}
+use Rattle.matchstate.specs.OneReading.{ActionTextsSayOneAction}
+use Rattle.matchstate.specs.OneToOne.{DealTextsAreOneToOne}
 use Rattle.holdem_table.specs.Script.{SayInTurn, answers}
 use Rattle.holdem_table.specs.OneOutput.{OneOutput}
 use Rattle.holdem_table.proofs.OneCut.{same_lines}
 use Rattle.holdem_table.proofs.OneSaying.{same_says}
 
-pub one_output : OneOutput
-one_output game count log bytes output other script again =
+pub one_output : ActionTextsSayOneAction → DealTextsAreOneToOne → OneOutput
+one_output actions deals game count log bytes output other script again =
     let lines = same_lines bytes script.lines again.lines script.rest again.rest script.are_lines again.are_lines in
     let turn = subst (λ ls. SayInTurn game count ls again.says) (sym lines) again.say_in_turn in
-    script.written ∙ ap (answers game count log) (same_says game count script.lines script.says again.says script.say_in_turn turn) ∙ sym again.written
+    script.written ∙ ap (answers game count log) (same_says actions deals game count script.lines script.says again.says script.say_in_turn turn) ∙ sym again.written

@@ -3,3 +3,4 @@ pub mod Views
 pub mod Told
 pub mod Outing
 pub mod Wider
+pub mod Examples

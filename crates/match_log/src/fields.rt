@@ -1,4 +1,5 @@
 ghost use Rattle.std.specs.Prelude.{◌≡◌, ℕ, ◌+◌, ◌*◌, ◌<◌, ◌≤◌, ◌++◌, ◌∷◌, [], map, length, take, vec_len, vec_capacity};
+ghost use Rattle.std.specs.Fmt.{signed_decimal};
 ghost use Rattle.std.specs.List.{flat_map, join_by};
 ghost use Rattle.card_core.specs.Deal.{player_count};
 ghost use Rattle.matchstate.specs.Cards.{cards_text, cards_field, holes_of, boards_of};
@@ -6,8 +7,9 @@ ghost use Rattle.match_log.specs.Lines.{bar_before, values_field, names_field};
 ghost use Rattle.match_log.specs.Names.{names_by_position};
 
 use crate::name::Name;
-use crate::put::{put, put_amount, put_cards};
 use card_core::{Card, Deal};
+use itoa::Buffer;
+use matchstate::{put, put_cards};
 
 /// Appends the `|` in front of all pieces but the first, for which there is room.
 fn put_bar(out: &mut Vec<u8>, place: usize)
@@ -32,6 +34,16 @@ pub(crate) fn put_values(out: &mut Vec<u8>, values: &[i64])
         put_bar(out, place);
         put_amount(out, *amount);
     }
+}
+
+/// Appends an amount of whole chips, won or lost, for which there is room.
+fn put_amount(out: &mut Vec<u8>, amount: i64)
+    requires { vec_len out.old + 20 ≤ vec_capacity out.old }
+    ensures items { out.new.items ≡ out.old.items ++ signed_decimal amount }
+    ensures len { vec_len out.new ≤ vec_len out.old + 20 }
+    ensures capacity { vec_capacity out.old ≤ vec_capacity out.new }
+{
+    put(out, Buffer::new().format(amount).as_bytes());
 }
 
 /// Appends the seats' names by position with `|` between them, in a hand of this number.

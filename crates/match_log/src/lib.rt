@@ -26,7 +26,6 @@ mod name;
 mod names_text;
 mod numeral;
 mod printed_text;
-mod put;
 mod score;
 mod score_lines;
 mod seat_names;

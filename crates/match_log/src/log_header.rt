@@ -1,4 +1,4 @@
-ghost use Rattle.std.specs.Prelude.{◌≡◌, ◌+◌, ◌<◌, ◌≤◌, ◌++◌, vec_len, vec_capacity, OnOk, OnErr, ℕ, ◌^◌, List, decimal, IfSome, IsNone, Some};
+ghost use Rattle.std.specs.Prelude.{◌≡◌, ◌+◌, ◌<◌, ◌≤◌, ◌++◌, vec_len, vec_capacity, OnOk, OnErr, ℕ, List, decimal, IfSome, IsNone, Some};
 ghost use Rattle.match_log.specs.Names.{IsName, IsGameWord};
 ghost use Rattle.match_log.specs.Lines.{header_line};
 ghost use Rattle.match_log.specs.Check.{HasTitle};
@@ -7,8 +7,7 @@ ghost use Rattle.match_log.specs.Log.{Title};
 use crate::cut::{after, cut};
 use crate::game_word::is_game_word;
 use crate::name::is_name;
-use crate::put::{put, put_number};
-use itoa::Buffer;
+use matchstate::{put, put_number, read_number};
 use slot_log::limits::HANDS;
 use std::alloc::AllocError;
 
@@ -94,24 +93,6 @@ fn read_hands(bytes: &[u8]) -> Option<u32>
     let hands = read_number(bytes)?;
     if 1 <= hands && hands <= HANDS {
         Some(hands)
-    } else {
-        None
-    }
-}
-
-/// The number that the bytes write as a decimal without leading zeros.
-fn read_number(bytes: &[u8]) -> Option<u32>
-    ensures found { IfSome result (λ number. bytes.now ≡ decimal number) }
-    ensures only { (number : ℕ) → number < 2 ^ 32 → bytes.now ≡ decimal number → result ≡ Some number }
-{
-    let Ok(text) = str::from_utf8(bytes) else {
-        return None;
-    };
-    let Ok(number) = text.parse::<u32>() else {
-        return None;
-    };
-    if Buffer::new().format(number).as_bytes() == bytes {
-        Some(number)
     } else {
         None
     }

@@ -5,10 +5,10 @@ ghost use Rattle.match_log.specs.Tally.{IsTallyOf};
 
 use crate::dealt::dealt_hand;
 use crate::fields::{put_names, put_values};
-use crate::put::put;
 use crate::score::Score;
 use crate::seat_names::SeatNames;
 use crate::settlement::payoffs;
+use matchstate::put;
 use slot_log::Table;
 use std::alloc::AllocError;
 

@@ -6,13 +6,12 @@ ghost use Rattle.match_log.specs.Lines.{state_line as line_of};
 
 use crate::dealt::dealt_hand;
 use crate::fields::{put_names, put_shown, put_values};
-use crate::put::{put, put_number};
 use crate::seat_names::SeatNames;
 use crate::settlement::payoffs;
 use betting::Play;
 use card_core::Deal;
 use game_def::GameDef;
-use matchstate::betting_text_reserved;
+use matchstate::{betting_text_reserved, put, put_number};
 use slot_log::Table;
 use std::alloc::AllocError;
 

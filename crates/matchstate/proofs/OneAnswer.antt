@@ -15,7 +15,7 @@ use Rattle.matchstate.specs.declared.line_fault.LineFault.{LineFault}
 use Rattle.matchstate.specs.declared.line_fault.LineFault.TheVariants.{NotMatchstate, BadNumber, BadBetting, BadCards, BadAction}
 use Rattle.matchstate.proofs.LastField.{same_cut}
 use Rattle.matchstate.proofs.Words.{text_of_read}
-use Rattle.matchstate.specs.OneReading.{AnswersReadOneWay, AnswersAreTexts}
+use Rattle.matchstate.specs.OneReading.{AnswersReadOneWay, ActionTextsSayOneAction, AnswersAreTexts}
 use Rattle.matchstate.proofs.OneBetting.{letter, letter_is, one_amount}
 use Rattle.matchstate.proofs.OneLine.{lines_are_texts, lines_read_one_way}
 
@@ -39,7 +39,7 @@ one_raise game past bytes amount other text said = by_sizes game.raise_sizes ref
         decimal_injective amount other (omega arith) (omega arith) digits
     by_sizes (Some sizes) kind one two = one_limit_amount game past sizes amount other kind one.1 two.1
 
-one_action : (game : Game) (past : List Turn) (bytes : List ℕ) (action other : Action) → IsActionText game past bytes action → IsActionText game past bytes other → action ≡ other
+pub one_action : ActionTextsSayOneAction
 one_action game past bytes action other text said =
     let texts : action_text game action ≡ action_text game other = sym (text_of_read game past bytes action text) ∙ text_of_read game past bytes other said in
     by_kind action other text said (sym (letter_is game action []) ∙ ap (λ t. get_or (t ++ []) 0 0) texts ∙ letter_is game other [])

@@ -1,6 +1,6 @@
 -- The fields of a line, as they are cut from it.
 use Rattle.matchstate.specs.Line.{Fields}
-use Rattle.matchstate.specs.declared.fields.LineFields.{LineFields}
+use Rattle.matchstate.specs.declared.line_fields.LineFields.{LineFields}
 
 abbrev pub fields_in : LineFields → Fields
 fields_in fields = record {

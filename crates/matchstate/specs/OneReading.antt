@@ -3,6 +3,8 @@ use Rattle.std.specs.Prelude.{◌≡◌, ℕ, List, ◌∷◌, ◌++◌, Result}
 use Rattle.game_def.specs.Game.{Game, IsGame}
 use Rattle.betting.specs.declared.action.Action.{Action}
 use Rattle.betting.specs.Text.{action_text}
+use Rattle.betting.specs.Turns.{Turn}
+use Rattle.matchstate.specs.ActionText.{IsActionText}
 use Rattle.matchstate.specs.View.{View}
 use Rattle.matchstate.specs.Line.{ReadsAs, line_text}
 use Rattle.matchstate.specs.Answer.{IsAnswer, AnswerReadsAs}
@@ -17,6 +19,10 @@ LinesReadOneWay = (game : Game) (bytes : List ℕ) (first second : Result View L
 abbrev pub AnswersReadOneWay : Type 0
 AnswersReadOneWay = (game : Game) (bytes : List ℕ) (first second : Result (View × Action) LineFault) → IsGame game
     → AnswerReadsAs game bytes first → AnswerReadsAs game bytes second → first ≡ second
+
+-- a text says one action
+abbrev pub ActionTextsSayOneAction : Type 0
+ActionTextsSayOneAction = (game : Game) (past : List Turn) (bytes : List ℕ) (first second : Action) → IsActionText game past bytes first → IsActionText game past bytes second → first ≡ second
 
 -- an answer is the text of its view, a colon and the text of its action
 abbrev pub AnswersAreTexts : Type 0

@@ -2,9 +2,9 @@ ghost use Rattle.std.specs.Prelude.{◌≡◌, ℕ, ◌≤◌, List, Some, IfSom
 ghost use Rattle.card_core.specs.Deal.{IsDeal};
 ghost use Rattle.matchstate.specs.Cards.{cards_field, holes_of, boards_of, deal_text};
 
-use crate::filling::fill_up;
-use crate::gather::gather;
-use crate::read_seen::read_seen;
+use crate::cards_field::read_seen;
+use crate::seen_cards::gather;
+use crate::unused_cards::fill_up;
 use card_core::Deal;
 
 /// The deal that a text of all its cards says, as `TdAs|8hTc/2c8c3h/9c/Kh`, for 2 to 10 players: the hole

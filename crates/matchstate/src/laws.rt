@@ -3,7 +3,7 @@
 ghost use Rattle.matchstate.specs.Laws.{LinesAgree, AlikeLines};
 ghost use Rattle.matchstate.specs.OneToOne.{BettingTextsAreOneToOne, CardsFieldsAreOneToOne, SeenFieldsAreOneToOne, ShownDealsAreOneToOne, DealTextsAreOneToOne};
 ghost use Rattle.matchstate.specs.OneLine.{TextsAreLines, LinesAreTexts, LinesSayOneView, TextsReadBack};
-ghost use Rattle.matchstate.specs.OneReading.{LinesReadOneWay, AnswersReadOneWay, AnswersAreTexts};
+ghost use Rattle.matchstate.specs.OneReading.{LinesReadOneWay, AnswersReadOneWay, ActionTextsSayOneAction, AnswersAreTexts};
 ghost use Rattle.matchstate.specs.Positions.{SeatsHaveOnePosition};
 ghost use Rattle.matchstate.specs.RightTexts.{TextsAreAnswers};
 ghost use Rattle.matchstate.specs.Beginnings.{BeginningsAreAlike, AlikeThroughout};
@@ -54,10 +54,11 @@ pub fn a_view_has_one_line()
 {}
 
 /// A text reads in one way, as one view or with one fault, and as a player's answer in one way, as one view and
-/// action or with one fault.
+/// action or with one fault; and what stands where an action is due says one action.
 pub fn a_text_reads_one_way()
     ensures line { LinesReadOneWay }
     ensures answer { AnswersReadOneWay }
+    ensures action { ActionTextsSayOneAction }
 {}
 
 /// The line of what some viewer could see, a colon and the text of an allowed action are an answer that says

@@ -1,6 +1,17 @@
-ghost use Rattle.std.specs.Prelude.{◌≡◌, ℕ, ◌^◌, ◌<◌, Some, IfSome, decimal};
+ghost use Rattle.std.specs.Prelude.{◌≡◌, ℕ, ◌^◌, ◌<◌, Some, IfSome, decimal, ◌+◌, ◌*◌, ◌≤◌, ◌++◌, length, vec_len, vec_capacity};
 
+use crate::bytes::put;
 use itoa::Buffer;
+
+/// Appends a number in decimal digits without leading zeros, ten at the most, for which there is room.
+pub fn put_number(out: &mut Vec<u8>, number: u32)
+    requires { vec_len out.old + 10 ≤ vec_capacity out.old }
+    ensures items { out.new.items ≡ out.old.items ++ decimal number }
+    ensures len { vec_len out.new ≤ vec_len out.old + 10 }
+    ensures capacity { vec_capacity out.old ≤ vec_capacity out.new }
+{
+    put(out, Buffer::new().format(number).as_bytes());
+}
 
 /// The number below 2^32 that the bytes write as a decimal without leading zeros; `None` for any other bytes.
 pub fn read_number(bytes: &[u8]) -> Option<u32>

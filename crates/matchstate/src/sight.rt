@@ -1,14 +1,13 @@
-ghost use Rattle.std.specs.Prelude.{◌≡◌, ℕ, ◌+◌, ◌<◌, ◌≤◌, [], map, take, if◌then◌else◌};
-ghost use Rattle.betting.specs.Betting.{history};
-ghost use Rattle.betting.specs.Turns.{unfolded_count};
+ghost use Rattle.std.specs.Prelude.{◌≡◌, ℕ, ◌+◌, ◌<◌, ◌≤◌, [], map, take, if◌then◌else◌, List, IfSome, IsSomeAnd};
 ghost use Rattle.card_core.specs.Deal.{IsDeal, hole_of};
-ghost use Rattle.matchstate.specs.Cards.{holes_seen, boards_of};
+ghost use Rattle.matchstate.specs.Cards.{holes_seen, boards_of, cards_field, AreSeen};
 ghost use Rattle.matchstate.specs.SeenCards.{hole_in, holes_in, boards_in, seen_at};
 ghost use Rattle.matchstate.specs.View.{is_showdown, sees, rounds_seen};
 
-use crate::seen_cards::SeenCards;
+use crate::cards_field::read_seen;
+use crate::seen_cards::{SeenCards, gather};
 use betting::Play;
-use card_core::{Card, Deal};
+use card_core::{Card, Deal, are_distinct};
 
 /// What a viewer sees of a deal after the actions of a play.
 pub(crate) fn sight(deal: &Deal, play: &Play, viewer: usize) -> SeenCards
@@ -80,19 +79,22 @@ fn is_in_sight(play: &Play, viewer: usize, position: usize) -> bool
 fn has_come_to_showdown(play: &Play) -> bool
     ensures { result ≡ is_showdown play.now.game play.now.past }
 {
-    play.finished() && 2 <= unfolded(play)
+    play.finished() && 2 <= play.unfolded()
 }
 
-/// How many players haven't folded.
-#[tactic(auto, unfolding(betting::specs::Turns::count_below, betting::specs::Turns::unfolded_count))]
-fn unfolded(play: &Play) -> usize
-    ensures { result ≡ unfolded_count play.now.game (history play.now) }
+/// The cards that a cards field shows, if a viewer sees just these of some deal after the actions of a play.
+pub(crate) fn read_sight(bytes: &[u8], play: &Play, viewer: usize) -> Option<SeenCards>
+    ensures found { IfSome result (λ seen. bytes.now ≡ cards_field (holes_in play.now.game.players seen) (boards_in seen)) }
+    ensures seen { IfSome result (λ seen. AreSeen play.now.game.players (sees play.now.game play.now.past viewer) (rounds_seen play.now.game play.now.past) (holes_in play.now.game.players seen) (boards_in seen)) }
+    ensures only { (holes boards : List (List ℕ)) → AreSeen play.now.game.players (sees play.now.game play.now.past viewer) (rounds_seen play.now.game play.now.past) holes boards → bytes.now ≡ cards_field holes boards → IsSomeAnd result (λ seen. (holes_in play.now.game.players seen ≡ holes) × (boards_in seen ≡ boards)) }
 {
-    let mut count = 0;
-    for position in 0..play.players() {
-        if !play.folded(position) {
-            count += 1;
-        }
+    let players = play.players();
+    let positions = positions_in_sight(play, viewer);
+    let seen = read_seen(bytes, players, &positions, play.round())?;
+    let (cards, count) = gather(&seen, players);
+    if are_distinct(&cards[..count]) {
+        Some(seen)
+    } else {
+        None
     }
-    count
 }

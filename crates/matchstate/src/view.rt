@@ -8,9 +8,8 @@ ghost use Rattle.matchstate.specs.Line.{ReadsAs, line_text};
 ghost use Rattle.matchstate.specs.declared.line_fault.LineFault.{LineFault};
 
 use crate::comparison::{are_same_actions, are_same_cards};
-use crate::gather::{gather, gather_board};
 use crate::laws::a_view_has_one_line;
-use crate::seen_cards::SeenCards;
+use crate::seen_cards::{SeenCards, gather, gather_board};
 use betting::{Action, Play};
 use card_core::Card;
 use game_def::GameDef;

@@ -20,6 +20,8 @@ use Rattle.node_rules.specs.Turns.{Turn, Refusal, still, sending, joined, behind
 use Rattle.node_rules.specs.Learning.{comes_to_window, asking_on, told_of, telling_from, next_window, telling, asking_above}
 use Rattle.node_rules.specs.Being.{IsProposer, IsPending}
 use Rattle.node_rules.proofs.Ordering.{below_if}
+use Rattle.node_rules.specs.Proposing.{own_value}
+use Rattle.node_rules.proofs.Proposed.{pending_proposed}
 use Rattle.node_rules.proofs.Paths.{Hearing, Scope, dealer_in, Path, Goes}
 use Rattle.node_rules.proofs.Steps.{send_one, go_on}
 
@@ -102,6 +104,7 @@ with_campaign x came heard upto t c p proposer = record {
     places = p.knows.places;
     shown = p.knows.shown;
     seen = p.knows.seen;
+    proposals = p.knows.proposals;
   };
   commands = p.commands;
   hears = p.hears;
@@ -124,9 +127,9 @@ with_campaign x came heard upto t c p proposer = record {
 
 -- the act that waits changes, and nothing else
 unfoldable pub with_pending : (x : Scope) (came : List Arrival) (heard : Hearing) (upto : List Command) (t : Turn) (act : Option Command) → (p : Path x came heard upto t)
-    → IsPending (dealer_in x) x.place.node p.node upto act
+    → IsPending (dealer_in x) x.place.node p.node upto act → ((c : Command) → own_value x.place t.after ≡ Some c → own_value x.place (record t.after { pending = act }) ≡ Some c)
     → Path x came heard upto (record t { after = record t.after { pending = act } })
-with_pending x came heard upto t act p pending = record {
+with_pending x came heard upto t act p pending same = record {
   sent = p.sent;
   shown = p.shown;
   got = p.got;
@@ -142,6 +145,8 @@ with_pending x came heard upto t act p pending = record {
     places = p.knows.places;
     shown = p.knows.shown;
     seen = p.knows.seen;
+    proposals = pending_proposed x.place.nodes x.place.node upto (front_of t.after) (own_value x.place t.after) (own_value x.place (record t.after { pending = act })) p.node.store p.node.has p.node.sent
+        same p.knows.proposals;
   };
   commands = p.commands;
   hears = p.hears;

@@ -31,6 +31,9 @@ use Rattle.node_rules.specs.Given.{Given}
 use Rattle.node_rules.proofs.Keeping.{with_got, IsNoPromise, got_knows, got_learner, got_pending}
 use Rattle.node_rules.proofs.Paths.{Hearing, Scope, dealer_in, first_in, Path, Goes, has_in}
 use Rattle.node_rules.proofs.Settling.{below_front}
+use Rattle.node_rules.specs.Proposing.{own_value}
+use Rattle.node_rules.specs.Proposed.{IsSettled}
+use Rattle.node_rules.proofs.Proposed.{got_proposed}
 
 -- ---- the commands below the front are known
 
@@ -199,6 +202,7 @@ begin_promise x s from ballot first told bs r one sent ballots =
       places = k.places;
       shown = k.shown;
       seen = sees_more (first_in x).has m (first_in x).store.promise s.seen bs ballots k.seen;
+      proposals = got_proposed x.place.nodes x.place.node (applied s) (front_of s) (own_value x.place s) (first_in x).store (first_in x).has (first_in x).sent m k.proposals;
     })
   where
     m : Message
@@ -218,9 +222,9 @@ and_goes x came heard (Err e) next goes step = goes
 
 pub finish : (x : Scope) (came : List Arrival) (heard : Hearing) (turn : Turn) (events : List (List Event)) → x.ends ≡ true → Path x came heard (applied turn.after) turn
     → ((m : Message) → In m x.had → In m (first_in x).has)
-    → AreSessions x.place.setting.game heard.talks heard.bytes → In (events_of came) events
+    → AreSessions x.place.setting.game heard.talks heard.bytes → In (events_of came) events → IsSettled x.place turn.after
     → Taken x.own x.place x.world.ever (first_in x) x.log x.messages events turn.frames turn.shown turn.after
-finish x came heard turn events ends p kept sessions happened = record {
+finish x came heard turn events ends p kept sessions happened settled = record {
   called = record {
     output = record { sent = p.sent; shown = p.shown; came = came };
     last = p.node;
@@ -234,6 +238,7 @@ finish x came heard turn events ends p kept sessions happened = record {
         knows = p.knows;
         sessions = subst (λ (h : ℕ → Option (List ℕ)). AreSessions x.place.setting.game turn.after.sessions h) (sym p.hears)
             (subst (λ (l : List (Option Talk)). AreSessions x.place.setting.game l heard.bytes) (sym p.talks) sessions);
+        settled = settled;
       };
     };
     carry = p.carry;

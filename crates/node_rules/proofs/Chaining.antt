@@ -16,9 +16,12 @@ use Rattle.node_rules.specs.Seats.{connecting, dropping}
 use Rattle.node_rules.specs.Called.{came_in, Comes, log_before, taken_events, Taken}
 use Rattle.node_rules.specs.Given.{Given}
 use Rattle.node_rules.specs.Sound.{Stands, TurnsAreChains}
-use Rattle.node_rules.proofs.Paths.{Scope, first_in, Goes}
+use Rattle.node_rules.specs.Proposed.{IsSettled}
+use Rattle.node_rules.proofs.Paths.{Scope, first_in, Goes, never}
 use Rattle.node_rules.proofs.Beginning.{Runs, hearing_of, finish}
 use Rattle.node_rules.proofs.Framing.{frame_goes, tick_goes}
+use Rattle.node_rules.proofs.Settled.{then_closed}
+use Rattle.node_rules.proofs.AtRest.{tick_settled, frame_settled}
 use Rattle.node_rules.proofs.Closing.{close}
 use Rattle.node_rules.proofs.Hearing.{Sits, connect_sits, drop_sits, piece_sits}
 use Rattle.node_rules.proofs.Starting.{nobody, start_goes, nothing_all, stop_taken}
@@ -58,16 +61,16 @@ ok_not t r e = cc
 -- ---- a node that runs
 
 -- where the seats of a path are those of its end
-ends_up : (x : Scope) (turn : Turn) (events : List (List Event)) → x.ends ≡ true → x.had ≡ (first_in x).has → Sits x turn events
+ends_up : (x : Scope) (turn : Turn) (events : List (List Event)) → x.ends ≡ true → x.had ≡ (first_in x).has → Sits x turn events → IsSettled x.place turn.after
     → Taken x.own x.place x.world.ever (first_in x) x.log x.messages events turn.frames turn.shown turn.after
-ends_up x turn events ends same sits =
-    finish x sits.came sits.heard turn events ends sits.path (λ m h. subst (λ (l : List Message). In m l) same h) sits.sessions sits.happened
+ends_up x turn events ends same sits settled =
+    finish x sits.came sits.heard turn events ends sits.path (λ m h. subst (λ (l : List Message). In m l) same h) sits.sessions sits.happened settled
 
 -- the piece, and then the close
 line_goes : (x : Scope) (turn heard : Turn) (events : List (List Event)) → x.ends ≡ true → x.had ≡ (first_in x).has → (sits : Sits x heard events)
-    → Goes x sits.came sits.heard (Ok turn) → Taken x.own x.place x.world.ever (first_in x) x.log x.messages events turn.frames turn.shown turn.after
-line_goes x turn heard events ends same sits goes =
-    finish x sits.came sits.heard turn events ends goes (λ m h. subst (λ (l : List Message). In m l) same h) sits.sessions sits.happened
+    → Goes x sits.came sits.heard (Ok turn) → IsSettled x.place turn.after → Taken x.own x.place x.world.ever (first_in x) x.log x.messages events turn.frames turn.shown turn.after
+line_goes x turn heard events ends same sits goes settled =
+    finish x sits.came sits.heard turn events ends goes (λ m h. subst (λ (l : List Message). In m l) same h) sits.sessions sits.happened settled
 
 chain_up : (g : Given) (own : ℕ → Command → Bool) (place : Place) (world : World) (s : Standing) (turn : Turn) (called : Call) (st : Stands own place world s) → s.up ≡ true
     → Comes place world.ever called → IsTurnUp place s called (Ok turn)
@@ -79,27 +82,31 @@ chain_up g own place world s turn Tick st up comes h =
     let x : Scope = scope_of g own place world s st true [] in
     finish x [] (hearing_of s (first_in x)) turn ([] ∷ []) refl
     (subst (Goes x [] (hearing_of s (first_in x))) (sym h) (tick_goes x s refl (runs_in g own place world s st up true []) refl))
-    (λ m k. k) (st.of.runs up).sessions (inl refl)
+    (λ m k. k) (st.of.runs up).sessions (inl refl) (tick_settled x s turn refl (runs_in g own place world s st up true []) refl (sym h))
 chain_up g own place world s turn (call.Frame from bytes) st up comes h =
     let x : Scope = scope_of g own place world s st true (came_in (call.Frame from bytes)) in
     finish x [] (hearing_of s (first_in x)) turn ([] ∷ []) refl
     (subst (Goes x [] (hearing_of s (first_in x))) (sym h) (frame_goes x s from (reading bytes) refl (runs_in g own place world s st up true (came_in (call.Frame from bytes))) refl comes))
     (λ m k. k) (st.of.runs up).sessions (inl refl)
+    (frame_settled x s from (reading bytes) turn refl (runs_in g own place world s st up true (came_in (call.Frame from bytes))) refl comes (sym h))
 chain_up g own place world s turn (Line seat bytes) st up comes (heard, hears, e) =
     let x : Scope = scope_of g own place world s st true [] in
     let sits = (piece_sits x s seat bytes heard (runs_in g own place world s st up true []) refl comes hears).0 in
     line_goes x turn heard (taken_events place.node true (Line seat bytes)) refl refl sits
     (subst (Goes x sits.came sits.heard) (sym e) (close x sits.came sits.heard heard refl sits.path))
+    (then_closed x sits.came sits.heard (Ok heard) turn sits.path (sym e))
 chain_up g own place world s turn (Connect seat) st up comes h =
     let x : Scope = scope_of g own place world s st true [] in
     ends_up x turn (taken_events place.node true (Connect seat)) refl refl
     (subst (λ (t : Turn). Sits x t (taken_events place.node true (Connect seat))) (sym (ok_is turn (connecting seat s) h))
     (connect_sits x s seat (runs_in g own place world s st up true []) refl comes))
+    (subst (λ (t : Turn). IsSettled place t.after) (sym (ok_is turn (connecting seat s) h)) (st.of.runs up).settled)
 chain_up g own place world s turn (Drop seat) st up comes h =
     let x : Scope = scope_of g own place world s st true [] in
     ends_up x turn (taken_events place.node true (Drop seat)) refl refl
     (subst (λ (t : Turn). Sits x t (taken_events place.node true (Drop seat))) (sym (ok_is turn (dropping seat s) h))
     (drop_sits x s seat (runs_in g own place world s st up true []) refl comes))
+    (subst (λ (t : Turn). IsSettled place t.after) (sym (ok_is turn (dropping seat s) h)) (st.of.runs up).settled)
 chain_up g own place world s turn Stop st up comes h =
     subst (λ (t : Turn). Taken own place world.ever (world.nodes place.node) (log_before place s) [] ([] ∷ []) t.frames t.shown t.after) (sym (ok_is turn (stopping place s) h))
     (stop_taken own place world.ever (world.nodes place.node) (log_before place s) ([] ∷ []) s st.of up (inl refl))
@@ -130,7 +137,7 @@ chain_down g own place world s turn (Start found) st down (found_left, h) =
     (finish x ((record { event = Started place.node; sent = length world.ever }) ∷ []) (record { bytes = λ seat. None; talks = no_sessions place }) (starting place found)
     (taken_events place.node false (Start found)) refl
     (start_goes x s found st.of down found_left refl refl refl (no_log place s down) refl)
-    (λ m k. absurd k) (nobody place) (inl refl))
+    (λ m k. absurd k) (nobody place) (inl refl) (λ leads_on. absurd (never (sym leads_on))))
 chain_down g own place world s turn Tick st down h = absurd (never_ok turn h)
 chain_down g own place world s turn (call.Frame from bytes) st down h = absurd (never_ok turn h)
 chain_down g own place world s turn (Line seat bytes) st down h = absurd (never_ok turn h)

@@ -46,6 +46,8 @@ use Rattle.node_rules.proofs.Steps.{Leads, get_own, go_on}
 use Rattle.node_rules.proofs.Voting.{voted_is, within_voted}
 use Rattle.node_rules.proofs.Learning.{count}
 use Rattle.node_rules.proofs.Asking.{joined_assoc, with_campaign}
+use Rattle.node_rules.specs.Proposed.{IsValue}
+use Rattle.node_rules.proofs.Proposed.{made_proposed}
 
 -- ---- what the node has of its own
 
@@ -277,6 +279,10 @@ propose x came heard t ends p c made is =
         seen = sees_own p.node.has accept made.ballot t.after.seen
             (λ b h. elim h [ inl e ↦ subst (λ (y : Ballot). AtMost y made.ballot) (sym e) (self made.ballot) | inr none ↦ absurd none ])
             (sees_up p.node.has p.node.store.promise made.ballot t.after.seen up p.knows.seen);
+        proposals = made_proposed n i (applied t.after) own p.node.store p.node.has p.node.sent made.ballot made.slot made.command promised safe.slot mine
+            (λ other h. x.given.once n p.node.sent c (front_of t.after) own made other camp.marks is.made_so h)
+            (subst (λ (b : Ballot). IsValue n p.node.has b made.slot own made.command) (sym safe.ballot)
+            (subst (λ (k : ℕ). IsValue n p.node.has c.ballot k own made.command) (sym safe.slot) safe.command)) p.knows.proposals;
       };
       commands = p.commands;
       hears = p.hears;
@@ -326,7 +332,7 @@ propose x came heard t ends p c made is =
 
 -- ---- the vote that is stored is the proposal
 
-none_of_ballot : (held : Option Vote) (ballot : Ballot) → ((v : Vote) → held ≡ Some v → v.ballot ≡ ballot → ⊥) → is_of_ballot held ballot ≡ false
+pub none_of_ballot : (held : Option Vote) (ballot : Ballot) → ((v : Vote) → held ≡ Some v → v.ballot ≡ ballot → ⊥) → is_of_ballot held ballot ≡ false
 none_of_ballot None ballot none = refl
 none_of_ballot (Some v) ballot none = by_test (is_same_ballot v.ballot ballot) refl
   where
@@ -334,7 +340,7 @@ none_of_ballot (Some v) ballot none = by_test (is_same_ballot v.ballot ballot) r
     by_test true e = absurd (none v refl (same_if v.ballot ballot e))
     by_test false e = e
 
-stored_new : (held : Option Vote) (ballot : Ballot) (command : Command) → is_of_ballot held ballot ≡ false → stored_in held ballot command ≡ command
+pub stored_new : (held : Option Vote) (ballot : Ballot) (command : Command) → is_of_ballot held ballot ≡ false → stored_in held ballot command ≡ command
 stored_new None ballot command e = refl
 stored_new (Some v) ballot command e = ap (λ (b : Bool). if b then v.command else command) e
 

@@ -35,49 +35,49 @@ use Rattle.node_rules.specs.Calls as call
 use Rattle.node_rules.specs.Rules.{on_message, starting, stopping, IsTurn, highest}
 
 -- opens the definitions
-unfoldable opened : ℕ
+unfoldable pub opened : ℕ
 unfolding log_opened is_same is_of to_first taking_all telling_from told_from answering_all
 opened = 0
 
-abbrev setting : Setting
+abbrev pub setting : Setting
 setting = record { game = two_players; title = record { name = codes "m"; game = codes "l2.game"; hands = 1 }; names = alice_and_bob }
 
 -- AhAd|KdKs/QcJc9d/5d/6s
-abbrev aces_kings : List ℕ
+abbrev pub aces_kings : List ℕ
 aces_kings = 50 ∷ 49 ∷ 45 ∷ 47 ∷ 40 ∷ 36 ∷ 29 ∷ 13 ∷ 19 ∷ []
 
 -- each node has a deal of its own
-abbrev deal_by : ℕ → List ℕ
+abbrev pub deal_by : ℕ → List ℕ
 deal_by zero = ten_ace
 deal_by (suc zero) = twos_threes
 deal_by (suc (suc other)) = aces_kings
 
-abbrev place : ℕ → Place
+abbrev pub place : ℕ → Place
 place node = record { setting = setting; nodes = 3; node = node; deals = λ hand. Some (deal_by node) }
 
-abbrev ballot : ℕ → ℕ → Ballot
+abbrev pub ballot : ℕ → ℕ → Ballot
 ballot round node = record { round = round; node = node }
 
-abbrev dealt : ℕ → Command
+abbrev pub dealt : ℕ → Command
 dealt node = Deal 0 (deal_by node)
 
-abbrev to : ℕ → Message → Frame
+abbrev pub to : ℕ → Message → Frame
 to node message = record { to = node; message = message }
 
 -- the turn, where there is one
-abbrev done : Result Turn Refusal → Turn
+abbrev pub done : Result Turn Refusal → Turn
 done (Ok turn) = turn
 done (Err refusal) = still (stopped (place 0) empty_store empty_store)
 
 -- a session that named the version
-abbrev ready : Talk
+abbrev pub ready : Talk
 ready = record { phase = InPlay; waiting = [] }
 
 -- just started; node 0 has both seats
-abbrev first : ℕ → Standing
+abbrev pub first : ℕ → Standing
 first node = (starting (place node) empty_store).after
 
-abbrev with_seats : Standing → Standing
+abbrev pub with_seats : Standing → Standing
 with_seats s = record s { sessions = Some ready ∷ Some ready ∷ [] }
 
 -- ---- starts
@@ -96,7 +96,7 @@ asked_after_a_promise = refl
 
 -- ---- a deal is chosen
 
-abbrev ticked : Turn
+abbrev pub ticked : Turn
 ticked = done (and_then (ticking (place 0) (with_seats (first 0))) (closing (place 0)))
 
 tick_prepares : ticked.frames ≡ to 1 (Prepare (ballot 1 0) 0) ∷ to 2 (Prepare (ballot 1 0) 0) ∷ []
@@ -107,21 +107,21 @@ tick_promises : ticked.after.store.promise ≡ ballot 1 0
 unfolding opened
 tick_promises = refl
 
-abbrev promising : Turn
+abbrev pub promising : Turn
 promising = done (on_message (place 1) 0 (Prepare (ballot 1 0) 0) (first 1))
 
 promise_goes_back : promising.frames ≡ to 0 (Promise (ballot 1 0) 0 []) ∷ []
 unfolding opened
 promise_goes_back = refl
 
-abbrev promised_1 : Standing
+abbrev pub promised_1 : Standing
 promised_1 = record (first 1) { store = promised empty_store (ballot 1 0); begun = promised empty_store (ballot 1 0); seen = ballot 1 0 }
 
 promise_is_stored : promising.after ≡ promised_1
 unfolding opened
 promise_is_stored = refl
 
-abbrev leading : Turn
+abbrev pub leading : Turn
 leading = done (on_message (place 0) 1 (Promise (ballot 1 0) 0 []) ticked.after)
 
 leader_proposes_and_accepts : leading.frames
@@ -131,10 +131,10 @@ unfolding opened
 leader_proposes_and_accepts = refl
 
 -- node 0 in the lead, its own vote stored and counted
-abbrev store_0 : Store
+abbrev pub store_0 : Store
 store_0 = voted (promised empty_store (ballot 1 0)) 0 (record { ballot = ballot 1 0; command = dealt 0 })
 
-abbrev campaign_0 : Campaign
+abbrev pub campaign_0 : Campaign
 campaign_0 = record {
   ballot = ballot 1 0;
   first = 0;
@@ -142,10 +142,10 @@ campaign_0 = record {
   proposed = true ∷ replicate 63 false;
 }
 
-abbrev own_vote : Tally
+abbrev pub own_vote : Tally
 own_vote = record { ballot = ballot 1 0; command = dealt 0; nodes = true ∷ false ∷ false ∷ false ∷ false ∷ [] }
 
-abbrev leads_0 : Standing
+abbrev pub leads_0 : Standing
 leads_0 = record (with_seats (first 0)) {
   store = store_0;
   begun = store_0;
@@ -213,7 +213,7 @@ unfolding opened
 no_deal_in_a_hand = refl
 
 -- the deal is known and applied, and its votes are forgotten
-abbrev dealt_0 : Standing
+abbrev pub dealt_0 : Standing
 dealt_0 = record leads_0 { learned = record (new_learned 3) { log = record { below = dealt 0 ∷ []; beyond = [] } } }
 
 deal_is_known : learning.after.learned ≡ dealt_0.learned
@@ -231,11 +231,11 @@ act_is_proposed_at_the_front : forwarded.frames
 unfolding opened
 act_is_proposed_at_the_front = refl
 
-abbrev own_fold : Tally
+abbrev pub own_fold : Tally
 own_fold = record { ballot = ballot 1 0; command = Act 0 0 Fold; nodes = true ∷ false ∷ false ∷ false ∷ false ∷ [] }
 
 -- the act is proposed and waits still
-abbrev waits_0 : Standing
+abbrev pub waits_0 : Standing
 waits_0 = record dealt_0 {
   campaign = Some (record campaign_0 { proposed = true ∷ true ∷ replicate 62 false });
   learned = record dealt_0.learned { cells = [] ∷ (own_fold ∷ []) ∷ replicate 62 [] };
@@ -266,7 +266,7 @@ unfolding opened
 applied_act_is_forgotten = refl
 
 -- the match is over
-abbrev over_0 : Standing
+abbrev pub over_0 : Standing
 over_0 = record dealt_0 { learned = record (new_learned 3) { log = record { below = Act 0 0 Fold ∷ dealt 0 ∷ []; beyond = [] } } }
 
 fold_is_known : folded.after.learned ≡ over_0.learned
@@ -291,7 +291,7 @@ second_act_does_not_wait = refl
 -- ---- a value that was told
 
 -- node 1 accepted node 0's deal, and tells so: node 2 proposes that deal and not its own
-abbrev told : Entry
+abbrev pub told : Entry
 told = record { slot = 0; ballot = ballot 1 0; command = dealt 0 }
 
 abbrev second_promise : Turn

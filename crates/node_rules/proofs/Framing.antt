@@ -23,6 +23,7 @@ use Rattle.node_rules.specs.Called.{said_in, IsSent}
 use Rattle.node_rules.proofs.Sets.{in_later}
 use Rattle.node_rules.proofs.Paths.{Hearing, Scope, dealer_in, first_in, Path, Goes, has_in}
 use Rattle.node_rules.proofs.Steps.{go_on}
+use Rattle.node_rules.proofs.Proposed.{waiting_value}
 use Rattle.node_rules.proofs.Promising.{prepare}
 use Rattle.node_rules.proofs.Voting.{accept}
 use Rattle.node_rules.proofs.Learning.{count, tell}
@@ -45,11 +46,11 @@ pub hand_on : (x : Scope) (came : List Arrival) (heard : Hearing) (t : Turn) (p 
     → Path x came heard (applied t.after) (record t { after = pending_act x.place act t.after })
 hand_on x came heard t p sender act had =
     with_pending x came heard (applied t.after) t (waiting x.place act t.after) p
-    (waits_by x came heard t p act (is_none t.after.pending) (fits x.place.setting (applied t.after) act) refl sender had)
+    (waits_by x came heard t p act (is_none t.after.pending) (fits x.place.setting (applied t.after) act) refl sender had) (waiting_value x.place act t.after)
 
 -- ---- each message
 
-stood : (x : Scope) (came : List Arrival) (heard : Hearing) (s : Standing) (r : Result Turn Refusal) → Goes x came heard (behind (still s) r) → Goes x came heard r
+pub stood : (x : Scope) (came : List Arrival) (heard : Hearing) (s : Standing) (r : Result Turn Refusal) → Goes x came heard (behind (still s) r) → Goes x came heard r
 stood x came heard s r goes = subst (Goes x came heard) (behind_still s r) goes
 
 -- what another node tells as chosen, and what is asked for then
@@ -67,7 +68,7 @@ chosen_goes x s from slot command r one sent =
     (in_later p.sent x.world.ever m (sent.sent m (inl refl)))))
     (λ u q. ask_on x [] h u from (front_of s0) q sent.node sent.other)
 
-taken : (x : Scope) (s : Standing) (from : ℕ) (w : Wire) → x.ends ≡ true → Runs x s
+pub taken : (x : Scope) (s : Standing) (from : ℕ) (w : Wire) → x.ends ≡ true → Runs x s
     → x.messages ≡ carried from w → IsSent x.place x.world.ever from (carried from w)
     → Goes x [] (hearing_of s (first_in x)) (taking x.place from w (seeing w s))
 taken x s from (frame.Prepare ballot slot) ends r one sent =

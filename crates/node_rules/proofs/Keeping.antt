@@ -13,6 +13,8 @@ use Rattle.node_rules.specs.Standings.{Place, Standing, front_of}
 use Rattle.node_rules.specs.Seen.{Sees}
 use Rattle.node_rules.specs.Being.{IsCampaign, Stands, IsProposer, IsLearner, IsPending, Knows}
 use Rattle.node_rules.specs.Given.{Given}
+use Rattle.node_rules.specs.Proposing.{own_value}
+use Rattle.node_rules.proofs.Proposed.{got_proposed, sent_proposed}
 
 -- ---- a message is got
 
@@ -90,6 +92,7 @@ got_knows g d place upto s node m seen other sees k = record {
   places = k.places;
   shown = k.shown;
   seen = sees;
+  proposals = got_proposed place.nodes place.node upto (front_of s) (own_value place s) node.store node.has node.sent m k.proposals;
 }
 
 -- ---- a message is sent that is neither a Prepare nor a proposal
@@ -156,6 +159,8 @@ sent_knows g d place upto s node m quiet k = record {
   places = k.places;
   shown = k.shown;
   seen = k.seen;
+  proposals = sent_proposed place.nodes place.node upto (front_of s) (own_value place s) node.store node.has node.sent (m ∷ node.sent)
+      (λ b l c h. proposed_before node m b l c quiet h) k.proposals;
 }
 
 -- more is known

@@ -32,6 +32,7 @@ use Rattle.node_rules.specs.Applying.{scene_of, applying}
 use Rattle.node_rules.specs.Learning.{learning, counting_vote}
 use Rattle.node_rules.specs.Being.{IsCampaign, IsProposer, IsLearner, IsPending}
 use Rattle.node_rules.specs.Given.{Given}
+use Rattle.node_rules.proofs.Proposed.{learned_proposed}
 use Rattle.node_rules.proofs.Keeping.{commands_more}
 use Rattle.node_rules.proofs.Paths.{Hearing, Scope, dealer_in, first_in, Path, Goes}
 use Rattle.node_rules.proofs.Settling.{settle, at_scene}
@@ -48,12 +49,12 @@ open_by log slot false true c ea eb ec h = record {
   is_slot = ltb-true slot SLOTS (ec ∙ h);
 }
 
-open_if : (log : Log) (slot : ℕ) → is_open log slot ≡ true → IsOpen log slot
+pub open_if : (log : Log) (slot : ℕ) → is_open log slot ≡ true → IsOpen log slot
 open_if log slot h = open_by log slot _ _ _ refl refl refl h
 
 -- ---- no other command is known where one was chosen
 
-world_now : (x : Scope) (came : List Arrival) (heard : Hearing) (upto : List Command) (t : Turn) (p : Path x came heard upto t)
+pub world_now : (x : Scope) (came : List Arrival) (heard : Hearing) (upto : List Command) (t : Turn) (p : Path x came heard upto t)
     → (later : World) × Reached (dealer_in x) x.place.nodes later × IsAfter x.world x.place.node (record { sent = p.sent; shown = p.shown; came = came }) p.node later
 world_now x came heard upto t p =
     x.given.reach (dealer_in x) x.place.nodes x.place.node new_world x.world (record { sent = p.sent; shown = p.shown; came = came }) p.node
@@ -171,6 +172,7 @@ learned x came heard t p new known later e learner chain wider =
         places = p.knows.places;
         shown = p.knows.shown;
         seen = p.knows.seen;
+        proposals = learned_proposed x.place.nodes x.place.node x.place t.after new later p.node.store p.node.has p.node.sent e p.knows.proposals;
       };
       commands = wider (applied t.after) p.commands;
       hears = p.hears;

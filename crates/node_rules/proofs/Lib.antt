@@ -2,6 +2,8 @@ mod Sets
 mod Carrying
 mod Telling
 mod Ordering
+mod Proposed
+mod Sent
 mod Keeping
 mod Paths
 mod Steps
@@ -12,6 +14,7 @@ mod Learning
 mod Voting
 mod Asking
 mod Closing
+mod Settled
 mod Ticking
 mod Beginning
 mod Framing
@@ -20,6 +23,21 @@ mod Answering
 mod Sitting
 mod Hearing
 mod Starting
+mod AtRest
 mod Chaining
 mod Sounding
+mod Agreeing
+mod Members
+mod CalmPromises
+mod Electing
+mod Counting
+mod Outcomes
+mod Sourcing
+mod Resting
+mod Led
+mod Prepared
+mod Answered
+mod Backed
 pub mod Examples
+pub mod TurnExamples
+pub mod OutcomeExamples

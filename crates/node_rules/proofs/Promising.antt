@@ -15,7 +15,9 @@ use Rattle.protocol_model.specs.Backing.{IsWithinPromise}
 use Rattle.protocol_model.specs.Arrivals.{Arrival}
 use Rattle.protocol_model.specs.Moves.{sending as sends, with_store, with_sent, more, refuses, promises}
 use Rattle.proposer.specs.Told.{is_below}
-use Rattle.node_rules.specs.Standings.{applied}
+use Rattle.node_rules.specs.Standings.{applied, front_of}
+use Rattle.node_rules.specs.Proposing.{own_value}
+use Rattle.node_rules.proofs.Proposed.{promised_proposed}
 use Rattle.node_rules.specs.Sending.{one}
 use Rattle.node_rules.specs.Showing.{Piece}
 use Rattle.node_rules.specs.Turns.{Turn, joined, behind}
@@ -108,6 +110,8 @@ promise x came heard upto t from ballot slot ends p had above below other = reco
     places = p.knows.places;
     shown = p.knows.shown;
     seen = sees_up p.node.has p.node.store.promise ballot t.after.seen (of_below p.node.store.promise ballot up) p.knows.seen;
+    proposals = promised_proposed x.place.nodes x.place.node upto (front_of t.after) (own_value x.place t.after) p.node.store ballot p.node.has p.node.has p.node.sent (m ∷ p.node.sent) up
+        p.knows.proposer.proposed (λ b s c h. proposed_before p.node m b s c tt h) p.knows.proposals;
   };
   commands = p.commands;
   hears = p.hears;

@@ -20,6 +20,8 @@ use Rattle.node_rules.specs.Applying.{Scene, kept, taking, taking_all, passed, s
 use Rattle.node_rules.specs.Being.{IsCampaign, IsProposer, IsPending}
 use Rattle.node_rules.specs.Called.{AreShown, log_after}
 use Rattle.node_rules.proofs.Showing.{Shows, show_news, adds_nothing}
+use Rattle.node_rules.specs.Proposing.{own_value}
+use Rattle.node_rules.proofs.Proposed.{taken_proposed}
 use Rattle.node_rules.proofs.Paths.{Hearing, Scope, dealer_in, first_in, Path, never}
 
 -- ---- the node shows
@@ -67,14 +69,14 @@ at_scene t learned scene = joined t (record { after = record t.after { learned =
 
 take_by : (x : Scope) (came : List Arrival) (heard : Hearing) (t : Turn) (learned : Learned) (scene : Scene) (command : Command) (b : Bool)
     → fits x.place.setting scene.applied command ≡ b → Path x came heard scene.applied (at_scene t learned scene)
-    → known_at learned.log (length scene.applied) ≡ Some command
+    → known_at learned.log (length scene.applied) ≡ Some command → length scene.applied < front learned.log
     → Path x came heard (command ∷ scene.applied)
     (at_scene t learned (record {
       applied = command ∷ scene.applied;
       pending = kept x.place.setting (command ∷ scene.applied) scene.pending;
       shown = scene.shown ++ (if b then news x.place.setting t.after.sessions (hands_after x.place.setting (command ∷ scene.applied)) else []);
     }))
-take_by x came heard t learned scene command b fit p at = by_ends x.ends refl
+take_by x came heard t learned scene command b fit p at passed = by_ends x.ends refl
   where
     known : KnowsCommands p.node.known (command ∷ scene.applied)
     known = (p.knows.learner.knows (length scene.applied) command at, p.commands)
@@ -131,6 +133,8 @@ take_by x came heard t learned scene command b fit p at = by_ends x.ends refl
         places = p.knows.places;
         shown = low;
         seen = p.knows.seen;
+        proposals = taken_proposed x.place.nodes x.place.node scene.applied command (front learned.log) (own_value x.place (record t.after { learned = learned; pending = scene.pending }))
+            (own_value x.place (record t.after { learned = learned; pending = kept x.place.setting (command ∷ scene.applied) scene.pending })) p.node.store p.node.has p.node.sent passed p.knows.proposals;
       };
       commands = known;
       hears = p.hears;
@@ -162,9 +166,9 @@ take_by x came heard t learned scene command b fit p at = by_ends x.ends refl
     by_ends false e = path_with p.shown p.node.shown (let h = p.knows.shown in omega arith) p.chain (λ y. absurd (never (sym y ∙ e))) (λ y. absurd (never (sym y ∙ e))) p.unshown
 
 take : (x : Scope) (came : List Arrival) (heard : Hearing) (t : Turn) (learned : Learned) (scene : Scene) (command : Command)
-    → Path x came heard scene.applied (at_scene t learned scene) → known_at learned.log (length scene.applied) ≡ Some command
+    → Path x came heard scene.applied (at_scene t learned scene) → known_at learned.log (length scene.applied) ≡ Some command → length scene.applied < front learned.log
     → Path x came heard (command ∷ scene.applied) (at_scene t learned (taking x.place.setting t.after.sessions command scene))
-take x came heard t learned scene command p at = take_by x came heard t learned scene command (fits x.place.setting scene.applied command) refl p at
+take x came heard t learned scene command p at passed = take_by x came heard t learned scene command (fits x.place.setting scene.applied command) refl p at passed
 
 -- ---- all that the front has passed
 
@@ -191,7 +195,7 @@ loop x came heard t learned (c ∷ cs) scene p e =
     let d = dropped (length scene.applied) (reverse learned.log.below) c cs e in
     let l : length scene.applied < front learned.log = (let h = d.0 in let k = length-reverse learned.log.below in omega arith) in
     loop x came heard t learned cs (taking x.place.setting t.after.sessions c scene)
-    (take x came heard t learned scene c p (below_front learned.log (length scene.applied) l ∙ d.1)) d.2
+    (take x came heard t learned scene c p (below_front learned.log (length scene.applied) l ∙ d.1) l) d.2
 
 all_applied : (setting : Setting) (talks : List (Option Talk)) (cs : List Command) (scene : Scene)
     → (taking_all setting talks cs scene).applied ≡ reverse cs ++ scene.applied

@@ -32,6 +32,7 @@ use Rattle.node_rules.specs.Called.{Carry, CarryAll, AreShown, log_after}
 use Rattle.node_rules.specs.Given.{Given}
 use Rattle.node_rules.proofs.Carrying.{note_carry, note_all}
 use Rattle.node_rules.proofs.Paths.{Hearing, Scope, dealer_in, first_in, Path, never}
+use Rattle.node_rules.proofs.Proposed.{waiting_value}
 use Rattle.node_rules.proofs.Steps.{Says, send_said, send_one, go_on}
 use Rattle.node_rules.proofs.Showing.{Shows, show_line}
 use Rattle.node_rules.proofs.Settling.{with_shown, shown_proposer}
@@ -71,6 +72,7 @@ show_path x came heard upto t pieces faults p shows = by_ends x.ends refl
         places = p.knows.places;
         shown = low;
         seen = p.knows.seen;
+        proposals = p.knows.proposals;
       };
       commands = p.commands;
       hears = p.hears;
@@ -150,7 +152,7 @@ take_act x came heard t seat bytes cur new act p seated here rest answers =
 
     kept : Path x came heard (applied t.after) (joined t (sending [] after))
     kept = with_pending x came heard (applied t.after) (joined t (sending [] t.after)) (waiting x.place act t.after) noted.path
-        (waits_by x came heard (joined t (sending [] t.after)) noted.path act (is_none t.after.pending) (fits x.place.setting (applied t.after) act) refl noted.said)
+        (waits_by x came heard (joined t (sending [] t.after)) noted.path act (is_none t.after.pending) (fits x.place.setting (applied t.after) act) refl noted.said) (waiting_value x.place act t.after)
 
 -- ---- answers, one after another
 
@@ -265,6 +267,7 @@ sit x came heard upto t p event after places move = record {
     places = places;
     shown = p.knows.shown;
     seen = p.knows.seen;
+    proposals = p.knows.proposals;
   };
   commands = p.commands;
   hears = refl;

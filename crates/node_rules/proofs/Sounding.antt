@@ -45,7 +45,7 @@ use Rattle.node_rules.proofs.Chaining.{scope_of, log_is, runs_in, ok_is, ok_not,
 err_is : (a b : Refusal) → ◌≡◌ {A = Result Turn Refusal} (Err a) (Err b) → a ≡ b
 err_is a b e = cc
 
-harmless_still : (place : Place) (s : Standing) (r : Refusal) → IsHarmless r → standing_after place s (Err r) ≡ s
+pub harmless_still : (place : Place) (s : Standing) (r : Refusal) → IsHarmless r → standing_after place s (Err r) ≡ s
 harmless_still place s Down h = refl
 harmless_still place s Spent h = refl
 harmless_still place s (BadFrame fault) h = refl
@@ -80,7 +80,7 @@ harmless_down place s r (Connect seat) h = down_is r h
 harmless_down place s r (Drop seat) h = down_is r h
 harmless_down place s r Stop h = absurd (ok_not (still s) r (sym h))
 
-harmless_by : (g : Given) (own : ℕ → Command → Bool) (place : Place) (world : World) (s : Standing) (r : Refusal) (called : Call) (b : Bool) (st : Stands own place world s) → s.up ≡ b
+pub harmless_by : (g : Given) (own : ℕ → Command → Bool) (place : Place) (world : World) (s : Standing) (r : Refusal) (called : Call) (b : Bool) (st : Stands own place world s) → s.up ≡ b
     → Comes place world.ever called → IsTurnBy b place s called (Err r) → IsHarmless r
 harmless_by g own place world s r called true st e comes h = harmless_up g own place world s r called st e comes h
 harmless_by g own place world s r called false st e comes h = harmless_down place s r called h

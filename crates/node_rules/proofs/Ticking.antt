@@ -22,7 +22,8 @@ use Rattle.node_rules.specs.Sending.{Frame, to_others}
 use Rattle.node_rules.specs.Showing.{Piece}
 use Rattle.node_rules.specs.Turns.{Turn, Spent, still, joined, behind}
 use Rattle.node_rules.specs.Accepting.{told_by}
-use Rattle.node_rules.specs.Proposing.{higher, greatest_seen, is_over, is_spent, prepared, beginning, ticking}
+use Rattle.node_rules.specs.Proposing.{higher, greatest_seen, is_over, is_spent, prepared, beginning, ticking, own_value}
+use Rattle.node_rules.proofs.Proposed.{promised_proposed}
 use Rattle.node_rules.specs.Seen.{ballots_in, IsTold, Sees}
 use Rattle.node_rules.specs.Being.{Campaigns, IsPending}
 use Rattle.node_rules.specs.Called.{Carry, CarryAll, AreShown, log_after}
@@ -88,6 +89,8 @@ begin x came heard t ends p = record {
     places = p.knows.places;
     shown = p.knows.shown;
     seen = sees_own p.node.has m ballot t.after.seen (λ b h. low b h) (sees_up p.node.has p.node.store.promise ballot t.after.seen (of_below p.node.store.promise ballot up) p.knows.seen);
+    proposals = promised_proposed x.place.nodes x.place.node (applied t.after) (front_of t.after) (own_value x.place t.after) p.node.store ballot p.node.has (m ∷ p.node.has) p.node.sent (m ∷ prepare ∷ p.node.sent) up
+        p.knows.proposer.proposed (λ b s c h. proposed_then b s c h) p.knows.proposals;
   };
   commands = p.commands;
   hears = p.hears;

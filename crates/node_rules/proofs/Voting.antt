@@ -30,6 +30,8 @@ use Rattle.node_rules.proofs.Ordering.{trans, self, both_ways, same_if, at_most_
 use Rattle.node_rules.proofs.Keeping.{sent_pending, stored_pending, prepared_before, proposed_before}
 use Rattle.node_rules.proofs.Paths.{Hearing, Scope, dealer_in, Path, Goes, regroup, never}
 use Rattle.node_rules.proofs.Steps.{Leads, get_own}
+use Rattle.node_rules.specs.Proposing.{own_value}
+use Rattle.node_rules.proofs.Proposed.{voted_proposed, sent_proposed}
 use Rattle.node_rules.proofs.Promising.{refuse}
 use Rattle.node_rules.proofs.Learning.{count}
 
@@ -109,6 +111,8 @@ new_vote x came heard upto t ends ballot slot command p had above other =
         places = p.knows.places;
         shown = p.knows.shown;
         seen = sees_up p.node.has p.node.store.promise ballot t.after.seen up p.knows.seen;
+        proposals = voted_proposed x.place.nodes x.place.node upto (front_of t.after) (own_value x.place t.after) p.node.store slot vote p.node.has p.node.sent (m ∷ p.node.sent) other
+            (λ b s c h. proposed_before p.node m b s c tt h) p.knows.proposals;
       };
       commands = p.commands;
       hears = p.hears;
@@ -179,6 +183,8 @@ old_vote x came heard upto t ends ballot slot vote p held same above other =
         places = p.knows.places;
         shown = p.knows.shown;
         seen = p.knows.seen;
+        proposals = sent_proposed x.place.nodes x.place.node upto (front_of t.after) (own_value x.place t.after) p.node.store p.node.has p.node.sent (m ∷ p.node.sent)
+            (λ b s c h. proposed_before p.node m b s c tt h) p.knows.proposals;
       };
       commands = p.commands;
       hears = p.hears;

@@ -23,6 +23,8 @@ use Rattle.seat_session.specs.Laws.{Event, joined, Happens, IsRestOf}
 use Rattle.dealer_kind.specs.Kind.{dealer_of}
 use Rattle.dealer_kind.specs.Plans.{HasNodes, IsSetting}
 use Rattle.node_rules.specs.Standings.{Place, Standing, applied, front_of}
+use Rattle.node_rules.specs.Proposing.{own_value}
+use Rattle.node_rules.specs.Proposed.{IsProposed, IsSettled}
 use Rattle.node_rules.specs.Seats.{session_at}
 use Rattle.node_rules.specs.Seen.{Sees}
 
@@ -121,11 +123,13 @@ pub record Knows (dealer : Dealer) (place : Place) (upto : List Command) (s : St
   pub places : length s.sessions ≡ place.setting.game.players
   pub shown : node.shown ≤ length upto
   pub seen : Sees node.has node.store.promise s.seen
+  pub proposals : IsProposed place.nodes place.node upto (front_of s) (own_value place s) node.store node.has node.sent
 
 pub record Runs (dealer : Dealer) (place : Place) (s : Standing) (node : Node) : Type 0 where
   pub unbegun : s.begun ≡ s.store
   pub knows : Knows dealer place (applied s) s node
   pub sessions : AreSessions place.setting.game s.sessions node.heard
+  pub settled : IsSettled place s
 
 pub record IsOf (own : ℕ → Command → Bool) (place : Place) (s : Standing) (node : Node) : Type 0 where
   pub up : node.up ≡ s.up

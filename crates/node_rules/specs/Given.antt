@@ -4,7 +4,8 @@ use Rattle.slot_log.specs.declared.command.Command.{Command}
 use Rattle.slot_log.specs.Laws.{CommandsMakeHands, FitsWithoutReason}
 use Rattle.slot_log.specs.SlotLaws.{FrontIsFirstHole, SlotsEnd, OneMoreIsKnown, FrontsGoOn}
 use Rattle.protocol_model.specs.Sets.{In}
-use Rattle.protocol_model.specs.Messages.{Message, Chosen}
+use Rattle.paxos_wire.specs.declared.ballot.Ballot.{Ballot}
+use Rattle.protocol_model.specs.Messages.{Message, Prepare, Accept, Accepted, Chosen}
 use Rattle.protocol_model.specs.Quorums.{IsChosen}
 use Rattle.protocol_model.specs.Stores.{Store}
 use Rattle.protocol_model.specs.Backing.{IsWithinPromise}
@@ -36,7 +37,14 @@ pub record Given : Type 0 where
       → Reached dealer n world → IsChosen n (world.nodes i).has slot command → IsChosen n world.ever slot command
   pub within : (dealer : Dealer) (n i : ℕ) (world : World) (store : Store)
       → Reached dealer n world → IsLeft i (world.nodes i) store → IsWithinPromise store
+  pub proposed : (dealer : Dealer) (n sender : ℕ) (world : World) (ballot : Ballot) (slot : ℕ) (command : Command)
+      → Reached dealer n world → In (Accepted sender ballot slot command) world.ever → In (Accept ballot slot command) world.ever
+  pub own_proposal : (dealer : Dealer) (n i : ℕ) (world : World) (ballot : Ballot) (first slot : ℕ) (command : Command)
+      → Reached dealer n world → In (Prepare ballot first) (world.nodes i).sent → In (Accept ballot slot command) world.ever
+      → In (Accept ballot slot command) (world.nodes i).sent
   -- the proposer
+  pub greatest : proposer.GreatestDecides
+  pub quorum : proposer.QuorumLeads
   pub safe : proposer.ProposalsAreSafe
   pub begin : proposer.BeginCounts
   pub begin_all : proposer.BeginCountsAll

@@ -10,8 +10,13 @@ pub mod Seats
 pub mod Calls
 pub mod Rules
 pub mod Seen
+pub mod Proposed
 pub mod Being
 pub mod Called
 pub mod Given
 pub mod Sound
+pub mod Outcomes
 pub mod Calm
+pub mod LawsTick
+pub mod LawsAnswers
+pub mod LawsBacking

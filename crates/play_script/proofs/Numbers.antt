@@ -9,7 +9,7 @@ use Rattle.std.proofs.lemmas.Fmt.{IsAscii-from_digits}
 use Rattle.std.proofs.lemmas.Str.{IsUtf8-from_ascii}
 use Rattle.std.proofs.lemmas.Str.Parse.{IsNumeralModel, numerals_by_value, tells_all_ascii_digits, parse_digits, parse_gives, digit_from_value}
 use Rattle.play_script.specs.Bytes.{IsFreeOf}
-use Rattle.play_script.specs.Orders.{IsNumber, IsAbsent}
+use Rattle.play_script.specs.Orders.{IsNumber}
 
 own : IsNumeralModel (λ ds. all_ascii_digits ds ≡ true) (digits_value 10)
 own = numerals_by_value (λ ds. all_ascii_digits ds ≡ true) tells_all_ascii_digits
@@ -27,7 +27,7 @@ number_found {E} bs r n parsed is digits some =
     let here = subst (λ (s : Result ℕ E). OkIff s ((0 < length bs) × (digits_value 10 bs < 2 ^ 64)) (digits_value 10 bs)) is told in
     record { digits = digits_listed bs digits; some = some; value = sym here.1; fits = subst (λ (v : ℕ). v < 2 ^ 64) (sym here.1) here.0.1 }
 
-pub number_absent : {E : Type 0} (bs : List ℕ) (r : Result ℕ E) → ParsesUnsigned 64 10 bs r → ((n : ℕ) → ¬ (r ≡ Ok n)) → IsAbsent (IsNumber bs)
+pub number_absent : {E : Type 0} (bs : List ℕ) (r : Result ℕ E) → ParsesUnsigned 64 10 bs r → ((n : ℕ) → ¬ (r ≡ Ok n)) → (n : ℕ) → ¬ (IsNumber bs n)
 number_absent bs r parsed none =
     λ n is. none n (parse_gives own 64 bs r parsed is.digits is.some (subst (λ (v : ℕ). v < 2 ^ 64) (sym is.value) is.fits) ∙ ap Ok is.value)
 

@@ -8,10 +8,6 @@ use Rattle.play_script.specs.declared.word.Word.TheVariants as word
 use Rattle.play_script.specs.declared.order.Order.{Order}
 use Rattle.play_script.specs.declared.order.Order.TheVariants.{Tick, Deliver, Flush, Connect, Drop, Line, Stop, Start}
 
--- there is none
-abbrev pub IsAbsent : {T : Type 0} → (T → Type 0) → Type 0
-IsAbsent {T} P = (x : T) → ¬ (P x)
-
 -- a word as it stands in a script
 abbrev pub word_text : Word → List ℕ
 word_text word.Tick = codes "tick"

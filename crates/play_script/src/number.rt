@@ -1,11 +1,11 @@
-ghost use Rattle.std.specs.Prelude.{◌≡◌, ◌<◌, true, MatchOption};
+ghost use Rattle.std.specs.Prelude.{◌≡◌, ◌<◌, ℕ, true, MatchOption};
 ghost use Rattle.std.specs.Char.{is_ascii_digit};
 ghost use Rattle.std.specs.List.{list_all};
-ghost use Rattle.play_script.specs.Orders.{IsNumber, Names, IsAbsent};
+ghost use Rattle.play_script.specs.Orders.{IsNumber, Names};
 
 /// The number that digits write, below 2 ^ 64.
 pub(crate) fn number(bytes: &[u8]) -> Option<u64>
-    ensures { MatchOption result (IsAbsent (IsNumber bytes.now)) (IsNumber bytes.now) }
+    ensures { MatchOption result ((number : ℕ) → ¬ (IsNumber bytes.now number)) (IsNumber bytes.now) }
 {
     if bytes.is_empty() || !are_digits(bytes) {
         return None;
@@ -28,7 +28,7 @@ fn are_digits(bytes: &[u8]) -> bool
 
 /// The number of one of so many things.
 pub(crate) fn named(bytes: &[u8], count: u64) -> Option<u64>
-    ensures { MatchOption result (IsAbsent (Names count bytes.now)) (Names count bytes.now) }
+    ensures { MatchOption result ((number : ℕ) → ¬ (Names count bytes.now number)) (Names count bytes.now) }
 {
     match number(bytes) {
         Some(number) if number < count => Some(number),
@@ -38,7 +38,7 @@ pub(crate) fn named(bytes: &[u8], count: u64) -> Option<u64>
 
 /// The number of one of so many nodes or seats.
 pub(crate) fn place(bytes: &[u8], count: usize) -> Option<usize>
-    ensures { MatchOption result (IsAbsent (Names count bytes.now)) (Names count bytes.now) }
+    ensures { MatchOption result ((number : ℕ) → ¬ (Names count bytes.now number)) (Names count bytes.now) }
 {
     match named(bytes, count as u64) {
         Some(number) => Some(number as usize),

@@ -1,5 +1,6 @@
 ghost use Rattle.std.specs.Prelude.{◌≡◌, MatchOption};
-ghost use Rattle.play_script.specs.Orders.{word_text, IsAbsent};
+ghost use Rattle.play_script.specs.Orders.{word_text};
+ghost use Rattle.play_script.specs.declared.word.Word.{Word as Said};
 
 /// The first word of a line of a script.
 #[derive(Clone, Copy, Debug, PartialEq, Eq)]
@@ -17,7 +18,7 @@ pub enum Word {
 impl Word {
     /// The word that bytes are.
     pub(crate) fn read(bytes: &[u8]) -> Option<Word>
-        ensures { MatchOption result (IsAbsent (λ word. bytes.now ≡ word_text word)) (λ word. bytes.now ≡ word_text word) }
+        ensures { MatchOption result ((word : Said) → ¬ (bytes.now ≡ word_text word)) (λ word. bytes.now ≡ word_text word) }
     {
         match bytes {
             b"tick" => Some(Word::Tick),

@@ -25,7 +25,7 @@ pub record Stands (gate : ℕ) (records : List Record) (slot : ℕ) (kept : Kept
   pub place : kept.placed.place ≡ gate + length (gated before) + 3
   pub long : kept.placed.length ≡ length (payload (Voted kept.placed.ballot slot kept.command))
 
-some_is : {A : Type 0} (a b : A) → Some a ≡ Some b → a ≡ b
+pub some_is : {A : Type 0} (a b : A) → Some a ≡ Some b → a ≡ b
 some_is {A} a b same = ap of same
   where
     of : Option A → A

@@ -1,5 +1,6 @@
 -- A journal byte by byte, near misses, what it holds, and images of writes cut short.
-use Rattle.std.proofs.Common.{◌≡◌, inl, inr, ℕ, length, List, [], ◌∷◌, ◌++◌, take, drop, Some, None, true, false, refl, arith, ap}
+use Rattle.std.proofs.Common.{◌≡◌, inl, inr, ℕ, length, List, [], ◌∷◌, ◌++◌, take, drop, Some, None, true, false, get_or, refl, sym, arith, ap, length-append}
+use Rattle.std.specs.Prelude.{codes}
 use Rattle.slot_log.specs.declared.command.Command.{Command}
 use Rattle.slot_log.specs.declared.command.Command.TheVariants.{Deal}
 use Rattle.paxos_wire.specs.declared.ballot.Ballot.{Ballot}
@@ -7,13 +8,16 @@ use Rattle.paxos_wire.proofs.Examples.{first_ballot, cards, ballot_fits, deal_is
 use Rattle.protocol_model.specs.Messages.{Vote}
 use Rattle.promise_store.specs.declared.records.Record.{Record}
 use Rattle.promise_store.specs.declared.records.Record.TheVariants.{Promised, Voted}
-use Rattle.promise_store.specs.declared.fault.StoreFault.TheVariants.{NoStore, BadHeader}
+use Rattle.promise_store.specs.declared.fault.StoreFault.TheVariants.{NoStore, BadHeader, Closed}
 use Rattle.promise_store.specs.Disks.{Torn, Holds, Rose}
 use Rattle.promise_store.specs.Calls.{wrote, synced, contents, picked, IsImage}
 use Rattle.promise_store.specs.Records.{payload, record_text}
-use Rattle.promise_store.specs.Journals.{header, IsJournal}
+use Rattle.promise_store.specs.Journals.{header, gated, IsJournal}
 use Rattle.promise_store.specs.Holding.{holding, store_of, placed_of}
 use Rattle.promise_store.specs.Refusals.{Refuses}
+use Rattle.promise_store.specs.FaultText.{code_of, fault_text}
+use Rattle.promise_store.specs.Media.{passes_with, burnt, burnt_once}
+use Rattle.promise_store.specs.Ranges.{IsBallotOrNone}
 use Rattle.promise_store.proofs.Opening.{head_long}
 use Rattle.promise_store.proofs.Journals.{one_journal}
 
@@ -59,6 +63,21 @@ journal_cut_short = record { gate = 2; rest = drop 18 bytes; shut = λ e. omega 
 -- with a shut gate in front of the accept it is no journal of both records
 pub shut_gate-none : IsJournal (header 0 3) (take 17 bytes ++ 2 ∷ drop 18 bytes) records → ⊥
 shut_gate-none both = absurd (let same = one_journal (header 0 3) (take 17 bytes ++ 2 ∷ drop 18 bytes) records (Promised first_ballot ∷ []) both journal_cut_short in omega (arith, ap length same))
+
+-- a length that says one byte more than the promise has
+abbrev pub length_one_more : List ℕ
+length_one_more = 72 ∷ 68 ∷ 74 ∷ 49 ∷ 0 ∷ 3 ∷ 0 ∷ 0 ∷ 1 ∷ 0 ∷ 7 ∷ 1 ∷ 0 ∷ 0 ∷ 0 ∷ 1 ∷ 0 ∷ 0 ∷ []
+
+pub length_one_more-none : (found : List Record) → IsJournal (header 0 3) length_one_more found → ⊥
+length_one_more-none [] is = is.shut (sym (ap (λ (l : List ℕ). get_or l 8 0) is.text))
+length_one_more-none (Promised ballot ∷ found) is = absurd (let six = ap (λ (l : List ℕ). get_or l 10 0) is.text in omega (arith, six))
+length_one_more-none (Voted ballot slot command ∷ found) is = absurd (let kind = ap (λ (l : List ℕ). get_or l 11 0) is.text in omega (arith, kind))
+
+-- no gate behind the promise
+pub no_next_gate-none : (found : List Record) → IsJournal (header 0 3) (take 17 bytes) found → ⊥
+no_next_gate-none [] is = is.shut (sym (ap (λ (l : List ℕ). get_or l 8 0) is.text))
+no_next_gate-none (Promised ballot ∷ found) is = absurd (let long = ap length is.text in omega (arith, long, length-append (gated found) (is.gate ∷ is.rest)))
+no_next_gate-none (Voted ballot slot command ∷ found) is = absurd (let kind = ap (λ (l : List ℕ). get_or l 11 0) is.text in omega (arith, kind))
 
 -- another node's header
 pub other_node-none : (found : List Record) → IsJournal (header 1 3) bytes found → ⊥
@@ -153,6 +172,31 @@ pub synced_write-none : IsImage (contents (synced ∷ wrote 0 (8 ∷ []) true �
 synced_write-none (inl is) = cc
 synced_write-none (inr is) = cc
 
+-- a fuse of 1 lets one call pass, and then none does; where one call alone fails, all pass behind it
+pub one_passes : passes_with (Some 1) ≡ true
+one_passes = refl
+
+pub fuse_burns : burnt (Some 1) ≡ Some 0
+fuse_burns = refl
+
+pub burnt_fails : passes_with (Some 0) ≡ false
+burnt_fails = refl
+
+pub burnt_stays : burnt (Some 0) ≡ Some 0
+burnt_stays = refl
+
+pub once_burnt_passes : passes_with (burnt_once (Some 0)) ≡ true
+once_burnt_passes = refl
+
+-- ---- ranges
+
+-- none was promised
+pub none_promised : IsBallotOrNone (record { round = 0; node = 0 })
+none_promised = record { last = omega arith; node = omega arith; none = λ first. refl }
+
+pub round_0_of_node_1-none : IsBallotOrNone (record { round = 0; node = 1 }) → ⊥
+round_0_of_node_1-none is = absurd (let zero_node = is.none refl in omega (arith, zero_node))
+
 -- ---- files that are no store
 
 pub empty_file : Refuses (header 0 3) [] NoStore
@@ -160,3 +204,9 @@ empty_file = refl
 
 pub header_alone : Refuses (header 0 3) (header 0 3) BadHeader
 header_alone = (λ e. absurd (omega (arith, ap length e)), λ has. omega (arith, head_long (header 0 3) (header 0 3) has))
+
+pub closed_is_64 : code_of Closed ≡ 64
+closed_is_64 = refl
+
+pub closed_prints : fault_text Closed ≡ codes "64 Closed"
+closed_prints = refl

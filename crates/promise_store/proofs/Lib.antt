@@ -4,6 +4,7 @@ pub mod Appends
 pub mod Journals
 pub mod Holding
 pub mod Ordered
+mod Ranges
 pub mod Calls
 pub mod Backing
 pub mod Greatest

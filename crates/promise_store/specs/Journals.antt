@@ -4,6 +4,7 @@ use Rattle.std.specs.List.{AllByRecursion}
 use Rattle.promise_store.specs.declared.records.Record.{Record}
 use Rattle.promise_store.specs.declared.reading.Step.{Step}
 use Rattle.promise_store.specs.declared.reading.Step.TheVariants.{Shut, Found, Broken}
+use Rattle.promise_store.specs.declared.records.TheConstants.{MOST_GATED}
 use Rattle.promise_store.specs.Records.{IsRecord, payload, record_text}
 
 -- HDJ1, the node, the count of nodes, and two zeros
@@ -53,6 +54,6 @@ pub record OpensFrom (bytes : List ℕ) (records : List Record) : Type 0 where
   pub each : AllByRecursion IsRecord records
   pub text : bytes ≡ gated records ++ gate ∷ rest
 
--- so many bytes from a gate on are enough to tell what stands there: no record is longer, or they are all
+-- so many bytes from a gate on are enough to tell what stands there: no record with both its gates is longer, or they are all
 abbrev pub IsEnough : List ℕ → ℕ → Type 0
-IsEnough tail count = (45 ≤ count) ⊎ (length tail ≤ count)
+IsEnough tail count = (MOST_GATED ≤ count) ⊎ (length tail ≤ count)

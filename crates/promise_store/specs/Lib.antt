@@ -2,9 +2,12 @@ pub mod Disks
 pub mod Calls
 pub mod Media
 pub mod MemoryDisks
+pub mod OnceDisks
+pub mod FileDisks
 pub mod Records
 pub mod Journals
 pub mod Index
+pub mod Ranges
 pub mod Room
 pub mod Holding
 pub mod Settled

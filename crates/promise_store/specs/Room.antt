@@ -1,7 +1,9 @@
 -- What is seen of a value that indexes a store.
-use Rattle.std.specs.Prelude.{ℕ, ◌-◌, Option}
+use Rattle.std.specs.Prelude.{◌≡◌, ◌⊎◌, ℕ, ◌-◌, Option, Some}
 use Rattle.std.specs.Vec.{vec_len, vec_capacity}
 use Rattle.paxos_wire.specs.declared.ballot.Ballot.{Ballot}
+use Rattle.paxos_wire.specs.Fits.{IsBallot, IsSlot}
+use Rattle.protocol_model.specs.Ballots.{no_ballot}
 use Rattle.promise_store.specs.declared.placed.Placed.{Placed}
 use Rattle.promise_store.specs.declared.held.Held.{Held}
 use Rattle.promise_store.specs.declared.records.Record.{Record}
@@ -18,6 +20,16 @@ promised_in held = held.promised
 -- where the entry of a slot stands
 abbrev pub placed_in : Held → ℕ → Option Placed
 placed_in held slot = found slot held.entries.items
+
+-- what is promised is a ballot or none, and each entry's ballot and slot are within the ranges of frames
+pub record AreWithinRanges (held : Held) : Type 0 where
+  pub promise : (promised_in held ≡ no_ballot) ⊎ IsBallot (promised_in held)
+  pub entries : (slot : ℕ) (placed : Placed) → placed_in held slot ≡ Some placed → IsBallot placed.ballot × IsSlot placed.slot
+
+-- the one shows what the other does
+pub record ShowSame (before after : Held) : Type 0 where
+  pub promise : promised_in after ≡ promised_in before
+  pub entries : (slot : ℕ) → placed_in after slot ≡ placed_in before slot
 
 -- a record that may take room for an entry
 abbrev pub NeedsRoom : Record → Type 0

@@ -1,6 +1,6 @@
 //! A file of the operating system. No contract can say what it holds, so it isn't honest, and has no images.
 
-ghost use Rattle.std.specs.Prelude.{◌≤◌, [], false};
+ghost use Rattle.std.specs.Prelude.{◌≡◌, ◌≤◌, [], false};
 ghost use Rattle.promise_store.specs.NoDisk.{none_left, never_honest, never_left};
 ghost use Rattle.promise_store.specs.Disks.{Rose};
 
@@ -29,8 +29,12 @@ fn count_failure(failures: &mut u64) -> DiskFault
 }
 
 impl FileDisk {
+    ghost use Rattle.promise_store.specs.FileDisks.{failures_of};
+
     /// The disk of an open file that may be read and written.
-    pub fn new(file: File) -> FileDisk {
+    pub fn new(file: File) -> FileDisk
+        ensures { failures_of result ≡ 0 }
+    {
         FileDisk {
             file,
             failures: 0,

@@ -2,7 +2,9 @@
 
 ghost use Rattle.std.specs.Prelude.{◌≡◌, ◌+◌, ◌<◌, ◌≤◌, ℕ, true, false, Some, if◌then◌else◌, nat_eq, slice_index_or, slice_set};
 ghost use Rattle.std.specs.Vec.{vec_len, vec_capacity};
+ghost use Rattle.paxos_wire.specs.Fits.{IsBallot, IsSlot};
 ghost use Rattle.promise_store.specs.Index.{Rise, IsPosition, found, is_below, later};
+ghost use Rattle.promise_store.specs.Ranges.{AreInRange};
 ghost use Rattle.promise_store.specs.declared.placed.Placed.{Placed};
 
 use crate::placed::Placed;
@@ -73,6 +75,7 @@ pub fn put(entries: &mut Vec<Placed>, placed: Placed)
     requires room { vec_len entries.old < vec_capacity entries.old }
     ensures rising { Rise 0 entries.new.items }
     ensures found { (slot : ℕ) → found slot entries.new.items ≡ (if nat_eq slot placed.slot then Some (later (λ e. e.ballot) (found slot entries.old.items) placed) else found slot entries.old.items) }
+    ensures range { IsBallot placed.ballot → IsSlot placed.slot → AreInRange entries.old.items → AreInRange entries.new.items }
     ensures capacity { vec_capacity entries.new ≡ vec_capacity entries.old }
     ensures len { vec_len entries.new ≤ vec_len entries.old + 1 }
 {

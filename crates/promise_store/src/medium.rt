@@ -1,6 +1,6 @@
 //! A file in memory, which keeps a record of its calls; each call is told whether it is to fail.
 
-ghost use Rattle.std.specs.Prelude.{◌≡◌, ◌∷◌, ◌++◌, [], ◌+◌, ◌<◌, ◌≤◌, ◌%◌, ◌/◌, ◌^◌, List, ℕ, length, take, drop, map, IsTrue, IfOk, OnOk, OnErr, false};
+ghost use Rattle.std.specs.Prelude.{◌≡◌, ◌∷◌, ◌++◌, [], ◌+◌, ◌<◌, ◌≤◌, ◌%◌, ◌/◌, ◌^◌, List, ℕ, length, take, drop, map, ◌↔◌, IsTrue, IfOk, IsOk, IsErr, OnOk, OnErr, true, false};
 ghost use Rattle.promise_store.specs.Disks.{Holds, TornFrom, Within, Only, Elapses, Counts, Rose};
 ghost use Rattle.promise_store.specs.Calls.{event_of, events, landed, picked, write_of, IsTied};
 
@@ -8,7 +8,7 @@ use crate::call::Call;
 use crate::disk::DiskFault;
 use std::alloc::{AllocError, Global};
 
-/// A file in memory.
+/// A file in memory. A write of no bytes does nothing, also behind the end.
 #[derive(Drop)]
 pub struct Medium {
     alloc: Global,
@@ -85,10 +85,12 @@ fn note(calls: &mut Vec<Call>, call: Call) -> Result<(), AllocError>
 }
 
 impl Medium {
-    ghost use Rattle.promise_store.specs.Media.{seen_of, images_of, moment_of, since_of, count_of, begun_of};
+    ghost use Rattle.promise_store.specs.Media.{seen_of, images_of, moment_of, since_of, count_of, begun_of, calls_of, image_of, IsEmpty};
 
     /// An empty file.
-    pub fn new(alloc: Global) -> Medium {
+    pub fn new(alloc: Global) -> Medium
+        ensures { IsEmpty result }
+    {
         Medium {
             alloc,
             bytes: Vec::new(alloc),
@@ -109,7 +111,9 @@ impl Medium {
     }
 
     /// All calls that changed it.
-    pub fn calls(&self) -> &[Call] {
+    pub fn calls(&self) -> &[Call]
+        ensures { result.now ≡ calls_of self.now }
+    {
         &self.calls
     }
 
@@ -131,6 +135,7 @@ impl Medium {
 
     pub fn len(&mut self, passes: bool) -> Result<usize, DiskFault>
         ensures len { IfOk result (λ n. n ≡ length (seen_of self.old)) }
+        ensures passes { IsOk result ↔ (passes ≡ true) }
         ensures seen { seen_of self.new ≡ seen_of self.old }
         ensures begun { begun_of self.new ≡ begun_of self.old }
         ensures crash { Within (images_of self.old) (images_of self.new) }
@@ -145,6 +150,7 @@ impl Medium {
 
     pub fn read(&mut self, passes: bool, at: usize, buffer: &mut [u8]) -> Result<(), DiskFault>
         ensures bytes { OnOk result (buffer.new ≡ take (length buffer.old) (drop at (seen_of self.old))) }
+        ensures passes { IsOk result ↔ ((passes ≡ true) × (at + length buffer.old ≤ length (seen_of self.old))) }
         ensures seen { seen_of self.new ≡ seen_of self.old }
         ensures begun { begun_of self.new ≡ begun_of self.old }
         ensures crash { Within (images_of self.old) (images_of self.new) }
@@ -161,11 +167,21 @@ impl Medium {
 
     pub fn write_at(&mut self, passes: bool, at: usize, bytes: &[u8]) -> Result<(), DiskFault>
         ensures written { at ≤ length (seen_of self.old) → OnOk result (Holds (seen_of self.old) at bytes.now (seen_of self.new)) }
+        ensures nothing { length bytes.now ≡ 0 → seen_of self.new ≡ seen_of self.old }
+        ensures err { OnErr result (seen_of self.new ≡ seen_of self.old) }
+        ensures fails { passes ≡ false → IsErr result }
         ensures begun { begun_of self.new ≡ begun_of self.old }
         ensures crash { Within (TornFrom at (length bytes.now) (images_of self.old)) (images_of self.new) }
         ensures time { Elapses (moment_of self.old) (moment_of self.new) (since_of self.old) (since_of self.new) (images_of self.new) }
         ensures failed { Counts result (count_of self.old) (count_of self.new) }
     {
+        if bytes.is_empty() {
+            return if passes {
+                Ok(())
+            } else {
+                Err(fail(&mut self.failures))
+            };
+        }
         let Ok(copy) = bytes.to_vec(self.alloc) else {
             return Err(fail(&mut self.failures));
         };
@@ -189,6 +205,7 @@ impl Medium {
 
     pub fn sync(&mut self, passes: bool) -> Result<(), DiskFault>
         ensures durable { OnOk result (Only (seen_of self.old) (images_of self.new)) }
+        ensures fails { passes ≡ false → IsErr result }
         ensures seen { seen_of self.new ≡ seen_of self.old }
         ensures begun { begun_of self.new ≡ begun_of self.old }
         ensures crash { Within (images_of self.old) (images_of self.new) }
@@ -209,25 +226,22 @@ impl Medium {
         Ok(())
     }
 
-    pub fn stop(&mut self, pick: u64)
+    /// The machine stops and comes back with the image that the number picks. An `Err` changes nothing.
+    pub fn stop(&mut self, pick: u64) -> Result<(), AllocError>
+        ensures picked { OnOk result (seen_of self.new ≡ image_of self.old pick) }
+        ensures err { OnErr result (seen_of self.new ≡ seen_of self.old) }
         ensures left { images_of self.old (seen_of self.new) }
         ensures begun { begun_of self.new ≡ begun_of self.old }
         ensures crash { Within (images_of self.old) (images_of self.new) }
         ensures time { Elapses (moment_of self.old) (moment_of self.new) (since_of self.old) (since_of self.new) (images_of self.new) }
         ensures failed { count_of self.new ≡ count_of self.old }
     {
-        let Ok(image) = pick_image(self.alloc, &self.base, &self.calls[self.unsynced..], pick)
-        else {
-            return;
-        };
-        let Ok(copy) = image.to_vec(self.alloc) else {
-            return;
-        };
-        if note(&mut self.calls, Call::Stopped { pick }).is_err() {
-            return;
-        }
+        let image = pick_image(self.alloc, &self.base, &self.calls[self.unsynced..], pick)?;
+        let copy = image.to_vec(self.alloc)?;
+        note(&mut self.calls, Call::Stopped { pick })?;
         self.bytes = image;
         self.base = copy;
         self.unsynced = self.calls.len();
+        Ok(())
     }
 }

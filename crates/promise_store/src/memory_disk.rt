@@ -1,8 +1,9 @@
 //! A disk in memory, with fuses.
 
-ghost use Rattle.std.specs.Prelude.{◌≡◌, true, refl, length};
+ghost use Rattle.std.specs.Prelude.{◌≡◌, true, refl, length, IfOk};
 ghost use Rattle.std.proofs.Common.{inl, rules};
 ghost use Rattle.promise_store.specs.Calls.{events, only_images};
+ghost use Rattle.promise_store.specs.Media.{passes_with, burnt};
 
 use crate::call::Call;
 use crate::disk::{Disk, DiskFault};
@@ -14,7 +15,8 @@ use std::alloc::{AllocError, Global};
 /// A crash may leave any bytes in what was written since the last sync; `stop` picks one of these images: the writes
 /// since then, failed ones too, take the digits of the pick in base 3, the oldest the lowest. Digit 0 keeps the old
 /// bytes, with zeros past the old end; 1 has the new bytes; 2 has the byte 1 throughout. What a failed sync left
-/// unsynced stays so until one succeeds. A growth that is refused inside is a failure of the call.
+/// unsynced stays so until one succeeds. A write of no bytes does nothing, and takes no digit. A growth that is refused
+/// inside is a failure of the call; a stop, which can't fail, then changes no byte.
 #[derive(Drop)]
 pub struct MemoryDisk {
     medium: Medium,
@@ -26,7 +28,10 @@ pub struct MemoryDisk {
 }
 
 /// Whether one call more passes.
-fn passes(left: &mut Option<u64>) -> bool {
+fn passes(left: &mut Option<u64>) -> bool
+    ensures passes { result ≡ passes_with left.old }
+    ensures burnt { left.new ≡ burnt left.old }
+{
     match *left {
         None => true,
         Some(0) => false,
@@ -38,12 +43,15 @@ fn passes(left: &mut Option<u64>) -> bool {
 }
 
 impl MemoryDisk {
-    ghost use Rattle.promise_store.specs.MemoryDisks.{medium_of};
-    ghost use Rattle.promise_store.specs.Media.{seen_of};
+    ghost use Rattle.promise_store.specs.MemoryDisks.{medium_of, fuses_of};
+    ghost use Rattle.promise_store.specs.Media.{seen_of, calls_of, IsEmpty};
 
     /// An empty file. The first number says how many calls pass before all fail until `stop`, and each stop takes the
     /// next; without one nothing fails.
-    pub fn new(alloc: Global, fuses: &[u64]) -> Result<MemoryDisk, AllocError> {
+    pub fn new(alloc: Global, fuses: &[u64]) -> Result<MemoryDisk, AllocError>
+        ensures empty { IfOk result (λ disk. IsEmpty (medium_of disk)) }
+        ensures fuses { IfOk result (λ disk. fuses_of disk ≡ fuses.now) }
+    {
         Ok(MemoryDisk {
             medium: Medium::new(alloc),
             left: fuses.first().copied(),
@@ -60,7 +68,9 @@ impl MemoryDisk {
     }
 
     /// All calls that changed the file, or what a crash may leave of it.
-    pub fn calls(&self) -> &[Call] {
+    pub fn calls(&self) -> &[Call]
+        ensures { result.now ≡ calls_of (medium_of self.now) }
+    {
         self.medium.calls()
     }
 }
@@ -125,6 +135,6 @@ impl Disk for MemoryDisk {
         if self.left.is_some() {
             self.next_fuse += 1;
         }
-        self.medium.stop(pick);
+        let _ = self.medium.stop(pick);
     }
 }

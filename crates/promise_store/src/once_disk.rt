@@ -1,8 +1,9 @@
 //! A disk in memory, one call of which fails.
 
-ghost use Rattle.std.specs.Prelude.{◌≡◌, true, refl, length};
+ghost use Rattle.std.specs.Prelude.{◌≡◌, ◌≤◌, ◌-◌, true, refl, length, Some, None};
 ghost use Rattle.std.proofs.Common.{inl, rules};
 ghost use Rattle.promise_store.specs.Calls.{events, only_images};
+ghost use Rattle.promise_store.specs.Media.{passes_with, burnt_once};
 
 use crate::disk::{Disk, DiskFault};
 use crate::medium::Medium;
@@ -18,7 +19,10 @@ pub struct OnceDisk {
 }
 
 /// Whether one call more passes.
-fn passes(left: &mut Option<u64>) -> bool {
+fn passes(left: &mut Option<u64>) -> bool
+    ensures passes { result ≡ passes_with left.old }
+    ensures burnt { left.new ≡ burnt_once left.old }
+{
     match *left {
         None => true,
         Some(0) => {
@@ -33,8 +37,15 @@ fn passes(left: &mut Option<u64>) -> bool {
 }
 
 impl OnceDisk {
+    ghost use Rattle.promise_store.specs.OnceDisks.{medium_of, left_of};
+    ghost use Rattle.promise_store.specs.Media.{seen_of, IsEmpty};
+
     /// An empty file, whose call of this number fails, counted from 1; with 0 none does.
-    pub fn new(alloc: Global, call: u64) -> OnceDisk {
+    pub fn new(alloc: Global, call: u64) -> OnceDisk
+        ensures empty { IsEmpty (medium_of result) }
+        ensures none { call ≡ 0 → left_of result ≡ None }
+        ensures once { 1 ≤ call → left_of result ≡ Some (call - 1) }
+    {
         OnceDisk {
             medium: Medium::new(alloc),
             left: call.checked_sub(1),
@@ -42,7 +53,9 @@ impl OnceDisk {
     }
 
     /// What a read gives.
-    pub fn bytes(&self) -> &[u8] {
+    pub fn bytes(&self) -> &[u8]
+        ensures { result.now ≡ seen_of (medium_of self.now) }
+    {
         self.medium.bytes()
     }
 }
@@ -103,6 +116,6 @@ impl Disk for OnceDisk {
     }
 
     fn stop(&mut self, pick: u64) {
-        self.medium.stop(pick);
+        let _ = self.medium.stop(pick);
     }
 }

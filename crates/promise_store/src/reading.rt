@@ -1,7 +1,8 @@
 //! A journal, read from its first gate on through a buffer of 4096 bytes.
 
-ghost use Rattle.std.specs.Prelude.{◌≡◌, ◌⊎◌, ◌+◌, ◌-◌, ◌≤◌, List, ℕ, length, drop, take, min, IsTrue, IsErrOf, IfOk, IfErr, MatchResult, Some, Ok};
+ghost use Rattle.std.specs.Prelude.{◌≡◌, ◌⊎◌, ◌+◌, ◌-◌, ◌≤◌, List, ℕ, length, drop, take, min, IsTrue, IsErrOf, IfOk, IfErr, IfSome, MatchResult, Some, Ok};
 ghost use Rattle.paxos_wire.specs.declared.ballot.Ballot.{Ballot};
+ghost use Rattle.paxos_wire.specs.Fits.{IsBallot, IsInRange};
 ghost use Rattle.slot_log.specs.declared.command.Command.{Command};
 ghost use Rattle.promise_store.specs.declared.records.Record.{Record};
 ghost use Rattle.promise_store.specs.declared.records.Record.TheVariants.{Voted};
@@ -16,7 +17,7 @@ use crate::disk::{Disk, DiskFault};
 use crate::fault::StoreFault;
 use crate::held::Held;
 use crate::placed::Placed;
-use crate::records::{MOST_PAYLOAD, MOST_RECORD, Record};
+use crate::records::{MOST_GATED, MOST_PAYLOAD, Record};
 use crate::texts::read_payload;
 use paxos_wire::Ballot;
 use slot_log::Command;
@@ -93,12 +94,12 @@ fn show<D: Disk>(
     requires count { start + filled ≤ len }
     requires few { filled ≤ ROOM }
     requires window { IsTrue D.is_honest → take filled window.old ≡ take filled (drop start (D.seen disk.old)) }
-    ensures shows { IfOk result (λ x. (x.0 ≤ at) × (at ≤ x.0 + x.1) × (x.0 + x.1 ≤ len) × (x.1 ≤ ROOM) × ((45 ≤ x.0 + x.1 - at) ⊎ (len ≤ x.0 + x.1))) }
+    ensures shows { IfOk result (λ x. (x.0 ≤ at) × (at ≤ x.0 + x.1) × (x.0 + x.1 ≤ len) × (x.1 ≤ ROOM) × ((MOST_GATED ≤ x.0 + x.1 - at) ⊎ (len ≤ x.0 + x.1))) }
     ensures window { IsTrue D.is_honest → IfOk result (λ x. take x.1 window.new ≡ take x.1 (drop x.0 (D.seen disk.old))) }
     ensures reads { OnlyReads D.Disk disk.old disk.new }
     ensures failed { Counts result (D.count disk.old) (D.count disk.new) }
 {
-    if start + filled - at > MOST_RECORD || start + filled >= len {
+    if start + filled - at >= MOST_GATED || start + filled >= len {
         return Ok((start, filled));
     }
     let count = refill(disk, window, at, len)?;
@@ -183,6 +184,7 @@ pub fn read_vote_at<D: Disk>(disk: &mut D, placed: Placed) -> Result<(Ballot, Co
     ensures reads { OnlyReads D.Disk disk.old disk.new }
     ensures failed { IsErrOf result StoreFault.Disk → Rose (D.count disk.old) (D.count disk.new) }
     ensures only { IfErr result (λ fault. (fault ≡ StoreFault.Disk) ⊎ (fault ≡ StoreFault.BadRecord)) }
+    ensures range { IfOk result (λ vote. IsBallot vote.0 × IsInRange vote.1) }
 {
     let mut bytes = [0u8; MOST_PAYLOAD];
     let payload = &mut bytes[..MOST_PAYLOAD.min(placed.length as usize)];
@@ -195,6 +197,7 @@ pub fn read_vote_at<D: Disk>(disk: &mut D, placed: Placed) -> Result<(Ballot, Co
 /// The ballot and the command of a record that is an accept.
 fn vote_in(found: Option<Record>) -> Result<(Ballot, Command), StoreFault>
     ensures vote { (ballot : Ballot) (slot : ℕ) (command : Command) → found ≡ Some (Voted ballot slot command) → result ≡ Ok (ballot, command) }
+    ensures range { IfSome found (λ r. IsRecord r) → IfOk result (λ vote. IsBallot vote.0 × IsInRange vote.1) }
     ensures only { IfErr result (λ fault. fault ≡ StoreFault.BadRecord) }
 {
     match found {

@@ -22,3 +22,6 @@ pub const MOST_PAYLOAD: usize = 41;
 
 /// The most bytes of a record and the gate behind it.
 pub const MOST_RECORD: usize = 44;
+
+/// The most bytes of a record with the gates in front of it and behind it.
+pub const MOST_GATED: usize = 45;

@@ -1,7 +1,7 @@
 //! What an acceptor may never forget, on a disk.
 
-ghost use Rattle.std.specs.Prelude.{◌≡◌, ◌⊎◌, ◌↔◌, ◌+◌, ◌≤◌, ℕ, List, true, IsTrue, IsErrOf, IsOk, IfOk, IfErr, OnOk};
-ghost use Rattle.paxos_wire.specs.Fits.{IsBallot, IsSlot, IsInRange};
+ghost use Rattle.std.specs.Prelude.{◌≡◌, ◌⊎◌, ◌↔◌, ◌+◌, ◌≤◌, ℕ, List, true, IsTrue, IsErrOf, IsOk, IfOk, IfErr, IfSome, OnOk};
+ghost use Rattle.paxos_wire.specs.Fits.{IsBallot, IsSlot, IsInRange, IsEntry};
 ghost use Rattle.protocol_model.specs.Stores as model;
 ghost use Rattle.promise_store.specs.Disks.{Rose};
 ghost use Rattle.promise_store.specs.Journals.{header};
@@ -44,7 +44,7 @@ impl<D: Disk> Store<D> {
     ghost use Rattle.promise_store.specs.Refusals.{Refuses};
     ghost use Rattle.promise_store.specs.Appended.{IsAsBefore, Appended};
     ghost use Rattle.promise_store.specs.Shown.{vote_pair, vote_ballot, placed_ballot};
-    ghost use Rattle.promise_store.specs.Room.{room, promised_in, placed_in, NeedsRoom};
+    ghost use Rattle.promise_store.specs.Room.{room, promised_in, placed_in, AreWithinRanges, NeedsRoom, ShowSame};
     ghost use Rattle.protocol_model.specs.Backing.{IsWithinPromise};
 
     /// Makes an empty store, of this node of so many, over whatever the disk has.
@@ -61,6 +61,8 @@ impl<D: Disk> Store<D> {
         ensures failed { IfErr result (λ x. (x.1 ≡ StoreFault.Disk) × Rose (D.count disk) (D.count x.0)) }
         ensures begun { IfOk result (λ store. D.begun (disk_of store) ≡ D.begun disk) }
         ensures begun_err { IfErr result (λ x. D.begun x.0 ≡ D.begun disk) }
+        ensures counts { IfOk result (λ store. D.count (disk_of store) ≡ D.count disk) }
+        ensures counts_err { IfErr result (λ x. D.count disk ≤ D.count x.0) }
     {
         let text = [b'H', b'D', b'J', b'1', node, nodes, 0, 0, 0];
         match write_through(&mut disk, 0, &text) {
@@ -116,6 +118,20 @@ impl<D: Disk> Store<D> {
         self.disk
     }
 
+    /// Whether a call of the disk failed, so that each call of the store answers 64 until it is opened again.
+    pub fn is_closed(&self) -> bool
+        ensures { result ≡ is_closed self.now }
+    {
+        self.closed
+    }
+
+    /// How many calls of its disk have failed; it stays at its last value.
+    pub fn failures(&self) -> u64
+        ensures { result ≡ D.count (disk_of self.now) }
+    {
+        self.disk.failures()
+    }
+
     /// What the store holds: the promised ballot, and where each slot's entry stands.
     pub fn held(&self) -> &Held
         ensures value { result.now ≡ held_of self.now }
@@ -123,6 +139,8 @@ impl<D: Disk> Store<D> {
         ensures votes { (head : List ℕ) (held : model.Store) → Keeps D.Disk head held self.now → IsTrue D.is_honest
             → (slot : ℕ) → placed_ballot (placed_in result.now slot) ≡ vote_ballot (held.votes slot) }
         ensures within { (head : List ℕ) (held : model.Store) → Keeps D.Disk head held self.now → IsWithinPromise held }
+        // On any disk, also one that isn't honest.
+        ensures ranges { AreWithinRanges result.now }
     {
         &self.held
     }
@@ -133,6 +151,7 @@ impl<D: Disk> Store<D> {
         ensures succeeds { additional ≤ room (held_of self.old) → IsOk result }
         ensures more { room (held_of self.old) ≤ room (held_of self.new) }
         ensures same { IsAsBefore D.Disk self.old self.new }
+        ensures shows { ShowSame (held_of self.old) (held_of self.new) }
     {
         self.held.reserve(additional)
     }
@@ -151,12 +170,15 @@ impl<D: Disk> Store<D> {
 
     /// Stores that a command was accepted at a slot in a ballot. It takes four calls of the disk.
     ///
-    /// Refused are 64 at a closed store, 92 where there is no memory for the slot's entry, and 63 where the disk failed.
+    /// Refused are 64 at a closed store, 92 where there is no room for the slot's entry and no memory for it, and 63
+    /// where the disk failed.
     pub fn accept(&mut self, ballot: Ballot, slot: u32, command: &Command) -> Result<(), StoreFault>
         requires ballot { IsBallot ballot }
         requires slot { IsSlot slot }
         requires command { IsInRange command.now }
-        ensures { Appended D.Disk (Voted ballot slot command.now) self.old self.new result }
+        ensures appended { Appended D.Disk (Voted ballot slot command.now) self.old self.new result }
+        ensures room { room (held_of self.old) ≤ room (held_of self.new) + 1 }
+        ensures full { IsErrOf result StoreFault.OutOfMemory → (room (held_of self.old) ≡ 0) × ShowSame (held_of self.old) (held_of self.new) }
     {
         if self.closed {
             return Err(StoreFault::Closed);
@@ -199,8 +221,11 @@ impl<D: Disk> Store<D> {
         ensures held { held_of self.new ≡ held_of self.old }
         ensures failed { IsErrOf result StoreFault.Disk → Rose (D.count (disk_of self.old)) (D.count (disk_of self.new)) × (is_closed self.new ≡ true) }
         ensures closed { IsErrOf result StoreFault.Closed ↔ (is_closed self.old ≡ true) }
-        ensures unchanged { (IsErrOf result StoreFault.Closed ⊎ IsErrOf result StoreFault.BadRecord) → is_closed self.new ≡ is_closed self.old }
+        ensures stays { (IsErrOf result StoreFault.Disk → ⊥) → is_closed self.new ≡ is_closed self.old }
+        ensures as_before { IsErrOf result StoreFault.Closed → IsAsBefore D.Disk self.old self.new }
         ensures only { IfErr result (λ fault. (fault ≡ StoreFault.Disk) ⊎ ((fault ≡ StoreFault.Closed) ⊎ (fault ≡ StoreFault.BadRecord))) }
+        // On any disk, also one that isn't honest.
+        ensures range { IfOk result (λ found. IfSome found (λ vote. IsEntry (record { slot = slot; ballot = vote.0; command = vote.1 }))) }
     {
         if self.closed {
             return Err(StoreFault::Closed);

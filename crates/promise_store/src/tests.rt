@@ -78,6 +78,43 @@ fn journal_byte_by_byte(rt: HostRuntime) -> Result<(), Fail> {
     Ok(())
 }
 
+/// What a call of a disk did, as a line: a write with its offset and its bytes, or a sync.
+fn line(alloc: Global, call: &Call) -> Result<String, Fail> {
+    Ok(match call {
+        Call::Wrote { at, bytes, done } => {
+            format!(in alloc; "wrote {at} {:?} {done}", bytes.as_slice())?
+        }
+        Call::Synced => format!(in alloc; "synced")?,
+        Call::Stopped { pick } => format!(in alloc; "stopped {pick}")?,
+    })
+}
+
+/// An append is a write of the record and a shut gate behind the gate, a sync, a write of the gate, and a sync.
+#[test]
+fn the_four_calls_of_an_append(rt: HostRuntime) -> Result<(), Fail> {
+    let alloc = rt.alloc();
+    let disk = MemoryDisk::new(alloc, &[])?;
+    assert!(rt; disk.calls().is_empty());
+    let Ok(mut store) = Store::create(alloc, disk, 0, 3) else {
+        panic!(rt; "create");
+    };
+    store.promise(FIRST)?;
+    let disk = store.close();
+    let expected = [
+        "wrote 0 [72, 68, 74, 49, 0, 3, 0, 0, 0] true",
+        "synced",
+        "wrote 9 [0, 6, 1, 0, 0, 0, 1, 0, 0] true",
+        "synced",
+        "wrote 8 [1] true",
+        "synced",
+    ];
+    assert_eq!(rt; disk.calls().len(), expected.len());
+    for (call, expected) in disk.calls().iter().zip(expected) {
+        assert_eq!(rt; line(alloc, call)?.as_str(), expected);
+    }
+    Ok(())
+}
+
 /// What is left of create, open and one promise of a disk that fails from its call of this number on, once it stopped
 /// with this pick: whether the promise is there; `None` where create or open failed.
 fn left_of_a_promise(
@@ -93,7 +130,10 @@ fn left_of_a_promise(
     let Ok(mut store) = Store::open(alloc, store.close(), 0, 3) else {
         return Ok(None);
     };
+    assert!(rt; !store.is_closed());
     if store.promise(FIRST).is_err() {
+        assert!(rt; store.is_closed());
+        assert!(rt; store.failures() > 0);
         assert_eq!(rt; store.promise(FIRST), Err(StoreFault::Closed));
         assert_eq!(rt; store.entry(0), Err(StoreFault::Closed));
     }
@@ -161,6 +201,51 @@ fn stops_before_the_last_sync(rt: HostRuntime) -> Result<(), Fail> {
     Ok(())
 }
 
+/// Two calls pass, after a stop one, and after another stop all.
+#[test]
+fn each_stop_takes_the_next_fuse(rt: HostRuntime) -> Result<(), Fail> {
+    let mut disk = MemoryDisk::new(rt.alloc(), &[2, 1])?;
+    for passing in [2u32, 1] {
+        for _ in 0..passing {
+            assert_eq!(rt; disk.len(), Ok(0));
+        }
+        for _ in 0..3u32 {
+            assert_eq!(rt; disk.len(), Err(DiskFault));
+            assert_eq!(rt; disk.sync(), Err(DiskFault));
+        }
+        disk.stop(0);
+    }
+    for _ in 0..9u32 {
+        assert_eq!(rt; disk.len(), Ok(0));
+    }
+    assert_eq!(rt; disk.failures(), 12);
+    Ok(())
+}
+
+/// A growth that no memory can serve is a failure of the disk in memory, which goes on afterwards.
+#[test]
+fn a_refused_growth_is_a_failure(rt: HostRuntime) -> Result<(), Fail> {
+    let alloc = rt.alloc();
+    let Ok(mut store) = Store::create(alloc, MemoryDisk::new(alloc, &[])?, 0, 3) else {
+        panic!(rt; "create");
+    };
+    store.promise(FIRST)?;
+    let mut disk = store.close();
+    let before = disk.bytes().to_vec(alloc)?;
+    assert_eq!(rt; disk.write_at(usize::MAX / 2 + 1, &[1]), Err(DiskFault));
+    assert_eq!(rt; disk.failures(), 1);
+    assert_eq!(rt; disk.bytes(), before.as_slice());
+    let Ok(mut store) = Store::open(alloc, disk, 0, 3) else {
+        panic!(rt; "open");
+    };
+    assert!(rt; !store.is_closed());
+    store.accept(FIRST, 0, &deal(&rt))?;
+    let disk = store.close();
+    assert_eq!(rt; disk.bytes(), JOURNAL.as_slice());
+    assert_eq!(rt; disk.failures(), 1);
+    Ok(())
+}
+
 #[test]
 fn malformed_journals(rt: HostRuntime) -> Result<(), Fail> {
     let alloc = rt.alloc();
@@ -210,21 +295,46 @@ fn twenty(rt: &impl Abort, alloc: Global) -> Result<MemoryDisk, Fail> {
     Ok(store.close())
 }
 
+/// A thousand files of random bytes from 0 to 2, every second one behind the header of node 0 of 3.
 #[test]
-fn random_and_changed_journals(rt: HostRuntime) -> Result<(), Fail> {
+fn random_files(rt: HostRuntime) -> Result<(), Fail> {
     let alloc = rt.alloc();
     let mut seed = 7;
-    for _ in 0..1000u32 {
-        let mut bytes = [0u8; 64];
-        let len = next(&mut seed) as usize % 65;
-        for byte in bytes.iter_mut() {
+    let mut opened = 0u32;
+    let mut refused = 0u32;
+    for file in 0..1000u32 {
+        let mut bytes = [0u8; 72];
+        bytes[..8].copy_from_slice(&JOURNAL[..8]);
+        for byte in bytes[8..].iter_mut() {
             *byte = (next(&mut seed) % 3) as u8;
         }
-        let code = answer(alloc, &bytes[..len])?;
-        assert_eq!(rt; code, if len == 0 { 60 } else { 61 });
+        let len = next(&mut seed) as usize % 65;
+        if file % 2 == 0 {
+            let code = answer(alloc, &bytes[8..8 + len])?;
+            assert_eq!(rt; code, if len == 0 { 60 } else { 61 });
+            continue;
+        }
+        match answer(alloc, &bytes[..8 + len])? {
+            0 => opened = opened.saturating_add(1),
+            61 => assert_eq!(rt; len, 0),
+            62 => refused = refused.saturating_add(1),
+            code => panic!(rt; "answered {code}"),
+        }
     }
+    assert!(rt;
+        opened > 100 && refused > 100,
+        "{opened} opened, {refused} refused"
+    );
+    Ok(())
+}
+
+/// A journal of twenty records, cut short at each byte, and with each byte changed to sixteen others.
+#[test]
+fn changed_journals(rt: HostRuntime) -> Result<(), Fail> {
+    let alloc = rt.alloc();
     let journal = twenty(&rt, alloc)?;
     let whole = journal.bytes();
+    let mut seed = 7;
     for len in 0..whole.len() {
         let code = answer(alloc, &whole[..len])?;
         assert!(rt; matches!(code, 60..=62));
@@ -232,9 +342,19 @@ fn random_and_changed_journals(rt: HostRuntime) -> Result<(), Fail> {
     let mut changed = whole.to_vec(alloc)?;
     for at in 0..changed.len() {
         let byte = changed[at];
-        changed[at] = byte.wrapping_add(1 + (next(&mut seed) % 255) as u8);
-        let code = answer(alloc, &changed)?;
-        assert!(rt; matches!(code, 0 | 61 | 62));
+        for _ in 0..16u8 {
+            changed[at] = byte.wrapping_add(1 + (next(&mut seed) % 255) as u8);
+            let code = answer(alloc, &changed)?;
+            if at < 8 {
+                assert_eq!(rt; code, 61);
+            } else {
+                assert!(rt;
+                    matches!(code, 0 | 62),
+                    "byte {at} as {}: {code}",
+                    changed[at]
+                );
+            }
+        }
         changed[at] = byte;
     }
     Ok(())
@@ -247,6 +367,7 @@ fn each_call_fails_once(rt: HostRuntime) -> Result<(), Fail> {
     let mut faults = 0u32;
     for call in 0..13u64 {
         let disk = OnceDisk::new(alloc, call);
+        assert!(rt; disk.bytes().is_empty());
         let disk = match Store::create(alloc, disk, 0, 3) {
             Ok(store) => store.close(),
             Err((disk, fault)) => {
@@ -348,6 +469,8 @@ fn a_file_answers_as_memory_does(rt: HostRuntime) -> Result<(), Fail> {
         .open(&rt, path)?;
     let mut on_file = FileDisk::new(file);
     let mut in_memory = MemoryDisk::new(alloc, &[])?;
+    assert_eq!(rt; on_file.write_at(400, &[]), in_memory.write_at(400, &[]));
+    assert_eq!(rt; on_file.len(), in_memory.len());
     let mut seed = 11;
     for _ in 0..400u32 {
         let kind = next(&mut seed) % 4;

@@ -64,6 +64,7 @@ pub fn record_bytes(addition: &Record) -> ArrayVec<u8, MOST_RECORD>
 /// The record of a payload; `None` where it is none.
 pub fn read_payload(bytes: &[u8]) -> Option<Record>
     ensures found { IfSome result (λ r. IsRecord r × (bytes.now ≡ payload r)) }
+    ensures range { IfSome result (λ r. IsRecord r) }
     ensures only { (r : Record) → IsRecord r → bytes.now ≡ payload r → result ≡ Some r }
 {
     match bytes {

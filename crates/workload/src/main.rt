@@ -1,10 +1,10 @@
 //! Runs the layers of the dealer on many values, for tests against outside vectors and for timing from outside.
 //!
 //! Each argument names what to run, and prints counts and checksums: `five-card-hands`, `best-of-seven`, `draws`,
-//! `sevens-by-counts`, `sevens-by-fives`, `sevens`, `short-hands`, `long-hands`, `encode`, `decode`; `decks`, which reads
-//! lines `seed hand players deal`; and `frames`, which reads lines of a frame in hexadecimal and `ok` or its fault. The
-//! tasks of the store work on the file `workload.journal`: `store-append`, `store-appends`, `store-short`, `store-long`,
-//! `store-open-short`, `store-open-long`.
+//! `sevens-by-counts`, `sevens-by-fives`, `sevens`, `short-hands`, `long-hands`, `encode`, `decode`, `promises`,
+//! `answers`, `refusals`; `decks`, which reads lines `seed hand players deal`; and `frames`, which reads lines of a frame
+//! in hexadecimal and `ok` or its fault. The tasks of the store work on the file `workload.journal`: `store-append`,
+//! `store-appends`, `store-short`, `store-long`, `store-open-short`, `store-open-long`.
 #![tactic(auto)]
 
 mod decks;
@@ -12,6 +12,7 @@ mod frame_speed;
 mod frames;
 mod hand_play;
 mod hands;
+mod parts;
 mod sevens;
 mod stores;
 mod task;
@@ -49,6 +50,9 @@ fn run(rt: &(impl Input + Print + AllocGlobal + Files<File = File>), task: Task)
         Task::Encode => frame_speed::print_encoded(rt),
         Task::Decode => frame_speed::print_decoded(rt),
         Task::Frames => frames::print_checked(rt),
+        Task::Promises => parts::print_promises(rt),
+        Task::Answers => parts::print_answers(rt),
+        Task::Refusals => parts::print_refusals(rt),
         Task::Append => stores::print_appended(rt, 1),
         Task::Appends => stores::print_many_appended(rt),
         Task::ShortJournal => stores::print_written(rt, 10_000),

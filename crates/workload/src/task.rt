@@ -25,6 +25,12 @@ pub enum Task {
     Decode,
     /// Reads frames, and compares what they read as with what stands beside them.
     Frames,
+    /// Counts promises.
+    Promises,
+    /// Counts answers that a command was accepted.
+    Answers,
+    /// Refuses proposals.
+    Refusals,
     /// Appends one promise to a store on a file.
     Append,
     /// Appends many promises to a store on a file.
@@ -55,6 +61,9 @@ impl Task {
             "encode" => Some(Task::Encode),
             "decode" => Some(Task::Decode),
             "frames" => Some(Task::Frames),
+            "promises" => Some(Task::Promises),
+            "answers" => Some(Task::Answers),
+            "refusals" => Some(Task::Refusals),
             "store-append" => Some(Task::Append),
             "store-appends" => Some(Task::Appends),
             "store-short" => Some(Task::ShortJournal),

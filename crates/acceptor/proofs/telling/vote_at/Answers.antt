@@ -1,11 +1,11 @@
 use Rattle.std.proofs.Common.{◌≡◌}
 use Rattle.promise_store.specs.Keeping.{Keeps}
 use Rattle.promise_store.specs.Shown.{vote_pair}
-use Rattle.acceptor.proofs.Stored.{both_ok, not_memory}
+use Rattle.acceptor.proofs.Stored.{both_ok, not_memory, open_still}
 use Rattle.acceptor.proofs.telling.vote_at.Goals as goal
 
-pub returns : goal.returns
-returns g c = record {
+pub returns-clause-read : goal.returns-clause-read
+returns-clause-read g c = record {
   ok = λ head held keeps honest.
       both_ok (λ found. found ≡ vote_pair (held.votes c.args.slot)) (Keeps g.D.Disk head held c.entry.new.self) c.entry.result (c.entry.ensures.found head held keeps honest) (c.entry.ensures.keeps head held keeps);
   reads = c.entry.ensures.reads;
@@ -13,4 +13,7 @@ returns g c = record {
   failed = c.entry.ensures.failed;
   memory = not_memory c.entry.result c.entry.ensures.only;
   only = λ head held keeps honest. c.entry.ensures.sound head held keeps honest;
+  closed = λ e. (c.entry.ensures.closed.0 e, c.entry.ensures.as_before e);
+  stays = open_still c.entry.result _ c.entry.ensures.stays;
+  faults = c.entry.ensures.only;
 }

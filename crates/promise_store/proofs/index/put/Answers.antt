@@ -2,6 +2,7 @@ use Rattle.std.proofs.Common.{◌+◌, List, drop, arith, rules, subst}
 use Rattle.promise_store.specs.declared.placed.Placed.{Placed}
 use Rattle.promise_store.specs.Index.{IsPosition}
 use Rattle.promise_store.proofs.Ordered.{From, above_more, past_end, rise_insert, put_inserted, replaced}
+use Rattle.promise_store.proofs.Ranges.{range_put}
 use Rattle.promise_store.proofs.index.put.Goals as goal
 use Rattle.promise_store.proofs.index.put.Goals.{else-place-len-via-then-place-len+else-index-placed, else-place-len-via-else-place-len}
 
@@ -40,3 +41,11 @@ returns-clause-found c slot =
       | else-place-len-via-else-place-len w ↦ past_end (c.args.placed.slot + 1) xs k (search rules)
     ] in
     rw c.in-Ok.ensures.items (put_inserted slot xs k c.args.placed place above)
+
+pub returns-then-index-placed-clause-range : goal.returns-then-index-placed-clause-range
+returns-then-index-placed-clause-range c ballot slot all =
+    range_put c.args.entries.now.items c.replace.new.entries.items c.args.placed ballot slot all (returns-then-index-placed-clause-found c)
+
+pub returns-clause-range : goal.returns-clause-range
+returns-clause-range c ballot slot all =
+    range_put c.args.entries.now.items c.insert.new.self.items c.args.placed ballot slot all (returns-clause-found c)

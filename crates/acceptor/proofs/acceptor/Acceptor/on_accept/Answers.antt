@@ -2,7 +2,7 @@ use Rattle.acceptor.specs.Answers.{answer_to_accept, accepted}
 use Rattle.acceptor.proofs.Exits.{after_room}
 use Rattle.acceptor.proofs.acceptor.Acceptor.on_accept.Goals as goal
 
-pub returns : goal.returns
-returns g c =
+pub returns-clause-taken : goal.returns-clause-taken
+returns-clause-taken g c =
     after_room g.D.Disk (answer_to_accept c.args.ballot c.args.slot c.args.command) (accepted c.args.ballot c.args.slot c.args.command)
     c.args.self.now.store c.reserve.new.self.store c.on_accept_reserved.new.self.store c.on_accept_reserved.result c.reserve.ensures.same c.on_accept_reserved.ensures.taken

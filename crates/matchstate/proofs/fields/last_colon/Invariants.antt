@@ -1,6 +1,0 @@
-use Rattle.std.proofs.Common.{drop}
-use Rattle.matchstate.specs.Line.{IsField}
-use Rattle.matchstate.proofs.fields.last_colon.Given as goal
-
-abbrev pub invariant-loop-place : goal.invariant-loop-place
-invariant-loop-place l = IsField (drop l.place l.bytes)

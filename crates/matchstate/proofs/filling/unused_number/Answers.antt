@@ -1,6 +1,0 @@
-use Rattle.std.proofs.Common.{arith}
-use Rattle.matchstate.proofs.Filled.{not_the_whole_pack}
-use Rattle.matchstate.proofs.filling.unused_number.Goals as goal
-
-pub unreachable-requires : goal.unreachable-requires
-unreachable-requires c = not_the_whole_pack c.args.cards.now c.requires.few (λ k small. c.loop-number.invariant k (omega arith))

@@ -1,0 +1,169 @@
+-- What is counted of the votes that came, from call to call.
+use Rattle.std.proofs.Common.{◌≡◌, ℕ, zero, suc, ◌<◌, ◌≤◌, ◌+◌, inl, inr, Bool, true, false, not, if◌then◌else◌, ◌==◌, List, [], ◌∷◌, Result, Ok, Err, refl, sym, ap, subst, ◌∙◌, arith, get_or, replicate}
+use Rattle.std.specs.Prelude.{nat_lt, IsOk}
+use Rattle.std.proofs.lemmas.Bool.{eqb-true, ltb-true, ltb-false}
+use Rattle.paxos_wire.specs.declared.limits.TheConstants.{WINDOW, SLOTS, NODES}
+use Rattle.paxos_wire.specs.declared.ballot.Ballot.{Ballot}
+use Rattle.slot_log.specs.declared.slot_fault.SlotFault.{SlotFault}
+use Rattle.slot_log.specs.Slots.{IsLog, front}
+use Rattle.slot_log.specs.declared.command.Command.{Command}
+use Rattle.protocol_model.specs.Sets.{In}
+use Rattle.protocol_model.specs.Messages.{Message, Accepted}
+use Rattle.protocol_model.specs.Quorums.{IsChosenIn}
+use Rattle.learner.specs.declared.tally.Tally.{Tally}
+use Rattle.learner.specs.Same.{is_same}
+use Rattle.learner.specs.Tallies.{has, nodes_for, is_of}
+use Rattle.learner.specs.Learning.{Learned, is_open, answers_at, answer_to, hearing, believing as with_chosen}
+use Rattle.learner.specs.Counted.{IsOpen, CountsFrom, CountsAll, KnowsChosen}
+use Rattle.node_rules.specs.Standings.{Place, Standing}
+use Rattle.node_rules.specs.Turns.{Turn}
+use Rattle.node_rules.specs.Learning.{learning}
+use Rattle.node_rules.specs.Given.{Given}
+use Rattle.node_rules.specs.Being.{IsLearner}
+use Rattle.node_rules.proofs.Ordering.{same_ballot}
+use Rattle.node_rules.proofs.Learning.{open_if}
+use Rattle.node_rules.proofs.Settled.{turn_is}
+
+-- ---- what was counted came
+
+none_has : (k node : ℕ) → get_or (replicate k false) node false ≡ false
+none_has zero node = refl
+none_has (suc k) zero = refl
+none_has (suc k) (suc node) = none_has k node
+
+-- the tally of a ballot and a command
+pub record Tallied (ballot : Ballot) (command : Command) (tallies : List Tally) (node : ℕ) : Type 0 where
+  pub tally : Tally
+  pub inside : In tally tallies
+  pub ballot_is : tally.ballot ≡ ballot
+  pub command_is : tally.command ≡ command
+  pub counted : has tally.nodes node ≡ true
+
+tally_is : (g : Given) (ballot : Ballot) (command : Command) (tally : Tally) → is_of ballot command tally ≡ true → (tally.ballot ≡ ballot) × (tally.command ≡ command)
+unfolding is_of
+tally_is g ballot command tally e = by_tests (tally.ballot.round == ballot.round) (tally.ballot.node == ballot.node) refl refl e
+  where
+    by_tests : (a b : Bool) → (tally.ballot.round == ballot.round) ≡ a → (tally.ballot.node == ballot.node) ≡ b
+        → (if not a then false else if not b then false else is_same tally.command command) ≡ true → (tally.ballot ≡ ballot) × (tally.command ≡ command)
+    by_tests false b ea eb h = absurd (cc)
+    by_tests true false ea eb h = absurd (cc)
+    by_tests true true ea eb h =
+        (same_ballot tally.ballot ballot (eqb-true tally.ballot.round ballot.round ea) (eqb-true tally.ballot.node ballot.node eb), (g.same tally.command command).0 h)
+
+more_tallied : (ballot : Ballot) (command : Command) (tallies : List Tally) (node : ℕ) (tally : Tally) → Tallied ballot command tallies node → Tallied ballot command (tally ∷ tallies) node
+more_tallied ballot command tallies node tally t = record { tally = t.tally; inside = inr t.inside; ballot_is = t.ballot_is; command_is = t.command_is; counted = t.counted }
+
+tallied_by : (g : Given) (ballot : Ballot) (command : Command) (tally : Tally) (tallies : List Tally) (node : ℕ) (b : Bool) → is_of ballot command tally ≡ b
+    → (has (nodes_for ballot command tallies) node ≡ true → Tallied ballot command tallies node)
+    → has (if b then tally.nodes else nodes_for ballot command tallies) node ≡ true → Tallied ballot command (tally ∷ tallies) node
+tallied_by g ballot command tally tallies node true e later h =
+    let is = tally_is g ballot command tally e in record { tally = tally; inside = inl refl; ballot_is = is.0; command_is = is.1; counted = h }
+tallied_by g ballot command tally tallies node false e later h = more_tallied ballot command tallies node tally (later h)
+
+tallied : (g : Given) (ballot : Ballot) (command : Command) (tallies : List Tally) (node : ℕ) → has (nodes_for ballot command tallies) node ≡ true → Tallied ballot command tallies node
+tallied g ballot command [] node h = let clash : false ≡ true = sym (none_has NODES node) ∙ h in absurd (cc)
+tallied g ballot command (tally ∷ tallies) node h =
+    tallied_by g ballot command tally tallies node (is_of ballot command tally) refl (λ k. tallied g ballot command tallies node k) h
+
+counted_came : (g : Given) (messages : List Message) (l : Learned) (node : ℕ) (ballot : Ballot) (slot : ℕ) (command : Command) → CountsFrom messages l → IsOpen l.log slot
+    → has (answers_at l ballot slot command) node ≡ true → In (Accepted node ballot slot command) messages
+counted_came g messages l node ballot slot command counts ahead h =
+    let t = tallied g ballot command _ node h in
+    subst (λ (b : Ballot). In (Accepted node b slot command) messages) t.ballot_is
+    (subst (λ (c : Command). In (Accepted node t.tally.ballot slot c) messages) t.command_is (counts slot t.tally ahead t.inside node t.counted))
+
+-- ---- what is counted grows
+
+pub record Counts (came : List Message) (l : Learned) : Type 0 where
+  pub counts_from : CountsFrom came l
+  pub counts_all : CountsAll came l
+  pub knows_chosen : KnowsChosen came l
+
+pub record Grows (came : List Message) (new : Learned) : Type 0 where
+  pub more : List Message
+  pub counts : Counts more new
+  pub kept : (m : Message) → In m came → In m more
+
+pub same_grows : (came : List Message) (l new : Learned) → new ≡ l → Counts came l → Grows came new
+same_grows came l new e c = record { more = came; counts = subst (Counts came) (sym e) c; kept = λ m h. h }
+
+-- a vote is counted where its slot is ahead
+pub record GrowsBy (came : List Message) (l new : Learned) (voter : ℕ) (ballot : Ballot) (slot : ℕ) (command : Command) : Type 0 where
+  pub grows : Grows came new
+  pub has_vote : IsOpen l.log slot → In (Accepted voter ballot slot command) grows.more
+
+not_open : (l : Learned) (slot : ℕ) → is_open l.log slot ≡ false → IsOpen l.log slot → ⊥
+not_open l slot e o = by_tests (nat_lt slot (front l.log)) (nat_lt slot (front l.log + WINDOW)) (nat_lt slot SLOTS) refl refl refl e
+  where
+    by_tests : (a b c : Bool) → nat_lt slot (front l.log) ≡ a → nat_lt slot (front l.log + WINDOW) ≡ b → nat_lt slot SLOTS ≡ c → (if a then false else if b then c else false) ≡ false → ⊥
+    by_tests true b c ea eb ec h = let k = ltb-true slot (front l.log) ea in let r = o.reached in omega arith
+    by_tests false false c ea eb ec h = let k = ltb-false slot (front l.log + WINDOW) eb in let r = o.within in omega arith
+    by_tests false true c ea eb ec h = let k = ltb-false slot SLOTS (ec ∙ h) in let r = o.is_slot in omega arith
+
+pub vote_grows : (g : Given) (came : List Message) (l : Learned) (voter : ℕ) (ballot : Ballot) (slot : ℕ) (command : Command) → IsLog l.log → voter < l.nodes
+    → IsOk (answer_to l voter ballot slot command) → Counts came l → GrowsBy came l (hearing l voter ballot slot command) voter ballot slot command
+vote_grows g came l voter ballot slot command log low ok c = by_test (is_open l.log slot) refl
+  where
+    vote : Message
+    vote = Accepted voter ballot slot command
+
+    by_test : (b : Bool) → is_open l.log slot ≡ b → GrowsBy came l (hearing l voter ballot slot command) voter ballot slot command
+    by_test true e =
+        let ahead : IsOpen l.log slot = open_if l.log slot e in
+        record {
+          grows = record {
+            more = vote ∷ came;
+            counts = record {
+              counts_from = g.answer_counts (vote ∷ came) l voter ballot slot command (inl refl) (g.more came l vote c.counts_from);
+              counts_all = g.answer_counts_all came l voter ballot slot command low ahead ok c.counts_all;
+              knows_chosen = g.answers_known came l voter ballot slot command log ahead low ok c.counts_from c.counts_all c.knows_chosen;
+            };
+            kept = λ m h. inr h;
+          };
+          has_vote = λ o. inl refl;
+        }
+    by_test false e = record {
+      grows = same_grows came l (hearing l voter ballot slot command)
+          (g.passed_over l voter ballot slot command (λ o. absurd (not_open l slot e o))) c;
+      has_vote = λ o. absurd (not_open l slot e o);
+    }
+
+pub belief_grows : (g : Given) (came : List Message) (l : Learned) (slot : ℕ) (command : Command) → IsLog l.log → Counts came l → Grows came (with_chosen l slot command)
+belief_grows g came l slot command log c = record {
+  more = came;
+  counts = record {
+    counts_from = g.chosen_counts came l slot command c.counts_from;
+    counts_all = g.chosen_counts_all came l slot command c.counts_all;
+    knows_chosen = g.chosen_known came l slot command log c.knows_chosen;
+  };
+  kept = λ m h. h;
+}
+
+abbrev pub then_grows : (came : List Message) (mid new : Learned) → (first : Grows came mid) → Grows first.more new → Grows came new
+then_grows came mid new first later = record { more = later.more; counts = later.counts; kept = λ m h. later.kept m (first.kept m h) }
+
+-- where there is a turn, the vote wasn't refused
+pub learning_is : {A : Type 0} (place : Place) (answer : Result A SlotFault) (new : Learned) (s : Standing) (u : Turn) → learning place answer new s ≡ Ok u → IsOk answer × (u.after.learned ≡ new)
+learning_is place (Err e) new s u h = absurd (cc)
+learning_is place (Ok a) new s u h = (refl, ap (λ (t : Turn). t.after.learned) (sym (turn_is _ u h)))
+
+-- and nothing but what is known and shown changes
+pub learning_keeps : {A : Type 0} (place : Place) (answer : Result A SlotFault) (new : Learned) (s : Standing) (u : Turn) → learning place answer new s ≡ Ok u
+    → (u.after.campaign ≡ s.campaign) × (u.after.store ≡ s.store)
+learning_keeps place (Err e) new s u h = absurd (cc)
+learning_keeps place (Ok a) new s u h = (ap (λ (t : Turn). t.after.campaign) (sym (turn_is _ u h)), ap (λ (t : Turn). t.after.store) (sym (turn_is _ u h)))
+
+-- ---- what is had in time, and known, of a learner that counts these
+
+pub had_in_time : (g : Given) (n : ℕ) (messages : List Message) (known : List (ℕ × Command)) (l : Learned) (more : List Message) (voter : ℕ) (ballot : Ballot) (slot : ℕ) (command : Command)
+    → (learner : IsLearner n messages known l) → CountsAll more l → voter < n → front l.log ≤ slot → slot < SLOTS → In (Accepted voter ballot slot command) more
+    → In (Accepted voter ballot slot command) learner.in_time
+had_in_time g n messages known l more voter ballot slot command learner all low reached is_slot h =
+    let ahead : IsOpen l.log slot = record { reached = reached; within = all.within voter ballot slot command h; is_slot = is_slot } in
+    counted_came g learner.in_time l voter ballot slot command learner.counts ahead
+    (all.counted voter ballot slot command (subst (λ (k : ℕ). voter < k) (sym learner.nodes) low) ahead h)
+
+pub known_by_quorum : (n : ℕ) (messages : List Message) (known : List (ℕ × Command)) (l : Learned) (more : List Message) (ballot : Ballot) (slot : ℕ) (command : Command)
+    → (learner : IsLearner n messages known l) → KnowsChosen more l → IsChosenIn n more ballot slot command → In (slot, command) known
+known_by_quorum n messages known l more ballot slot command learner knows chosen =
+    learner.knows slot command (knows ballot slot command (subst (λ (k : ℕ). IsChosenIn k more ballot slot command) (sym learner.nodes) chosen))

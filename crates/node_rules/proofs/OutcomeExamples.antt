@@ -1,0 +1,146 @@
+-- Proposals and votes of three nodes, worked out.
+use Rattle.std.proofs.Common.{◌≡◌, ℕ, zero, suc, ◌<◌, ◌≤◌, ◌+◌, inl, inr, Bool, true, false, List, [], ◌∷◌, Option, Some, None, refl, sym, subst, arith, replicate}
+use Rattle.paxos_wire.specs.declared.entry.Entry.{Entry}
+use Rattle.slot_log.specs.declared.command.Command.{Command}
+use Rattle.protocol_model.specs.Sets.{In}
+use Rattle.protocol_model.specs.Ballots.{AtMost}
+use Rattle.protocol_model.specs.Messages.{Vote, Message, Prepare, Promise, Accept, Accepted}
+use Rattle.protocol_model.specs.Stores.{empty_store, promised}
+use Rattle.protocol_model.specs.Nodes.{Node, new_node}
+use Rattle.proposer.specs.Counted.{HasQuorum}
+use Rattle.learner.specs.Learning.{new_learned}
+use Rattle.learner.specs.Counted.{KnowsChosen}
+use Rattle.node_rules.specs.Turns.{still}
+use Rattle.node_rules.specs.Proposed.{IsValue, IsProposed, IsSettled}
+use Rattle.node_rules.specs.Being.{Stands}
+use Rattle.node_rules.specs.Outcomes.{IsElected, HasValue, HasProposed, IsAhead, Brings, came, own_vote}
+use Rattle.node_rules.specs.Calls.{Tick}
+use Rattle.node_rules.proofs.Examples.{opened, place, ballot, dealt, store_0, campaign_0, leads_0, dealt_0, told}
+
+-- ---- the value of a slot
+
+-- node 1 tells of node 0's deal
+abbrev had : List Message
+had = Promise 1 (ballot 2 2) 0 (told ∷ []) ∷ Promise 2 (ballot 2 2) 0 [] ∷ []
+
+-- nodes 1 and 2
+abbrev both_of : ℕ → Bool
+both_of zero = false
+both_of (suc node) = true
+
+told_is_the_value : IsValue 3 had (ballot 2 2) 0 (Some (dealt 2)) (dealt 0)
+told_is_the_value = inl (
+  ballot 1 0,
+  (1, 0, told ∷ [], inl refl, inl refl),
+  (both_of, omega arith, λ node below is. promise_of node below is),
+)
+  where
+    promise_of : (node : ℕ) → node < 3 → both_of node ≡ true
+        → (f : ℕ) × (entries : List Entry) × In (Promise node (ballot 2 2) f entries) had × ((f ≤ 0) × (0 ≤ f + 63)) × ((entry : Entry) → In entry entries → entry.slot ≡ 0 → AtMost entry.ballot (ballot 1 0))
+    promise_of zero below is = absurd (cc)
+    promise_of (suc zero) below is =
+        (0, told ∷ [], inl refl, (omega arith, omega arith), λ entry h same. elim h [ inl e ↦ subst (λ (k : Entry). AtMost k.ballot (ballot 1 0)) (sym e) (inr (refl, omega arith)) | inr none ↦ absurd none ])
+    promise_of (suc (suc zero)) below is = (0, [], inr (inl refl), (omega arith, omega arith), λ entry h same. absurd h)
+    promise_of (suc (suc (suc node))) below is = absurd (omega arith)
+
+-- ---- a node that leads
+
+-- the node that has node 1's promise beside its own
+abbrev leader : Node
+leader = record new_node {
+  store = store_0;
+  begun = store_0;
+  up = true;
+  starts = 1;
+  has = Accepted 0 (ballot 1 0) 0 (dealt 0) ∷ Accept (ballot 1 0) 0 (dealt 0) ∷ Promise 1 (ballot 1 0) 0 [] ∷ Promise 0 (ballot 1 0) 0 [] ∷ [];
+  sent = Accepted 0 (ballot 1 0) 0 (dealt 0) ∷ Accept (ballot 1 0) 0 (dealt 0) ∷ Promise 0 (ballot 1 0) 0 [] ∷ Prepare (ballot 1 0) 0 ∷ [];
+}
+
+-- nodes 0 and 1
+abbrev first_two : ℕ → Bool
+first_two zero = true
+first_two (suc zero) = true
+first_two (suc (suc node)) = false
+
+stands_by_it : Stands leader (ballot 1 0) 0
+stands_by_it = record {
+  began = inr (inr (inr (inl refl)));
+  promised = refl;
+  unrefused = λ sender refused slot greater h. elim h [
+    | inl e ↦ absurd (cc)
+    | inr h ↦ elim h [ inl e ↦ absurd (cc) | inr h ↦ elim h [ inl e ↦ absurd (cc) | inr h ↦ elim h [ inl e ↦ absurd (cc) | inr none ↦ absurd none ] ] ]
+  ];
+}
+
+quorum_promised : HasQuorum 3 leader.has (ballot 1 0) 0
+quorum_promised = (first_two, omega arith, λ node below is. promise_of node is)
+  where
+    promise_of : (node : ℕ) → first_two node ≡ true → (entries : List Entry) × In (Promise node (ballot 1 0) 0 entries) leader.has
+    promise_of zero is = ([], inr (inr (inr (inl refl))))
+    promise_of (suc zero) is = ([], inr (inr (inl refl)))
+    promise_of (suc (suc node)) is = absurd (cc)
+
+leader_is_elected : IsElected (place 0) leads_0 leader (ballot 1 0) 0
+leader_is_elected = record { stands_by = stands_by_it; quorum = quorum_promised; near = omega arith; is_slot = omega arith }
+
+-- its own deal is there to be proposed
+has_own_deal : HasValue (place 0) leads_0 leader (ballot 1 0)
+unfolding opened
+has_own_deal = inr (dealt 0, refl)
+
+-- a node that keeps still, though a quorum promised, hasn't proposed
+silent_leader_is_refuted : HasProposed (place 0) leader (record (still leads_0) { frames = [] }) (record leader { sent = Prepare (ballot 1 0) 0 ∷ [] }) (ballot 1 0) → ⊥
+silent_leader_is_refuted h = elim h.sent [ inl e ↦ (let bad : ⊥ = cc in bad) | inr none ↦ none ]
+
+-- nor has one that proposes and doesn't vote for it
+unvoted_is_refuted : HasProposed (place 0) leader (still leads_0) (record leader { store = promised empty_store (ballot 1 0) }) (ballot 1 0) → ⊥
+unvoted_is_refuted h = let e : ◌≡◌ {A = Option Vote} None (Some (record { ballot = ballot 1 0; command = h.command })) = h.voted in cc
+
+-- ---- between calls
+
+leader_is_settled : IsSettled (place 0) leads_0
+unfolding opened
+leader_is_settled leads_on = (refl, refl)
+
+-- one that leads and has proposed nothing isn't
+idle_leader_is_refuted : IsSettled (place 0) (record leads_0 { campaign = Some (record campaign_0 { proposed = replicate 64 false }) }) → ⊥
+unfolding opened
+idle_leader_is_refuted settled = let e = (settled refl).1 in cc
+
+-- what it sent in its ballot it voted for
+vote_is_missed : IsProposed 3 0 [] 0 None (promised empty_store (ballot 1 0)) [] (Accept (ballot 1 0) 0 (dealt 0) ∷ []) → ⊥
+vote_is_missed h = let e : ◌≡◌ {A = Option Vote} None (Some (record { ballot = ballot 1 0; command = dealt 0 })) = h.voted 0 (dealt 0) (inl refl) in cc
+
+-- and at its front it has the value by the rule: of nothing that it has, none
+invented_is_refuted : IsProposed 3 0 [] 0 None store_0 [] (Accept (ballot 1 0) 0 (dealt 0) ∷ []) → ⊥
+invented_is_refuted h = elim (h.by_rule (dealt 0) (inl refl)) [
+  | inl greatest ↦ greatest.1.3
+  | inr free ↦ (let e : ◌≡◌ {A = Option Command} None (Some (dealt 0)) = free.1 in cc)
+]
+
+-- ---- slots ahead
+
+last_ahead : IsAhead dealt_0 64
+last_ahead = record { reached = omega arith; within = omega arith; is_slot = omega arith }
+
+passed_is_not_ahead : IsAhead dealt_0 0 → ⊥
+passed_is_not_ahead h = let l = h.reached in omega arith
+
+beyond_is_not_ahead : IsAhead dealt_0 65 → ⊥
+beyond_is_not_ahead h = let l = h.within in omega arith
+
+-- ---- votes
+
+-- a tick brings no vote
+tick_brings_none : Brings (place 0) leads_0 Tick leader 1 (ballot 1 0) 0 (dealt 0) → ⊥
+tick_brings_none (came h) = h
+tick_brings_none (own_vote proposed h up mine held) = h
+
+-- two votes of three are a quorum's; who knows nothing then has passed them over
+votes_passed_over_are_refuted : KnowsChosen (Accepted 1 (ballot 1 0) 0 (dealt 0) ∷ Accepted 0 (ballot 1 0) 0 (dealt 0) ∷ []) (new_learned 3) → ⊥
+votes_passed_over_are_refuted knows = let e : ◌≡◌ {A = Option Command} None (Some (dealt 0)) = knows (ballot 1 0) 0 (dealt 0) (first_two, omega arith, λ node below is. vote_of node is) in cc
+  where
+    vote_of : (node : ℕ) → first_two node ≡ true → In (Accepted node (ballot 1 0) 0 (dealt 0)) (Accepted 1 (ballot 1 0) 0 (dealt 0) ∷ Accepted 0 (ballot 1 0) 0 (dealt 0) ∷ [])
+    vote_of zero is = inr (inl refl)
+    vote_of (suc zero) is = inl refl
+    vote_of (suc (suc node)) is = absurd (cc)

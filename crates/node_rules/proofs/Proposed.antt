@@ -1,0 +1,197 @@
+-- What a node proposed, as it gets and sends messages, learns and votes.
+use Rattle.std.proofs.Common.{◌≡◌, ◌≢◌, ℕ, ◌<◌, ◌≤◌, ◌⊎◌, inl, inr, Bool, true, false, if◌then◌else◌, ◌==◌, ◌&&◌, List, [], ◌∷◌, ◌++◌, Option, Some, None, refl, sym, ap, subst, ◌∙◌, arith, length}
+use Rattle.std.specs.Prelude.{is_none}
+use Rattle.std.proofs.lemmas.Bool.{eqb-true, eqb-false}
+use Rattle.std.proofs.lemmas.List.{length-append}
+use Rattle.paxos_wire.specs.declared.ballot.Ballot.{Ballot}
+use Rattle.paxos_wire.specs.declared.entry.Entry.{Entry}
+use Rattle.slot_log.specs.declared.command.Command.{Command}
+use Rattle.protocol_model.specs.Sets.{In}
+use Rattle.protocol_model.specs.Ballots.{Below, AtMost}
+use Rattle.protocol_model.specs.Messages.{Vote, Message, Promise, Accept, Accepted}
+use Rattle.protocol_model.specs.Quorums.{HasPromise, HasPromises}
+use Rattle.protocol_model.specs.Stores.{Store, promised, voted}
+use Rattle.learner.specs.Learning.{Learned}
+use Rattle.dealer_kind.specs.Kind.{fits}
+use Rattle.node_rules.specs.Standings.{Place, Standing, applied}
+use Rattle.node_rules.specs.Proposing.{own_deal, fitting, own_value}
+use Rattle.node_rules.specs.Seats.{waiting}
+use Rattle.node_rules.specs.Proposed.{IsValue, IsProposed}
+use Rattle.node_rules.proofs.Ordering.{not_below}
+
+-- ---- more messages are had
+
+promise_more : (messages has : List Message) (node : ℕ) (ballot : Ballot) (slot : ℕ) (IsSo : Entry → Type 0) → ((m : Message) → In m messages → In m has)
+    → HasPromise messages node ballot slot IsSo → HasPromise has node ballot slot IsSo
+promise_more messages has node ballot slot IsSo inside h = (h.0, h.1, inside (Promise node ballot h.0 h.1) h.2, h.3, h.4)
+
+promises_more : (n : ℕ) (messages has : List Message) (ballot : Ballot) (slot : ℕ) (IsSo : Entry → Type 0) → ((m : Message) → In m messages → In m has)
+    → HasPromises n messages ballot slot IsSo → HasPromises n has ballot slot IsSo
+promises_more n messages has ballot slot IsSo inside h = (h.0, h.1, λ k below is. promise_more messages has k ballot slot IsSo inside (h.2 k below is))
+
+pub value_more : (n : ℕ) (messages has : List Message) (ballot : Ballot) (slot : ℕ) (own other : Option Command) (command : Command) → ((m : Message) → In m messages → In m has)
+    → (own ≡ Some command → other ≡ Some command) → IsValue n messages ballot slot own command → IsValue n has ballot slot other command
+value_more n messages has ballot slot own other command inside same (inl told) =
+    let t = told.1 in
+    inl (told.0, (t.0, t.1, t.2, inside (Promise t.0 ballot t.1 t.2) t.3, t.4), promises_more n messages has ballot slot (λ entry. AtMost entry.ballot told.0) inside told.2)
+value_more n messages has ballot slot own other command inside same (inr free) =
+    inr (promises_more n messages has ballot slot (λ entry. ⊥) inside free.0, same free.1)
+
+-- ---- a message is got, or sent, that is no proposal
+
+pub got_proposed : (n i : ℕ) (upto : List Command) (at : ℕ) (own : Option Command) (store : Store) (has sent : List Message) (m : Message)
+    → IsProposed n i upto at own store has sent → IsProposed n i upto at own store (m ∷ has) sent
+got_proposed n i upto at own store has sent m p = record {
+  ballots = p.ballots;
+  voted = p.voted;
+  reached = p.reached;
+  by_rule = λ c h. value_more n has (m ∷ has) store.promise at own own c (λ o k. inr k) (λ e. e) (p.by_rule c h);
+}
+
+pub sent_proposed : (n i : ℕ) (upto : List Command) (at : ℕ) (own : Option Command) (store : Store) (has sent more : List Message)
+    → ((b : Ballot) (s : ℕ) (c : Command) → In (Accept b s c) more → In (Accept b s c) sent)
+    → IsProposed n i upto at own store has sent → IsProposed n i upto at own store has more
+sent_proposed n i upto at own store has sent more before p = record {
+  ballots = λ b s c h. p.ballots b s c (before b s c h);
+  voted = λ s c h. p.voted s c (before store.promise s c h);
+  reached = λ s c h. p.reached s c (before store.promise s c h);
+  by_rule = λ c h. p.by_rule c (before store.promise at c h);
+}
+
+-- ---- nothing was proposed in the ballot
+
+pub none_proposed : (n i : ℕ) (upto : List Command) (at : ℕ) (own : Option Command) (store : Store) (has sent : List Message)
+    → ((b : Ballot) (s : ℕ) (c : Command) → In (Accept b s c) sent → b.node ≡ i)
+    → ((s : ℕ) (c : Command) → In (Accept store.promise s c) sent → ⊥) → IsProposed n i upto at own store has sent
+none_proposed n i upto at own store has sent ballots none = record {
+  ballots = ballots;
+  voted = λ s c h. absurd (none s c h);
+  reached = λ s c h. absurd (none s c h);
+  by_rule = λ c h. absurd (none at c h);
+}
+
+-- a ballot above the promise is promised
+pub promised_proposed : (n i : ℕ) (upto : List Command) (at : ℕ) (own : Option Command) (store : Store) (ballot : Ballot) (has more sent others : List Message)
+    → Below store.promise ballot → ((b : Ballot) (s : ℕ) (c : Command) → In (Accept b s c) sent → AtMost b store.promise)
+    → ((b : Ballot) (s : ℕ) (c : Command) → In (Accept b s c) others → In (Accept b s c) sent)
+    → IsProposed n i upto at own store has sent → IsProposed n i upto at own (promised store ballot) more others
+promised_proposed n i upto at own store ballot has more sent others up low before p =
+    none_proposed n i upto at own (promised store ballot) more others (λ b s c h. p.ballots b s c (before b s c h))
+    (λ s c h. not_below ballot store.promise (low ballot s c (before ballot s c h)) up)
+
+-- another node's ballot is voted for
+pub voted_proposed : (n i : ℕ) (upto : List Command) (at : ℕ) (own : Option Command) (store : Store) (slot : ℕ) (vote : Vote) (has sent more : List Message) → vote.ballot.node ≢ i
+    → ((b : Ballot) (s : ℕ) (c : Command) → In (Accept b s c) more → In (Accept b s c) sent)
+    → IsProposed n i upto at own store has sent → IsProposed n i upto at own (voted store slot vote) has more
+voted_proposed n i upto at own store slot vote has sent more other before p =
+    none_proposed n i upto at own (voted store slot vote) has more (λ b s c h. p.ballots b s c (before b s c h))
+    (λ s c h. other (p.ballots vote.ballot s c (before vote.ballot s c h)))
+
+-- ---- a proposal
+
+slot_new : (store : Store) (slot k : ℕ) (vote : Vote) (b : Bool) → (k == slot) ≡ b → k ≡ slot → (if b then Some vote else store.votes k) ≡ Some vote
+slot_new store slot k vote true e same = refl
+slot_new store slot k vote false e same = absurd (eqb-false k slot e same)
+
+slot_old : (store : Store) (slot k : ℕ) (vote found : Vote) (b : Bool) → (k == slot) ≡ b → (k ≡ slot → ⊥) → store.votes k ≡ Some found → (if b then Some vote else store.votes k) ≡ Some found
+slot_old store slot k vote found true e other h = absurd (other (eqb-true k slot e))
+slot_old store slot k vote found false e other h = h
+
+accept_is : (a b : Ballot) (s t : ℕ) (c d : Command) → ◌≡◌ {A = Message} (Accept a s c) (Accept b t d) → (a ≡ b) × (s ≡ t) × (c ≡ d)
+accept_is a b s t c d e = ((let k : a ≡ b = cc in k), (let k : s ≡ t = cc in k), (let k : c ≡ d = cc in k))
+
+-- the node proposes the value at its front and votes for it
+pub made_proposed : (n i : ℕ) (upto : List Command) (own : Option Command) (store : Store) (has sent : List Message) (ballot : Ballot) (slot : ℕ) (command : Command)
+    → store.promise ≡ ballot → slot ≡ length upto → ballot.node ≡ i → ((other : Command) → In (Accept ballot slot other) sent → ⊥)
+    → IsValue n has ballot slot own command → IsProposed n i upto (length upto) own store has sent
+    → IsProposed n i upto (length upto) own (voted store slot (record { ballot = ballot; command = command }))
+    (Accept ballot slot command ∷ has) (Accepted i ballot slot command ∷ Accept ballot slot command ∷ sent)
+made_proposed n i upto own store has sent ballot slot command promised_is at mine once value p = record {
+  ballots = λ b s c h. ballots_of b s c h;
+  voted = λ s c h. voted_of s c (split s c h);
+  reached = λ s c h. reached_of s c (split s c h);
+  by_rule = λ c h. by_rule_of c (split (length upto) c h);
+}
+  where
+    ballots_of : (b : Ballot) (s : ℕ) (c : Command) → In (Accept b s c) (Accepted i ballot slot command ∷ Accept ballot slot command ∷ sent) → b.node ≡ i
+    ballots_of b s c (inl e) = absurd (cc)
+    ballots_of b s c (inr (inl e)) = ap (λ (x : Ballot). x.node) (accept_is b ballot s slot c command e).0 ∙ mine
+    ballots_of b s c (inr (inr h)) = p.ballots b s c h
+
+    split : (s : ℕ) (c : Command) → In (Accept ballot s c) (Accepted i ballot slot command ∷ Accept ballot slot command ∷ sent)
+        → ((s ≡ slot) × (c ≡ command)) ⊎ (In (Accept ballot s c) sent × (s ≡ slot → ⊥))
+    split s c (inl e) = absurd (cc)
+    split s c (inr (inl e)) = let a = accept_is ballot ballot s slot c command e in inl (a.1, a.2)
+    split s c (inr (inr h)) = inr (h, λ same. once c (subst (λ (k : ℕ). In (Accept ballot k c) sent) same h))
+
+    voted_of : (s : ℕ) (c : Command) → ((s ≡ slot) × (c ≡ command)) ⊎ (In (Accept ballot s c) sent × (s ≡ slot → ⊥))
+        → (voted store slot (record { ballot = ballot; command = command })).votes s ≡ Some (record { ballot = ballot; command = c })
+    voted_of s c (inl new) =
+        slot_new store slot s (record { ballot = ballot; command = command }) (s == slot) refl new.0 ∙ ap (λ (d : Command). let v : Vote = record { ballot = ballot; command = d } in Some v) (sym new.1)
+    voted_of s c (inr old) = slot_old store slot s (record { ballot = ballot; command = command }) (record { ballot = ballot; command = c }) (s == slot) refl old.1
+        (subst (λ (b : Ballot). store.votes s ≡ Some (record { ballot = b; command = c })) promised_is
+        (p.voted s c (subst (λ (b : Ballot). In (Accept b s c) sent) (sym promised_is) old.0)))
+
+    reached_of : (s : ℕ) (c : Command) → ((s ≡ slot) × (c ≡ command)) ⊎ (In (Accept ballot s c) sent × (s ≡ slot → ⊥)) → s ≤ length upto
+    reached_of s c (inl new) = let a = new.0 in omega (arith, a, at)
+    reached_of s c (inr old) = p.reached s c (subst (λ (b : Ballot). In (Accept b s c) sent) (sym promised_is) old.0)
+
+    by_rule_of : (c : Command) → ((length upto ≡ slot) × (c ≡ command)) ⊎ (In (Accept ballot (length upto) c) sent × (length upto ≡ slot → ⊥))
+        → IsValue n (Accept ballot slot command ∷ has) ballot (length upto) own c
+    by_rule_of c (inl new) =
+        value_more n has (Accept ballot slot command ∷ has) ballot (length upto) own own c (λ o k. inr k) (λ e. e)
+        (subst (λ (k : ℕ). IsValue n has ballot k own c) at (subst (IsValue n has ballot slot own) (sym new.1) value))
+    by_rule_of c (inr old) = absurd (old.1 (sym at))
+
+-- ---- more is known, applied, and waits
+
+-- the front moves on, or nothing changes
+pub learned_proposed : (n i : ℕ) (place : Place) (s : Standing) (new : Learned) (later : List Command) (store : Store) (has sent : List Message)
+    → new.log.below ≡ later ++ applied s → IsProposed n i (applied s) (length (applied s)) (own_value place s) store has sent
+    → IsProposed n i (applied s) (length new.log.below) (own_value place (record s { learned = new })) store has sent
+learned_proposed n i place s new [] store has sent e p =
+    subst (λ (l : List Command). IsProposed n i (applied s) (length l) (own_value place (record s { learned = record new { log = record new.log { below = l } } })) store has sent) (sym e) p
+learned_proposed n i place s new (c ∷ later) store has sent e p = record {
+  ballots = p.ballots;
+  voted = p.voted;
+  reached = p.reached;
+  by_rule = λ d h. absurd (let l = p.reached (length new.log.below) d h in let k = ap length e ∙ length-append (c ∷ later) (applied s) in omega (arith, l, k));
+}
+
+-- a command below the front is applied
+pub taken_proposed : (n i : ℕ) (upto : List Command) (command : Command) (at : ℕ) (own other : Option Command) (store : Store) (has sent : List Message) → length upto < at
+    → IsProposed n i upto at own store has sent → IsProposed n i (command ∷ upto) at other store has sent
+taken_proposed n i upto command at own other store has sent below p = record {
+  ballots = p.ballots;
+  voted = p.voted;
+  reached = λ s c h. let l = p.reached s c h in omega arith;
+  by_rule = λ c h. absurd (let l = p.reached at c h in omega arith);
+}
+
+-- an act waits where none did: what the node had of its own it has still
+waits_same : (old : Option Command) (b : Bool) (act command : Command) → old ≡ Some command → (if is_none old && b then Some act else old) ≡ Some command
+waits_same None b act command e = absurd (cc)
+waits_same (Some held) b act command e = e
+
+fitting_same : (place : Place) (s : Standing) (deal old new : Option Command) (command : Command) → (old ≡ Some command → new ≡ Some command)
+    → fitting place s deal old ≡ Some command → fitting place s deal new ≡ Some command
+fitting_same place s None old new command same e = same e
+fitting_same place s (Some deal) old new command same e = by_fit (fits place.setting (applied s) deal) e
+  where
+    by_fit : (b : Bool) → (if b then Some deal else old) ≡ Some command → (if b then Some deal else new) ≡ Some command
+    by_fit true h = h
+    by_fit false h = same h
+
+pub waiting_value : (place : Place) (act : Command) (s : Standing) (command : Command) → own_value place s ≡ Some command
+    → own_value place (record s { pending = waiting place act s }) ≡ Some command
+waiting_value place act s command e =
+    fitting_same place s (own_deal place s) s.pending (waiting place act s) command (waits_same s.pending (fits place.setting (applied s) act) act command) e
+
+pub pending_proposed : (n i : ℕ) (upto : List Command) (at : ℕ) (own other : Option Command) (store : Store) (has sent : List Message) → ((c : Command) → own ≡ Some c → other ≡ Some c)
+    → IsProposed n i upto at own store has sent → IsProposed n i upto at other store has sent
+pending_proposed n i upto at own other store has sent same p = record {
+  ballots = p.ballots;
+  voted = p.voted;
+  reached = p.reached;
+  by_rule = λ c h. value_more n has has store.promise at own other c (λ o k. k) (same c) (p.by_rule c h);
+}

@@ -1,0 +1,125 @@
+-- Near misses of the laws of turns: what wrong nodes would do, refused.
+use Rattle.std.proofs.Common.{◌≡◌, ℕ, ◌≤◌, inl, inr, Bool, true, false, List, [], ◌∷◌, ◌++◌, Ok, Err, Result, refl, ap, sym, ◌∙◌, subst, arith}
+use Rattle.paxos_wire.specs.declared.ballot.Ballot.{Ballot}
+use Rattle.paxos_wire.specs.declared.message.Message.TheVariants as frame
+use Rattle.slot_log.specs.declared.command.Command.{Command}
+use Rattle.protocol_model.specs.Messages.{Message, Promise, Refuse, Accepted}
+use Rattle.protocol_model.specs.Nodes.{Node, new_node}
+use Rattle.protocol_model.specs.Stores.{empty_store, promised, voted}
+use Rattle.paxos_wire.specs.declared.message.Message.{Message as Wire}
+use Rattle.protocol_model.specs.Sets.{In}
+use Rattle.node_rules.specs.Seen.{ballots_in}
+use Rattle.node_rules.specs.Sending.{Frame, one}
+use Rattle.node_rules.specs.Turns.{Turn, Refusal, still}
+use Rattle.node_rules.specs.LawsTick.{HasMet, IsGreatestRound, IsSpent, Ticks}
+use Rattle.node_rules.specs.LawsAnswers.{AnswersPrepare, AnswersAccept, accepts, IsAnswered}
+use Rattle.node_rules.specs.LawsAnswers as answers
+use Rattle.node_rules.specs.LawsBacking.{IsBacked}
+use Rattle.node_rules.proofs.Examples.{opened, place, ballot, dealt, to, first}
+
+abbrev runs : Node
+runs = record new_node { up = true }
+
+no_own : ℕ → Command → Bool
+no_own node command = false
+
+abbrev frames_of : Result Turn Refusal → List Frame
+frames_of (Ok turn) = turn.frames
+frames_of (Err refusal) = []
+
+-- ---- ticks
+
+-- a node that promised its own ballot (1, 0), and was refused by one who had promised (4, 1)
+abbrev outbid : Node
+outbid = record runs { store = promised empty_store (ballot 1 0); begun = promised empty_store (ballot 1 0); has = Refuse 1 (ballot 1 0) 0 (ballot 4 1) ∷ [] }
+
+told_round : (other : Ballot) → In other (ballot 1 0 ∷ ballot 4 1 ∷ []) → other.round ≤ 4
+told_round other (inl e) = let r : other.round ≡ 1 = ap (λ (b : Ballot). b.round) e in omega (arith, r)
+told_round other (inr (inl e)) = let r : other.round ≡ 4 = ap (λ (b : Ballot). b.round) e in omega (arith, r)
+told_round other (inr (inr none)) = absurd none
+
+met_before : (other : Ballot) → HasMet outbid other → other.round ≤ 4
+met_before other (inr e) = let r : other.round ≡ 1 = ap (λ (b : Ballot). b.round) e in omega (arith, r)
+met_before other (inl (message, inr none, told)) = absurd none
+met_before other (inl (message, inl e, told)) = told_round other (subst (λ (m : Message). In other (ballots_in m)) e told)
+
+refusal_is_met : HasMet outbid (ballot 4 1)
+refusal_is_met = inl (Refuse 1 (ballot 1 0) 0 (ballot 4 1), inl refl, inr (inl refl))
+
+round_of_a_refusal_counts : IsGreatestRound outbid 4
+round_of_a_refusal_counts = record { ballot = ballot 4 1; met = refusal_is_met; same = refl; above = met_before }
+
+-- so its next ballot is none of round 2
+own_round_is_not_all : IsGreatestRound outbid 1 → ⊥
+own_round_is_not_all most = let l = most.above (ballot 4 1) refusal_is_met in omega (arith, l)
+
+not_spent : IsSpent 0 0 → ⊥
+not_spent (inl e) = omega (arith, e)
+not_spent (inr e) = omega (arith, e)
+
+-- a tick that prepares nothing
+tick_without_prepare : Ticks no_own (place 0) runs 0 (first 0) (Ok (still (first 0))) → ⊥
+unfolding opened
+tick_without_prepare ticks =
+    let begun = ticks.begins refl not_spent in
+    let clash : ◌≡◌ {A = List Frame} [] (to 1 (frame.Prepare (ballot 1 0) 0) ∷ to 2 (frame.Prepare (ballot 1 0) 0) ∷ []) = ap frames_of begun.1 ∙ begun.2.frames in cc
+
+abbrev round_in : Wire → ℕ
+round_in (frame.Prepare b k) = b.round
+round_in other = 0
+
+-- a tick that prepares a ballot that it has met
+tick_with_an_old_ballot : (turn : Turn) → turn.frames ≡ to 1 (frame.Prepare (ballot 1 0) 0) ∷ to 2 (frame.Prepare (ballot 1 0) 0) ∷ []
+    → Ticks no_own (place 0) outbid 1 (first 0) (Ok turn) → ⊥
+unfolding opened
+tick_with_an_old_ballot turn e ticks =
+    let begun = ticks.begins refl spent_later in
+    let clash : to 1 (frame.Prepare (ballot 1 0) 0) ∷ to 2 (frame.Prepare (ballot 1 0) 0) ∷ [] ≡ to 1 (frame.Prepare (ballot 2 0) 0) ∷ to 2 (frame.Prepare (ballot 2 0) 0) ∷ [] =
+    sym e ∙ (ap frames_of begun.1 ∙ begun.2.frames) in
+    rounds (ballot 1 0) (ballot 2 0) (first_of clash)
+  where
+    spent_later : IsSpent 1 0 → ⊥
+    spent_later (inl h) = omega (arith, h)
+    spent_later (inr h) = omega (arith, h)
+
+    rounds : (a b : Ballot) → ◌≡◌ {A = ℕ} 1 2 → ⊥
+    rounds a b h = omega (arith, h)
+
+    first_of : to 1 (frame.Prepare (ballot 1 0) 0) ∷ to 2 (frame.Prepare (ballot 1 0) 0) ∷ [] ≡ to 1 (frame.Prepare (ballot 2 0) 0) ∷ to 2 (frame.Prepare (ballot 2 0) 0) ∷ [] → ◌≡◌ {A = ℕ} 1 2
+    first_of h = ap (λ (l : List Frame). elim l [ [] ↦ 0 | f ∷ others ↦ round_in f.message ]) h
+
+-- ---- answers
+
+-- a Prepare that is passed over
+silent_on_a_prepare : IsAnswered (place 1) (first 1) runs 0 (frame.Prepare (ballot 1 0) 0) (still (first 1)) → ⊥
+unfolding opened
+silent_on_a_prepare (sent, answer, sends) = by_answer answer (nothing sent (sends.closing ++ []) sends.frames)
+  where
+    nothing : (xs ys : List Frame) → [] ≡ xs ++ ys → xs ≡ []
+    nothing [] ys e = refl
+    nothing (x ∷ xs) ys e = absurd (cc)
+
+    by_answer : AnswersPrepare empty_store 0 (ballot 1 0) 0 sent → sent ≡ [] → ⊥
+    by_answer (answers.promises told above tells e) h = let clash : ◌≡◌ {A = List Frame} [] (one 0 (frame.Promise (ballot 1 0) 0 told)) = sym h ∙ e in cc
+    by_answer (answers.AnswersPrepare.refuses low e) h = let clash : ◌≡◌ {A = List Frame} [] (one 0 (frame.Refuse (ballot 1 0) 0 empty_store.promise)) = sym h ∙ e in cc
+
+-- a vote that is told to its proposer alone
+vote_told_to_one : AnswersAccept (place 1) empty_store 0 (ballot 1 0) 0 (dealt 0) (one 0 (frame.Accepted (ballot 1 0) 0 (dealt 0))) → ⊥
+unfolding opened
+vote_told_to_one (answers.accepts above e) =
+    let clash : one 0 (frame.Accepted (ballot 1 0) 0 (dealt 0)) ≡ to 0 (frame.Accepted (ballot 1 0) 0 (dealt 0)) ∷ to 2 (frame.Accepted (ballot 1 0) 0 (dealt 0)) ∷ [] = e in cc
+vote_told_to_one (answers.AnswersAccept.refuses low e) =
+    let clash : frame.Accepted (ballot 1 0) 0 (dealt 0) ≡ frame.Refuse (ballot 1 0) 0 empty_store.promise = ap (λ (l : List Frame). elim l [ [] ↦ frame.Ask 0 | f ∷ others ↦ f.message ]) e in cc
+
+-- ---- backing
+
+-- a promise that was sent and isn't stored
+unstored_promise : IsBacked runs (Promise 1 (ballot 1 0) 0 []) → ⊥
+unstored_promise backed = elim (backed empty_store (inl refl)) [ inl l ↦ omega (arith, l) | inr e ↦ (let h = e.0 in omega (arith, h)) ]
+
+-- a vote that one of two stores has, which the next start may find
+abbrev half_stored : Node
+half_stored = record runs { up = false; begun = voted empty_store 0 (record { ballot = ballot 1 0; command = dealt 0 }) }
+
+vote_in_one_store : IsBacked half_stored (Accepted 1 (ballot 1 0) 0 (dealt 0)) → ⊥
+vote_in_one_store backed = elim ((backed empty_store (inl refl)).0) [ inl l ↦ omega (arith, l) | inr e ↦ (let h = e.0 in omega (arith, h)) ]
