@@ -12,7 +12,7 @@ use Rattle.protocol_model.specs.Moves.{Output, Move, gets, connects, drops, clos
 use Rattle.protocol_model.specs.Worlds.{World, start, more as further, IsAfter, Reached}
 use Rattle.node_rules.specs.Given.{Given}
 use Rattle.node_rules.proofs.Sets.{in_later, in_split}
-use Rattle.node_rules.proofs.Sent.{had_was_sent}
+use Rattle.node_rules.proofs.Sourcing.{had_was_sent}
 use Rattle.node_rules.proofs.Voting.{voted_is}
 
 -- ---- a proposal is sent by a move that proposes
@@ -194,7 +194,7 @@ world_after dealer n old new i j out node reached move after before = by_node (e
     by_node : ((i == j) ≡ true) × (i ≡ j) ⊎ ((i == j) ≡ false) × (i ≢ j) → BothFor (new.nodes i) new.ever
     by_node (inl same) = subst (λ (k : ℕ). BothFor (new.nodes k) new.ever) (sym same.1)
         (subst (λ (k : Node). BothFor k new.ever) (sym after.moved)
-        (for_after dealer n j old.ever new.ever (old.nodes j) out node move (λ m h. later m (had_was_sent dealer n old j m reached h)) (more_for (old.nodes j) old.ever new.ever later (before j))))
+        (for_after dealer n j old.ever new.ever (old.nodes j) out node move (λ m h. later m (had_was_sent dealer n j old m reached h)) (more_for (old.nodes j) old.ever new.ever later (before j))))
     by_node (inr other) = subst (λ (k : Node). BothFor k new.ever) (sym (after.others i other.1)) (more_for (old.nodes i) old.ever new.ever later (before i))
 
 pub votes_are_for : (dealer : Dealer) (n : ℕ) (world : World) (i : ℕ) → Reached dealer n world → BothFor (world.nodes i) world.ever

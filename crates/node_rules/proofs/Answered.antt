@@ -40,7 +40,7 @@ use Rattle.node_rules.proofs.Ordering.{below_if, at_most_if_not}
 use Rattle.node_rules.proofs.Promising.{tells}
 use Rattle.node_rules.proofs.Settling.{below_front}
 use Rattle.node_rules.proofs.Chaining.{ok_is, ok_not}
-use Rattle.node_rules.proofs.Resting.{Proposals, Closed, rests, proposes}
+use Rattle.node_rules.proofs.Resting.{Closed, rests, proposes}
 use Rattle.node_rules.proofs.Led.{tick_splits, piece_splits, asking_after, frame_turn}
 
 -- ---- the close
@@ -73,7 +73,7 @@ three place s turn first c asked answers last whole same closed ea el =
     }
 
 -- a rule's turn and the close's
-two : (place : Place) (turn first c : Turn) (answers : List Frame) → turn ≡ joined first c → Closed place first.after c → first.frames ≡ answers → Sends place turn answers []
+pub two : (place : Place) (turn first c : Turn) (answers : List Frame) → turn ≡ joined first c → Closed place first.after c → first.frames ≡ answers → Sends place turn answers []
 two place turn first c answers whole closed ea = record {
   closing = c.frames;
   of_close = subst (λ k. IsOfClose place k c.frames) (sym (ap (λ (t : Turn). front_of t.after) whole)) (close_sends place first.after c closed).0;
@@ -256,16 +256,16 @@ ticked_by place s turn first c false false is closed whole =
 
 -- ---- every call
 
-sends_up : (g : Given) (w : Proposals) (own : ℕ → Command → Bool) (place : Place) (world : World) (s : Standing) (called : Call) (turn : Turn) (st : Stands own place world s) → s.up ≡ true
+sends_up : (g : Given) (own : ℕ → Command → Bool) (place : Place) (world : World) (s : Standing) (called : Call) (turn : Turn) (st : Stands own place world s) → s.up ≡ true
     → Comes place world.ever called → IsTurnUp place s called (Ok turn) → SendsUp place s (world.nodes place.node) called turn
-sends_up g w own place world s (Start found) turn st up comes h = ap (λ (t : Turn). t.frames) (ok_is turn (still s) h)
-sends_up g w own place world s Tick turn st up comes h = elim (tick_splits g w own place world s st up) [
+sends_up g own place world s (Start found) turn st up comes h = ap (λ (t : Turn). t.frames) (ok_is turn (still s) h)
+sends_up g own place world s Tick turn st up comes h = elim (tick_splits g own place world s st up) [
   | inl split ↦ ticked_by place s turn split.first split.closes.turn (is_over place s) (is_spent s) split.is split.closes.closed
       (ok_is turn (joined split.first split.closes.turn) (h ∙ split.whole))
   | inr none ↦ absurd (ok_not turn none.0 (h ∙ none.2))
 ]
-sends_up g w own place world s (call.Frame from bytes) turn st up comes h =
-    let f = frame_turn g w own place world s st up from bytes turn comes h in
+sends_up g own place world s (call.Frame from bytes) turn st up comes h =
+    let f = frame_turn g own place world s st up from bytes turn comes h in
     let first : Turn = f.split.first in
     let c : Turn = f.split.closes.turn in
     let after = asking_after from f.message c.after in
@@ -275,14 +275,14 @@ sends_up g w own place world s (call.Frame from bytes) turn st up comes h =
       answer_by place s (world.nodes place.node) from f.message turn first c st.of.store (st.of.runs up).knows.learner.knows f.split.is f.split.closes.closed f.whole after now
           (now ∙ (close_sends place first.after c f.split.closes.closed).1),
     )
-sends_up g w own place world s (Line seat bytes) turn st up comes (heard, hears, e) =
-    let p = piece_splits g w own place world s st up seat bytes heard comes hears in
+sends_up g own place world s (Line seat bytes) turn st up comes (heard, hears, e) =
+    let p = piece_splits g own place world s st up seat bytes heard comes hears in
     heard_by place s (world.nodes place.node) seat bytes turn heard p.closes.turn (session_at s.sessions seat) ((world.nodes place.node).heard seat) st.of.store
     ((st.of.runs up).sessions seat) hears p.closes.closed
     (ok_is turn (joined heard p.closes.turn) (e ∙ ap (λ (k : Result Turn Refusal). behind heard k) p.closes.is))
-sends_up g w own place world s (Connect seat) turn st up comes h = ap (λ (t : Turn). t.frames) (ok_is turn (connecting seat s) h)
-sends_up g w own place world s (Drop seat) turn st up comes h = ap (λ (t : Turn). t.frames) (ok_is turn (dropping seat s) h)
-sends_up g w own place world s Stop turn st up comes h = ap (λ (t : Turn). t.frames) (ok_is turn (stopping place s) h)
+sends_up g own place world s (Connect seat) turn st up comes h = ap (λ (t : Turn). t.frames) (ok_is turn (connecting seat s) h)
+sends_up g own place world s (Drop seat) turn st up comes h = ap (λ (t : Turn). t.frames) (ok_is turn (dropping seat s) h)
+sends_up g own place world s Stop turn st up comes h = ap (λ (t : Turn). t.frames) (ok_is turn (stopping place s) h)
 
 sends_down : (place : Place) (s : Standing) (called : Call) (turn : Turn) → IsTurnDown place s called (Ok turn) → SendsDown place called turn
 sends_down place s (Start found) turn (left, h) = ap (λ (t : Turn). t.frames) (ok_is turn (starting place found) h)
@@ -293,11 +293,11 @@ sends_down place s (Connect seat) turn h = ok_not turn Down h
 sends_down place s (Drop seat) turn h = ok_not turn Down h
 sends_down place s Stop turn h = ap (λ (t : Turn). t.frames) (ok_is turn (still s) h)
 
-sends_by : (g : Given) (w : Proposals) (own : ℕ → Command → Bool) (place : Place) (world : World) (s : Standing) (called : Call) (turn : Turn) (b : Bool) (st : Stands own place world s) → s.up ≡ b
+sends_by : (g : Given) (own : ℕ → Command → Bool) (place : Place) (world : World) (s : Standing) (called : Call) (turn : Turn) (b : Bool) (st : Stands own place world s) → s.up ≡ b
     → Comes place world.ever called → IsTurnBy b place s called (Ok turn) → SendsBy b place s (world.nodes place.node) called turn
-sends_by g w own place world s called turn true st up comes h = sends_up g w own place world s called turn st up comes h
-sends_by g w own place world s called turn false st down comes h = sends_down place s called turn h
+sends_by g own place world s called turn true st up comes h = sends_up g own place world s called turn st up comes h
+sends_by g own place world s called turn false st down comes h = sends_down place s called turn h
 
-pub frames_answer : Given → Proposals → FramesAnswer
-frames_answer g w own place world s called turn st comes h =
-    subst (λ b. SendsBy b place s (world.nodes place.node) called turn) (sym st.of.up) (sends_by g w own place world s called turn s.up st refl comes h)
+pub frames_answer : Given → FramesAnswer
+frames_answer g own place world s called turn st comes h =
+    subst (λ b. SendsBy b place s (world.nodes place.node) called turn) (sym st.of.up) (sends_by g own place world s called turn s.up st refl comes h)

@@ -45,7 +45,7 @@ use Rattle.node_rules.proofs.Ordering.{self, below_if, at_most_if_not, higher_is
 use Rattle.node_rules.proofs.Ticking.{above}
 use Rattle.node_rules.proofs.Chaining.{ok_is, ok_not, turns_are_chains}
 use Rattle.node_rules.proofs.Sounding.{harmless_by, harmless_still}
-use Rattle.node_rules.proofs.Resting.{Proposals, Closed, rests, proposes}
+use Rattle.node_rules.proofs.Resting.{Closed, rests, proposes}
 use Rattle.node_rules.proofs.Led.{tick_splits, piece_splits, asking_after, frame_turn}
 
 -- what the model says of backing
@@ -213,9 +213,9 @@ pub record KeepsBoth (old : Store) (after : Standing) : Type 0 where
 both_of : (old : Store) (after : Standing) → after.begun ≡ after.store → Keeps old after.store → KeepsBoth old after
 both_of old after same keeps = record { store = keeps; begun = λ m h. subst (λ (st : Store). Backs st m) (sym same) (keeps m h) }
 
-up_keeps : (g : Given) (w : Proposals) (b : Backing) (own : ℕ → Command → Bool) (place : Place) (world : World) (s : Standing) (called : Call) (turn : Turn) (st : Stands own place world s) → s.up ≡ true
+up_keeps : (g : Given) (b : Backing) (own : ℕ → Command → Bool) (place : Place) (world : World) (s : Standing) (called : Call) (turn : Turn) (st : Stands own place world s) → s.up ≡ true
     → Comes place world.ever called → IsTurnUp place s called (Ok turn) → KeepsBoth s.store turn.after
-up_keeps g w b own place world s called turn st up comes h = by_call called comes h
+up_keeps g b own place world s called turn st up comes h = by_call called comes h
   where
     unbegun : s.begun ≡ s.store
     unbegun = (st.of.runs up).unbegun
@@ -228,7 +228,7 @@ up_keeps g w b own place world s called turn st up comes h = by_call called come
 
     by_call : (called : Call) → Comes place world.ever called → IsTurnUp place s called (Ok turn) → KeepsBoth s.store turn.after
     by_call (Start found) comes h = by_turn (still s) (ok_is turn (still s) h) unbegun (λ m k. k)
-    by_call Tick comes h = elim (tick_splits g w own place world s st up) [
+    by_call Tick comes h = elim (tick_splits g own place world s st up) [
       | inl split ↦
           (let c = split.closes in
           by_turn (joined split.first c.turn) (ok_is turn (joined split.first c.turn) (h ∙ split.whole)) (closed_begun place split.first.after c.turn split.path.unbegun c.closed)
@@ -237,14 +237,14 @@ up_keeps g w b own place world s called turn st up comes h = by_call called come
       | inr none ↦ absurd (ok_not turn none.0 (h ∙ none.2))
     ]
     by_call (call.Frame from bytes) comes h =
-        let f = frame_turn g w own place world s st up from bytes turn comes h in
+        let f = frame_turn g own place world s st up from bytes turn comes h in
         let c = f.split.closes in
         let same : turn.after ≡ c.turn.after = ap (λ (t : Turn). t.after) f.whole ∙ asking_after from f.message c.turn.after in
         subst (KeepsBoth s.store) (sym same) (both_of s.store c.turn.after (closed_begun place f.split.first.after c.turn f.split.path.unbegun c.closed)
         (λ m k. closed_keeps b place f.split.first.after c.turn (subst IsWithinPromise f.split.path.knows.store f.split.path.knows.within) c.closed m
         (message_keeps b place s from f.message f.split.first within f.split.is m k)))
     by_call (Line seat bytes) comes (heard, hears, e) =
-        let p = piece_splits g w own place world s st up seat bytes heard comes hears in
+        let p = piece_splits g own place world s st up seat bytes heard comes hears in
         let c = p.closes in
         by_turn (joined heard c.turn) (ok_is turn (joined heard c.turn) (e ∙ ap (λ (k : Result Turn Refusal). behind heard k) c.is)) (closed_begun place heard.after c.turn p.path.unbegun c.closed)
         (λ m k. closed_keeps b place heard.after c.turn (subst IsWithinPromise p.path.knows.store p.path.knows.within) c.closed m
@@ -270,35 +270,35 @@ down_keeps place s (Connect seat) turn h m k = absurd (ok_not turn Down h)
 down_keeps place s (Drop seat) turn h m k = absurd (ok_not turn Down h)
 down_keeps place s Stop turn h m k = subst (λ (t : Turn). AllBack t.after m) (sym (ok_is turn (still s) h)) k
 
-turn_keeps : (g : Given) (w : Proposals) (b : Backing) (own : ℕ → Command → Bool) (place : Place) (world : World) (s : Standing) (called : Call) (turn : Turn) (up : Bool) (st : Stands own place world s) → s.up ≡ up
+turn_keeps : (g : Given) (b : Backing) (own : ℕ → Command → Bool) (place : Place) (world : World) (s : Standing) (called : Call) (turn : Turn) (up : Bool) (st : Stands own place world s) → s.up ≡ up
     → Comes place world.ever called → IsTurnBy up place s called (Ok turn) → (message : Message) → AllBack s message → AllBack turn.after message
-turn_keeps g w b own place world s called turn true st up comes h m k = let keeps = up_keeps g w b own place world s called turn st up comes h in (keeps.store m k.0, keeps.begun m k.0)
-turn_keeps g w b own place world s called turn false st down comes h m k = down_keeps place s called turn h m k
+turn_keeps g b own place world s called turn true st up comes h m k = let keeps = up_keeps g b own place world s called turn st up comes h in (keeps.store m k.0, keeps.begun m k.0)
+turn_keeps g b own place world s called turn false st down comes h m k = down_keeps place s called turn h m k
 
-outcome_keeps : (g : Given) (w : Proposals) (b : Backing) (own : ℕ → Command → Bool) (place : Place) (world : World) (s : Standing) (called : Call) (outcome : Result Turn Refusal) (st : Stands own place world s)
+outcome_keeps : (g : Given) (b : Backing) (own : ℕ → Command → Bool) (place : Place) (world : World) (s : Standing) (called : Call) (outcome : Result Turn Refusal) (st : Stands own place world s)
     → Comes place world.ever called → IsTurn place s called outcome → (message : Message) → AllBack s message → AllBack (standing_after place s outcome) message
-outcome_keeps g w b own place world s called (Ok turn) st comes h m k = turn_keeps g w b own place world s called turn s.up st refl comes h m k
-outcome_keeps g w b own place world s called (Err refusal) st comes h m k =
+outcome_keeps g b own place world s called (Ok turn) st comes h m k = turn_keeps g b own place world s called turn s.up st refl comes h m k
+outcome_keeps g b own place world s called (Err refusal) st comes h m k =
     subst (λ (y : Standing). AllBack y m) (sym (harmless_still place s refusal (harmless_by g own place world s refusal called s.up st refl comes h))) k
 
-ends_keep : (g : Given) (w : Proposals) (b : Backing) (own : ℕ → Command → Bool) (place : Place) (world : World) (s : Standing) (called : Call) (after : Standing) (frames : List Frame) (shown : List Piece)
+ends_keep : (g : Given) (b : Backing) (own : ℕ → Command → Bool) (place : Place) (world : World) (s : Standing) (called : Call) (after : Standing) (frames : List Frame) (shown : List Piece)
     (st : Stands own place world s) → Comes place world.ever called → Ends place s called after frames shown → (message : Message) → AllBack s message → AllBack after message
-ends_keep g w b own place world s called after frames shown st comes (took turn rule e f p) m k =
-    subst (λ (y : Standing). AllBack y m) (sym e) (outcome_keeps g w b own place world s called (Ok turn) st comes rule m k)
-ends_keep g w b own place world s called after frames shown st comes (refused refusal rule e f p) m k =
-    subst (λ (y : Standing). AllBack y m) (sym e) (outcome_keeps g w b own place world s called (Err refusal) st comes rule m k)
-ends_keep g w b own place world s called after frames shown st comes (failed outcome begun up rule from e f p) m k =
+ends_keep g b own place world s called after frames shown st comes (took turn rule e f p) m k =
+    subst (λ (y : Standing). AllBack y m) (sym e) (outcome_keeps g b own place world s called (Ok turn) st comes rule m k)
+ends_keep g b own place world s called after frames shown st comes (refused refusal rule e f p) m k =
+    subst (λ (y : Standing). AllBack y m) (sym e) (outcome_keeps g b own place world s called (Err refusal) st comes rule m k)
+ends_keep g b own place world s called after frames shown st comes (failed outcome begun up rule from e f p) m k =
     subst (λ (y : Standing). AllBack y m) (sym e) (
       k.0,
       elim from [
         | inl same ↦ subst (λ (x : Store). Backs x m) (sym same) k.0
-        | inr same ↦ subst (λ (x : Store). Backs x m) (sym same) (outcome_keeps g w b own place world s called outcome st comes rule m k).1
+        | inr same ↦ subst (λ (x : Store). Backs x m) (sym same) (outcome_keeps g b own place world s called outcome st comes rule m k).1
       ],
     )
-ends_keep g w b own place world s called after frames shown st comes (ways.unchanged e f p) m k = subst (λ (y : Standing). AllBack y m) (sym e) k
+ends_keep g b own place world s called after frames shown st comes (ways.unchanged e f p) m k = subst (λ (y : Standing). AllBack y m) (sym e) k
 
-pub backed_stays_so : Given → Proposals → Backing → BackedStaysSo
-backed_stays_so g w b own place world s called after frames shown last st comes ends of m k found is =
+pub backed_stays_so : Given → Backing → BackedStaysSo
+backed_stays_so g b own place world s called after frames shown last st comes ends of m k found is =
     let old : AllBack s m = (subst (λ (x : Store). Backs x m) st.of.store (k (world.nodes place.node).store (inl refl)), subst (λ (x : Store). Backs x m) st.of.begun (k (world.nodes place.node).begun (inr refl))) in
-    let new = ends_keep g w b own place world s called after frames shown st comes ends m old in
+    let new = ends_keep g b own place world s called after frames shown st comes ends m old in
     elim is [ inl e ↦ subst (λ (x : Store). Backs x m) (sym (e ∙ of.store)) new.0 | inr e ↦ subst (λ (x : Store). Backs x m) (sym (e ∙ of.begun)) new.1 ]

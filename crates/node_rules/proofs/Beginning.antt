@@ -55,7 +55,7 @@ below_known known (c ∷ rest) h = (
   below_known known rest (λ slot d e. h slot d (ap (λ (l : List Command). slice_get l slot) (reverse-append (c ∷ []) rest) ∙ got_before (reverse rest) (c ∷ []) slot d e)),
 )
 
-commands_known : (log : Log) (known : List (ℕ × Command)) → ((slot : ℕ) (c : Command) → known_at log slot ≡ Some c → In (slot, c) known) → KnowsCommands known log.below
+pub commands_known : (log : Log) (known : List (ℕ × Command)) → ((slot : ℕ) (c : Command) → known_at log slot ≡ Some c → In (slot, c) known) → KnowsCommands known log.below
 commands_known log known h =
     below_known known log.below (λ slot c e. h slot c (below_front log slot
     (let w = slice_get_within (reverse log.below) slot c e in let l = length-reverse log.below in omega arith) ∙ e))

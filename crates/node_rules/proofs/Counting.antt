@@ -100,6 +100,15 @@ not_open l slot e o = by_tests (nat_lt slot (front l.log)) (nat_lt slot (front l
     by_tests false false c ea eb ec h = let k = ltb-false slot (front l.log + WINDOW) eb in let r = o.within in omega arith
     by_tests false true c ea eb ec h = let k = ltb-false slot SLOTS (ec ∙ h) in let r = o.is_slot in omega arith
 
+-- a vote for an open slot is counted
+pub counts_vote : (g : Given) (came : List Message) (l : Learned) (voter : ℕ) (ballot : Ballot) (slot : ℕ) (command : Command) → IsLog l.log → voter < l.nodes → IsOpen l.log slot
+    → IsOk (answer_to l voter ballot slot command) → Counts came l → Counts (Accepted voter ballot slot command ∷ came) (hearing l voter ballot slot command)
+counts_vote g came l voter ballot slot command log low ahead ok c = record {
+  counts_from = g.answer_counts (Accepted voter ballot slot command ∷ came) l voter ballot slot command (inl refl) (g.more came l (Accepted voter ballot slot command) c.counts_from);
+  counts_all = g.answer_counts_all came l voter ballot slot command low ahead ok c.counts_all;
+  knows_chosen = g.answers_known came l voter ballot slot command log ahead low ok c.counts_from c.counts_all c.knows_chosen;
+}
+
 pub vote_grows : (g : Given) (came : List Message) (l : Learned) (voter : ℕ) (ballot : Ballot) (slot : ℕ) (command : Command) → IsLog l.log → voter < l.nodes
     → IsOk (answer_to l voter ballot slot command) → Counts came l → GrowsBy came l (hearing l voter ballot slot command) voter ballot slot command
 vote_grows g came l voter ballot slot command log low ok c = by_test (is_open l.log slot) refl

@@ -28,7 +28,7 @@ use Rattle.node_rules.proofs.Sent.{sent_by_chain}
 
 -- ---- tests
 
-covered : (first at : ℕ) → first ≤ at → at < first + WINDOW → is_covered first at ≡ true
+pub covered : (first at : ℕ) → first ≤ at → at < first + WINDOW → is_covered first at ≡ true
 covered first at low high = λ j. if le-ltb at first low j then false else lt-ltb at (first + WINDOW) high j
 
 is_there : {A : Type 0} (o : Option A) → is_some o ≡ true → (a : A) × (o ≡ Some a)

@@ -179,7 +179,7 @@ unfolding opened
 vote_is_told = refl
 
 -- node 1 voted for node 0's deal
-abbrev voted_1 : Standing
+abbrev pub voted_1 : Standing
 voted_1 = record (first 1) {
   store = store_0;
   begun = store_0;

@@ -113,7 +113,7 @@ leaves_behind x came u (Err e) h = tt
 -- ---- the close
 
 -- a node that doesn't lead proposes nothing
-unled_by : (n : ℕ) (c : Option Campaign) (front : ℕ) (own : Option Command) → leads n c ≡ false → proposal_from n c front own ≡ Ok None
+pub unled_by : (n : ℕ) (c : Option Campaign) (front : ℕ) (own : Option Command) → leads n c ≡ false → proposal_from n c front own ≡ Ok None
 unled_by n None front own e = refl
 unled_by n (Some c) front own e = ap (λ (b : Bool). if not b then Ok None else if not (is_covered c.first front) then Err OutOfWindow
     else if is_proposed c front then Ok None

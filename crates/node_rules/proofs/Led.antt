@@ -1,5 +1,5 @@
--- The stages of each call, and that each leaves nothing to propose.
-use Rattle.std.proofs.Common.{◌≡◌, ℕ, ◌⊎◌, inl, inr, Bool, true, false, if◌then◌else◌, List, [], Result, Ok, Err, refl, sym, ap, subst, ◌∙◌}
+-- The stages of each call: its rule, its close, and last the question.
+use Rattle.std.proofs.Common.{◌≡◌, ℕ, ◌⊎◌, inl, inr, Bool, true, false, if◌then◌else◌, List, [], Result, Ok, Err, refl, ap, subst, ◌∙◌}
 use Rattle.std.specs.Prelude.{nat_lt}
 use Rattle.paxos_wire.specs.declared.fault.FrameFault.{FrameFault}
 use Rattle.paxos_wire.specs.declared.message.Message.{Message as Wire}
@@ -9,17 +9,16 @@ use Rattle.slot_log.specs.declared.command.Command.{Command}
 use Rattle.protocol_model.specs.Arrivals.{Arrival}
 use Rattle.protocol_model.specs.Worlds.{World}
 use Rattle.node_rules.specs.Standings.{Place, Standing, applied, front_of}
-use Rattle.node_rules.specs.Turns.{Turn, Refusal, Down, BadFrame, still, sending, joined, behind, and_then}
+use Rattle.node_rules.specs.Turns.{Turn, Refusal, BadFrame, still, sending, joined, and_then}
 use Rattle.node_rules.specs.Proposing.{ticking, closing}
-use Rattle.node_rules.specs.Seats.{session_at, connecting, dropping, HearsPiece}
+use Rattle.node_rules.specs.Seats.{session_at, HearsPiece}
 use Rattle.node_rules.specs.Calls.{Call, Start, Tick, Line, Connect, Drop, Stop}
 use Rattle.node_rules.specs.Calls as call
-use Rattle.node_rules.specs.Rules.{seeing, taking, asking, on_read, starting, stopping, IsTurnUp, IsTurnDown, IsTurnBy}
+use Rattle.node_rules.specs.Rules.{seeing, taking, asking, on_read, IsTurnUp}
 use Rattle.node_rules.specs.Sending.{one}
 use Rattle.node_rules.specs.Called.{came_in, said_in, IsSent, Comes}
 use Rattle.node_rules.specs.Given.{Given}
 use Rattle.node_rules.specs.Sound.{Stands}
-use Rattle.node_rules.specs.LawsTick.{IsLedTo, began, went_on}
 use Rattle.node_rules.proofs.Paths.{Hearing, Scope, first_in, Path, Goes}
 use Rattle.node_rules.proofs.Beginning.{hearing_of, begin}
 use Rattle.node_rules.proofs.Asking.{behind_still}
@@ -27,7 +26,7 @@ use Rattle.node_rules.proofs.Ticking.{tick}
 use Rattle.node_rules.proofs.Framing.{taken}
 use Rattle.node_rules.proofs.Hearing.{piece_sits}
 use Rattle.node_rules.proofs.Chaining.{scope_of, runs_in, ok_is, ok_not}
-use Rattle.node_rules.proofs.Resting.{Proposals, IsRest, idle_rests, Closes, close_is, Splits, splits}
+use Rattle.node_rules.proofs.Resting.{Closes, close_is, Splits, splits}
 
 -- ---- the stages
 
@@ -36,23 +35,23 @@ abbrev pub scope : Given → (own : ℕ → Command → Bool) (place : Place) (w
 scope g own place world s st called = scope_of g own place world s st true (came_in called)
 
 -- the rule of a tick
-pub tick_splits : (g : Given) (w : Proposals) (own : ℕ → Command → Bool) (place : Place) (world : World) (s : Standing) (st : Stands own place world s) → s.up ≡ true
+pub tick_splits : (g : Given) (own : ℕ → Command → Bool) (place : Place) (world : World) (s : Standing) (st : Stands own place world s) → s.up ≡ true
     → Splits (scope g own place world s st Tick) [] (hearing_of s (world.nodes place.node)) (ticking place s) (and_then (ticking place s) (closing place))
     ⊎ ((refusal : Refusal) × (ticking place s ≡ Err refusal) × (and_then (ticking place s) (closing place) ≡ Err refusal))
-tick_splits g w own place world s st up =
+tick_splits g own place world s st up =
     let x : Scope = scope g own place world s st Tick in
-    splits w x [] (hearing_of s (first_in x)) (ticking place s)
+    splits x [] (hearing_of s (first_in x)) (ticking place s)
     (subst (Goes x [] (hearing_of s (first_in x))) (behind_still s (ticking place s)) (tick x [] (hearing_of s (first_in x)) (still s) refl (begin x s (runs_in g own place world s st up true []) refl)))
 
 -- the rule of a frame's message
-pub message_splits : (g : Given) (w : Proposals) (own : ℕ → Command → Bool) (place : Place) (world : World) (s : Standing) (st : Stands own place world s) → s.up ≡ true
+pub message_splits : (g : Given) (own : ℕ → Command → Bool) (place : Place) (world : World) (s : Standing) (st : Stands own place world s) → s.up ≡ true
     → (from : ℕ) (bytes : List ℕ) (message : Wire) → reading bytes ≡ Ok message → Comes place world.ever (call.Frame from bytes)
     → Splits (scope g own place world s st (call.Frame from bytes)) [] (hearing_of s (world.nodes place.node)) (taking place from message (seeing message s))
     (and_then (taking place from message (seeing message s)) (closing place))
     ⊎ ((refusal : Refusal) × (taking place from message (seeing message s) ≡ Err refusal) × (and_then (taking place from message (seeing message s)) (closing place) ≡ Err refusal))
-message_splits g w own place world s st up from bytes message read comes =
+message_splits g own place world s st up from bytes message read comes =
     let x : Scope = scope g own place world s st (call.Frame from bytes) in
-    splits w x [] (hearing_of s (first_in x)) (taking place from message (seeing message s))
+    splits x [] (hearing_of s (first_in x)) (taking place from message (seeing message s))
     (taken x s from message refl (runs_in g own place world s st up true (came_in (call.Frame from bytes))) (ap (said_in from) read)
     (subst (λ (r : Result Wire FrameFault). IsSent place world.ever from (said_in from r)) read comes))
 
@@ -63,13 +62,13 @@ pub record PieceSplits (x : Scope) (heard : Turn) : Type 0 where
   pub path : Path x came hearing (applied heard.after) heard
   pub closes : Closes x.place heard.after (closing x.place heard.after)
 
-pub piece_splits : (g : Given) (w : Proposals) (own : ℕ → Command → Bool) (place : Place) (world : World) (s : Standing) (st : Stands own place world s) (up : s.up ≡ true)
+pub piece_splits : (g : Given) (own : ℕ → Command → Bool) (place : Place) (world : World) (s : Standing) (st : Stands own place world s) (up : s.up ≡ true)
     → (seat : ℕ) (bytes : List ℕ) (heard : Turn) (comes : Comes place world.ever (Line seat bytes)) (hears : HearsPiece place seat bytes (session_at s.sessions seat) s heard)
     → PieceSplits (scope g own place world s st (Line seat bytes)) heard
-piece_splits g w own place world s st up seat bytes heard comes hears =
+piece_splits g own place world s st up seat bytes heard comes hears =
     let x : Scope = scope g own place world s st (Line seat bytes) in
     let sits = (piece_sits x s seat bytes heard (runs_in g own place world s st up true []) refl comes hears).0 in
-    record { came = sits.came; hearing = sits.heard; path = sits.path; closes = close_is w x sits.came sits.heard heard sits.path }
+    record { came = sits.came; hearing = sits.heard; path = sits.path; closes = close_is x sits.came sits.heard heard sits.path }
 
 -- ---- the question after the close leaves the standing
 
@@ -96,14 +95,14 @@ pub record FrameTurn (x : Scope) (s : Standing) (from : ℕ) (bytes : List ℕ) 
   pub split : Splits x [] (hearing_of s (first_in x)) (taking x.place from message (seeing message s)) (and_then (taking x.place from message (seeing message s)) (closing x.place))
   pub whole : turn ≡ joined (joined split.first split.closes.turn) (asking from message split.closes.turn.after)
 
-pub frame_turn : (g : Given) (w : Proposals) (own : ℕ → Command → Bool) (place : Place) (world : World) (s : Standing) (st : Stands own place world s) → s.up ≡ true
+pub frame_turn : (g : Given) (own : ℕ → Command → Bool) (place : Place) (world : World) (s : Standing) (st : Stands own place world s) → s.up ≡ true
     → (from : ℕ) (bytes : List ℕ) (turn : Turn) → Comes place world.ever (call.Frame from bytes) → IsTurnUp place s (call.Frame from bytes) (Ok turn)
     → FrameTurn (scope g own place world s st (call.Frame from bytes)) s from bytes turn
-frame_turn g w own place world s st up from bytes turn comes h = by_read (reading bytes) refl
+frame_turn g own place world s st up from bytes turn comes h = by_read (reading bytes) refl
   where
     by_read : (read : Result Wire FrameFault) → reading bytes ≡ read → FrameTurn (scope g own place world s st (call.Frame from bytes)) s from bytes turn
     by_read (Err fault) e = absurd (ok_not turn (BadFrame fault) (h ∙ ap (λ (r : Result Wire FrameFault). on_read place from r s) e))
-    by_read (Ok message) e = elim (message_splits g w own place world s st up from bytes message e comes) [
+    by_read (Ok message) e = elim (message_splits g own place world s st up from bytes message e comes) [
       | inl split ↦ record {
         message = message;
         read = e;
@@ -114,49 +113,3 @@ frame_turn g w own place world s st up from bytes turn comes h = by_read (readin
       | inr none ↦ absurd (ok_not turn none.0
           (h ∙ (ap (λ (r : Result Wire FrameFault). on_read place from r s) e ∙ ap (λ (r : Result Turn Refusal). and_then r (λ closed. Ok (asking from message closed))) none.2)))
     ]
-
--- ---- nothing is left to propose
-
-rest_as : (place : Place) (s new : Standing) → new ≡ s → IsRest place s → IsRest place new
-rest_as place s new e r = subst (IsRest place) (sym e) r
-
-up_rests : (g : Given) (w : Proposals) (own : ℕ → Command → Bool) (place : Place) (world : World) (s : Standing) (called : Call) (turn : Turn) (st : Stands own place world s) → s.up ≡ true
-    → Comes place world.ever called → IsTurnUp place s called (Ok turn) → IsRest place s → IsRest place turn.after
-up_rests g w own place world s (Start found) turn st up comes h r = rest_as place s turn.after (ap (λ (t : Turn). t.after) (ok_is turn (still s) h)) r
-up_rests g w own place world s Tick turn st up comes h r = elim (tick_splits g w own place world s st up) [
-  | inl split ↦ rest_as place split.closes.turn.after turn.after (ap (λ (t : Turn). t.after) (ok_is turn (joined split.first split.closes.turn) (h ∙ split.whole))) split.closes.rest
-  | inr none ↦ absurd (ok_not turn none.0 (h ∙ none.2))
-]
-up_rests g w own place world s (call.Frame from bytes) turn st up comes h r =
-    let f = frame_turn g w own place world s st up from bytes turn comes h in
-    rest_as place f.split.closes.turn.after turn.after (ap (λ (t : Turn). t.after) f.whole ∙ asking_after from f.message f.split.closes.turn.after) f.split.closes.rest
-up_rests g w own place world s (Line seat bytes) turn st up comes (heard, hears, e) r =
-    let p = piece_splits g w own place world s st up seat bytes heard comes hears in
-    rest_as place p.closes.turn.after turn.after
-    (ap (λ (t : Turn). t.after) (ok_is turn (joined heard p.closes.turn) (e ∙ ap (λ (k : Result Turn Refusal). behind heard k) p.closes.is))) p.closes.rest
-up_rests g w own place world s (Connect seat) turn st up comes h r =
-    rest_as place (connecting seat s).after turn.after (ap (λ (t : Turn). t.after) (ok_is turn (connecting seat s) h)) (record { in_range = r.in_range; nothing = r.nothing })
-up_rests g w own place world s (Drop seat) turn st up comes h r =
-    rest_as place (dropping seat s).after turn.after (ap (λ (t : Turn). t.after) (ok_is turn (dropping seat s) h)) (record { in_range = r.in_range; nothing = r.nothing })
-up_rests g w own place world s Stop turn st up comes h r =
-    rest_as place (stopping place s).after turn.after (ap (λ (t : Turn). t.after) (ok_is turn (stopping place s) h)) (idle_rests place (stopping place s).after refl)
-
-down_rests : (place : Place) (s : Standing) (called : Call) (turn : Turn) → IsTurnDown place s called (Ok turn) → IsRest place s → IsRest place turn.after
-down_rests place s (Start found) turn (left, h) r =
-    rest_as place (starting place found).after turn.after (ap (λ (t : Turn). t.after) (ok_is turn (starting place found) h)) (idle_rests place (starting place found).after refl)
-down_rests place s Tick turn h r = absurd (ok_not turn Down h)
-down_rests place s (call.Frame from bytes) turn h r = absurd (ok_not turn Down h)
-down_rests place s (Line seat bytes) turn h r = absurd (ok_not turn Down h)
-down_rests place s (Connect seat) turn h r = absurd (ok_not turn Down h)
-down_rests place s (Drop seat) turn h r = absurd (ok_not turn Down h)
-down_rests place s Stop turn h r = rest_as place s turn.after (ap (λ (t : Turn). t.after) (ok_is turn (still s) h)) r
-
-call_rests : (g : Given) (w : Proposals) (own : ℕ → Command → Bool) (place : Place) (world : World) (s : Standing) (called : Call) (turn : Turn) (st : Stands own place world s) (b : Bool) → s.up ≡ b
-    → Comes place world.ever called → IsTurnBy b place s called (Ok turn) → IsRest place s → IsRest place turn.after
-call_rests g w own place world s called turn st true up comes h r = up_rests g w own place world s called turn st up comes h r
-call_rests g w own place world s called turn st false down comes h r = down_rests place s called turn h r
-
-pub led_rests : (g : Given) (w : Proposals) (own : ℕ → Command → Bool) (place : Place) (s : Standing) → IsLedTo own place s → IsRest place s
-led_rests g w own place s (began found same e) = rest_as place (starting place found).after s e (idle_rests place (starting place found).after refl)
-led_rests g w own place s (went_on world before called turn after led st comes h e) =
-    rest_as place turn.after s e (call_rests g w own place world before called turn st before.up refl comes h (led_rests g w own place before led))

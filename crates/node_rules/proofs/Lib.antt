@@ -3,6 +3,7 @@ mod Carrying
 mod Telling
 mod Ordering
 mod Proposed
+mod Sourcing
 mod Sent
 mod Keeping
 mod Paths
@@ -32,12 +33,19 @@ mod CalmPromises
 mod Electing
 mod Counting
 mod Outcomes
-mod Sourcing
+mod CalmTurns
+mod CalmRound
+mod Calming
+mod Fresh
 mod Resting
 mod Led
 mod Prepared
 mod Answered
 mod Backed
+mod Applied
+mod Shown
+mod Seated
 pub mod Examples
 pub mod TurnExamples
 pub mod OutcomeExamples
+pub mod CalmExamples

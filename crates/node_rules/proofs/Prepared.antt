@@ -7,19 +7,22 @@ use Rattle.paxos_wire.specs.declared.limits.TheConstants.{SLOTS, NODES}
 use Rattle.paxos_wire.specs.declared.ballot.Ballot.{Ballot}
 use Rattle.paxos_wire.specs.declared.entry.Entry.{Entry}
 use Rattle.slot_log.specs.Slots.{IsLog}
+use Rattle.slot_log.specs.declared.command.Command.{Command}
 use Rattle.protocol_model.specs.Ballots.{AtMost}
 use Rattle.protocol_model.specs.Nodes.{Node}
 use Rattle.protocol_model.specs.Stores.{Store, promised}
 use Rattle.proposer.specs.declared.accept.Accept.{Accept as Made}
 use Rattle.proposer.specs.declared.fault.ProposeFault.{ProposeFault}
 use Rattle.proposer.specs.declared.fault.ProposeFault.TheVariants.{OutOfWindow}
-use Rattle.proposer.specs.Campaigns.{next_ballot, new_campaign, has_quorum, is_counted, is_covered, is_proposed, accept_of, value_of, greatest_told}
+use Rattle.proposer.specs.Campaigns.{leads, proposal_from, next_ballot, new_campaign, has_quorum, is_counted, is_covered, is_proposed, accept_of, value_of, greatest_told}
 use Rattle.dealer_kind.specs.Plans.{HasNodes}
 use Rattle.node_rules.specs.Standings.{Place, Standing, front_of}
 use Rattle.node_rules.specs.Turns.{Turn, Refusal, Spent, still, joined, behind, and_then}
 use Rattle.node_rules.specs.Accepting.{told_by}
 use Rattle.node_rules.specs.Proposing.{higher, greatest_seen, is_over, is_spent, prepared, beginning, ticking, own_value, closing}
 use Rattle.node_rules.specs.Seen.{Sees}
+use Rattle.node_rules.specs.Proposed.{IsSettled}
+use Rattle.proposer.specs.declared.campaign.Campaign.{Campaign}
 use Rattle.node_rules.specs.Calls.{Tick}
 use Rattle.node_rules.specs.Rules.{IsTurnBy}
 use Rattle.node_rules.specs.Given.{Given}
@@ -27,8 +30,8 @@ use Rattle.node_rules.specs.LawsTick.{IsGreatestRound, IsSpent, Ticks, TicksPrep
 use Rattle.node_rules.proofs.Ordering.{higher_is}
 use Rattle.node_rules.proofs.Asking.{behind_still}
 use Rattle.node_rules.proofs.Chaining.{ok_not}
-use Rattle.node_rules.proofs.Resting.{Proposals, IsRest, rest_closes}
-use Rattle.node_rules.proofs.Led.{tick_splits, led_rests}
+use Rattle.node_rules.proofs.Resting.{IsRest, rest_closes}
+use Rattle.node_rules.proofs.Led.{tick_splits}
 
 -- ---- the round
 
@@ -138,6 +141,19 @@ waits_by : (quorum covered done : Bool) (value : Option Made) → quorum ≡ fal
 waits_by false covered done value e = refl
 waits_by true covered done value e = absurd (true≢false e)
 
+-- nor is anything left to propose between calls
+not_leading : (n : ℕ) (c : Option Campaign) (front : ℕ) (own : Option Command) → leads n c ≡ false → proposal_from n c front own ≡ Ok None
+not_leading n None front own e = refl
+not_leading n (Some c) front own e =
+    waits_by (has_quorum n c) (is_covered c.first front) (is_proposed c front) (accept_of c front (value_of (greatest_told c front n) own)) e
+
+settled_rests : (place : Place) (s : Standing) → IsSettled place s → IsRest place s
+settled_rests place s settled = by_lead (leads place.nodes s.campaign) refl
+  where
+    by_lead : (b : Bool) → leads place.nodes s.campaign ≡ b → IsRest place s
+    by_lead true e = record { in_range = ap (λ b. b && nat_le SLOTS (front_of s)) e ∙ (settled e).0; nothing = (settled e).1 }
+    by_lead false e = record { in_range = ap (λ b. b && nat_le SLOTS (front_of s)) e; nothing = not_leading place.nodes s.campaign (front_of s) (own_value place s) e }
+
 -- a ballot that was just begun has nothing to propose
 begun_rests : (place : Place) (ballot : Ballot) (s : Standing) → HasNodes place.nodes → place.node < place.nodes → IsRest place (beginning place ballot s).after
 begun_rests place ballot s few low =
@@ -154,8 +170,8 @@ begun_rests place ballot s few low =
 joined_still : (t : Turn) → joined t (still t.after) ≡ t
 joined_still t = λ i. record { after = t.after; frames = append-nil t.frames i; shown = append-nil t.shown i; faults = append-nil t.faults i }
 
-pub ticks_prepare : Given → Proposals → TicksPrepare
-ticks_prepare g w own place world s outcome round st up turn most = by_case (is_over place s) (is_spent s) refl refl
+pub ticks_prepare : Given → TicksPrepare
+ticks_prepare g own place world s outcome round st up turn most = by_case (is_over place s) (is_spent s) refl refl
   where
     node : Node
     node = world.nodes place.node
@@ -181,22 +197,22 @@ ticks_prepare g w own place world s outcome round st up turn most = by_case (is_
             → outcome ≡ and_then (if over then Ok (still s) else if spent then Err Spent else Ok (beginning place (next_ballot place.node (greatest_seen s)) s)) (closing place)
             → Ticks own place (world.nodes place.node) round s outcome
         by_rule true spent eo es h = record {
-          over = λ ended led. h ∙ (behind_still s (closing place s) ∙ rest_closes place s (led_rests g w own place s led));
+          over = λ ended. h ∙ (behind_still s (closing place s) ∙ rest_closes place s (settled_rests place s (st.of.runs up).settled));
           spent = λ goes sp. absurd (true≢false (sym eo ∙ goes));
-          only_spent = λ e. elim (tick_splits g w own place world s st up) [
+          only_spent = λ e. elim (tick_splits g own place world s st up) [
             | inl split ↦ absurd (ok_not (joined split.first split.closes.turn) Spent (sym split.whole ∙ (sym is_turn ∙ e)))
             | inr none ↦ absurd (ok_not (still s) none.0 (sym (ap (λ b. if b then Ok (still s) else if is_spent s then Err Spent else Ok (beginning place (next_ballot place.node (greatest_seen s)) s)) eo) ∙ none.1))
           ];
           begins = λ goes sp. absurd (true≢false (sym eo ∙ goes));
         }
         by_rule false true eo es h = record {
-          over = λ ended led. absurd (true≢false (sym ended ∙ eo));
+          over = λ ended. absurd (true≢false (sym ended ∙ eo));
           spent = λ goes sp. h;
           only_spent = λ e. (eo, spent_is s round log same es);
           begins = λ goes left. absurd (left (spent_is s round log same es));
         }
         by_rule false false eo es h = record {
-          over = λ ended led. absurd (true≢false (sym ended ∙ eo));
+          over = λ ended. absurd (true≢false (sym ended ∙ eo));
           spent = λ goes sp. absurd (true≢false (sym (spent_if s round same sp) ∙ es));
           only_spent = λ e. absurd (ok_not (beginning place ballot s) Spent (sym is_begun ∙ e));
           begins = λ goes left. (

@@ -12,10 +12,8 @@ use Rattle.protocol_model.specs.Sets.{In}
 use Rattle.protocol_model.specs.Messages.{Vote, Message, Prepare, Accept, Accepted}
 use Rattle.protocol_model.specs.Quorums.{count, IsChosenIn}
 use Rattle.protocol_model.specs.Stores.{Store, voted}
-use Rattle.protocol_model.specs.Dealers.{Dealer}
 use Rattle.protocol_model.specs.Nodes.{Node}
 use Rattle.protocol_model.specs.Arrivals.{Arrival}
-use Rattle.protocol_model.specs.Worlds.{World, Reached}
 use Rattle.proposer.specs.declared.accept.Accept.{Accept as Made}
 use Rattle.proposer.specs.declared.campaign.Campaign.{Campaign}
 use Rattle.proposer.specs.declared.fault.ProposeFault.{ProposeFault}
@@ -37,14 +35,6 @@ use Rattle.node_rules.proofs.Sourcing.{had_was_sent}
 use Rattle.node_rules.proofs.Paths.{Hearing, Scope, dealer_in, Path, Goes}
 use Rattle.node_rules.proofs.Learning.{world_now, open_if}
 use Rattle.node_rules.proofs.Closing.{IsMade, made_by, campaigns_of, none_of_ballot, stored_new}
-
--- what is said of answers and proposals in every world of a run
-pub record Proposals : Type 0 where
-  pub proposed : (dealer : Dealer) (n sender : ℕ) (world : World) (ballot : Ballot) (slot : ℕ) (command : Command)
-      → Reached dealer n world → In (Accepted sender ballot slot command) world.ever → In (Accept ballot slot command) world.ever
-  pub own : (dealer : Dealer) (n i : ℕ) (world : World) (ballot : Ballot) (first slot : ℕ) (command : Command)
-      → Reached dealer n world → In (Prepare ballot first) (world.nodes i).sent → In (Accept ballot slot command) world.ever
-      → In (Accept ballot slot command) (world.nodes i).sent
 
 -- ---- a quorum has a member that isn't this node
 
@@ -79,10 +69,10 @@ accepted_by : (j i : ℕ) (b : Ballot) (s : ℕ) (c : Command) → Accepted j b 
 accepted_by j i b s c e = cc
 
 -- the node's own vote for its proposal completes no quorum, since nobody else can have accepted it
-alone : (w : Proposals) (x : Scope) (came : List Arrival) (heard : Hearing) (t : Turn) (p : Path x came heard (applied t.after) t) (c : Campaign) (made : Made)
+alone : (x : Scope) (came : List Arrival) (heard : Hearing) (t : Turn) (p : Path x came heard (applied t.after) t) (c : Campaign) (made : Made)
     → IsMade x.place t.after c made → is_open t.after.learned.log made.slot ≡ true
     → completes t.after.learned x.place.node made.ballot made.slot made.command ≡ false
-alone w x came heard t p c made is ahead = by_test (completes t.after.learned x.place.node made.ballot made.slot made.command) refl
+alone x came heard t p c made is ahead = by_test (completes t.after.learned x.place.node made.ballot made.slot made.command) refl
   where
     i : ℕ
     i = x.place.node
@@ -104,8 +94,8 @@ alone w x came heard t p c made is ahead = by_test (completes t.after.learned x.
         let now = world_now x came heard (applied t.after) t p in
         let sent = had_was_sent (dealer_in x) n i now.0 (Accepted j made.ballot made.slot made.command) now.1
         (subst (λ (y : Node). In (Accepted j made.ballot made.slot made.command) y.has) (sym now.2.moved) h) in
-        let made_then = w.proposed (dealer_in x) n j now.0 made.ballot made.slot made.command now.1 sent in
-        let own = w.own (dealer_in x) n i now.0 made.ballot c.first made.slot made.command now.1
+        let made_then = x.given.proposed (dealer_in x) n j now.0 made.ballot made.slot made.command now.1 sent in
+        let own = x.given.own_proposal (dealer_in x) n i now.0 made.ballot c.first made.slot made.command now.1
         (subst (λ (y : Node). In (Prepare made.ballot c.first) y.sent) (sym now.2.moved)
         (subst (λ (b : Ballot). In (Prepare b c.first) p.node.sent) (sym safe.ballot) camp.prepared)) made_then in
         x.given.once n p.node.sent c (front_of t.after) (own_value x.place t.after) made made.command camp.marks is.made_so
@@ -226,9 +216,9 @@ covered_by false covered done value made h = absurd (let e = h in cc)
 covered_by true false done value made h = absurd (let e = h in cc)
 covered_by true true done value made h = refl
 
-pub close_is : (w : Proposals) (x : Scope) (came : List Arrival) (heard : Hearing) (t : Turn) (p : Path x came heard (applied t.after) t)
+pub close_is : (x : Scope) (came : List Arrival) (heard : Hearing) (t : Turn) (p : Path x came heard (applied t.after) t)
     → Closes x.place t.after (closing x.place t.after)
-close_is w x came heard t p = close_by (leads x.place.nodes t.after.campaign && nat_le SLOTS (front_of t.after)) refl
+close_is x came heard t p = close_by (leads x.place.nodes t.after.campaign && nat_le SLOTS (front_of t.after)) refl
   where
     by_campaign : (made : Made) → (leads x.place.nodes t.after.campaign && nat_le SLOTS (front_of t.after)) ≡ false
         → (found : (f : Campaign) × IsMade x.place t.after f made)
@@ -279,7 +269,7 @@ close_is w x came heard t p = close_by (leads x.place.nodes t.after.campaign && 
 
         counts : (counting_vote x.place x.place.node made.ballot made.slot made.command kept ≡ Ok (still (counted kept x.place.node made.ballot made.slot made.command)))
             × ((hearing t.after.learned x.place.node made.ballot made.slot made.command).log ≡ t.after.learned.log)
-        counts = counted_still x.place x.place.node made.ballot made.slot made.command kept (λ ahead. alone w x came heard t p c made is ahead)
+        counts = counted_still x.place x.place.node made.ballot made.slot made.command kept (λ ahead. alone x came heard t p c made is ahead)
 
         same_log : (hearing t.after.learned x.place.node made.ballot made.slot made.command).log ≡ t.after.learned.log
         same_log = counts.1
@@ -370,9 +360,9 @@ pub record Splits (x : Scope) (came : List Arrival) (heard : Hearing) (r : Resul
   pub whole : outcome ≡ Ok (joined first closes.turn)
 
 -- it is one, or the rule refused
-pub splits : (w : Proposals) (x : Scope) (came : List Arrival) (heard : Hearing) (r : Result Turn Refusal) → Goes x came heard r
+pub splits : (x : Scope) (came : List Arrival) (heard : Hearing) (r : Result Turn Refusal) → Goes x came heard r
     → Splits x came heard r (and_then r (closing x.place)) ⊎ ((refusal : Refusal) × (r ≡ Err refusal) × (and_then r (closing x.place) ≡ Err refusal))
-splits w x came heard (Ok u) p =
-    let c = close_is w x came heard u p in
+splits x came heard (Ok u) p =
+    let c = close_is x came heard u p in
     inl (record { first = u; is = refl; path = p; closes = c; whole = ap (λ (r : Result Turn Refusal). behind u r) c.is })
-splits w x came heard (Err refusal) p = inr (refusal, refl, refl)
+splits x came heard (Err refusal) p = inr (refusal, refl, refl)

@@ -40,7 +40,7 @@ use Rattle.node_rules.specs.Rules.{asking}
 use Rattle.node_rules.proofs.Paths.{Hearing, Scope, dealer_in, Path, Goes}
 use Rattle.node_rules.proofs.Learning.{open_if, world_now}
 use Rattle.node_rules.proofs.Closing.{IsMade, made_by, campaigns_of, none_of_ballot, stored_new}
-use Rattle.node_rules.proofs.Sent.{had_was_sent}
+use Rattle.node_rules.proofs.Sourcing.{had_was_sent}
 
 -- ---- a node's own vote is no quorum
 
@@ -57,13 +57,13 @@ none_counted chosen zero none = refl
 none_counted chosen (suc n) none = none_step (chosen n) (count_in chosen n) (λ e. none n (omega arith) e) (none_counted chosen n (λ k low is. none k (omega arith) is))
 
 -- a set of one node at most
-one_counted : (chosen : ℕ → Bool) (i n : ℕ) → ((k : ℕ) → k < n → chosen k ≡ true → k ≡ i) → count_in chosen n ≤ 1
+pub one_counted : (chosen : ℕ → Bool) (i n : ℕ) → ((k : ℕ) → k < n → chosen k ≡ true → k ≡ i) → count_in chosen n ≤ 1
 one_counted chosen i zero single = omega arith
 one_counted chosen i (suc n) single = one_step (chosen n) (count_in chosen n)
     (λ e. none_counted chosen n (λ k l is. let a = single k (omega arith) is in let b = single n (omega arith) e in absurd (omega (arith, a, b))))
     (one_counted chosen i n (λ k l is. single k (omega arith) is))
 
-three_nodes : (n : ℕ) → HasNodes n → 3 ≤ n
+pub three_nodes : (n : ℕ) → HasNodes n → 3 ≤ n
 three_nodes n (inl e) = omega (arith, e)
 three_nodes n (inr e) = omega (arith, e)
 
@@ -84,7 +84,7 @@ alone x came heard upto t p ballot first slot command messages began once inside
     own_only k (inr h) =
         let had : In (Accepted k ballot slot command) (now.0.nodes x.place.node).has =
         subst (λ (y : Node). In (Accepted k ballot slot command) y.has) (sym now.2.moved) (inside (Accepted k ballot slot command) h) in
-        let ever : In (Accepted k ballot slot command) now.0.ever = had_was_sent (dealer_in x) x.place.nodes now.0 x.place.node (Accepted k ballot slot command) now.1 had in
+        let ever : In (Accepted k ballot slot command) now.0.ever = had_was_sent (dealer_in x) x.place.nodes x.place.node now.0 (Accepted k ballot slot command) now.1 had in
         absurd (once command (subst (λ (y : Node). In (Accept ballot slot command) y.sent) now.2.moved
         (x.given.own_proposal (dealer_in x) x.place.nodes x.place.node now.0 ballot first slot command now.1
         (subst (λ (y : Node). In (Prepare ballot first) y.sent) (sym now.2.moved) began)
@@ -122,7 +122,7 @@ passes_over l from ballot slot command not_done = by_test (is_open l.log slot) (
 -- ---- nothing is left to propose
 
 -- what is marked isn't proposed again
-marked_none : (n : ℕ) (c : Campaign) (at : ℕ) (own : Option Command) → is_covered c.first at ≡ true → is_proposed c at ≡ true → proposal_by n c at own ≡ Ok None
+pub marked_none : (n : ℕ) (c : Campaign) (at : ℕ) (own : Option Command) → is_covered c.first at ≡ true → is_proposed c at ≡ true → proposal_by n c at own ≡ Ok None
 marked_none n c at own covered marked = by_quorum (has_quorum n c)
   where
     by_quorum : (q : Bool) → (if not q then Ok None
@@ -176,7 +176,7 @@ covered_is first at e = by_tests (nat_lt at first) (nat_lt at (first + WINDOW)) 
     by_tests false high el eh h = (ltb-false at first el, ltb-true at (first + WINDOW) (eh ∙ h))
 
 -- the mark of a proposal stands at its slot
-marked_at : (c : Campaign) (at : ℕ) (made : Made) → length c.proposed ≡ WINDOW → is_covered c.first at ≡ true → made.slot ≡ at → is_proposed (with_mark c (Ok (Some made))) at ≡ true
+pub marked_at : (c : Campaign) (at : ℕ) (made : Made) → length c.proposed ≡ WINDOW → is_covered c.first at ≡ true → made.slot ≡ at → is_proposed (with_mark c (Ok (Some made))) at ≡ true
 marked_at c at made places covered same =
     subst (λ (k : ℕ). get_or (set c.proposed (k - c.first) true) (at - c.first) false ≡ true) (sym same)
     (let l = covered_is c.first at covered in get_or-set_same c.proposed (at - c.first) true false (omega (arith, places)))

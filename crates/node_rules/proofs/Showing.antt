@@ -57,7 +57,7 @@ line_if : (setting : Setting) (upto : List Command) (seat : ℕ) (b : Bool) → 
 line_if setting upto seat true e h = refl
 line_if setting upto seat false e h = absurd (cc)
 
-line_is : (setting : Setting) (upto : List Command) (seat : ℕ) → seat < setting.game.players → line_of setting upto seat ≡ line setting.game setting.title.hands upto seat
+pub line_is : (setting : Setting) (upto : List Command) (seat : ℕ) → seat < setting.game.players → line_of setting upto seat ≡ line setting.game setting.title.hands upto seat
 line_is setting upto seat l = line_if setting upto seat (nat_lt seat setting.game.players) refl (lt-ltb seat setting.game.players l)
 
 view_by : (x : Scope) (came : List Arrival) (node : Node) (sent : List Message) (upto : List Command) (log : List ℕ) (pieces : List Piece) (seat : ℕ) (v : Option View)
@@ -95,13 +95,13 @@ lines x came node sent upto log pieces seat (talk ∷ talks) size up starts know
 
 -- ---- the log
 
-running_adds : (setting : Setting) (hands : List Hand) (b : Bool) → is_running setting.game hands ≡ b
+pub running_adds : (setting : Setting) (hands : List Hand) (b : Bool) → is_running setting.game hands ≡ b
     → (b ≡ true → further_lines setting.game setting.title.hands setting.names hands ≡ [])
 running_adds setting hands true e h = ap (λ (y : Bool). if y then [] else last_line setting.game setting.names hands (finished_count setting.game hands) ++ score_of setting.game setting.title.hands setting.names hands) e
 running_adds setting hands false e h = absurd (cc)
 
 -- what a command that takes effect adds to the log
-adds_if : (g : Given) (setting : Setting) (before : List Command) (command : Command) (b : Bool) → fits setting before command ≡ b
+pub adds_if : (g : Given) (setting : Setting) (before : List Command) (command : Command) (b : Bool) → fits setting before command ≡ b
     → log_of setting (command ∷ before)
     ≡ log_of setting before ++ (if b then further_lines setting.game setting.title.hands setting.names (hands_after setting (command ∷ before)) else [])
 adds_if g setting before command true e =

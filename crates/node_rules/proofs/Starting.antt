@@ -53,7 +53,7 @@ new_learner g n has few = record {
   knows_chosen = g.new_knows n;
 }
 
-none_seated : (k seat : ℕ) → session_at (replicate k (let none : Option Talk = None in none)) seat ≡ None
+pub none_seated : (k seat : ℕ) → session_at (replicate k (let none : Option Talk = None in none)) seat ≡ None
 none_seated zero seat = refl
 none_seated (suc k) zero = refl
 none_seated (suc k) (suc seat) = none_seated k seat

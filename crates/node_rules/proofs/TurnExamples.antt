@@ -1,13 +1,27 @@
 -- Near misses of the laws of turns: what wrong nodes would do, refused.
-use Rattle.std.proofs.Common.{◌≡◌, ℕ, ◌≤◌, inl, inr, Bool, true, false, List, [], ◌∷◌, ◌++◌, Ok, Err, Result, refl, ap, sym, ◌∙◌, subst, arith}
+use Rattle.std.proofs.Common.{◌≡◌, ℕ, ◌≤◌, inl, inr, Bool, true, false, List, [], ◌∷◌, ◌++◌, Option, Some, None, Ok, Err, Result, refl, ap, sym, ◌∙◌, subst, arith}
+use Rattle.std.specs.Prelude.{codes}
+use Rattle.betting.specs.declared.action.Action.TheVariants.{Fold, Call}
 use Rattle.paxos_wire.specs.declared.ballot.Ballot.{Ballot}
 use Rattle.paxos_wire.specs.declared.message.Message.TheVariants as frame
 use Rattle.slot_log.specs.declared.command.Command.{Command}
+use Rattle.slot_log.specs.declared.command.Command.TheVariants.{Act}
 use Rattle.protocol_model.specs.Messages.{Message, Promise, Refuse, Accepted}
 use Rattle.protocol_model.specs.Nodes.{Node, new_node}
+use Rattle.protocol_model.specs.Dealers.{Seat, Log}
 use Rattle.protocol_model.specs.Stores.{empty_store, promised, voted}
 use Rattle.paxos_wire.specs.declared.message.Message.{Message as Wire}
 use Rattle.protocol_model.specs.Sets.{In}
+use Rattle.seat_session.specs.Session.{Standing as Talk}
+use Rattle.seat_session.specs.Laws.{Event}
+use Rattle.seat_session.specs.declared.said.Said.{Said}
+use Rattle.seat_session.specs.declared.said.Said.TheVariants.{Ready}
+use Rattle.seat_session.specs.declared.session_fault.SessionFault.{SessionFault}
+use Rattle.seat_session.specs.declared.session_fault.SessionFault.TheVariants.{BadVersion, NotCurrent}
+use Rattle.dealer_kind.specs.Kind.{dealer_of}
+use Rattle.node_rules.specs.Standings.{Standing}
+use Rattle.node_rules.specs.Showing.{Piece}
+use Rattle.node_rules.specs.Calls as call
 use Rattle.node_rules.specs.Seen.{ballots_in}
 use Rattle.node_rules.specs.Sending.{Frame, one}
 use Rattle.node_rules.specs.Turns.{Turn, Refusal, still}
@@ -15,7 +29,10 @@ use Rattle.node_rules.specs.LawsTick.{HasMet, IsGreatestRound, IsSpent, Ticks}
 use Rattle.node_rules.specs.LawsAnswers.{AnswersPrepare, AnswersAccept, accepts, IsAnswered}
 use Rattle.node_rules.specs.LawsAnswers as answers
 use Rattle.node_rules.specs.LawsBacking.{IsBacked}
-use Rattle.node_rules.proofs.Examples.{opened, place, ballot, dealt, to, first}
+use Rattle.node_rules.specs.LawsShown.{IsShownOf}
+use Rattle.node_rules.specs.LawsPending.{first_of, kept_over, WaitsUp}
+use Rattle.node_rules.specs.LawsSeats.{IsAway, Leaves, goes_on, closes, faults_in}
+use Rattle.node_rules.proofs.Examples.{opened, setting, place, ballot, dealt, to, first, dealt_0}
 
 abbrev runs : Node
 runs = record new_node { up = true }
@@ -123,3 +140,68 @@ half_stored = record runs { up = false; begun = voted empty_store 0 (record { ba
 
 vote_in_one_store : IsBacked half_stored (Accepted 1 (ballot 1 0) 0 (dealt 0)) → ⊥
 vote_in_one_store backed = elim ((backed empty_store (inl refl)).0) [ inl l ↦ omega (arith, l) | inr e ↦ (let h = e.0 in omega (arith, h)) ]
+
+-- ---- what is shown
+
+everyone : ℕ → Bool
+everyone seat = true
+
+nobody : ℕ → Bool
+nobody seat = false
+
+-- the deal's line to seat 0
+abbrev first_line : Piece
+first_line = record { reader = Seat 0; text = codes "MATCHSTATE:0:0::TdAs|" }
+
+-- a deal without its lines
+lines_left_out : IsShownOf (dealer_of setting no_own) everyone 2 [] (dealt 0) [] → ⊥
+unfolding opened everyone
+lines_left_out (inl shown) = let clash : true ≡ false = shown.0 in cc
+lines_left_out (inr (log, fits, added, shown)) =
+    let clash : ◌≡◌ {A = List Piece} [] (first_line ∷ (record { reader = Seat 1; text = codes "MATCHSTATE:1:0::|8hTc" }) ∷ log) = shown in cc
+
+-- a line to a seat that isn't connected
+line_to_nobody : IsShownOf (dealer_of setting no_own) nobody 2 [] (dealt 0) (first_line ∷ []) → ⊥
+unfolding opened nobody
+line_to_nobody (inl shown) = let clash : ◌≡◌ {A = List Piece} (first_line ∷ []) [] = shown.1 in cc
+line_to_nobody (inr (log, fits, added, shown)) = elim added [
+  | inl none ↦ (let clash : ◌≡◌ {A = List Piece} (first_line ∷ []) [] = shown ∙ none.0 in cc)
+  | inr some ↦ (let clash : ◌≡◌ {A = List Piece} (first_line ∷ []) ((record { reader = Log; text = some.0 }) ∷ []) = shown ∙ some.1 in
+      let readers : Seat 0 ≡ Log = ap (λ (l : List Piece). elim l [ [] ↦ Log | piece ∷ others ↦ piece.reader ]) clash in cc)
+]
+
+-- ---- the act that waits
+
+-- a second act doesn't take the first one's place
+first_act_stays : first_of (Some (Act 0 0 Fold)) (Act 0 0 Call ∷ []) ≡ Some (Act 0 0 Fold)
+first_act_stays = refl
+
+first_of_two_waits : first_of None (Act 0 0 Fold ∷ Act 0 0 Call ∷ []) ≡ Some (Act 0 0 Fold)
+first_of_two_waits = refl
+
+-- it is forgotten once it was applied, and not before
+applied_act_fits_no_more : kept_over (dealer_of setting no_own) (dealt 0 ∷ []) (Act 0 0 Fold ∷ []) (Some (Act 0 0 Fold)) ≡ None
+unfolding opened
+applied_act_fits_no_more = refl
+
+act_outlasts_what_has_no_effect : kept_over (dealer_of setting no_own) (dealt 0 ∷ []) (dealt 1 ∷ []) (Some (Act 0 0 Fold)) ≡ Some (Act 0 0 Fold)
+unfolding opened
+act_outlasts_what_has_no_effect = refl
+
+-- an act that is forgotten at a tick
+forgotten_act : (turn : Turn) → turn.after.pending ≡ None → WaitsUp no_own (place 0) (record dealt_0 { pending = Some (Act 0 0 Fold) }) runs call.Tick turn → ⊥
+forgotten_act turn e waits = let clash : ◌≡◌ {A = Option Command} None (Some (Act 0 0 Fold)) = sym e ∙ waits in cc
+
+-- ---- seats
+
+faults_in_order : faults_in 1 (Ok Ready ∷ Err NotCurrent ∷ Err BadVersion ∷ []) ≡ (record { seat = 1; fault = NotCurrent }) ∷ (record { seat = 1; fault = BadVersion }) ∷ []
+faults_in_order = refl
+
+-- a seat that is dropped, where no answer closed its session
+dropped_without_a_fault : (after : Standing) (events : List Event) → IsAway after 0 → Leaves (place 0) after 0 events [] [] [] → ⊥
+dropped_without_a_fault after events away (goes_on led) = let clash : ◌≡◌ {A = Option Talk} None (Some led.talk) = sym away ∙ led.session in cc
+dropped_without_a_fault after events away (closes before last talk closed whole happened open_then answers over gone) = ends_in before last whole
+  where
+    ends_in : (xs : List (Result Said SessionFault)) (x : Result Said SessionFault) → [] ≡ xs ++ x ∷ [] → ⊥
+    ends_in [] x e = cc
+    ends_in (y ∷ ys) x e = cc

@@ -6,17 +6,16 @@ use Rattle.paxos_wire.specs.declared.ballot.Ballot.{Ballot}
 use Rattle.paxos_wire.specs.declared.message.Message.TheVariants.{Prepare}
 use Rattle.slot_log.specs.declared.command.Command.{Command}
 use Rattle.protocol_model.specs.Nodes.{Node}
-use Rattle.protocol_model.specs.Stores.{Store, promised}
+use Rattle.protocol_model.specs.Stores.{promised}
 use Rattle.protocol_model.specs.Worlds.{World}
-use Rattle.node_rules.specs.Standings.{Place, Standing, front_of, started}
+use Rattle.node_rules.specs.Standings.{Place, Standing, front_of}
 use Rattle.node_rules.specs.Sending.{to_others}
 use Rattle.node_rules.specs.Turns.{Turn, Refusal, Spent, still}
 use Rattle.node_rules.specs.Proposing.{is_over}
 use Rattle.node_rules.specs.Seen.{IsTold}
-use Rattle.node_rules.specs.Calls.{Call, Tick}
+use Rattle.node_rules.specs.Calls.{Tick}
 use Rattle.node_rules.specs.Rules.{IsTurn}
 use Rattle.node_rules.specs.Being.{IsOf}
-use Rattle.node_rules.specs.Called.{Comes}
 use Rattle.node_rules.specs.Sound.{Stands}
 
 -- ---- the round
@@ -36,15 +35,6 @@ pub record IsGreatestRound (node : Node) (round : ℕ) : Type 0 where
 abbrev pub IsSpent : ℕ → ℕ → Type 0
 IsSpent round front = (round ≡ 2 ^ 32 - 1) ⊎ (front ≡ SLOTS)
 
--- ---- standings that calls lead to
-
--- a start led to it, and then calls that each took its turn, in a reached world of the match that held what came
-pub data IsLedTo (own : ℕ → Command → Bool) (place : Place) : Standing → Type 0 where
-  began : (found : Store) (s : Standing) → s ≡ started place found → IsLedTo own place s
-  went_on : (world : World) (before : Standing) (called : Call) (turn : Turn) (after : Standing)
-      → IsLedTo own place before → Stands own place world before → Comes place world.ever called → IsTurn place before called (Ok turn)
-      → after ≡ turn.after → IsLedTo own place after
-
 -- ---- the tick
 
 -- the ballot is begun at the front: Prepare goes to each other node, nothing else is sent, shown or told, and the ballot is stored as promised
@@ -57,7 +47,7 @@ pub record Begins (own : ℕ → Command → Bool) (place : Place) (node : Node)
 -- what a running node's tick comes to, where this is the greatest round that it has met
 pub record Ticks (own : ℕ → Command → Bool) (place : Place) (node : Node) (round : ℕ) (s : Standing) (outcome : Result Turn Refusal) : Type 0 where
   -- after the match's end nothing changes
-  pub over : is_over place s ≡ true → IsLedTo own place s → outcome ≡ Ok (still s)
+  pub over : is_over place s ≡ true → outcome ≡ Ok (still s)
   -- 93 comes exactly where the match goes on and no round or no slot is left
   pub spent : is_over place s ≡ false → IsSpent round (front_of s) → outcome ≡ Err Spent
   pub only_spent : outcome ≡ Err Spent → (is_over place s ≡ false) × IsSpent round (front_of s)

@@ -17,6 +17,10 @@ pub mod Given
 pub mod Sound
 pub mod Outcomes
 pub mod Calm
+pub mod CalmRound
 pub mod LawsTick
 pub mod LawsAnswers
 pub mod LawsBacking
+pub mod LawsShown
+pub mod LawsPending
+pub mod LawsSeats

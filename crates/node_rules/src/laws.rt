@@ -1,10 +1,14 @@
 //! What holds of the rules: each law is the contract of a function that does nothing.
 
+ghost use Rattle.node_rules.specs.CalmRound.{CalmRoundMoves, FreshIsCalm};
 ghost use Rattle.node_rules.specs.Given.{Given};
 ghost use Rattle.node_rules.specs.Outcomes.{PromisesMakeProposals, FrontIsUnknown, ToldIsKnown, VotesStayInTime, QuorumIsKnown};
 ghost use Rattle.node_rules.specs.Sound.{TurnsAreChains, AppendsAreBegun, CallsAreSound, LinesAreRefusedDown};
 ghost use Rattle.node_rules.specs.LawsAnswers.{FramesAnswer};
 ghost use Rattle.node_rules.specs.LawsBacking.{SentIsBacked, BackedStaysSo};
+ghost use Rattle.node_rules.specs.LawsPending.{ActsWait, WaitingFits};
+ghost use Rattle.node_rules.specs.LawsSeats.{PiecesAreHeard, OthersArePassedOver, ConnectBeginsAnew, DropEnds, SessionsStay, FaultsAreOfPieces, LivesAreWhole, AwayIsUnconnected};
+ghost use Rattle.node_rules.specs.LawsShown.{CallsShow, DownShowsNothing};
 ghost use Rattle.node_rules.specs.LawsTick.{TicksPrepare};
 
 use dealer_kind::laws::answers_are_heard;
@@ -16,7 +20,7 @@ use proposer::laws::{counts_are_kept, leaders_propose, proposals_are_safe};
 use protocol_model::laws::{
     answers_have_proposals, backing_lasts, chains_reach, known_is_chosen, one_choice,
 };
-use seat_session::laws::{runs_go_on, whole_lines};
+use seat_session::laws::{any_pieces, runs_go_on, whole_lines};
 use slot_log::laws::{
     commands_make_hands, fits_without_reason, front_is_first_hole, fronts_go_on, one_more_is_known,
     slots_end,
@@ -97,7 +101,6 @@ pub fn ticks_prepare()
     ensures { TicksPrepare }
 {
     layers_below();
-    answers_have_proposals();
 }
 
 /// The frames of each call are exactly the answers to what came, what its close proposes, and its questions.
@@ -105,7 +108,6 @@ pub fn frames_answer()
     ensures { FramesAnswer }
 {
     layers_below();
-    answers_have_proposals();
 }
 
 /// What a call sends its stores back, and what they backed before it they go on to back, however the call ends.
@@ -114,6 +116,53 @@ pub fn sent_is_backed()
     ensures stays { BackedStaysSo }
 {
     layers_below();
-    answers_have_proposals();
     backing_lasts();
+}
+
+/// A cluster at rest moves: where the members of a least quorum are calm for one of them, its round goes on to its end,
+/// whatever each call of it leaves, and then that node's front has passed the slot, at which it knows the command.
+///
+/// The round is a tick of the node, and four times a frame with each other member in order. Each frame of it has been
+/// sent, to that node and with these bytes, by a turn of the round before, so no frame of it is forged; and by the rules
+/// each of its calls comes to a turn: none is refused, with 90, 93, 94 or 95. Nodes that have just been started on empty
+/// stores are calm, for each node and each least quorum to which it belongs.
+pub fn calm_rounds_move()
+    ensures round { CalmRoundMoves }
+    ensures fresh { FreshIsCalm }
+{
+    layers_below();
+}
+
+/// What each call shows: of each command that takes effect a line to each connected seat and then what the log gets, and nothing else but the current
+/// line of a seat that gets ready and the header of a start; a node that is down shows nothing.
+pub fn calls_show()
+    ensures calls { CallsShow }
+    ensures down { DownShowsNothing }
+{
+    layers_below();
+}
+
+/// An act that a seat says, or that another node hands on, waits where none does and it fits, until it no longer fits or the node is down; nothing else
+/// waits, and what waits fits.
+pub fn acts_wait()
+    ensures calls { ActsWait }
+    ensures fits { WaitingFits }
+{
+    layers_below();
+}
+
+/// All answers of a seat's session are taken, over its whole life, as its laws have them: each fault is told, once and in order, each act waits or goes
+/// on, each Ready shows the current line, and the fault that closes the session drops the seat.
+pub fn seats_are_heard()
+    ensures pieces { PiecesAreHeard }
+    ensures deaf { OthersArePassedOver }
+    ensures connects { ConnectBeginsAnew }
+    ensures drops { DropEnds }
+    ensures stays { SessionsStay }
+    ensures faults { FaultsAreOfPieces }
+    ensures lives { LivesAreWhole }
+    ensures away { AwayIsUnconnected }
+{
+    layers_below();
+    any_pieces();
 }

@@ -2,4 +2,4 @@ use Rattle.node_rules.proofs.Answered.{frames_answer}
 use Rattle.node_rules.proofs.laws.frames_answer.Goals as goal
 
 pub returns : goal.returns
-returns c = frames_answer c.layers_below.ensures (record { proposed = c.answers_have_proposals.ensures.proposed; own = c.answers_have_proposals.ensures.own })
+returns c = frames_answer c.layers_below.ensures

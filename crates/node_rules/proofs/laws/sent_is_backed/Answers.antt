@@ -9,5 +9,4 @@ returns-clause-sent c =
 pub returns-clause-stays : goal.returns-clause-stays
 returns-clause-stays c =
     backed_stays_so c.layers_below.ensures
-    (record { proposed = c.answers_have_proposals.ensures.proposed; own = c.answers_have_proposals.ensures.own })
     (record { promise = c.backing_lasts.ensures.promise; vote = c.backing_lasts.ensures.vote; left = c.backing_lasts.ensures.left })

@@ -2,4 +2,4 @@ use Rattle.node_rules.proofs.Prepared.{ticks_prepare}
 use Rattle.node_rules.proofs.laws.ticks_prepare.Goals as goal
 
 pub returns : goal.returns
-returns c = ticks_prepare c.layers_below.ensures (record { proposed = c.answers_have_proposals.ensures.proposed; own = c.answers_have_proposals.ensures.own })
+returns c = ticks_prepare c.layers_below.ensures
