@@ -1,5 +1,5 @@
 -- One seat's session among all.
-use Rattle.std.proofs.Common.{◌≡◌, ◌≢◌, ℕ, zero, suc, ◌+◌, ◌≤◌, ◌<◌, true, false, List, [], ◌∷◌, ◌++◌, inl, inr, eqb, refl, ap, sym, ◌∙◌, subst, length, get_or, arith}
+use Rattle.std.proofs.Common.{◌≡◌, ◌≢◌, ℕ, zero, suc, ◌+◌, ◌≤◌, ◌<◌, true, false, List, [], ◌∷◌, inl, inr, eqb, refl, ap, sym, ◌∙◌, subst, length, get_or, arith}
 use Rattle.std.proofs.Math.ListN.{set, get_or-map}
 use Rattle.std.proofs.lemmas.List.{map-set, set-get_or, get_or-set_same, get_or-set_other, append-nil}
 use Rattle.std.proofs.lemmas.Bool.Decides.{eqb_tells}
@@ -14,15 +14,15 @@ use Rattle.seat_session.specs.declared.said.Said.{Said}
 use Rattle.seat_session.specs.declared.said.Said.TheVariants.{Ready, Act}
 use Rattle.seat_session.specs.declared.session_fault.SessionFault.{SessionFault}
 use Rattle.std.specs.Prelude.{Ok, Err}
-use Rattle.node_rules.specs.Standings.{Place, Standing, applied, hands_at}
+use Rattle.node_rules.specs.Standings.{Place, Standing, hands_at}
 use Rattle.node_rules.specs.Turns.{Turn, still, joined}
-use Rattle.node_rules.specs.Seats.{session_at, with_session, answering, answering_all, hearing, Drains, left, HearsPiece}
+use Rattle.node_rules.specs.Seats.{session_at, with_session, answering, answering_all, Drains, left, HearsPiece}
 use Rattle.dealer_node.specs.Outs.{Told, both_told}
 use Rattle.dealer_node.specs.Turned.{told_of, talk_of, talks}
-use Rattle.dealer_node.specs.Scenes.{IsTableOf}
-use Rattle.dealer_node.specs.Hearing.{IsHeard, Hears, CanHear, HearsPiece as Heard}
+use Rattle.dealer_node.specs.Hearing.{IsHeard, CanHear, HearsPiece as Heard}
 use Rattle.dealer_node.specs.Seated.{Seated, without_room, HasRoomAt, feeds_with, IsSeatedAt, PieceTurn}
 use Rattle.dealer_node.specs.SeatsInside.{AreOwn, room_of}
+use Rattle.dealer_node.proofs.Messages.{no_messages}
 use Rattle.dealer_node.proofs.Telling.{same_told}
 
 abbrev Answer : Type 0
@@ -66,7 +66,7 @@ piece_turn place table promised seat piece sessions None result waited waits ear
     record {
       turn = still s;
       rule = subst (λ t. HearsPiece place seat piece t s (still s)) (sym none) refl;
-      heard = record { hands = stands.hands; promise = stands.promise; waits = same; told = heard.2 ∙ nothing_more earlier s };
+      heard = record { hands = stands.hands; promise = stands.promise; waits = same; told = heard.2 ∙ nothing_more earlier s; fits = no_messages };
       rest = ap (λ ts. record s { sessions = ts }) (sym kept) ∙ ap (λ p. record s { sessions = new; pending = p }) (sym same);
     }
 piece_turn place table promised seat piece sessions (Some session) result waited waits earlier later new s was is heard stands =
@@ -75,7 +75,7 @@ piece_turn place table promised seat piece sessions (Some session) result waited
     let begun = still (with_session s seat (left talk)) in
     let there : session_at s.sessions seat ≡ Some session.standing = talk_at sessions seat s (Some session) stands.sessions was in
     let turn = answering_all place seat hears.answers begun in
-    let after : IsHeard place table promised turn waits earlier later = hears.taken begun earlier (record { hands = stands.hands; promise = stands.promise; waits = stands.pending; told = nothing_more earlier (with_session s seat (left talk)) }) in
+    let after : IsHeard place table promised turn waits earlier later = hears.taken begun earlier (record { hands = stands.hands; promise = stands.promise; waits = stands.pending; told = nothing_more earlier (with_session s seat (left talk)); fits = no_messages }) in
     let kept : set s.sessions seat (left talk) ≡ new = ap (λ ts. set ts seat (left talk)) stands.sessions ∙ (ap (set (talks sessions) seat) (sym heard.2) ∙ sym is) in
     record {
       turn = turn;

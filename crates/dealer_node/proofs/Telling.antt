@@ -1,6 +1,6 @@
 -- What is made, one thing behind another.
-use Rattle.std.proofs.Common.{◌≡◌, ℕ, List, [], ◌∷◌, ◌++◌, refl, ap, sym, ◌∙◌, append_assoc}
-use Rattle.std.specs.Prelude.{map, Option}
+use Rattle.std.proofs.Common.{◌≡◌, ℕ, List, [], ◌++◌, ap, sym, ◌∙◌, append_assoc}
+use Rattle.std.specs.Prelude.{Option}
 use Rattle.std.proofs.lemmas.List.{map-append, append-nil}
 use Rattle.paxos_wire.specs.declared.ballot.Ballot.{Ballot}
 use Rattle.slot_log.specs.Hand.{Match}
@@ -12,8 +12,10 @@ use Rattle.dealer_node.specs.declared.seat_fault.SeatFault.{SeatFault}
 use Rattle.dealer_node.specs.Texts.{Marked}
 use Rattle.dealer_node.specs.Outs.{Told, both_told}
 use Rattle.dealer_node.specs.Turned.{told_of, posted, printed, fault_of}
+use Rattle.dealer_node.specs.Fitting.{AreMessages}
 use Rattle.dealer_node.specs.Scenes.{IsTableOf}
 use Rattle.dealer_node.specs.Hearing.{IsHeard}
+use Rattle.dealer_node.proofs.Messages.{both_messages}
 
 abbrev pub told_with : List (Marked ℕ) → List (Marked Reader) → List SeatFault → Told
 told_with frames shown faults = record { frames = frames; shown = shown; faults = faults }
@@ -34,10 +36,10 @@ told_more turn step before told new is e =
 
 pub heard_more : (place : Place) (table : Match) (promised : Ballot) (turn step : Turn) (old new : Option Command) (before told later : Told)
     → IsHeard place table promised turn old before told
-    → IsTableOf place.setting (applied step.after) table → step.after.store.promise ≡ promised → new ≡ step.after.pending → later ≡ both_told told (told_of step)
+    → IsTableOf place.setting (applied step.after) table → step.after.store.promise ≡ promised → new ≡ step.after.pending → later ≡ both_told told (told_of step) → AreMessages step.frames
     → IsHeard place table promised (joined turn step) new before later
-heard_more place table promised turn step old new before told later is hands promise waits e =
-    record { hands = hands; promise = promise; waits = waits; told = told_more turn step before told later is.told e }
+heard_more place table promised turn step old new before told later is hands promise waits e messages =
+    record { hands = hands; promise = promise; waits = waits; told = told_more turn step before told later is.told e; fits = both_messages turn.frames step.frames is.fits messages }
 
 -- frames alone, texts alone, faults alone
 pub frames_more : (told : Told) (frames more : List (Marked ℕ)) → frames ≡ told.frames ++ more → told_with frames told.shown told.faults ≡ both_told told (told_with more [] [])

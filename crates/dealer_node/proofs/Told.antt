@@ -1,14 +1,17 @@
 -- Slots that are told as chosen, one after another.
-use Rattle.std.proofs.Common.{◌≡◌, ℕ, zero, suc, ◌+◌, List, [], ◌∷◌, ◌++◌, refl, ap, sym, ◌∙◌, append_assoc, add-one, arith}
-use Rattle.std.specs.Prelude.{map, Option, Some, None}
+use Rattle.std.proofs.Common.{◌≡◌, ℕ, zero, suc, ◌+◌, List, [], ◌++◌, refl, ap, sym, ◌∙◌, subst, append_assoc, add-one, arith}
+use Rattle.std.specs.Prelude.{map, Some, None}
 use Rattle.std.proofs.lemmas.List.{map-append, append-nil}
 use Rattle.slot_log.specs.Slots.{Log, known_at}
 use Rattle.slot_log.specs.declared.command.Command.{Command}
+use Rattle.paxos_wire.specs.Fits.{IsMessage}
 use Rattle.paxos_wire.specs.declared.message.Message.TheVariants.{Chosen}
 use Rattle.node_rules.specs.Sending.{Frame, one}
 use Rattle.node_rules.specs.Learning.{told_of, telling_from}
 use Rattle.dealer_node.specs.Texts.{Marked}
 use Rattle.dealer_node.specs.Turned.{posted}
+use Rattle.dealer_node.specs.Fitting.{AreMessages}
+use Rattle.dealer_node.proofs.Messages.{no_messages, one_message, both_messages}
 
 none_told : (log : Log) (to slot : ℕ) → telling_from log to slot 0 ≡ []
 unfolding telling_from
@@ -46,3 +49,19 @@ pub told_on : (old texts new : List (Marked ℕ)) (log : Log) (to slot more : �
 told_on old texts new log to slot more before e =
     e ∙ ap (λ t. t ++ map posted (telling_from log to (slot + more) 1)) before ∙ append_assoc old (map posted (telling_from log to slot more)) (map posted (telling_from log to (slot + more) 1))
     ∙ ap (λ t. old ++ t) (sym (map-append posted (telling_from log to slot more) (telling_from log to (slot + more) 1)) ∙ ap (map posted) (sym (further log to slot more)))
+
+-- ---- each has a frame
+
+pub none_said : (log : Log) (to slot : ℕ) → AreMessages (telling_from log to slot 0)
+none_said log to slot = subst (λ (fs : List Frame). AreMessages fs) (sym (none_told log to slot)) no_messages
+
+pub said_none : (log : Log) (to slot : ℕ) → None ≡ known_at log slot → AreMessages (telling_from log to slot 1)
+said_none log to slot none = subst (λ (fs : List Frame). AreMessages fs) (sym (one_told log to slot ∙ ap (told_of to slot) (sym none))) no_messages
+
+pub said_some : (log : Log) (to slot : ℕ) (command : Command) → Some command ≡ known_at log slot → IsMessage (Chosen slot command) → AreMessages (telling_from log to slot 1)
+said_some log to slot command some is =
+    subst (λ (fs : List Frame). AreMessages fs) (sym (one_told log to slot ∙ ap (told_of to slot) (sym some))) (one_message to (Chosen slot command) is)
+
+pub said_on : (log : Log) (to slot more : ℕ) → AreMessages (telling_from log to slot more) → AreMessages (telling_from log to (slot + more) 1) → AreMessages (telling_from log to slot (more + 1))
+said_on log to slot more before one =
+    subst (λ (fs : List Frame). AreMessages fs) (sym (further log to slot more)) (both_messages (telling_from log to slot more) (telling_from log to (slot + more) 1) before one)

@@ -14,6 +14,7 @@ use Rattle.node_rules.specs.Turns.{Turn, joined}
 use Rattle.node_rules.specs.Seats.{answering, answering_all, Drains, left}
 use Rattle.dealer_node.specs.Outs.{Told, both_told}
 use Rattle.dealer_node.specs.Turned.{told_of, talk_of}
+use Rattle.dealer_node.specs.Fitting.{AreMessages}
 use Rattle.dealer_node.specs.Scenes.{IsTableOf}
 
 -- what is said can be handed on: an act has its numbers in their ranges
@@ -22,12 +23,13 @@ IsForwardable (Ok Ready) = Unit {0}
 IsForwardable (Ok (Act command)) = IsAct command × IsInRange command
 IsForwardable (Err fault) = Unit {0}
 
--- the table, the promise, the act that waits, and what was made behind other things, are those of a turn
+-- the table, the promise, the act that waits, and what was made behind other things, are those of a turn, whose messages have frames
 pub record IsHeard (place : Place) (table : Match) (promised : Ballot) (turn : Turn) (pending : Option Command) (before now : Told) : Type 0 where
   pub hands : IsTableOf place.setting (applied turn.after) table
   pub promise : turn.after.store.promise ≡ promised
   pub waits : pending ≡ turn.after.pending
   pub told : now ≡ both_told before (told_of turn)
+  pub fits : AreMessages turn.frames
 
 -- one answer is taken
 abbrev pub TakesAnswer : Place → Match → Ballot → ℕ → Result Said SessionFault → Option Command → Option Command → Told → Told → Type 0

@@ -1,4 +1,5 @@
 pub mod Texts
+pub mod Fitting
 pub mod Outs
 pub mod Turned
 pub mod Posts
@@ -8,3 +9,17 @@ pub mod Rooms
 pub mod Hearing
 pub mod Seated
 pub mod SeatsInside
+pub mod FaultText
+pub mod Running
+pub mod Answering
+pub mod Voting
+pub mod Working
+pub mod Memory
+pub mod Starting
+pub mod Lines
+pub mod Handling
+pub mod Nodes
+pub mod NodeInside
+pub mod Seeing
+pub mod Taking
+pub mod Calling

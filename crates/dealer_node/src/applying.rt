@@ -1,4 +1,5 @@
-ghost use Rattle.std.specs.Prelude.{◌≡◌, ◌+◌, ◌*◌, ◌≤◌, List, length};
+ghost use Rattle.std.specs.Prelude.{◌≡◌, ◌+◌, ◌*◌, ◌≤◌, List, length, IfSome};
+ghost use Rattle.paxos_wire.specs.Fits.{IsInRange};
 ghost use Rattle.node_rules.specs.Applying.{Scene, kept, taking, taking_all};
 ghost use Rattle.slot_log.specs.declared.command.Command.{Command as Order};
 ghost use Rattle.dealer_kind.specs.Kind.{hands_after};
@@ -16,7 +17,8 @@ use slot_log::{Command, Table};
 
 /// Forgets an act that waits and doesn't fit.
 fn forget(pending: &mut Option<Command>, post: &Post, table: &Table)
-    ensures { (applied : List Order) → IsTableOf post.now.setting applied table.now → pending.new ≡ kept post.now.setting applied pending.old }
+    ensures kept { (applied : List Order) → IsTableOf post.now.setting applied table.now → pending.new ≡ kept post.now.setting applied pending.old }
+    ensures act { IfSome pending.old (λ command. IsInRange command) → IfSome pending.new (λ command. IsInRange command) }
 {
     let _ = post;
     if let Some(act) = pending {
@@ -50,6 +52,7 @@ fn take(
     ensures byte_room { shown.old.byte_room ≤ shown.new.byte_room + 45716 }
     ensures len { length shown.new.texts ≤ length shown.old.texts + 11 }
     ensures size { byte_total shown.new.texts ≤ byte_total shown.old.texts + 45716 }
+    ensures act { IfSome pending.old (λ command. IsInRange command) → IfSome pending.new (λ command. IsInRange command) }
 {
     let fits = table.fits(command);
     table.apply_reserved(command);
@@ -81,6 +84,7 @@ pub(crate) fn take_all(
     ensures byte_room { shown.old.byte_room ≤ shown.new.byte_room + 45716 * length commands.now }
     ensures len { length shown.new.texts ≤ length shown.old.texts + 11 * length commands.now }
     ensures size { byte_total shown.new.texts ≤ byte_total shown.old.texts + 45716 * length commands.now }
+    ensures act { IfSome pending.old (λ command. IsInRange command) → IfSome pending.new (λ command. IsInRange command) }
 {
     for command in commands {
         take(table, pending, post, sessions, command, shown);

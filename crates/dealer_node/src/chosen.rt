@@ -7,6 +7,7 @@ ghost use Rattle.node_rules.specs.Sending.{one};
 ghost use Rattle.node_rules.specs.Learning.{next_window, telling_from};
 ghost use Rattle.dealer_node.specs.Rooms.{Grows};
 ghost use Rattle.dealer_node.specs.Turned.{posted};
+ghost use Rattle.dealer_node.specs.Fitting.{AreMessages};
 
 use crate::sending::send;
 use crate::texts::Texts;
@@ -20,6 +21,7 @@ pub(crate) fn ask(frames: &mut Texts<u8>, to: u8, slot: u32)
     requires texts { 1 ≤ frames.old.text_room }
     requires bytes { 46 ≤ frames.old.byte_room }
     ensures texts { frames.new.texts ≡ frames.old.texts ++ map posted (one to (Asking slot)) }
+    ensures fits { AreMessages (one to (Asking slot)) }
     ensures grows { Grows frames.old frames.new 1 46 }
 {
     let message = Message::Ask { slot };
@@ -47,6 +49,7 @@ fn tell_slot(frames: &mut Texts<u8>, to: u8, log: &SlotLog, slot: u32)
     requires texts { 1 ≤ frames.old.text_room }
     requires bytes { 46 ≤ frames.old.byte_room }
     ensures texts { frames.new.texts ≡ frames.old.texts ++ map posted (telling_from log.now.log to slot 1) }
+    ensures fits { AreMessages (telling_from log.now.log to slot 1) }
     ensures grows { Grows frames.old frames.new 1 46 }
 {
     match log.get(slot) {
@@ -69,6 +72,7 @@ pub(crate) fn tell(frames: &mut Texts<u8>, to: u8, log: &SlotLog, slot: u32, slo
     requires texts { slots ≤ frames.old.text_room }
     requires bytes { 46 * slots ≤ frames.old.byte_room }
     ensures texts { frames.new.texts ≡ frames.old.texts ++ map posted (telling_from log.now.log to slot slots) }
+    ensures fits { AreMessages (telling_from log.now.log to slot slots) }
     ensures grows { Grows frames.old frames.new slots (46 * slots) }
 {
     for step in 0..slots {

@@ -11,6 +11,7 @@ ghost use Rattle.node_rules.specs.Seats.{is_others};
 ghost use Rattle.dealer_node.specs.Outs.{told_by};
 ghost use Rattle.dealer_node.specs.Posts.{place_at};
 ghost use Rattle.dealer_node.specs.Turned.{posted};
+ghost use Rattle.dealer_node.specs.Fitting.{AreMessages};
 ghost use Rattle.dealer_node.specs.Rooms.{Grows, Tells};
 ghost use Rattle.dealer_node.specs.Hearing.{IsForwardable, TakesAnswer, Hears, HearsPiece, CanHear};
 
@@ -27,8 +28,9 @@ use seat_session::{Said, Session, SessionFault};
 use slot_log::{Command, Table};
 
 /// Lets an act wait where it fits and none does.
-fn wait(pending: &mut Option<Command>, table: &Table, act: &Command)
-    ensures { pending.new ≡ (if is_none pending.old && is_none (reason_of table.now.game table.now.count table.now.hands act.now) then Some act.now else pending.old) }
+pub(crate) fn wait(pending: &mut Option<Command>, table: &Table, act: &Command)
+    ensures value { pending.new ≡ (if is_none pending.old && is_none (reason_of table.now.game table.now.count table.now.hands act.now) then Some act.now else pending.old) }
+    ensures act { IfSome pending.old (λ command. IsInRange command) → IfSome pending.new (λ command. IsInRange command) }
 {
     if pending.is_none() && table.fits(act) {
         *pending = Some(*act);
@@ -49,6 +51,7 @@ fn forward(frames: &mut Texts<u8>, post: &Post, promised: Ballot, act: &Command)
     requires texts { 1 ≤ frames.old.text_room }
     requires bytes { 46 ≤ frames.old.byte_room }
     ensures texts { frames.new.texts ≡ frames.old.texts ++ map posted (if is_others (place_at post.now) promised then one promised.node (Forwarding act.now) else []) }
+    ensures fits { AreMessages (if is_others (place_at post.now) promised then one promised.node (Forwarding act.now) else []) }
     ensures grows { Grows frames.old frames.new 1 46 }
 {
     if is_others(post, promised) {
@@ -100,6 +103,7 @@ fn take_act(
     ensures taken { TakesAnswer (place_at post.now) table.now promised seat (Ok (SaidAct act.now)) pending.old pending.new (told_by made.old) (told_by made.new) }
     ensures frames { Grows made.old.frames made.new.frames 1 46 }
     ensures rest { made.new ≡ record made.old { frames = made.new.frames } }
+    ensures act { IfSome pending.old (λ command. IsInRange command) → IfSome pending.new (λ command. IsInRange command) }
 {
     wait(pending, table, act);
     forward(&mut made.frames, post, promised, act);
@@ -121,6 +125,36 @@ fn take_fault(
     ensures rest { made.new ≡ record made.old { faults = made.new.faults } }
 {
     made.faults.push_reserved(SeatFault { seat, fault });
+}
+
+/// Takes what a seat says.
+fn take_said(
+    said: &Said,
+    seat: usize,
+    post: &Post,
+    promised: Ballot,
+    table: &Table,
+    pending: &mut Option<Command>,
+    made: &mut Made,
+)
+    requires game { table.now.game ≡ post.now.setting.game }
+    requires seat { seat < table.now.game.players }
+    requires act { IsForwardable (Ok said.now) }
+    requires frames { 1 ≤ made.old.frames.text_room }
+    requires frame_bytes { 46 ≤ made.old.frames.byte_room }
+    requires texts { said.now ≡ SaidReady → 1 ≤ made.old.shown.text_room }
+    requires text_bytes { said.now ≡ SaidReady → 4096 ≤ made.old.shown.byte_room }
+    ensures taken { TakesAnswer (place_at post.now) table.now promised seat (Ok said.now) pending.old pending.new (told_by made.old) (told_by made.new) }
+    ensures frames { Grows made.old.frames made.new.frames 1 46 }
+    ensures shown { Grows made.old.shown made.new.shown 1 4096 }
+    ensures still { (said.now ≡ SaidReady → ⊥) → made.new.shown ≡ made.old.shown }
+    ensures faults { made.new.faults ≡ made.old.faults }
+    ensures act { IfSome pending.old (λ command. IsInRange command) → IfSome pending.new (λ command. IsInRange command) }
+{
+    match said {
+        Said::Ready => take_ready(seat, post, promised, table, pending, made),
+        Said::Act(act) => take_act(act, seat, post, promised, table, pending, made),
+    }
 }
 
 /// Takes an answer of a seat's session.
@@ -146,10 +180,10 @@ fn take_answer(
     ensures shown { Grows made.old.shown made.new.shown 1 4096 }
     ensures still { (said.now ≡ Ok SaidReady → ⊥) → made.new.shown ≡ made.old.shown }
     ensures faults { Tells made.old made.new 1 }
+    ensures act { IfSome pending.old (λ command. IsInRange command) → IfSome pending.new (λ command. IsInRange command) }
 {
     match said {
-        Ok(Said::Ready) => take_ready(seat, post, promised, table, pending, made),
-        Ok(Said::Act(act)) => take_act(act, seat, post, promised, table, pending, made),
+        Ok(said) => take_said(said, seat, post, promised, table, pending, made),
         Err(fault) => take_fault(*fault, seat, post, promised, table, pending, made),
     }
 }
@@ -178,6 +212,7 @@ fn drain(
     ensures frames { Grows made.old.frames made.new.frames limit (46 * limit) }
     ensures shown { Grows made.old.shown made.new.shown 1 4096 }
     ensures faults { Tells made.old made.new limit }
+    ensures act { IfSome pending.old (λ command. IsInRange command) → IfSome pending.new (λ command. IsInRange command) }
 {
     answers_take_lines();
     ready_comes_first();
@@ -220,6 +255,7 @@ pub(crate) fn hear(
     ensures frames { Grows made.old.frames made.new.frames limit (46 * limit) }
     ensures shown { Grows made.old.shown made.new.shown 1 4096 }
     ensures faults { Tells made.old made.new limit }
+    ensures act { IfSome pending.old (λ command. IsInRange command) → IfSome pending.new (λ command. IsInRange command) }
 {
     pieces_add_lines();
     let mut session = session?;

@@ -1,37 +1,68 @@
-//! One node of a replicated dealer, as far as it works in memory: what it makes for others, its post in the match, the
-//! sessions of its seats, the commands that it applies, and what it tells and asks.
+//! One node of a replicated dealer, over its disk: frames, bytes of its seats, ticks, stops and starts come in; frames,
+//! lines, log lines and faults go out.
 //!
-//! The rules of a node are pure functions (`node_rules`, with the table in `docs/NODES.md`). Each function here carries a
-//! rule out, or a part of one, and its contract names that rule. All room is made beforehand, by counts alone: the work
-//! itself takes no memory and can't fail.
+//! `Node::new` makes it, down; `create` a new store on its disk, once, and `start` opens it. From then on `on_frame`,
+//! `on_line`, `on_tick`, `connect` and `drop_seat` are its calls, each of which puts what it makes into an `Out`, until
+//! `stop`. `running`, `front`, `table`, `pending` and `connected` read it. The test of a first tick walks this way.
 //!
-//! `Out` is where a node's calls put what they make: frames, each with the node that it goes to; lines of seats and
-//! lines of the log, in one order, each with its reader; and faults in what seats sent. Its texts stand in one row of
-//! bytes with their lengths, so that the texts of one are put behind those of another by two moves of bytes.
+//! The rules of a node are pure functions (`node_rules`, with the table in `docs/NODES.md`), and each call is one of them,
+//! whatever memory and disk do: `Takes` in `specs/Taking.antt` says how, for every call and every answer. Refused are 90
+//! `Down`, 91 `Store`, 92 `OutOfMemory`, 93 `Spent`, 94 `BadFrame` and 95 `Conflict` (`NodeFault`); by each of them the
+//! `Out` is as it was, after 91 and 95 the node is down, after the others it is as before.
 //!
-//! It doesn't do what a call of a node is as a whole: to store promises and votes, to propose, and to go down.
+//! A call makes all its room first, by counts alone; its work in memory takes none and can't fail; what it stores is one
+//! append. `Running` is what a node that runs holds in memory, `Up` has its acceptor beside it; their methods each carry
+//! out a rule, or a part of one, and name it in their contract.
+//!
+//! `Out` is where calls put what they make: frames, each with the node that it goes to; lines of seats and lines of the
+//! log, in one order, each with its reader; and faults in what seats sent. Its texts stand in one row of bytes with their
+//! lengths, so that the texts of one are put behind those of another by two moves of bytes.
 #![tactic(auto)]
 
+mod accepting;
+mod answering;
 mod applying;
 mod chosen;
+mod fault;
+mod frames;
 mod hearing;
+pub mod laws;
+mod learning;
 mod lines;
 mod made;
+mod memory;
+mod node;
+mod on_frame;
+mod on_line;
+mod on_tick;
 mod out;
 mod post;
+mod proposing;
 mod reader;
 mod reading;
+mod readying;
+mod running;
 mod seat_fault;
 mod seats;
 mod seen;
 mod sending;
+mod starting;
 mod texts;
+mod ticking;
+mod up;
 mod values;
+mod voting;
 
+pub use fault::NodeFault;
+pub use node::Node;
 pub use out::Out;
 pub use reader::Reader;
 pub use reading::Reading;
 pub use seat_fault::SeatFault;
 
+#[cfg(test)]
+mod node_tests;
+#[cfg(test)]
+mod running_tests;
 #[cfg(test)]
 mod tests;

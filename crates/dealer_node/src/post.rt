@@ -1,4 +1,5 @@
-ghost use Rattle.std.specs.Prelude.{◌≡◌, ℕ, ◌<◌, ◌≤◌, length, IfOk};
+ghost use Rattle.std.specs.Prelude.{◌≡◌, ℕ, ◌<◌, ◌≤◌, length, slice_get, IfOk};
+ghost use Rattle.node_rules.specs.Standings.{deals_from};
 ghost use Rattle.dealer_kind.specs.Sources.{HasDeals, deal_of};
 ghost use Rattle.match_log.specs.Names.{IsName, IsGameWord};
 ghost use Rattle.dealer_node.specs.Posts.{IsPost};
@@ -54,6 +55,7 @@ impl Post {
         ensures setting { IfOk result (λ post. post.setting ≡ config.now.setting) }
         ensures nodes { IfOk result (λ post. post.nodes ≡ length config.now.sources) }
         ensures node { IfOk result (λ post. post.node ≡ node) }
+        ensures deals { IfOk result (λ post. (hand : ℕ) → deal_of config.now.setting.game.players post.source hand ≡ deals_from config.now.setting.game.players (slice_get config.now.sources node) hand) }
     {
         config.limits();
         let source = copied(alloc, config.source(node))?;

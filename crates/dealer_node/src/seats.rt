@@ -1,4 +1,5 @@
 ghost use Rattle.std.specs.Prelude.{◌≡◌, ◌+◌, ◌*◌, ◌≤◌, ◌<◌, length, replicate, None, Some, slice_set, IfOk, IfSome, OnOk, vec_len, vec_capacity};
+ghost use Rattle.paxos_wire.specs.Fits.{IsInRange};
 ghost use Rattle.seat_session.specs.Session.{fresh};
 ghost use Rattle.node_rules.specs.Standings.{Standing};
 ghost use Rattle.node_rules.specs.Showing.{is_connected as is_talk_ready};
@@ -145,6 +146,7 @@ impl Seats {
         ensures frames { Grows made.old.frames made.new.frames limit (46 * limit) }
         ensures shown { Grows made.old.shown made.new.shown 1 4096 }
         ensures faults { Tells made.old made.new limit }
+        ensures act { IfSome pending.old (λ command. IsInRange command) → IfSome pending.new (λ command. IsInRange command) }
     {
         let session = self.sessions[seat].take();
         let kept = hear(

@@ -4,6 +4,7 @@ ghost use Rattle.paxos_wire.specs.Spelling.{frame};
 ghost use Rattle.dealer_node.specs.Texts.{byte_total};
 ghost use Rattle.node_rules.specs.Sending.{one, to_first};
 ghost use Rattle.dealer_node.specs.Turned.{posted};
+ghost use Rattle.dealer_node.specs.Fitting.{AreMessages};
 
 use crate::texts::{Run, Texts};
 use paxos_wire::{Message, encode_reserved, frame_len};
@@ -33,6 +34,7 @@ pub(crate) fn send_to_others(frames: &mut Texts<u8>, nodes: u8, number: u8, mess
     requires texts { nodes ≤ frames.old.text_room }
     requires bytes { 46 * nodes ≤ frames.old.byte_room }
     ensures texts { frames.new.texts ≡ frames.old.texts ++ map posted (to_first nodes number message.now) }
+    ensures fits { AreMessages (to_first nodes number message.now) }
     ensures text_room { frames.old.text_room ≤ frames.new.text_room + nodes }
     ensures byte_room { frames.old.byte_room ≤ frames.new.byte_room + 46 * nodes }
     ensures len { length frames.new.texts ≤ length frames.old.texts + nodes }

@@ -30,7 +30,7 @@ END GAMEDEF
 ";
 
 /// Node 0 of three in a match of one hand.
-fn post(rt: &impl Abort, alloc: Global) -> Result<Post, Fail> {
+pub(crate) fn post(rt: &impl Abort, alloc: Global) -> Result<Post, Fail> {
     let game = game_def::read(LIMIT).expect(rt, "a game");
     let name = Name::new(b"m1").expect(rt, "a name");
     let word = Vec::from_slice(alloc, b"l2.game")?;

@@ -1,4 +1,5 @@
-ghost use Rattle.std.specs.Prelude.{◌≡◌};
+ghost use Rattle.std.specs.Prelude.{◌≡◌, IfSome};
+ghost use Rattle.paxos_wire.specs.Fits.{IsInRange};
 ghost use Rattle.node_rules.specs.Standings.{Standing, applied};
 ghost use Rattle.node_rules.specs.Proposing.{own_value, is_over};
 ghost use Rattle.dealer_node.specs.Posts.{place_at};
@@ -9,7 +10,8 @@ use slot_log::{Command, Table};
 
 /// What a node would propose where it is free to: its own deal where it fits, and else the act that waits.
 pub(crate) fn own_value(post: &Post, table: &Table, pending: &Option<Command>) -> Option<Command>
-    ensures { (s : Standing) → IsTableOf (place_at post.now).setting (applied s) table.now → pending.now ≡ s.pending → result ≡ own_value (place_at post.now) s }
+    ensures value { (s : Standing) → IsTableOf (place_at post.now).setting (applied s) table.now → pending.now ≡ s.pending → result ≡ own_value (place_at post.now) s }
+    ensures range { IfSome pending.now (λ command. IsInRange command) → IfSome result (λ command. IsInRange command) }
 {
     let hand = table.finished();
     if let Some(deal) = post.deal(hand) {

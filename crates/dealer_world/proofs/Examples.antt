@@ -1,5 +1,5 @@
 -- Records, read out; and records that aren't so.
-use Rattle.std.proofs.Common.{◌≡◌, ℕ, zero, suc, ◌+◌, ◌*◌, ◌<◌, ◌≤◌, inl, inr, Bool, true, false, cond, Option, Some, None, List, [], ◌∷◌, ◌++◌, length, take, refl, ap, sym, ◌∙◌, subst, arith}
+use Rattle.std.proofs.Common.{◌≡◌, Err, Ok, get_or, ◌≢◌, ℕ, zero, suc, ◌+◌, ◌*◌, ◌<◌, ◌≤◌, inl, inr, Bool, true, false, cond, Option, Some, None, List, [], ◌∷◌, ◌++◌, length, take, refl, ap, sym, ◌∙◌, subst, arith}
 use Rattle.paxos_wire.specs.Reading.{body_of, message_at, ask_at, below_at}
 use Rattle.paxos_wire.specs.Faults.{header_fault, reading}
 use Rattle.slot_log.specs.declared.command.Command.{Command}
@@ -18,6 +18,21 @@ use Rattle.dealer_world.specs.Hearing.{heard_by, WasHeard}
 use Rattle.dealer_world.specs.Headline.{Era, AreTexts, OneList}
 use Rattle.dealer_world.specs.Calls.{Made, nothing_made, AreTold, Brings}
 use Rattle.dealer_world.specs.Views.{grown}
+use Rattle.std.proofs.lemmas.List.{get_or-set_other}
+use Rattle.protocol_model.specs.Stores.{Store, empty_store}
+use Rattle.dealer_kind.specs.Kind.{Setting}
+use Rattle.dealer_kind.specs.Plans.{Plan, HasNodes}
+use Rattle.dealer_kind.specs.declared.source.Source.{Source}
+use Rattle.node_rules.specs.Standings.{Standing}
+use Rattle.dealer_node.specs.declared.reader.Reader.TheVariants as reads
+use Rattle.dealer_node.specs.declared.fault.NodeFault.TheVariants as fault
+use Rattle.dealer_world.specs.declared.event.Event.TheVariants as event
+use Rattle.dealer_world.specs.Events.{node_of, brought_by}
+use Rattle.dealer_world.specs.Stepping.{IsFor, arrived_by_event, begins_by_event}
+use Rattle.dealer_world.specs.Recordings.{whole}
+use Rattle.dealer_world.specs.RuleRuns.{State, Steps, RunsTo, fresh, step, opened}
+use Rattle.dealer_world.specs.Ruling.{AreLeft, GoesOn}
+use Rattle.dealer_world.specs.Beginning.{first_starts, first_asks}
 
 -- ---- frames and what they say
 
@@ -286,3 +301,70 @@ byte_too_many (least, last) = let is : 2 ≡ 3 = last in omega arith
 
 ends_before_it_begins : AreEnds 0 (ends_at 8 2 ∷ ends_at 7 1 ∷ []) 1 → ⊥
 ends_before_it_begins (first, (second, last)) = let is : 2 ≤ 1 = second in omega arith
+
+-- ---- events
+
+seat_arrives : (node_of (event.Connect 1 0) ≡ 1) × (brought_by (event.Connect 1 0) ≡ Connected 1 0 ∷ [])
+seat_arrives = (refl, refl)
+
+tick_brings_nothing : brought_by (event.Tick 1) ≡ []
+tick_brings_nothing = refl
+
+-- what comes to a node that is down doesn't arrive
+down_gets_nothing : (arrived_by_event false (event.Connect 1 0) ≡ []) × (arrived_by_event true (event.Connect 1 0) ≡ Connected 1 0 ∷ [])
+down_gets_nothing = (refl, refl)
+
+-- a start of a node that runs begins nothing, nor does one that fails
+running_starts_nothing : (begins_by_event false (event.Start 1) (Ok tt) ≡ true) × (begins_by_event true (event.Start 1) (Ok tt) ≡ false)
+    × (begins_by_event false (event.Start 1) (Err fault.Down) ≡ false) × (begins_by_event false (event.Stop 1 0) (Ok tt) ≡ false)
+running_starts_nothing = (refl, refl, refl, refl)
+
+seat_too_high : IsFor 3 2 (event.Connect 1 2) → ⊥
+seat_too_high (here, seat_here) = omega (arith, seat_here)
+
+node_too_high : IsFor 3 2 (event.Tick 3) → ⊥
+node_too_high here = omega (arith, here)
+
+-- what the last call made stands behind what was put away, once, and under its own start
+last_behind : (whole (asks ∷ []) [] [] [] (record { frames = (record { mark = 2; text = 7 ∷ [] }) ∷ []; shown = []; faults = [] }) (Some (record { node = 1; start = 0 }))).sent
+    ≡ asks ∷ (record { from = 1; to = 2; bytes = 7 ∷ [] }) ∷ []
+last_behind = refl
+
+last_put_away : (whole (asks ∷ []) [] [] [] (record { frames = (record { mark = 2; text = 7 ∷ [] }) ∷ []; shown = []; faults = [] }) None).sent ≡ asks ∷ []
+last_put_away = refl
+
+last_under_its_start : (whole [] [] [] [] (record { frames = []; shown = (record { mark = reads.Seat 1; text = 7 ∷ [] }) ∷ []; faults = [] }) (Some (record { node = 2; start = 3 }))).shown
+    ≡ (record { node = 2; start = 3; reader = Seat 1; text = 7 ∷ [] }) ∷ []
+last_under_its_start = refl
+
+-- two nodes that were started, with empty stores: nothing was asked
+first_two : (first_starts 2 ≡ (record { node = 0; start = 0 }) ∷ (record { node = 1; start = 0 }) ∷ [])
+    × ((plan : Plan) → first_asks plan (λ i. empty_store) 2 ≡ [])
+first_two = (refl, λ plan. refl)
+
+-- ---- runs
+
+-- a new cluster goes on from no era
+new_goes_on : (setting : Setting) (files : List (List ℕ)) → GoesOn false setting 3 [] files
+new_goes_on setting files = refl
+
+new_has_no_past : (setting : Setting) (files : List (List ℕ)) (era : Era) → GoesOn false setting 3 (era ∷ []) files → ⊥
+new_has_no_past setting files era is = cc
+
+-- a file for no node
+file_too_many : (begun : ℕ → Store) → AreLeft 3 0 begun ([] ∷ []) [] → ⊥
+file_too_many begun left = left
+
+not_two : (n : ℕ) → n ≡ 2 → HasNodes n → ⊥
+not_two n two (inl three) = omega (arith, two, three)
+not_two n two (inr five) = omega (arith, two, five)
+
+-- there is no run of two nodes
+no_run_of_two : (setting : Setting) (eras : List Era) (sources : List Source) (state : State) → RunsTo setting 2 eras sources state → ⊥
+no_run_of_two setting _ _ _ (fresh sources state plan are is) = not_two (length sources) are plan.nodes
+no_run_of_two setting _ _ _ (step before sources old state run s) = no_run_of_two setting before sources old run
+no_run_of_two setting _ _ _ (opened before sources old latest begun others state run ends same clean plan are reopened empty) = no_run_of_two setting before sources old run
+
+-- in a step only its node changes
+others_stay : (plan : Plan) (old new : State) (s : Steps plan old new) (i : ℕ) (d : Standing) → i ≢ s.node → get_or new.standings i d ≡ get_or old.standings i d
+others_stay plan old new s i d other = ap (λ standings. get_or standings i d) s.standings ∙ get_or-set_other old.standings s.node i s.after d other

@@ -134,7 +134,7 @@ each_new setting sources i (s ∷ more) (is, all) = (new_is setting sources i s 
 
 -- ---- an opened cluster
 
-each_here : {Node : Type 0} (IsSo : ℕ → Node → Type 0) (i : ℕ) (nodes : List Node) (d : Node) → i < length nodes → EachNode IsSo 0 nodes → IsSo i (get_or nodes i d)
+pub each_here : {Node : Type 0} (IsSo : ℕ → Node → Type 0) (i : ℕ) (nodes : List Node) (d : Node) → i < length nodes → EachNode IsSo 0 nodes → IsSo i (get_or nodes i d)
 each_here IsSo i nodes d less each = let e : 0 + i ≡ i = omega arith in subst (λ j. IsSo j (get_or nodes i d)) e (each_at IsSo 0 i nodes d less each)
 
 -- the stores that the nodes of a world have, by their standings
@@ -407,7 +407,7 @@ accepted_too sent ever (Ask sender slot) carried accepts there = tt
 accepted_too sent ever (Forward sender command) carried accepts there = tt
 accepted_too sent ever (Said sender command) carried accepts there = tt
 
-each_from : {Node : Type 0} (IsSo : ℕ → Node → Type 0) (k : ℕ) (nodes : List Node) (d : Node) → ((i : ℕ) → i < length nodes → IsSo (k + i) (get_or nodes i d)) → EachNode IsSo k nodes
+pub each_from : {Node : Type 0} (IsSo : ℕ → Node → Type 0) (k : ℕ) (nodes : List Node) (d : Node) → ((i : ℕ) → i < length nodes → IsSo (k + i) (get_or nodes i d)) → EachNode IsSo k nodes
 each_from IsSo k [] d each = tt
 each_from IsSo k (node ∷ nodes) d each =
     let e : k + 0 ≡ k = omega arith in (
@@ -424,9 +424,14 @@ backed_at setting sources before state law b i s log of frame message sent from 
     let own : sender_of message ≡ i = (b.own frame sent).own message says ∙ from in
     let too = accepted_too state.now.sent b.world.ever message (λ m h. b.carried m (in_later (said_in before) (said state.now.sent) m h)) b.accepts here in (
       by_up s.up refl ever own too,
-      λ down. law dealer (length state.standings) i b.world s.begun message b.reached (inr (of.of.up ∙ down, inr (sym of.of.begun))) ever own too,
+      by_begun s.up refl (by_up s.up refl ever own too) ever own too,
     )
   where
+    by_begun : (up : Bool) → s.up ≡ up → Backs s.store message → In message b.world.ever → sender_of message ≡ i → IsAcceptedToo b.world.ever message → Backs s.begun message
+    by_begun true up back ever own too = subst (λ (store : Store). Backs store message) (sym (of.of.runs up).unbegun) back
+    by_begun false down back ever own too =
+        law (dealer_of setting (own_of setting sources before)) (length state.standings) i b.world s.begun message b.reached (inr (of.of.up ∙ down, inr (sym of.of.begun))) ever own too
+
     by_up : (up : Bool) → s.up ≡ up → In message b.world.ever → sender_of message ≡ i → IsAcceptedToo b.world.ever message → Backs s.store message
     by_up true up ever own too =
         law (dealer_of setting (own_of setting sources before)) (length state.standings) i b.world s.store message b.reached (inl (of.of.up ∙ up, unchanged_append s.store (sym of.of.store))) ever own too

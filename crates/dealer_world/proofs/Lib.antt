@@ -1,4 +1,7 @@
 mod Lists
+mod Finding
+mod Each
+mod Counting
 mod Saying
 mod Cutting
 mod Pieces
@@ -10,4 +13,12 @@ mod Opening
 mod Reading
 mod Ruling
 mod Keeping
+mod Ruled
+mod Giving
+mod Advancing
+mod Founding
+mod Started
+mod Leaving
+mod Stopping
+mod Promising
 pub mod Examples

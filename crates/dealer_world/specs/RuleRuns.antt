@@ -1,5 +1,5 @@
 -- Runs of a cluster whose nodes keep the rules, over all its eras.
-use Rattle.std.specs.Prelude.{◌≡◌, ◌≢◌, ℕ, ◌+◌, ◌<◌, true, false, List, [], ◌∷◌, length, Result}
+use Rattle.std.specs.Prelude.{◌≡◌, ◌≢◌, ℕ, ◌+◌, ◌<◌, true, List, [], ◌∷◌, length, Result}
 use Rattle.std.proofs.Common.{get_or, set}
 use Rattle.protocol_model.specs.Sets.{In}
 use Rattle.protocol_model.specs.Messages.{Message}
@@ -85,7 +85,7 @@ pub data RunsTo (setting : Setting) (n : ℕ) : List Era → List Source → Sta
 -- what node i has said by frames of this record, both stores that its next start may find back: no lower ballot is promised then, and what was accepted isn't
 -- forgotten
 abbrev pub IsBacked : List Frame → ℕ → Standing → Type 0
-IsBacked sent i s = (frame : Frame) (message : Message) → In frame sent → frame.from ≡ i → In message (said_by frame) → Backs s.store message × (s.up ≡ false → Backs s.begun message)
+IsBacked sent i s = (frame : Frame) (message : Message) → In frame sent → frame.from ≡ i → In message (said_by frame) → Backs s.store message × Backs s.begun message
 
 -- in every run of the rules in which no frame was forged each node's stores back all its frames
 abbrev pub RunsAreBacked : Type 0

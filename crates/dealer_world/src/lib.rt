@@ -1,23 +1,37 @@
 //! All nodes of a match, and the record of what they sent, were given and showed.
 //!
 //! What is promised of a cluster is said of its record alone (`specs/Records.antt`, `specs/Headline.antt`): one list of
-//! chosen commands is behind all lines and logs. `laws` says what follows from that for whoever reads the record, and
-//! what of the protocol it stands on; `docs/CLUSTER.md` tells how it is carried.
+//! chosen commands is behind all lines and logs. `docs/CLUSTER.md` tells how it is carried; `laws` says what follows from
+//! it for whoever reads the record, and what of the protocol it stands on.
 //!
-//! The record's parts stand here so far: `Frames`, all that was sent, and `Arrivals`, what reached running nodes. Both
-//! begin empty (`new`), give a row by its number (`get`), and take one without memory (`push_reserved`) once `reserve`
-//! made the room; the tests `frames_are_found_by_their_numbers` and `arrivals_keep_what_came_and_when` use each call.
-//! There are no faults of its own yet: an `Err` of `reserve` is want of memory, and changes no row. The cluster itself
-//! is to come.
+//! `Cluster::new` makes the nodes of a match over new stores and starts them; `open` goes on from what disks have, also
+//! from one that stopped inside a call. `step` gives an `Event` to its node, `run` gives several, up to the first that
+//! finds no memory (`Stopped`). The faults are those of the node, 90 to 95; by 92 nothing has changed.
+//!
+//! The record is read by numbers, without memory: `frame`, all that was sent; `arrival`, what reached running nodes;
+//! `piece`, all lines and log lines in the order in which they were shown; `starts`, each of which began a log; and
+//! `last`, what the last call made.
 #![tactic(auto)]
 
 mod arrivals;
+mod beginning;
+mod begun;
+mod cluster;
+mod event;
 mod frames;
 pub mod laws;
+mod recording;
 mod rows;
+mod shown;
+mod stopped;
 
 pub use arrivals::{Arrival, Arrivals, What};
+pub use begun::Begun;
+pub use cluster::Cluster;
+pub use event::Event;
 pub use frames::{Frame, Frames};
+pub use shown::{Piece, Shown};
+pub use stopped::Stopped;
 
 #[cfg(test)]
 mod tests;

@@ -1,8 +1,7 @@
-use Rattle.std.proofs.Common.{◌≡◌, ◌+◌, ◌*◌, ◌≤◌, List, length, drop, ◌∙◌, ap, arith}
-use Rattle.std.proofs.lemmas.List.{at_drop_more, at_drop_all}
+use Rattle.std.proofs.Common.{◌+◌, List, drop, ◌∙◌, arith}
+use Rattle.std.proofs.lemmas.List.{at_drop_all}
 use Rattle.slot_log.specs.declared.command.Command.{Command}
 use Rattle.node_rules.specs.Applying.{taking_all}
-use Rattle.dealer_node.specs.Texts.{byte_total}
 use Rattle.dealer_node.specs.Turned.{talks}
 use Rattle.dealer_node.proofs.Applied.{goes_over, goes_to, first_left}
 use Rattle.dealer_node.proofs.applying.take_all.Goals as goal
@@ -20,6 +19,7 @@ loop-command-preserved c = record {
   byte_room = omega arith;
   len = omega arith;
   size = omega arith;
+  act = λ within. c.take.ensures.act (c.loop-command.invariant.act within);
 }
 
 pub returns-clause-scene : goal.returns-clause-scene

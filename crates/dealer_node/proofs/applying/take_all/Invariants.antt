@@ -1,3 +1,5 @@
+use Rattle.std.specs.Prelude.{IfSome}
+use Rattle.paxos_wire.specs.Fits.{IsInRange}
 use Rattle.std.proofs.Common.{◌≡◌, ◌+◌, ◌*◌, ◌≤◌, List, drop, length}
 use Rattle.node_rules.specs.Applying.{Scene, taking_all}
 use Rattle.dealer_node.specs.declared.reader.Reader.{Reader}
@@ -17,5 +19,6 @@ invariant-loop-command l = record {
   text_room : l.fn.shown.text_room ≤ l.shown.text_room + 11 * l.command-index;
   byte_room : l.fn.shown.byte_room ≤ l.shown.byte_room + 45716 * l.command-index;
   len : length l.shown.texts ≤ length l.fn.shown.texts + 11 * l.command-index;
+  act : IfSome l.fn.pending (λ command. IsInRange command) → IfSome l.pending (λ command. IsInRange command);
   size : byte_total l.shown.texts ≤ byte_total l.fn.shown.texts + 45716 * l.command-index;
 }

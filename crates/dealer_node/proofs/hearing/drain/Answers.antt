@@ -1,8 +1,7 @@
-use Rattle.std.proofs.Common.{◌≡◌, ◌∙◌, ap, sym, subst, arith, refl, true≢false, ◌-◌, ◌+◌, ◌*◌, ◌≤◌, None, Some, false}
-use Rattle.std.specs.Prelude.{Result, Ok}
+use Rattle.std.proofs.Common.{◌≡◌, ◌∙◌, ap, sym, subst, arith, refl, true≢false, Some, false}
+use Rattle.std.specs.Prelude.{Result}
 use Rattle.seat_session.specs.Session.{Answers, is_ready}
 use Rattle.seat_session.specs.declared.said.Said.{Said}
-use Rattle.seat_session.specs.declared.said.Said.TheVariants.{Ready}
 use Rattle.seat_session.specs.declared.session_fault.SessionFault.{SessionFault}
 use Rattle.dealer_node.specs.declared.reader.Reader.{Reader}
 use Rattle.dealer_node.specs.Texts.{Written}
@@ -16,6 +15,7 @@ loop-step-init c = record {
   feeds = omega (arith, c.requires.limit);
   heard = begins _ _ _ _ _ _ _;
   still = λ greeting. refl;
+  act = λ within. within;
   frames = record { text_room = omega arith; byte_room = omega arith; len = omega arith; size = omega arith };
   shown = record { text_room = omega arith; byte_room = omega arith; len = omega arith; size = omega arith };
   faults = record { len = omega arith; capacity = refl };
@@ -62,6 +62,7 @@ loop-step-preserved c =
       feeds = omega (arith, less, c.loop-step.invariant.feeds);
       heard = next _ _ _ _ _ _ _ _ _ _ _ _ _ _ _ c.in-Some.said c.loop-step.invariant.seat (c.seat.ensures ∙ c.in-Some.ensures.seat ∙ c.loop-step.invariant.seat) c.loop-step.invariant.heard c.in-Some.ensures.answer goes c.take_answer.ensures.taken;
       still = λ greeting. absurd (true≢false (sym ready ∙ greeting));
+      act = λ within. c.take_answer.ensures.act (c.loop-step.invariant.act within);
       frames = record {
         text_room = omega (arith, c.loop-step.invariant.frames.text_room, c.take_answer.ensures.frames.text_room);
         byte_room = omega (arith, c.loop-step.invariant.frames.byte_room, c.take_answer.ensures.frames.byte_room);

@@ -1,13 +1,17 @@
-use Rattle.std.proofs.Common.{◌≡◌, ◌+◌, ◌*◌, ◌≤◌, ◌++◌, length, map, [], ℕ, arith, sym, ◌∙◌, ap}
+use Rattle.std.proofs.Common.{◌≡◌, ◌++◌, length, ℕ, arith, subst, sym, ◌∙◌, ap}
 use Rattle.std.proofs.lemmas.List.{append-nil}
 use Rattle.dealer_node.specs.Texts.{Written, byte_total}
-use Rattle.dealer_node.proofs.Sent.{to_none, sent_on, kept_on}
+use Rattle.node_rules.specs.Sending.{to_first}
+use Rattle.dealer_node.specs.Fitting.{AreMessages}
+use Rattle.dealer_node.proofs.Messages.{to_none, to_one_more, to_same}
+use Rattle.dealer_node.proofs.Sent.{to_none as none_sent, sent_on, kept_on}
 use Rattle.dealer_node.proofs.sending.send_to_others.Goals as goal
 use Rattle.dealer_node.proofs.sending.send_to_others.Goals.{then-to-number, else-to-number}
 
 pub loop-to-init : goal.loop-to-init
 loop-to-init c = record {
-  texts = sym (ap (λ t. c.args.frames.now.texts ++ t) (to_none c.args.number c.args.message.now) ∙ append-nil c.args.frames.now.texts);
+  texts = sym (ap (λ t. c.args.frames.now.texts ++ t) (none_sent c.args.number c.args.message.now) ∙ append-nil c.args.frames.now.texts);
+  fits = to_none c.args.number c.args.message.now;
   text_room = omega arith;
   byte_room = omega arith;
   len = omega arith;
@@ -25,6 +29,7 @@ loop-to-preserved c =
     elim c.if-to-number.branch [
       | then-to-number w ↦ record {
         texts = sent_on c.args.frames.now.texts c.loop-to.frames.texts c.if-to-number.frames.texts c.loop-to.to c.args.number c.args.message.now c.loop-to.invariant.texts (ap (λ (f : Written ℕ). f.texts) w.frames-is ∙ w.send.ensures.texts) w.if-to-number.true;
+        fits = to_one_more c.loop-to.to c.args.number c.args.message.now c.loop-to.invariant.fits w.send.ensures.message w.if-to-number.true;
         text_room = omega (arith, ap (λ (f : Written ℕ). f.text_room) w.frames-is);
         byte_room = omega (arith, short, c.frame_len.ensures.value, ap (λ (f : Written ℕ). f.byte_room) w.frames-is);
         len = omega (arith, ap (λ (f : Written ℕ). length f.texts) w.frames-is);
@@ -32,9 +37,15 @@ loop-to-preserved c =
       }
       | else-to-number w ↦ record {
         texts = kept_on c.args.frames.now.texts c.loop-to.frames.texts c.if-to-number.frames.texts c.loop-to.to c.args.number c.args.message.now c.loop-to.invariant.texts (ap (λ (f : Written ℕ). f.texts) w.frames-is) w.if-to-number.false;
+        fits = to_same c.loop-to.to c.args.number c.args.message.now c.loop-to.invariant.fits w.if-to-number.false;
         text_room = omega (arith, ap (λ (f : Written ℕ). f.text_room) w.frames-is);
         byte_room = omega (arith, ap (λ (f : Written ℕ). f.byte_room) w.frames-is);
         len = omega (arith, ap (λ (f : Written ℕ). length f.texts) w.frames-is);
         size = omega (arith, ap (λ (f : Written ℕ). byte_total f.texts) w.frames-is);
       }
     ]
+
+pub returns-clause-fits : goal.returns-clause-fits
+returns-clause-fits c =
+    let all : c.loop-to.to ≡ c.args.nodes = omega arith in
+    subst (λ (n : ℕ). AreMessages (to_first n c.args.number c.args.message.now)) all c.loop-to.invariant.fits

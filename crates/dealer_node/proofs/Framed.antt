@@ -1,0 +1,283 @@
+-- A message of another node: what it asks, the close, and a last question.
+use Rattle.std.proofs.Common.{◌≡◌, ℕ, ◌+◌, ◌*◌, ◌≤◌, inl, inr, Bool, true, false, List, [], Result, Ok, Err, refl, ap, sym, subst, ◌∙◌, arith, length, vec_len}
+use Rattle.std.specs.Prelude.{◌⊎◌, Option, Some, None, if◌then◌else◌, nat_lt}
+use Rattle.paxos_wire.specs.declared.ballot.Ballot.{Ballot}
+use Rattle.paxos_wire.specs.declared.entry.Entry.{Entry}
+use Rattle.paxos_wire.specs.declared.message.Message.{Message}
+use Rattle.paxos_wire.specs.declared.message.Message.TheVariants as frame
+use Rattle.slot_log.specs.declared.command.Command.{Command}
+use Rattle.slot_log.specs.declared.slot_fault.SlotFault.{SlotFault}
+use Rattle.promise_store.specs.declared.disk.Disk.{Ghosts}
+use Rattle.promise_store.specs.Keeping.{Keeps}
+use Rattle.acceptor.specs.Stored.{store_of}
+use Rattle.protocol_model.specs.Stores.{Store}
+use Rattle.proposer.specs.Told.{is_below}
+use Rattle.proposer.specs.declared.campaign.Campaign.{Campaign}
+use Rattle.learner.specs.Learning.{Learned, answer_to, hearing as hearing_vote, answer_to_chosen, believing as with_chosen}
+use Rattle.node_rules.specs.Standings.{Place, Standing, front_of, idle}
+use Rattle.node_rules.specs.Turns.{Turn, Refusal, Conflict, still, sending, joined, behind, and_then}
+use Rattle.node_rules.specs.Learning.{learning, asking_on, comes_to_window, asking_above, counting_vote}
+use Rattle.node_rules.specs.Accepting.{refusing, promising, preparing, voting, stored_in, storing}
+use Rattle.node_rules.specs.Standings.{with_stored}
+use Rattle.node_rules.specs.Sending.{one}
+use Rattle.node_rules.specs.Proposing.{closing}
+use Rattle.node_rules.specs.Rules.{seeing, taking, asking, on_message}
+use Rattle.dealer_node.specs.declared.up.Up.{Up}
+use Rattle.dealer_node.specs.declared.running.Running.{Running}
+use Rattle.dealer_node.specs.declared.made.Made.{Made}
+use Rattle.dealer_node.specs.declared.made.Need.{Need}
+use Rattle.dealer_node.specs.declared.fault.NodeFault.{NodeFault}
+use Rattle.dealer_node.specs.declared.fault.NodeFault.TheVariants as fault
+use Rattle.promise_store.specs.declared.fault.StoreFault.TheVariants.{Disk}
+use Rattle.dealer_node.specs.Texts.{byte_total}
+use Rattle.dealer_node.specs.Rooms.{Grows}
+use Rattle.dealer_node.specs.Outs.{Told}
+use Rattle.dealer_node.specs.Posts.{Post, place_at}
+use Rattle.dealer_node.specs.Running.{IsRunning, IsTaken, CanLearn, ahead_of}
+use Rattle.dealer_node.specs.Working.{head_of, disk_under, StandsByIts, ComesTo, IsUp, Took, Failed, Works, HasLeft}
+use Rattle.dealer_node.proofs.Worked.{OneAppends, then_works, first_failed, works_from}
+use Rattle.dealer_node.proofs.Stored.{telling_keeps}
+
+-- ---- either the store stays, or there is nothing to close
+
+same_turn : (a b : Turn) (r : Result Turn Refusal) → r ≡ Ok a → r ≡ Ok b → a ≡ b
+same_turn a b r d e = cc
+
+-- a node that leads nothing proposes nothing
+idle_closes : (place : Place) (s : Standing) → s.campaign ≡ None → closing place s ≡ Ok (still s)
+idle_closes place s none =
+    let P : Option Campaign → Type 0 = λ c. closing place (record s { campaign = c }) ≡ Ok (still (record s { campaign = c })) in
+    subst P (sym none) refl
+
+-- the store stays as it is, or the node leads nothing
+abbrev pub Quiet : Standing → Turn → Type 0
+Quiet s turn = ((turn.after.store ≡ s.store) × (turn.after.begun ≡ s.begun)) ⊎ ((turn.after.campaign ≡ None) × (turn.after.begun ≡ turn.after.store))
+
+appends_once : (place : Place) (s : Standing) (turn : Turn) → Quiet s turn → OneAppends s turn.after (closing place turn.after)
+appends_once place s turn (inl (store, begun)) = inl store
+appends_once place s turn (inr (none, unbegun)) = inr (still turn.after, idle_closes place turn.after none, refl, unbegun)
+
+-- a turn with the store as it was
+stays : (s : Standing) (known turn : Turn) (r : Result Turn Refusal) → r ≡ Ok known → known.after.store ≡ s.store → known.after.begun ≡ s.begun → r ≡ Ok turn → Quiet s turn
+stays s known turn r is same begun rule = inl (ap (λ (t : Turn). t.after.store) (same_turn turn known r rule is) ∙ same, ap (λ (t : Turn). t.after.begun) (same_turn turn known r rule is) ∙ begun)
+
+-- a turn that leads nothing
+leads_nothing : (s : Standing) (turn : Turn) → turn.after.campaign ≡ None → turn.after.begun ≡ turn.after.store → Quiet s turn
+leads_nothing s turn none unbegun = inr (none, unbegun)
+
+prepares : (place : Place) (from : ℕ) (ballot : Ballot) (slot : ℕ) (s : Standing) (turn : Turn) (b : Bool) → (let r : Result Turn Refusal = Ok (if b then promising from ballot slot s else refusing from ballot slot s) in r) ≡ Ok turn → Quiet s turn
+prepares place from ballot slot s turn true rule =
+    let e = same_turn turn (promising from ballot slot s) (Ok turn) refl (sym rule) in
+    leads_nothing s turn (ap (λ (t : Turn). t.after.campaign) e) (ap (λ (t : Turn). t.after.begun) e ∙ sym (ap (λ (t : Turn). t.after.store) e))
+prepares place from ballot slot s turn false rule = stays s (refusing from ballot slot s) turn _ refl refl refl rule
+
+votes : (place : Place) (ballot : Ballot) (slot : ℕ) (command : Command) (s : Standing) (turn : Turn) → voting place ballot slot command (idle s) ≡ Ok turn → Quiet s turn
+votes place ballot slot command s turn rule =
+    let x : Standing = with_stored (idle s) (storing s.store ballot slot command) in
+    let kept = telling_keeps place ballot slot (stored_in (s.store.votes slot) ballot command) x turn rule in
+    leads_nothing s turn kept.campaign (kept.begun ∙ sym kept.store)
+
+accepts : (place : Place) (from : ℕ) (ballot : Ballot) (slot : ℕ) (command : Command) (s : Standing) (turn : Turn) (b : Bool)
+    → (if b then Ok (refusing from ballot slot s) else voting place ballot slot command (idle s)) ≡ Ok turn → Quiet s turn
+accepts place from ballot slot command s turn true rule = stays s (refusing from ballot slot s) turn _ refl refl refl rule
+accepts place from ballot slot command s turn false rule = votes place ballot slot command s turn rule
+
+learns : {A : Type 0} (place : Place) (answer : Result A SlotFault) (learned : Learned) (s : Standing) (turn : Turn) → learning place answer learned s ≡ Ok turn → Quiet s turn
+learns place (Ok answer) learned s turn rule = stays s _ turn _ refl refl refl rule
+learns place (Err why) learned s turn rule = let never : Err (Conflict s.store) ≡ Ok turn = rule in absurd (cc)
+
+-- asking changes nothing
+asks_on : (from old : ℕ) (s : Standing) → (asking_on from old s).after ≡ s
+asks_on from old s = by (comes_to_window old (front_of s))
+  where
+    by : (b : Bool) → (if b then sending (one from (frame.Ask (front_of s))) s else still s).after ≡ s
+    by true = refl
+    by false = refl
+
+asks_above : (from slot : ℕ) (s : Standing) → (asking_above from slot s).after ≡ s
+asks_above from slot s = by (nat_lt (front_of s) slot)
+  where
+    by : (b : Bool) → (if b then sending (one from (frame.Ask (front_of s))) s else still s).after ≡ s
+    by true = refl
+    by false = refl
+
+believes : {A : Type 0} (place : Place) (from old : ℕ) (answer : Result A SlotFault) (learned : Learned) (s : Standing) (turn : Turn)
+    → and_then (learning place answer learned s) (λ told. Ok (asking_on from old told)) ≡ Ok turn → Quiet s turn
+believes place from old (Ok answer) learned s turn rule =
+    stays s _ turn _ refl (ap (λ (x : Standing). x.store) (asks_on from old _)) (ap (λ (x : Standing). x.begun) (asks_on from old _)) rule
+believes place from old (Err why) learned s turn rule = let never : Err (Conflict s.store) ≡ Ok turn = rule in absurd (cc)
+
+quiet : (place : Place) (from : ℕ) (message : Message) (s : Standing) (turn : Turn) → taking place from message s ≡ Ok turn → Quiet s turn
+quiet place from (frame.Prepare ballot slot) s turn rule = prepares place from ballot slot s turn (is_below s.store.promise ballot) rule
+quiet place from (frame.Promise ballot slot entries) s turn rule = stays s _ turn _ refl refl refl rule
+quiet place from (frame.Refuse ballot slot promised) s turn rule = stays s _ turn _ refl refl refl rule
+quiet place from (frame.Accept ballot slot command) s turn rule = accepts place from ballot slot command s turn (is_below ballot s.store.promise) rule
+quiet place from (frame.Accepted ballot slot command) s turn rule =
+    learns place (answer_to s.learned from ballot slot command) (hearing_vote s.learned from ballot slot command) s turn rule
+quiet place from (frame.Chosen slot command) s turn rule =
+    believes place from (front_of s) (answer_to_chosen s.learned.log slot command) (with_chosen s.learned slot command) s turn rule
+quiet place from (frame.Ask slot) s turn rule = stays s _ turn _ refl refl refl rule
+quiet place from (frame.Forward command) s turn rule = stays s _ turn _ refl refl refl rule
+
+asks : (from : ℕ) (message : Message) (s : Standing) → (asking from message s).after ≡ s
+asks from (frame.Prepare ballot slot) s = asks_above from slot s
+asks from (frame.Promise ballot slot entries) s = refl
+asks from (frame.Refuse ballot slot promised) s = refl
+asks from (frame.Accept ballot slot command) s = asks_above from slot s
+asks from (frame.Accepted ballot slot command) s = asks_above from slot s
+asks from (frame.Chosen slot command) s = refl
+asks from (frame.Ask slot) s = refl
+asks from (frame.Forward command) s = refl
+
+-- ---- the whole
+
+module _ {D : Type 0} (g : Ghosts D) where
+  -- the ballots of a message are seen
+  pub seen_up : (post : Post) (s : Standing) (message : Message) (old : Up D) (running : Running) → IsUp g post old s → IsRunning post running (seeing message s) → IsUp g post (record old { running = running }) (seeing message s)
+  seen_up post s message old running is runs = record { running = runs; keeps = is.keeps; unbegun = is.unbegun; stands = is.stands }
+
+  -- last, a question
+  ask_took : (post : Post) (s : Standing) (from : ℕ) (message : Message) (up : Up D) (earlier later : Told) → IsUp g post up s → IsTaken post up.running earlier later (asking from message s)
+      → Took g post s (Ok (asking from message s)) up up earlier later
+  ask_took post s from message up earlier later is taken =
+      let turn : Turn = asking from message s in
+      let same = asks from message s in
+      record {
+        turn = turn;
+        rule = refl;
+        now = subst (λ (x : Standing). IsUp g post up x) (sym same) is;
+        told = taken.told;
+        fits = taken.fits;
+        moments = λ t image was. inl was;
+      }
+
+  -- where the question comes
+  pub message_took : (post : Post) (s : Standing) (from : ℕ) (message : Message) (old seen taken closed : Up D) (told between before later : Told)
+      → disk_under seen ≡ disk_under old
+      → (first : Took g post (seeing message s) (taking (place_at post) from message (seeing message s)) seen taken told between)
+      → (second : Took g post first.turn.after (closing (place_at post) first.turn.after) taken closed between before)
+      → ((x : Standing) → IsRunning post closed.running x → IsTaken post closed.running before later (asking from message x))
+      → Took g post s (on_message (place_at post) from message s) old closed told later
+  message_took post s from message old seen taken closed told between before later disk first second question =
+      let x : Standing = seeing message s in
+      let place = place_at post in
+      let both : Took g post x (and_then (taking place from message x) (closing place)) seen closed told before =
+      then_works g post x (closing place) (taking place from message x) seen taken closed told between before (Ok tt) first (appends_once place x first.turn (quiet place from message x first.turn first.rule)) second in
+      let third : Took g post both.turn.after (Ok (asking from message both.turn.after)) closed closed before later = ask_took post both.turn.after from message closed before later both.now (question both.turn.after both.now.running) in
+      let all : Took g post x (on_message place from message s) seen closed told later =
+      then_works g post x (λ c. Ok (asking from message c)) (and_then (taking place from message x) (closing place)) seen closed closed told before later (Ok tt) both
+      (inr (asking from message both.turn.after, refl, ap (λ (y : Standing). y.store) (asks from message both.turn.after), ap (λ (y : Standing). y.begun) (asks from message both.turn.after) ∙ both.now.unbegun)) third in
+      works_from g post s x (on_message place from message s) seen old closed told later (Ok tt) refl disk all
+
+  -- a fault of what came first is one of the whole
+  later_failed : (post : Post) (s : Standing) (next : Standing → Result Turn Refusal) (outcome : Result Turn Refusal) (a b : Up D)
+      → ((left : Store) → (left ≡ s.store) ⊎ ComesTo outcome left → (left ≡ s.store) ⊎ ComesTo (and_then outcome next) left)
+      → Failed g post s outcome a b → Failed g post s (and_then outcome next) a b
+  later_failed post s next outcome a b goes f = record { left = f.left; comes = goes f.left f.comes; leaves = f.leaves; moments = f.moments }
+
+  pub later_fails : (post : Post) (s : Standing) (next : Standing → Result Turn Refusal) (outcome : Result Turn Refusal) (a b : Up D) (earlier later : Told) (why : NodeFault)
+      → ((left : Store) → (left ≡ s.store) ⊎ ComesTo outcome left → (left ≡ s.store) ⊎ ComesTo (and_then outcome next) left)
+      → Works g post s outcome a b earlier later (Err why) → Works g post s (and_then outcome next) a b earlier later (Err why)
+  later_fails post s next outcome a b earlier later (fault.Store Disk) goes w = later_failed post s next outcome a b goes w
+  later_fails post s next outcome a b earlier later fault.Conflict goes w = first_failed g post s next outcome a b w
+  later_fails post s next outcome a b earlier later why goes w = absurd w
+
+  -- what a message leaves, the close and the question leave too
+  asking_goes : (s : Standing) (from : ℕ) (message : Message) (outcome : Result Turn Refusal) (left : Store) → (left ≡ s.store) ⊎ ComesTo outcome left
+      → (left ≡ s.store) ⊎ ComesTo (and_then outcome (λ c. Ok (asking from message c))) left
+  asking_goes s from message outcome left (inl e) = inl e
+  asking_goes s from message outcome left (inr (inr rule)) = inr (inr (ap (λ (o : Result Turn Refusal). and_then o (λ c. Ok (asking from message c))) rule))
+  asking_goes s from message outcome left (inr (inl (turn, rule, e))) =
+      inr (inl (joined turn (asking from message turn.after), ap (λ (o : Result Turn Refusal). and_then o (λ c. Ok (asking from message c))) rule, e ∙ sym (ap (λ (y : Standing). y.begun) (asks from message turn.after))))
+
+  closing_by : (place : Place) (s : Standing) (outcome : Result Turn Refusal) (turn : Turn) (left : Store) → s.begun ≡ s.store → outcome ≡ Ok turn → left ≡ turn.after.begun → Quiet s turn
+      → (left ≡ s.store) ⊎ ComesTo (and_then outcome (closing place)) left
+  closing_by place s outcome turn left unbegun rule e (inl (store, begun)) = inl (e ∙ begun ∙ unbegun)
+  closing_by place s outcome turn left unbegun rule e (inr (none, after)) =
+      inr (inl (joined turn (still turn.after), ap (λ (o : Result Turn Refusal). and_then o (closing place)) rule ∙ ap (behind turn) (idle_closes place turn.after none), e))
+
+  closing_goes : (place : Place) (s : Standing) (from : ℕ) (message : Message) (left : Store) → s.begun ≡ s.store → (left ≡ s.store) ⊎ ComesTo (taking place from message s) left
+      → (left ≡ s.store) ⊎ ComesTo (and_then (taking place from message s) (closing place)) left
+  closing_goes place s from message left unbegun (inl e) = inl e
+  closing_goes place s from message left unbegun (inr (inr rule)) = inr (inr (ap (λ (o : Result Turn Refusal). and_then o (closing place)) rule))
+  closing_goes place s from message left unbegun (inr (inl (turn, rule, e))) = closing_by place s (taking place from message s) turn left unbegun rule e (quiet place from message s turn rule)
+
+  -- where the close fails
+  pub close_failed : (post : Post) (s : Standing) (from : ℕ) (message : Message) (old seen taken closed : Up D) (told between before : Told) (why : NodeFault)
+      → disk_under seen ≡ disk_under old
+      → (first : Took g post (seeing message s) (taking (place_at post) from message (seeing message s)) seen taken told between)
+      → Works g post first.turn.after (closing (place_at post) first.turn.after) taken closed between before (Err why)
+      → Works g post s (on_message (place_at post) from message s) old closed told before (Err why)
+  close_failed post s from message old seen taken closed told between before why disk first second =
+      let x : Standing = seeing message s in
+      let place = place_at post in
+      let outcome = and_then (taking place from message x) (closing place) in
+      let both = then_works g post x (closing place) (taking place from message x) seen taken closed told between before (Err why) first (appends_once place x first.turn (quiet place from message x first.turn first.rule)) second in
+      works_from g post s x (on_message place from message s) seen old closed told before (Err why) refl disk
+      (later_fails post x (λ c. Ok (asking from message c)) outcome seen closed told before why (asking_goes x from message outcome) both)
+
+  -- where the message itself fails
+  pub take_failed : (post : Post) (s : Standing) (from : ℕ) (message : Message) (old seen taken : Up D) (told before : Told) (why : NodeFault)
+      → disk_under seen ≡ disk_under old → s.begun ≡ s.store
+      → Works g post (seeing message s) (taking (place_at post) from message (seeing message s)) seen taken told before (Err why)
+      → Works g post s (on_message (place_at post) from message s) old taken told before (Err why)
+  take_failed post s from message old seen taken told before why disk unbegun first =
+      let x : Standing = seeing message s in
+      let place = place_at post in
+      let outcome = and_then (taking place from message x) (closing place) in
+      works_from g post s x (on_message place from message s) seen old taken told before (Err why) refl disk
+      (later_fails post x (λ c. Ok (asking from message c)) outcome seen taken told before why (asking_goes x from message outcome)
+      (later_fails post x (closing place) (taking place from message x) seen taken told before why (λ left. closing_goes place x from message left unbegun) first))
+
+-- ---- room
+
+-- so much is left, whatever was needed
+pub left_of : (running : Running) (made : Made) (votes frames : ℕ) → CanLearn running made votes → frames ≤ made.frames.text_room → 46 * frames ≤ made.frames.byte_room
+    → HasLeft running made (record {
+      frames = length made.frames.texts + frames;
+      frame_bytes = byte_total made.frames.texts + 46 * frames;
+      texts = length made.shown.texts + 11 * (ahead_of running + votes);
+      text_bytes = byte_total made.shown.texts + 45716 * (ahead_of running + votes);
+      faults = vec_len made.faults;
+    }) votes frames
+left_of running made votes frames learn texts bytes = record {
+  learn = learn;
+  texts = texts;
+  bytes = bytes;
+  frames_made = omega arith;
+  bytes_made = omega arith;
+  texts_shown = omega arith;
+  bytes_shown = omega arith;
+  faults_told = omega arith;
+}
+
+-- nothing of the room is gone where the ballots are seen
+pub seen_left : (old new : Running) (made : Made) (need : Need) (votes frames : ℕ) → new ≡ record old { seen = new.seen } → HasLeft old made need votes frames → HasLeft new made need votes frames
+seen_left old new made need votes frames rest left =
+    let with_seen : HasLeft (record old { seen = new.seen }) made need votes frames = record {
+      learn = record { learner = left.learn.learner; table = left.learn.table; texts = left.learn.texts; bytes = left.learn.bytes };
+      texts = left.texts;
+      bytes = left.bytes;
+      frames_made = left.frames_made;
+      bytes_made = left.bytes_made;
+      texts_shown = left.texts_shown;
+      bytes_shown = left.bytes_shown;
+      faults_told = left.faults_told;
+    } in
+    subst (λ (r : Running). HasLeft r made need votes frames) (sym rest) with_seen
+
+-- a question was asked
+pub asked_left : (running : Running) (earlier later : Made) (need : Need) (votes frames : ℕ) → later ≡ record earlier { frames = later.frames } → Grows earlier.frames later.frames 1 46
+    → HasLeft running earlier need votes (frames + 1) → HasLeft running later need votes frames
+asked_left running earlier later need votes frames rest grows left =
+    let with_frames : HasLeft running (record earlier { frames = later.frames }) need votes frames = record {
+      learn = record { learner = left.learn.learner; table = left.learn.table; texts = left.learn.texts; bytes = left.learn.bytes };
+      texts = omega (arith, left.texts, grows.text_room);
+      bytes = omega (arith, left.bytes, grows.byte_room);
+      frames_made = omega (arith, left.frames_made, grows.len);
+      bytes_made = omega (arith, left.bytes_made, grows.size);
+      texts_shown = left.texts_shown;
+      bytes_shown = left.bytes_shown;
+      faults_told = left.faults_told;
+    } in
+    subst (λ (m : Made). HasLeft running m need votes frames) (sym rest) with_frames

@@ -1,0 +1,111 @@
+-- A piece of a seat's bytes at a node that runs.
+use Rattle.std.proofs.Common.{◌≡◌, ℕ, ◌+◌, ◌*◌, ◌≤◌, inl, inr, List, [], Result, Ok, Err, refl, sym, ap, subst, ◌∙◌, arith, length, vec_len}
+use Rattle.std.specs.Prelude.{◌⊎◌, ◌-◌, ◌^◌, ◌==◌, ◌||◌, nat_le, IsErrAnd}
+use Rattle.paxos_wire.specs.declared.limits.TheConstants.{SLOTS}
+use Rattle.paxos_wire.specs.declared.ballot.Ballot.{Ballot}
+use Rattle.slot_log.specs.Slots.{front}
+use Rattle.learner.specs.Learning.{Learned}
+use Rattle.node_rules.specs.Proposing.{higher}
+use Rattle.promise_store.specs.declared.disk.Disk.{Ghosts}
+use Rattle.promise_store.specs.declared.fault.StoreFault.TheVariants.{Disk}
+use Rattle.promise_store.specs.Disks.{Rose}
+use Rattle.promise_store.specs.Keeping.{LeavesDuring}
+use Rattle.protocol_model.specs.Stores.{Store}
+use Rattle.node_rules.specs.Standings.{Standing}
+use Rattle.node_rules.specs.Turns.{Turn, Refusal, and_then}
+use Rattle.node_rules.specs.Proposing.{closing}
+use Rattle.node_rules.specs.Rules.{IsTurnUp}
+use Rattle.node_rules.specs.Calls.{Line}
+use Rattle.dealer_node.specs.declared.up.Up.{Up}
+use Rattle.dealer_node.specs.declared.running.Running.{Running}
+use Rattle.dealer_node.specs.declared.made.Made.{Made}
+use Rattle.dealer_node.specs.declared.made.Need.{Need}
+use Rattle.dealer_node.specs.declared.fault.NodeFault.{NodeFault}
+use Rattle.dealer_node.specs.declared.fault.NodeFault.TheVariants as fault
+use Rattle.dealer_node.specs.Outs.{Told, nothing_told, both_told}
+use Rattle.dealer_node.specs.Posts.{Post, place_at}
+use Rattle.dealer_node.specs.Turned.{told_of}
+use Rattle.dealer_node.specs.Running.{TakesPiece, is_spent_at}
+use Rattle.dealer_node.specs.Working.{disk_under, head_of, StandsByIts, ComesTo, IsUp, Took, Failed, Clashed, Works, GoesOn}
+use Rattle.dealer_node.specs.Handling.{Stays, Handles, IsWithin}
+use Rattle.dealer_node.specs.Lines.{HearsLine, WorksLine}
+use Rattle.dealer_node.specs.Calling.{Unmoved, Wants, HandlesCall}
+use Rattle.dealer_node.proofs.Worked.{memory_took, then_works}
+use Rattle.dealer_node.proofs.Remembered.{turn_of}
+
+pub err_is : (r : Result (Unit {0}) NodeFault) (why : NodeFault) → IsErrAnd r (λ (f : NodeFault). f ≡ why) → r ≡ Err why
+err_is (Ok done) why e = absurd e
+err_is (Err f) why e = ap Err e
+
+err_of : (a b : NodeFault) → (let r : Result (Unit {0}) NodeFault = Err a in r) ≡ Err b → a ≡ b
+err_of a b e = cc
+
+pub spent_over : (old new : Running) (promised : Ballot) → new.seen ≡ old.seen → new.learner.learned ≡ old.learner.learned → is_spent_at new promised ≡ is_spent_at old promised
+spent_over old new promised seen learned =
+    ap (λ (b : Ballot). (higher b promised).round == 2 ^ 32 - 1 || nat_le SLOTS (front new.learner.learned.log)) seen
+    ∙ ap (λ (l : Learned). (higher old.seen promised).round == 2 ^ 32 - 1 || nat_le SLOTS (front l.log)) learned
+
+module _ {D : Type 0} (g : Ghosts D) where
+  pub line_heard : (post : Post) (s : Standing) (seat : ℕ) (piece : List ℕ) (up : Up D) (running : Running) (earlier later : Told)
+      → IsUp g post up s → TakesPiece post running earlier later seat piece s → HearsLine g post s seat piece up (record up { running = running }) earlier later
+  line_heard post s seat piece up running earlier later is takes = record {
+    heard = takes.turn;
+    rule = takes.rule;
+    took = memory_took g post s (Ok takes.turn) takes.turn up running earlier later is refl takes.taken.runs
+        (ap (λ (t : Standing). t.store) takes.rest) (ap (λ (t : Standing). t.begun) takes.rest)
+        (subst (λ (t : Standing). StandsByIts t) (sym takes.rest) is.stands) takes.taken.told takes.taken.fits;
+    store = ap (λ (t : Standing). t.store) takes.rest;
+  }
+
+  pub line_works : (post : Post) (s : Standing) (seat : ℕ) (piece : List ℕ) (a b c : Up D) (earlier middle later : Told) (answer : Result (Unit {0}) NodeFault)
+      → (heard : HearsLine g post s seat piece a b earlier middle)
+      → Works g post heard.took.turn.after (closing (place_at post) heard.took.turn.after) b c middle later answer
+      → WorksLine g post s seat piece a c earlier later answer
+  line_works post s seat piece a b c earlier middle later answer heard works = record {
+    heard = heard.heard;
+    rule = heard.rule;
+    works = then_works g post s (closing (place_at post)) (Ok heard.heard) a b c earlier middle later answer heard.took
+        (inl (ap (λ (t : Turn). t.after.store) (sym (turn_of heard.heard heard.took.turn heard.took.rule)) ∙ heard.store)) works;
+  }
+
+  -- ---- the whole call, from the room that was made on
+
+  -- of the room alone nothing is seen
+  pub works_over : (post : Post) (s : Standing) (outcome : Result Turn Refusal) (before between after : Up D) (made later out behind : Told) (answer : Result (Unit {0}) NodeFault)
+      → disk_under between ≡ disk_under before → made ≡ nothing_told → (answer ≡ Ok tt → behind ≡ both_told out later)
+      → Works g post s outcome between after made later answer → Handles g post s outcome before after out behind answer
+  works_over post s outcome before between after made later out behind (Ok done) same nothing appends w =
+      let L : D → Type 0 = λ d. LeavesDuring g (head_of post) s.store w.turn.after.store d (disk_under after) in
+      record {
+        turn = w.turn;
+        rule = w.rule;
+        now = w.now;
+        told = appends refl ∙ ap (both_told out) (w.told ∙ ap (λ (t : Told). both_told t (told_of w.turn)) nothing);
+        fits = w.fits;
+        moments = subst L same w.moments;
+      }
+  works_over post s outcome before between after made later out behind (Err (fault.Store Disk)) same nothing appends w =
+      let L : D → Type 0 = λ d. LeavesDuring g (head_of post) s.store w.left d (disk_under after) in
+      record { left = w.left; comes = w.comes; leaves = w.leaves; moments = subst L same w.moments }
+  works_over post s outcome before between after made later out behind (Err fault.Conflict) same nothing appends w =
+      let L : D → Type 0 = λ d. LeavesDuring g (head_of post) s.store w.left d (disk_under after) in
+      record { left = w.left; rule = w.rule; leaves = w.leaves; moments = subst L same w.moments }
+  works_over post s outcome before between after made later out behind (Err other) same nothing appends w = absurd w
+
+  pub wants_memory : (post : Post) (s : Standing) (before after : Up D) (answer : Result (Unit {0}) NodeFault) → Unmoved g before after → IsUp g post before s → answer ≡ Err fault.OutOfMemory
+      → Wants g post s before after answer
+  wants_memory post s before after answer unmoved is e = record { stays = record { now = unmoved.up post s is; disk = unmoved.disk }; memory = e }
+
+  pub goes_over : (before between after : Up D) (answer : Result (Unit {0}) NodeFault) → disk_under between ≡ disk_under before → GoesOn g between after answer → GoesOn g before after answer
+  goes_over before between after answer same on = record {
+    begun = on.begun ∙ ap (λ (d : D). g.begun d) same;
+    counts = let h : g.count (disk_under between) ≡ g.count (disk_under before) = ap (λ (d : D). g.count d) same in omega (arith, on.counts, h);
+    rose = λ e. subst (λ (n : ℕ). Rose n (g.count (disk_under after))) (ap (λ (d : D). g.count d) same) (on.rose e);
+  }
+
+  pub goes_nowhere : (before after : Up D) (answer : Result (Unit {0}) NodeFault) (why : NodeFault) → disk_under after ≡ disk_under before → answer ≡ Err why → (why ≡ fault.Store Disk → ⊥) → GoesOn g before after answer
+  goes_nowhere before after answer why same e other = record {
+    begun = ap (λ (d : D). g.begun d) same;
+    counts = let h : g.count (disk_under after) ≡ g.count (disk_under before) = ap (λ (d : D). g.count d) same in omega (arith, h);
+    rose = λ r. absurd (other (err_of why (fault.Store Disk) (sym e ∙ r)));
+  }

@@ -1,0 +1,132 @@
+-- What was learned is applied.
+use Rattle.std.proofs.Common.{◌≡◌, ℕ, ◌+◌, true≢false, List, [], ◌∷◌, ◌++◌, refl, ap, sym, ◌∙◌, subst, arith, length, drop, reverse, append_assoc}
+use Rattle.std.specs.Prelude.{map, Option, Result, Ok, Err, IsOk, IsErr}
+use Rattle.std.proofs.lemmas.List.{append-nil, reverse-append, reverse-reverse, length-reverse}
+use Rattle.slot_log.specs.Slots.{Log, front}
+use Rattle.slot_log.specs.declared.command.Command.{Command}
+use Rattle.slot_log.specs.declared.slot_fault.SlotFault.{SlotFault}
+use Rattle.seat_session.specs.Session.{Standing as Talk}
+use Rattle.learner.specs.Learning.{Learned, Learning}
+use Rattle.dealer_kind.specs.Kind.{Setting}
+use Rattle.protocol_model.specs.Stores.{Store}
+use Rattle.node_rules.specs.Standings.{Place, Standing, with_stored}
+use Rattle.node_rules.specs.Turns.{Turn, Conflict, sending, joined}
+use Rattle.node_rules.specs.Sending.{Frame}
+use Rattle.node_rules.specs.Learning.{learning}
+use Rattle.node_rules.specs.Applying.{Scene, taking, taking_all, passed, scene_of, applying}
+use Rattle.dealer_node.specs.declared.reader.Reader.{Reader}
+use Rattle.dealer_node.specs.declared.made.Made.{Made}
+use Rattle.dealer_node.specs.declared.running.Running.{Running}
+use Rattle.dealer_node.specs.Texts.{Marked}
+use Rattle.dealer_node.specs.Posts.{Post, place_at}
+use Rattle.dealer_node.specs.Outs.{Told}
+use Rattle.dealer_node.specs.Turned.{posted, printed}
+use Rattle.dealer_node.specs.Fitting.{AreMessages}
+use Rattle.dealer_node.specs.Scenes.{IsTableOf, IsScene}
+use Rattle.dealer_node.specs.Running.{IsRunning, IsTaken, GoesOn, CanLearn, Learns}
+use Rattle.dealer_node.proofs.Messages.{no_messages, both_messages}
+use Rattle.dealer_node.proofs.Telling.{told_with, frames_more, shown_more, told_more}
+
+-- ---- all that was passed is applied
+
+all_applied : (setting : Setting) (talks : List (Option Talk)) (commands : List Command) (scene : Scene)
+    → (taking_all setting talks commands scene).applied ≡ reverse commands ++ scene.applied
+unfolding taking_all
+all_applied setting talks [] scene = refl
+all_applied setting talks (command ∷ later) scene =
+    all_applied setting talks later (taking setting talks command scene)
+    ∙ (sym (append_assoc (reverse later) (command ∷ []) scene.applied) ∙ ap (λ (l : List Command). l ++ scene.applied) (sym (reverse-append (command ∷ []) later)))
+
+drop_front : {A : Type 0} (xs ys : List A) → drop (length ys) (ys ++ xs) ≡ xs
+drop_front xs [] = refl
+drop_front xs (y ∷ ys) = drop_front xs ys
+
+-- the commands that the front has passed, behind those before it, are all
+passed_all : (old new : Log) (later : List Command) → new.below ≡ later ++ old.below → reverse (passed old new) ++ old.below ≡ new.below
+passed_all old new later e =
+    let turned : reverse new.below ≡ reverse old.below ++ reverse later = ap (λ (l : List Command). reverse l) e ∙ reverse-append later old.below in
+    let rest : passed old new ≡ reverse later = ap (λ (l : List Command). drop (front old) l) turned ∙ (ap (λ k. drop k (reverse old.below ++ reverse later)) (sym (length-reverse old.below)) ∙ drop_front (reverse later) (reverse old.below)) in
+    ap (λ (l : List Command). reverse l ++ old.below) rest ∙ (ap (λ (l : List Command). l ++ old.below) (reverse-reverse later) ∙ sym e)
+
+-- ---- the turn of what was learned
+
+pub applied_taken : (post : Post) (old new : Running) (learner : Learning) (from : ℕ) (s : Standing) (learned : Learned) (told : Told) (shown : List (Marked Reader))
+    → IsRunning post old s → from ≡ front old.learner.learned.log → learner.learned ≡ learned → GoesOn old.learner.learned.log learner.learned.log
+    → ((scene : Scene) (before : List (Marked Reader)) → IsScene post.setting scene old.table old.pending before told.shown
+    → IsScene post.setting (taking_all post.setting old.seats.talks (drop from (reverse learner.learned.log.below)) scene) new.table new.pending before shown)
+    → new ≡ record old { learner = learner; table = new.table; pending = new.pending }
+    → IsTaken post new told (told_with told.frames shown told.faults) (applying (place_at post) learned s)
+applied_taken post old new learner from s learned told shown is here same goes scenes rest =
+    let first : IsScene post.setting (scene_of s) old.table old.pending told.shown told.shown = record { hands = is.hands; waits = is.waits; shown = sym (append-nil told.shown) } in
+    let end : Scene = taking_all post.setting s.sessions (passed s.learned.log learned.log) (scene_of s) in
+    let ends : taking_all post.setting old.seats.talks (drop from (reverse learner.learned.log.below)) (scene_of s) ≡ end =
+    ap (λ t. taking_all post.setting t (drop from (reverse learner.learned.log.below)) (scene_of s)) is.sessions
+    ∙ (ap (λ k. taking_all post.setting s.sessions (drop k (reverse learner.learned.log.below)) (scene_of s)) (here ∙ ap (λ (l : Learned). front l.log) is.learned)
+    ∙ ap (λ (l : Learned). taking_all post.setting s.sessions (drop (front s.learned.log) (reverse l.log.below)) (scene_of s)) same) in
+    let last : IsScene post.setting end new.table new.pending told.shown shown = subst (λ (scene : Scene). IsScene post.setting scene new.table new.pending told.shown shown) ends (scenes (scene_of s) told.shown first) in
+    let below : learned.log.below ≡ goes.later ++ s.learned.log.below =
+    ap (λ (l : Learned). l.log.below) (sym same) ∙ (goes.below ∙ ap (λ (l : Learned). goes.later ++ l.log.below) is.learned) in
+    let all : end.applied ≡ learned.log.below =
+    all_applied post.setting s.sessions (passed s.learned.log learned.log) (scene_of s) ∙ passed_all s.learned.log learned.log goes.later below in
+    record {
+      runs = record {
+        up = is.up;
+        campaign = ap (λ (r : Running). r.proposer.campaign) rest ∙ is.campaign;
+        learned = ap (λ (r : Running). r.learner.learned) rest ∙ same;
+        hands = subst (λ (l : List Command). IsTableOf post.setting l new.table) all last.hands;
+        waits = last.waits;
+        greatest = ap (λ (r : Running). r.seen) rest ∙ is.greatest;
+        sessions = ap (λ (r : Running). r.seats.talks) rest ∙ is.sessions;
+      };
+      told = shown_more told shown (map printed end.shown) last.shown;
+      fits = no_messages;
+    }
+
+-- what is learned without a fault is applied, and of a fault there is no turn
+pub learned_ok : {A : Type 0} (place : Place) (answer : Result A SlotFault) (learned : Learned) (s : Standing) → IsOk answer → learning place answer learned s ≡ Ok (applying place learned s)
+learned_ok place (Ok answer) learned s e = refl
+learned_ok place (Err fault) learned s e = absurd (true≢false (sym e))
+
+pub learned_err : {A : Type 0} (place : Place) (answer : Result A SlotFault) (learned : Learned) (s : Standing) → IsErr answer → learning place answer learned s ≡ Err (Conflict s.store)
+learned_err place (Ok answer) learned s e = absurd (true≢false (sym e))
+learned_err place (Err fault) learned s e = refl
+
+-- ---- frames alone
+
+pub sent_taken : (post : Post) (running : Running) (s : Standing) (told : Told) (texts : List (Marked ℕ)) (frames : List Frame) → IsRunning post running s
+    → texts ≡ told.frames ++ map posted frames → AreMessages frames → IsTaken post running told (told_with texts told.shown told.faults) (sending frames s)
+sent_taken post running s told texts frames is e messages = record { runs = is; told = frames_more told texts (map posted frames) e; fits = messages }
+
+-- ---- what is stored changes nothing of it
+
+pub stored_too : (post : Post) (running : Running) (s : Standing) (store : Store) → IsRunning post running s → IsRunning post running (with_stored s store)
+stored_too post running s store is = record {
+  up = is.up;
+  campaign = is.campaign;
+  learned = is.learned;
+  hands = is.hands;
+  waits = is.waits;
+  greatest = is.greatest;
+  sessions = is.sessions;
+}
+
+-- ---- room
+
+-- of room for one command more than these, room for these is left
+pub learns_on : (old new : Running) (earlier later : Made) (commands : ℕ) → CanLearn old earlier (commands + 1) → Learns old new earlier later → CanLearn new later commands
+learns_on old new earlier later commands can learns = record {
+  learner = omega (arith, can.learner, learns.learner);
+  table = omega (arith, can.table, learns.table, learns.ahead);
+  texts = omega (arith, can.texts, learns.shown.text_room, learns.ahead);
+  bytes = omega (arith, can.bytes, learns.shown.byte_room, learns.ahead);
+}
+
+-- ---- one turn behind another
+
+pub taken_behind : (post : Post) (mid new : Running) (earlier between later : Told) (first next : Turn)
+    → IsTaken post mid earlier between first → IsTaken post new between later next → IsTaken post new earlier later (joined first next)
+taken_behind post mid new earlier between later first next one other = record {
+  runs = other.runs;
+  told = told_more first next earlier between later one.told other.told;
+  fits = both_messages first.frames next.frames one.fits other.fits;
+}

@@ -1,0 +1,69 @@
+-- How much room is left once something was made.
+use Rattle.std.proofs.Common.{◌≡◌, ℕ, ◌+◌, ◌*◌, ◌≤◌, arith, ap, sym, subst, vec_len}
+use Rattle.dealer_node.specs.declared.running.Running.{Running}
+use Rattle.dealer_node.specs.declared.made.Made.{Made}
+use Rattle.dealer_node.specs.declared.made.Need.{Need}
+use Rattle.dealer_node.specs.Texts.{Written, byte_total}
+use Rattle.dealer_node.specs.Rooms.{Grows}
+use Rattle.dealer_node.specs.Running.{CanLearn, Learns, ahead_of}
+use Rattle.dealer_node.specs.Working.{HasLeft}
+
+-- a vote was told and counted
+pub voted_left : (old new : Running) (earlier later : Made) (need : Need) (votes frames nodes : ℕ) → nodes ≤ 5 → Learns old new earlier later → Grows earlier.frames later.frames nodes (46 * nodes)
+    → later ≡ record earlier { frames = later.frames; shown = later.shown } → HasLeft old earlier need (votes + 1) (frames + 5) → HasLeft new later need votes frames
+voted_left old new earlier later need votes frames nodes few learns grows rest left =
+    let same : vec_len later.faults ≡ vec_len earlier.faults = ap (λ (m : Made). vec_len m.faults) rest in
+    record {
+      learn = record {
+        learner = omega (arith, left.learn.learner, learns.learner);
+        table = omega (arith, left.learn.table, learns.table, learns.ahead);
+        texts = omega (arith, left.learn.texts, learns.shown.text_room, learns.ahead);
+        bytes = omega (arith, left.learn.bytes, learns.shown.byte_room, learns.ahead);
+      };
+      texts = omega (arith, left.texts, grows.text_room);
+      bytes = omega (arith, left.bytes, grows.byte_room);
+      frames_made = omega (arith, left.frames_made, grows.len);
+      bytes_made = omega (arith, left.bytes_made, grows.size);
+      texts_shown = omega (arith, left.texts_shown, learns.shown.len, learns.ahead);
+      bytes_shown = omega (arith, left.bytes_shown, learns.shown.size, learns.ahead);
+      faults_told = omega (arith, left.faults_told, same);
+    }
+
+-- fewer frames, and another ballot
+pub fewer_left : (old new : Running) (made : Made) (need : Need) (votes more frames : ℕ) → frames ≤ more → new ≡ record old { proposer = new.proposer } → HasLeft old made need votes more → HasLeft new made need votes frames
+fewer_left old new made need votes more frames fewer rest left =
+    let same : HasLeft old made need votes frames = record {
+      learn = left.learn;
+      texts = omega (arith, left.texts, fewer);
+      bytes = omega (arith, left.bytes, fewer);
+      frames_made = omega (arith, left.frames_made, fewer);
+      bytes_made = omega (arith, left.bytes_made, fewer);
+      texts_shown = left.texts_shown;
+      bytes_shown = left.bytes_shown;
+      faults_told = left.faults_told;
+    } in
+    let with_proposer : HasLeft (record old { proposer = new.proposer }) made need votes frames = record {
+      learn = record { learner = same.learn.learner; table = same.learn.table; texts = same.learn.texts; bytes = same.learn.bytes };
+      texts = same.texts;
+      bytes = same.bytes;
+      frames_made = same.frames_made;
+      bytes_made = same.bytes_made;
+      texts_shown = same.texts_shown;
+      bytes_shown = same.bytes_shown;
+      faults_told = same.faults_told;
+    } in
+    subst (λ (r : Running). HasLeft r made need votes frames) (sym rest) with_proposer
+
+-- frames to the others were sent
+pub sent_left : (running : Running) (earlier : Made) (new : Written ℕ) (need : Need) (votes frames more nodes : ℕ) → nodes + frames ≤ more → Grows earlier.frames new nodes (46 * nodes)
+    → HasLeft running earlier need votes more → HasLeft running (record earlier { frames = new }) need votes frames
+sent_left running earlier new need votes frames more nodes few grows left = record {
+  learn = record { learner = left.learn.learner; table = left.learn.table; texts = left.learn.texts; bytes = left.learn.bytes };
+  texts = omega (arith, left.texts, grows.text_room, few);
+  bytes = omega (arith, left.bytes, grows.byte_room, few);
+  frames_made = omega (arith, left.frames_made, grows.len, few);
+  bytes_made = omega (arith, left.bytes_made, grows.size, few);
+  texts_shown = left.texts_shown;
+  bytes_shown = left.bytes_shown;
+  faults_told = left.faults_told;
+}

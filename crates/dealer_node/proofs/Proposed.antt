@@ -1,0 +1,254 @@
+-- What a node proposes.
+use borrow.Author.Tests.{le-leb, lt-leb}
+use Rattle.std.proofs.Common.{◌≡◌, ℕ, zero, suc, ◌<◌, ◌≤◌, Bool, true, false, true≢false, List, [], ◌∷◌, ◌++◌, refl, ap, sym, ◌∙◌, subst}
+use Rattle.std.specs.Prelude.{map, ◌==◌, ◌&&◌, nat_le, not, if◌then◌else◌, Option, Some, None, IfSome, Result, Ok, Err}
+use Rattle.std.specs.List.{AllByRecursion}
+use Rattle.paxos_wire.specs.declared.limits.TheConstants.{SLOTS}
+use Rattle.paxos_wire.specs.declared.ballot.Ballot.{Ballot}
+use Rattle.paxos_wire.specs.declared.entry.Entry.{Entry}
+use Rattle.paxos_wire.specs.declared.message.Message.TheVariants.{Prepare, Accept as AcceptFrame}
+use Rattle.paxos_wire.specs.Fits.{Fits, IsBallot, IsEntry, IsInRange}
+use Rattle.slot_log.specs.Slots.{front}
+use Rattle.slot_log.specs.declared.command.Command.{Command}
+use Rattle.proposer.specs.declared.accept.Accept.{Accept}
+use Rattle.proposer.specs.declared.campaign.Campaign.{Campaign}
+use Rattle.proposer.specs.declared.fault.ProposeFault.{ProposeFault}
+use Rattle.proposer.specs.declared.fault.ProposeFault.TheVariants.{OutOfWindow}
+use Rattle.proposer.specs.Told.{is_below, better, best_in, best_after}
+use Rattle.proposer.specs.Campaigns.{Proposing, next_ballot, new_campaign, with_promise, counting, counting_from, has_quorum, leads, is_covered, is_proposed, promise_by, greatest_told, value_of, accept_of, proposal_from, marked_from}
+use Rattle.learner.specs.Learning.{Learned}
+use Rattle.node_rules.specs.Standings.{Standing, applied, front_of, idle}
+use Rattle.node_rules.specs.Sending.{Frame, to_first}
+use Rattle.node_rules.specs.Turns.{still}
+use Rattle.node_rules.specs.Accepting.{told_by}
+use Rattle.node_rules.specs.Proposing.{prepared, beginning, own_value, proposal_at, closing, closing_by}
+use Rattle.dealer_node.specs.declared.running.Running.{Running}
+use Rattle.dealer_node.specs.Texts.{Marked}
+use Rattle.dealer_node.specs.Posts.{Post, place_at}
+use Rattle.dealer_node.specs.Outs.{Told}
+use Rattle.dealer_node.specs.Turned.{posted}
+use Rattle.dealer_node.specs.Fitting.{AreMessages}
+use Rattle.dealer_node.specs.Running.{IsRunning, IsTaken, IsCampaign, IsAt, Closes, proposed_by}
+use Rattle.dealer_node.specs.Scenes.{IsTableOf}
+use Rattle.dealer_node.proofs.Telling.{told_with, frames_more}
+
+-- ---- what is proposed has its numbers within their ranges
+
+best_by : (slot : ℕ) (entry : Entry) (best : Option Entry) → IfSome best (λ e. IsEntry e) → IsEntry entry → IfSome (better best slot entry) (λ e. IsEntry e)
+best_by slot entry None is one = none_by (entry.slot == slot)
+  where
+    none_by : (b : Bool) → IfSome (if b then Some entry else None) (λ e. IsEntry e)
+    none_by true = one
+    none_by false = tt
+best_by slot entry (Some best) is one = some_by (entry.slot == slot) (is_below best.ballot entry.ballot)
+  where
+    some_by : (b below : Bool) → IfSome (if b then (if below then Some entry else Some best) else Some best) (λ e. IsEntry e)
+    some_by true true = one
+    some_by true false = is
+    some_by false below = is
+
+best_of : (best : Option Entry) (slot : ℕ) (entries : List Entry) → IfSome best (λ e. IsEntry e) → AllByRecursion IsEntry entries → IfSome (best_in best slot entries) (λ e. IsEntry e)
+best_of best slot [] is all = is
+best_of best slot (entry ∷ entries) is all = best_of (better best slot entry) slot entries (best_by slot entry best is all.0) all.1
+
+after_of : (best : Option Entry) (slot : ℕ) (told : Option (List Entry)) → IfSome best (λ e. IsEntry e) → IfSome told (λ entries. AllByRecursion IsEntry entries) → IfSome (best_after best slot told) (λ e. IsEntry e)
+after_of best slot None is all = is
+after_of best slot (Some entries) is all = best_of best slot entries is all
+
+told_entry : (campaign : Campaign) (slot n : ℕ) → IsCampaign campaign → IfSome (greatest_told campaign slot n) (λ e. IsEntry e)
+told_entry campaign slot zero is = tt
+told_entry campaign slot (suc n) is = after_of (greatest_told campaign slot n) slot (promise_by campaign n) (told_entry campaign slot n is) (is.told n)
+
+value_within : (told : Option Entry) (own : Option Command) → IfSome told (λ e. IsEntry e) → IfSome own (λ c. IsInRange c) → IfSome (value_of told own) (λ c. IsInRange c)
+value_within None own is within = within
+value_within (Some entry) own is within = is.command
+
+abbrev Fitting : Option Accept → Type 0
+Fitting made = IfSome made (λ m. Fits (AcceptFrame m.ballot m.slot m.command))
+
+accept_fits : (campaign : Campaign) (slot : ℕ) (value : Option Command) → IsBallot campaign.ballot → slot < SLOTS → IfSome value (λ c. IsInRange c) → Fitting (accept_of campaign slot value)
+accept_fits campaign slot None ballot here within = tt
+accept_fits campaign slot (Some command) ballot here within = (ballot, here, within)
+
+ok_fits : (made other : Option Accept) → (let left : Result (Option Accept) ProposeFault = Ok made in left) ≡ Ok other → Fitting other → Fitting made
+ok_fits made other e fits = let same : other ≡ made = cc in subst (λ (m : Option Accept). Fitting m) same fits
+
+by_tests : (campaign : Campaign) (slot : ℕ) (value : Option Command) (made : Option Accept) (quorum covered proposed : Bool)
+    → Ok made ≡ (let outcome : Result (Option Accept) ProposeFault = if not quorum then Ok None else if not covered then Err OutOfWindow else if proposed then Ok None else Ok (accept_of campaign slot value) in outcome)
+    → IsBallot campaign.ballot → (quorum ≡ true → slot < SLOTS) → IfSome value (λ c. IsInRange c) → Fitting made
+by_tests campaign slot value made false covered proposed e ballot here within = ok_fits made None e tt
+by_tests campaign slot value made true false proposed e ballot here within = absurd (cc)
+by_tests campaign slot value made true true true e ballot here within = ok_fits made None e tt
+by_tests campaign slot value made true true false e ballot here within = ok_fits made (accept_of campaign slot value) e (accept_fits campaign slot value ballot (here refl) within)
+
+pub made_fits : (nodes slot : ℕ) (campaign : Option Campaign) (own : Option Command) (made : Option Accept) → Ok made ≡ proposal_from nodes campaign slot own
+    → IfSome campaign (λ c. IsCampaign c) → (leads nodes campaign ≡ true → slot < SLOTS) → IfSome own (λ c. IsInRange c) → Fitting made
+made_fits nodes slot None own made e is here within = ok_fits made None e tt
+made_fits nodes slot (Some campaign) own made e is here within =
+    by_tests campaign slot (value_of (greatest_told campaign slot nodes) own) made (has_quorum nodes campaign) (is_covered campaign.first slot) (is_proposed campaign slot) e is.ballot here
+    (value_within (greatest_told campaign slot nodes) own (told_entry campaign slot nodes is) within)
+
+-- ---- what is proposed is of the ballot that is led
+
+abbrev IsOf : Ballot → Option Accept → Type 0
+IsOf ballot made = IfSome made (λ m. m.ballot ≡ ballot)
+
+ok_of : (ballot : Ballot) (made other : Option Accept) → (let left : Result (Option Accept) ProposeFault = Ok made in left) ≡ Ok other → IsOf ballot other → IsOf ballot made
+ok_of ballot made other e is = let same : other ≡ made = cc in subst (λ (m : Option Accept). IsOf ballot m) same is
+
+accept_is_of : (campaign : Campaign) (slot : ℕ) (value : Option Command) (ballot : Ballot) → campaign.ballot ≡ ballot → IsOf ballot (accept_of campaign slot value)
+accept_is_of campaign slot None ballot e = tt
+accept_is_of campaign slot (Some command) ballot e = e
+
+of_by_tests : (campaign : Campaign) (slot : ℕ) (value : Option Command) (made : Option Accept) (ballot : Ballot) (quorum covered proposed : Bool)
+    → Ok made ≡ (let outcome : Result (Option Accept) ProposeFault = if not quorum then Ok None else if not covered then Err OutOfWindow else if proposed then Ok None else Ok (accept_of campaign slot value) in outcome)
+    → campaign.ballot ≡ ballot → IsOf ballot made
+of_by_tests campaign slot value made ballot false covered proposed e is = ok_of ballot made None e tt
+of_by_tests campaign slot value made ballot true false proposed e is = absurd (cc)
+of_by_tests campaign slot value made ballot true true true e is = ok_of ballot made None e tt
+of_by_tests campaign slot value made ballot true true false e is = ok_of ballot made (accept_of campaign slot value) e (accept_is_of campaign slot value ballot is)
+
+made_is_of : (nodes slot : ℕ) (campaign : Option Campaign) (own : Option Command) (made : Option Accept) → Ok made ≡ proposal_from nodes campaign slot own
+    → (ballot : Ballot) → IfSome campaign (λ c. c.ballot ≡ ballot) → IsOf ballot made
+made_is_of nodes slot None own made e ballot is = ok_of ballot made None e tt
+made_is_of nodes slot (Some campaign) own made e ballot is =
+    of_by_tests campaign slot (value_of (greatest_told campaign slot nodes) own) made ballot (has_quorum nodes campaign) (is_covered campaign.first slot) (is_proposed campaign slot) e is
+
+marked_stands : (campaign : Option Campaign) (made : Option Accept) (ballot : Ballot) → IfSome campaign (λ c. c.ballot ≡ ballot) → IfSome (marked_from campaign (Ok made)) (λ c. c.ballot ≡ ballot)
+marked_stands None made ballot is = tt
+marked_stands (Some campaign) None ballot is = is
+marked_stands (Some campaign) (Some accept) ballot is = is
+
+-- ---- the close
+
+-- a slot is left for a node that leads
+open_by : (leading : Bool) (slot : ℕ) → (leading ≡ true → slot < SLOTS) → (leading && nat_le SLOTS slot) ≡ false
+open_by true slot here = lt-leb SLOTS slot (here refl)
+open_by false slot here = refl
+
+spent_by : (leading : Bool) (slot : ℕ) → leading ≡ true → SLOTS ≤ slot → (leading && nat_le SLOTS slot) ≡ true
+spent_by true slot e here = le-leb SLOTS slot here
+spent_by false slot e here = absurd (true≢false (sym e))
+
+-- it leads and no slot is left
+abbrev is_spent_leader : Post → Standing → Bool
+is_spent_leader post s = leads post.nodes s.campaign && nat_le SLOTS (front_of s)
+
+-- the campaign alone has changed
+runs_with : (post : Post) (old new : Running) (s : Standing) (campaign : Option Campaign) → IsRunning post old s → new.proposer.campaign ≡ campaign → new ≡ record old { proposer = new.proposer }
+    → IsRunning post new (record s { campaign = campaign })
+runs_with post old new s campaign is marks rest = record {
+  up = is.up;
+  campaign = marks;
+  learned = ap (λ (r : Running). r.learner.learned) rest ∙ is.learned;
+  hands = subst (λ (r : Running). IsTableOf post.setting (applied s) r.table) (sym rest) is.hands;
+  waits = ap (λ (r : Running). r.pending) rest ∙ is.waits;
+  greatest = ap (λ (r : Running). r.seen) rest ∙ is.greatest;
+  sessions = ap (λ (r : Running). r.seats.talks) rest ∙ is.sessions;
+}
+
+module _ (post : Post) (old : Running) (s : Standing) (at : IsAt post old) (is : IsRunning post old s) where
+  same_front : front old.learner.learned.log ≡ front_of s
+  same_front = ap (λ (l : Learned). front l.log) is.learned
+
+  same_proposal : (own : Option Command) (slot : ℕ) (outcome : Result (Option Accept) ProposeFault) → outcome ≡ proposal_from old.proposer.nodes old.proposer.campaign slot own → slot ≡ front old.learner.learned.log → own ≡ own_value (place_at post) s
+      → proposal_at (place_at post) s ≡ outcome
+  same_proposal own slot outcome e here value =
+      sym (e ∙ (ap (λ n. proposal_from n old.proposer.campaign slot own) at.nodes
+      ∙ (ap (λ (c : Option Campaign). proposal_from post.nodes c slot own) is.campaign
+      ∙ (ap (λ k. proposal_from post.nodes s.campaign k own) (here ∙ same_front)
+      ∙ ap (λ (v : Option Command). proposal_from post.nodes s.campaign (front_of s) v) value))))
+
+  goes_on : (leads post.nodes old.proposer.campaign ≡ true → front old.learner.learned.log < SLOTS) → is_spent_leader post s ≡ false
+  goes_on left = open_by (leads post.nodes s.campaign) (front_of s) (λ e. subst (λ k. k < SLOTS) same_front (left (ap (λ (c : Option Campaign). leads post.nodes c) is.campaign ∙ e)))
+
+  close_by : (outcome : Result (Option Accept) ProposeFault) → proposal_at (place_at post) s ≡ outcome
+      → (leads post.nodes old.proposer.campaign ≡ true → front old.learner.learned.log < SLOTS)
+      → closing (place_at post) s ≡ closing_by (place_at post) outcome (record s { campaign = marked_from s.campaign outcome })
+  close_by outcome e left =
+      ap (λ (b : Bool). if b then Ok (still (idle s)) else closing_by (place_at post) (proposal_at (place_at post) s) (record s { campaign = marked_from s.campaign (proposal_at (place_at post) s) })) (goes_on left)
+      ∙ ap (λ (p : Result (Option Accept) ProposeFault). closing_by (place_at post) p (record s { campaign = marked_from s.campaign p })) e
+
+  closed : (made : Option Accept) (after : Standing) → closing_by (place_at post) (Ok made) after ≡ proposed_by (place_at post) made after
+  closed None after = refl
+  closed (Some made) after = refl
+
+  pub close_proposed : (new : Running) (own : Option Command) (slot : ℕ) (made : Option Accept)
+      → Ok made ≡ proposal_from old.proposer.nodes old.proposer.campaign slot own → slot ≡ front old.learner.learned.log → own ≡ own_value (place_at post) s
+      → (leads post.nodes old.proposer.campaign ≡ true → front old.learner.learned.log < SLOTS)
+      → new.proposer.campaign ≡ marked_from old.proposer.campaign (Ok made) → new ≡ record old { proposer = new.proposer } → Closes post new s made
+  close_proposed new own slot made e here value left marks rest =
+      let campaign : Option Campaign = marked_from s.campaign (Ok made) in
+      record {
+        marked = record s { campaign = campaign };
+        runs = runs_with post old new s campaign is (marks ∙ ap (λ (c : Option Campaign). marked_from c (Ok made)) is.campaign) rest;
+        rule = close_by (Ok made) (same_proposal own slot (Ok made) e here value) left ∙ closed made (record s { campaign = campaign });
+        rest = refl;
+        stands = marked_stands s.campaign made;
+        own = λ ballot led. made_is_of old.proposer.nodes slot old.proposer.campaign own made e ballot (subst (λ (c : Option Campaign). IfSome c (λ k. k.ballot ≡ ballot)) (sym is.campaign) led);
+      }
+
+  pub close_outside : (new : Running) (own : Option Command) (slot : ℕ) (fault : ProposeFault)
+      → Err fault ≡ proposal_from old.proposer.nodes old.proposer.campaign slot own → slot ≡ front old.learner.learned.log → own ≡ own_value (place_at post) s
+      → (leads post.nodes old.proposer.campaign ≡ true → front old.learner.learned.log < SLOTS)
+      → new.proposer.campaign ≡ None → new ≡ record old { proposer = new.proposer } → Closes post new s None
+  close_outside new own slot fault e here value left gone rest = record {
+    marked = idle s;
+    runs = runs_with post old new s None is gone rest;
+    rule = close_by (Err fault) (same_proposal own slot (Err fault) e here value) left;
+    rest = refl;
+    stands = λ ballot led. tt;
+    own = λ ballot led. tt;
+  }
+
+  pub close_spent : (new : Running) → leads old.proposer.nodes old.proposer.campaign ≡ true → SLOTS ≤ front old.learner.learned.log
+      → new.proposer.campaign ≡ None → new ≡ record old { proposer = new.proposer } → Closes post new s None
+  close_spent new leading most gone rest =
+      let leads_too : leads post.nodes s.campaign ≡ true =
+      ap (λ (c : Option Campaign). leads post.nodes c) (sym is.campaign) ∙ (ap (λ n. leads n old.proposer.campaign) (sym at.nodes) ∙ leading) in
+      let spent : is_spent_leader post s ≡ true = spent_by (leads post.nodes s.campaign) (front_of s) leads_too (subst (λ k. SLOTS ≤ k) same_front most) in
+      record {
+        marked = idle s;
+        runs = runs_with post old new s None is gone rest;
+        rule = ap (λ (b : Bool). if b then Ok (still (idle s)) else closing_by (place_at post) (proposal_at (place_at post) s) (record s { campaign = marked_from s.campaign (proposal_at (place_at post) s) })) spent;
+        rest = refl;
+        stands = λ ballot led. tt;
+        own = λ ballot led. tt;
+      }
+
+-- ---- a ballot begins
+
+pub begun_taken : (post : Post) (old : Running) (begun counted : Proposing) (s : Standing) (seen ballot : Ballot) (slot node nodes number : ℕ) (entries : List Entry) (told : Told) (texts : List (Marked ℕ))
+    → IsAt post old → IsRunning post old s → slot ≡ front old.learner.learned.log → node ≡ post.node → nodes ≡ post.nodes → number ≡ post.node
+    → ballot ≡ next_ballot old.proposer.node seen
+    → begun ≡ record old.proposer { campaign = Some (new_campaign (next_ballot old.proposer.node seen) slot) }
+    → counted ≡ counting begun node ballot slot entries → entries ≡ told_by s.store (front_of s)
+    → texts ≡ told.frames ++ map posted (to_first nodes number (Prepare ballot slot)) → AreMessages (to_first nodes number (Prepare ballot slot))
+    → IsTaken post (record old { proposer = counted }) told (told_with texts told.shown told.faults) (beginning (place_at post) ballot s)
+begun_taken post old begun counted s seen ballot slot node nodes number entries told texts at is here own many own_too next begins counts tells sends fits =
+    let at_front : slot ≡ front_of s = here ∙ ap (λ (l : Learned). front l.log) is.learned in
+    let first : begun.campaign ≡ Some (new_campaign ballot slot) =
+    ap (λ (p : Proposing). p.campaign) begins ∙ ap (λ (b : Ballot). Some (new_campaign b slot)) (sym next) in
+    let total : begun.nodes ≡ post.nodes = ap (λ (p : Proposing). p.nodes) begins ∙ at.nodes in
+    let campaign : counted.campaign ≡ Some (prepared (place_at post) ballot s) =
+    ap (λ (p : Proposing). p.campaign) counts
+    ∙ (ap (λ (c : Option Campaign). counting_from begun.nodes c node ballot slot entries) first
+    ∙ (ap (λ n. Some (with_promise n (new_campaign ballot slot) node ballot slot entries)) total
+    ∙ (ap (λ n. Some (with_promise post.nodes (new_campaign ballot slot) n ballot slot entries)) own
+    ∙ (ap (λ k. Some (with_promise post.nodes (new_campaign ballot k) post.node ballot k entries)) at_front
+    ∙ ap (λ (es : List Entry). Some (with_promise post.nodes (new_campaign ballot (front_of s)) post.node ballot (front_of s) es)) tells)))) in
+    let frames : to_first nodes number (Prepare ballot slot) ≡ to_first post.nodes post.node (Prepare ballot (front_of s)) =
+    ap (λ n. to_first n number (Prepare ballot slot)) many ∙ (ap (λ n. to_first post.nodes n (Prepare ballot slot)) own_too ∙ ap (λ k. to_first post.nodes post.node (Prepare ballot k)) at_front) in
+    record {
+      runs = record {
+        up = is.up;
+        campaign = campaign;
+        learned = is.learned;
+        hands = is.hands;
+        waits = is.waits;
+        greatest = is.greatest;
+        sessions = is.sessions;
+      };
+      told = frames_more told texts (map posted (to_first post.nodes post.node (Prepare ballot (front_of s)))) (sends ∙ ap (λ (fs : List Frame). told.frames ++ map posted fs) frames);
+      fits = subst (λ (fs : List Frame). AreMessages fs) frames fits;
+    }

@@ -1,0 +1,239 @@
+-- What a start makes of a node.
+use Rattle.std.proofs.Common.{◌≡◌, ℕ, inl, inr, Bool, true, false, List, [], ◌∷◌, Result, Ok, Err, refl, sym, ap, subst, ◌∙◌}
+use Rattle.std.specs.Prelude.{◌⊎◌, Option, Some, None, is_some}
+use Rattle.promise_store.specs.declared.disk.Disk.{Ghosts}
+use Rattle.promise_store.specs.declared.fault.StoreFault.TheVariants.{Disk}
+use Rattle.promise_store.specs.declared.store.Store.{Store as Journal}
+use Rattle.promise_store.specs.Settled.{OnlyReads}
+use Rattle.promise_store.specs.Keeping.{disk_of, Keeps, Leaves}
+use Rattle.acceptor.specs.Stored.{store_of}
+use Rattle.acceptor.specs.declared.acceptor.Acceptor.{Acceptor}
+use Rattle.protocol_model.specs.Stores.{Store}
+use Rattle.slot_log.specs.Hand.{Match}
+use Rattle.node_rules.specs.Standings.{Standing, started}
+use Rattle.node_rules.specs.Turns.{Turn, still}
+use Rattle.node_rules.specs.Calls.{Start}
+use Rattle.node_rules.specs.Rules.{asking_all, starting}
+use Rattle.node_rules.specs.Showing.{header}
+use Rattle.node_rules.specs.Called.{took, unchanged}
+use Rattle.dealer_node.specs.declared.up.Up.{Up}
+use Rattle.dealer_node.specs.declared.running.Running.{Running}
+use Rattle.dealer_node.specs.declared.fault.NodeFault.{NodeFault}
+use Rattle.dealer_node.specs.declared.fault.NodeFault.TheVariants as fault
+use Rattle.dealer_node.specs.Outs.{Told, nothing_told, both_told}
+use Rattle.dealer_node.specs.Posts.{Post, place_at}
+use Rattle.dealer_node.specs.Turned.{told_of}
+use Rattle.dealer_node.specs.Fitting.{AreMessages}
+use Rattle.dealer_node.specs.Running.{IsRunning}
+use Rattle.dealer_node.specs.Working.{head_of, disk_under}
+use Rattle.dealer_node.specs.Starting.{Starts, StaysDown}
+use Rattle.dealer_node.specs.declared.node.Node.TheInside.{Inside}
+use Rattle.dealer_node.specs.Nodes.{Node}
+use Rattle.dealer_node.specs.NodeInside.{node_of}
+use Rattle.dealer_node.specs.Seeing.{IsSeen}
+use Rattle.dealer_node.specs.Taking.{IsStart, Takes}
+use Rattle.dealer_node.proofs.Messages.{no_messages}
+use Rattle.dealer_node.proofs.Worked.{memory_took, nothing_more}
+use Rattle.dealer_node.proofs.Settled.{noted, read_back, turn_down, may_down, down_by, up_took, seen_at}
+
+module _ {D : Type 0} (g : Ghosts D) where
+  -- an opened store runs
+  starts_with : (post : Post) (store begun found : Store) (disk : D) (acceptor : Acceptor D) (running : Running) (earlier later : Told)
+      → (found ≡ store) ⊎ (found ≡ begun) → Keeps g (head_of post) found (store_of acceptor) → IsRunning post running (started (place_at post) found)
+      → Leaves g (head_of post) store begun disk → OnlyReads g disk (disk_of (store_of acceptor))
+      → later ≡ both_told earlier (told_of (starting (place_at post) found)) → AreMessages (asking_all (place_at post) found)
+      → Starts g post store begun disk (record { acceptor = acceptor; running = running }) earlier later
+  starts_with post store begun found disk acceptor running earlier later either keeps runs leaves reads told fits = record {
+    found = found;
+    either = either;
+    now = record { running = runs; keeps = keeps; unbegun = refl; stands = tt };
+    told = told;
+    fits = fits;
+    moments = λ t image at. elim (reads.during t image at) [ inl was ↦ inl was | inr now ↦ inr (leaves image now) ];
+  }
+
+  pub starts_by : (post : Post) (store begun : Store) (disk : D) (acceptor : Acceptor D) (running : Running) (earlier later : Told)
+      → Keeps g (head_of post) store (store_of acceptor) ⊎ Keeps g (head_of post) begun (store_of acceptor)
+      → ((found : Store) → IsRunning post running (started (place_at post) found))
+      → Leaves g (head_of post) store begun disk → OnlyReads g disk (disk_of (store_of acceptor))
+      → ((found : Store) → Keeps g (head_of post) found (store_of acceptor) → later ≡ both_told earlier (told_of (starting (place_at post) found)))
+      → ((found : Store) → Keeps g (head_of post) found (store_of acceptor) → AreMessages (asking_all (place_at post) found))
+      → Starts g post store begun disk (record { acceptor = acceptor; running = running }) earlier later
+  starts_by post store begun disk acceptor running earlier later (inl keeps) runs leaves reads told fits =
+      starts_with post store begun store disk acceptor running earlier later (inl refl) keeps (runs store) leaves reads (told store keeps) (fits store keeps)
+  starts_by post store begun disk acceptor running earlier later (inr keeps) runs leaves reads told fits =
+      starts_with post store begun begun disk acceptor running earlier later (inr refl) keeps (runs begun) leaves reads (told begun keeps) (fits begun keeps)
+
+  pub stays_by : (post : Post) (store begun : Store) (before after : D) (why : NodeFault) → Leaves g (head_of post) store begun before → OnlyReads g before after
+      → (why ≡ fault.OutOfMemory) ⊎ (why ≡ fault.Store Disk) → StaysDown g post store begun before after why
+  stays_by post store begun before after why leaves reads e = record {
+    leaves = λ image at. leaves image (reads.images image at);
+    moments = λ t image at. elim (reads.during t image at) [ inl was ↦ inl was | inr now ↦ inr (leaves image now) ];
+    fault = e;
+  }
+
+  -- ---- of the node
+
+  -- one that was down
+  pub down_started : (post : Post) (blank : Match) (disk : D) (other : Option D) (up : Up D) (s : Standing) (earlier later : Told)
+      → IsSeen g (noted g post blank (Some disk) None) s → Starts g post s.store s.begun disk up earlier later
+      → (found : Store) × Takes g (Start found) s (noted g post blank (Some disk) None) (noted g post blank other (Some up)) earlier later (Ok tt)
+  down_started post blank disk other up s earlier later seen st =
+      let place = place_at post in
+      let down : s.up ≡ false = down_by g post (Some disk) s seen.by in (
+        st.found,
+        record {
+          after = started place st.found;
+          frames = asking_all place st.found;
+          shown = header post.setting ∷ [];
+          faults = [];
+          now = record { by = st.now; blank = seen.blank };
+          ends = took (starting place st.found) (turn_down place s (Start st.found) (Ok (starting place st.found)) down (st.either, refl)) refl refl refl;
+          answered = (refl, refl);
+          told = st.told;
+          fits = read_back (asking_all place st.found) st.fits;
+          next = s.begun;
+          may_begin = may_down place s (Start st.found) down;
+          moments = st.moments;
+        },
+      )
+
+  is_start : (up : Bool) (found : Store) → up ≡ false → IsStart up (Start found)
+  is_start true found e = absurd (cc)
+  is_start false found e = tt
+
+  why_unchanged : (up : Bool) (found : Store) (why : NodeFault) → up ≡ false → (why ≡ fault.OutOfMemory) ⊎ (why ≡ fault.Store Disk)
+      → (let answer : Result (Unit {0}) NodeFault = Err why in answer ≡ Err fault.OutOfMemory) ⊎ (IsStart up (Start found) × (let answer : Result (Unit {0}) NodeFault = Err why in answer ≡ Err (fault.Store Disk)))
+  why_unchanged up found why down (inl e) = inl (ap Err e)
+  why_unchanged up found why down (inr e) = inr (is_start up found down, ap Err e)
+
+  -- one whose store wasn't opened
+  pub down_unstarted : (post : Post) (blank : Match) (disk left : D) (s : Standing) (told : Told) (why : NodeFault)
+      → IsSeen g (noted g post blank (Some disk) None) s → StaysDown g post s.store s.begun disk left why
+      → (found : Store) × Takes g (Start found) s (noted g post blank (Some disk) None) (noted g post blank (Some left) None) told told (Err why)
+  down_unstarted post blank disk left s told why seen stays =
+      let place = place_at post in
+      let down : s.up ≡ false = down_by g post (Some disk) s seen.by in (
+        s.store,
+        record {
+          after = s;
+          frames = [];
+          shown = [];
+          faults = [];
+          now = record { by = record { stopped = seen.by.stopped; leaves = stays.leaves }; blank = seen.blank };
+          ends = unchanged refl refl refl;
+          answered = (refl, why_unchanged s.up s.store why down stays.fault);
+          told = nothing_more told s;
+          fits = λ one at. absurd at;
+          next = s.begun;
+          may_begin = may_down place s (Start s.store) down;
+          moments = stays.moments;
+        },
+      )
+
+  -- one for which there was no memory
+  pub down_wanting : (post : Post) (blank : Match) (disk : Option D) (s : Standing) (told : Told)
+      → IsSeen g (noted g post blank disk None) s
+      → (found : Store) × Takes g (Start found) s (noted g post blank disk None) (noted g post blank disk None) told told (Err fault.OutOfMemory)
+  down_wanting post blank disk s told seen =
+      let place = place_at post in
+      let down : s.up ≡ false = down_by g post disk s seen.by in (
+        s.store,
+        record {
+          after = s;
+          frames = [];
+          shown = [];
+          faults = [];
+          now = seen;
+          ends = unchanged refl refl refl;
+          answered = (refl, inl refl);
+          told = nothing_more told s;
+          fits = λ one at. absurd at;
+          next = s.begun;
+          may_begin = may_down place s (Start s.store) down;
+          moments = λ t image was. inl was;
+        },
+      )
+
+  -- one that runs
+  pub up_started : (post : Post) (blank : Match) (disk : Option D) (up : Up D) (s : Standing) (told : Told)
+      → IsSeen g (noted g post blank disk (Some up)) s
+      → (found : Store) × Takes g (Start found) s (noted g post blank disk (Some up)) (noted g post blank disk (Some up)) told told (Ok tt)
+  up_started post blank disk up s told seen = (
+    s.store,
+    up_took g post blank disk disk up up s (Start s.store) (Ok (still s)) told told seen refl
+        (memory_took g post s (Ok (still s)) (still s) up up.running told told seen.by refl seen.by.running refl refl seen.by.stands (nothing_more told s) no_messages),
+  )
+
+  -- ---- from the fields of a node
+
+  pub opened_at : (a b : List ℕ) (old new : Store) (store other : Journal D) → a ≡ b → other ≡ store
+      → Keeps g a old store ⊎ Keeps g a new store → Keeps g b old other ⊎ Keeps g b new other
+  opened_at a b old new store other heads same keeps =
+      let P : List ℕ → Type 0 = λ h. Keeps g h old other ⊎ Keeps g h new other in
+      let Q : Journal D → Type 0 = λ st. Keeps g a old st ⊎ Keeps g a new st in
+      subst P heads (subst Q (sym same) keeps)
+
+  no_up : (up : Option (Up D)) → is_some up ≡ false → up ≡ None
+  no_up None e = refl
+  no_up (Some up) e = absurd (cc)
+
+  some_by : (post : Post) (blank : Match) (disk : Option D) (up : Option (Up D)) (s : Standing) (told : Told) → is_some up ≡ true → IsSeen g (noted g post blank disk up) s
+      → (found : Store) × Takes g (Start found) s (noted g post blank disk up) (noted g post blank disk up) told told (Ok tt)
+  some_by post blank disk None s told e seen = absurd (cc)
+  some_by post blank disk (Some up) s told e seen = up_started post blank disk up s told seen
+
+  pub runs_on_at : (now : Node D) (i : Inside D) (s : Standing) (told : Told) → node_of i ≡ now → is_some i.up ≡ true → IsSeen g now s
+      → (found : Store) × Takes g (Start found) s now now told told (Ok tt)
+  runs_on_at now i s told view e seen =
+      let P : Node D → Type 0 = λ n. (found : Store) × Takes g (Start found) s n n told told (Ok tt) in
+      let Q : Node D → Type 0 = λ n. IsSeen g n s in
+      subst P view (some_by i.post i.blank i.disk i.up s told e (subst Q (sym view) seen))
+
+  pub seen_down : (now : Node D) (i : Inside D) (disk : D) (s : Standing) → node_of i ≡ now → is_some i.up ≡ false → i.disk ≡ Some disk → IsSeen g now s
+      → IsSeen g (noted g i.post i.blank (Some disk) None) s
+  seen_down now i disk s view down has seen =
+      let P : Option D → Type 0 = λ d. IsSeen g (noted g i.post i.blank d None) s in
+      subst P has (seen_at g now i None s view (no_up i.up down) seen)
+
+  pub wanting_at : (now : Node D) (i : Inside D) (s : Standing) (earlier later : Told) (answer : Result (Unit {0}) NodeFault) → node_of i ≡ now → is_some i.up ≡ false
+      → later ≡ earlier → answer ≡ Err fault.OutOfMemory → IsSeen g now s → (found : Store) × Takes g (Start found) s now now earlier later answer
+  wanting_at now i s earlier later answer view down same says seen =
+      let none = no_up i.up down in
+      let U : Option (Up D) → Type 0 = λ u. (found : Store) × Takes g (Start found) s (noted g i.post i.blank i.disk u) (noted g i.post i.blank i.disk u) earlier earlier (Err fault.OutOfMemory) in
+      let N : Node D → Type 0 = λ n. (found : Store) × Takes g (Start found) s n n earlier earlier (Err fault.OutOfMemory) in
+      let A : Result (Unit {0}) NodeFault → Type 0 = λ a. (found : Store) × Takes g (Start found) s now now earlier earlier a in
+      let T : Told → Type 0 = λ t. (found : Store) × Takes g (Start found) s now now earlier t answer in
+      subst T (sym same) (subst A (sym says) (subst N view (subst U (sym none) (down_wanting i.post i.blank i.disk s earlier (seen_at g now i None s view none seen)))))
+
+  down_now : (now : Node D) (i : Inside D) (disk : D) → node_of i ≡ now → is_some i.up ≡ false → i.disk ≡ Some disk → noted g i.post i.blank (Some disk) None ≡ now
+  down_now now i disk view down has =
+      ap (λ (d : Option D). noted g i.post i.blank d None) (sym has) ∙ (ap (λ (u : Option (Up D)). noted g i.post i.blank i.disk u) (sym (no_up i.up down)) ∙ view)
+
+  pub started_at : (now : Node D) (i : Inside D) (disk : D) (other : Option D) (up : Up D) (s : Standing) (earlier later : Told) → node_of i ≡ now → is_some i.up ≡ false → i.disk ≡ Some disk
+      → IsSeen g now s → Starts g i.post s.store s.begun disk up earlier later
+      → (found : Store) × Takes g (Start found) s now (noted g i.post i.blank other (Some up)) earlier later (Ok tt)
+  started_at now i disk other up s earlier later view down has seen starts =
+      let P : Node D → Type 0 = λ n. (found : Store) × Takes g (Start found) s n (noted g i.post i.blank other (Some up)) earlier later (Ok tt) in
+      subst P (down_now now i disk view down has) (down_started i.post i.blank disk other up s earlier later (seen_down now i disk s view down has seen) starts)
+
+  pub unstarted_at : (now : Node D) (i : Inside D) (disk left : D) (s : Standing) (earlier later : Told) (why : NodeFault) → node_of i ≡ now → is_some i.up ≡ false → i.disk ≡ Some disk → later ≡ earlier
+      → IsSeen g now s → StaysDown g i.post s.store s.begun disk left why
+      → (found : Store) × Takes g (Start found) s now (noted g i.post i.blank (Some left) i.up) earlier later (Err why)
+  unstarted_at now i disk left s earlier later why view down has same seen stays =
+      let P : Node D → Type 0 = λ n. (found : Store) × Takes g (Start found) s n (noted g i.post i.blank (Some left) None) earlier earlier (Err why) in
+      let U : Option (Up D) → Type 0 = λ u. (found : Store) × Takes g (Start found) s now (noted g i.post i.blank (Some left) u) earlier earlier (Err why) in
+      let T : Told → Type 0 = λ t. (found : Store) × Takes g (Start found) s now (noted g i.post i.blank (Some left) i.up) earlier t (Err why) in
+      subst T (sym same) (subst U (sym (no_up i.up down)) (subst P (down_now now i disk view down has) (down_unstarted i.post i.blank disk left s earlier why (seen_down now i disk s view down has seen) stays)))
+
+  -- what was made behind nothing stands behind what was there
+  pub starts_behind : (post : Post) (store begun : Store) (disk : D) (up : Up D) (earlier later out behind : Told) → earlier ≡ nothing_told → behind ≡ both_told out later
+      → Starts g post store begun disk up earlier later → Starts g post store begun disk up out behind
+  starts_behind post store begun disk up earlier later out behind nothing e starts = record {
+    found = starts.found;
+    either = starts.either;
+    now = starts.now;
+    told = e ∙ ap (both_told out) (starts.told ∙ ap (λ (t : Told). both_told t (told_of (starting (place_at post) starts.found))) nothing);
+    fits = starts.fits;
+    moments = starts.moments;
+  }

@@ -1,0 +1,394 @@
+-- What a node stores: promises and votes, as the rules have them.
+use Rattle.std.proofs.Common.{◌≡◌, ℕ, zero, suc, ◌+◌, ◌≤◌, ◌<◌, inl, inr, Bool, true, false, List, [], ◌∷◌, ◌++◌, Result, Ok, Err, refl, ap, sym, subst, ◌∙◌, arith, true≢false}
+use Rattle.std.proofs.lemmas.List.{append-nil}
+use Rattle.std.specs.Prelude.{◌⊎◌, Option, Some, None, IfSome, OnOk, OnErr, IfOk, IfErr, map, if◌then◌else◌, nat_lt, ◌==◌}
+use Rattle.std.proofs.lemmas.Bool.{le-ltb, eq-eqb}
+use Rattle.paxos_wire.specs.declared.limits.TheConstants.{WINDOW}
+use Rattle.paxos_wire.specs.declared.ballot.Ballot.{Ballot}
+use Rattle.paxos_wire.specs.declared.entry.Entry.{Entry}
+use Rattle.paxos_wire.specs.declared.message.Message.TheVariants as frame
+use Rattle.slot_log.specs.declared.command.Command.{Command}
+use Rattle.slot_log.specs.declared.slot_fault.SlotFault.{SlotFault}
+use Rattle.promise_store.specs.declared.disk.Disk.{Ghosts}
+use Rattle.promise_store.specs.declared.store.Store.{Store as Kept}
+use Rattle.promise_store.specs.declared.fault.StoreFault.{StoreFault}
+use Rattle.promise_store.specs.declared.fault.StoreFault.TheVariants.{Disk, OutOfMemory}
+use Rattle.promise_store.specs.Keeping.{disk_of, Keeps, Leaves, LeavesDuring}
+use Rattle.protocol_model.specs.Messages.{Vote}
+use Rattle.protocol_model.specs.Stores.{Store, promised, voted}
+use Rattle.proposer.specs.Told.{is_below}
+use Rattle.proposer.specs.declared.accept.Accept.{Accept}
+use Rattle.proposer.specs.declared.campaign.Campaign.{Campaign}
+use Rattle.learner.specs.Learning.{Learned, answer_to, hearing as hearing_vote}
+use Rattle.acceptor.specs.declared.acceptor.Acceptor.{Acceptor}
+use Rattle.acceptor.specs.declared.answers.PrepareAnswer.{PrepareAnswer}
+use Rattle.acceptor.specs.declared.answers.PrepareAnswer.TheVariants.{Promise, Refuse}
+use Rattle.acceptor.specs.declared.answers.AcceptAnswer.{AcceptAnswer}
+use Rattle.acceptor.specs.declared.answers.AcceptAnswer.TheVariants.{Accepted, Refuse as RefuseAccept}
+use Rattle.acceptor.specs.Answers.{told_from, told_of, answer_to_prepare, prepared, command_in, has_voted, answer_to_accept, accepted}
+use Rattle.acceptor.specs.Stored.{store_of}
+use Rattle.acceptor.specs.Taken.{Taken}
+use Rattle.node_rules.specs.Standings.{Place, Standing, with_stored, idle}
+use Rattle.node_rules.specs.Sending.{Frame, one, to_others}
+use Rattle.node_rules.specs.Turns.{Turn, Refusal, Conflict, still, sending, joined, behind, and_then}
+use Rattle.node_rules.specs.Learning.{learning, counting_vote}
+use Rattle.node_rules.specs.Accepting.{told_by, told_at, refusing, promising, preparing, stored_in, storing, is_of_ballot, voting, accepting}
+use Rattle.node_rules.specs.Accepting as rules
+use Rattle.node_rules.specs.Proposing.{proposing, closing}
+use Rattle.dealer_node.specs.declared.up.Up.{Up}
+use Rattle.dealer_node.specs.declared.running.Running.{Running}
+use Rattle.dealer_node.specs.declared.fault.NodeFault.{NodeFault}
+use Rattle.dealer_node.specs.declared.fault.NodeFault.TheVariants as fault
+use Rattle.dealer_node.specs.Outs.{Told, both_told}
+use Rattle.dealer_node.specs.Posts.{Post, place_at}
+use Rattle.dealer_node.specs.Texts.{Marked}
+use Rattle.dealer_node.specs.Turned.{posted}
+use Rattle.dealer_node.specs.Answering.{message_of, is_promise, accepted_in}
+use Rattle.dealer_node.specs.Fitting.{AreMessages}
+use Rattle.dealer_node.specs.Running.{IsRunning, TakesTurn, Closes}
+use Rattle.dealer_node.specs.Voting.{telling_vote}
+use Rattle.dealer_node.specs.Working.{head_of, disk_under, ComesTo, IsUp, Took, Failed, Clashed, Works}
+use Rattle.dealer_node.proofs.Telling.{told_with, frames_more}
+use Rattle.dealer_node.proofs.Learned.{stored_too}
+use Rattle.dealer_node.proofs.Worked.{nothing_more, memory_took, then_works, works_from}
+
+-- ---- what is told
+
+told_same_from : (store : Store) (first places : ℕ) → told_from store first places ≡ rules.told_from store first places
+unfolding rules.told_from
+told_same_from store first zero = refl
+told_same_from store first (suc places) = ap (λ (es : List Entry). es ++ told_at (first + places) (store.votes (first + places))) (told_same_from store first places)
+
+pub told_same : (store : Store) (first : ℕ) → told_of store first ≡ told_by store first
+told_same store first = told_same_from store first WINDOW
+
+-- ---- promises
+
+abbrev pub answered_prepare : Bool → Ballot → ℕ → Store → PrepareAnswer
+answered_prepare b ballot slot store = if b then Promise ballot slot (told_of store slot) else Refuse ballot slot store.promise
+
+abbrev pub prepared_by : Bool → Ballot → Store → Store
+prepared_by b ballot store = if b then promised store ballot else store
+
+abbrev preparing_by : Bool → ℕ → Ballot → ℕ → Standing → Turn
+preparing_by b from ballot slot s = if b then promising from ballot slot s else refusing from ballot slot s
+
+module _ {D : Type 0} (g : Ghosts D) where
+  -- the ballot is promised
+  promised_by : (post : Post) (s : Standing) (from : ℕ) (ballot : Ballot) (slot : ℕ) (b : Bool) (old new : Up D) (answer : PrepareAnswer) (told : Told) (texts : List (Marked ℕ))
+      → IsUp g post old s → answer ≡ answered_prepare b ballot slot s.store → Keeps g (head_of post) (prepared_by b ballot s.store) (store_of new.acceptor)
+      → LeavesDuring g (head_of post) s.store (prepared_by b ballot s.store) (disk_under old) (disk_under new)
+      → IsRunning post new.running (idle s) → is_promise answer ≡ true → texts ≡ told.frames ++ map posted (one from (message_of answer)) → AreMessages (one from (message_of answer))
+      → Took g post s (Ok (preparing_by b from ballot slot s)) old new told (told_with texts told.shown told.faults)
+  promised_by post s from ballot slot false old new answer told texts is given keeps during runs promises sent fits =
+      absurd (true≢false (sym promises ∙ ap is_promise given))
+  promised_by post s from ballot slot true old new answer told texts is given keeps during runs promises sent fits =
+      let same : message_of answer ≡ frame.Promise ballot slot (told_by s.store slot) = ap message_of given ∙ ap (λ (es : List Entry). frame.Promise ballot slot es) (told_same s.store slot) in
+      record {
+        turn = promising from ballot slot s;
+        rule = refl;
+        now = record { running = stored_too post new.running (idle s) (promised s.store ballot) runs; keeps = keeps; unbegun = refl; stands = tt };
+        told = frames_more told texts (map posted (one from (frame.Promise ballot slot (told_by s.store slot)))) (sent ∙ ap (λ m. told.frames ++ map posted (one from m)) same);
+        fits = subst (λ m. AreMessages (one from m)) same fits;
+        moments = during;
+      }
+
+  -- it is refused
+  refused_by : (post : Post) (s : Standing) (from : ℕ) (ballot : Ballot) (slot : ℕ) (b : Bool) (old new : Up D) (answer : PrepareAnswer) (told : Told) (texts : List (Marked ℕ))
+      → IsUp g post old s → answer ≡ answered_prepare b ballot slot s.store → Keeps g (head_of post) (prepared_by b ballot s.store) (store_of new.acceptor)
+      → LeavesDuring g (head_of post) s.store (prepared_by b ballot s.store) (disk_under old) (disk_under new)
+      → new.running ≡ old.running → is_promise answer ≡ false → texts ≡ told.frames ++ map posted (one from (message_of answer)) → AreMessages (one from (message_of answer))
+      → Took g post s (Ok (preparing_by b from ballot slot s)) old new told (told_with texts told.shown told.faults)
+  refused_by post s from ballot slot true old new answer told texts is given keeps during same refuses sent fits =
+      absurd (true≢false (sym (ap is_promise given) ∙ refuses))
+  refused_by post s from ballot slot false old new answer told texts is given keeps during same refuses sent fits =
+      let message : message_of answer ≡ frame.Refuse ballot slot s.store.promise = ap message_of given in
+      record {
+        turn = refusing from ballot slot s;
+        rule = refl;
+        now = record { running = subst (λ r. IsRunning post r s) (sym same) is.running; keeps = keeps; unbegun = is.unbegun; stands = is.stands };
+        told = frames_more told texts (map posted (one from (frame.Refuse ballot slot s.store.promise))) (sent ∙ ap (λ m. told.frames ++ map posted (one from m)) message);
+        fits = subst (λ m. AreMessages (one from m)) message fits;
+        moments = during;
+      }
+
+  pub prepare_promised : (post : Post) (s : Standing) (from : ℕ) (ballot : Ballot) (slot : ℕ) (old new : Up D) (answer : PrepareAnswer) (told : Told) (texts : List (Marked ℕ))
+      → IsUp g post old s → answer ≡ answer_to_prepare ballot slot s.store → Keeps g (head_of post) (prepared ballot s.store) (store_of new.acceptor)
+      → LeavesDuring g (head_of post) s.store (prepared ballot s.store) (disk_under old) (disk_under new)
+      → IsRunning post new.running (idle s) → is_promise answer ≡ true → texts ≡ told.frames ++ map posted (one from (message_of answer)) → AreMessages (one from (message_of answer))
+      → Took g post s (Ok (preparing from ballot slot s)) old new told (told_with texts told.shown told.faults)
+  prepare_promised post s from ballot slot old new answer told texts = promised_by post s from ballot slot (is_below s.store.promise ballot) old new answer told texts
+
+  pub prepare_refused : (post : Post) (s : Standing) (from : ℕ) (ballot : Ballot) (slot : ℕ) (old new : Up D) (answer : PrepareAnswer) (told : Told) (texts : List (Marked ℕ))
+      → IsUp g post old s → answer ≡ answer_to_prepare ballot slot s.store → Keeps g (head_of post) (prepared ballot s.store) (store_of new.acceptor)
+      → LeavesDuring g (head_of post) s.store (prepared ballot s.store) (disk_under old) (disk_under new)
+      → new.running ≡ old.running → is_promise answer ≡ false → texts ≡ told.frames ++ map posted (one from (message_of answer)) → AreMessages (one from (message_of answer))
+      → Took g post s (Ok (preparing from ballot slot s)) old new told (told_with texts told.shown told.faults)
+  prepare_refused post s from ballot slot old new answer told texts = refused_by post s from ballot slot (is_below s.store.promise ballot) old new answer told texts
+
+  -- the disk failed
+  comes_by : (s : Standing) (from : ℕ) (ballot : Ballot) (slot : ℕ) (b : Bool) → s.begun ≡ s.store → ComesTo (Ok (preparing_by b from ballot slot s)) (prepared_by b ballot s.store)
+  comes_by s from ballot slot true unbegun = inl (promising from ballot slot s, refl, refl)
+  comes_by s from ballot slot false unbegun = inl (refusing from ballot slot s, refl, sym unbegun)
+
+  pub prepare_failed : (post : Post) (s : Standing) (from : ℕ) (ballot : Ballot) (slot : ℕ) (old new : Up D) → IsUp g post old s
+      → Leaves g (head_of post) s.store (prepared ballot s.store) (disk_under new) → LeavesDuring g (head_of post) s.store (prepared ballot s.store) (disk_under old) (disk_under new)
+      → Failed g post s (Ok (preparing from ballot slot s)) old new
+  prepare_failed post s from ballot slot old new is leaves during =
+      record { left = prepared ballot s.store; comes = inr (comes_by s from ballot slot (is_below s.store.promise ballot) is.unbegun); leaves = leaves; moments = during }
+
+  -- a fault of the acceptor is that of its disk
+  pub is_disk : (why : StoreFault) → (why ≡ Disk) ⊎ (why ≡ OutOfMemory) → (why ≡ OutOfMemory → ⊥) → why ≡ Disk
+  is_disk why (inl e) memory = e
+  is_disk why (inr e) memory = absurd (memory e)
+
+  pub fails_by : (post : Post) (s : Standing) (outcome : Result Turn Refusal) (old new : Up D) (earlier later : Told) (why : StoreFault) → why ≡ Disk → Failed g post s outcome old new
+      → Works g post s outcome old new earlier later (Err (fault.Store why))
+  fails_by post s outcome old new earlier later why e failed = subst (λ w. Works g post s outcome old new earlier later (Err (fault.Store w))) (sym e) failed
+
+-- ---- votes
+
+-- what is learned changes neither the store nor the campaign
+pub record KeepsStore (s after : Standing) : Type 0 where
+  pub store : after.store ≡ s.store
+  pub begun : after.begun ≡ s.begun
+  pub campaign : after.campaign ≡ s.campaign
+
+same_turn : (a b : Turn) (r : Result Turn Refusal) → r ≡ Ok a → r ≡ Ok b → a ≡ b
+same_turn a b r d e = cc
+
+learning_keeps : {A : Type 0} (place : Place) (answer : Result A SlotFault) (learned : Learned) (s : Standing) (first turn : Turn) → behind first (learning place answer learned s) ≡ Ok turn → KeepsStore s turn.after
+learning_keeps place (Ok answer) learned s first turn rule =
+    let same = same_turn _ turn _ refl rule in
+    record { store = ap (λ (t : Turn). t.after.store) (sym same); begun = ap (λ (t : Turn). t.after.begun) (sym same); campaign = ap (λ (t : Turn). t.after.campaign) (sym same) }
+learning_keeps place (Err why) learned s first turn rule = let never : Err (Conflict s.store) ≡ Ok turn = rule in absurd (cc)
+
+pub telling_keeps : (place : Place) (ballot : Ballot) (slot : ℕ) (command : Command) (s : Standing) (turn : Turn) → telling_vote place ballot slot command s ≡ Ok turn → KeepsStore s turn.after
+telling_keeps place ballot slot command s turn rule =
+    learning_keeps place (answer_to s.learned place.node ballot slot command) (hearing_vote s.learned place.node ballot slot command) s (sending (to_others place (frame.Accepted ballot slot command)) s) turn rule
+
+learning_comes : {A : Type 0} (place : Place) (answer : Result A SlotFault) (learned : Learned) (s : Standing) (first : Turn) → s.begun ≡ s.store → ComesTo (behind first (learning place answer learned s)) s.store
+learning_comes place (Ok answer) learned s first unbegun = inl (_, refl, sym unbegun)
+learning_comes place (Err why) learned s first unbegun = inr refl
+
+pub telling_comes : (place : Place) (ballot : Ballot) (slot : ℕ) (command : Command) (s : Standing) → s.begun ≡ s.store → ComesTo (telling_vote place ballot slot command s) s.store
+telling_comes place ballot slot command s unbegun =
+    learning_comes place (answer_to s.learned place.node ballot slot command) (hearing_vote s.learned place.node ballot slot command) s (sending (to_others place (frame.Accepted ballot slot command)) s) unbegun
+
+-- the command and the store of a vote, as the acceptor has them
+same_command : (vote : Option Vote) (ballot : Ballot) (command : Command) → command_in vote ballot command ≡ stored_in vote ballot command
+same_command None ballot command = refl
+same_command (Some vote) ballot command = refl
+
+same_voted : (vote : Option Vote) (ballot : Ballot) → has_voted vote ballot ≡ is_of_ballot vote ballot
+same_voted None ballot = refl
+same_voted (Some vote) ballot = refl
+
+abbrev stored_by : Bool → Store → Ballot → ℕ → Command → Store
+stored_by b store ballot slot command = if b then store else voted store slot (record { ballot = ballot; command = command })
+
+abbrev accepted_by : Bool → Ballot → ℕ → Command → Store → Store
+accepted_by below ballot slot command store = if below then store else stored_by (has_voted (store.votes slot) ballot) store ballot slot command
+
+accepted_stores : (below : Bool) (ballot : Ballot) (slot : ℕ) (command : Command) (store : Store) → below ≡ false → accepted_by below ballot slot command store ≡ storing store ballot slot command
+accepted_stores true ballot slot command store e = absurd (true≢false e)
+accepted_stores false ballot slot command store e = ap (λ (b : Bool). stored_by b store ballot slot command) (same_voted (store.votes slot) ballot)
+
+pub vote_stores : (ballot : Ballot) (slot : ℕ) (command : Command) (store : Store) → is_below ballot store.promise ≡ false → accepted ballot slot command store ≡ storing store ballot slot command
+vote_stores ballot slot command store above = accepted_stores (is_below ballot store.promise) ballot slot command store above
+
+abbrev answered_accept : Bool → Ballot → ℕ → Command → Store → AcceptAnswer
+answered_accept below ballot slot command store = if below then RefuseAccept ballot slot store.promise else Accepted ballot slot (command_in (store.votes slot) ballot command)
+
+accepts_by : (below : Bool) (ballot : Ballot) (slot : ℕ) (command : Command) (store : Store) → below ≡ false → accepted_in (answered_accept below ballot slot command store) ≡ Some (stored_in (store.votes slot) ballot command)
+accepts_by true ballot slot command store e = absurd (true≢false e)
+accepts_by false ballot slot command store e = ap (λ (c : Command). Some c) (same_command (store.votes slot) ballot command)
+
+pub vote_accepts : (ballot : Ballot) (slot : ℕ) (command : Command) (store : Store) → is_below ballot store.promise ≡ false
+    → accepted_in (answer_to_accept ballot slot command store) ≡ Some (stored_in (store.votes slot) ballot command)
+vote_accepts ballot slot command store above = accepts_by (is_below ballot store.promise) ballot slot command store above
+
+-- a campaign of the ballot stands by the promise then
+stands_by : (b : Bool) (campaign : Option Campaign) (store : Store) (ballot : Ballot) (slot : ℕ) (command : Command) → IfSome campaign (λ c. c.ballot ≡ store.promise) → IfSome campaign (λ c. c.ballot ≡ ballot)
+    → IfSome campaign (λ c. c.ballot ≡ (stored_by b store ballot slot command).promise)
+stands_by true campaign store ballot slot command stands own = stands
+stands_by false campaign store ballot slot command stands own = own
+
+same_some : (a b : Command) → Some a ≡ Some b → a ≡ b
+same_some a b e = cc
+
+module _ {D : Type 0} (g : Ghosts D) where
+  abbrev with_vote : Standing → Ballot → ℕ → Command → Standing
+  with_vote s ballot slot command = with_stored s (storing s.store ballot slot command)
+
+  -- a vote was told and counted
+  pub vote_took : (post : Post) (s : Standing) (ballot : Ballot) (slot : ℕ) (command stored : Command) (old new : Up D) (earlier later : Told)
+      → IsUp g post old s → is_below ballot s.store.promise ≡ false → IfSome s.campaign (λ c. c.ballot ≡ ballot)
+      → Some stored ≡ accepted_in (answer_to_accept ballot slot command s.store)
+      → Keeps g (head_of post) (accepted ballot slot command s.store) (store_of new.acceptor)
+      → LeavesDuring g (head_of post) s.store (accepted ballot slot command s.store) (disk_under old) (disk_under new)
+      → ((x : Standing) → IsRunning post old.running x → TakesTurn post new.running earlier later (telling_vote (place_at post) ballot slot stored x))
+      → Took g post s (voting (place_at post) ballot slot command s) old new earlier later
+  vote_took post s ballot slot command stored old new earlier later is above own accepts keeps during tells =
+      let x : Standing = with_vote s ballot slot command in
+      let t = tells x (stored_too post old.running s (storing s.store ballot slot command) is.running) in
+      let same : stored ≡ stored_in (s.store.votes slot) ballot command = same_some _ _ (accepts ∙ vote_accepts ballot slot command s.store above) in
+      let kept = telling_keeps (place_at post) ballot slot stored x t.turn t.rule in
+      let stores : accepted ballot slot command s.store ≡ t.turn.after.store = vote_stores ballot slot command s.store above ∙ sym kept.store in
+      let promise : (storing s.store ballot slot command).promise ≡ t.turn.after.store.promise = ap (λ (st : Store). st.promise) (sym kept.store) in
+      let stands = stands_by (is_of_ballot (s.store.votes slot) ballot) s.campaign s.store ballot slot command is.stands own in
+      record {
+        turn = t.turn;
+        rule = sym (ap (λ (c : Command). telling_vote (place_at post) ballot slot c x) same) ∙ t.rule;
+        now = record {
+          running = t.taken.runs;
+          keeps = subst (λ (st : Store). Keeps g (head_of post) st (store_of new.acceptor)) stores keeps;
+          unbegun = kept.begun ∙ sym kept.store;
+          stands = subst (λ (c : Option Campaign). IfSome c (λ k. k.ballot ≡ t.turn.after.store.promise)) (sym kept.campaign) (subst (λ (b : Ballot). IfSome s.campaign (λ k. k.ballot ≡ b)) promise stands);
+        };
+        told = t.taken.told;
+        fits = t.taken.fits;
+        moments = subst (λ (st : Store). LeavesDuring g (head_of post) s.store st (disk_under old) (disk_under new)) stores during;
+      }
+
+  -- another command was known
+  pub vote_clashed : (post : Post) (s : Standing) (ballot : Ballot) (slot : ℕ) (command stored : Command) (old new : Up D)
+      → IsUp g post old s → is_below ballot s.store.promise ≡ false
+      → Some stored ≡ accepted_in (answer_to_accept ballot slot command s.store)
+      → Leaves g (head_of post) s.store (accepted ballot slot command s.store) (disk_under new)
+      → LeavesDuring g (head_of post) s.store (accepted ballot slot command s.store) (disk_under old) (disk_under new)
+      → ((x : Standing) → IsRunning post old.running x → telling_vote (place_at post) ballot slot stored x ≡ Err (Conflict x.store))
+      → Clashed g post s (voting (place_at post) ballot slot command s) old new
+  vote_clashed post s ballot slot command stored old new is above accepts leaves during clashes =
+      let x : Standing = with_vote s ballot slot command in
+      let same : stored ≡ stored_in (s.store.votes slot) ballot command = same_some _ _ (accepts ∙ vote_accepts ballot slot command s.store above) in
+      let stores = vote_stores ballot slot command s.store above in
+      record {
+        left = x.store;
+        rule = sym (ap (λ (c : Command). telling_vote (place_at post) ballot slot c x) same) ∙ clashes x (stored_too post old.running s (storing s.store ballot slot command) is.running);
+        leaves = subst (λ (st : Store). Leaves g (head_of post) s.store st (disk_under new)) stores leaves;
+        moments = subst (λ (st : Store). LeavesDuring g (head_of post) s.store st (disk_under old) (disk_under new)) stores during;
+      }
+
+  -- the disk failed
+  pub vote_failed : (post : Post) (s : Standing) (ballot : Ballot) (slot : ℕ) (command : Command) (old new : Up D)
+      → is_below ballot s.store.promise ≡ false
+      → Leaves g (head_of post) s.store (accepted ballot slot command s.store) (disk_under new)
+      → LeavesDuring g (head_of post) s.store (accepted ballot slot command s.store) (disk_under old) (disk_under new)
+      → Failed g post s (voting (place_at post) ballot slot command s) old new
+  vote_failed post s ballot slot command old new above leaves during =
+      let stores = vote_stores ballot slot command s.store above in
+      record {
+        left = storing s.store ballot slot command;
+        comes = inr (telling_comes (place_at post) ballot slot (stored_in (s.store.votes slot) ballot command) (with_vote s ballot slot command) refl);
+        leaves = subst (λ (st : Store). Leaves g (head_of post) s.store st (disk_under new)) stores leaves;
+        moments = subst (λ (st : Store). LeavesDuring g (head_of post) s.store st (disk_under old) (disk_under new)) stores during;
+      }
+
+  -- an own vote that isn't below the promise is never refused
+  pub vote_stands : {P : Type 0} (ballot : Ballot) (slot : ℕ) (command : Command) (store : Store) (answer : AcceptAnswer) → is_below ballot store.promise ≡ false → answer ≡ answer_to_accept ballot slot command store
+      → None ≡ accepted_in answer → P
+  vote_stands {P} ballot slot command store answer above given none =
+      let some : Some (stored_in (store.votes slot) ballot command) ≡ None = sym (vote_accepts ballot slot command store above) ∙ sym (ap accepted_in given) ∙ sym none in
+      absurd (cc)
+
+-- ---- a proposal of another
+
+abbrev accepting_by : Bool → Place → ℕ → Ballot → ℕ → Command → Standing → Result Turn Refusal
+accepting_by below place from ballot slot command s = if below then Ok (refusing from ballot slot s) else voting place ballot slot command (idle s)
+
+refusing_is : (below : Bool) (place : Place) (from : ℕ) (ballot : Ballot) (slot : ℕ) (command : Command) (s : Standing) → below ≡ true → accepting_by below place from ballot slot command s ≡ Ok (refusing from ballot slot s)
+refusing_is true place from ballot slot command s e = refl
+refusing_is false place from ballot slot command s e = absurd (true≢false (sym e))
+
+voting_is : (below : Bool) (place : Place) (from : ℕ) (ballot : Ballot) (slot : ℕ) (command : Command) (s : Standing) → below ≡ false → accepting_by below place from ballot slot command s ≡ voting place ballot slot command (idle s)
+voting_is true place from ballot slot command s e = absurd (true≢false e)
+voting_is false place from ballot slot command s e = refl
+
+module _ {D : Type 0} (g : Ghosts D) where
+  pub accept_refused : (post : Post) (s : Standing) (from : ℕ) (ballot promise : Ballot) (slot : ℕ) (command : Command) (up : Up D) (told : Told) (texts : List (Marked ℕ))
+      → IsUp g post up s → promise ≡ s.store.promise → is_below ballot promise ≡ true
+      → texts ≡ told.frames ++ map posted (one from (frame.Refuse ballot slot promise)) → AreMessages (one from (frame.Refuse ballot slot promise))
+      → Took g post s (accepting (place_at post) from ballot slot command s) up up told (told_with texts told.shown told.faults)
+  accept_refused post s from ballot promise slot command up told texts is same below sent fits =
+      let turn : Turn = refusing from ballot slot s in
+      let b : is_below ballot s.store.promise ≡ true = ap (is_below ballot) (sym same) ∙ below in
+      record {
+        turn = turn;
+        rule = refusing_is (is_below ballot s.store.promise) (place_at post) from ballot slot command s b;
+        now = is;
+        told = frames_more told texts (map posted (one from (frame.Refuse ballot slot s.store.promise))) (sent ∙ ap (λ (p : Ballot). told.frames ++ map posted (one from (frame.Refuse ballot slot p))) same);
+        fits = subst (λ (p : Ballot). AreMessages (one from (frame.Refuse ballot slot p))) same fits;
+        moments = λ t image was. inl was;
+      }
+
+  pub accept_voted : (post : Post) (s : Standing) (from : ℕ) (ballot promise : Ballot) (slot : ℕ) (command : Command) (mid old new : Up D) (earlier later : Told) (answer : Result (Unit {0}) NodeFault)
+      → disk_under mid ≡ disk_under old → promise ≡ s.store.promise → is_below ballot promise ≡ false
+      → Works g post (idle s) (voting (place_at post) ballot slot command (idle s)) mid new earlier later answer
+      → Works g post s (accepting (place_at post) from ballot slot command s) old new earlier later answer
+  accept_voted post s from ballot promise slot command mid old new earlier later answer disk same above works =
+      let b : is_below ballot s.store.promise ≡ false = ap (is_below ballot) (sym same) ∙ above in
+      works_from g post s (idle s) _ mid old new earlier later answer refl disk
+      (subst (λ (o : Result Turn Refusal). Works g post (idle s) o mid new earlier later answer) (sym (voting_is (is_below ballot s.store.promise) (place_at post) from ballot slot command s b)) works)
+
+-- ---- proposals
+
+below_itself : (round node : ℕ) → is_below (let b : Ballot = record { round = round; node = node } in b) (record { round = round; node = node }) ≡ false
+below_itself round node =
+    ap (λ (b : Bool). if b then true else (if round == round then nat_lt node node else false)) (le-ltb round round (omega arith))
+    ∙ ap (λ (b : Bool). if b then nat_lt node node else false) (eq-eqb round round refl)
+    ∙ le-ltb node node (omega arith)
+
+pub not_below : (ballot promise : Ballot) → ballot ≡ promise → is_below ballot promise ≡ false
+not_below ballot promise e = ap (λ (b : Ballot). is_below b promise) e ∙ below_itself promise.round promise.node
+
+module _ {D : Type 0} (g : Ghosts D) where
+  pub propose_works : (post : Post) (s : Standing) (made : Accept) (old new : Up D) (told later : Told) (texts : List (Marked ℕ)) (answer : Result (Unit {0}) NodeFault)
+      → IsUp g post old s → made.ballot ≡ s.store.promise
+      → texts ≡ told.frames ++ map posted (to_others (place_at post) (frame.Accept made.ballot made.slot made.command)) → AreMessages (to_others (place_at post) (frame.Accept made.ballot made.slot made.command))
+      → (is_below made.ballot s.store.promise ≡ false → IfSome s.campaign (λ c. c.ballot ≡ made.ballot)
+      → Works g post s (voting (place_at post) made.ballot made.slot made.command s) old new (told_with texts told.shown told.faults) later answer)
+      → Works g post s (proposing (place_at post) made s) old new told later answer
+  propose_works post s made old new told later texts answer is own sent fits votes =
+      let frames : List Frame = to_others (place_at post) (frame.Accept made.ballot made.slot made.command) in
+      let turn : Turn = sending frames s in
+      let first : Took g post s (Ok turn) old old told (told_with texts told.shown told.faults) = record {
+        turn = turn;
+        rule = refl;
+        now = is;
+        told = frames_more told texts (map posted frames) sent;
+        fits = fits;
+        moments = λ t image was. inl was;
+      } in
+      then_works g post s (voting (place_at post) made.ballot made.slot made.command) (Ok turn) old old new told (told_with texts told.shown told.faults) later answer first (inl refl)
+      (votes (not_below made.ballot s.store.promise own) (subst (λ (b : Ballot). IfSome s.campaign (λ c. c.ballot ≡ b)) (sym own) is.stands))
+
+  marked_up : (post : Post) (s marked : Standing) (old : Up D) (running : Running) → IsUp g post old s → IsRunning post running marked → marked ≡ record s { campaign = marked.campaign }
+      → IfSome marked.campaign (λ c. c.ballot ≡ s.store.promise) → IsUp g post (record old { running = running }) marked
+  marked_up post s marked old running is runs rest stands =
+      let store : s.store ≡ marked.store = sym (ap (λ (x : Standing). x.store) rest) in
+      record {
+        running = runs;
+        keeps = subst (λ (st : Store). Keeps g (head_of post) st (store_of old.acceptor)) store is.keeps;
+        unbegun = ap (λ (x : Standing). x.begun) rest ∙ is.unbegun ∙ store;
+        stands = subst (λ (st : Store). IfSome marked.campaign (λ c. c.ballot ≡ st.promise)) store stands;
+      }
+
+  pub close_works : (post : Post) (s : Standing) (made : Accept) (old new : Up D) (running : Running) (told later : Told) (answer : Result (Unit {0}) NodeFault)
+      → IsUp g post old s → (closes : Closes post running s (Some made))
+      → (IsUp g post (record old { running = running }) closes.marked → made.ballot ≡ closes.marked.store.promise
+      → Works g post closes.marked (proposing (place_at post) made closes.marked) (record old { running = running }) new told later answer)
+      → Works g post s (closing (place_at post) s) old new told later answer
+  close_works post s made old new running told later answer is closes proposes =
+      let store : s.store ≡ closes.marked.store = sym (ap (λ (x : Standing). x.store) closes.rest) in
+      let there = marked_up post s closes.marked old running is closes.runs closes.rest (closes.stands s.store.promise is.stands) in
+      let own : made.ballot ≡ closes.marked.store.promise = closes.own s.store.promise is.stands ∙ ap (λ (st : Store). st.promise) store in
+      works_from g post s closes.marked (closing (place_at post) s) (record old { running = running }) old new told later answer (sym store) refl
+      (subst (λ (o : Result Turn Refusal). Works g post closes.marked o (record old { running = running }) new told later answer) (sym closes.rule) (proposes there own))
+
+  pub close_rests : (post : Post) (s : Standing) (old : Up D) (running : Running) (told : Told) → IsUp g post old s → Closes post running s None
+      → Took g post s (closing (place_at post) s) old (record old { running = running }) told told
+  close_rests post s old running told is closes =
+      let store : closes.marked.store ≡ s.store = ap (λ (x : Standing). x.store) closes.rest in
+      let there = marked_up post s closes.marked old running is closes.runs closes.rest (closes.stands s.store.promise is.stands) in
+      memory_took g post s (closing (place_at post) s) (still closes.marked) old running told told is closes.rule closes.runs store (ap (λ (x : Standing). x.begun) closes.rest) there.stands (nothing_more told closes.marked) (λ one at. absurd at)

@@ -1,0 +1,219 @@
+-- A tick.
+use Rattle.std.proofs.Common.{◌≡◌, ℕ, zero, suc, ◌+◌, ◌-◌, ◌^◌, ◌≤◌, ◌<◌, inl, inr, Bool, true, false, true≢false, List, ◌++◌, Result, Ok, Err, refl, ap, sym, subst, ◌∙◌, arith}
+use Rattle.std.specs.Prelude.{◌⊎◌, Option, Some, None, if◌then◌else◌, not, ◌&&◌, ◌||◌, nat_lt, nat_le, ◌==◌, map, replicate, slice_set}
+use Rattle.std.proofs.lemmas.Bool.{lt-ltb, ltb-false}
+use Rattle.paxos_wire.specs.declared.limits.TheConstants.{SLOTS, NODES, WINDOW}
+use Rattle.paxos_wire.specs.declared.ballot.Ballot.{Ballot}
+use Rattle.paxos_wire.specs.declared.entry.Entry.{Entry}
+use Rattle.slot_log.specs.Slots.{front}
+use Rattle.learner.specs.Learning.{Learned}
+use Rattle.dealer_kind.specs.Plans.{HasNodes}
+use Rattle.promise_store.specs.declared.disk.Disk.{Ghosts}
+use Rattle.promise_store.specs.Keeping.{Keeps, Leaves, LeavesDuring}
+use Rattle.protocol_model.specs.Stores.{Store, promised}
+use Rattle.proposer.specs.declared.accept.Accept.{Accept}
+use Rattle.proposer.specs.declared.campaign.Campaign.{Campaign}
+use Rattle.proposer.specs.declared.fault.ProposeFault.{ProposeFault}
+use Rattle.proposer.specs.Told.{is_below}
+use Rattle.proposer.specs.Campaigns.{next_ballot, new_campaign, with_promise, is_counted, has_quorum, is_covered, is_proposed, accept_of, value_of, greatest_told, with_mark}
+use Rattle.proposer.specs.declared.fault.ProposeFault.TheVariants.{OutOfWindow}
+use Rattle.acceptor.specs.declared.answers.PrepareAnswer.{PrepareAnswer}
+use Rattle.acceptor.specs.declared.answers.PrepareAnswer.TheVariants.{Promise}
+use Rattle.acceptor.specs.Answers.{answer_to_prepare, prepared as stores_prepared}
+use Rattle.acceptor.specs.Stored.{store_of}
+use Rattle.node_rules.specs.Standings.{Place, Standing, front_of, with_stored, idle}
+use Rattle.node_rules.specs.Turns.{Turn, Refusal, Spent, still, sending, joined, behind, and_then}
+use Rattle.node_rules.specs.Accepting.{told_by}
+use Rattle.node_rules.specs.Proposing.{higher, greatest_seen, is_over, is_spent, prepared, beginning, ticking, closing, closing_by, own_value}
+use Rattle.dealer_node.specs.declared.up.Up.{Up}
+use Rattle.dealer_node.specs.declared.running.Running.{Running}
+use Rattle.dealer_node.specs.Outs.{Told}
+use Rattle.dealer_node.specs.Posts.{Post, IsPost, place_at}
+use Rattle.dealer_node.specs.Running.{IsRunning, IsTaken, is_spent_at}
+use Rattle.dealer_node.specs.Working.{head_of, disk_under, ComesTo, IsUp, Took, Failed, Works}
+use Rattle.dealer_node.specs.declared.fault.NodeFault.{NodeFault}
+use Rattle.dealer_node.proofs.Worked.{nothing_more, then_works}
+use Rattle.dealer_node.proofs.Stored.{told_same, answered_prepare, prepared_by}
+
+-- ---- one promise of three or five is no quorum
+
+abbrev counted : Bool → ℕ → Ballot → ℕ → List Entry → Campaign
+counted b node ballot first told = if b then record (new_campaign ballot first) { promises = slice_set (replicate NODES None) node (Some told) } else new_campaign ballot first
+
+few_of_three : (b : Bool) (node : ℕ) (ballot : Ballot) (first : ℕ) (told : List Entry) → node < 3 → has_quorum 3 (counted b node ballot first told) ≡ false
+few_of_three false node ballot first told within = refl
+few_of_three true zero ballot first told within = refl
+few_of_three true (suc zero) ballot first told within = refl
+few_of_three true (suc (suc zero)) ballot first told within = refl
+few_of_three true (suc (suc (suc more))) ballot first told within = absurd (omega arith)
+
+few_of_five : (b : Bool) (node : ℕ) (ballot : Ballot) (first : ℕ) (told : List Entry) → node < 5 → has_quorum 5 (counted b node ballot first told) ≡ false
+few_of_five false node ballot first told within = refl
+few_of_five true zero ballot first told within = refl
+few_of_five true (suc zero) ballot first told within = refl
+few_of_five true (suc (suc zero)) ballot first told within = refl
+few_of_five true (suc (suc (suc zero))) ballot first told within = refl
+few_of_five true (suc (suc (suc (suc zero)))) ballot first told within = refl
+few_of_five true (suc (suc (suc (suc (suc more))))) ballot first told within = absurd (omega arith)
+
+few : (n : ℕ) (b : Bool) (node : ℕ) (ballot : Ballot) (first : ℕ) (told : List Entry) → HasNodes n → node < n → has_quorum n (counted b node ballot first told) ≡ false
+few n b node ballot first told (inl e) within = ap (λ k. has_quorum k (counted b node ballot first told)) e ∙ few_of_three b node ballot first told (subst (λ k. node < k) e within)
+few n b node ballot first told (inr e) within = ap (λ k. has_quorum k (counted b node ballot first told)) e ∙ few_of_five b node ballot first told (subst (λ k. node < k) e within)
+
+-- ---- so the close of a call that began a ballot does nothing
+
+unled_by : (place : Place) (s : Standing) (campaign : Campaign) (quorum full : Bool) (rest : Result (Option Accept) ProposeFault) → s.campaign ≡ Some campaign → quorum ≡ false
+    → (let after : Standing = record s { campaign = Some (with_mark campaign (if not quorum then Ok None else rest)) } in
+    if quorum && full then Ok (still (idle s)) else closing_by place (if not quorum then Ok None else rest) after) ≡ Ok (still s)
+unled_by place s campaign true full rest is e = absurd (true≢false e)
+unled_by place s campaign false full rest is e = ap (λ (c : Option Campaign). Ok (still (record s { campaign = c }))) (sym is)
+
+pub unled : (post : Post) (ballot : Ballot) (s : Standing) → IsPost post → closing (place_at post) (beginning (place_at post) ballot s).after ≡ Ok (still (beginning (place_at post) ballot s).after)
+unled post ballot s is =
+    let after : Standing = (beginning (place_at post) ballot s).after in
+    let campaign : Campaign = prepared (place_at post) ballot s in
+    let none : has_quorum post.nodes campaign ≡ false =
+    few post.nodes (is_counted post.nodes (new_campaign ballot (front_of s)) post.node ballot (front_of s)) post.node ballot (front_of s) (told_by s.store (front_of s)) is.nodes is.node in
+    unled_by (place_at post) after campaign (has_quorum post.nodes campaign) (nat_le SLOTS (front_of after))
+    (if not (is_covered campaign.first (front_of after)) then Err OutOfWindow else if is_proposed campaign (front_of after) then Ok None
+    else Ok (accept_of campaign (front_of after) (value_of (greatest_told campaign (front_of after) post.nodes) (own_value (place_at post) after)))) refl none
+
+-- ---- the ballot is above what was promised
+
+above_by : (below : Bool) (a b : Ballot) → is_below a b ≡ below → b.round ≤ (if below then b else a).round
+above_by true a b e = omega arith
+above_by false a b e = no_less (nat_lt a.round b.round) refl e
+  where
+    no_less : (less : Bool) → nat_lt a.round b.round ≡ less → (if less then true else if a.round == b.round then nat_lt a.node b.node else false) ≡ false → b.round ≤ a.round
+    no_less true l e = absurd (true≢false e)
+    no_less false l e = ltb-false a.round b.round l
+
+pub next_above : (node : ℕ) (seen promise : Ballot) → is_below promise (next_ballot node (higher seen promise)) ≡ true
+next_above node seen promise =
+    let most : promise.round ≤ (higher seen promise).round = above_by (is_below seen promise) seen promise refl in
+    let less : nat_lt promise.round ((higher seen promise).round + 1) ≡ true = lt-ltb _ _ (omega arith) in
+    ap (λ (b : Bool). if b then true else if promise.round == (higher seen promise).round + 1 then nat_lt promise.node node else false) less
+
+-- ---- what a tick comes to
+
+spent_same : (post : Post) (running : Running) (s : Standing) (promise : Ballot) → IsRunning post running s → promise ≡ s.store.promise → is_spent_at running promise ≡ is_spent s
+spent_same post running s promise is same =
+    ap (λ (b : Ballot). (higher b promise).round == 2 ^ 32 - 1 || nat_le SLOTS (front running.learner.learned.log)) is.greatest
+    ∙ ap (λ (b : Ballot). (higher s.seen b).round == 2 ^ 32 - 1 || nat_le SLOTS (front running.learner.learned.log)) same
+    ∙ ap (λ (l : Learned). (higher s.seen s.store.promise).round == 2 ^ 32 - 1 || nat_le SLOTS (front l.log)) is.learned
+
+ballot_same : (post : Post) (running : Running) (s : Standing) (promise : Ballot) → IsRunning post running s → promise ≡ s.store.promise
+    → next_ballot post.node (higher running.seen promise) ≡ next_ballot post.node (greatest_seen s)
+ballot_same post running s promise is same =
+    ap (λ (b : Ballot). next_ballot post.node (higher b promise)) is.greatest ∙ ap (λ (b : Ballot). next_ballot post.node (higher s.seen b)) same
+
+begins : (post : Post) (s : Standing) (over spent : Bool) → over ≡ false → spent ≡ false
+    → (if over then Ok (still s) else if spent then Err Spent else Ok (beginning (place_at post) (next_ballot post.node (greatest_seen s)) s)) ≡ Ok (beginning (place_at post) (next_ballot post.node (greatest_seen s)) s)
+begins post s true spent a b = absurd (true≢false a)
+begins post s false true a b = absurd (true≢false b)
+begins post s false false a b = refl
+
+pub tick_begins : (post : Post) (running : Running) (s : Standing) (promise : Ballot) → IsRunning post running s → promise ≡ s.store.promise → is_over (place_at post) s ≡ false → is_spent_at running promise ≡ false
+    → ticking (place_at post) s ≡ Ok (beginning (place_at post) (next_ballot post.node (higher running.seen promise)) s)
+tick_begins post running s promise is same over unspent =
+    begins post s (is_over (place_at post) s) (is_spent s) over (sym (spent_same post running s promise is same) ∙ unspent)
+    ∙ ap (λ (b : Ballot). Ok (beginning (place_at post) b s)) (sym (ballot_same post running s promise is same))
+
+pub next_is_above : (post : Post) (running : Running) (s : Standing) (promise : Ballot) → promise ≡ s.store.promise → is_below s.store.promise (next_ballot post.node (higher running.seen promise)) ≡ true
+next_is_above post running s promise same =
+    ap (λ (b : Ballot). is_below s.store.promise (next_ballot post.node (higher running.seen b))) same ∙ next_above post.node running.seen s.store.promise
+
+answered_by : (below : Bool) (ballot : Ballot) (slot first : ℕ) (store : Store) → below ≡ true → slot ≡ first → answered_prepare below ballot slot store ≡ Promise ballot slot (told_by store first)
+answered_by false ballot slot first store e here = absurd (true≢false (sym e))
+answered_by true ballot slot first store e here = ap (λ (es : List Entry). Promise ballot slot es) (told_same store slot ∙ ap (told_by store) here)
+
+pub is_promised : (ballot : Ballot) (slot first : ℕ) (store : Store) (answer : PrepareAnswer) → is_below store.promise ballot ≡ true → slot ≡ first → answer ≡ answer_to_prepare ballot slot store
+    → answer ≡ Promise ballot slot (told_by store first)
+is_promised ballot slot first store answer above here given = given ∙ answered_by (is_below store.promise ballot) ballot slot first store above here
+
+stored_by : (below : Bool) (ballot : Ballot) (store : Store) → below ≡ true → prepared_by below ballot store ≡ promised store ballot
+stored_by false ballot store e = absurd (true≢false (sym e))
+stored_by true ballot store e = refl
+
+pub is_stored : (ballot : Ballot) (store : Store) → is_below store.promise ballot ≡ true → stores_prepared ballot store ≡ promised store ballot
+is_stored ballot store above = stored_by (is_below store.promise ballot) ballot store above
+
+counted_ballot : (b : Bool) (node : ℕ) (ballot : Ballot) (first : ℕ) (told : List Entry) → (counted b node ballot first told).ballot ≡ ballot
+counted_ballot true node ballot first told = refl
+counted_ballot false node ballot first told = refl
+
+module _ {D : Type 0} (g : Ghosts D) where
+  pub begin_took : (post : Post) (s : Standing) (ballot : Ballot) (old new : Up D) (told later : Told) → IsPost post → IsUp g post old s
+      → ticking (place_at post) s ≡ Ok (beginning (place_at post) ballot s) → is_below s.store.promise ballot ≡ true
+      → Keeps g (head_of post) (stores_prepared ballot s.store) (store_of new.acceptor)
+      → LeavesDuring g (head_of post) s.store (stores_prepared ballot s.store) (disk_under old) (disk_under new)
+      → IsTaken post new.running told later (beginning (place_at post) ballot s)
+      → Took g post s (and_then (ticking (place_at post) s) (closing (place_at post))) old new told later
+  begin_took post s ballot old new told later is_post is rule above keeps during taken =
+      let turn : Turn = beginning (place_at post) ballot s in
+      let stores = is_stored ballot s.store above in
+      let there : IsUp g post new turn.after = record {
+        running = taken.runs;
+        keeps = subst (λ (st : Store). Keeps g (head_of post) st (store_of new.acceptor)) stores keeps;
+        unbegun = refl;
+        stands = counted_ballot (is_counted post.nodes (new_campaign ballot (front_of s)) post.node ballot (front_of s)) post.node ballot (front_of s) (told_by s.store (front_of s));
+      } in
+      let first : Took g post s (ticking (place_at post) s) old new told later = record {
+        turn = turn;
+        rule = rule;
+        now = there;
+        told = taken.told;
+        fits = taken.fits;
+        moments = subst (λ (st : Store). LeavesDuring g (head_of post) s.store st (disk_under old) (disk_under new)) stores during;
+      } in
+      let closes = unled post ballot s is_post in
+      let second : Took g post turn.after (closing (place_at post) turn.after) new new later later = record {
+        turn = still turn.after;
+        rule = closes;
+        now = there;
+        told = nothing_more later turn.after;
+        fits = λ one at. absurd at;
+        moments = λ t image was. inl was;
+      } in
+      then_works g post s (closing (place_at post)) (ticking (place_at post) s) old new new told later later (Ok tt) first (inr (still turn.after, closes, refl, refl)) second
+
+  pub begin_failed : (post : Post) (s : Standing) (ballot : Ballot) (old new : Up D) → IsPost post
+      → ticking (place_at post) s ≡ Ok (beginning (place_at post) ballot s) → is_below s.store.promise ballot ≡ true
+      → Leaves g (head_of post) s.store (stores_prepared ballot s.store) (disk_under new)
+      → LeavesDuring g (head_of post) s.store (stores_prepared ballot s.store) (disk_under old) (disk_under new)
+      → Failed g post s (and_then (ticking (place_at post) s) (closing (place_at post))) old new
+  begin_failed post s ballot old new is_post rule above leaves during =
+      let turn : Turn = beginning (place_at post) ballot s in
+      record {
+        left = stores_prepared ballot s.store;
+        comes = inr (inl (joined turn (still turn.after), ap (λ (o : Result Turn Refusal). and_then o (closing (place_at post))) rule ∙ ap (behind turn) (unled post ballot s is_post), is_stored ballot s.store above));
+        leaves = leaves;
+        moments = during;
+      }
+
+  -- a tick after the match's end does nothing
+  pub over_works : (post : Post) (s : Standing) (old new : Up D) (told later : Told) (answer : Result (Unit {0}) NodeFault) → IsUp g post old s → is_over (place_at post) s ≡ true
+      → Works g post s (closing (place_at post) s) old new told later answer
+      → Works g post s (and_then (ticking (place_at post) s) (closing (place_at post))) old new told later answer
+  over_works post s old new told later answer is over works =
+      let first : Took g post s (ticking (place_at post) s) old old told told = record {
+        turn = still s;
+        rule = ap (λ (b : Bool). if b then Ok (still s) else if is_spent s then Err Spent else Ok (beginning (place_at post) (next_ballot post.node (greatest_seen s)) s)) over;
+        now = is;
+        told = nothing_more told s;
+        fits = λ one at. absurd at;
+        moments = λ t image was. inl was;
+      } in
+      then_works g post s (closing (place_at post)) (ticking (place_at post) s) old old new told told later answer first (inl refl) works
+
+-- no ballot or no slot is left
+spends : (post : Post) (s : Standing) (over spent : Bool) → over ≡ false → spent ≡ true
+    → (if over then Ok (still s) else if spent then Err Spent else Ok (beginning (place_at post) (next_ballot post.node (greatest_seen s)) s)) ≡ Err Spent
+spends post s true spent a b = absurd (true≢false a)
+spends post s false true a b = refl
+spends post s false false a b = absurd (true≢false (sym b))
+
+pub tick_spent : (post : Post) (running : Running) (s : Standing) (promise : Ballot) → IsRunning post running s → promise ≡ s.store.promise → is_over (place_at post) s ≡ false → is_spent_at running promise ≡ true
+    → and_then (ticking (place_at post) s) (closing (place_at post)) ≡ Err Spent
+tick_spent post running s promise is same over spent =
+    ap (λ (o : Result Turn Refusal). and_then o (closing (place_at post))) (spends post s (is_over (place_at post) s) (is_spent s) over (sym (spent_same post running s promise is same) ∙ spent))

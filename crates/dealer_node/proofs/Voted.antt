@@ -1,0 +1,45 @@
+-- What a node tells of its own vote, as it stands among what a call makes.
+use Rattle.std.proofs.Common.{◌≡◌, ℕ, List, ◌++◌, Result, Ok, Err, refl, ap, sym, subst, ◌∙◌}
+use Rattle.std.specs.Prelude.{map, OnOk, OnErr}
+use Rattle.paxos_wire.specs.declared.ballot.Ballot.{Ballot}
+use Rattle.paxos_wire.specs.declared.message.Message.{Message}
+use Rattle.paxos_wire.specs.declared.message.Message.TheVariants.{Accepted}
+use Rattle.slot_log.specs.declared.command.Command.{Command}
+use Rattle.slot_log.specs.declared.slot_fault.SlotFault.{SlotFault}
+use Rattle.node_rules.specs.Standings.{Place, Standing}
+use Rattle.node_rules.specs.Sending.{Frame, to_first, to_others}
+use Rattle.node_rules.specs.Turns.{Turn, Refusal, sending, behind, joined}
+use Rattle.node_rules.specs.Learning.{counting_vote}
+use Rattle.dealer_node.specs.declared.running.Running.{Running}
+use Rattle.dealer_node.specs.Texts.{Marked}
+use Rattle.dealer_node.specs.Posts.{Post, place_at}
+use Rattle.dealer_node.specs.Outs.{Told}
+use Rattle.dealer_node.specs.Turned.{posted}
+use Rattle.dealer_node.specs.Fitting.{AreMessages}
+use Rattle.dealer_node.specs.Running.{IsRunning, IsTaken, TakesTurn}
+use Rattle.dealer_node.specs.Voting.{telling_vote}
+use Rattle.dealer_node.proofs.Telling.{told_with}
+use Rattle.dealer_node.proofs.Learned.{sent_taken, taken_behind}
+
+pub on_ok : {T E : Type 0} {A B : Type 0} (r : Result T E) → (A → B) → OnOk r A → OnOk r B
+on_ok (Ok done) f a = f a
+on_ok (Err fault) f a = tt
+
+pub messages_to : (nodes node n i : ℕ) (message : Message) → n ≡ nodes → i ≡ node → AreMessages (to_first n i message) → AreMessages (to_first nodes node message)
+messages_to nodes node n i message a b are =
+    let P : ℕ → Type 0 = λ k. AreMessages (to_first k i message) in
+    let Q : ℕ → Type 0 = λ k. AreMessages (to_first nodes k message) in
+    subst Q b (subst P a are)
+
+pub vote_told : (post : Post) (old new : Running) (node : ℕ) (ballot : Ballot) (slot : ℕ) (command : Command) (told later : Told) (texts : List (Marked ℕ)) (s : Standing)
+    → IsRunning post old s → node ≡ post.node → texts ≡ told.frames ++ map posted (to_others (place_at post) (Accepted ballot slot command)) → AreMessages (to_others (place_at post) (Accepted ballot slot command))
+    → TakesTurn post new (told_with texts told.shown told.faults) later (counting_vote (place_at post) node ballot slot command s)
+    → TakesTurn post new told later (telling_vote (place_at post) ballot slot command s)
+vote_told post old new node ballot slot command told later texts s is own e are t =
+    let frames : List Frame = to_others (place_at post) (Accepted ballot slot command) in
+    let sent : Turn = sending frames s in
+    record {
+      turn = joined sent t.turn;
+      rule = ap (behind sent) (sym (ap (λ i. counting_vote (place_at post) i ballot slot command s) own) ∙ t.rule);
+      taken = taken_behind post old new told (told_with texts told.shown told.faults) later sent t.turn (sent_taken post old s told texts frames is e are) t.taken;
+    }

@@ -1,0 +1,99 @@
+-- No more is made than was needed.
+use Rattle.std.proofs.Common.{◌≡◌, ℕ, ◌+◌, ◌*◌, ◌≤◌, arith, ap, length, vec_len}
+use Rattle.dealer_node.specs.declared.running.Running.{Running}
+use Rattle.dealer_node.specs.declared.made.Made.{Made}
+use Rattle.dealer_node.specs.declared.made.Need.{Need}
+use Rattle.dealer_node.specs.declared.up.Up.{Up}
+use Rattle.dealer_node.specs.Texts.{byte_total}
+use Rattle.dealer_node.specs.Outs.{Told, told_by, nothing_told}
+use Rattle.dealer_node.specs.Rooms.{Grows, Tells}
+use Rattle.dealer_node.specs.Running.{ahead_of}
+use Rattle.dealer_node.specs.Working.{HasLeft}
+use Rattle.dealer_node.specs.Handling.{IsWithin}
+use Rattle.dealer_node.specs.Calling.{close_need, line_need, frame_need, HasCallRoom}
+
+-- what is left was needed
+pub left_within : (running : Running) (made : Made) (need : Need) → HasLeft running made need 0 0 → IsWithin made need
+left_within running made need left = record {
+  frames = omega (arith, left.frames_made);
+  frame_bytes = omega (arith, left.bytes_made);
+  texts = omega (arith, left.texts_shown);
+  text_bytes = omega (arith, left.bytes_shown);
+  faults = left.faults_told;
+}
+
+-- nothing is made at first
+no_frames : (made : Made) → told_by made ≡ nothing_told → length made.frames.texts ≡ 0
+no_frames made nothing = ap (λ (t : Told). length t.frames) nothing
+
+no_bytes : (made : Made) → told_by made ≡ nothing_told → byte_total made.frames.texts ≡ 0
+no_bytes made nothing = ap (λ (t : Told). byte_total t.frames) nothing
+
+no_texts : (made : Made) → told_by made ≡ nothing_told → length made.shown.texts ≡ 0
+no_texts made nothing = ap (λ (t : Told). length t.shown) nothing
+
+no_text_bytes : (made : Made) → told_by made ≡ nothing_told → byte_total made.shown.texts ≡ 0
+no_text_bytes made nothing = ap (λ (t : Told). byte_total t.shown) nothing
+
+no_faults : (made : Made) → told_by made ≡ nothing_told → vec_len made.faults ≡ 0
+no_faults made nothing = let none : length made.faults.items ≡ 0 = ap (λ (t : Told). length t.faults) nothing in omega (arith, none, made.faults.ok.0)
+
+module _ {D : Type 0} where
+  pub close_left : (up : Up D) (made : Made) → told_by made ≡ nothing_told → HasCallRoom up made (close_need up.running) 1 → HasLeft up.running made (close_need up.running) 1 10
+  close_left up made nothing room = record {
+    learn = record {
+      learner = room.learner;
+      table = room.table;
+      texts = omega (arith, room.shown.texts);
+      bytes = omega (arith, room.shown.text_bytes);
+    };
+    texts = room.shown.frames;
+    bytes = omega (arith, room.shown.frame_bytes);
+    frames_made = omega (arith, no_frames made nothing);
+    bytes_made = omega (arith, no_bytes made nothing);
+    texts_shown = omega (arith, no_texts made nothing);
+    bytes_shown = omega (arith, no_text_bytes made nothing);
+    faults_told = omega (arith, no_faults made nothing);
+  }
+
+  pub frame_left : (up : Up D) (made : Made) → told_by made ≡ nothing_told → HasCallRoom up made (frame_need up.running) 2 → HasLeft up.running made (frame_need up.running) 2 75
+  frame_left up made nothing room = record {
+    learn = record {
+      learner = room.learner;
+      table = room.table;
+      texts = omega (arith, room.shown.texts);
+      bytes = omega (arith, room.shown.text_bytes);
+    };
+    texts = room.shown.frames;
+    bytes = omega (arith, room.shown.frame_bytes);
+    frames_made = omega (arith, no_frames made nothing);
+    bytes_made = omega (arith, no_bytes made nothing);
+    texts_shown = omega (arith, no_texts made nothing);
+    bytes_shown = omega (arith, no_text_bytes made nothing);
+    faults_told = omega (arith, no_faults made nothing);
+  }
+
+  -- once the piece was heard
+  pub line_left : (up after : Up D) (earlier later : Made) (limit : ℕ) → told_by earlier ≡ nothing_told → HasCallRoom up earlier (line_need up.running limit) 1
+      → Grows earlier.frames later.frames limit (46 * limit) → Grows earlier.shown later.shown 1 4096 → Tells earlier later limit
+      → after ≡ record up { running = record up.running { pending = after.running.pending; seats = after.running.seats } }
+      → HasLeft after.running later (line_need up.running limit) 1 10
+  line_left up after earlier later limit nothing room frames shown faults rest =
+      let learner : after.running.learner.room ≡ up.running.learner.room = ap (λ (u : Up D). u.running.learner.room) rest in
+      let table : after.running.table.room ≡ up.running.table.room = ap (λ (u : Up D). u.running.table.room) rest in
+      let ahead : ahead_of after.running ≡ ahead_of up.running = ap (λ (u : Up D). ahead_of u.running) rest in
+      record {
+        learn = record {
+          learner = omega (arith, learner, room.learner);
+          table = omega (arith, table, ahead, room.table);
+          texts = omega (arith, ahead, room.shown.texts, shown.text_room);
+          bytes = omega (arith, ahead, room.shown.text_bytes, shown.byte_room);
+        };
+        texts = omega (arith, room.shown.frames, frames.text_room);
+        bytes = omega (arith, room.shown.frame_bytes, frames.byte_room);
+        frames_made = omega (arith, no_frames earlier nothing, frames.len);
+        bytes_made = omega (arith, no_bytes earlier nothing, frames.size);
+        texts_shown = omega (arith, ahead, no_texts earlier nothing, shown.len);
+        bytes_shown = omega (arith, ahead, no_text_bytes earlier nothing, shown.size);
+        faults_told = omega (arith, no_faults earlier nothing, faults.len);
+      }

@@ -1,0 +1,11 @@
+use Rattle.std.proofs.Common.{sym, subst}
+use Rattle.slot_log.specs.Slots.{Log, IsLog}
+use Rattle.learner.specs.Learning.{Learned}
+use Rattle.dealer_node.specs.Running.{GoesOn}
+use Rattle.dealer_node.proofs.Ahead.{heard_goes}
+use Rattle.dealer_node.proofs.learning.hear_vote.Goals as goal
+
+pub returns-clause-goes_on : goal.returns-clause-goes_on
+returns-clause-goes_on c =
+    let goes = heard_goes c.fronts_go_on.ensures c.commands_are_kept.ensures c.one_more_is_known.ensures c.args.learner.now.learned c.args.from c.args.ballot c.args.slot c.args.command (subst (λ (l : Log). IsLog l) c.log.ensures c.limits.ensures) c.requires.command c.requires.commands in
+    subst (λ (l : Learned). GoesOn c.args.learner.now.learned.log l.log) (sym c.on_accepted_reserved.ensures.learned) goes.on

@@ -1,0 +1,22 @@
+use Rattle.std.proofs.Common.{◌≡◌, refl, subst}
+use Rattle.std.specs.Prelude.{Some}
+use Rattle.node_rules.specs.Calls.{Tick}
+use Rattle.dealer_node.specs.Outs.{Told, told_by}
+use Rattle.dealer_node.specs.Taking.{Takes}
+use Rattle.dealer_node.proofs.Settled.{seen_at, refuses_at}
+use Rattle.dealer_node.proofs.Handled.{handled, settled_at}
+use Rattle.dealer_node.proofs.node.Node.on_tick.Goals as goal
+
+pub returns-in-None-clause-taken : goal.returns-in-None-clause-taken
+returns-in-None-clause-taken g c s honest seen =
+    refuses_at g.D.Disk c.args.self.now c.self.inside c.self.inside s Tick c.args.out.now _ c.self.view_is c.in-None.is refl refl (λ place. refl) seen
+
+pub returns-in-Some-clause-taken : goal.returns-in-Some-clause-taken
+returns-in-Some-clause-taken g c s honest seen =
+    let d = g.D.Disk in
+    let call = c.on_tick-answer in
+    let before : Told = told_by c.out.inside.made in
+    let there = seen_at d c.args.self.now c.self.inside (Some c.in-Some.up) s c.self.view_is c.in-Some.is seen in
+    let t = handled d c.self.inside.post c.self.inside.blank c.self.inside.disk c.in-Some.up call.new.self s Tick before (told_by call.new.out) call.result there call.ensures.unmade (call.ensures.handles s honest there.by) in
+    subst (λ (told : Told). Takes d Tick s c.args.self.now c.settle.new.self told (told_by call.new.out) c.settle.result) c.out.view_is
+    (settled_at d c.args.self.now c.self.inside c.in-Some.up c.settle.new.self _ s Tick before (told_by call.new.out) c.settle.result call.result c.self.view_is c.in-Some.is c.settle.ensures.node c.settle.ensures.same t)

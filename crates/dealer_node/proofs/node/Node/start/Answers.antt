@@ -1,0 +1,35 @@
+use Rattle.std.proofs.Common.{◌≡◌, refl, ap, sym, ◌∙◌}
+use Rattle.dealer_node.specs.Outs.{Told, told_by, both_told}
+use Rattle.dealer_node.specs.Working.{head_of}
+use Rattle.dealer_node.specs.declared.fault.NodeFault.TheVariants as fault
+use Rattle.dealer_node.proofs.Heard.{err_is}
+use Rattle.dealer_node.proofs.Started.{runs_on_at, wanting_at, seen_down, started_at, unstarted_at, starts_behind}
+use Rattle.dealer_node.proofs.node.Node.start.Goals as goal
+
+pub returns-then-is_some-clause-taken : goal.returns-then-is_some-clause-taken
+returns-then-is_some-clause-taken g c = λ s honest seen.
+    runs_on_at g.D.Disk c.args.self.now c.self.inside s c.args.out.now c.self.view_is (sym c.is_some.ensures ∙ c.if-is_some.true) seen
+
+pub returns-in_err-running-clause-taken : goal.returns-in_err-running-clause-taken
+returns-in_err-running-clause-taken g c = λ s honest seen.
+    wanting_at g.D.Disk c.args.self.now c.self.inside s c.args.out.now (told_by c.ready.new.out) c.from_residual.result c.self.view_is (sym c.is_some.ensures ∙ c.if-is_some.false)
+    (c.ready.ensures.same ∙ c.out.view_is) (err_is c.from_residual.result fault.OutOfMemory c.from_residual.ensures.1) seen
+
+pub returns-in-Ok-clause-taken : goal.returns-in-Ok-clause-taken
+returns-in-Ok-clause-taken g c = λ s honest seen.
+    let down = sym c.is_some.ensures ∙ c.if-is_some.false in
+    let has = sym c.take.ensures.value ∙ c.in-Some.is in
+    let there = seen_down g.D.Disk c.args.self.now c.self.inside c.in-Some.disk s c.self.view_is down has seen in
+    let out : told_by c.ready.new.out ≡ c.args.out.now = c.ready.ensures.same ∙ c.out.view_is in
+    started_at g.D.Disk c.args.self.now c.self.inside c.in-Some.disk c.take.new.self c.in-Ok.up s c.args.out.now (told_by c.append.new.self) c.self.view_is down has seen
+    (starts_behind g.D.Disk c.self.inside.post s.store s.begun c.in-Some.disk c.in-Ok.up (told_by c.in_ok-running.made) (told_by c.open.new.made) c.args.out.now (told_by c.append.new.self)
+    c.in_ok-running.ensures.nothing (c.append.ensures ∙ ap (λ (t : Told). both_told t (told_by c.open.new.made)) out)
+    (c.in-Ok.ensures.starts s.store s.begun honest there.by.leaves))
+
+pub returns-in-Err-clause-taken : goal.returns-in-Err-clause-taken
+returns-in-Err-clause-taken g c = λ s honest seen.
+    let down = sym c.is_some.ensures ∙ c.if-is_some.false in
+    let has = sym c.take.ensures.value ∙ c.in-Some.is in
+    let there = seen_down g.D.Disk c.args.self.now c.self.inside c.in-Some.disk s c.self.view_is down has seen in
+    unstarted_at g.D.Disk c.args.self.now c.self.inside c.in-Some.disk c.in-Err.disk s c.args.out.now (told_by c.ready.new.out) c.in-Err.fault c.self.view_is down has (c.ready.ensures.same ∙ c.out.view_is) seen
+    (c.in-Err.ensures.stays s.store s.begun honest there.by.leaves)

@@ -1,0 +1,70 @@
+use Rattle.std.proofs.Common.{◌≡◌, ap, sym, subst, refl}
+use Rattle.std.specs.Prelude.{Result, Ok, OnOk}
+use Rattle.paxos_wire.specs.declared.message.Message.{Message}
+use Rattle.learner.specs.Learning.{answer_to, hearing, answer_to_chosen, believing}
+use Rattle.node_rules.specs.Standings.{Standing}
+use Rattle.node_rules.specs.Rules.{taking}
+use Rattle.node_rules.specs.Learning.{telling}
+use Rattle.node_rules.specs.Proposing.{counting_promise, hearing_refusal}
+use Rattle.node_rules.specs.Seats.{taking_over}
+use Rattle.dealer_node.specs.Posts.{place_at}
+use Rattle.dealer_node.specs.Outs.{told_by}
+use Rattle.dealer_node.specs.Running.{IsRunning}
+use Rattle.dealer_node.specs.Memory.{TakesInMemory}
+use Rattle.dealer_node.proofs.Remembered.{on_ok, counted_keeps, refused_keeps, learned_keeps, believed_keeps, still_taken}
+use Rattle.dealer_node.proofs.running.Running.take.Goals as goal
+
+pub returns-in-Promise-clause-ok : goal.returns-in-Promise-clause-ok
+returns-in-Promise-clause-ok c = λ s is.
+    let place = place_at c.args.post.now in
+    subst (λ (m : Message). TakesInMemory c.args.post.now c.count_promise.new.self (told_by c.args.made.now) (told_by c.args.made.now) s (taking place c.args.from m s)) (sym c.in-Promise.is)
+    (still_taken c.args.post.now c.count_promise.new.self s (counting_promise place c.args.from c.in-Promise.ballot c.in-Promise.slot c.in-Promise.entries s).after (told_by c.args.made.now)
+    (c.count_promise.ensures.runs s is) (counted_keeps place.nodes s c.args.from c.in-Promise.ballot c.in-Promise.slot c.in-Promise.entries))
+
+pub returns-in-Refuse-clause-ok : goal.returns-in-Refuse-clause-ok
+returns-in-Refuse-clause-ok c = λ s is.
+    subst (λ (m : Message). TakesInMemory c.args.post.now c.hear_refusal.new.self (told_by c.args.made.now) (told_by c.args.made.now) s (taking (place_at c.args.post.now) c.args.from m s)) (sym c.in-Refuse.is)
+    (still_taken c.args.post.now c.hear_refusal.new.self s (hearing_refusal c.in-Refuse.promised s).after (told_by c.args.made.now)
+    (c.hear_refusal.ensures.runs c.args.post.now s is) (refused_keeps s c.in-Refuse.promised))
+
+pub returns-in-Refuse-clause-at : goal.returns-in-Refuse-clause-at
+returns-in-Refuse-clause-at c = c.hear_refusal.ensures.at c.args.post.now c.requires.at
+
+pub returns-in-Accepted-clause-ok : goal.returns-in-Accepted-clause-ok
+returns-in-Accepted-clause-ok c =
+    let place = place_at c.args.post.now in
+    on_ok c.count_vote.result
+    (λ takes s is.
+    subst (λ (m : Message). TakesInMemory c.args.post.now c.count_vote.new.self (told_by c.args.made.now) (told_by c.count_vote.new.made) s (taking place c.args.from m s)) (sym c.in-Accepted.is)
+    (let turn = takes s is in record {
+      takes = turn;
+      keeps = learned_keeps place (answer_to s.learned c.args.from c.in-Accepted.ballot c.in-Accepted.slot c.in-Accepted.command) (hearing s.learned c.args.from c.in-Accepted.ballot c.in-Accepted.slot c.in-Accepted.command) s turn.turn turn.rule;
+    }))
+    c.count_vote.ensures.ok
+
+pub returns-in-Chosen-clause-ok : goal.returns-in-Chosen-clause-ok
+returns-in-Chosen-clause-ok c =
+    let place = place_at c.args.post.now in
+    on_ok c.believe.result
+    (λ takes s is.
+    subst (λ (m : Message). TakesInMemory c.args.post.now c.believe.new.self (told_by c.args.made.now) (told_by c.believe.new.made) s (taking place c.args.from m s)) (sym c.in-Chosen.is)
+    (let turn = takes s is in record {
+      takes = turn;
+      keeps = believed_keeps place (answer_to_chosen s.learned.log c.in-Chosen.slot c.in-Chosen.command) (believing s.learned c.in-Chosen.slot c.in-Chosen.command) s c.args.from turn.turn turn.rule;
+    }))
+    c.believe.ensures.ok
+
+pub returns-in-Ask-clause-ok : goal.returns-in-Ask-clause-ok
+returns-in-Ask-clause-ok c = λ s is.
+    subst (λ (m : Message). TakesInMemory c.args.post.now c.args.self.now (told_by c.args.made.now) (told_by c.tell.new.made) s (taking (place_at c.args.post.now) c.args.from m s)) (sym c.in-Ask.is)
+    (record {
+      takes = record { turn = telling c.args.from c.in-Ask.slot s; rule = refl; taken = c.tell.ensures.taken s is };
+      keeps = record { store = refl; begun = refl; stands = λ stands. stands };
+    })
+
+pub returns-in-Forward-clause-ok : goal.returns-in-Forward-clause-ok
+returns-in-Forward-clause-ok c = λ s is.
+    let place = place_at c.args.post.now in
+    subst (λ (m : Message). TakesInMemory c.args.post.now c.take_over.new.self (told_by c.args.made.now) (told_by c.args.made.now) s (taking place c.args.from m s)) (sym c.in-Forward.is)
+    (still_taken c.args.post.now c.take_over.new.self s (taking_over place c.in-Forward.command s).after (told_by c.args.made.now)
+    (c.take_over.ensures.runs s is) (record { store = refl; begun = refl; stands = λ stands. stands }))

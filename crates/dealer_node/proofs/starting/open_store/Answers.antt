@@ -1,0 +1,28 @@
+use Rattle.std.proofs.Common.{◌≡◌, ℕ, List, inl, inr, ap, sym, subst, ◌∙◌}
+use Rattle.std.specs.Prelude.{◌⊎◌}
+use Rattle.promise_store.specs.Journals.{header}
+use Rattle.promise_store.specs.Keeping.{Leaves}
+use Rattle.acceptor.specs.Stored.{store_of}
+use Rattle.dealer_node.specs.Posts.{Post}
+use Rattle.dealer_node.specs.Working.{head_of}
+use Rattle.dealer_node.proofs.Started.{opened_at}
+use Rattle.dealer_node.proofs.starting.open_store.Goals as goal
+
+heads : (post : Post) (node nodes : ℕ) → node ≡ post.node → nodes ≡ post.nodes → header node nodes ≡ head_of post
+heads post node nodes own many = ap (λ n. header n nodes) own ∙ ap (λ n. header post.node n) many
+
+pub returns-in-Ok-clause-opened : goal.returns-in-Ok-clause-opened
+returns-in-Ok-clause-opened g c = λ old new honest leaves.
+    let same = heads c.args.post.now c.node.result c.nodes.result c.node.ensures.value c.nodes.ensures.value in
+    let L : List ℕ → Type 0 = λ h. Leaves g.D.Disk h old new c.args.disk in
+    opened_at g.D.Disk (header c.node.result c.nodes.result) (head_of c.args.post.now) old new c.in-Ok.store (store_of c.new.result) same c.new.ensures
+    (c.in-Ok.ensures.either old new honest (subst L (sym same) leaves))
+
+pub returns-in-Err-clause-refused : goal.returns-in-Err-clause-refused
+returns-in-Err-clause-refused g c = λ old new honest leaves.
+    let same = heads c.args.post.now c.node.result c.nodes.result c.node.ensures.value c.nodes.ensures.value in
+    let L : List ℕ → Type 0 = λ h. Leaves g.D.Disk h old new c.args.disk in
+    elim (c.in-Err.ensures.sound old new honest (subst L (sym same) leaves)) [
+      | inl failed ↦ inr (c.fault_of.ensures.disk failed)
+      | inr memory ↦ inl (c.fault_of.ensures.memory memory)
+    ]

@@ -1,0 +1,59 @@
+use Rattle.std.proofs.Common.{◌≡◌, ◌≤◌, refl, arith}
+use Rattle.node_rules.specs.Rules.{seeing}
+use Rattle.dealer_node.specs.declared.made.Need.{Need}
+use Rattle.dealer_node.specs.Outs.{told_by}
+use Rattle.dealer_node.specs.Working.{HasLeft}
+use Rattle.dealer_node.proofs.Framed.{message_took, close_failed, take_failed, seen_up, left_of, seen_left, asked_left}
+use Rattle.dealer_node.proofs.up.Up.on_message.Goals as goal
+
+pub close-requires-clause-learn : goal.close-requires-clause-learn
+close-requires-clause-learn g c =
+    (c.take.ensures.left _ 1 11 (seen_left c.args.self.now.running c.see.new.self c.args.made.now _ 2 75 c.see.ensures.rest (left_of c.args.self.now.running c.args.made.now 2 75 c.requires.learn c.requires.texts c.requires.bytes))).learn
+
+pub close-requires-clause-texts : goal.close-requires-clause-texts
+close-requires-clause-texts g c =
+    let left = c.take.ensures.left _ 1 11 (seen_left c.args.self.now.running c.see.new.self c.args.made.now _ 2 75 c.see.ensures.rest (left_of c.args.self.now.running c.args.made.now 2 75 c.requires.learn c.requires.texts c.requires.bytes)) in
+    omega (arith, left.texts)
+
+pub close-requires-clause-bytes : goal.close-requires-clause-bytes
+close-requires-clause-bytes g c =
+    let left = c.take.ensures.left _ 1 11 (seen_left c.args.self.now.running c.see.new.self c.args.made.now _ 2 75 c.see.ensures.rest (left_of c.args.self.now.running c.args.made.now 2 75 c.requires.learn c.requires.texts c.requires.bytes)) in
+    omega (arith, left.bytes)
+
+pub ask-requires-clause-frames : goal.ask-requires-clause-frames
+ask-requires-clause-frames g c =
+    let taken = c.take.ensures.left _ 1 11 (seen_left c.args.self.now.running c.see.new.self c.args.made.now _ 2 75 c.see.ensures.rest (left_of c.args.self.now.running c.args.made.now 2 75 c.requires.learn c.requires.texts c.requires.bytes)) in
+    let left = c.close.ensures.left _ 0 1 taken in
+    omega (arith, left.texts)
+
+pub ask-requires-clause-frame_bytes : goal.ask-requires-clause-frame_bytes
+ask-requires-clause-frame_bytes g c =
+    let taken = c.take.ensures.left _ 1 11 (seen_left c.args.self.now.running c.see.new.self c.args.made.now _ 2 75 c.see.ensures.rest (left_of c.args.self.now.running c.args.made.now 2 75 c.requires.learn c.requires.texts c.requires.bytes)) in
+    let left = c.close.ensures.left _ 0 1 taken in
+    omega (arith, left.bytes)
+
+pub returns-in-Ok-close-clause-left : goal.returns-in-Ok-close-clause-left
+returns-in-Ok-close-clause-left g c need left =
+    let taken = c.take.ensures.left need 1 11 (seen_left c.args.self.now.running c.see.new.self c.args.made.now need 2 75 c.see.ensures.rest left) in
+    asked_left c.close.new.self.running c.close.new.made c.ask.new.made need 0 0 c.ask.ensures.rest c.ask.ensures.frames (c.close.ensures.left need 0 1 taken)
+
+pub returns-in-Err-clause-works : goal.returns-in-Err-clause-works
+returns-in-Err-clause-works g c s honest is =
+    let there = seen_up g.D.Disk c.args.post.now s c.args.message.now c.args.self.now c.see.new.self is (c.see.ensures.runs c.args.post.now s is.running) in
+    take_failed g.D.Disk c.args.post.now s c.args.from c.args.message.now c.args.self.now _ c.take.new.self (told_by c.args.made.now) (told_by c.take.new.made) c.in-Err.fault refl is.unbegun
+    (c.in-Err.ensures.works (seeing c.args.message.now s) honest there)
+
+pub returns-in-Err-close-clause-works : goal.returns-in-Err-close-clause-works
+returns-in-Err-close-clause-works g c s honest is =
+    let there = seen_up g.D.Disk c.args.post.now s c.args.message.now c.args.self.now c.see.new.self is (c.see.ensures.runs c.args.post.now s is.running) in
+    let first = c.in-Ok.ensures.works (seeing c.args.message.now s) honest there in
+    close_failed g.D.Disk c.args.post.now s c.args.from c.args.message.now c.args.self.now _ c.take.new.self c.close.new.self (told_by c.args.made.now) (told_by c.take.new.made) (told_by c.close.new.made) c.in-Err-close.fault refl first
+    (c.in-Err-close.ensures.works first.turn.after honest first.now)
+
+pub returns-in-Ok-close-clause-works : goal.returns-in-Ok-close-clause-works
+returns-in-Ok-close-clause-works g c s honest is =
+    let there = seen_up g.D.Disk c.args.post.now s c.args.message.now c.args.self.now c.see.new.self is (c.see.ensures.runs c.args.post.now s is.running) in
+    let first = c.in-Ok.ensures.works (seeing c.args.message.now s) honest there in
+    let second = c.in-Ok-close.ensures.works first.turn.after honest first.now in
+    message_took g.D.Disk c.args.post.now s c.args.from c.args.message.now c.args.self.now _ c.take.new.self c.close.new.self (told_by c.args.made.now) (told_by c.take.new.made) (told_by c.close.new.made) (told_by c.ask.new.made) refl first second
+    c.ask.ensures.taken

@@ -1,0 +1,61 @@
+-- What a whole call needs and makes of a node that runs.
+use Rattle.std.specs.Prelude.{◌≡◌, ◌⊎◌, ℕ, ◌+◌, ◌*◌, ◌≤◌, Result, Ok, Err}
+use Rattle.promise_store.specs.declared.disk.Disk.{Ghosts}
+use Rattle.node_rules.specs.Standings.{Standing}
+use Rattle.node_rules.specs.Turns.{Turn, Refusal}
+use Rattle.node_rules.specs.Calls.{Call}
+use Rattle.node_rules.specs.Rules.{IsTurnUp}
+use Rattle.dealer_node.specs.declared.up.Up.{Up}
+use Rattle.dealer_node.specs.declared.running.Running.{Running}
+use Rattle.dealer_node.specs.declared.made.Made.{Made}
+use Rattle.dealer_node.specs.declared.made.Need.{Need}
+use Rattle.dealer_node.specs.declared.fault.NodeFault.{NodeFault}
+use Rattle.dealer_node.specs.declared.fault.NodeFault.TheVariants as fault
+use Rattle.dealer_node.specs.Outs.{Told, HasRoom}
+use Rattle.dealer_node.specs.Posts.{Post, place_at}
+use Rattle.dealer_node.specs.Running.{ahead_of}
+use Rattle.dealer_node.specs.Working.{disk_under, store_room, IsUp}
+use Rattle.dealer_node.specs.Handling.{Stays, Handles}
+
+-- what the close of a call makes at most
+abbrev pub close_need : Running → Need
+close_need running = record { frames = 10; frame_bytes = 460; texts = 11 * (ahead_of running + 1); text_bytes = 45716 * (ahead_of running + 1); faults = 0 }
+
+-- and with a piece of a seat's bytes that is given fewer answers than these: a frame and a fault for each, and the seat's line
+abbrev pub line_need : Running → ℕ → Need
+line_need running limit = record {
+  frames = limit + 10;
+  frame_bytes = 46 * (limit + 10);
+  texts = 1 + 11 * (ahead_of running + 1);
+  text_bytes = 4096 + 45716 * (ahead_of running + 1);
+  faults = limit;
+}
+
+-- what a message of another node makes at most: what is told of 64 slots, what the close makes, and a question
+abbrev pub frame_need : Running → Need
+frame_need running = record { frames = 75; frame_bytes = 3450; texts = 11 * (ahead_of running + 2); text_bytes = 45716 * (ahead_of running + 2); faults = 0 }
+
+module _ {D : Type 0} where
+  -- there is room for so much, to learn of so many commands, and to store as many votes
+  pub record HasCallRoom (up : Up D) (made : Made) (need : Need) (commands : ℕ) : Type 0 where
+    pub shown : HasRoom made need
+    pub learner : commands ≤ up.running.learner.room
+    pub table : ahead_of up.running + commands ≤ up.running.table.room
+    pub store : commands ≤ store_room up
+
+module _ {D : Type 0} (g : Ghosts D) where
+  -- room alone has changed
+  pub record Unmoved (before after : Up D) : Type 0 where
+    pub up : (post : Post) (s : Standing) → IsUp g post before s → IsUp g post after s
+    pub disk : disk_under after ≡ disk_under before
+
+  -- there was no memory
+  pub record Wants (post : Post) (s : Standing) (before after : Up D) (answer : Result (Unit {0}) NodeFault) : Type 0 where
+    pub stays : Stays g post s before after
+    pub memory : answer ≡ Err fault.OutOfMemory
+
+  -- a call that found no memory, or whose outcome is by its rule
+  abbrev pub HandlesCall : Post → Standing → Call → Up D → Up D → Told → Told → Result (Unit {0}) NodeFault → Type 0
+  HandlesCall post s called before after earlier later answer =
+      Wants post s before after answer
+      ⊎ ((outcome : Result Turn Refusal) × IsTurnUp (place_at post) s called outcome × Handles g post s outcome before after earlier later answer)

@@ -1,0 +1,39 @@
+-- What a whole call makes of a node that runs, however it ends.
+use Rattle.std.specs.Prelude.{◌≡◌, ℕ, ◌≤◌, length, vec_len, Result, Ok, Err}
+use Rattle.promise_store.specs.declared.disk.Disk.{Ghosts}
+use Rattle.promise_store.specs.declared.fault.StoreFault.TheVariants.{Disk}
+use Rattle.node_rules.specs.Standings.{Standing}
+use Rattle.node_rules.specs.Turns.{Turn, Refusal, Spent, BadFrame}
+use Rattle.dealer_node.specs.declared.up.Up.{Up}
+use Rattle.dealer_node.specs.declared.made.Made.{Made}
+use Rattle.dealer_node.specs.declared.made.Need.{Need}
+use Rattle.dealer_node.specs.declared.fault.NodeFault.{NodeFault}
+use Rattle.dealer_node.specs.declared.fault.NodeFault.TheVariants as fault
+use Rattle.dealer_node.specs.Outs.{Told}
+use Rattle.dealer_node.specs.Posts.{Post}
+use Rattle.dealer_node.specs.Texts.{byte_total}
+use Rattle.dealer_node.specs.Working.{disk_under, IsUp, Took, Failed, Clashed}
+
+module _ {D : Type 0} (g : Ghosts D) where
+  -- nothing but room has changed
+  pub record Stays (post : Post) (s : Standing) (before after : Up D) : Type 0 where
+    pub now : IsUp g post after s
+    pub disk : disk_under after ≡ disk_under before
+
+  -- a call whose outcome is this, or that found no memory
+  abbrev pub Handles : Post → Standing → Result Turn Refusal → Up D → Up D → Told → Told → Result (Unit {0}) NodeFault → Type 0
+  Handles post s outcome before after earlier later (Ok done) = Took g post s outcome before after earlier later
+  Handles post s outcome before after earlier later (Err (fault.Store Disk)) = Failed g post s outcome before after
+  Handles post s outcome before after earlier later (Err fault.Conflict) = Clashed g post s outcome before after
+  Handles post s outcome before after earlier later (Err fault.OutOfMemory) = Stays post s before after
+  Handles post s outcome before after earlier later (Err fault.Spent) = (outcome ≡ Err Spent) × Stays post s before after
+  Handles post s outcome before after earlier later (Err (fault.BadFrame why)) = (outcome ≡ Err (BadFrame why)) × Stays post s before after
+  Handles post s outcome before after earlier later (Err other) = ⊥
+
+-- no more was made than was needed
+pub record IsWithin (made : Made) (need : Need) : Type 0 where
+  pub frames : length made.frames.texts ≤ need.frames
+  pub frame_bytes : byte_total made.frames.texts ≤ need.frame_bytes
+  pub texts : length made.shown.texts ≤ need.texts
+  pub text_bytes : byte_total made.shown.texts ≤ need.text_bytes
+  pub faults : vec_len made.faults ≤ need.faults

@@ -1,0 +1,33 @@
+-- What a node does with a message in memory alone.
+use Rattle.std.specs.Prelude.{◌≡◌, ℕ, Result}
+use Rattle.paxos_wire.specs.declared.message.Message.{Message}
+use Rattle.paxos_wire.specs.declared.message.Message.TheVariants as frame
+use Rattle.node_rules.specs.Standings.{Standing}
+use Rattle.node_rules.specs.Turns.{Turn, Refusal}
+use Rattle.dealer_node.specs.declared.running.Running.{Running}
+use Rattle.dealer_node.specs.Outs.{Told}
+use Rattle.dealer_node.specs.Posts.{Post}
+use Rattle.dealer_node.specs.Running.{TakesTurn}
+use Rattle.dealer_node.specs.Working.{StandsByIts}
+
+-- the store is neither asked nor changed: it is no Prepare and no Accept
+abbrev pub IsOfMemory : Message → Type 0
+IsOfMemory (frame.Prepare ballot slot) = ⊥
+IsOfMemory (frame.Promise ballot slot entries) = Unit {0}
+IsOfMemory (frame.Refuse ballot slot promised) = Unit {0}
+IsOfMemory (frame.Accept ballot slot command) = ⊥
+IsOfMemory (frame.Accepted ballot slot command) = Unit {0}
+IsOfMemory (frame.Chosen slot command) = Unit {0}
+IsOfMemory (frame.Ask slot) = Unit {0}
+IsOfMemory (frame.Forward command) = Unit {0}
+
+-- the store stays, and the ballot that was begun
+pub record KeepsStore (s after : Standing) : Type 0 where
+  pub store : after.store ≡ s.store
+  pub begun : after.begun ≡ s.begun
+  pub stands : StandsByIts s → StandsByIts after
+
+-- the outcome of a rule is a turn that leaves the store as it is, and that was taken
+pub record TakesInMemory (post : Post) (running : Running) (earlier later : Told) (s : Standing) (outcome : Result Turn Refusal) : Type 0 where
+  pub takes : TakesTurn post running earlier later outcome
+  pub keeps : KeepsStore s takes.turn.after

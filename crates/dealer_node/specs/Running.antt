@@ -1,0 +1,126 @@
+-- What runs at a node, as the rules see it.
+use Rattle.std.specs.Prelude.{◌≡◌, ℕ, ◌+◌, ◌-◌, ◌*◌, ◌^◌, ◌≤◌, ◌==◌, ◌||◌, Bool, true, nat_le, length, List, ◌++◌, Option, Some, None, IfSome, Result, Ok}
+use Rattle.std.specs.List.{AllByRecursion}
+use Rattle.paxos_wire.specs.declared.limits.TheConstants.{SLOTS}
+use Rattle.paxos_wire.specs.declared.ballot.Ballot.{Ballot}
+use Rattle.paxos_wire.specs.Fits.{IsBallot, IsEntry, IsInRange}
+use Rattle.slot_log.specs.Slots.{Log, front, known_at}
+use Rattle.slot_log.specs.declared.command.Command.{Command}
+use Rattle.proposer.specs.declared.accept.Accept.{Accept}
+use Rattle.proposer.specs.declared.campaign.Campaign.{Campaign}
+use Rattle.proposer.specs.Campaigns.{promise_by}
+use Rattle.node_rules.specs.Standings.{Place, Standing, applied}
+use Rattle.node_rules.specs.Turns.{Turn, Refusal, still}
+use Rattle.node_rules.specs.Proposing.{higher, proposing, closing}
+use Rattle.node_rules.specs.Seats.{session_at, HearsPiece}
+use Rattle.dealer_node.specs.declared.made.Made.{Made}
+use Rattle.dealer_node.specs.declared.running.Running.{Running}
+use Rattle.dealer_node.specs.Posts.{Post, place_at}
+use Rattle.dealer_node.specs.Outs.{Told, both_told}
+use Rattle.dealer_node.specs.Rooms.{Grows}
+use Rattle.dealer_node.specs.Turned.{told_of}
+use Rattle.dealer_node.specs.Fitting.{AreMessages}
+use Rattle.dealer_node.specs.Scenes.{IsTableOf}
+
+-- ---- what it is seen as
+
+-- all but the store stands as the standing says
+pub record IsRunning (post : Post) (running : Running) (s : Standing) : Type 0 where
+  pub up : s.up ≡ true
+  pub campaign : running.proposer.campaign ≡ s.campaign
+  pub learned : running.learner.learned ≡ s.learned
+  pub hands : IsTableOf post.setting (applied s) running.table
+  pub waits : running.pending ≡ s.pending
+  pub greatest : running.seen ≡ s.seen
+  pub sessions : running.seats.talks ≡ s.sessions
+
+-- what runs and what was made behind other things are those of a turn, whose messages have frames
+pub record IsTaken (post : Post) (running : Running) (earlier later : Told) (turn : Turn) : Type 0 where
+  pub runs : IsRunning post running turn.after
+  pub told : later ≡ both_told earlier (told_of turn)
+  pub fits : AreMessages turn.frames
+
+-- the outcome of a rule is a turn, and that was taken
+pub record TakesTurn (post : Post) (running : Running) (earlier later : Told) (outcome : Result Turn Refusal) : Type 0 where
+  pub turn : Turn
+  pub rule : outcome ≡ Ok turn
+  pub taken : IsTaken post running earlier later turn
+
+-- a turn of a piece of a seat's bytes was taken
+pub record TakesPiece (post : Post) (running : Running) (earlier later : Told) (seat : ℕ) (piece : List ℕ) (s : Standing) : Type 0 where
+  pub turn : Turn
+  pub rule : HearsPiece (place_at post) seat piece (session_at s.sessions seat) s turn
+  pub taken : IsTaken post running earlier later turn
+  -- which changes the sessions and the act that waits, and nothing else
+  pub rest : turn.after ≡ record s { sessions = running.seats.talks; pending = running.pending }
+
+-- ---- the close
+
+-- what is left of the close of a call, once this was proposed or nothing
+abbrev pub proposed_by : Place → Option Accept → Standing → Result Turn Refusal
+proposed_by place None s = Ok (still s)
+proposed_by place (Some made) s = proposing place made s
+
+-- the close comes to proposing this; its campaign alone may have changed
+pub record Closes (post : Post) (running : Running) (s : Standing) (made : Option Accept) : Type 0 where
+  pub marked : Standing
+  pub runs : IsRunning post running marked
+  pub rule : closing (place_at post) s ≡ proposed_by (place_at post) made marked
+  pub rest : marked ≡ record s { campaign = marked.campaign }
+  -- and it proposes in no other ballot than the one that it leads
+  pub stands : (ballot : Ballot) → IfSome s.campaign (λ campaign. campaign.ballot ≡ ballot) → IfSome marked.campaign (λ campaign. campaign.ballot ≡ ballot)
+  pub own : (ballot : Ballot) → IfSome s.campaign (λ campaign. campaign.ballot ≡ ballot) → IfSome made (λ accept. accept.ballot ≡ ballot)
+
+-- no round is above those seen, or no slot is left
+abbrev pub is_spent_at : Running → Ballot → Bool
+is_spent_at running promised = (higher running.seen promised).round == 2 ^ 32 - 1 || nat_le SLOTS (front running.learner.learned.log)
+
+-- ---- what holds of all that runs
+
+-- the ballot is one, and what its promises tell has its numbers within their ranges
+pub record IsCampaign (campaign : Campaign) : Type 0 where
+  pub ballot : IsBallot campaign.ballot
+  pub told : (node : ℕ) → IfSome (promise_by campaign node) (λ entries. AllByRecursion IsEntry entries)
+
+-- the numbers of all commands that are known are within their ranges
+abbrev pub AreInRange : Log → Type 0
+AreInRange log = (slot : ℕ) (command : Command) → known_at log slot ≡ Some command → IsInRange command
+
+-- the log went on: what lay below its front does still, and one command more is known at most
+pub record GoesOn (old new : Log) : Type 0 where
+  pub later : List Command
+  pub below : new.below ≡ later ++ old.below
+  pub fronts : front old ≤ front new
+  pub count : front new + length new.beyond ≤ front old + length old.beyond + 1
+
+-- it runs at this post, and all that it may send has its numbers within their ranges
+pub record IsAt (post : Post) (running : Running) : Type 0 where
+  pub node : running.proposer.node ≡ post.node
+  pub nodes : running.proposer.nodes ≡ post.nodes
+  pub counted : running.learner.learned.nodes ≡ post.nodes
+  pub game : running.table.game ≡ post.setting.game
+  pub count : running.table.count ≡ post.setting.title.hands
+  pub seats : length running.seats.talks ≡ post.setting.game.players
+  pub ballots : IfSome running.proposer.campaign (λ campaign. IsCampaign campaign)
+  pub commands : AreInRange running.learner.learned.log
+  pub act : IfSome running.pending (λ command. IsInRange command)
+
+-- ---- room
+
+-- how many commands are known beyond the front
+abbrev pub ahead_of : Running → ℕ
+ahead_of running = length running.learner.learned.log.beyond
+
+-- there is room to learn of so many commands more, and to apply them and all that are known beyond the front
+pub record CanLearn (running : Running) (made : Made) (commands : ℕ) : Type 0 where
+  pub learner : commands ≤ running.learner.room
+  pub table : ahead_of running + commands ≤ running.table.room
+  pub texts : 11 * (ahead_of running + commands) ≤ made.shown.text_room
+  pub bytes : 45716 * (ahead_of running + commands) ≤ made.shown.byte_room
+
+-- one command more was learned at most, and those that were applied are no longer known beyond the front
+pub record Learns (old new : Running) (earlier later : Made) : Type 0 where
+  pub learner : old.learner.room ≤ new.learner.room + 1
+  pub ahead : ahead_of new ≤ ahead_of old + 1
+  pub table : old.table.room + ahead_of new ≤ new.table.room + ahead_of old + 1
+  pub shown : Grows earlier.shown later.shown (11 * (ahead_of old + 1 - ahead_of new)) (45716 * (ahead_of old + 1 - ahead_of new))

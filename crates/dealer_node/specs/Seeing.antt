@@ -1,0 +1,106 @@
+-- How a node is seen as a standing.
+use Rattle.std.specs.Prelude.{◌≡◌, ℕ, List, Option, Some, None, [], Bool, true, false, Result, Ok, Err}
+use Rattle.promise_store.specs.declared.disk.Disk.{Ghosts}
+use Rattle.promise_store.specs.Keeping.{disk_of, Leaves}
+use Rattle.acceptor.specs.Stored.{store_of}
+use Rattle.node_rules.specs.Standings.{Standing, stopped}
+use Rattle.dealer_node.specs.Nodes.{Node}
+use Rattle.dealer_node.specs.declared.fault.NodeFault.{NodeFault}
+use Rattle.dealer_node.specs.declared.fault.NodeFault.TheVariants as fault
+use Rattle.dealer_node.specs.declared.up.Up.{Up}
+use Rattle.dealer_node.specs.Posts.{Post, place_at}
+use Rattle.dealer_node.specs.Scenes.{IsTableOf}
+pub use Rattle.dealer_node.specs.Working.{head_of, IsUp}
+
+module _ {D : Type 0} where
+  abbrev pub post_in : Node D → Post
+  post_in node = node.post
+
+  abbrev pub is_up : Option (Up D) → Bool
+  is_up None = false
+  is_up (Some up) = true
+
+  abbrev pub runs : Node D → Bool
+  runs node = is_up node.up
+
+  -- the disk is its store's while the node runs
+  abbrev pub disk_by : Option (Up D) → Option D → Option D
+  disk_by None disk = disk
+  disk_by (Some up) disk = Some (disk_of (store_of up.acceptor))
+
+  abbrev pub disk_in : Node D → Option D
+  disk_in node = disk_by node.up node.disk
+
+  -- the node once it went down
+  abbrev pub downed : Node D → Node D
+  downed node = record node { disk = disk_in node; up = None }
+
+  -- the node once a call of what runs was answered so: its store failed or another command was known, and it is down; or it runs on
+  abbrev pub settled : Result (Unit {0}) NodeFault → Node D → Node D
+  settled (Err (fault.Store why)) node = downed node
+  settled (Err fault.Conflict) node = downed node
+  settled other node = node
+
+module _ {D : Type 0} (g : Ghosts D) where
+  -- a node that is down knows nothing, and each image of its disk stands for one of two stores
+  pub record IsDown (post : Post) (disk : D) (s : Standing) : Type 0 where
+    pub stopped : s ≡ stopped (place_at post) s.store s.begun
+    pub leaves : Leaves g (head_of post) s.store s.begun disk
+
+  abbrev pub IsSeenBy : Post → Option (Up D) → Option D → Standing → Type 0
+  IsSeenBy post (Some up) disk s = IsUp g post up s
+  IsSeenBy post None (Some disk) s = IsDown post disk s
+  IsSeenBy post None None s = ⊥
+
+  pub record IsSeen (node : Node D) (s : Standing) : Type 0 where
+    pub by : IsSeenBy (post_in node) node.up node.disk s
+    -- what it shows while it is down
+    pub blank : IsTableOf (post_in node).setting [] node.blank
+
+  -- ---- what is said of the disk
+
+  -- what a read gave when it was begun
+  abbrev pub begun_by : Option D → List ℕ
+  begun_by None = []
+  begun_by (Some disk) = g.begun disk
+
+  abbrev pub begun_of : Node D → List ℕ
+  begun_of node = begun_by (disk_in node)
+
+  -- what a read gives
+  abbrev pub seen_by : Option D → List ℕ
+  seen_by None = []
+  seen_by (Some disk) = g.seen disk
+
+  abbrev pub bytes_of : Node D → List ℕ
+  bytes_of node = seen_by (disk_in node)
+
+  -- how many of its calls have failed
+  abbrev pub count_by : Option D → ℕ
+  count_by None = 0
+  count_by (Some disk) = g.count disk
+
+  abbrev pub failures_of : Node D → ℕ
+  failures_of node = count_by (disk_in node)
+
+  -- what a crash may leave
+  abbrev pub images_by : Option D → List ℕ → Type 0
+  images_by None image = ⊥
+  images_by (Some disk) image = g.images disk image
+
+  abbrev pub images_of : Node D → List ℕ → Type 0
+  images_of node = images_by (disk_in node)
+
+  abbrev pub since_by : Option D → ℕ → List ℕ → Type 0
+  since_by None t image = ⊥
+  since_by (Some disk) t image = g.since disk t image
+
+  abbrev pub since_of : Node D → ℕ → List ℕ → Type 0
+  since_of node = since_by (disk_in node)
+
+  abbrev pub moment_by : Option D → ℕ
+  moment_by None = 0
+  moment_by (Some disk) = g.moment disk
+
+  abbrev pub moment_of : Node D → ℕ
+  moment_of node = moment_by (disk_in node)

@@ -1,0 +1,37 @@
+-- What a start makes of a node that is down.
+use Rattle.std.specs.Prelude.{◌≡◌, ◌⊎◌, ◌≤◌}
+use Rattle.promise_store.specs.declared.disk.Disk.{Ghosts}
+use Rattle.promise_store.specs.declared.fault.StoreFault.TheVariants.{Disk}
+use Rattle.promise_store.specs.Keeping.{Leaves, LeavesDuring}
+use Rattle.protocol_model.specs.Stores.{Store}
+use Rattle.node_rules.specs.Standings.{Standing, started}
+use Rattle.node_rules.specs.Rules.{asking_all, starting}
+use Rattle.dealer_node.specs.declared.up.Up.{Up}
+use Rattle.dealer_node.specs.declared.fault.NodeFault.{NodeFault}
+use Rattle.dealer_node.specs.declared.fault.NodeFault.TheVariants as fault
+use Rattle.dealer_node.specs.Outs.{Told, both_told}
+use Rattle.dealer_node.specs.Posts.{Post, place_at}
+use Rattle.dealer_node.specs.Turned.{told_of}
+use Rattle.dealer_node.specs.Fitting.{AreMessages}
+use Rattle.dealer_node.specs.Working.{head_of, disk_under, IsUp}
+
+module _ {D : Type 0} (g : Ghosts D) where
+  -- it runs with one of the two stores that its disk may have, with its header shown and the others asked
+  pub record Starts (post : Post) (store begun : Store) (disk : D) (up : Up D) (earlier later : Told) : Type 0 where
+    pub found : Store
+    pub either : (found ≡ store) ⊎ (found ≡ begun)
+    pub now : IsUp g post up (started (place_at post) found)
+    pub told : later ≡ both_told earlier (told_of (starting (place_at post) found))
+    pub fits : AreMessages (asking_all (place_at post) found)
+    pub moments : LeavesDuring g (head_of post) store begun disk (disk_under up)
+
+  -- it stays down, and its disk leaves what it left
+  pub record StaysDown (post : Post) (store begun : Store) (before after : D) (why : NodeFault) : Type 0 where
+    pub leaves : Leaves g (head_of post) store begun after
+    pub moments : LeavesDuring g (head_of post) store begun before after
+    pub fault : (why ≡ fault.OutOfMemory) ⊎ (why ≡ fault.Store Disk)
+
+  -- what holds of a disk that was opened, whatever it is
+  pub record GoesOver (before after : D) : Type 0 where
+    pub begun_same : g.begun after ≡ g.begun before
+    pub counts : g.count before ≤ g.count after

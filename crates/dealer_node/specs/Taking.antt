@@ -1,0 +1,89 @@
+-- What a call makes of a node, however it ends.
+use Rattle.std.specs.Prelude.{◌≡◌, ℕ, ◌⊎◌, ◌≤◌, Bool, true, false, List, [], map, Result, Ok, Err, IsErr}
+use Rattle.promise_store.specs.declared.disk.Disk.{Ghosts}
+use Rattle.promise_store.specs.declared.fault.StoreFault.{StoreFault}
+use Rattle.promise_store.specs.declared.fault.StoreFault.TheVariants.{Disk}
+use Rattle.promise_store.specs.Disks.{During, Rose}
+use Rattle.promise_store.specs.Holding.{StandsFor}
+use Rattle.paxos_wire.specs.Spelling.{frame}
+use Rattle.paxos_wire.specs.Faults.{reading}
+use Rattle.protocol_model.specs.Sets.{In}
+use Rattle.protocol_model.specs.Stores.{Store}
+use Rattle.node_rules.specs.Standings.{Place, Standing}
+use Rattle.node_rules.specs.Sending.{Frame}
+use Rattle.node_rules.specs.Showing.{Piece, SeatFault}
+use Rattle.node_rules.specs.Turns.{Turn, Refusal, Down, Spent, BadFrame, Conflict}
+use Rattle.node_rules.specs.Calls.{Call, Start, Tick, Line, Connect, Drop, Stop}
+use Rattle.node_rules.specs.Calls as call
+use Rattle.node_rules.specs.Rules.{IsTurn, standing_after}
+use Rattle.node_rules.specs.Called.{Ends, took, refused, failed, unchanged}
+use Rattle.dealer_node.specs.Nodes.{Node}
+use Rattle.dealer_node.specs.declared.fault.NodeFault.{NodeFault}
+use Rattle.dealer_node.specs.declared.fault.NodeFault.TheVariants as fault
+use Rattle.dealer_node.specs.Outs.{Told, both_told}
+use Rattle.dealer_node.specs.Posts.{place_at}
+use Rattle.dealer_node.specs.Turned.{posted, printed, fault_of}
+use Rattle.dealer_node.specs.Seeing.{head_of, post_in, IsSeen, begun_of, failures_of, since_of}
+
+-- ---- what it answers
+
+-- the fault of a refusal
+abbrev pub refusal_fault : Refusal → NodeFault
+refusal_fault Down = fault.Down
+refusal_fault Spent = fault.Spent
+refusal_fault (BadFrame why) = fault.BadFrame why
+refusal_fault (Conflict store) = fault.Conflict
+
+-- only a start of a node that is down may find a failed disk and change nothing
+abbrev pub IsStart : Bool → Call → Type 0
+IsStart false (Start found) = Unit {0}
+IsStart up other = ⊥
+
+-- a call that ended so answered this, and told these faults of seats
+abbrev pub Answered : (place : Place) (s : Standing) (called : Call) (after : Standing) (frames : List Frame) (shown : List Piece)
+    → Ends place s called after frames shown → List SeatFault → Result (Unit {0}) NodeFault → Type 0
+Answered place s called after frames shown (took turn rule e f g) faults answer = (faults ≡ turn.faults) × (answer ≡ Ok tt)
+Answered place s called after frames shown (refused refusal rule e f g) faults answer = (faults ≡ []) × (answer ≡ Err (refusal_fault refusal))
+Answered place s called after frames shown (failed outcome begun up rule b e f g) faults answer = (faults ≡ []) × (answer ≡ Err (fault.Store Disk))
+Answered place s called after frames shown (unchanged e f g) faults answer =
+    (faults ≡ []) × ((answer ≡ Err fault.OutOfMemory) ⊎ (IsStart s.up called × (answer ≡ Err (fault.Store Disk))))
+
+-- ---- what its disk leaves
+
+-- what images may stand for beside the store: what was begun before; of a node that runs what the call's one append makes of it
+abbrev pub MayBegin : Bool → Place → Standing → Call → Store → Type 0
+MayBegin false place s called next = next ≡ s.begun
+MayBegin true place s called next = (next ≡ s.store) ⊎ ((outcome : Result Turn Refusal) × IsTurn place s called outcome × (next ≡ (standing_after place s outcome).begun))
+
+-- ---- the whole
+
+module _ {D : Type 0} (g : Ghosts D) where
+  -- a call of a node that was seen as this standing
+  pub record Takes (called : Call) (s : Standing) (old new : Node D) (earlier later : Told) (answer : Result (Unit {0}) NodeFault) : Type 0 where
+    pub after : Standing
+    pub frames : List Frame
+    pub shown : List Piece
+    pub faults : List SeatFault
+    -- the node is seen as the standing after it
+    pub now : IsSeen g new after
+    -- which is that of the rule, or that of a node whose disk failed
+    pub ends : Ends (place_at (post_in old)) s called after frames shown
+    pub answered : Answered (place_at (post_in old)) s called after frames shown ends faults answer
+    -- what it made stands behind what was there before
+    pub told : later ≡ both_told earlier (record { frames = map posted frames; shown = map printed shown; faults = map fault_of faults })
+    -- each frame reads back as its message
+    pub fits : (one : Frame) → In one frames → reading (frame one.message) ≡ Ok one.message
+    -- at each moment of the call, and behind it, each image of the disk stands for the store or for what the call began
+    pub next : Store
+    pub may_begin : MayBegin s.up (place_at (post_in old)) s called next
+    pub moments : During (since_of g old) (since_of g new) (λ image. StandsFor (head_of (post_in old)) image s.store ⊎ StandsFor (head_of (post_in old)) image next)
+
+  -- what holds of every call, whatever the node is seen as
+  pub record StaysItself (old new : Node D) (earlier later : Told) (answer : Result (Unit {0}) NodeFault) : Type 0 where
+    pub post : post_in new ≡ post_in old
+    pub begun : begun_of g new ≡ begun_of g old
+    pub counts : failures_of g old ≤ failures_of g new
+    -- 63 comes only where a call of the disk failed
+    pub rose : answer ≡ Err (fault.Store Disk) → Rose (failures_of g old) (failures_of g new)
+    -- by a fault nothing is sent, shown or told
+    pub unmade : IsErr answer → later ≡ earlier

@@ -1,0 +1,104 @@
+-- What a part of a call makes of a node that runs, however it ends.
+use Rattle.std.specs.Prelude.{◌≡◌, ℕ, ◌⊎◌, ◌+◌, ◌*◌, ◌≤◌, length, vec_len, List, Option, Some, None, IfSome, Result, Ok, Err}
+use Rattle.promise_store.specs.declared.disk.Disk.{Ghosts}
+use Rattle.promise_store.specs.declared.fault.StoreFault.TheVariants.{Disk}
+use Rattle.promise_store.specs.Disks.{Rose}
+use Rattle.promise_store.specs.Keeping.{disk_of, held_of, Keeps, Leaves, LeavesDuring}
+use Rattle.promise_store.specs.Journals.{header}
+use Rattle.promise_store.specs.Room.{room}
+use Rattle.acceptor.specs.Stored.{store_of}
+use Rattle.protocol_model.specs.Stores.{Store}
+use Rattle.proposer.specs.declared.campaign.Campaign.{Campaign}
+use Rattle.node_rules.specs.Standings.{Standing}
+use Rattle.node_rules.specs.Turns.{Turn, Refusal, Conflict}
+use Rattle.dealer_node.specs.declared.up.Up.{Up}
+use Rattle.dealer_node.specs.declared.running.Running.{Running}
+use Rattle.dealer_node.specs.declared.made.Made.{Made}
+use Rattle.dealer_node.specs.declared.made.Need.{Need}
+use Rattle.dealer_node.specs.declared.fault.NodeFault.{NodeFault}
+use Rattle.dealer_node.specs.declared.fault.NodeFault.TheVariants as fault
+use Rattle.dealer_node.specs.Outs.{Told, both_told}
+use Rattle.dealer_node.specs.Posts.{Post}
+use Rattle.dealer_node.specs.Texts.{byte_total}
+use Rattle.dealer_node.specs.Turned.{told_of}
+use Rattle.dealer_node.specs.Fitting.{AreMessages}
+use Rattle.dealer_node.specs.Running.{IsRunning, CanLearn, ahead_of}
+
+-- what the journal of a node's store begins with
+abbrev pub head_of : Post → List ℕ
+head_of post = header post.node post.nodes
+
+-- the ballot that it prepares or leads is the one that it promised
+abbrev pub StandsByIts : Standing → Type 0
+StandsByIts s = IfSome s.campaign (λ (campaign : Campaign). campaign.ballot ≡ s.store.promise)
+
+-- this store is what the outcome leaves: that of its turn, or the one of a conflict
+abbrev pub ComesTo : Result Turn Refusal → Store → Type 0
+ComesTo outcome left = ((turn : Turn) × (outcome ≡ Ok turn) × (left ≡ turn.after.begun)) ⊎ (outcome ≡ Err (Conflict left))
+
+module _ {D : Type 0} where
+  abbrev pub disk_under : Up D → D
+  disk_under up = disk_of (store_of up.acceptor)
+
+  -- for how many votes more there is room in the store
+  abbrev pub store_room : Up D → ℕ
+  store_room up = room (held_of (store_of up.acceptor))
+
+module _ {D : Type 0} (g : Ghosts D) where
+  -- a node that runs keeps the standing's store, and knows what the standing says
+  pub record IsUp (post : Post) (up : Up D) (s : Standing) : Type 0 where
+    pub running : IsRunning post up.running s
+    pub keeps : Keeps g (head_of post) s.store (store_of up.acceptor)
+    pub unbegun : s.begun ≡ s.store
+    pub stands : StandsByIts s
+
+  -- ---- however it ends
+
+  -- the turn was taken: at each moment images stand for the store before or for the one after
+  pub record Took (post : Post) (s : Standing) (outcome : Result Turn Refusal) (before after : Up D) (earlier later : Told) : Type 0 where
+    pub turn : Turn
+    pub rule : outcome ≡ Ok turn
+    pub now : IsUp post after turn.after
+    pub told : later ≡ both_told earlier (told_of turn)
+    pub fits : AreMessages turn.frames
+    pub moments : LeavesDuring g (head_of post) s.store turn.after.store (disk_under before) (disk_under after)
+
+  -- the disk failed: images stand for the store before or for what the outcome leaves
+  pub record Failed (post : Post) (s : Standing) (outcome : Result Turn Refusal) (before after : Up D) : Type 0 where
+    pub left : Store
+    pub comes : (left ≡ s.store) ⊎ ComesTo outcome left
+    pub leaves : Leaves g (head_of post) s.store left (disk_under after)
+    pub moments : LeavesDuring g (head_of post) s.store left (disk_under before) (disk_under after)
+
+  -- another command was known
+  pub record Clashed (post : Post) (s : Standing) (outcome : Result Turn Refusal) (before after : Up D) : Type 0 where
+    pub left : Store
+    pub rule : outcome ≡ Err (Conflict left)
+    pub leaves : Leaves g (head_of post) s.store left (disk_under after)
+    pub moments : LeavesDuring g (head_of post) s.store left (disk_under before) (disk_under after)
+
+  -- a part of a call whose outcome is this, after which the node runs on or is to go down
+  abbrev pub Works : Post → Standing → Result Turn Refusal → Up D → Up D → Told → Told → Result (Unit {0}) NodeFault → Type 0
+  Works post s outcome before after earlier later (Ok done) = Took post s outcome before after earlier later
+  Works post s outcome before after earlier later (Err (fault.Store Disk)) = Failed post s outcome before after
+  Works post s outcome before after earlier later (Err fault.Conflict) = Clashed post s outcome before after
+  Works post s outcome before after earlier later (Err other) = ⊥
+
+  -- what holds whatever the disk is
+  pub record GoesOn (before after : Up D) (answer : Result (Unit {0}) NodeFault) : Type 0 where
+    pub begun : g.begun (disk_under after) ≡ g.begun (disk_under before)
+    pub counts : g.count (disk_under before) ≤ g.count (disk_under after)
+    pub rose : answer ≡ Err (fault.Store Disk) → Rose (g.count (disk_under before)) (g.count (disk_under after))
+
+-- ---- room
+
+-- there is room for so many votes and frames more of one command each, and no more was made than was needed
+pub record HasLeft (running : Running) (made : Made) (need : Need) (votes frames : ℕ) : Type 0 where
+  pub learn : CanLearn running made votes
+  pub texts : frames ≤ made.frames.text_room
+  pub bytes : 46 * frames ≤ made.frames.byte_room
+  pub frames_made : length made.frames.texts + frames ≤ need.frames
+  pub bytes_made : byte_total made.frames.texts + 46 * frames ≤ need.frame_bytes
+  pub texts_shown : length made.shown.texts + 11 * (ahead_of running + votes) ≤ need.texts
+  pub bytes_shown : byte_total made.shown.texts + 45716 * (ahead_of running + votes) ≤ need.text_bytes
+  pub faults_told : vec_len made.faults ≤ need.faults

@@ -1,0 +1,125 @@
+ghost use Rattle.std.specs.Prelude.{◌≡◌, ◌+◌, ◌≤◌, ◌++◌, map};
+ghost use Rattle.paxos_wire.specs.Fits.{Fits, IsBallot, IsSlot, AreEntries};
+ghost use Rattle.paxos_wire.specs.declared.message.Message.TheVariants.{Promise as Promising, Refuse as Refusing};
+ghost use Rattle.node_rules.specs.Sending.{one};
+ghost use Rattle.dealer_node.specs.Rooms.{Grows};
+ghost use Rattle.dealer_node.specs.Turned.{posted};
+ghost use Rattle.dealer_node.specs.Answering.{message_of, is_promise, accepted_in, FitsRefusal, refusals_to};
+ghost use Rattle.dealer_node.specs.Fitting.{AreMessages};
+
+use crate::sending::send;
+use crate::texts::Texts;
+use acceptor::{AcceptAnswer, PrepareAnswer};
+use paxos_wire::{Ballot, Entries, Message, frame_len};
+use slot_log::Command;
+
+/// Sends a node the promise of a ballot, with what was accepted at the 64 slots from a slot on.
+pub(crate) fn send_promise(
+    frames: &mut Texts<u8>,
+    to: u8,
+    ballot: Ballot,
+    slot: u32,
+    entries: &Entries,
+)
+    requires ballot { IsBallot ballot }
+    requires slot { IsSlot slot }
+    requires entries { AreEntries slot entries.now }
+    requires texts { 1 ≤ frames.old.text_room }
+    requires bytes { 2576 ≤ frames.old.byte_room }
+    ensures texts { frames.new.texts ≡ frames.old.texts ++ map posted (one to (Promising ballot slot entries.now)) }
+    ensures grows { Grows frames.old frames.new 1 2576 }
+    ensures fits { AreMessages (one to (Promising ballot slot entries.now)) }
+{
+    let message = Message::Promise {
+        ballot,
+        slot,
+        entries: *entries,
+    };
+    let _ = frame_len(&message);
+    send(frames, to, &message);
+}
+
+/// Sends a node the refusal of a ballot, with the one that was promised.
+pub(crate) fn send_refusal(
+    frames: &mut Texts<u8>,
+    to: u8,
+    ballot: Ballot,
+    slot: u32,
+    promised: Ballot,
+)
+    requires ballot { IsBallot ballot }
+    requires slot { IsSlot slot }
+    requires promised { IsBallot promised }
+    requires texts { 1 ≤ frames.old.text_room }
+    requires bytes { 46 ≤ frames.old.byte_room }
+    ensures texts { frames.new.texts ≡ frames.old.texts ++ map posted (one to (Refusing ballot slot promised)) }
+    ensures grows { Grows frames.old frames.new 1 46 }
+    ensures fits { AreMessages (one to (Refusing ballot slot promised)) }
+{
+    let message = Message::Refuse {
+        ballot,
+        slot,
+        promised,
+    };
+    let _ = frame_len(&message);
+    send(frames, to, &message);
+}
+
+/// Sends a node what the acceptor answers its Prepare with, and tells whether that is a promise.
+pub(crate) fn send_prepare_answer(frames: &mut Texts<u8>, to: u8, answer: &PrepareAnswer) -> bool
+    requires fits { Fits (message_of answer.now) }
+    requires texts { 1 ≤ frames.old.text_room }
+    requires bytes { 2576 ≤ frames.old.byte_room }
+    ensures promised { result ≡ is_promise answer.now }
+    ensures texts { frames.new.texts ≡ frames.old.texts ++ map posted (one to (message_of answer.now)) }
+    ensures grows { Grows frames.old frames.new 1 2576 }
+    ensures fits { AreMessages (one to (message_of answer.now)) }
+{
+    match answer {
+        PrepareAnswer::Promise {
+            ballot,
+            slot,
+            entries,
+        } => {
+            send_promise(frames, to, *ballot, *slot, entries);
+            true
+        }
+        PrepareAnswer::Refuse {
+            ballot,
+            slot,
+            promised,
+        } => {
+            send_refusal(frames, to, *ballot, *slot, *promised);
+            false
+        }
+    }
+}
+
+/// The command that the acceptor accepted; none where it refuses.
+pub(crate) fn accepted_command(answer: &AcceptAnswer) -> Option<Command>
+    ensures { result ≡ accepted_in answer.now }
+{
+    match answer {
+        AcceptAnswer::Accepted { command, .. } => Some(*command),
+        AcceptAnswer::Refuse { .. } => None,
+    }
+}
+
+/// Sends a node that the acceptor refuses its proposal, where it does.
+pub(crate) fn send_accept_refusal(frames: &mut Texts<u8>, to: u8, answer: &AcceptAnswer)
+    requires fits { FitsRefusal answer.now }
+    requires texts { 1 ≤ frames.old.text_room }
+    requires bytes { 46 ≤ frames.old.byte_room }
+    ensures texts { frames.new.texts ≡ frames.old.texts ++ map posted (refusals_to to answer.now) }
+    ensures grows { Grows frames.old frames.new 1 46 }
+    ensures fits { AreMessages (refusals_to to answer.now) }
+{
+    match answer {
+        AcceptAnswer::Accepted { .. } => return,
+        AcceptAnswer::Refuse {
+            ballot,
+            slot,
+            promised,
+        } => send_refusal(frames, to, *ballot, *slot, *promised),
+    }
+}

@@ -1,0 +1,117 @@
+//! What a node that runs does with a message of another node.
+
+ghost use Rattle.std.specs.Prelude.{◌≡◌, ℕ, ◌+◌, ◌≤◌, ◌<◌, IsTrue, OnOk};
+ghost use Rattle.paxos_wire.specs.Fits.{IsMessage};
+ghost use Rattle.node_rules.specs.Standings.{Standing};
+ghost use Rattle.node_rules.specs.Rules.{taking, asking, on_message};
+ghost use Rattle.dealer_node.specs.Posts.{place_at};
+ghost use Rattle.dealer_node.specs.Outs.{told_by};
+ghost use Rattle.dealer_node.specs.Rooms.{Grows};
+ghost use Rattle.dealer_node.specs.declared.made.Need.{Need as Needs};
+ghost use Rattle.dealer_node.specs.Running.{IsRunning, IsTaken, IsAt, CanLearn};
+ghost use Rattle.dealer_node.specs.Working.{HasLeft};
+
+use crate::fault::NodeFault;
+use crate::made::Made;
+use crate::post::Post;
+use crate::running::Running;
+use crate::up::Up;
+use paxos_wire::Message;
+use promise_store::Disk;
+
+/// Asks a node that speaks of a slot above the front, in a Prepare, an Accept or an Accepted, for what was chosen.
+fn ask(running: &Running, post: &Post, from: u8, message: &Message, made: &mut Made)
+    requires message { IsMessage message.now }
+    requires frames { 1 ≤ made.old.frames.text_room }
+    requires frame_bytes { 46 ≤ made.old.frames.byte_room }
+    ensures taken { (s : Standing) → IsRunning post.now running.now s → IsTaken post.now running.now (told_by made.old) (told_by made.new) (asking from message.now s) }
+    ensures frames { Grows made.old.frames made.new.frames 1 46 }
+    ensures rest { made.new ≡ record made.old { frames = made.new.frames } }
+{
+    match message {
+        Message::Prepare { slot, .. }
+        | Message::Accept { slot, .. }
+        | Message::Accepted { slot, .. } => running.ask_above(post, from, *slot, made),
+        Message::Promise { .. }
+        | Message::Refuse { .. }
+        | Message::Chosen { .. }
+        | Message::Ask { .. }
+        | Message::Forward { .. } => return,
+    }
+}
+
+impl<D: Disk + Drop> Up<D> {
+    ghost use Rattle.dealer_node.specs.Working.{IsUp, Works, GoesOn, store_room};
+
+    /// What each message asks of a node.
+    fn take(
+        &mut self,
+        post: &Post,
+        from: u8,
+        message: &Message,
+        made: &mut Made,
+    ) -> Result<(), NodeFault>
+        requires at { IsAt post.now self.old.running }
+        requires from { from < post.now.nodes }
+        requires message { IsMessage message.now }
+        requires store { 1 ≤ store_room self.old }
+        requires learn { CanLearn self.old.running made.old 1 }
+        requires texts { 64 ≤ made.old.frames.text_room }
+        requires bytes { 2944 ≤ made.old.frames.byte_room }
+        ensures works { (s : Standing) → IsTrue D.is_honest → IsUp D.Disk post.now self.old s
+            → Works D.Disk post.now s (taking (place_at post.now) from message.now s) self.old self.new (told_by made.old) (told_by made.new) result }
+        ensures goes_on { GoesOn D.Disk self.old self.new result }
+        ensures at { IsAt post.now self.new.running }
+        ensures room { store_room self.old ≤ store_room self.new + 1 }
+        ensures left { (need : Needs) (votes frames : ℕ) → HasLeft self.old.running made.old need (votes + 1) (frames + 64) → HasLeft self.new.running made.new need votes frames }
+    {
+        match message {
+            Message::Prepare { ballot, slot } => self.prepare(post, from, *ballot, *slot, made),
+            Message::Accept {
+                ballot,
+                slot,
+                command,
+            } => self.accept(post, from, *ballot, *slot, command, made),
+            Message::Promise { .. }
+            | Message::Refuse { .. }
+            | Message::Accepted { .. }
+            | Message::Chosen { .. }
+            | Message::Ask { .. }
+            | Message::Forward { .. } => self.take_in_memory(post, from, message, made),
+        }
+    }
+
+    /// Takes a message of another node, and closes the call; last it asks for what it doesn't know.
+    pub(crate) fn on_message(
+        &mut self,
+        post: &Post,
+        from: u8,
+        message: &Message,
+        made: &mut Made,
+    ) -> Result<(), NodeFault>
+        requires at { IsAt post.now self.old.running }
+        requires from { from < post.now.nodes }
+        requires message { IsMessage message.now }
+        requires store { 2 ≤ store_room self.old }
+        requires learn { CanLearn self.old.running made.old 2 }
+        requires texts { 75 ≤ made.old.frames.text_room }
+        requires bytes { 3450 ≤ made.old.frames.byte_room }
+        ensures works { (s : Standing) → IsTrue D.is_honest → IsUp D.Disk post.now self.old s
+            → Works D.Disk post.now s (on_message (place_at post.now) from message.now s) self.old self.new (told_by made.old) (told_by made.new) result }
+        ensures goes_on { GoesOn D.Disk self.old self.new result }
+        ensures at { IsAt post.now self.new.running }
+        ensures left { (need : Needs) → HasLeft self.old.running made.old need 2 75 → OnOk result (HasLeft self.new.running made.new need 0 0) }
+    {
+        self.running.see(message);
+        match self.take(post, from, message, made) {
+            Err(fault) => Err(fault),
+            Ok(()) => match self.close(post, made) {
+                Err(fault) => Err(fault),
+                Ok(()) => {
+                    ask(&self.running, post, from, message, made);
+                    Ok(())
+                }
+            },
+        }
+    }
+}

@@ -1,0 +1,248 @@
+ghost use Rattle.std.specs.Prelude.{◌≡◌, ◌+◌, ◌-◌, ◌*◌, ◌≤◌, ◌<◌, List, length, drop, reverse, OnOk, OnErr, IsOk, IsErr, Err, IfSome};
+ghost use Rattle.paxos_wire.specs.Fits.{IsInRange, IsSlot};
+ghost use Rattle.slot_log.specs.Slots.{front};
+ghost use Rattle.learner.specs.Learning.{answer_to, hearing, answer_to_chosen, believing as with_chosen};
+ghost use Rattle.node_rules.specs.Standings.{Standing};
+ghost use Rattle.node_rules.specs.Applying.{Scene, taking_all};
+ghost use Rattle.node_rules.specs.Turns.{Conflict as Conflicting};
+ghost use Rattle.node_rules.specs.Learning.{learning, counting_vote, asking_on, believing, telling, asking_above};
+ghost use Rattle.dealer_node.specs.declared.reader.Reader.{Reader as Reads};
+ghost use Rattle.dealer_node.specs.Texts.{Marked};
+ghost use Rattle.dealer_node.specs.Scenes.{IsScene};
+ghost use Rattle.dealer_node.specs.Posts.{place_at};
+ghost use Rattle.dealer_node.specs.Outs.{told_by};
+ghost use Rattle.dealer_node.specs.Rooms.{Grows};
+ghost use Rattle.dealer_node.specs.Running.{IsRunning, IsTaken, TakesTurn, IsAt, AreInRange, GoesOn, CanLearn, Learns};
+
+use crate::applying::take_all;
+use crate::chosen::{ask, tell, told_slots};
+use crate::made::Made;
+use crate::post::Post;
+use crate::reader::Reader;
+use crate::running::Running;
+use crate::texts::Texts;
+use learner::Learner;
+use paxos_wire::Ballot;
+use paxos_wire::limits::{SLOTS, WINDOW};
+use slot_log::laws::{commands_are_kept, fronts_go_on, one_more_is_known};
+use slot_log::{Command, SlotFault, SlotLog};
+
+/// Counts that a node accepted a command at a slot in a ballot.
+fn hear_vote(
+    learner: &mut Learner,
+    from: u8,
+    ballot: Ballot,
+    slot: u32,
+    command: Command,
+) -> Result<(), SlotFault>
+    requires from { from < learner.old.learned.nodes }
+    requires room { 1 ≤ learner.old.room }
+    requires command { IsInRange command }
+    requires commands { AreInRange learner.old.learned.log }
+    ensures ok { OnOk result (IsOk (answer_to learner.old.learned from ballot slot command)) }
+    ensures err { OnErr result (IsErr (answer_to learner.old.learned from ballot slot command)) }
+    ensures learned { learner.new.learned ≡ hearing learner.old.learned from ballot slot command }
+    ensures nodes { learner.new.learned.nodes ≡ learner.old.learned.nodes }
+    ensures room { learner.old.room ≤ learner.new.room + 1 }
+    ensures goes_on { GoesOn learner.old.learned.log learner.new.learned.log }
+    ensures commands { AreInRange learner.new.learned.log }
+{
+    learner.log().limits();
+    one_more_is_known();
+    fronts_go_on();
+    commands_are_kept();
+    learner.on_accepted_reserved(from, ballot, slot, command)?;
+    Ok(())
+}
+
+/// Takes a node's word that a command was chosen at a slot.
+fn hear_chosen(learner: &mut Learner, slot: u32, command: Command) -> Result<(), SlotFault>
+    requires room { 1 ≤ learner.old.room }
+    requires command { IsInRange command }
+    requires commands { AreInRange learner.old.learned.log }
+    ensures ok { OnOk result (IsOk (answer_to_chosen learner.old.learned.log slot command)) }
+    ensures err { OnErr result (IsErr (answer_to_chosen learner.old.learned.log slot command)) }
+    ensures learned { learner.new.learned ≡ with_chosen learner.old.learned slot command }
+    ensures nodes { learner.new.learned.nodes ≡ learner.old.learned.nodes }
+    ensures room { learner.old.room ≤ learner.new.room + 1 }
+    ensures goes_on { GoesOn learner.old.learned.log learner.new.learned.log }
+    ensures commands { AreInRange learner.new.learned.log }
+{
+    learner.log().limits();
+    one_more_is_known();
+    fronts_go_on();
+    commands_are_kept();
+    learner.on_chosen_reserved(slot, command)
+}
+
+/// The commands from a slot on that the front has passed.
+fn passed(log: &SlotLog, from: u32) -> &[Command]
+    requires { from ≤ front log.now.log }
+    ensures value { result.now ≡ drop from (reverse log.now.log.below) }
+    ensures len { length result.now + from ≡ front log.now.log }
+{
+    let commands = log.commands();
+    let (_, passed) = commands.split_at(from as usize);
+    passed
+}
+
+impl Running {
+    /// Applies the commands from a slot on that the front has passed.
+    fn apply_from(&mut self, from: u32, post: &Post, shown: &mut Texts<Reader>)
+        requires from { from ≤ front self.old.learner.learned.log }
+        requires game { self.old.table.game ≡ post.now.setting.game }
+        requires count { self.old.table.count ≡ post.now.setting.title.hands }
+        requires seats { length self.old.seats.talks ≡ post.now.setting.game.players }
+        requires room { front self.old.learner.learned.log ≤ from + self.old.table.room }
+        requires texts { 11 * (front self.old.learner.learned.log - from) ≤ shown.old.text_room }
+        requires bytes { 45716 * (front self.old.learner.learned.log - from) ≤ shown.old.byte_room }
+        ensures scene { (scene : Scene) (before : List (Marked Reads)) → IsScene post.now.setting scene self.old.table self.old.pending before shown.old.texts
+            → IsScene post.now.setting (taking_all post.now.setting self.old.seats.talks (drop from (reverse self.old.learner.learned.log.below)) scene) self.new.table self.new.pending before shown.new.texts }
+        ensures game { self.new.table.game ≡ self.old.table.game }
+        ensures count { self.new.table.count ≡ self.old.table.count }
+        ensures room { self.old.table.room + from ≤ self.new.table.room + front self.old.learner.learned.log }
+        ensures shown { Grows shown.old shown.new (11 * (front self.old.learner.learned.log - from)) (45716 * (front self.old.learner.learned.log - from)) }
+        ensures act { IfSome self.old.pending (λ command. IsInRange command) → IfSome self.new.pending (λ command. IsInRange command) }
+        ensures rest { self.new ≡ record self.old { table = self.new.table; pending = self.new.pending } }
+    {
+        take_all(
+            &mut self.table,
+            &mut self.pending,
+            post,
+            self.seats.sessions(),
+            passed(self.learner.log(), from),
+            shown,
+        );
+    }
+
+    /// Counts that a node accepted a command at a slot in a ballot, and applies what the front then passes. An `Err` is
+    /// 30: another command is known there.
+    pub(crate) fn count_vote(
+        &mut self,
+        post: &Post,
+        from: u8,
+        ballot: Ballot,
+        slot: u32,
+        command: Command,
+        made: &mut Made,
+    ) -> Result<(), SlotFault>
+        requires at { IsAt post.now self.old }
+        requires from { from < post.now.nodes }
+        requires command { IsInRange command }
+        requires room { CanLearn self.old made.old 1 }
+        ensures ok { OnOk result ((s : Standing) → IsRunning post.now self.old s
+            → TakesTurn post.now self.new (told_by made.old) (told_by made.new) (counting_vote (place_at post.now) from ballot slot command s)) }
+        ensures err { OnErr result ((s : Standing) → IsRunning post.now self.old s
+            → counting_vote (place_at post.now) from ballot slot command s ≡ Err (Conflicting s.store)) }
+        ensures at { IsAt post.now self.new }
+        ensures learns { Learns self.old self.new made.old made.new }
+        ensures rest { made.new ≡ record made.old { shown = made.new.shown } }
+    {
+        let front = self.front();
+        hear_vote(&mut self.learner, from, ballot, slot, command)?;
+        self.apply_from(front, post, &mut made.shown);
+        Ok(())
+    }
+
+    /// Takes a node's word that a command was chosen at a slot, and applies what the front then passes. An `Err` is 30:
+    /// another command is known there.
+    fn take_chosen(
+        &mut self,
+        post: &Post,
+        slot: u32,
+        command: Command,
+        made: &mut Made,
+    ) -> Result<(), SlotFault>
+        requires at { IsAt post.now self.old }
+        requires command { IsInRange command }
+        requires room { CanLearn self.old made.old 1 }
+        ensures ok { OnOk result ((s : Standing) → IsRunning post.now self.old s
+            → TakesTurn post.now self.new (told_by made.old) (told_by made.new) (learning (place_at post.now) (answer_to_chosen s.learned.log slot command) (with_chosen s.learned slot command) s)) }
+        ensures err { OnErr result ((s : Standing) → IsRunning post.now self.old s
+            → learning (place_at post.now) (answer_to_chosen s.learned.log slot command) (with_chosen s.learned slot command) s ≡ Err (Conflicting s.store)) }
+        ensures at { IsAt post.now self.new }
+        ensures learns { Learns self.old self.new made.old made.new }
+        ensures rest { made.new ≡ record made.old { shown = made.new.shown } }
+    {
+        let front = self.front();
+        hear_chosen(&mut self.learner, slot, command)?;
+        self.apply_from(front, post, &mut made.shown);
+        Ok(())
+    }
+
+    /// Asks a node for more where the front came from a slot to a multiple of 64 at which there is a slot.
+    fn ask_on(&self, post: &Post, from: u8, before: u32, made: &mut Made)
+        requires frames { 1 ≤ made.old.frames.text_room }
+        requires frame_bytes { 46 ≤ made.old.frames.byte_room }
+        ensures taken { (s : Standing) → IsRunning post.now self.now s → IsTaken post.now self.now (told_by made.old) (told_by made.new) (asking_on from before s) }
+        ensures frames { Grows made.old.frames made.new.frames 1 46 }
+        ensures rest { made.new ≡ record made.old { frames = made.new.frames } }
+    {
+        let _ = post;
+        let front = self.front();
+        if before < front && front % WINDOW as u32 == 0 && front < SLOTS {
+            ask(&mut made.frames, from, front);
+        }
+    }
+
+    /// Takes a node's word that a command was chosen at a slot, applies what the front then passes, and asks that node
+    /// for more where the front comes to a multiple of 64. An `Err` is 30: another command is known there.
+    pub(crate) fn believe(
+        &mut self,
+        post: &Post,
+        from: u8,
+        slot: u32,
+        command: Command,
+        made: &mut Made,
+    ) -> Result<(), SlotFault>
+        requires at { IsAt post.now self.old }
+        requires command { IsInRange command }
+        requires room { CanLearn self.old made.old 1 }
+        requires frames { 1 ≤ made.old.frames.text_room }
+        requires frame_bytes { 46 ≤ made.old.frames.byte_room }
+        ensures ok { OnOk result ((s : Standing) → IsRunning post.now self.old s
+            → TakesTurn post.now self.new (told_by made.old) (told_by made.new) (believing (place_at post.now) from slot command s)) }
+        ensures err { OnErr result ((s : Standing) → IsRunning post.now self.old s
+            → believing (place_at post.now) from slot command s ≡ Err (Conflicting s.store)) }
+        ensures at { IsAt post.now self.new }
+        ensures learns { Learns self.old self.new made.old made.new }
+        ensures frames { Grows made.old.frames made.new.frames 1 46 }
+        ensures rest { made.new ≡ record made.old { frames = made.new.frames; shown = made.new.shown } }
+    {
+        let before = self.front();
+        self.take_chosen(post, slot, command, made)?;
+        self.ask_on(post, from, before, made);
+        Ok(())
+    }
+
+    /// Tells a node what was chosen at the slots that it asks for: 64 at most.
+    pub(crate) fn tell(&self, post: &Post, from: u8, slot: u32, made: &mut Made)
+        requires at { IsAt post.now self.now }
+        requires slot { IsSlot slot }
+        requires frames { 64 ≤ made.old.frames.text_room }
+        requires frame_bytes { 2944 ≤ made.old.frames.byte_room }
+        ensures taken { (s : Standing) → IsRunning post.now self.now s → IsTaken post.now self.now (told_by made.old) (told_by made.new) (telling from slot s) }
+        ensures frames { Grows made.old.frames made.new.frames 64 2944 }
+        ensures rest { made.new ≡ record made.old { frames = made.new.frames } }
+    {
+        let _ = post;
+        let slots = told_slots(self.learner.log(), slot);
+        tell(&mut made.frames, from, self.learner.log(), slot, slots);
+    }
+
+    /// Asks a node that speaks of a slot above the front for what was chosen from the front on.
+    pub(crate) fn ask_above(&self, post: &Post, from: u8, slot: u32, made: &mut Made)
+        requires slot { IsSlot slot }
+        requires frames { 1 ≤ made.old.frames.text_room }
+        requires frame_bytes { 46 ≤ made.old.frames.byte_room }
+        ensures taken { (s : Standing) → IsRunning post.now self.now s → IsTaken post.now self.now (told_by made.old) (told_by made.new) (asking_above from slot s) }
+        ensures frames { Grows made.old.frames made.new.frames 1 46 }
+        ensures rest { made.new ≡ record made.old { frames = made.new.frames } }
+    {
+        let _ = post;
+        let front = self.front();
+        if front < slot {
+            ask(&mut made.frames, from, front);
+        }
+    }
+}

@@ -1,0 +1,111 @@
+ghost use Rattle.std.specs.Prelude.{◌≡◌, ℕ, ◌+◌, ◌≤◌, ◌<◌, OnOk, OnErr, IsTrue, Err};
+ghost use Rattle.paxos_wire.specs.Fits.{IsMessage};
+ghost use Rattle.node_rules.specs.Standings.{Standing};
+ghost use Rattle.node_rules.specs.Turns.{Conflict as Conflicting};
+ghost use Rattle.node_rules.specs.Rules.{taking};
+ghost use Rattle.dealer_node.specs.declared.made.Need.{Need as Needs};
+ghost use Rattle.dealer_node.specs.Posts.{place_at};
+ghost use Rattle.dealer_node.specs.Outs.{told_by};
+ghost use Rattle.dealer_node.specs.Rooms.{Grows};
+ghost use Rattle.dealer_node.specs.Running.{IsRunning, IsAt, CanLearn, Learns};
+ghost use Rattle.dealer_node.specs.Memory.{IsOfMemory, TakesInMemory};
+ghost use Rattle.dealer_node.specs.Working.{HasLeft};
+
+use crate::fault::NodeFault;
+use crate::made::Made;
+use crate::post::Post;
+use crate::running::Running;
+use crate::up::Up;
+use paxos_wire::Message;
+use promise_store::Disk;
+use slot_log::SlotFault;
+
+impl Running {
+    /// Takes a message of another node that asks nothing of the store. An `Err` is 30: another command is known at its
+    /// slot.
+    pub(crate) fn take(
+        &mut self,
+        post: &Post,
+        from: u8,
+        message: &Message,
+        made: &mut Made,
+    ) -> Result<(), SlotFault>
+        requires at { IsAt post.now self.old }
+        requires from { from < post.now.nodes }
+        requires message { IsMessage message.now }
+        requires memory { IsOfMemory message.now }
+        requires learn { CanLearn self.old made.old 1 }
+        requires texts { 64 ≤ made.old.frames.text_room }
+        requires bytes { 2944 ≤ made.old.frames.byte_room }
+        ensures ok { OnOk result ((s : Standing) → IsRunning post.now self.old s
+            → TakesInMemory post.now self.new (told_by made.old) (told_by made.new) s (taking (place_at post.now) from message.now s)) }
+        ensures err { OnErr result ((s : Standing) → IsRunning post.now self.old s
+            → taking (place_at post.now) from message.now s ≡ Err (Conflicting s.store)) }
+        ensures at { IsAt post.now self.new }
+        ensures learns { Learns self.old self.new made.old made.new }
+        ensures frames { Grows made.old.frames made.new.frames 64 2944 }
+        ensures faults { made.new.faults ≡ made.old.faults }
+    {
+        match message {
+            Message::Promise {
+                ballot,
+                slot,
+                entries,
+            } => {
+                self.count_promise(post, from, *ballot, *slot, entries);
+                Ok(())
+            }
+            Message::Refuse { promised, .. } => {
+                self.hear_refusal(*promised);
+                Ok(())
+            }
+            Message::Accepted {
+                ballot,
+                slot,
+                command,
+            } => self.count_vote(post, from, *ballot, *slot, *command, made),
+            Message::Chosen { slot, command } => self.believe(post, from, *slot, *command, made),
+            Message::Ask { slot } => {
+                self.tell(post, from, *slot, made);
+                Ok(())
+            }
+            Message::Forward { command } => {
+                self.take_over(post, command);
+                Ok(())
+            }
+            Message::Prepare { .. } | Message::Accept { .. } => unreachable!(),
+        }
+    }
+}
+
+impl<D: Disk + Drop> Up<D> {
+    ghost use Rattle.dealer_node.specs.Working.{IsUp, Works, GoesOn};
+
+    /// Takes a message of another node that asks nothing of the store.
+    pub(crate) fn take_in_memory(
+        &mut self,
+        post: &Post,
+        from: u8,
+        message: &Message,
+        made: &mut Made,
+    ) -> Result<(), NodeFault>
+        requires at { IsAt post.now self.old.running }
+        requires from { from < post.now.nodes }
+        requires message { IsMessage message.now }
+        requires memory { IsOfMemory message.now }
+        requires learn { CanLearn self.old.running made.old 1 }
+        requires texts { 64 ≤ made.old.frames.text_room }
+        requires bytes { 2944 ≤ made.old.frames.byte_room }
+        ensures works { (s : Standing) → IsTrue D.is_honest → IsUp D.Disk post.now self.old s
+            → Works D.Disk post.now s (taking (place_at post.now) from message.now s) self.old self.new (told_by made.old) (told_by made.new) result }
+        ensures goes_on { GoesOn D.Disk self.old self.new result }
+        ensures same { self.new.acceptor ≡ self.old.acceptor }
+        ensures at { IsAt post.now self.new.running }
+        ensures left { (need : Needs) (votes frames : ℕ) → HasLeft self.old.running made.old need (votes + 1) (frames + 64) → HasLeft self.new.running made.new need votes frames }
+    {
+        match self.running.take(post, from, message, made) {
+            Ok(()) => Ok(()),
+            Err(_) => Err(NodeFault::Conflict),
+        }
+    }
+}

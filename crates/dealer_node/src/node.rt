@@ -1,0 +1,346 @@
+ghost use Rattle.std.specs.Prelude.{◌≡◌, ℕ, ◌<◌, ◌↔◌, true, false, List, Option, IsTrue, IsErr, IfOk, IfErr, IfSome, OnOk, length};
+ghost use Rattle.protocol_model.specs.Stores.{Store as Kept, empty_store};
+ghost use Rattle.node_rules.specs.Standings.{Standing, applied, front_of, place_of, stopped};
+ghost use Rattle.node_rules.specs.Showing.{is_connected as is_talk_ready};
+ghost use Rattle.node_rules.specs.Seats.{session_at};
+ghost use Rattle.node_rules.specs.Calls.{Start, Tick, Frame, Line, Connect, Drop as Dropping, Stop};
+ghost use Rattle.promise_store.specs.Disks.{Within, During, Rose};
+ghost use Rattle.promise_store.specs.Journals.{header};
+ghost use Rattle.promise_store.specs.Keeping.{Leaves};
+ghost use Rattle.promise_store.specs.declared.fault.StoreFault.TheVariants.{Disk as DiskFailed};
+ghost use Rattle.dealer_node.specs.Outs.{nothing_told};
+ghost use Rattle.dealer_node.specs.Posts.{place_at};
+ghost use Rattle.dealer_node.specs.Scenes.{IsTableOf};
+ghost use Rattle.dealer_node.specs.Running.{IsAt};
+
+use crate::fault::NodeFault;
+use crate::out::Out;
+use crate::post::Post;
+use crate::starting::{open, ready};
+use crate::up::Up;
+use dealer_kind::Config;
+use promise_store::laws::what_is_kept_is_left;
+use promise_store::{Disk, Store};
+use slot_log::{Command, Table};
+use std::alloc::{AllocError, Global};
+use std::marker::Model;
+
+/// One node of a match, over its disk.
+///
+/// It is made down. `create` makes a new store on its disk, once; `start` opens the store, and from then on the node
+/// takes frames of other nodes, bytes of its seats and ticks, and puts what it sends, shows and tells into an `Out`,
+/// until it is stopped or its store fails.
+///
+/// Contracts see it as a standing of the rules (`IsSeen`), and have for each call, whatever it answers, what it made of
+/// that standing (`Takes`): by Ok the turn of its rule; by 90, 92, 93 and 94 nothing has changed; by 91 and 95 the node
+/// is down; by every fault the `Out` is as it was.
+#[derive(Drop)]
+pub struct Node<D: Disk> {
+    alloc: Global,
+    post: Post,
+    /// The table before the first hand, which the node shows while it is down.
+    blank: Table,
+    /// The disk, while the node is down.
+    disk: Option<D>,
+    /// What it has while it runs.
+    up: Option<Up<D>>,
+}
+
+impl<D: Disk> Model for Node<D> {
+    ghost use Rattle.dealer_node.specs.Nodes.{Node};
+    ghost use Rattle.std.specs.Coded.{codes};
+    ghost use Rattle.promise_store.specs.contracts.held.Held as held;
+
+    ghost Value = { Node D };
+
+    ghost coded = { Prim.hlevel (codes, held.the_row.coded) };
+
+    ghost use Rattle.dealer_node.specs.NodeInside.{IsKept, node_of};
+
+    ghost view = { node_of };
+
+    ghost invariant = { IsKept };
+}
+
+impl<D: Disk + Drop> Node<D> {
+    ghost use Rattle.dealer_node.specs.Seeing.{post_in, runs, disk_in, IsSeen, begun_of, bytes_of, failures_of, images_of, since_of, downed, settled};
+    ghost use Rattle.dealer_node.specs.Taking.{Takes, StaysItself};
+
+    /// The node of this number, counted from 0, of a match, over this disk. It is down. An `Err` comes only where
+    /// memory was refused.
+    pub fn new(alloc: Global, config: &Config, node: usize, disk: D) -> Result<Node<D>, AllocError>
+        requires { node < length config.now.sources }
+        ensures place { IfOk result (λ made. place_at (post_in made) ≡ place_of config.now node) }
+        ensures down { IfOk result (λ made. runs made ≡ false) }
+        ensures disk { IfOk result (λ made. disk_in made ≡ Some disk) }
+        ensures seen { IfOk result (λ made. (store begun : Kept) → Leaves D.Disk (header node (length config.now.sources)) store begun disk
+            → IsSeen D.Disk made (stopped (place_of config.now node) store begun)) }
+    {
+        let post = Post::new(alloc, config, node)?;
+        let blank = Table::new(alloc, *post.game(), post.hands());
+        Ok(Node {
+            alloc,
+            post,
+            blank,
+            disk: Some(disk),
+            up: None,
+        })
+    }
+
+    /// Makes a new store on the node's disk, in place of whatever it has.
+    ///
+    /// Refused is 91 with 63 where the disk failed; then `create` is to be called again.
+    pub fn create(&mut self) -> Result<(), NodeFault>
+        requires { runs self.old ≡ false }
+        ensures made { OnOk result (IsSeen D.Disk self.new (stopped (place_at (post_in self.old)) empty_store empty_store)) }
+        ensures failed { IfErr result (λ fault. (fault ≡ NodeFault.Store DiskFailed) × Rose (failures_of D.Disk self.old) (failures_of D.Disk self.new)) }
+        ensures down { runs self.new ≡ false }
+        ensures post { post_in self.new ≡ post_in self.old }
+        ensures begun { begun_of D.Disk self.new ≡ begun_of D.Disk self.old }
+    {
+        what_is_kept_is_left::<D>();
+        let Some(disk) = self.disk.take() else {
+            unreachable!();
+        };
+        match Store::create(self.alloc, disk, self.post.node(), self.post.nodes()) {
+            Ok(store) => {
+                self.disk = Some(store.close());
+                Ok(())
+            }
+            Err((disk, fault)) => {
+                self.disk = Some(disk);
+                Err(NodeFault::Store(fault))
+            }
+        }
+    }
+
+    /// Starts the node: it opens its store, begins a log with its header, and asks the others for what was chosen where
+    /// its store has a promise. A node that runs stays as it is.
+    ///
+    /// Refused are 91 where the store can't be opened, and 92; then the node stays down.
+    pub fn start(&mut self, out: &mut Out) -> Result<(), NodeFault>
+        ensures taken { (s : Standing) → IsTrue D.is_honest → IsSeen D.Disk self.old s
+            → (found : Kept) × Takes D.Disk (Start found) s self.old self.new out.old out.new result }
+        ensures stays { StaysItself D.Disk self.old self.new out.old out.new result }
+    {
+        if self.up.is_some() {
+            return Ok(());
+        }
+        let (running, mut made) = ready(self.alloc, &self.post, &mut out.made)?;
+        let Some(disk) = self.disk.take() else {
+            unreachable!();
+        };
+        match open(self.alloc, &self.post, disk, running, &mut made) {
+            Ok(up) => {
+                out.made.append(made);
+                self.up = Some(up);
+                Ok(())
+            }
+            Err((disk, fault)) => {
+                self.disk = Some(disk);
+                Err(fault)
+            }
+        }
+    }
+
+    /// Takes the bytes of a frame of another node.
+    ///
+    /// Refused are 90, 92, 94 where the bytes are no frame, 91 where the disk failed, and 95 where another command is
+    /// known at a slot.
+    pub fn on_frame(&mut self, from: usize, bytes: &[u8], out: &mut Out) -> Result<(), NodeFault>
+        requires { from < (post_in self.old).nodes }
+        ensures taken { (s : Standing) → IsTrue D.is_honest → IsSeen D.Disk self.old s
+            → Takes D.Disk (Frame from bytes.now) s self.old self.new out.old out.new result }
+        ensures stays { StaysItself D.Disk self.old self.new out.old out.new result }
+    {
+        let _nodes = self.post.nodes();
+        match &mut self.up {
+            None => Err(NodeFault::Down),
+            Some(up) => {
+                let answer = up.on_frame(self.alloc, &self.post, from as u8, bytes, &mut out.made);
+                self.settle(answer)
+            }
+        }
+    }
+
+    /// Takes a piece of a seat's bytes, however cut; of a seat that isn't connected it is passed over.
+    ///
+    /// Refused are 90, 92, 91 where the disk failed, and 95 where another command is known at a slot. What is wrong with
+    /// what the seat sent is no fault of the call, and stands in `out`.
+    pub fn on_line(&mut self, seat: usize, bytes: &[u8], out: &mut Out) -> Result<(), NodeFault>
+        requires { seat < (post_in self.old).setting.game.players }
+        ensures taken { (s : Standing) → IsTrue D.is_honest → IsSeen D.Disk self.old s
+            → Takes D.Disk (Line seat bytes.now) s self.old self.new out.old out.new result }
+        ensures stays { StaysItself D.Disk self.old self.new out.old out.new result }
+    {
+        match &mut self.up {
+            None => Err(NodeFault::Down),
+            Some(up) => {
+                let answer = up.on_line(self.alloc, &self.post, seat, bytes, &mut out.made);
+                self.settle(answer)
+            }
+        }
+    }
+
+    /// Begins a ballot above all that the node has seen, unless the match is over.
+    ///
+    /// Refused are 90, 92, 93 where no ballot is above all that were seen or no slot is left, 91 where the disk failed,
+    /// and 95 where another command is known at a slot.
+    pub fn on_tick(&mut self, out: &mut Out) -> Result<(), NodeFault>
+        ensures taken { (s : Standing) → IsTrue D.is_honest → IsSeen D.Disk self.old s
+            → Takes D.Disk Tick s self.old self.new out.old out.new result }
+        ensures stays { StaysItself D.Disk self.old self.new out.old out.new result }
+    {
+        match &mut self.up {
+            None => Err(NodeFault::Down),
+            Some(up) => {
+                let answer = up.on_tick(self.alloc, &self.post, &mut out.made);
+                self.settle(answer)
+            }
+        }
+    }
+
+    /// Connects a seat: its session begins anew. Refused is 90.
+    pub fn connect(&mut self, seat: usize) -> Result<(), NodeFault>
+        requires { seat < (post_in self.old).setting.game.players }
+        ensures taken { (s : Standing) → IsTrue D.is_honest → IsSeen D.Disk self.old s
+            → Takes D.Disk (Connect seat) s self.old self.new nothing_told nothing_told result }
+        ensures stays { StaysItself D.Disk self.old self.new nothing_told nothing_told result }
+    {
+        match &mut self.up {
+            None => Err(NodeFault::Down),
+            Some(up) => {
+                up.running.connect(self.alloc, seat);
+                Ok(())
+            }
+        }
+    }
+
+    /// Drops a seat's session. Refused is 90.
+    pub fn drop_seat(&mut self, seat: usize) -> Result<(), NodeFault>
+        requires { seat < (post_in self.old).setting.game.players }
+        ensures taken { (s : Standing) → IsTrue D.is_honest → IsSeen D.Disk self.old s
+            → Takes D.Disk (Dropping seat) s self.old self.new nothing_told nothing_told result }
+        ensures stays { StaysItself D.Disk self.old self.new nothing_told nothing_told result }
+    {
+        match &mut self.up {
+            None => Err(NodeFault::Down),
+            Some(up) => {
+                up.running.drop_seat(seat);
+                Ok(())
+            }
+        }
+    }
+
+    /// Stops the node, and its disk, as by `Disk::stop`; of a node that is down the disk alone.
+    pub fn stop(&mut self, pick: u64)
+        ensures taken { (s : Standing) → IsTrue D.is_honest → IsSeen D.Disk self.old s
+            → Takes D.Disk Stop s self.old self.new nothing_told nothing_told (Ok tt) }
+        ensures stays { StaysItself D.Disk self.old self.new nothing_told nothing_told (Ok tt) }
+        ensures down { runs self.new ≡ false }
+    {
+        what_is_kept_is_left::<D>();
+        self.go_down();
+        if let Some(disk) = &mut self.disk {
+            disk.stop(pick);
+        }
+    }
+
+    /// Whether it runs.
+    pub fn running(&self) -> bool
+        ensures value { result ≡ runs self.now }
+        ensures seen { (s : Standing) → IsSeen D.Disk self.now s → result ≡ s.up }
+    {
+        self.up.is_some()
+    }
+
+    /// The first slot whose command the node doesn't know; 0 while it is down.
+    pub fn front(&self) -> u32
+        ensures { (s : Standing) → IsSeen D.Disk self.now s → result ≡ front_of s }
+    {
+        match &self.up {
+            None => 0,
+            Some(up) => up.running.front(),
+        }
+    }
+
+    /// The table after the commands that the node applied; while it is down the table before the first hand.
+    pub fn table(&self) -> &Table
+        ensures { (s : Standing) → IsSeen D.Disk self.now s → IsTableOf (post_in self.now).setting (applied s) result.now }
+    {
+        match &self.up {
+            None => &self.blank,
+            Some(up) => &up.running.table,
+        }
+    }
+
+    /// The act that waits to be proposed; none while the node is down.
+    pub fn pending(&self) -> Option<Command>
+        ensures { (s : Standing) → IsSeen D.Disk self.now s → result ≡ s.pending }
+    {
+        match &self.up {
+            None => None,
+            Some(up) => up.running.pending,
+        }
+    }
+
+    /// Whether a seat is connected: its session is ready. None is while the node is down.
+    pub fn connected(&self, seat: usize) -> bool
+        requires { seat < (post_in self.now).setting.game.players }
+        ensures { (s : Standing) → IsSeen D.Disk self.now s → result ≡ is_talk_ready (session_at s.sessions seat) }
+    {
+        match &self.up {
+            None => false,
+            Some(up) => up.running.is_connected(seat),
+        }
+    }
+
+    /// How many calls of the node's disk have failed; it stays at its last value.
+    pub fn failures(&self) -> u64
+        ensures { result ≡ failures_of D.Disk self.now }
+    {
+        match (&self.up, &self.disk) {
+            (Some(up), _) => up.acceptor.store().failures(),
+            (None, Some(disk)) => disk.failures(),
+            (None, None) => 0,
+        }
+    }
+
+    /// Begins the disk of a node that is down anew, as a cluster does that is opened over stores which another one left.
+    pub fn begin(&mut self)
+        requires { runs self.old ≡ false }
+        ensures begun { begun_of D.Disk self.new ≡ bytes_of D.Disk self.old }
+        ensures bytes { bytes_of D.Disk self.new ≡ bytes_of D.Disk self.old }
+        ensures post { post_in self.new ≡ post_in self.old }
+        ensures down { runs self.new ≡ false }
+        ensures failures { failures_of D.Disk self.new ≡ failures_of D.Disk self.old }
+        ensures images { Within (images_of D.Disk self.old) (images_of D.Disk self.new) }
+        ensures moments { During (since_of D.Disk self.old) (since_of D.Disk self.new) (images_of D.Disk self.old) }
+        ensures seen { (s : Standing) → IsSeen D.Disk self.old s → IsSeen D.Disk self.new s }
+    {
+        if let Some(disk) = &mut self.disk {
+            disk.begin();
+        }
+    }
+
+    /// Takes the node down where a call of what runs was answered by 91 or 95.
+    fn settle(&mut self, answer: Result<(), NodeFault>) -> Result<(), NodeFault>
+        ensures same { result ≡ answer }
+        ensures node { self.new ≡ settled answer self.old }
+    {
+        match answer {
+            Err(NodeFault::Store(_) | NodeFault::Conflict) => self.go_down(),
+            _ => {}
+        }
+        answer
+    }
+
+    /// Takes down a node that runs. What its store kept stays on its disk.
+    fn go_down(&mut self)
+        ensures { self.new ≡ downed self.old }
+    {
+        if let Some(up) = self.up.take() {
+            self.disk = Some(up.acceptor.close());
+        }
+    }
+}

@@ -1,0 +1,100 @@
+//! What a node that runs does with the bytes of a frame.
+
+ghost use Rattle.std.specs.Prelude.{◌≡◌, ◌<◌, IfOk, OnOk, IsTrue, IsErr};
+ghost use Rattle.paxos_wire.specs.Fits.{IsMessage};
+ghost use Rattle.paxos_wire.specs.Faults.{reading};
+ghost use Rattle.node_rules.specs.Standings.{Standing};
+ghost use Rattle.node_rules.specs.Calls.{Frame as Letter};
+ghost use Rattle.node_rules.specs.Rules.{on_message};
+ghost use Rattle.dealer_node.specs.Outs.{told_by, nothing_told};
+ghost use Rattle.dealer_node.specs.Posts.{place_at};
+ghost use Rattle.dealer_node.specs.Running.{IsAt};
+ghost use Rattle.dealer_node.specs.Handling.{IsWithin};
+ghost use Rattle.dealer_node.specs.Calling.{frame_need};
+
+use crate::fault::NodeFault;
+use crate::made::{Made, Need};
+use crate::post::Post;
+use crate::running::Running;
+use crate::up::Up;
+use paxos_wire::{FrameFault, Message, decode};
+use promise_store::Disk;
+use std::alloc::Global;
+
+/// What the bytes of a frame say.
+fn read(bytes: &[u8]) -> Result<Message, FrameFault>
+    ensures value { result ≡ reading bytes.now }
+    ensures message { IfOk result (λ message. IsMessage message) }
+{
+    decode(bytes)
+}
+
+/// What a message of another node makes at most.
+fn frame_need(running: &Running) -> Need
+    ensures { result ≡ frame_need running.now }
+{
+    let applied = running.most_applied(2);
+    Need {
+        frames: 75,
+        frame_bytes: 3450,
+        texts: 11 * applied,
+        text_bytes: 45_716 * applied,
+        faults: 0,
+    }
+}
+
+impl<D: Disk + Drop> Up<D> {
+    ghost use Rattle.dealer_node.specs.Working.{IsUp, Works, GoesOn};
+    ghost use Rattle.dealer_node.specs.Calling.{HasCallRoom, HandlesCall};
+
+    /// Takes a message of another node, into room that was made.
+    fn message(
+        &mut self,
+        post: &Post,
+        from: u8,
+        message: &Message,
+        made: &mut Made,
+    ) -> Result<(), NodeFault>
+        requires at { IsAt post.now self.old.running }
+        requires from { from < post.now.nodes }
+        requires message { IsMessage message.now }
+        requires room { HasCallRoom self.old made.old (frame_need self.old.running) 2 }
+        ensures works { (s : Standing) → IsTrue D.is_honest → IsUp D.Disk post.now self.old s
+            → Works D.Disk post.now s (on_message (place_at post.now) from message.now s) self.old self.new (told_by made.old) (told_by made.new) result }
+        ensures goes_on { GoesOn D.Disk self.old self.new result }
+        ensures at { IsAt post.now self.new.running }
+        ensures within { told_by made.old ≡ nothing_told → OnOk result (IsWithin made.new (frame_need self.old.running)) }
+    {
+        self.on_message(post, from, message, made)
+    }
+
+    /// Takes the bytes of a frame of another node, and closes the call. What it makes goes to `out` at the end, where it
+    /// didn't fail.
+    pub(crate) fn on_frame(
+        &mut self,
+        alloc: Global,
+        post: &Post,
+        from: u8,
+        bytes: &[u8],
+        out: &mut Made,
+    ) -> Result<(), NodeFault>
+        requires at { IsAt post.now self.old.running }
+        requires from { from < post.now.nodes }
+        ensures handles { (s : Standing) → IsTrue D.is_honest → IsUp D.Disk post.now self.old s
+            → HandlesCall D.Disk post.now s (Letter from bytes.now) self.old self.new (told_by out.old) (told_by out.new) result }
+        ensures goes_on { GoesOn D.Disk self.old self.new result }
+        ensures at { IsAt post.now self.new.running }
+        ensures unmade { IsErr result → told_by out.new ≡ told_by out.old }
+    {
+        match read(bytes) {
+            Err(fault) => Err(NodeFault::BadFrame(fault)),
+            Ok(message) => {
+                let need = frame_need(&self.running);
+                let mut made = self.ready(alloc, 2, &need, out)?;
+                self.message(post, from, &message, &mut made)?;
+                out.append(made);
+                Ok(())
+            }
+        }
+    }
+}

@@ -1,0 +1,140 @@
+//! What a node that runs does with a piece of a seat's bytes.
+
+ghost use Rattle.std.specs.Prelude.{◌≡◌, ◌*◌, ◌≤◌, ◌<◌, length, IsTrue, IsErr, IfOk, IfErr, IfSome, OnOk};
+ghost use Rattle.node_rules.specs.Standings.{Standing};
+ghost use Rattle.node_rules.specs.Calls.{Line as Piece};
+ghost use Rattle.node_rules.specs.Seats.{session_at};
+ghost use Rattle.dealer_node.specs.Outs.{told_by, nothing_told, HasRoom};
+ghost use Rattle.dealer_node.specs.Posts.{Post as Station};
+ghost use Rattle.dealer_node.specs.Rooms.{Grows, Tells};
+ghost use Rattle.dealer_node.specs.Seated.{feeds_with, HasRoomAt};
+ghost use Rattle.dealer_node.specs.Running.{IsAt};
+ghost use Rattle.dealer_node.specs.Handling.{IsWithin};
+ghost use Rattle.dealer_node.specs.Calling.{line_need};
+
+use crate::fault::NodeFault;
+use crate::made::{Made, Need};
+use crate::post::Post;
+use crate::running::Running;
+use crate::up::Up;
+use promise_store::Disk;
+use std::alloc::Global;
+
+/// What a piece makes at most, with fewer answers than these: none where no number is so great.
+fn line_need(running: &Running, limit: usize) -> Option<Need>
+    ensures { IfSome result (λ need. need ≡ line_need running.now limit) }
+{
+    let applied = running.most_applied(1);
+    let frames = limit.checked_add(10)?;
+    let frame_bytes = frames.checked_mul(46)?;
+    Some(Need {
+        frames,
+        frame_bytes,
+        texts: 1 + 11 * applied,
+        text_bytes: 4096 + 45_716 * applied,
+        faults: limit,
+    })
+}
+
+impl<D: Disk + Drop> Up<D> {
+    ghost use Rattle.dealer_node.specs.Working.{IsUp, GoesOn};
+    ghost use Rattle.dealer_node.specs.Calling.{Unmoved, HasCallRoom, HandlesCall};
+    ghost use Rattle.dealer_node.specs.Lines.{HearsLine, WorksLine};
+
+    /// Takes a piece of a seat's bytes, as for fewer answers than these.
+    fn hear(&mut self, post: &Post, seat: usize, piece: &[u8], limit: usize, made: &mut Made)
+        requires at { IsAt post.now self.old.running }
+        requires seat { seat < post.now.setting.game.players }
+        requires bytes { HasRoomAt self.old.running.seats seat (length piece.now) }
+        requires limit { feeds_with (session_at self.old.running.seats.talks seat) piece.now < limit }
+        requires room { HasCallRoom self.old made.old (line_need self.old.running limit) 1 }
+        ensures heard { (s : Standing) → IsTrue D.is_honest → IsUp D.Disk post.now self.old s
+            → HearsLine D.Disk post.now s seat piece.now self.old self.new (told_by made.old) (told_by made.new) }
+        ensures at { IsAt post.now self.new.running }
+        ensures frames { Grows made.old.frames made.new.frames limit (46 * limit) }
+        ensures shown { Grows made.old.shown made.new.shown 1 4096 }
+        ensures faults { Tells made.old made.new limit }
+        ensures rest { self.new ≡ record self.old { running = record self.old.running { pending = self.new.running.pending; seats = self.new.running.seats } } }
+    {
+        let promised = self.acceptor.promised();
+        self.running.hear(post, promised, seat, piece, limit, made);
+    }
+
+    /// Takes a piece of a seat's bytes, into room that was made, and closes the call.
+    fn line(
+        &mut self,
+        post: &Post,
+        seat: usize,
+        piece: &[u8],
+        limit: usize,
+        made: &mut Made,
+    ) -> Result<(), NodeFault>
+        requires at { IsAt post.now self.old.running }
+        requires seat { seat < post.now.setting.game.players }
+        requires bytes { HasRoomAt self.old.running.seats seat (length piece.now) }
+        requires limit { feeds_with (session_at self.old.running.seats.talks seat) piece.now < limit }
+        requires room { HasCallRoom self.old made.old (line_need self.old.running limit) 1 }
+        ensures works { (s : Standing) → IsTrue D.is_honest → IsUp D.Disk post.now self.old s
+            → WorksLine D.Disk post.now s seat piece.now self.old self.new (told_by made.old) (told_by made.new) result }
+        ensures goes_on { GoesOn D.Disk self.old self.new result }
+        ensures at { IsAt post.now self.new.running }
+        ensures within { told_by made.old ≡ nothing_told → IsWithin made.new (line_need self.old.running limit) }
+    {
+        self.hear(post, seat, piece, limit, made);
+        self.close(post, made)
+    }
+
+    /// Makes all room that a piece of a seat's bytes may need, and gives it with one more than there may be answers. An
+    /// `Err`, which is of memory, changes room alone.
+    fn ready_line(
+        &mut self,
+        alloc: Global,
+        seat: usize,
+        bytes: &[u8],
+        out: &mut Made,
+    ) -> Result<(Made, usize), NodeFault>
+        requires { seat < length self.old.running.seats.talks }
+        ensures unmoved { Unmoved D.Disk self.old self.new }
+        ensures at { (post : Station) → IsAt post self.old.running → IsAt post self.new.running }
+        ensures same { told_by out.new ≡ told_by out.old }
+        ensures memory { IfErr result (λ fault. fault ≡ NodeFault.OutOfMemory) }
+        ensures limit { IfOk result (λ ready. feeds_with (session_at self.new.running.seats.talks seat) bytes.now < ready.1) }
+        ensures nothing { IfOk result (λ ready. told_by ready.0 ≡ nothing_told) }
+        ensures room { IfOk result (λ ready. HasCallRoom self.new ready.0 (line_need self.new.running ready.1) 1) }
+        ensures room_out { IfOk result (λ ready. HasRoom out.new (line_need self.new.running ready.1)) }
+        ensures bytes { OnOk result (HasRoomAt self.new.running.seats seat (length bytes.now)) }
+    {
+        let Some(limit) = self.running.most_answers(seat, bytes) else {
+            return Err(NodeFault::OutOfMemory);
+        };
+        let Some(need) = line_need(&self.running, limit) else {
+            return Err(NodeFault::OutOfMemory);
+        };
+        let made = self.ready(alloc, 1, &need, out)?;
+        self.running.reserve_bytes(seat, bytes.len())?;
+        Ok((made, limit))
+    }
+
+    /// Takes a piece of a seat's bytes, and closes the call. What it makes goes to `out` at the end, where it didn't fail.
+    pub(crate) fn on_line(
+        &mut self,
+        alloc: Global,
+        post: &Post,
+        seat: usize,
+        bytes: &[u8],
+        out: &mut Made,
+    ) -> Result<(), NodeFault>
+        requires at { IsAt post.now self.old.running }
+        requires seat { seat < post.now.setting.game.players }
+        ensures handles { (s : Standing) → IsTrue D.is_honest → IsUp D.Disk post.now self.old s
+            → HandlesCall D.Disk post.now s (Piece seat bytes.now) self.old self.new (told_by out.old) (told_by out.new) result }
+        ensures goes_on { GoesOn D.Disk self.old self.new result }
+        ensures at { IsAt post.now self.new.running }
+        ensures unmade { IsErr result → told_by out.new ≡ told_by out.old }
+    {
+        let (mut made, limit) = self.ready_line(alloc, seat, bytes, out)?;
+        self.line(post, seat, bytes, limit, &mut made)?;
+        out.append(made);
+        Ok(())
+    }
+}

@@ -1,0 +1,91 @@
+//! What a node that runs does at a tick.
+
+ghost use Rattle.std.specs.Prelude.{◌≡◌, false, IsTrue, IsErr};
+ghost use Rattle.node_rules.specs.Standings.{Standing};
+ghost use Rattle.node_rules.specs.Turns.{and_then};
+ghost use Rattle.node_rules.specs.Calls.{Tick};
+ghost use Rattle.node_rules.specs.Proposing.{is_over, ticking, closing};
+ghost use Rattle.dealer_node.specs.Outs.{told_by, nothing_told};
+ghost use Rattle.dealer_node.specs.Posts.{place_at};
+ghost use Rattle.dealer_node.specs.Running.{IsAt, is_spent_at};
+ghost use Rattle.dealer_node.specs.Handling.{IsWithin};
+ghost use Rattle.dealer_node.specs.Calling.{close_need};
+
+use crate::fault::NodeFault;
+use crate::made::{Made, Need};
+use crate::post::Post;
+use crate::running::Running;
+use crate::up::Up;
+use paxos_wire::Ballot;
+use promise_store::Disk;
+use std::alloc::Global;
+
+/// What the close of a call makes at most, and as much what a tick does.
+pub(crate) fn close_need(running: &Running) -> Need
+    ensures { result ≡ close_need running.now }
+{
+    let applied = running.most_applied(1);
+    Need {
+        frames: 10,
+        frame_bytes: 460,
+        texts: 11 * applied,
+        text_bytes: 45_716 * applied,
+        faults: 0,
+    }
+}
+
+impl<D: Disk + Drop> Up<D> {
+    ghost use Rattle.dealer_node.specs.Working.{IsUp, Works, GoesOn};
+    ghost use Rattle.dealer_node.specs.Calling.{HasCallRoom, HandlesCall};
+
+    /// Begins a ballot, into room that was made, unless the match is over.
+    fn tick(
+        &mut self,
+        post: &Post,
+        promised: Ballot,
+        over: bool,
+        made: &mut Made,
+    ) -> Result<(), NodeFault>
+        requires at { IsAt post.now self.old.running }
+        requires unspent { over ≡ false → is_spent_at self.old.running promised ≡ false }
+        requires room { HasCallRoom self.old made.old (close_need self.old.running) 1 }
+        ensures works { (s : Standing) → IsTrue D.is_honest → IsUp D.Disk post.now self.old s → promised ≡ s.store.promise → over ≡ is_over (place_at post.now) s
+            → Works D.Disk post.now s (and_then (ticking (place_at post.now) s) (closing (place_at post.now))) self.old self.new (told_by made.old) (told_by made.new) result }
+        ensures goes_on { GoesOn D.Disk self.old self.new result }
+        ensures at { IsAt post.now self.new.running }
+        ensures within { told_by made.old ≡ nothing_told → IsWithin made.new (close_need self.old.running) }
+    {
+        if over {
+            self.close(post, made)
+        } else {
+            self.begin(post, promised, made)
+        }
+    }
+
+    /// Begins a ballot above all that the node has seen, unless the match is over. What it makes goes to `out` at the
+    /// end, where it didn't fail.
+    pub(crate) fn on_tick(
+        &mut self,
+        alloc: Global,
+        post: &Post,
+        out: &mut Made,
+    ) -> Result<(), NodeFault>
+        requires { IsAt post.now self.old.running }
+        ensures handles { (s : Standing) → IsTrue D.is_honest → IsUp D.Disk post.now self.old s
+            → HandlesCall D.Disk post.now s Tick self.old self.new (told_by out.old) (told_by out.new) result }
+        ensures goes_on { GoesOn D.Disk self.old self.new result }
+        ensures at { IsAt post.now self.new.running }
+        ensures unmade { IsErr result → told_by out.new ≡ told_by out.old }
+    {
+        let promised = self.acceptor.promised();
+        let over = self.running.is_over(post);
+        if !over && self.running.is_spent(promised) {
+            return Err(NodeFault::Spent);
+        }
+        let need = close_need(&self.running);
+        let mut made = self.ready(alloc, 1, &need, out)?;
+        self.tick(post, promised, over, &mut made)?;
+        out.append(made);
+        Ok(())
+    }
+}

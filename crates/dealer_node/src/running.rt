@@ -1,0 +1,210 @@
+ghost use Rattle.std.specs.Prelude.{◌≡◌, ◌+◌, ◌*◌, ◌≤◌, ◌<◌, length, IfOk, IfSome, OnOk, vec_len, vec_capacity};
+ghost use Rattle.paxos_wire.specs.declared.limits.TheConstants.{SLOTS};
+ghost use Rattle.slot_log.specs.Slots.{front};
+ghost use Rattle.protocol_model.specs.Stores.{Store};
+ghost use Rattle.node_rules.specs.Standings.{Standing, started};
+ghost use Rattle.node_rules.specs.Rules.{seeing};
+ghost use Rattle.node_rules.specs.Seats.{session_at, connecting, dropping, taking_over};
+ghost use Rattle.node_rules.specs.Showing.{is_connected as is_talk_ready};
+ghost use Rattle.dealer_node.specs.Posts.{Post as Station, place_at};
+ghost use Rattle.dealer_node.specs.Outs.{told_by};
+ghost use Rattle.dealer_node.specs.Rooms.{Grows, Tells};
+ghost use Rattle.dealer_node.specs.Seated.{feeds_with, HasRoomAt};
+ghost use Rattle.dealer_node.specs.Running.{IsRunning, TakesPiece, IsAt, ahead_of};
+
+use crate::hearing::wait;
+use crate::made::Made;
+use crate::post::Post;
+use crate::seats::Seats;
+use crate::seen::seen_in;
+use learner::Learner;
+use paxos_wire::{Ballot, Message};
+use proposer::Proposer;
+use slot_log::{Command, SlotLog, Table};
+use std::alloc::{AllocError, Global};
+
+/// What a node that runs holds in memory; its store lies on the disk.
+///
+/// Each method carries out a rule, or a part of one, for every standing that this is seen as.
+#[derive(Drop)]
+pub(crate) struct Running {
+    /// The ballot that it prepares or leads.
+    pub(crate) proposer: Proposer,
+    /// The commands that it knows, and the votes that it counts.
+    pub(crate) learner: Learner,
+    /// The hands of the commands below the front.
+    pub(crate) table: Table,
+    /// The act that waits to be proposed.
+    pub(crate) pending: Option<Command>,
+    /// The greatest ballot of all frames that came.
+    pub(crate) seen: Ballot,
+    /// The sessions of the seats.
+    pub(crate) seats: Seats,
+}
+
+/// How many commands are known beyond the front.
+fn ahead(log: &SlotLog) -> usize
+    ensures value { result ≡ length log.now.log.beyond }
+    ensures most { result ≤ SLOTS }
+{
+    log.limits();
+    log.ahead()
+}
+
+impl Running {
+    /// What runs at a node that has just started: it knows nothing yet, prepares no ballot, and no seat is connected.
+    pub(crate) fn new(alloc: Global, post: &Post) -> Result<Running, AllocError>
+        ensures runs { IfOk result (λ running. (found : Store) → IsRunning post.now running (started (place_at post.now) found)) }
+        ensures at { IfOk result (λ running. IsAt post.now running) }
+    {
+        post.limits();
+        post.game().limits();
+        let players = post.game().players();
+        Ok(Running {
+            proposer: Proposer::new(post.node(), post.nodes()),
+            learner: Learner::new(alloc, post.nodes())?,
+            table: Table::new(alloc, *post.game(), post.hands()),
+            pending: None,
+            seen: Ballot { round: 0, node: 0 },
+            seats: Seats::new(alloc, players)?,
+        })
+    }
+
+    /// The first slot whose command isn't known, 0 to 4,000,000.
+    pub(crate) fn front(&self) -> u32
+        ensures value { result ≡ front self.now.learner.learned.log }
+        ensures most { result ≤ SLOTS }
+    {
+        self.learner.log().front()
+    }
+
+    /// Whether a seat is connected: its session is ready.
+    pub(crate) fn is_connected(&self, seat: usize) -> bool
+        requires { seat < length self.now.seats.talks }
+        ensures { result ≡ is_talk_ready (session_at self.now.seats.talks seat) }
+    {
+        self.seats.is_connected(seat)
+    }
+
+    /// How many commands are applied at most once so many more are known.
+    pub(crate) fn most_applied(&self, commands: usize) -> usize
+        requires { commands ≤ 64 }
+        ensures value { result ≡ ahead_of self.now + commands }
+        ensures most { result ≤ SLOTS + commands }
+    {
+        ahead(self.learner.log()) + commands
+    }
+
+    /// Makes room to learn of so many commands more. An `Err` changes room alone.
+    pub(crate) fn reserve(&mut self, commands: usize) -> Result<(), AllocError>
+        requires { commands ≤ 64 }
+        ensures same { (post : Station) (s : Standing) → IsRunning post self.old s → IsRunning post self.new s }
+        ensures at { (post : Station) → IsAt post self.old → IsAt post self.new }
+        ensures ahead { ahead_of self.new ≡ ahead_of self.old }
+        ensures learned { self.new.learner.learned ≡ self.old.learner.learned }
+        ensures learner { OnOk result (commands ≤ self.new.learner.room) }
+        ensures table { OnOk result (ahead_of self.new + commands ≤ self.new.table.room) }
+        ensures rest { self.new ≡ record self.old { learner = self.new.learner; table = self.new.table } }
+    {
+        let applied = self.most_applied(commands);
+        self.learner.reserve(commands)?;
+        self.table.reserve(applied)
+    }
+
+    /// Sees the ballots that a message tells.
+    pub(crate) fn see(&mut self, message: &Message)
+        ensures runs { (post : Station) (s : Standing) → IsRunning post self.old s → IsRunning post self.new (seeing message.now s) }
+        ensures at { (post : Station) → IsAt post self.old → IsAt post self.new }
+        ensures rest { self.new ≡ record self.old { seen = self.new.seen } }
+    {
+        self.seen = seen_in(self.seen, message);
+    }
+
+    /// Begins a seat's session anew.
+    pub(crate) fn connect(&mut self, alloc: Global, seat: usize)
+        requires { seat < length self.old.seats.talks }
+        ensures runs { (post : Station) (s : Standing) → IsRunning post self.old s → IsRunning post self.new (connecting seat s).after }
+        ensures at { (post : Station) → IsAt post self.old → IsAt post self.new }
+    {
+        self.seats.connect(alloc, seat);
+    }
+
+    /// Drops a seat's session.
+    pub(crate) fn drop_seat(&mut self, seat: usize)
+        requires { seat < length self.old.seats.talks }
+        ensures runs { (post : Station) (s : Standing) → IsRunning post self.old s → IsRunning post self.new (dropping seat s).after }
+        ensures at { (post : Station) → IsAt post self.old → IsAt post self.new }
+    {
+        self.seats.drop_seat(seat);
+    }
+
+    /// How many answers a piece of a seat's bytes may be given, and one more: none where no number is so great.
+    pub(crate) fn most_answers(&self, seat: usize, piece: &[u8]) -> Option<usize>
+        requires { seat < length self.now.seats.talks }
+        ensures { IfSome result (λ limit. feeds_with (session_at self.now.seats.talks seat) piece.now < limit) }
+    {
+        self.seats.most_answers(seat, piece)
+    }
+
+    /// Makes room for so many bytes more of a seat. An `Err` changes room alone.
+    pub(crate) fn reserve_bytes(&mut self, seat: usize, more: usize) -> Result<(), AllocError>
+        requires { seat < length self.old.seats.talks }
+        ensures same { (post : Station) (s : Standing) → IsRunning post self.old s → IsRunning post self.new s }
+        ensures at { (post : Station) → IsAt post self.old → IsAt post self.new }
+        ensures talks { self.new.seats.talks ≡ self.old.seats.talks }
+        ensures room { OnOk result (HasRoomAt self.new.seats seat more) }
+        ensures rest { self.new ≡ record self.old { seats = self.new.seats } }
+    {
+        self.seats.reserve(seat, more)
+    }
+
+    /// Takes a piece of a seat's bytes, for which there is room, as for all answers to it: one more at most than line
+    /// feeds wait and come. The ballot is the one that the node's store has promised.
+    pub(crate) fn hear(
+        &mut self,
+        post: &Post,
+        promised: Ballot,
+        seat: usize,
+        piece: &[u8],
+        limit: usize,
+        made: &mut Made,
+    )
+        requires at { IsAt post.now self.old }
+        requires seat { seat < post.now.setting.game.players }
+        requires room { HasRoomAt self.old.seats seat (length piece.now) }
+        requires limit { feeds_with (session_at self.old.seats.talks seat) piece.now < limit }
+        requires frames { limit ≤ made.old.frames.text_room }
+        requires frame_bytes { 46 * limit ≤ made.old.frames.byte_room }
+        requires texts { 1 ≤ made.old.shown.text_room }
+        requires text_bytes { 4096 ≤ made.old.shown.byte_room }
+        requires faults { vec_len made.old.faults + limit ≤ vec_capacity made.old.faults }
+        ensures taken { (s : Standing) → IsRunning post.now self.old s → s.store.promise ≡ promised
+            → TakesPiece post.now self.new (told_by made.old) (told_by made.new) seat piece.now s }
+        ensures at { IsAt post.now self.new }
+        ensures frames { Grows made.old.frames made.new.frames limit (46 * limit) }
+        ensures shown { Grows made.old.shown made.new.shown 1 4096 }
+        ensures faults { Tells made.old made.new limit }
+        ensures rest { self.new ≡ record self.old { pending = self.new.pending; seats = self.new.seats } }
+    {
+        self.seats.hear(
+            seat,
+            piece,
+            limit,
+            post,
+            promised,
+            &self.table,
+            &mut self.pending,
+            made,
+        );
+    }
+
+    /// Lets an act that another node hands on wait, where it fits and none does.
+    pub(crate) fn take_over(&mut self, post: &Post, act: &Command)
+        ensures runs { (s : Standing) → IsRunning post.now self.old s → IsRunning post.now self.new (taking_over (place_at post.now) act.now s).after }
+        ensures at { IsAt post.now self.old → IsAt post.now self.new }
+        ensures rest { self.new ≡ record self.old { pending = self.new.pending } }
+    {
+        let _ = post;
+        wait(&mut self.pending, &self.table, act);
+    }
+}

@@ -1,0 +1,137 @@
+ghost use Rattle.std.specs.Prelude.{◌≡◌, ◌⊎◌, ◌+◌, ◌≤◌, ℕ, length, IsTrue, IfOk, IfErr};
+ghost use Rattle.protocol_model.specs.Stores.{Store as Kept};
+ghost use Rattle.node_rules.specs.Standings.{started};
+ghost use Rattle.node_rules.specs.Rules.{asking_all, starting};
+ghost use Rattle.promise_store.specs.Disks.{Rose};
+ghost use Rattle.promise_store.specs.Settled.{OnlyReads};
+ghost use Rattle.promise_store.specs.Keeping.{disk_of, Keeps, Leaves};
+ghost use Rattle.acceptor.specs.Stored.{store_of};
+ghost use Rattle.promise_store.specs.declared.fault.StoreFault.TheVariants.{Disk as DiskFailed};
+ghost use Rattle.dealer_node.specs.Posts.{place_at};
+ghost use Rattle.dealer_node.specs.Outs.{told_by, both_told, nothing_told, HasRoom};
+ghost use Rattle.dealer_node.specs.Texts.{byte_total};
+ghost use Rattle.dealer_node.specs.Rooms.{Grows};
+ghost use Rattle.dealer_node.specs.Turned.{told_of};
+ghost use Rattle.dealer_node.specs.Fitting.{AreMessages};
+ghost use Rattle.dealer_node.specs.Running.{IsRunning, IsAt};
+ghost use Rattle.dealer_node.specs.Working.{head_of, disk_under};
+ghost use Rattle.dealer_node.specs.Starting.{Starts, StaysDown, GoesOver};
+
+use crate::fault::NodeFault;
+use crate::lines::show_header;
+use crate::made::{Made, Need};
+use crate::post::Post;
+use crate::running::Running;
+use crate::sending::send_to_others;
+use crate::up::Up;
+use acceptor::Acceptor;
+use paxos_wire::{Ballot, Message};
+use promise_store::{Disk, Store, StoreFault};
+use std::alloc::{AllocError, Global};
+
+/// What a start makes at most: an Ask to each other node, and the header of the log.
+pub(crate) const START: Need = Need {
+    frames: 5,
+    frame_bytes: 230,
+    texts: 1,
+    text_bytes: 263,
+    faults: 0,
+};
+
+/// What runs after a start, and room for all that the start makes, here and where it goes. An `Err` changes room alone.
+pub(crate) fn ready(
+    alloc: Global,
+    post: &Post,
+    out: &mut Made,
+) -> Result<(Running, Made), AllocError>
+    ensures runs { IfOk result (λ made. (found : Kept) → IsRunning post.now made.0 (started (place_at post.now) found)) }
+    ensures at { IfOk result (λ made. IsAt post.now made.0) }
+    ensures nothing { IfOk result (λ made. told_by made.1 ≡ nothing_told) }
+    ensures room { IfOk result (λ made. HasRoom made.1 START) }
+    ensures room_out { IfOk result (λ made. HasRoom out.new START) }
+    ensures same { told_by out.new ≡ told_by out.old }
+{
+    let running = Running::new(alloc, post)?;
+    let mut made = Made::new(alloc);
+    made.reserve(&START)?;
+    out.reserve(&START)?;
+    Ok((running, made))
+}
+
+/// Shows the log its header, and asks the others for what was chosen where the store has a promise.
+fn greet(post: &Post, promised: Ballot, made: &mut Made)
+    requires room { HasRoom made.old START }
+    ensures told { (found : Kept) → promised ≡ found.promise → told_by made.new ≡ both_told (told_by made.old) (told_of (starting (place_at post.now) found)) }
+    ensures fits { (found : Kept) → promised ≡ found.promise → AreMessages (asking_all (place_at post.now) found) }
+    ensures frames { Grows made.old.frames made.new.frames 5 230 }
+    ensures texts { length made.new.shown.texts ≤ length made.old.shown.texts + 1 }
+    ensures text_bytes { byte_total made.new.shown.texts ≤ byte_total made.old.shown.texts + 263 }
+    ensures faults { made.new.faults ≡ made.old.faults }
+{
+    show_header(&mut made.shown, post);
+    if promised.round > 0 {
+        let message = Message::Ask { slot: 0 };
+        send_to_others(&mut made.frames, post.nodes(), post.node(), &message);
+    }
+}
+
+/// The fault of a call of a node that a fault of its store is.
+fn fault_of(fault: StoreFault) -> NodeFault
+    ensures memory { fault ≡ StoreFault.OutOfMemory → result ≡ NodeFault.OutOfMemory }
+    ensures disk { fault ≡ DiskFailed → result ≡ NodeFault.Store DiskFailed }
+    ensures only { result ≡ NodeFault.Store DiskFailed → fault ≡ DiskFailed }
+{
+    match fault {
+        StoreFault::OutOfMemory => NodeFault::OutOfMemory,
+        fault => NodeFault::Store(fault),
+    }
+}
+
+/// Opens the store on a disk. With a fault the disk is handed back.
+fn open_store<D: Disk>(alloc: Global, post: &Post, disk: D) -> Result<Acceptor<D>, (D, NodeFault)>
+    ensures opened { (old new : Kept) → IsTrue D.is_honest → Leaves D.Disk (head_of post.now) old new disk
+        → IfOk result (λ acceptor. Keeps D.Disk (head_of post.now) old (store_of acceptor) ⊎ Keeps D.Disk (head_of post.now) new (store_of acceptor)) }
+    ensures refused { (old new : Kept) → IsTrue D.is_honest → Leaves D.Disk (head_of post.now) old new disk
+        → IfErr result (λ x. (x.1 ≡ NodeFault.OutOfMemory) ⊎ (x.1 ≡ NodeFault.Store DiskFailed)) }
+    ensures reads { IfOk result (λ acceptor. OnlyReads D.Disk disk (disk_of (store_of acceptor))) }
+    ensures reads_err { IfErr result (λ x. OnlyReads D.Disk disk x.0) }
+    ensures rose { IfErr result (λ x. x.1 ≡ NodeFault.Store DiskFailed → Rose (D.count disk) (D.count x.0)) }
+{
+    match Store::open(alloc, disk, post.node(), post.nodes()) {
+        Ok(store) => Ok(Acceptor::new(store)),
+        Err((disk, fault)) => Err((disk, fault_of(fault))),
+    }
+}
+
+/// Opens the store on a disk for what is to run, and makes what a start makes. With a fault the disk is handed back.
+pub(crate) fn open<D: Disk + Drop>(
+    alloc: Global,
+    post: &Post,
+    disk: D,
+    running: Running,
+    made: &mut Made,
+) -> Result<Up<D>, (D, NodeFault)>
+    requires runs { (found : Kept) → IsRunning post.now running (started (place_at post.now) found) }
+    requires at { IsAt post.now running }
+    requires room { HasRoom made.old START }
+    ensures starts { (store begun : Kept) → IsTrue D.is_honest → Leaves D.Disk (head_of post.now) store begun disk
+        → IfOk result (λ up. Starts D.Disk post.now store begun disk up (told_by made.old) (told_by made.new)) }
+    ensures stays { (store begun : Kept) → IsTrue D.is_honest → Leaves D.Disk (head_of post.now) store begun disk
+        → IfErr result (λ x. StaysDown D.Disk post.now store begun disk x.0 x.1) }
+    ensures over { IfOk result (λ up. GoesOver D.Disk disk (disk_under up)) }
+    ensures over_err { IfErr result (λ x. GoesOver D.Disk disk x.0) }
+    ensures rose { IfErr result (λ x. x.1 ≡ NodeFault.Store DiskFailed → Rose (D.count disk) (D.count x.0)) }
+    ensures at { IfOk result (λ up. IsAt post.now up.running) }
+    ensures frames { Grows made.old.frames made.new.frames 5 230 }
+    ensures texts { length made.new.shown.texts ≤ length made.old.shown.texts + 1 }
+    ensures text_bytes { byte_total made.new.shown.texts ≤ byte_total made.old.shown.texts + 263 }
+    ensures faults { made.new.faults ≡ made.old.faults }
+{
+    match open_store(alloc, post, disk) {
+        Err(failed) => Err(failed),
+        Ok(acceptor) => {
+            greet(post, acceptor.promised(), made);
+            Ok(Up { acceptor, running })
+        }
+    }
+}

@@ -1,0 +1,92 @@
+ghost use Rattle.std.specs.Prelude.{◌≡◌, ◌+◌, ◌*◌, ◌≤◌, ◌++◌, map, OnOk, OnErr, Err};
+ghost use Rattle.paxos_wire.specs.declared.message.Message.TheVariants.{Accept as Proposing, Accepted as Accepting};
+ghost use Rattle.node_rules.specs.Sending.{to_others};
+ghost use Rattle.dealer_node.specs.Turned.{posted};
+ghost use Rattle.dealer_node.specs.Fitting.{AreMessages};
+ghost use Rattle.paxos_wire.specs.Fits.{IsBallot, IsSlot, IsInRange};
+ghost use Rattle.node_rules.specs.Standings.{Standing};
+ghost use Rattle.node_rules.specs.Turns.{Conflict as Conflicting};
+ghost use Rattle.dealer_node.specs.Posts.{place_at};
+ghost use Rattle.dealer_node.specs.Outs.{told_by};
+ghost use Rattle.dealer_node.specs.Rooms.{Grows};
+ghost use Rattle.dealer_node.specs.Running.{IsRunning, TakesTurn, IsAt, CanLearn, Learns};
+ghost use Rattle.dealer_node.specs.Voting.{telling_vote};
+
+use crate::made::Made;
+use crate::post::Post;
+use crate::running::Running;
+use crate::sending::send_to_others;
+use crate::texts::Texts;
+use paxos_wire::{Ballot, Message};
+use proposer::Accept;
+use slot_log::{Command, SlotFault};
+
+/// Sends the others that this node accepted a command at a slot in a ballot.
+fn send_accepted(frames: &mut Texts<u8>, post: &Post, ballot: Ballot, slot: u32, command: &Command)
+    requires ballot { IsBallot ballot }
+    requires slot { IsSlot slot }
+    requires command { IsInRange command.now }
+    requires texts { post.now.nodes ≤ frames.old.text_room }
+    requires bytes { 46 * post.now.nodes ≤ frames.old.byte_room }
+    ensures texts { frames.new.texts ≡ frames.old.texts ++ map posted (to_others (place_at post.now) (Accepting ballot slot command.now)) }
+    ensures fits { AreMessages (to_others (place_at post.now) (Accepting ballot slot command.now)) }
+    ensures grows { Grows frames.old frames.new post.now.nodes (46 * post.now.nodes) }
+{
+    let message = Message::Accepted {
+        ballot,
+        slot,
+        command: *command,
+    };
+    send_to_others(frames, post.nodes(), post.node(), &message);
+}
+
+/// Sends the others a proposal.
+pub(crate) fn send_proposal(frames: &mut Texts<u8>, post: &Post, proposal: &Accept)
+    requires ballot { IsBallot proposal.now.ballot }
+    requires slot { IsSlot proposal.now.slot }
+    requires command { IsInRange proposal.now.command }
+    requires texts { post.now.nodes ≤ frames.old.text_room }
+    requires bytes { 46 * post.now.nodes ≤ frames.old.byte_room }
+    ensures texts { frames.new.texts ≡ frames.old.texts ++ map posted (to_others (place_at post.now) (Proposing proposal.now.ballot proposal.now.slot proposal.now.command)) }
+    ensures fits { AreMessages (to_others (place_at post.now) (Proposing proposal.now.ballot proposal.now.slot proposal.now.command)) }
+    ensures grows { Grows frames.old frames.new post.now.nodes (46 * post.now.nodes) }
+{
+    let message = Message::Accept {
+        ballot: proposal.ballot,
+        slot: proposal.slot,
+        command: proposal.command,
+    };
+    send_to_others(frames, post.nodes(), post.node(), &message);
+}
+
+impl Running {
+    /// Tells the others that the node accepted a command at a slot in a ballot, and counts that as the vote of any other
+    /// node. An `Err` is 30: another command is known there.
+    pub(crate) fn tell_vote(
+        &mut self,
+        post: &Post,
+        ballot: Ballot,
+        slot: u32,
+        command: &Command,
+        made: &mut Made,
+    ) -> Result<(), SlotFault>
+        requires at { IsAt post.now self.old }
+        requires ballot { IsBallot ballot }
+        requires slot { IsSlot slot }
+        requires command { IsInRange command.now }
+        requires room { CanLearn self.old made.old 1 }
+        requires texts { post.now.nodes ≤ made.old.frames.text_room }
+        requires bytes { 46 * post.now.nodes ≤ made.old.frames.byte_room }
+        ensures ok { OnOk result ((s : Standing) → IsRunning post.now self.old s
+            → TakesTurn post.now self.new (told_by made.old) (told_by made.new) (telling_vote (place_at post.now) ballot slot command.now s)) }
+        ensures err { OnErr result ((s : Standing) → IsRunning post.now self.old s
+            → telling_vote (place_at post.now) ballot slot command.now s ≡ Err (Conflicting s.store)) }
+        ensures at { IsAt post.now self.new }
+        ensures learns { Learns self.old self.new made.old made.new }
+        ensures frames { Grows made.old.frames made.new.frames post.now.nodes (46 * post.now.nodes) }
+        ensures rest { made.new ≡ record made.old { frames = made.new.frames; shown = made.new.shown } }
+    {
+        send_accepted(&mut made.frames, post, ballot, slot, command);
+        self.count_vote(post, post.node(), ballot, slot, *command, made)
+    }
+}

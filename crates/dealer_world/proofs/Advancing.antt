@@ -1,0 +1,106 @@
+-- What a step keeps of a cluster.
+use Rattle.std.proofs.Common.{◌≡◌, ℕ, zero, suc, ◌<◌, Bool, List, [], ◌∷◌, map, length, get_or, set, Result, Err, refl, ap, sym, ◌∙◌, subst, length-set}
+use Rattle.std.proofs.Math.Logic.{∥∥₁_map, ∥∥₁_elim}
+use denote.Struct.Props.{props}
+use Rattle.std.proofs.Math.Seq.{map-set_same}
+use Rattle.std.proofs.lemmas.List.{get_or_default}
+use Rattle.promise_store.specs.declared.disk.Disk.{Ghosts}
+use Rattle.dealer_kind.specs.Plans.{Plan}
+use Rattle.node_rules.specs.Standings.{Place, Standing, place_of}
+use Rattle.dealer_node.specs.Nodes.{Node}
+use Rattle.dealer_node.specs.declared.fault.NodeFault.{NodeFault}
+use Rattle.dealer_node.specs.declared.fault.NodeFault.TheVariants as fault
+use Rattle.dealer_node.specs.Outs.{Told}
+use Rattle.dealer_node.specs.Posts.{place_at}
+use Rattle.dealer_node.specs.Seeing.{post_in, runs, IsSeen, begun_of}
+use Rattle.dealer_world.specs.declared.event.Event.{Event}
+use Rattle.dealer_world.specs.declared.event.Event.TheVariants as event
+use Rattle.dealer_world.specs.Records.{Record}
+use Rattle.dealer_world.specs.Views.{grown}
+use Rattle.dealer_world.specs.Recordings.{made_by}
+use Rattle.dealer_world.specs.Events.{node_of}
+use Rattle.dealer_world.specs.Stepping.{IsFor, IsGiven, arrived_by_event, begins_by_event}
+use Rattle.dealer_world.specs.Promise.{IsForMatch}
+use Rattle.dealer_world.specs.Ruling.{ArePosted, GoesOn, IsBehind}
+use Rattle.dealer_world.proofs.Ruled.{node_within, runs_on, runs_still}
+
+is_for_prop : (nodes players : ℕ) (e : Event) → IsProp (IsFor nodes players e)
+is_for_prop nodes players (event.Frame from to bytes) = hlevel props
+is_for_prop nodes players (event.Line node seat bytes) = hlevel props
+is_for_prop nodes players (event.Tick node) = hlevel props
+is_for_prop nodes players (event.Connect node seat) = hlevel props
+is_for_prop nodes players (event.Drop node seat) = hlevel props
+is_for_prop nodes players (event.Stop node pick) = hlevel props
+is_for_prop nodes players (event.Start node) = hlevel props
+
+module _ {D : Type 0} where
+  same_place : (nodes : List (Node D)) (i j : ℕ) (new d : Node D) → place_at (post_in new) ≡ place_at (post_in (get_or nodes i d))
+      → place_at (post_in (get_or (set nodes i new) j d)) ≡ place_at (post_in (get_or nodes j d))
+  same_place [] i j new d is = refl
+  same_place (node ∷ nodes) zero zero new d is = is
+  same_place (node ∷ nodes) zero (suc j) new d is = refl
+  same_place (node ∷ nodes) (suc i) zero new d is = refl
+  same_place (node ∷ nodes) (suc i) (suc j) new d is = same_place nodes i j new d is
+
+  -- who keeps its post leaves all at theirs
+  pub still_posted : (plan : Plan) (nodes : List (Node D)) (i : ℕ) (old new : Node D) → i < length nodes → get_or nodes i old ≡ old → post_in new ≡ post_in old
+      → ∥ ArePosted plan nodes ∥₁ → ∥ ArePosted plan (set nodes i new) ∥₁
+  still_posted plan nodes i old new less at same posted = ∥∥₁_map posted (λ each j d within.
+      let here : place_at (post_in new) ≡ place_at (post_in (get_or nodes i d)) =
+      ap place_at same ∙ (ap (λ (node : Node D). place_at (post_in node)) (sym at) ∙ (each i old less ∙ sym (each i d less))) in
+      same_place nodes i j new d here ∙ each j d (subst (λ n. j < n) (length-set nodes i new) within))
+
+  -- the event is for its node
+  pub is_for_node : (plan : Plan) (nodes : List (Node D)) (e : Event) (node : Node D) → length nodes ≡ length plan.sources → get_or nodes (node_of e) node ≡ node
+      → ∥ ArePosted plan nodes ∥₁ → IsForMatch plan e → IsFor (post_in node).nodes (post_in node).setting.game.players e
+  is_for_node plan nodes e node count at posted is_for_match =
+      let is_for : IsFor (length nodes) plan.setting.game.players e = subst (λ n. IsFor n plan.setting.game.players e) (sym count) is_for_match in
+      ∥∥₁_elim posted (is_for_prop (post_in node).nodes (post_in node).setting.game.players e) (λ each.
+      let here : place_at (post_in node) ≡ place_of plan (node_of e) =
+      ap (λ (n : Node D). place_at (post_in n)) (sym at) ∙ each (node_of e) node (node_within (length nodes) plan.setting.game.players e is_for) in
+      subst (λ n. IsFor n (post_in node).setting.game.players e) (count ∙ ap (λ (p : Place). p.nodes) (sym here))
+      (subst (λ players. IsFor (length nodes) players e) (ap (λ (p : Place). p.setting.game.players) (sym here)) is_for))
+
+module _ {D : Type 0} (g : Ghosts D) where
+  -- what the disks held at their beginning stays
+  pub same_begun : (nodes : List (Node D)) (i : ℕ) (old new : Node D) → get_or nodes i old ≡ old → begun_of g new ≡ begun_of g old
+      → map (begun_of g) (set nodes i new) ≡ map (begun_of g) nodes
+  same_begun nodes i old new at same = map-set_same (begun_of g) nodes i new old (same ∙ ap (begun_of g) (sym at))
+
+  pub behind_on : (opened : Bool) (plan : Plan) (nodes : List (Node D)) (e : Event) (old new : Node D) (told : Told) (answer : Result (Unit {0}) NodeFault) (all : Record)
+      → length nodes ≡ length plan.sources → IsForMatch plan e → get_or nodes (node_of e) old ≡ old → ∥ ArePosted plan nodes ∥₁ → ((s : Standing) → IsSeen g old s → runs old ≡ s.up)
+      → IsGiven g e old new told answer → (answer ≡ Err fault.OutOfMemory → ⊥) → IsBehind g opened plan nodes all
+      → IsBehind g opened plan (set nodes (node_of e) new) (grown all (node_of e) (arrived_by_event (runs old) e) (made_by (node_of e) told (begins_by_event (runs old) e answer)))
+  behind_on opened plan nodes e old new told answer all count is_for_match at posted is_up given ample behind before goes honest =
+      let is_for : IsFor (length nodes) plan.setting.game.players e = subst (λ n. IsFor n plan.setting.game.players e) (sym count) is_for_match in
+      let less = node_within (length nodes) plan.setting.game.players e is_for in
+      ∥∥₁_elim posted (hlevel) (λ each.
+      let here : place_at (post_in old) ≡ place_of plan (node_of e) = ap (λ (n : Node D). place_at (post_in n)) (sym at) ∙ each (node_of e) old less in
+      ∥∥₁_map (behind before (subst (GoesOn opened plan.setting (length plan.sources) before) (same_begun nodes (node_of e) old new at given.stays.begun) goes) honest)
+      (λ ruled. runs_on g plan before nodes e old new told answer all here less at is_for honest is_up given ample ruled))
+
+  pub behind_still : (opened : Bool) (plan : Plan) (nodes : List (Node D)) (e : Event) (old new : Node D) (told : Told) (answer : Result (Unit {0}) NodeFault) (all : Record)
+      → length nodes ≡ length plan.sources → IsForMatch plan e → get_or nodes (node_of e) old ≡ old
+      → IsGiven g e old new told answer → answer ≡ Err fault.OutOfMemory → IsBehind g opened plan nodes all
+      → IsBehind g opened plan (set nodes (node_of e) new) all
+  behind_still opened plan nodes e old new told answer all count is_for_match at given none behind before goes honest =
+      let is_for : IsFor (length nodes) plan.setting.game.players e = subst (λ n. IsFor n plan.setting.game.players e) (sym count) is_for_match in
+      ∥∥₁_map (behind before (subst (GoesOn opened plan.setting (length plan.sources) before) (same_begun nodes (node_of e) old new at given.stays.begun) goes) honest)
+      (λ ruled. runs_still g plan before nodes e old new told answer all (node_within (length nodes) plan.setting.game.players e is_for) at honest given none ruled)
+
+-- two reads of one node
+pub same_node : {A : Type 0} (xs : List A) (i : ℕ) (x y : A) → i < length xs → x ≡ get_or xs i x → y ≡ get_or xs i y → x ≡ y
+same_node xs i x y less is also = is ∙ (get_or_default xs i x y less ∙ sym also)
+
+-- what the record gained
+pub recorded : (e : Event) (up is_up : Bool) (between old new : Record) (told : Told) (begins : Bool) (answer : Result (Unit {0}) NodeFault)
+    → new ≡ grown between (node_of e) (arrived_by_event up e) (made_by (node_of e) told begins) → begins ≡ begins_by_event up e answer → up ≡ is_up → between ≡ old
+    → new ≡ grown old (node_of e) (arrived_by_event is_up e) (made_by (node_of e) told (begins_by_event is_up e answer))
+recorded e up is_up between old new told begins answer is begun runs same =
+    is ∙ (ap (λ b. grown between (node_of e) (arrived_by_event up e) (made_by (node_of e) told b)) begun
+    ∙ (ap (λ u. grown between (node_of e) (arrived_by_event u e) (made_by (node_of e) told (begins_by_event u e answer))) runs
+    ∙ ap (λ (all : Record). grown all (node_of e) (arrived_by_event is_up e) (made_by (node_of e) told (begins_by_event is_up e answer))) same))
+
+-- the event's node is one of these
+pub node_in : {N : Type 0} (plan : Plan) (nodes : List N) (e : Event) → length nodes ≡ length plan.sources → IsForMatch plan e → node_of e < length nodes
+node_in plan nodes e count is_for = subst (λ n. node_of e < n) (sym count) (node_within (length plan.sources) plan.setting.game.players e is_for)

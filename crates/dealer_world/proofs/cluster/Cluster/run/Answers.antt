@@ -1,0 +1,34 @@
+use Rattle.std.proofs.Common.{◌≡◌, ◌∙◌, [], Err, subst, sym, refl, rules}
+use Rattle.dealer_kind.specs.Plans.{Plan}
+use Rattle.dealer_node.specs.declared.fault.NodeFault.TheVariants as fault
+use Rattle.dealer_world.specs.Stepping.{none}
+use Rattle.dealer_world.specs.Promise.{IsForMatch}
+use Rattle.dealer_world.specs.Viewing.{view_of}
+use Rattle.dealer_world.proofs.Promising.{promised_new, promised, backed, ran_more}
+use Rattle.dealer_world.proofs.cluster.Cluster.run.Goals as goal
+
+pub step-requires : goal.step-requires
+step-requires g c = subst (λ (plan : Plan). IsForMatch plan c.index-events-at.result) (sym c.loop-at.invariant.same_config)
+    (subst (IsForMatch c.args.self.now.config) (sym c.index-events-at.is) (c.requires c.loop-at.at c.index-events-at.result c.loop-at-test.true))
+
+pub loop-at-init : goal.loop-at-init
+loop-at-init g c = record { same_config = refl; begun = refl; ran = none [] _ refl refl }
+
+pub loop-at-preserved : goal.loop-at-preserved
+loop-at-preserved g c =
+    let ample : c.step.result ≡ Err fault.OutOfMemory → ⊥ = search rules in
+    record {
+      same_config = c.step.ensures.stepped.same_config ∙ c.loop-at.invariant.same_config;
+      begun = c.step.ensures.begun ∙ c.loop-at.invariant.begun;
+      ran = ran_more g.D.Disk (view_of c.args.self.now) (view_of c.loop-at.self) (view_of c.step.new.self) c.args.events.now c.loop-at.at c.index-events-at.result c.step.result
+          c.loop-at-test.true c.index-events-at.is c.loop-at.invariant.ran c.step.ensures.stepped ample;
+    }
+
+pub returns-clause-promised : goal.returns-clause-promised
+returns-clause-promised g c = promised g.D.Disk (view_of c.loop-at.self) c.runs_show_one_list.ensures c.loop-at.self.behind
+
+pub returns-clause-backed : goal.returns-clause-backed
+returns-clause-backed g c = backed g.D.Disk (view_of c.loop-at.self) c.runs_are_backed.ensures c.images_are_seen.ensures c.loop-at.self.posted c.loop-at.self.behind
+
+pub returns-clause-promised_new : goal.returns-clause-promised_new
+returns-clause-promised_new g c = promised_new g.D.Disk (view_of c.loop-at.self) (promised g.D.Disk (view_of c.loop-at.self) c.runs_show_one_list.ensures c.loop-at.self.behind)

@@ -1,0 +1,14 @@
+use Rattle.std.proofs.Common.{◌≡◌}
+use Rattle.std.specs.Prelude.{map}
+use Rattle.dealer_node.specs.Seeing.{begun_of}
+use Rattle.dealer_world.specs.Beginning.{Starts}
+use Rattle.dealer_world.specs.Viewing.{view_of}
+use Rattle.dealer_world.proofs.cluster.Cluster.start_all.Given as goal
+
+abbrev pub invariant-loop-node : goal.invariant-loop-node
+invariant-loop-node g l = record {
+  same_config : l.self.config ≡ l.initial.self.config;
+  same_opened : l.self.opened ≡ l.initial.self.opened;
+  started : Starts g.D.Disk (view_of l.initial.self) l.node (view_of l.self);
+  begun : map (begun_of g.D.Disk) l.self.nodes.items ≡ map (begun_of g.D.Disk) l.initial.self.nodes.items;
+}

@@ -1,0 +1,89 @@
+//! The nodes of a cluster before they are started.
+
+ghost use Rattle.std.specs.Prelude.{◌≡◌, ◌<◌, length, map, IfOk};
+ghost use Rattle.dealer_node.specs.Seeing.{begun_of};
+ghost use Rattle.dealer_world.specs.Beginning.{IsCreatedAt, IsReopenedAt, AreEach};
+
+use dealer_kind::Config;
+use dealer_node::{Node, NodeFault};
+use promise_store::{Disk, StoreFault};
+use std::alloc::Global;
+
+/// A node over a new store.
+fn created<D: Disk + Drop>(
+    alloc: Global,
+    config: &Config,
+    number: usize,
+    disk: D,
+) -> Result<Node<D>, NodeFault>
+    requires { number < length config.now.sources }
+    ensures { IfOk result (λ node. IsCreatedAt D.Disk config.now number node) }
+{
+    let mut node = Node::new(alloc, config, number, disk)?;
+    node.create()?;
+    Ok(node)
+}
+
+/// A node over the store that a disk has. The disk is synced, so that a crash leaves what it reads.
+fn reopened<D: Disk + Drop>(
+    alloc: Global,
+    config: &Config,
+    number: usize,
+    mut disk: D,
+) -> Result<Node<D>, NodeFault>
+    requires { number < length config.now.sources }
+    ensures node { IfOk result (λ node. IsReopenedAt D.Disk config.now number node) }
+    ensures begun { IfOk result (λ node. begun_of D.Disk node ≡ D.seen disk) }
+{
+    match disk.sync() {
+        Err(_) => Err(NodeFault::Store(StoreFault::Disk)),
+        Ok(()) => {
+            let mut node = Node::new(alloc, config, number, disk)?;
+            node.begin();
+            Ok(node)
+        }
+    }
+}
+
+/// A node over a new store for each disk.
+pub(crate) fn created_all<D: Disk + Drop>(
+    alloc: Global,
+    config: &Config,
+    disks: Vec<D>,
+) -> Result<Vec<Node<D>>, NodeFault>
+    requires { length disks.items ≡ length config.now.sources }
+    ensures count { IfOk result (λ nodes. length nodes.items ≡ length config.now.sources) }
+    ensures each { IfOk result (λ nodes. AreEach (IsCreatedAt D.Disk config.now) nodes.items) }
+{
+    let mut nodes = Vec::with_capacity(alloc, disks.len())?;
+    for disk in disks {
+        let node = created(alloc, config, nodes.len(), disk)?;
+        match nodes.push(node) {
+            Ok(()) => {}
+            Err(_) => return Err(NodeFault::OutOfMemory),
+        }
+    }
+    Ok(nodes)
+}
+
+/// A node over what each disk has.
+pub(crate) fn reopened_all<D: Disk + Drop>(
+    alloc: Global,
+    config: &Config,
+    disks: Vec<D>,
+) -> Result<Vec<Node<D>>, NodeFault>
+    requires { length disks.items ≡ length config.now.sources }
+    ensures count { IfOk result (λ nodes. length nodes.items ≡ length config.now.sources) }
+    ensures each { IfOk result (λ nodes. AreEach (IsReopenedAt D.Disk config.now) nodes.items) }
+    ensures begun { IfOk result (λ nodes. map (begun_of D.Disk) nodes.items ≡ map D.seen disks.items) }
+{
+    let mut nodes = Vec::with_capacity(alloc, disks.len())?;
+    for disk in disks {
+        let node = reopened(alloc, config, nodes.len(), disk)?;
+        match nodes.push(node) {
+            Ok(()) => {}
+            Err(_) => return Err(NodeFault::OutOfMemory),
+        }
+    }
+    Ok(nodes)
+}
