@@ -1,6 +1,6 @@
 -- A message of another node: what it asks, the close, and a last question.
 use Rattle.std.proofs.Common.{◌≡◌, ℕ, ◌+◌, ◌*◌, ◌≤◌, inl, inr, Bool, true, false, List, [], Result, Ok, Err, refl, ap, sym, subst, ◌∙◌, arith, length, vec_len}
-use Rattle.std.specs.Prelude.{◌⊎◌, Option, Some, None, if◌then◌else◌, nat_lt}
+use Rattle.std.specs.Prelude.{◌⊎◌, Option, Some, None, if◌then◌else◌, nat_lt, nat_le, ◌&&◌}
 use Rattle.paxos_wire.specs.declared.ballot.Ballot.{Ballot}
 use Rattle.paxos_wire.specs.declared.entry.Entry.{Entry}
 use Rattle.paxos_wire.specs.declared.message.Message.{Message}
@@ -19,8 +19,12 @@ use Rattle.node_rules.specs.Turns.{Turn, Refusal, Conflict, still, sending, join
 use Rattle.node_rules.specs.Learning.{learning, asking_on, comes_to_window, asking_above, counting_vote}
 use Rattle.node_rules.specs.Accepting.{refusing, promising, preparing, voting, stored_in, storing}
 use Rattle.node_rules.specs.Standings.{with_stored}
-use Rattle.node_rules.specs.Sending.{one}
-use Rattle.node_rules.specs.Proposing.{closing}
+use Rattle.node_rules.specs.Sending.{one, to_others}
+use Rattle.node_rules.specs.Proposing.{closing, closing_by as closing_by_rule, proposal_at}
+use Rattle.proposer.specs.Campaigns.{leads, marked_from}
+use Rattle.proposer.specs.declared.accept.Accept.{Accept}
+use Rattle.proposer.specs.declared.fault.ProposeFault.{ProposeFault}
+use Rattle.paxos_wire.specs.declared.limits.TheConstants.{SLOTS}
 use Rattle.node_rules.specs.Rules.{seeing, taking, asking, on_message}
 use Rattle.dealer_node.specs.declared.up.Up.{Up}
 use Rattle.dealer_node.specs.declared.running.Running.{Running}
@@ -34,9 +38,9 @@ use Rattle.dealer_node.specs.Rooms.{Grows}
 use Rattle.dealer_node.specs.Outs.{Told}
 use Rattle.dealer_node.specs.Posts.{Post, place_at}
 use Rattle.dealer_node.specs.Running.{IsRunning, IsTaken, CanLearn, ahead_of}
-use Rattle.dealer_node.specs.Working.{head_of, disk_under, StandsByIts, ComesTo, IsUp, Took, Failed, Works, HasLeft}
-use Rattle.dealer_node.proofs.Worked.{OneAppends, then_works, first_failed, works_from}
-use Rattle.dealer_node.proofs.Stored.{telling_keeps}
+use Rattle.dealer_node.specs.Working.{head_of, disk_under, StandsByIts, ComesTo, IsDone, IsUp, Took, Failed, Works, HasLeft}
+use Rattle.dealer_node.proofs.Worked.{OneAppends, done_behind, then_works, first_failed, works_from}
+use Rattle.dealer_node.proofs.Stored.{telling_keeps, telling_done}
 
 -- ---- either the store stays, or there is nothing to close
 
@@ -131,6 +135,24 @@ asks from (frame.Forward command) s = refl
 
 -- ---- the whole
 
+both_done : (outcome : Result Turn Refusal) (next : Standing → Result Turn Refusal) → ((x : Standing) → IsDone (next x)) → IsDone outcome → IsDone (and_then outcome next)
+both_done (Ok turn) next ends done = done_behind turn (next turn.after) (ends turn.after)
+both_done (Err (Conflict store)) next ends done = tt
+both_done (Err why) next ends done = absurd done
+
+closing_done_by : (place : Place) (proposal : Result (Option Accept) ProposeFault) (s : Standing) → IsDone (closing_by_rule place proposal s)
+closing_done_by place (Ok (Some made)) s =
+    done_behind (sending (to_others place (frame.Accept made.ballot made.slot made.command)) s) (voting place made.ballot made.slot made.command s) (telling_done place made.ballot made.slot (stored_in (s.store.votes made.slot) made.ballot made.command) (with_stored s (storing s.store made.ballot made.slot made.command)))
+closing_done_by place (Ok None) s = tt
+closing_done_by place (Err why) s = tt
+
+closing_done : (place : Place) (s : Standing) → IsDone (closing place s)
+closing_done place s = by (leads place.nodes s.campaign && nat_le SLOTS (front_of s))
+  where
+    by : (b : Bool) → IsDone (if b then Ok (still (idle s)) else closing_by_rule place (proposal_at place s) (record s { campaign = marked_from s.campaign (proposal_at place s) }))
+    by true = tt
+    by false = closing_done_by place (proposal_at place s) (record s { campaign = marked_from s.campaign (proposal_at place s) })
+
 module _ {D : Type 0} (g : Ghosts D) where
   -- the ballots of a message are seen
   pub seen_up : (post : Post) (s : Standing) (message : Message) (old : Up D) (running : Running) → IsUp g post old s → IsRunning post running (seeing message s) → IsUp g post (record old { running = running }) (seeing message s)
@@ -172,15 +194,15 @@ module _ {D : Type 0} (g : Ghosts D) where
   -- a fault of what came first is one of the whole
   later_failed : (post : Post) (s : Standing) (next : Standing → Result Turn Refusal) (outcome : Result Turn Refusal) (a b : Up D)
       → ((left : Store) → (left ≡ s.store) ⊎ ComesTo outcome left → (left ≡ s.store) ⊎ ComesTo (and_then outcome next) left)
-      → Failed g post s outcome a b → Failed g post s (and_then outcome next) a b
-  later_failed post s next outcome a b goes f = record { left = f.left; comes = goes f.left f.comes; leaves = f.leaves; moments = f.moments }
+      → ((x : Standing) → IsDone (next x)) → Failed g post s outcome a b → Failed g post s (and_then outcome next) a b
+  later_failed post s next outcome a b goes ends f = record { left = f.left; comes = goes f.left f.comes; done = both_done outcome next ends f.done; leaves = f.leaves; moments = f.moments }
 
   pub later_fails : (post : Post) (s : Standing) (next : Standing → Result Turn Refusal) (outcome : Result Turn Refusal) (a b : Up D) (earlier later : Told) (why : NodeFault)
       → ((left : Store) → (left ≡ s.store) ⊎ ComesTo outcome left → (left ≡ s.store) ⊎ ComesTo (and_then outcome next) left)
-      → Works g post s outcome a b earlier later (Err why) → Works g post s (and_then outcome next) a b earlier later (Err why)
-  later_fails post s next outcome a b earlier later (fault.Store Disk) goes w = later_failed post s next outcome a b goes w
-  later_fails post s next outcome a b earlier later fault.Conflict goes w = first_failed g post s next outcome a b w
-  later_fails post s next outcome a b earlier later why goes w = absurd w
+      → ((x : Standing) → IsDone (next x)) → Works g post s outcome a b earlier later (Err why) → Works g post s (and_then outcome next) a b earlier later (Err why)
+  later_fails post s next outcome a b earlier later (fault.Store Disk) goes ends w = later_failed post s next outcome a b goes ends w
+  later_fails post s next outcome a b earlier later fault.Conflict goes ends w = first_failed g post s next outcome a b w
+  later_fails post s next outcome a b earlier later why goes ends w = absurd w
 
   -- what a message leaves, the close and the question leave too
   asking_goes : (s : Standing) (from : ℕ) (message : Message) (outcome : Result Turn Refusal) (left : Store) → (left ≡ s.store) ⊎ ComesTo outcome left
@@ -214,7 +236,7 @@ module _ {D : Type 0} (g : Ghosts D) where
       let outcome = and_then (taking place from message x) (closing place) in
       let both = then_works g post x (closing place) (taking place from message x) seen taken closed told between before (Err why) first (appends_once place x first.turn (quiet place from message x first.turn first.rule)) second in
       works_from g post s x (on_message place from message s) seen old closed told before (Err why) refl disk
-      (later_fails post x (λ c. Ok (asking from message c)) outcome seen closed told before why (asking_goes x from message outcome) both)
+      (later_fails post x (λ c. Ok (asking from message c)) outcome seen closed told before why (asking_goes x from message outcome) (λ c. tt) both)
 
   -- where the message itself fails
   pub take_failed : (post : Post) (s : Standing) (from : ℕ) (message : Message) (old seen taken : Up D) (told before : Told) (why : NodeFault)
@@ -226,8 +248,8 @@ module _ {D : Type 0} (g : Ghosts D) where
       let place = place_at post in
       let outcome = and_then (taking place from message x) (closing place) in
       works_from g post s x (on_message place from message s) seen old taken told before (Err why) refl disk
-      (later_fails post x (λ c. Ok (asking from message c)) outcome seen taken told before why (asking_goes x from message outcome)
-      (later_fails post x (closing place) (taking place from message x) seen taken told before why (λ left. closing_goes place x from message left unbegun) first))
+      (later_fails post x (λ c. Ok (asking from message c)) outcome seen taken told before why (asking_goes x from message outcome) (λ c. tt)
+      (later_fails post x (closing place) (taking place from message x) seen taken told before why (λ left. closing_goes place x from message left unbegun) (closing_done place) first))
 
 -- ---- room
 

@@ -15,13 +15,13 @@ use Rattle.dealer_node.specs.declared.fault.NodeFault.{NodeFault}
 use Rattle.dealer_node.specs.declared.fault.NodeFault.TheVariants as fault
 use Rattle.dealer_node.specs.Outs.{Told}
 use Rattle.dealer_node.specs.Posts.{Post, place_at}
-use Rattle.dealer_node.specs.Working.{disk_under, GoesOn}
+use Rattle.dealer_node.specs.Working.{disk_under, IsDone, GoesOn}
 use Rattle.dealer_node.specs.Handling.{Stays, Handles}
 use Rattle.dealer_node.specs.Calling.{Wants, HandlesCall}
 use Rattle.dealer_node.specs.Nodes.{Node}
 use Rattle.dealer_node.specs.NodeInside.{node_of}
 use Rattle.dealer_node.specs.Seeing.{post_in, settled, IsSeen, begun_of, failures_of}
-use Rattle.dealer_node.specs.Taking.{Takes, StaysItself}
+use Rattle.dealer_node.specs.Taking.{MayFail, Takes, StaysItself}
 use Rattle.dealer_node.proofs.Settled.{noted, up_took, up_unchanged, up_refused, up_failed, up_clashed, seen_at}
 
 same_post : {D : Type 0} (answer : Result (Unit {0}) NodeFault) (node : Node D) → post_in (settled answer node) ≡ post_in node
@@ -63,22 +63,22 @@ module _ {D : Type 0} (g : Ghosts D) where
   same_told post blank disk old node s called earlier later answer same t = subst (λ (l : Told). Takes g called s (noted g post blank disk (Some old)) node earlier l answer) (sym same) t
 
   handled_by : (post : Post) (blank : Match) (disk : Option D) (old new : Up D) (s : Standing) (called : Call) (outcome : Result Turn Refusal) (earlier later : Told) (answer : Result (Unit {0}) NodeFault)
-      → IsSeen g (noted g post blank disk (Some old)) s → (IsErr answer → later ≡ earlier) → IsTurnUp (place_at post) s called outcome → Handles g post s outcome old new earlier later answer
+      → IsSeen g (noted g post blank disk (Some old)) s → (IsErr answer → later ≡ earlier) → ((o : Result Turn Refusal) → IsDone o → MayFail called o) → IsTurnUp (place_at post) s called outcome → Handles g post s outcome old new earlier later answer
       → Takes g called s (noted g post blank disk (Some old)) (settled answer (noted g post blank disk (Some new))) earlier later answer
-  handled_by post blank disk old new s called outcome earlier later (Ok done) seen unmade rule h = up_took g post blank disk disk old new s called outcome earlier later seen rule h
-  handled_by post blank disk old new s called outcome earlier later (Err (fault.Store Disk)) seen unmade rule h =
-      same_told post blank disk old _ s called earlier later (Err (fault.Store Disk)) (unmade refl) (up_failed g post blank disk old new s called outcome earlier seen rule h)
-  handled_by post blank disk old new s called outcome earlier later (Err fault.Conflict) seen unmade rule h =
+  handled_by post blank disk old new s called outcome earlier later (Ok done) seen unmade may rule h = up_took g post blank disk disk old new s called outcome earlier later seen rule h
+  handled_by post blank disk old new s called outcome earlier later (Err (fault.Store Disk)) seen unmade may rule h =
+      same_told post blank disk old _ s called earlier later (Err (fault.Store Disk)) (unmade refl) (up_failed g post blank disk old new s called outcome earlier (may outcome) seen rule h)
+  handled_by post blank disk old new s called outcome earlier later (Err fault.Conflict) seen unmade may rule h =
       same_told post blank disk old _ s called earlier later (Err fault.Conflict) (unmade refl) (up_clashed g post blank disk old new s called outcome earlier seen rule h)
-  handled_by post blank disk old new s called outcome earlier later (Err fault.OutOfMemory) seen unmade rule h =
+  handled_by post blank disk old new s called outcome earlier later (Err fault.OutOfMemory) seen unmade may rule h =
       same_told post blank disk old _ s called earlier later (Err fault.OutOfMemory) (unmade refl) (up_unchanged g post blank disk disk old new s called earlier seen h.now h.disk)
-  handled_by post blank disk old new s called outcome earlier later (Err fault.Spent) seen unmade rule h =
+  handled_by post blank disk old new s called outcome earlier later (Err fault.Spent) seen unmade may rule h =
       same_told post blank disk old _ s called earlier later (Err fault.Spent) (unmade refl)
       (up_refused g post blank disk disk old new s called earlier Spent fault.Spent refl refl seen (subst (λ (o : Result Turn Refusal). IsTurnUp (place_at post) s called o) h.0 rule) h.1.now h.1.disk)
-  handled_by post blank disk old new s called outcome earlier later (Err (fault.BadFrame why)) seen unmade rule h =
+  handled_by post blank disk old new s called outcome earlier later (Err (fault.BadFrame why)) seen unmade may rule h =
       same_told post blank disk old _ s called earlier later (Err (fault.BadFrame why)) (unmade refl)
       (up_refused g post blank disk disk old new s called earlier (BadFrame why) (fault.BadFrame why) refl refl seen (subst (λ (o : Result Turn Refusal). IsTurnUp (place_at post) s called o) h.0 rule) h.1.now h.1.disk)
-  handled_by post blank disk old new s called outcome earlier later (Err why) seen unmade rule h = absurd h
+  handled_by post blank disk old new s called outcome earlier later (Err why) seen unmade may rule h = absurd h
 
   wanted : (post : Post) (blank : Match) (disk : Option D) (old new : Up D) (s : Standing) (called : Call) (earlier later : Told) (answer : Result (Unit {0}) NodeFault)
       → IsSeen g (noted g post blank disk (Some old)) s → (IsErr answer → later ≡ earlier) → Stays g post s old new → answer ≡ Err fault.OutOfMemory
@@ -89,10 +89,10 @@ module _ {D : Type 0} (g : Ghosts D) where
       (same_told post blank disk old _ s called earlier later (Err fault.OutOfMemory) same (up_unchanged g post blank disk disk old new s called earlier seen stays.now stays.disk))
 
   pub handled : (post : Post) (blank : Match) (disk : Option D) (old new : Up D) (s : Standing) (called : Call) (earlier later : Told) (answer : Result (Unit {0}) NodeFault)
-      → IsSeen g (noted g post blank disk (Some old)) s → (IsErr answer → later ≡ earlier) → HandlesCall g post s called old new earlier later answer
+      → IsSeen g (noted g post blank disk (Some old)) s → (IsErr answer → later ≡ earlier) → ((o : Result Turn Refusal) → IsDone o → MayFail called o) → HandlesCall g post s called old new earlier later answer
       → Takes g called s (noted g post blank disk (Some old)) (settled answer (noted g post blank disk (Some new))) earlier later answer
-  handled post blank disk old new s called earlier later answer seen unmade (inl wants) = wanted post blank disk old new s called earlier later answer seen unmade wants.stays wants.memory
-  handled post blank disk old new s called earlier later answer seen unmade (inr (outcome, rule, h)) = handled_by post blank disk old new s called outcome earlier later answer seen unmade rule h
+  handled post blank disk old new s called earlier later answer seen unmade may (inl wants) = wanted post blank disk old new s called earlier later answer seen unmade wants.stays wants.memory
+  handled post blank disk old new s called earlier later answer seen unmade may (inr (outcome, rule, h)) = handled_by post blank disk old new s called outcome earlier later answer seen unmade may rule h
 
   -- from the fields of a node
   pub settled_at : (now : Node D) (i : Inside D) (up : Up D) (new node : Node D) (s : Standing) (called : Call) (earlier later : Told) (answer given : Result (Unit {0}) NodeFault)

@@ -86,7 +86,7 @@ module _ {D : Type 0} (g : Ghosts D) where
       }
   works_over post s outcome before between after made later out behind (Err (fault.Store Disk)) same nothing appends w =
       let L : D → Type 0 = λ d. LeavesDuring g (head_of post) s.store w.left d (disk_under after) in
-      record { left = w.left; comes = w.comes; leaves = w.leaves; moments = subst L same w.moments }
+      record { left = w.left; comes = w.comes; done = w.done; leaves = w.leaves; moments = subst L same w.moments }
   works_over post s outcome before between after made later out behind (Err fault.Conflict) same nothing appends w =
       let L : D → Type 0 = λ d. LeavesDuring g (head_of post) s.store w.left d (disk_under after) in
       record { left = w.left; rule = w.rule; leaves = w.leaves; moments = subst L same w.moments }

@@ -25,14 +25,14 @@ use Rattle.dealer_node.specs.Outs.{Told, both_told}
 use Rattle.dealer_node.specs.Posts.{Post, place_at}
 use Rattle.dealer_node.specs.Turned.{told_of}
 use Rattle.dealer_node.specs.Fitting.{AreMessages}
-use Rattle.dealer_node.specs.Working.{head_of, disk_under, ComesTo, IsUp, Took, Failed, Clashed}
+use Rattle.dealer_node.specs.Working.{head_of, disk_under, ComesTo, IsDone, IsUp, Took, Failed, Clashed}
 use Rattle.dealer_node.specs.declared.node.Node.TheInside.{Inside}
 use Rattle.dealer_node.specs.Nodes.{Node}
 use Rattle.dealer_node.specs.NodeInside.{node_of, IsKept}
 use Rattle.dealer_node.specs.Running.{IsAt}
 use Rattle.dealer_node.specs.Scenes.{IsTableOf}
 use Rattle.dealer_node.specs.Seeing.{is_up, runs, disk_by, downed, IsSeenBy, IsSeen, IsDown, begun_by, begun_of, count_by, failures_of}
-use Rattle.dealer_node.specs.Taking.{refusal_fault, MayBegin, Takes}
+use Rattle.dealer_node.specs.Taking.{refusal_fault, MayBegin, MayFail, Takes}
 use Rattle.dealer_node.proofs.Worked.{nothing_more}
 
 pub read_back : (frames : List Frame) → AreMessages frames → (one : Frame) → In one frames → reading (frame one.message) ≡ Ok one.message
@@ -94,6 +94,7 @@ module _ {D : Type 0} (g : Ghosts D) where
         faults = t.turn.faults;
         now = record { by = t.now; blank = seen.blank };
         ends = took t.turn turns refl refl refl;
+        fails = tt;
         answered = (refl, refl);
         told = t.told;
         fits = read_back t.turn.frames t.fits;
@@ -114,6 +115,7 @@ module _ {D : Type 0} (g : Ghosts D) where
         faults = [];
         now = record { by = now; blank = seen.blank };
         ends = unchanged refl refl refl;
+        fails = tt;
         answered = (refl, inl refl);
         told = nothing_more told s;
         fits = λ one at. absurd at;
@@ -136,6 +138,7 @@ module _ {D : Type 0} (g : Ghosts D) where
         faults = [];
         now = record { by = now; blank = seen.blank };
         ends = refused refusal turns (sym stays) refl refl;
+        fails = tt;
         answered = (refl, ap Err is);
         told = nothing_more told s;
         fits = λ one at. absurd at;
@@ -147,9 +150,10 @@ module _ {D : Type 0} (g : Ghosts D) where
   -- ---- a node that goes down
 
   pub up_failed : (post : Post) (blank : Match) (disk : Option D) (old new : Up D) (s : Standing) (called : Call) (outcome : Result Turn Refusal) (told : Told)
+      → (IsDone outcome → MayFail called outcome)
       → IsSeen g (noted post blank disk (Some old)) s → IsTurnUp (place_at post) s called outcome → Failed g post s outcome old new
       → Takes g called s (noted post blank disk (Some old)) (noted post blank (Some (disk_under new)) None) told told (Err (fault.Store Disk))
-  up_failed post blank disk old new s called outcome told seen rule f =
+  up_failed post blank disk old new s called outcome told may seen rule f =
       let turns = turn_up (place_at post) s called outcome seen.by.running.up rule in
       let left = left_from (place_at post) s outcome f.left f.comes in
       record {
@@ -159,6 +163,7 @@ module _ {D : Type 0} (g : Ghosts D) where
         faults = [];
         now = record { by = record { stopped = refl; leaves = f.leaves }; blank = seen.blank };
         ends = failed outcome f.left seen.by.running.up turns left refl refl refl;
+        fails = may f.done;
         answered = (refl, refl);
         told = nothing_more told s;
         fits = λ one at. absurd at;
@@ -180,6 +185,7 @@ module _ {D : Type 0} (g : Ghosts D) where
         faults = [];
         now = record { by = record { stopped = refl; leaves = f.leaves }; blank = seen.blank };
         ends = refused (Conflict f.left) turns refl refl refl;
+        fails = tt;
         answered = (refl, refl);
         told = nothing_more told s;
         fits = λ one at. absurd at;
@@ -206,6 +212,7 @@ module _ {D : Type 0} (g : Ghosts D) where
         faults = [];
         now = seen;
         ends = refused Down (turn_down (place_at post) s called (Err Down) down rule) refl refl refl;
+        fails = tt;
         answered = (refl, refl);
         told = nothing_more told s;
         fits = λ one at. absurd at;
@@ -256,6 +263,7 @@ module _ {D : Type 0} (g : Ghosts D) where
         faults = [];
         now = record { by = record { stopped = refl; leaves = λ image at. leaves image (fewer image at) }; blank = seen.blank };
         ends = took (stopping (place_at post) s) turns refl refl refl;
+        fails = tt;
         answered = (refl, refl);
         told = nothing_more told s;
         fits = λ one at. absurd at;
@@ -277,6 +285,7 @@ module _ {D : Type 0} (g : Ghosts D) where
         faults = [];
         now = record { by = record { stopped = seen.by.stopped; leaves = λ image at. seen.by.leaves image (fewer image at) }; blank = seen.blank };
         ends = took (still s) (turn_down (place_at post) s Stop (Ok (still s)) down refl) refl refl refl;
+        fails = tt;
         answered = (refl, refl);
         told = nothing_more told s;
         fits = λ one at. absurd at;

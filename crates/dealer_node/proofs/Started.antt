@@ -89,6 +89,7 @@ module _ {D : Type 0} (g : Ghosts D) where
           faults = [];
           now = record { by = st.now; blank = seen.blank };
           ends = took (starting place st.found) (turn_down place s (Start st.found) (Ok (starting place st.found)) down (st.either, refl)) refl refl refl;
+          fails = tt;
           answered = (refl, refl);
           told = st.told;
           fits = read_back (asking_all place st.found) st.fits;
@@ -122,6 +123,7 @@ module _ {D : Type 0} (g : Ghosts D) where
           faults = [];
           now = record { by = record { stopped = seen.by.stopped; leaves = stays.leaves }; blank = seen.blank };
           ends = unchanged refl refl refl;
+          fails = tt;
           answered = (refl, why_unchanged s.up s.store why down stays.fault);
           told = nothing_more told s;
           fits = λ one at. absurd at;
@@ -146,6 +148,7 @@ module _ {D : Type 0} (g : Ghosts D) where
           faults = [];
           now = seen;
           ends = unchanged refl refl refl;
+          fails = tt;
           answered = (refl, inl refl);
           told = nothing_more told s;
           fits = λ one at. absurd at;

@@ -47,7 +47,7 @@ use Rattle.dealer_node.specs.Answering.{message_of, is_promise, accepted_in}
 use Rattle.dealer_node.specs.Fitting.{AreMessages}
 use Rattle.dealer_node.specs.Running.{IsRunning, TakesTurn, Closes}
 use Rattle.dealer_node.specs.Voting.{telling_vote}
-use Rattle.dealer_node.specs.Working.{head_of, disk_under, ComesTo, IsUp, Took, Failed, Clashed, Works}
+use Rattle.dealer_node.specs.Working.{head_of, disk_under, ComesTo, IsDone, IsUp, Took, Failed, Clashed, Works}
 use Rattle.dealer_node.proofs.Telling.{told_with, frames_more}
 use Rattle.dealer_node.proofs.Learned.{stored_too}
 use Rattle.dealer_node.proofs.Worked.{nothing_more, memory_took, then_works, works_from}
@@ -135,7 +135,7 @@ module _ {D : Type 0} (g : Ghosts D) where
       → Leaves g (head_of post) s.store (prepared ballot s.store) (disk_under new) → LeavesDuring g (head_of post) s.store (prepared ballot s.store) (disk_under old) (disk_under new)
       → Failed g post s (Ok (preparing from ballot slot s)) old new
   prepare_failed post s from ballot slot old new is leaves during =
-      record { left = prepared ballot s.store; comes = inr (comes_by s from ballot slot (is_below s.store.promise ballot) is.unbegun); leaves = leaves; moments = during }
+      record { left = prepared ballot s.store; comes = inr (comes_by s from ballot slot (is_below s.store.promise ballot) is.unbegun); done = tt; leaves = leaves; moments = during }
 
   -- a fault of the acceptor is that of its disk
   pub is_disk : (why : StoreFault) → (why ≡ Disk) ⊎ (why ≡ OutOfMemory) → (why ≡ OutOfMemory → ⊥) → why ≡ Disk
@@ -174,6 +174,14 @@ learning_comes place (Err why) learned s first unbegun = inr refl
 pub telling_comes : (place : Place) (ballot : Ballot) (slot : ℕ) (command : Command) (s : Standing) → s.begun ≡ s.store → ComesTo (telling_vote place ballot slot command s) s.store
 telling_comes place ballot slot command s unbegun =
     learning_comes place (answer_to s.learned place.node ballot slot command) (hearing_vote s.learned place.node ballot slot command) s (sending (to_others place (frame.Accepted ballot slot command)) s) unbegun
+
+learning_done : {A : Type 0} (place : Place) (answer : Result A SlotFault) (learned : Learned) (s : Standing) (first : Turn) → IsDone (behind first (learning place answer learned s))
+learning_done place (Ok answer) learned s first = tt
+learning_done place (Err why) learned s first = tt
+
+pub telling_done : (place : Place) (ballot : Ballot) (slot : ℕ) (command : Command) (s : Standing) → IsDone (telling_vote place ballot slot command s)
+telling_done place ballot slot command s =
+    learning_done place (answer_to s.learned place.node ballot slot command) (hearing_vote s.learned place.node ballot slot command) s (sending (to_others place (frame.Accepted ballot slot command)) s)
 
 -- the command and the store of a vote, as the acceptor has them
 same_command : (vote : Option Vote) (ballot : Ballot) (command : Command) → command_in vote ballot command ≡ stored_in vote ballot command
@@ -281,6 +289,7 @@ module _ {D : Type 0} (g : Ghosts D) where
       record {
         left = storing s.store ballot slot command;
         comes = inr (telling_comes (place_at post) ballot slot (stored_in (s.store.votes slot) ballot command) (with_vote s ballot slot command) refl);
+        done = telling_done (place_at post) ballot slot (stored_in (s.store.votes slot) ballot command) (with_vote s ballot slot command);
         leaves = subst (λ (st : Store). Leaves g (head_of post) s.store st (disk_under new)) stores leaves;
         moments = subst (λ (st : Store). LeavesDuring g (head_of post) s.store st (disk_under old) (disk_under new)) stores during;
       }

@@ -30,7 +30,7 @@ use Rattle.dealer_node.specs.declared.running.Running.{Running}
 use Rattle.dealer_node.specs.Outs.{Told}
 use Rattle.dealer_node.specs.Posts.{Post, IsPost, place_at}
 use Rattle.dealer_node.specs.Running.{IsRunning, IsTaken, is_spent_at}
-use Rattle.dealer_node.specs.Working.{head_of, disk_under, ComesTo, IsUp, Took, Failed, Works}
+use Rattle.dealer_node.specs.Working.{head_of, disk_under, ComesTo, IsDone, IsUp, Took, Failed, Works}
 use Rattle.dealer_node.specs.declared.fault.NodeFault.{NodeFault}
 use Rattle.dealer_node.proofs.Worked.{nothing_more, then_works}
 use Rattle.dealer_node.proofs.Stored.{told_same, answered_prepare, prepared_by}
@@ -187,6 +187,7 @@ module _ {D : Type 0} (g : Ghosts D) where
       record {
         left = stores_prepared ballot s.store;
         comes = inr (inl (joined turn (still turn.after), ap (λ (o : Result Turn Refusal). and_then o (closing (place_at post))) rule ∙ ap (behind turn) (unled post ballot s is_post), is_stored ballot s.store above));
+        done = subst IsDone (sym (ap (λ (o : Result Turn Refusal). and_then o (closing (place_at post))) rule ∙ ap (behind turn) (unled post ballot s is_post))) tt;
         leaves = leaves;
         moments = during;
       }

@@ -22,7 +22,7 @@ use Rattle.dealer_node.specs.Posts.{Post, place_at}
 use Rattle.dealer_node.specs.Turned.{told_of, posted, printed, fault_of}
 use Rattle.dealer_node.specs.Fitting.{AreMessages}
 use Rattle.dealer_node.specs.Running.{IsRunning}
-use Rattle.dealer_node.specs.Working.{head_of, disk_under, StandsByIts, ComesTo, IsUp, Took, Failed, Clashed, Works}
+use Rattle.dealer_node.specs.Working.{head_of, disk_under, StandsByIts, ComesTo, IsDone, IsUp, Took, Failed, Clashed, Works}
 use Rattle.dealer_node.proofs.Telling.{told_more, same_told}
 
 pub nothing_more : (told : Told) (s : Standing) → told ≡ both_told told (told_of (still s))
@@ -97,6 +97,11 @@ comes_behind : (first : Turn) (next : Result Turn Refusal) (left : Store) → Co
 comes_behind first next left (inl (turn, rule, e)) = inl (joined first turn, ap (behind first) rule, e)
 comes_behind first next left (inr rule) = inr (ap (behind first) rule)
 
+pub done_behind : (first : Turn) (next : Result Turn Refusal) → IsDone next → IsDone (behind first next)
+done_behind first (Ok turn) done = tt
+done_behind first (Err (Conflict store)) done = tt
+done_behind first (Err why) done = absurd done
+
 -- of the whole too
 comes_once : (s : Standing) (first : Turn) (next : Result Turn Refusal) (left : Store) → OneAppends s first.after next → (left ≡ first.after.store) ⊎ ComesTo next left → (left ≡ s.store) ⊎ ComesTo (behind first next) left
 comes_once s first next left once (inr comes) = inr (comes_behind first next left comes)
@@ -140,6 +145,7 @@ module _ {D : Type 0} (g : Ghosts D) where
       record {
         left = second.left;
         comes = subst (λ (o : Result Turn Refusal). (second.left ≡ s.store) ⊎ ComesTo (and_then o next) second.left) (sym first.rule) (comes_once s first.turn (next first.turn.after) second.left once second.comes);
+        done = subst (λ (o : Result Turn Refusal). IsDone (and_then o next)) (sym first.rule) (done_behind first.turn (next first.turn.after) second.done);
         leaves = left_by (head_of post) _ s.store first.turn.after.store second.left apart second.leaves;
         moments = left_during (head_of post) _ _ _ s.store first.turn.after.store second.left apart first.moments second.moments;
       }
@@ -182,7 +188,7 @@ module _ {D : Type 0} (g : Ghosts D) where
   works_from post s other outcome a c b earlier later (Ok done) same disk w =
       record { turn = w.turn; rule = w.rule; now = w.now; told = w.told; fits = w.fits; moments = moments_from post s.store other.store w.turn.after.store a c b same disk w.moments }
   works_from post s other outcome a c b earlier later (Err (fault.Store Disk)) same disk w =
-      record { left = w.left; comes = comes_from s.store other.store outcome w.left w.comes same; leaves = subst (λ (st : Store). Leaves g (head_of post) st w.left (disk_under b)) same w.leaves; moments = moments_from post s.store other.store w.left a c b same disk w.moments }
+      record { left = w.left; comes = comes_from s.store other.store outcome w.left w.comes same; done = w.done; leaves = subst (λ (st : Store). Leaves g (head_of post) st w.left (disk_under b)) same w.leaves; moments = moments_from post s.store other.store w.left a c b same disk w.moments }
   works_from post s other outcome a c b earlier later (Err fault.Conflict) same disk w =
       record { left = w.left; rule = w.rule; leaves = subst (λ (st : Store). Leaves g (head_of post) st w.left (disk_under b)) same w.leaves; moments = moments_from post s.store other.store w.left a c b same disk w.moments }
   works_from post s other outcome a c b earlier later (Err why) same disk w = absurd w

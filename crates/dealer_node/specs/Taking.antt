@@ -23,6 +23,7 @@ use Rattle.dealer_node.specs.declared.fault.NodeFault.TheVariants as fault
 use Rattle.dealer_node.specs.Outs.{Told, both_told}
 use Rattle.dealer_node.specs.Posts.{place_at}
 use Rattle.dealer_node.specs.Turned.{posted, printed, fault_of}
+use Rattle.dealer_node.specs.Working.{IsDone}
 use Rattle.dealer_node.specs.Seeing.{head_of, post_in, IsSeen, begun_of, failures_of, since_of}
 
 -- ---- what it answers
@@ -48,6 +49,20 @@ Answered place s called after frames shown (failed outcome begun up rule b e f g
 Answered place s called after frames shown (unchanged e f g) faults answer =
     (faults ≡ []) × ((answer ≡ Err fault.OutOfMemory) ⊎ (IsStart s.up called × (answer ≡ Err (fault.Store Disk))))
 
+-- only a call that may store something fails in the disk, and only where its rule has a turn, or another command was known
+abbrev pub MayFail : Call → Result Turn Refusal → Type 0
+MayFail Tick outcome = IsDone outcome
+MayFail (call.Frame from bytes) outcome = IsDone outcome
+MayFail (Line seat bytes) outcome = IsDone outcome
+MayFail other outcome = ⊥
+
+abbrev pub FailsRightly : (place : Place) (s : Standing) (called : Call) (after : Standing) (frames : List Frame) (shown : List Piece)
+    → Ends place s called after frames shown → Type 0
+FailsRightly place s called after frames shown (took turn rule e f g) = Unit {0}
+FailsRightly place s called after frames shown (refused refusal rule e f g) = Unit {0}
+FailsRightly place s called after frames shown (failed outcome begun up rule b e f g) = MayFail called outcome
+FailsRightly place s called after frames shown (unchanged e f g) = Unit {0}
+
 -- ---- what its disk leaves
 
 -- what images may stand for beside the store: what was begun before; of a node that runs what the call's one append makes of it
@@ -69,6 +84,7 @@ module _ {D : Type 0} (g : Ghosts D) where
     -- which is that of the rule, or that of a node whose disk failed
     pub ends : Ends (place_at (post_in old)) s called after frames shown
     pub answered : Answered (place_at (post_in old)) s called after frames shown ends faults answer
+    pub fails : FailsRightly (place_at (post_in old)) s called after frames shown ends
     -- what it made stands behind what was there before
     pub told : later ≡ both_told earlier (record { frames = map posted frames; shown = map printed shown; faults = map fault_of faults })
     -- each frame reads back as its message

@@ -36,6 +36,12 @@ StandsByIts s = IfSome s.campaign (λ (campaign : Campaign). campaign.ballot ≡
 abbrev pub ComesTo : Result Turn Refusal → Store → Type 0
 ComesTo outcome left = ((turn : Turn) × (outcome ≡ Ok turn) × (left ≡ turn.after.begun)) ⊎ (outcome ≡ Err (Conflict left))
 
+-- the rule has a turn, or another command was known
+abbrev pub IsDone : Result Turn Refusal → Type 0
+IsDone (Ok turn) = Unit {0}
+IsDone (Err (Conflict store)) = Unit {0}
+IsDone (Err other) = ⊥
+
 module _ {D : Type 0} where
   abbrev pub disk_under : Up D → D
   disk_under up = disk_of (store_of up.acceptor)
@@ -67,6 +73,7 @@ module _ {D : Type 0} (g : Ghosts D) where
   pub record Failed (post : Post) (s : Standing) (outcome : Result Turn Refusal) (before after : Up D) : Type 0 where
     pub left : Store
     pub comes : (left ≡ s.store) ⊎ ComesTo outcome left
+    pub done : IsDone outcome
     pub leaves : Leaves g (head_of post) s.store left (disk_under after)
     pub moments : LeavesDuring g (head_of post) s.store left (disk_under before) (disk_under after)
 

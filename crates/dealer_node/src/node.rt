@@ -1,4 +1,4 @@
-ghost use Rattle.std.specs.Prelude.{◌≡◌, ℕ, ◌<◌, ◌↔◌, true, false, List, Option, IsTrue, IsErr, IfOk, IfErr, IfSome, OnOk, length};
+ghost use Rattle.std.specs.Prelude.{◌≡◌, ℕ, ◌<◌, ◌≤◌, true, false, List, [], Option, IsTrue, IsErr, IfOk, IfErr, IfSome, OnOk, length};
 ghost use Rattle.protocol_model.specs.Stores.{Store as Kept, empty_store};
 ghost use Rattle.node_rules.specs.Standings.{Standing, applied, front_of, place_of, stopped};
 ghost use Rattle.node_rules.specs.Showing.{is_connected as is_talk_ready};
@@ -97,6 +97,7 @@ impl<D: Disk + Drop> Node<D> {
         ensures down { runs self.new ≡ false }
         ensures post { post_in self.new ≡ post_in self.old }
         ensures begun { begun_of D.Disk self.new ≡ begun_of D.Disk self.old }
+        ensures counts { failures_of D.Disk self.old ≤ failures_of D.Disk self.new }
     {
         what_is_kept_is_left::<D>();
         let Some(disk) = self.disk.take() else {
@@ -238,6 +239,8 @@ impl<D: Disk + Drop> Node<D> {
             → Takes D.Disk Stop s self.old self.new nothing_told nothing_told (Ok tt) }
         ensures stays { StaysItself D.Disk self.old self.new nothing_told nothing_told (Ok tt) }
         ensures down { runs self.new ≡ false }
+        ensures disk { IsTrue D.is_honest → images_of D.Disk self.old (bytes_of D.Disk self.new) }
+        ensures failures { failures_of D.Disk self.new ≡ failures_of D.Disk self.old }
     {
         what_is_kept_is_left::<D>();
         self.go_down();
@@ -256,7 +259,8 @@ impl<D: Disk + Drop> Node<D> {
 
     /// The first slot whose command the node doesn't know; 0 while it is down.
     pub fn front(&self) -> u32
-        ensures { (s : Standing) → IsSeen D.Disk self.now s → result ≡ front_of s }
+        ensures seen { (s : Standing) → IsSeen D.Disk self.now s → result ≡ front_of s }
+        ensures down { runs self.now ≡ false → result ≡ 0 }
     {
         match &self.up {
             None => 0,
@@ -266,7 +270,8 @@ impl<D: Disk + Drop> Node<D> {
 
     /// The table after the commands that the node applied; while it is down the table before the first hand.
     pub fn table(&self) -> &Table
-        ensures { (s : Standing) → IsSeen D.Disk self.now s → IsTableOf (post_in self.now).setting (applied s) result.now }
+        ensures seen { (s : Standing) → IsSeen D.Disk self.now s → IsTableOf (post_in self.now).setting (applied s) result.now }
+        ensures down { runs self.now ≡ false → IsTableOf (post_in self.now).setting [] result.now }
     {
         match &self.up {
             None => &self.blank,
@@ -276,7 +281,8 @@ impl<D: Disk + Drop> Node<D> {
 
     /// The act that waits to be proposed; none while the node is down.
     pub fn pending(&self) -> Option<Command>
-        ensures { (s : Standing) → IsSeen D.Disk self.now s → result ≡ s.pending }
+        ensures seen { (s : Standing) → IsSeen D.Disk self.now s → result ≡ s.pending }
+        ensures down { runs self.now ≡ false → result ≡ None }
     {
         match &self.up {
             None => None,
@@ -287,7 +293,8 @@ impl<D: Disk + Drop> Node<D> {
     /// Whether a seat is connected: its session is ready. None is while the node is down.
     pub fn connected(&self, seat: usize) -> bool
         requires { seat < (post_in self.now).setting.game.players }
-        ensures { (s : Standing) → IsSeen D.Disk self.now s → result ≡ is_talk_ready (session_at s.sessions seat) }
+        ensures seen { (s : Standing) → IsSeen D.Disk self.now s → result ≡ is_talk_ready (session_at s.sessions seat) }
+        ensures down { runs self.now ≡ false → result ≡ false }
     {
         match &self.up {
             None => false,

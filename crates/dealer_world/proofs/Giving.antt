@@ -53,6 +53,7 @@ module _ {D : Type 0} (g : Ghosts D) where
         now = seen;
         ends = unchanged refl refl refl;
         answered = (refl, inl none);
+        fails = tt;
         told = refl;
         fits = λ one there. elim there [ ];
         next = begun.0;

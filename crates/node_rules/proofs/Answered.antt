@@ -48,7 +48,7 @@ use Rattle.node_rules.proofs.Led.{tick_splits, piece_splits, asking_after, frame
 -- the close sends nothing or a proposal, and the front stays
 pub close_sends : (place : Place) (s : Standing) (c : Turn) → Closed place s c → IsOfClose place (front_of c.after) c.frames × (front_of c.after ≡ front_of s)
 close_sends place s c (rests campaign e) = (inl (ap (λ (t : Turn). t.frames) e), ap (λ (t : Turn). front_of t.after) e)
-close_sends place s c (proposes made campaign learned mine at promise none log e) =
+close_sends place s c (proposes made campaign learned mine at promise none left_over counts log e) =
     let same : front_of c.after ≡ front_of s = ap (λ (t : Turn). front_of t.after) e ∙ ap front log in (
       inr (
         made.ballot,
@@ -96,13 +96,13 @@ above_frames turn c from slot same = ask_frames (nat_lt (front_of c.after) slot)
 
 -- ---- the rules of messages
 
-prepare_answer : (place : Place) (from : ℕ) (ballot : Ballot) (slot : ℕ) (s : Standing) (b : Bool) → is_below s.store.promise ballot ≡ b
+pub prepare_answer : (place : Place) (from : ℕ) (ballot : Ballot) (slot : ℕ) (s : Standing) (b : Bool) → is_below s.store.promise ballot ≡ b
     → AnswersPrepare s.store from ballot slot (if b then promising from ballot slot s else refusing from ballot slot s).frames
 prepare_answer place from ballot slot s true e = promises (told_by s.store slot) (below_if s.store.promise ballot e) (tells s.store slot) refl
 prepare_answer place from ballot slot s false e = answers.AnswersPrepare.refuses (at_most_if_not s.store.promise ballot e) refl
 
 -- what is learned sends nothing
-learned_frames : {A : Type 0} (place : Place) (answer : Result A SlotFault) (learned : Learned) (s : Standing) (first : Turn) → learning place answer learned s ≡ Ok first → first.frames ≡ []
+pub learned_frames : {A : Type 0} (place : Place) (answer : Result A SlotFault) (learned : Learned) (s : Standing) (first : Turn) → learning place answer learned s ≡ Ok first → first.frames ≡ []
 learned_frames place (Ok answer) learned s first e = ap (λ (t : Turn). t.frames) (sym (ok_is (applying place learned s) first e))
 learned_frames place (Err fault) learned s first e = absurd (ok_not first (Conflict s.store) (sym e))
 
@@ -111,7 +111,7 @@ vote_frames : {A : Type 0} (place : Place) (answer : Result A SlotFault) (learne
 vote_frames place (Ok answer) learned s sent first e = ap (λ (t : Turn). t.frames) (sym (ok_is (joined (sending sent s) (applying place learned s)) first e)) ∙ append-nil sent
 vote_frames place (Err fault) learned s sent first e = absurd (ok_not first (Conflict s.store) (sym e))
 
-accept_answer : (place : Place) (from : ℕ) (ballot : Ballot) (slot : ℕ) (command : Command) (s : Standing) (first : Turn) (b : Bool) → is_below ballot s.store.promise ≡ b
+pub accept_answer : (place : Place) (from : ℕ) (ballot : Ballot) (slot : ℕ) (command : Command) (s : Standing) (first : Turn) (b : Bool) → is_below ballot s.store.promise ≡ b
     → (if b then Ok (refusing from ballot slot s) else voting place ballot slot command (idle s)) ≡ Ok first
     → AnswersAccept place s.store from ballot slot command first.frames
 accept_answer place from ballot slot command s first true e h =
@@ -122,7 +122,7 @@ accept_answer place from ballot slot command s first false e h =
     accepts (at_most_if_not ballot s.store.promise e)
     (vote_frames place (answer_to kept.learned place.node ballot slot stored) (hearing kept.learned place.node ballot slot stored) kept (to_others place (frame.Accepted ballot slot stored)) first h)
 
-chosen_frames : {A : Type 0} (place : Place) (answer : Result A SlotFault) (learned : Learned) (s : Standing) (from : ℕ) (first : Turn)
+pub chosen_frames : {A : Type 0} (place : Place) (answer : Result A SlotFault) (learned : Learned) (s : Standing) (from : ℕ) (first : Turn)
     → and_then (learning place answer learned s) (λ told. Ok (asking_on from (front_of s) told)) ≡ Ok first
     → first.frames ≡ asks_if (comes_to_window (front_of s) (front_of first.after)) from (front_of first.after)
 chosen_frames place (Ok answer) learned s from first e =

@@ -31,6 +31,7 @@ use Rattle.node_rules.specs.Rules.{seeing, taking}
 use Rattle.node_rules.specs.Given.{Given}
 use Rattle.node_rules.specs.LawsShown.{line_to, lines_from, IsAdded, IsShownOf, AreShownOf}
 use Rattle.node_rules.specs.LawsPending.{kept_over}
+use Rattle.node_rules.proofs.Finished.{adds_some}
 use Rattle.node_rules.proofs.Showing.{line_is, running_adds, adds_if}
 use Rattle.node_rules.proofs.Chaining.{ok_is, ok_not}
 use Rattle.node_rules.proofs.Resting.{applying_same}
@@ -69,7 +70,7 @@ added_by g setting own before command true e fit =
           ∙ append-nil (log_of setting before)),
     )
 added_by g setting own before command false e fit =
-    inr (further_lines setting.game setting.title.hands setting.names (hands_after setting (command ∷ before)), refl, adds_if g setting before command true fit)
+    inr (further_lines setting.game setting.title.hands setting.names (hands_after setting (command ∷ before)), (λ h. adds_some setting before command fit e h), refl, adds_if g setting before command true fit)
 
 -- what the rule shows of a command
 shown_by : (g : Given) (setting : Setting) (own : ℕ → Command → Bool) (sessions : List (Option Talk)) (before : List Command) (command : Command) (b : Bool) → length sessions ≡ setting.game.players

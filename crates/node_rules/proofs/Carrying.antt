@@ -162,7 +162,7 @@ to_step n k i w f false e l ih h = elim (in_split (to_first k i w) (one k w) f h
       (subst (λ (g : Frame). g.to < n) (sym same) l, subst (λ (g : Frame). g.to ≢ i) (sym same) (eqb-false k i e), ap (λ (g : Frame). g.message) same))
 ]
 
-in_to : (n k i : ℕ) (w : Wire) (f : Frame) → k ≤ n → In f (to_first k i w) → (f.to < n) × (f.to ≢ i) × (f.message ≡ w)
+pub in_to : (n k i : ℕ) (w : Wire) (f : Frame) → k ≤ n → In f (to_first k i w) → (f.to < n) × (f.to ≢ i) × (f.message ≡ w)
 unfolding to_first
 in_to n zero i w f l h = absurd h
 in_to n (suc k) i w f l h = to_step n k i w f (k == i) refl (omega arith) (in_to n k i w f (omega arith)) h

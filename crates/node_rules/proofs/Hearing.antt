@@ -1,5 +1,5 @@
 -- A piece of a seat's bytes, connecting and dropping are paths.
-use Rattle.std.proofs.Common.{◌≡◌, ◌≢◌, ℕ, ◌<◌, ◌⊎◌, inl, inr, Bool, true, false, if◌then◌else◌, ◌==◌, cond, List, [], ◌∷◌, ◌++◌, Option, Some, None, Result, refl, sym, ap, subst, ◌∙◌, arith, length, get_or, set, length-set, get_or-set_same, get_or-set_other, eq-eqb, ne_eqb}
+use Rattle.std.proofs.Common.{◌≡◌, ◌≢◌, ℕ, ◌<◌, ◌⊎◌, inl, inr, Bool, true, false, if◌then◌else◌, ◌==◌, cond, List, [], ◌∷◌, ◌++◌, Option, Some, None, Result, Err, refl, sym, ap, subst, ◌∙◌, arith, length, get_or, set, length-set, get_or-set_same, get_or-set_other, eq-eqb, ne_eqb}
 use Rattle.std.specs.Option.{option_map}
 use Rattle.std.proofs.lemmas.List.{append-nil}
 use Rattle.std.proofs.lemmas.Bool.Decides.{eqb_tells}
@@ -8,7 +8,10 @@ use Rattle.slot_log.specs.Hand.{Hand}
 use Rattle.protocol_model.specs.Sets.{In, put}
 use Rattle.protocol_model.specs.Arrivals.{Arrival, Event, Connected, Dropped, Closed, Came}
 use Rattle.protocol_model.specs.Moves.{connects, drops, closes, hears}
-use Rattle.seat_session.specs.Session.{Standing as Talk, fresh, with_piece, is_closed}
+use Rattle.seat_session.specs.Lines.{IsPartial}
+use Rattle.seat_session.specs.declared.phase.Phase.{Phase}
+use Rattle.seat_session.specs.declared.phase.Phase.TheVariants.{Greeting, Ready as InPlay, Closed as IsOver}
+use Rattle.seat_session.specs.Session.{Standing as Talk, fresh, with_piece, is_closed, Answers}
 use Rattle.seat_session.specs.Laws.{fed}
 use Rattle.seat_session.specs.declared.said.Said.{Said as Saying}
 use Rattle.seat_session.specs.declared.session_fault.SessionFault.{SessionFault}
@@ -18,7 +21,7 @@ use Rattle.node_rules.specs.Seats.{session_at, with_session, connecting, droppin
 use Rattle.node_rules.specs.Being.{IsTalk, IsSession, AreSessions}
 use Rattle.node_rules.specs.Called.{events_of}
 use Rattle.node_rules.specs.Given.{Given}
-use Rattle.node_rules.proofs.Paths.{Hearing, Scope, first_in, Path}
+use Rattle.node_rules.proofs.Paths.{Hearing, Scope, first_in, Path, never}
 use Rattle.node_rules.proofs.Sitting.{with_heard, sit, drain, asks, no_pieces, drained, rest_drained}
 use Rattle.node_rules.proofs.Beginning.{Runs, hearing_of, begin}
 
@@ -87,7 +90,7 @@ connect_sits x s seat r quiet seated =
       path = sit x [] (hearing_of s (first_in x)) (applied s) (still s) p (Connected x.place.node seat) h (length-set s.sessions seat (Some fresh) ∙ places)
           (connects seat p.knows.up refl (ap (λ (f : ℕ → Option (List ℕ)). with_heard p.node (put f seat (Some []))) (sym p.hears)));
       sessions = sessions_put x.place.setting.game s.sessions (first_in x).heard seat (Some fresh) (Some []) (omega (arith, places)) (seats_of x s r)
-          (record { goes_on = refl; rest = x.given.whole.begun; events = []; pieces = refl; leads_here = refl });
+          (record { goes_on = refl; answered = record { one_line = tt; short = omega arith }; rest = x.given.whole.begun; events = []; pieces = refl; leads_here = refl });
       happened = inl refl;
     }
 
@@ -152,6 +155,21 @@ no_session x s seat bytes r quiet none =
       (h, record { came = came; path = path; only = refl }),
     )
 
+-- a session that was asked until there is no answer holds no whole line
+no_line : (game : Game) (hands : List Hand) (seat : ℕ) (phase : Phase) (waiting : List ℕ) (new : Talk)
+    → Answers game hands seat (let old : Talk = record { phase = phase; waiting = waiting } in old) None new → IsPartial new.waiting
+no_line game hands seat Greeting waiting new h = h.partial
+no_line game hands seat InPlay waiting new h = h.partial
+no_line game hands seat (IsOver fault) waiting new h = let clash : ◌≡◌ {A = Option (Result Saying SessionFault)} None (Some (Err fault)) = h.0 in absurd (cc)
+
+drained_partial : (game : Game) (hands : List Hand) (seat : ℕ) (answers : List (Result Saying SessionFault)) (cur new : Talk) → Drains game hands seat cur answers new → is_closed new.phase ≡ false
+    → IsPartial new.waiting
+unfolding Drains
+drained_partial game hands seat [] cur new drains goes_on = no_line game hands seat cur.phase cur.waiting new drains
+drained_partial game hands seat (said ∷ more) cur new (between, one, inl last) goes_on =
+    absurd (never (sym last.0 ∙ (ap (λ (k : Talk). is_closed k.phase) (sym last.2) ∙ goes_on)))
+drained_partial game hands seat (said ∷ more) cur new (between, one, inr later) goes_on = drained_partial game hands seat more between new later.1 goes_on
+
 -- the session that stands at the end, after all that came
 goes_further : (g : Given) (game : Game) (hands : List Hand) (seat : ℕ) (before bytes : List ℕ) (cur new : Talk) (answers : List (Result Saying SessionFault)) → IsTalk game seat cur before
     → Drains game hands seat (with_piece cur bytes) answers new → is_closed new.phase ≡ false → IsTalk game seat new (before ++ bytes)
@@ -159,6 +177,7 @@ goes_further g game hands seat before bytes cur new answers talk drains goes_on 
     let on = g.runs_on game seat fresh talk.events cur (fed bytes ∷ asks hands answers) new talk.leads_here (drained game hands seat answers (with_piece cur bytes) new drains goes_on) in
     record {
       goes_on = goes_on;
+      answered = drained_partial game hands seat answers (with_piece cur bytes) new drains goes_on;
       rest = rest_drained g game hands seat (before ++ bytes) answers (with_piece cur bytes) new drains (g.whole.fed_more before bytes cur talk.rest);
       events = talk.events ++ fed bytes ∷ asks hands answers;
       pieces = on.1 ∙ ((λ j. talk.pieces j ++ (bytes ++ no_pieces hands answers j)) ∙ ap (λ l. before ++ l) (append-nil bytes));

@@ -42,9 +42,13 @@ mod Led
 mod Prepared
 mod Answered
 mod Backed
+mod Finished
 mod Applied
 mod Shown
 mod Seated
+mod Refused
+mod Counted
+mod Created
 pub mod Examples
 pub mod TurnExamples
 pub mod OutcomeExamples

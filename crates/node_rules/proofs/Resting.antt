@@ -1,6 +1,7 @@
 -- How a close ends: it proposes at most once, and then nothing is left to propose.
 use Rattle.std.proofs.Common.{◌≡◌, ◌≢◌, ℕ, zero, suc, ◌<◌, ◌≤◌, ◌+◌, ◌*◌, ◌⊎◌, inl, inr, ◌==◌, Bool, true, false, true≢false, not, if◌then◌else◌, ◌&&◌, List, [], ◌∷◌, ◌++◌, Option, Some, None, Result, Ok, Err, refl, sym, ap, subst, ◌∙◌, arith, length, reverse, eqb-true, eq-eqb}
-use Rattle.std.specs.Prelude.{nat_le}
+use Rattle.std.specs.Prelude.{nat_le, IsOk}
+use Rattle.std.proofs.lemmas.Bool.{leb-false}
 use Rattle.std.proofs.lemmas.List.{append-nil, length-reverse, drop_all}
 use Rattle.paxos_wire.specs.declared.limits.TheConstants.{SLOTS}
 use Rattle.paxos_wire.specs.declared.ballot.Ballot.{Ballot}
@@ -21,7 +22,7 @@ use Rattle.proposer.specs.declared.fault.ProposeFault.TheVariants.{OutOfWindow}
 use Rattle.proposer.specs.Campaigns.{has_quorum, leads, is_covered, is_proposed, accept_of, value_of, greatest_told, proposal_by, proposal_from, with_mark, marked_from}
 use Rattle.proposer.specs.Laws.{IsSafe}
 use Rattle.learner.specs.declared.chosen.Chosen.{Chosen as Learnt}
-use Rattle.learner.specs.Learning.{Learned, is_open, is_other, completes, chosen_in, hearing, counting, knowing}
+use Rattle.learner.specs.Learning.{Learned, answer_to, is_open, is_other, completes, chosen_in, hearing, counting, knowing}
 use Rattle.dealer_kind.specs.Plans.{HasNodes}
 use Rattle.node_rules.specs.Standings.{Place, Standing, applied, front_of, with_stored, idle}
 use Rattle.node_rules.specs.Sending.{Frame, to_others}
@@ -142,11 +143,13 @@ counted s from ballot slot command = record s { learned = hearing s.learned from
 counted_still : (place : Place) (from : ℕ) (ballot : Ballot) (slot : ℕ) (command : Command) (s : Standing)
     → (is_open s.learned.log slot ≡ true → completes s.learned from ballot slot command ≡ false)
     → (counting_vote place from ballot slot command s ≡ Ok (still (counted s from ballot slot command))) × ((hearing s.learned from ballot slot command).log ≡ s.learned.log)
+    × IsOk (answer_to s.learned from ballot slot command)
 counted_still place from ballot slot command s none =
     let t = counted_by s.learned from ballot slot command (is_open s.learned.log slot) (completes s.learned from ballot slot command) (is_other (known_at s.learned.log slot) command) none in (
       ap (λ (r : Result (Option Learnt) SlotFault). learning place r (hearing s.learned from ballot slot command) s) t.0
           ∙ ap (λ (u : Turn). let r : Result Turn Refusal = Ok u in r) (applying_same place (hearing s.learned from ballot slot command) s t.1),
       t.1,
+      subst IsOk (sym t.0) refl,
     )
 
 -- ---- nothing is left to propose
@@ -183,12 +186,18 @@ idle_rests place s e = record {
 abbrev pub vote_of_made : Made → Vote
 vote_of_made made = record { ballot = made.ballot; command = made.command }
 
+-- the node's own vote for it is counted, and refused by nothing that is known
+pub record CountsOwn (place : Place) (s : Standing) (made : Made) (learned : Learned) : Type 0 where
+  pub heard : learned ≡ hearing s.learned place.node made.ballot made.slot made.command
+  pub ok : IsOk (answer_to s.learned place.node made.ballot made.slot made.command)
+
 -- it leads on, or no longer, and proposes nothing; or it proposes at its front, in a ballot of its own that its store has promised and of which it has
 -- no vote there, and votes for that itself
 pub data Closed (place : Place) (s : Standing) (turn : Turn) : Type 0 where
   rests : (campaign : Option Campaign) → turn ≡ still (record s { campaign = campaign }) → Closed place s turn
   proposes : (made : Made) (campaign : Option Campaign) (learned : Learned) → made.ballot.node ≡ place.node → made.slot ≡ front_of s
-      → s.store.promise ≡ made.ballot → ((vote : Vote) → s.store.votes made.slot ≡ Some vote → vote.ballot ≡ made.ballot → ⊥) → learned.log ≡ s.learned.log
+      → s.store.promise ≡ made.ballot → ((vote : Vote) → s.store.votes made.slot ≡ Some vote → vote.ballot ≡ made.ballot → ⊥) → front_of s < SLOTS
+      → CountsOwn place s made learned → learned.log ≡ s.learned.log
       → turn ≡ record {
         after = record (with_stored s (voted s.store made.slot (vote_of_made made))) { campaign = campaign; learned = learned };
         frames = to_others place (frame.Accept made.ballot made.slot made.command) ++ to_others place (frame.Accepted made.ballot made.slot made.command);
@@ -216,6 +225,15 @@ covered_by false covered done value made h = absurd (let e = h in cc)
 covered_by true false done value made h = absurd (let e = h in cc)
 covered_by true true done value made h = refl
 
+quorum_by : (quorum covered done : Bool) (value : Option Made) (made : Made)
+    → ◌≡◌ {A = Result (Option Made) ProposeFault} (if not quorum then Ok None else if not covered then Err OutOfWindow else if done then Ok None else Ok value) (Ok (Some made)) → quorum ≡ true
+quorum_by false covered done value made h = absurd (let e = h in cc)
+quorum_by true covered done value made h = refl
+
+none_left : (a b : Bool) → (a && b) ≡ false → a ≡ true → b ≡ false
+none_left true b h e = h
+none_left false b h e = absurd (true≢false (sym e))
+
 pub close_is : (x : Scope) (came : List Arrival) (heard : Hearing) (t : Turn) (p : Path x came heard (applied t.after) t)
     → Closes x.place t.after (closing x.place t.after)
 close_is x came heard t p = close_by (leads x.place.nodes t.after.campaign && nat_le SLOTS (front_of t.after)) refl
@@ -227,7 +245,7 @@ close_is x came heard t p = close_by (leads x.place.nodes t.after.campaign && na
         subst (λ (y : Option Campaign). Closes x.place t.after (proposing x.place made (record t.after { campaign = y }))) (sym marked) (record {
           turn = whole;
           is = is_whole;
-          closed = proposes made (Some marked_campaign) new mine safe.slot promised none_stored same_log refl;
+          closed = proposes made (Some marked_campaign) new mine safe.slot promised none_stored left (record { heard = refl; ok = own_ok }) same_log refl;
           rest = rest;
         })
       where
@@ -269,7 +287,17 @@ close_is x came heard t p = close_by (leads x.place.nodes t.after.campaign && na
 
         counts : (counting_vote x.place x.place.node made.ballot made.slot made.command kept ≡ Ok (still (counted kept x.place.node made.ballot made.slot made.command)))
             × ((hearing t.after.learned x.place.node made.ballot made.slot made.command).log ≡ t.after.learned.log)
+            × IsOk (answer_to t.after.learned x.place.node made.ballot made.slot made.command)
         counts = counted_still x.place x.place.node made.ballot made.slot made.command kept (λ ahead. alone x came heard t p c made is ahead)
+
+        own_ok : IsOk (answer_to t.after.learned x.place.node made.ballot made.slot made.command)
+        own_ok = counts.2
+
+        left : front_of t.after < SLOTS
+        left = let l = leb-false SLOTS (front_of t.after) (none_left (has_quorum x.place.nodes c) (nat_le SLOTS (front_of t.after))
+            (ap (λ (y : Option Campaign). leads x.place.nodes y && nat_le SLOTS (front_of t.after)) (sym is.has) ∙ in_range)
+            (quorum_by (has_quorum x.place.nodes c) (is_covered c.first (front_of t.after)) (is_proposed c (front_of t.after))
+            (accept_of c (front_of t.after) (value_of (greatest_told c (front_of t.after) x.place.nodes) (own_value x.place t.after))) made is.made_so)) in omega (arith, l)
 
         same_log : (hearing t.after.learned x.place.node made.ballot made.slot made.command).log ≡ t.after.learned.log
         same_log = counts.1

@@ -24,7 +24,12 @@ use Rattle.node_rules.specs.Showing.{Piece}
 use Rattle.node_rules.specs.Calls as call
 use Rattle.node_rules.specs.Seen.{ballots_in}
 use Rattle.node_rules.specs.Sending.{Frame, one}
-use Rattle.node_rules.specs.Turns.{Turn, Refusal, still}
+use Rattle.node_rules.specs.Turns.{Turn, Refusal, Down, BadFrame, still}
+use Rattle.node_rules.specs.Accepting.{told_by, stored_in}
+use Rattle.node_rules.specs.Being.{IsTalk}
+use Rattle.node_rules.specs.LawsRefused.{RefusesUp}
+use Rattle.match_log.proofs.Examples.{two_players}
+use Rattle.seat_session.specs.declared.phase.Phase.TheVariants.{Ready as InPlay}
 use Rattle.node_rules.specs.LawsTick.{HasMet, IsGreatestRound, IsSpent, Ticks}
 use Rattle.node_rules.specs.LawsAnswers.{AnswersPrepare, AnswersAccept, accepts, IsAnswered}
 use Rattle.node_rules.specs.LawsAnswers as answers
@@ -166,7 +171,7 @@ unfolding opened nobody
 line_to_nobody (inl shown) = let clash : ◌≡◌ {A = List Piece} (first_line ∷ []) [] = shown.1 in cc
 line_to_nobody (inr (log, fits, added, shown)) = elim added [
   | inl none ↦ (let clash : ◌≡◌ {A = List Piece} (first_line ∷ []) [] = shown ∙ none.0 in cc)
-  | inr some ↦ (let clash : ◌≡◌ {A = List Piece} (first_line ∷ []) ((record { reader = Log; text = some.0 }) ∷ []) = shown ∙ some.1 in
+  | inr some ↦ (let clash : ◌≡◌ {A = List Piece} (first_line ∷ []) ((record { reader = Log; text = some.0 }) ∷ []) = shown ∙ some.2 in
       let readers : Seat 0 ≡ Log = ap (λ (l : List Piece). elim l [ [] ↦ Log | piece ∷ others ↦ piece.reader ]) clash in cc)
 ]
 
@@ -205,3 +210,30 @@ dropped_without_a_fault after events away (closes before last talk closed whole 
     ends_in : (xs : List (Result Said SessionFault)) (x : Result Said SessionFault) → [] ≡ xs ++ x ∷ [] → ⊥
     ends_in [] x e = cc
     ends_in (y ∷ ys) x e = cc
+
+-- a session in which a whole line waits for its answer stands nowhere between calls
+unanswered_line : (bytes : List ℕ) → IsTalk two_players 0 (record { phase = InPlay; waiting = 35 ∷ 10 ∷ [] }) bytes → ⊥
+unanswered_line bytes talk = talk.answered.one_line.1.0 refl
+
+-- ---- refusals
+
+-- a node that runs and says that it is down
+running_node_that_is_down : (from : ℕ) (bytes : List ℕ) → RefusesUp (call.Frame from bytes) Down → ⊥
+running_node_that_is_down from bytes (fault, read, why) = let clash : Down ≡ BadFrame fault = why in cc
+
+-- ---- the 64 slots
+
+-- a vote in the last of the 64 slots is told, the one behind it isn't
+last_slot_is_told : told_by (voted empty_store 63 (record { ballot = ballot 1 0; command = dealt 0 })) 0 ≡ (record { slot = 63; ballot = ballot 1 0; command = dealt 0 }) ∷ []
+unfolding opened
+last_slot_is_told = refl
+
+next_slot_is_not : told_by (voted empty_store 64 (record { ballot = ballot 1 0; command = dealt 0 })) 0 ≡ []
+unfolding opened
+next_slot_is_not = refl
+
+-- what a ballot has at a slot stays, another ballot's command doesn't
+stored_command : (stored_in (Some (record { ballot = ballot 1 0; command = dealt 0 })) (ballot 1 0) (dealt 1) ≡ dealt 0)
+    × (stored_in (Some (record { ballot = ballot 1 0; command = dealt 0 })) (ballot 2 0) (dealt 1) ≡ dealt 1)
+unfolding opened
+stored_command = (refl, refl)

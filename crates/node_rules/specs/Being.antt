@@ -18,6 +18,7 @@ use Rattle.proposer.specs.declared.campaign.Campaign.{Campaign}
 use Rattle.proposer.specs.Counted.{CountsFrom, CountsAll, MarksSent}
 use Rattle.learner.specs.Learning.{Learned}
 use Rattle.learner.specs.Counted.{CountsFrom as CountsVotesFrom, CountsAll as CountsAllVotes, KnowsChosen}
+use Rattle.seat_session.specs.Lines.{IsPartial}
 use Rattle.seat_session.specs.Session.{Standing as Talk, fresh, is_closed}
 use Rattle.seat_session.specs.Laws.{Event, joined, Happens, IsRestOf}
 use Rattle.dealer_kind.specs.Kind.{dealer_of}
@@ -92,9 +93,10 @@ abbrev pub IsPending : Dealer → ℕ → Node → List Command → Option Comma
 IsPending dealer i node before None = Unit {0}
 IsPending dealer i node before (Some act) = IsAtHand dealer i node act × (dealer.fits before act ≡ true)
 
--- a session goes on, and stands where the bytes that came since the seat connected lead to
+-- a session goes on, and stands where the bytes that came since the seat connected lead to; no whole line of them waits for its answer
 pub record IsTalk (game : Game) (seat : ℕ) (talk : Talk) (bytes : List ℕ) : Type 0 where
   pub goes_on : is_closed talk.phase ≡ false
+  pub answered : IsPartial talk.waiting
   pub rest : IsRestOf bytes talk
   pub events : List Event
   pub pieces : joined events ≡ bytes

@@ -1,6 +1,6 @@
 -- What each call shows, told by what came, by the commands that the node of the world knows and what it has heard of seats, and by which seats are
 -- connected, as its readers show it.
-use Rattle.std.specs.Prelude.{◌≡◌, ℕ, zero, suc, ◌+◌, ◌⊎◌, Bool, true, false, if◌then◌else◌, List, [], ◌∷◌, ◌++◌, length, reverse, Option, Some, None, Result, Ok, Err}
+use Rattle.std.specs.Prelude.{◌≡◌, ◌≢◌, ℕ, zero, suc, ◌+◌, ◌⊎◌, Bool, true, false, if◌then◌else◌, List, [], ◌∷◌, ◌++◌, length, reverse, Option, Some, None, Result, Ok, Err}
 use Rattle.slot_log.specs.declared.command.Command.{Command}
 use Rattle.protocol_model.specs.Dealers.{Dealer, Seat, Log}
 use Rattle.protocol_model.specs.Nodes.{Node, Knows}
@@ -43,7 +43,7 @@ lines_from dealer connected commands seat (suc more) =
 abbrev pub IsAdded : Dealer → List Command → Command → List Piece → Type 0
 IsAdded dealer before command pieces =
     ((pieces ≡ []) × (dealer.log (command ∷ before) ≡ dealer.log before))
-    ⊎ ((text : List ℕ) × (pieces ≡ (record { reader = Log; text = text }) ∷ []) × (dealer.log (command ∷ before) ≡ dealer.log before ++ text))
+    ⊎ ((text : List ℕ) × (text ≢ []) × (pieces ≡ (record { reader = Log; text = text }) ∷ []) × (dealer.log (command ∷ before) ≡ dealer.log before ++ text))
 
 -- a command that takes effect after those before it shows its line to each connected seat, in seat order, and then what it adds to the log; any other
 -- shows nothing

@@ -24,3 +24,6 @@ pub mod LawsBacking
 pub mod LawsShown
 pub mod LawsPending
 pub mod LawsSeats
+pub mod LawsRefused
+pub mod LawsVotes
+pub mod LawsCreated

@@ -6,10 +6,13 @@ ghost use Rattle.node_rules.specs.Outcomes.{PromisesMakeProposals, FrontIsUnknow
 ghost use Rattle.node_rules.specs.Sound.{TurnsAreChains, AppendsAreBegun, CallsAreSound, LinesAreRefusedDown};
 ghost use Rattle.node_rules.specs.LawsAnswers.{FramesAnswer};
 ghost use Rattle.node_rules.specs.LawsBacking.{SentIsBacked, BackedStaysSo};
+ghost use Rattle.node_rules.specs.LawsCreated.{CreatedIsNew};
 ghost use Rattle.node_rules.specs.LawsPending.{ActsWait, WaitingFits};
+ghost use Rattle.node_rules.specs.LawsRefused.{RefusalsHaveReasons};
 ghost use Rattle.node_rules.specs.LawsSeats.{PiecesAreHeard, OthersArePassedOver, ConnectBeginsAnew, DropEnds, SessionsStay, FaultsAreOfPieces, LivesAreWhole, AwayIsUnconnected};
 ghost use Rattle.node_rules.specs.LawsShown.{CallsShow, DownShowsNothing};
 ghost use Rattle.node_rules.specs.LawsTick.{TicksPrepare};
+ghost use Rattle.node_rules.specs.LawsVotes.{OwnVotesAreInTime};
 
 use dealer_kind::laws::answers_are_heard;
 use learner::laws::{
@@ -166,3 +169,23 @@ pub fn seats_are_heard()
     layers_below();
     any_pieces();
 }
+
+/// A call is refused for its reason alone: of a node that is down each but start and stop; of one that runs a tick where no round or no slot is left, and
+/// bytes that are no frame. In a reached world that holds what came no other command is ever known where one was chosen.
+pub fn refusals_have_reasons()
+    ensures { RefusalsHaveReasons }
+{
+    layers_below();
+}
+
+/// Of each proposal that a call sends the node has its own vote in time: it counts with those that come later.
+pub fn own_votes_are_in_time()
+    ensures { OwnVotesAreInTime }
+{
+    layers_below();
+}
+
+/// A node whose store was just made, and that is down, is one that the world has never started.
+pub fn created_is_new()
+    ensures { CreatedIsNew }
+{}

@@ -17,6 +17,6 @@ returns-in-Some-clause-taken g c s honest seen =
     let call = c.on_tick-answer in
     let before : Told = told_by c.out.inside.made in
     let there = seen_at d c.args.self.now c.self.inside (Some c.in-Some.up) s c.self.view_is c.in-Some.is seen in
-    let t = handled d c.self.inside.post c.self.inside.blank c.self.inside.disk c.in-Some.up call.new.self s Tick before (told_by call.new.out) call.result there call.ensures.unmade (call.ensures.handles s honest there.by) in
+    let t = handled d c.self.inside.post c.self.inside.blank c.self.inside.disk c.in-Some.up call.new.self s Tick before (told_by call.new.out) call.result there call.ensures.unmade (λ o done. done) (call.ensures.handles s honest there.by) in
     subst (λ (told : Told). Takes d Tick s c.args.self.now c.settle.new.self told (told_by call.new.out) c.settle.result) c.out.view_is
     (settled_at d c.args.self.now c.self.inside c.in-Some.up c.settle.new.self _ s Tick before (told_by call.new.out) c.settle.result call.result c.self.view_is c.in-Some.is c.settle.ensures.node c.settle.ensures.same t)
