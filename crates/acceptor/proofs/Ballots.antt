@@ -4,7 +4,7 @@ use Rattle.std.specs.Prelude.{nat_lt, ◌↔◌}
 use Rattle.std.proofs.lemmas.Bool.{ltb-true, ltb-false, lt-ltb, le-ltb, eqb-true, eqb-false, eq-eqb}
 use Rattle.paxos_wire.specs.declared.ballot.Ballot.{Ballot}
 use Rattle.protocol_model.specs.Ballots.{Below, AtMost}
-use Rattle.acceptor.specs.Answers.{is_below, is_same}
+use Rattle.paxos_wire.specs.Order.{is_below, is_same_ballot}
 
 below_by : (a b : Ballot) (x y z : Bool) → nat_lt a.round b.round ≡ x → (a.round == b.round) ≡ y → nat_lt a.node b.node ≡ z → (if x then true else if y then z else false) ≡ true → Below a b
 below_by a b true y z ex ey ez h = inl (ltb-true a.round b.round ex)
@@ -60,13 +60,13 @@ same_by a b true true ex ey h = λ i. record { round = eqb-true a.round b.round 
 same_by a b true false ex ey h = absurd (cc)
 same_by a b false y ex ey h = absurd (cc)
 
-pub is_same_means : (a b : Ballot) → is_same a b ≡ true → a ≡ b
+pub is_same_means : (a b : Ballot) → is_same_ballot a b ≡ true → a ≡ b
 is_same_means a b h = same_by a b _ _ refl refl h
 
-pub is_same_if : (a b : Ballot) → a ≡ b → is_same a b ≡ true
+pub is_same_if : (a b : Ballot) → a ≡ b → is_same_ballot a b ≡ true
 is_same_if a b e = rw (eq-eqb a.round b.round (ap (λ (x : Ballot). x.round) e)) (eq-eqb a.node b.node (ap (λ (x : Ballot). x.node) e))
 
-pub same_is_tested : (a b : Ballot) → (is_same a b ≡ true) ↔ (a ≡ b)
+pub same_is_tested : (a b : Ballot) → (is_same_ballot a b ≡ true) ↔ (a ≡ b)
 same_is_tested a b = (is_same_means a b, is_same_if a b)
 
 differ_by : (a b : Ballot) → AtMost a b → (x y : Bool) → (a.round == b.round) ≡ x → (a.node == b.node) ≡ y → (if x then y else false) ≡ false → Below a b
@@ -76,5 +76,5 @@ differ_by a b (inr same) true false ex ey h = let l = same.1 in let ne = eqb-fal
 differ_by a b (inr same) false y ex ey h = absurd (eqb-false a.round b.round ex same.0)
 
 -- of two that aren't the same the one that is at most the other is below it
-pub differ : (a b : Ballot) → AtMost a b → is_same a b ≡ false → Below a b
+pub differ : (a b : Ballot) → AtMost a b → is_same_ballot a b ≡ false → Below a b
 differ a b most h = differ_by a b most _ _ refl refl h

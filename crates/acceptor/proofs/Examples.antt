@@ -14,7 +14,7 @@ use Rattle.promise_store.specs.Keeping.{is_closed}
 use Rattle.acceptor.specs.declared.answers.PrepareAnswer.{PrepareAnswer}
 use Rattle.acceptor.specs.declared.answers.PrepareAnswer.TheVariants.{Promise, Refuse as RefusePrepare}
 use Rattle.acceptor.specs.declared.answers.AcceptAnswer.TheVariants.{Accepted, Refuse as RefuseAccept}
-use Rattle.acceptor.specs.Answers.{is_below, is_same, told_of, answer_to_prepare, refusal_of_prepare, prepared, AnswersPrepare, answer_to_accept, refusal_of_accept, accepted, AnswersAccept}
+use Rattle.acceptor.specs.Answers.{told_of, answer_to_prepare, refusal_of_prepare, prepared, AnswersPrepare, answer_to_accept, refusal_of_accept, accepted, AnswersAccept}
 use Rattle.acceptor.specs.Taken.{NeedsStore}
 
 abbrev ballot : ℕ → ℕ → Ballot
@@ -31,17 +31,6 @@ vote b c = record { ballot = b; command = c }
 
 abbrev entry : ℕ → Ballot → Command → Entry
 entry slot b c = record { slot = slot; ballot = b; command = c }
-
--- ---- ballots: by round, then by node
-
-pub later_round : is_below (ballot 1 4) (ballot 2 0) ≡ true
-later_round = refl
-
-pub not_itself : is_below (ballot 2 1) (ballot 2 1) ≡ false
-not_itself = refl
-
-pub other_node : is_same (ballot 2 1) (ballot 2 0) ≡ false
-other_node = refl
 
 -- ---- a store that promised (3, 1), and accepted at slots 9, 10, 73 and 74
 

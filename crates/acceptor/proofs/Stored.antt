@@ -16,7 +16,8 @@ use Rattle.promise_store.specs.Holding.{stored}
 use Rattle.promise_store.specs.Shown.{vote_pair, vote_ballot, placed_ballot}
 use Rattle.acceptor.specs.declared.answers.PrepareAnswer.TheVariants.{Promise}
 use Rattle.acceptor.specs.declared.answers.AcceptAnswer.TheVariants.{Accepted}
-use Rattle.acceptor.specs.Answers.{is_below, is_same, told_at, told_pair, told_from, told_of, command_found, stored_command, has_voted, command_in, answer_to_prepare, prepared, answer_to_accept, accepted}
+use Rattle.acceptor.specs.Answers.{told_at, told_pair, told_from, told_of, command_found, stored_command, has_voted, command_in, answer_to_prepare, prepared, answer_to_accept, accepted}
+use Rattle.paxos_wire.specs.Order.{is_below, is_same_ballot}
 use Rattle.acceptor.proofs.Ballots.{is_below_means, at_most_if_not}
 
 -- ---- answers of calls
@@ -57,23 +58,23 @@ pub none_stored : (b : Ballot) (p : Option Placed) (o : Option Vote) → placed_
 none_stored b p None e none = refl
 none_stored b p (Some v) e none = absurd (let wrong : None ≡ Some v.ballot = sym (ap placed_ballot none) ∙ e in cc)
 
-other_by : (b : Ballot) (v : Vote) (x : Bool) → is_same v.ballot b ≡ x → x ≡ false → None ≡ (if x then Some v.command else None)
+other_by : (b : Ballot) (v : Vote) (x : Bool) → is_same_ballot v.ballot b ≡ x → x ≡ false → None ≡ (if x then Some v.command else None)
 other_by b v true e h = absurd (cc)
 other_by b v false e h = refl
 
-pub other_stored : (b : Ballot) (p : Placed) (o : Option Vote) → Some p.ballot ≡ vote_ballot o → is_same p.ballot b ≡ false → None ≡ stored_command b o
+pub other_stored : (b : Ballot) (p : Placed) (o : Option Vote) → Some p.ballot ≡ vote_ballot o → is_same_ballot p.ballot b ≡ false → None ≡ stored_command b o
 other_stored b p None e h = refl
-other_stored b p (Some v) e h = let one : p.ballot ≡ v.ballot = cc in other_by b v (is_same v.ballot b) refl (sym (ap (λ (x : Ballot). is_same x b) one) ∙ h)
+other_stored b p (Some v) e h = let one : p.ballot ≡ v.ballot = cc in other_by b v (is_same_ballot v.ballot b) refl (sym (ap (λ (x : Ballot). is_same_ballot x b) one) ∙ h)
 
-this_by : (b : Ballot) (v : Vote) (x : Bool) → is_same v.ballot b ≡ x → x ≡ true → Some v.command ≡ (if x then Some v.command else None)
+this_by : (b : Ballot) (v : Vote) (x : Bool) → is_same_ballot v.ballot b ≡ x → x ≡ true → Some v.command ≡ (if x then Some v.command else None)
 this_by b v true e h = refl
 this_by b v false e h = absurd (cc)
 
-pub this_stored : (b : Ballot) (p : Placed) (o : Option Vote) (found : Option (Ballot × Command)) → Some p.ballot ≡ vote_ballot o → is_same p.ballot b ≡ true → found ≡ vote_pair o
+pub this_stored : (b : Ballot) (p : Placed) (o : Option Vote) (found : Option (Ballot × Command)) → Some p.ballot ≡ vote_ballot o → is_same_ballot p.ballot b ≡ true → found ≡ vote_pair o
     → command_found found ≡ stored_command b o
 this_stored b p None found e h is = absurd (cc)
 this_stored b p (Some v) found e h is =
-    let one : p.ballot ≡ v.ballot = cc in ap command_found is ∙ this_by b v (is_same v.ballot b) refl (sym (ap (λ (x : Ballot). is_same x b) one) ∙ h)
+    let one : p.ballot ≡ v.ballot = cc in ap command_found is ∙ this_by b v (is_same_ballot v.ballot b) refl (sym (ap (λ (x : Ballot). is_same_ballot x b) one) ∙ h)
 
 -- ---- a Prepare
 
@@ -82,7 +83,9 @@ PromisesMove = (store : Store) (ballot : Ballot) → Below store.promise ballot 
 
 pub prepared_is : PromisesMove → (held : Store) (b p : Ballot) → p ≡ held.promise → is_below p b ≡ true → prepared b held ≡ stored held (Promised b)
 prepared_is moves held b p same below =
-    let e : is_below held.promise b ≡ true = ap (λ (x : Ballot). is_below x b) (sym same) ∙ below in rw e (sym (moves held b (is_below_means held.promise b e)))
+    let e : is_below held.promise b ≡ true = ap (λ (x : Ballot). is_below x b) (sym same) ∙ below in
+    let raised : prepared b held ≡ promised held b = rw e refl in
+    raised ∙ sym (moves held b (is_below_means held.promise b e))
 
 pub promise_is : (held : Store) (b p : Ballot) (slot : ℕ) (told : List Entry) → p ≡ held.promise → is_below p b ≡ true → told ≡ told_of held slot
     → Promise b slot told ≡ answer_to_prepare b slot held
@@ -104,7 +107,7 @@ module _ (b : Ballot) (slot : ℕ) (c : Command) (held : Store) where
   was_in : (o : Option Vote) (s : Command) → Some s ≡ stored_command b o
       → (Accepted b slot s ≡ Accepted b slot (command_in o b c)) × ((if has_voted o b then held else voted held slot (record { ballot = b; command = c })) ≡ held)
   was_in None s e = absurd (cc)
-  was_in (Some v) s e = was_by v s (is_same v.ballot b) e
+  was_in (Some v) s e = was_by v s (is_same_ballot v.ballot b) e
 
   -- a vote of the ballot is there
   pub was_stored : (p : Ballot) (s : Command) → p ≡ held.promise → is_below b p ≡ false → Some s ≡ stored_command b (held.votes slot)
@@ -123,7 +126,7 @@ module _ (b : Ballot) (slot : ℕ) (c : Command) (held : Store) where
       → (Accepted b slot c ≡ Accepted b slot (command_in o b c))
       × ((if has_voted o b then held else voted held slot (record { ballot = b; command = c })) ≡ voted held slot (record { ballot = b; command = c }))
   new_in None e = (refl, refl)
-  new_in (Some v) e = new_by v (is_same v.ballot b) e
+  new_in (Some v) e = new_by v (is_same_ballot v.ballot b) e
 
   -- none is
   pub is_stored : VotesMove → (p : Ballot) → p ≡ held.promise → is_below b p ≡ false → None ≡ stored_command b (held.votes slot) → IsWithinPromise held

@@ -9,7 +9,8 @@ use Rattle.protocol_model.specs.Ballots.{Below, AtMost}
 use Rattle.protocol_model.specs.Messages.{Vote, Message, Prepare, Accept}
 use Rattle.protocol_model.specs.Stores.{Store, promised, voted, StoreMove, own_promise, promise, vote as vote_move}
 use Rattle.protocol_model.specs.Backing.{IsWithinPromise}
-use Rattle.acceptor.specs.Answers.{is_below, is_same, has_voted, command_in, prepared, accepted}
+use Rattle.acceptor.specs.Answers.{has_voted, command_in, prepared, accepted}
+use Rattle.paxos_wire.specs.Order.{is_below, is_same_ballot}
 use Rattle.acceptor.specs.Laws.{IsPromised, IsNotPromised, IsAccepted, IsNotAccepted}
 use Rattle.acceptor.proofs.Ballots.{is_below_means, is_below_if, is_below_not, at_most_if_not, not_below, at_most_below, at_most_itself, at_most_trans, is_same_means, is_same_if, differ}
 
@@ -37,21 +38,21 @@ module _ (b : Ballot) (slot : ℕ) (c : Command) (store : Store) where
   there : (voted store slot (new_vote b c)).votes slot ≡ Some (new_vote b c)
   there = rw (eq-eqb slot slot refl) refl
 
-  stored_some : (v : Vote) (x : Bool) → store.votes slot ≡ Some v → is_same v.ballot b ≡ x
+  stored_some : (v : Vote) (x : Bool) → store.votes slot ≡ Some v → is_same_ballot v.ballot b ≡ x
       → (let s : Store = if x then store else voted store slot (new_vote b c) in s.votes slot) ≡ Some (new_vote b (if x then v.command else c))
   stored_some v true e same = e ∙ ap (λ (k : Ballot). Some (new_vote k v.command)) (is_same_means v.ballot b same)
   stored_some v false e same = there
 
   stored_by : (o : Option Vote) → store.votes slot ≡ o → (stored_with o).votes slot ≡ Some (new_vote b (command_in o b c))
   stored_by None e = there
-  stored_by (Some v) e = stored_some v (is_same v.ballot b) e refl
+  stored_by (Some v) e = stored_some v (is_same_ballot v.ballot b) e refl
 
   abbrev IsOnce : Option Vote → Type 0
   IsOnce o =
       (stored_with o ≡ store)
       ⊎ ((stored_with o ≡ voted store slot (new_vote b c)) × (command_in o b c ≡ c) × ((v : Vote) → store.votes slot ≡ Some v → v.ballot ≡ b → ⊥))
 
-  once_some : (v : Vote) (x : Bool) → store.votes slot ≡ Some v → is_same v.ballot b ≡ x
+  once_some : (v : Vote) (x : Bool) → store.votes slot ≡ Some v → is_same_ballot v.ballot b ≡ x
       → ((if x then store else voted store slot (new_vote b c)) ≡ store)
       ⊎ (((if x then store else voted store slot (new_vote b c)) ≡ voted store slot (new_vote b c)) × ((if x then v.command else c) ≡ c)
       × ((w : Vote) → store.votes slot ≡ Some w → w.ballot ≡ b → ⊥))
@@ -60,7 +61,7 @@ module _ (b : Ballot) (slot : ℕ) (c : Command) (store : Store) where
 
   once_by : (o : Option Vote) → store.votes slot ≡ o → IsOnce o
   once_by None e = inr (refl, refl, λ v f one. absurd (cc))
-  once_by (Some v) e = once_some v (is_same v.ballot b) e refl
+  once_by (Some v) e = once_some v (is_same_ballot v.ballot b) e refl
 
   pub accepts_at_most : AtMost store.promise b → IsAccepted b slot c store
   accepts_at_most most =
@@ -95,9 +96,9 @@ accepts_are_moves node has b slot c store had = accepts_by node has b slot c sto
 abbrev Stands : Store → ℕ → Vote → Type 0
 Stands store other v = (later : Vote) × (store.votes other ≡ Some later) × ((later ≡ v) ⊎ Below v.ballot later.ballot)
 
-unvoted : (o : Option Vote) (v : Vote) (b : Ballot) → o ≡ Some v → has_voted o b ≡ false → is_same v.ballot b ≡ false
+unvoted : (o : Option Vote) (v : Vote) (b : Ballot) → o ≡ Some v → has_voted o b ≡ false → is_same_ballot v.ballot b ≡ false
 unvoted None v b e h = absurd (cc)
-unvoted (Some w) v b e h = let one : w ≡ v = cc in sym (ap (λ (u : Vote). is_same u.ballot b) one) ∙ h
+unvoted (Some w) v b e h = let one : w ≡ v = cc in sym (ap (λ (u : Vote). is_same_ballot u.ballot b) one) ∙ h
 
 stands_by : (b : Ballot) (slot : ℕ) (c : Command) (store : Store) (other : ℕ) (v : Vote) (x y : Bool) → is_below b store.promise ≡ x → has_voted (store.votes slot) b ≡ y
     → IsWithinPromise store → store.votes other ≡ Some v

@@ -11,13 +11,7 @@ use Rattle.acceptor.specs.declared.answers.PrepareAnswer.{PrepareAnswer}
 use Rattle.acceptor.specs.declared.answers.PrepareAnswer.TheVariants.{Promise, Refuse as RefusePrepare}
 use Rattle.acceptor.specs.declared.answers.AcceptAnswer.{AcceptAnswer}
 use Rattle.acceptor.specs.declared.answers.AcceptAnswer.TheVariants.{Accepted, Refuse as RefuseAccept}
-
--- the test of the order of ballots: by round, then by node
-abbrev pub is_below : Ballot → Ballot → Bool
-is_below a b = if nat_lt a.round b.round then true else if a.round == b.round then nat_lt a.node b.node else false
-
-abbrev pub is_same : Ballot → Ballot → Bool
-is_same a b = if a.round == b.round then a.node == b.node else false
+use Rattle.paxos_wire.specs.Order.{is_below, is_same_ballot}
 
 -- ---- what is read of a store
 
@@ -33,7 +27,7 @@ command_found (Some found) = Some found.1
 -- the command of a vote of this very ballot
 abbrev pub stored_command : Ballot → Option Vote → Option Command
 stored_command ballot None = None
-stored_command ballot (Some vote) = if is_same vote.ballot ballot then Some vote.command else None
+stored_command ballot (Some vote) = if is_same_ballot vote.ballot ballot then Some vote.command else None
 
 -- ---- a Prepare
 
@@ -73,12 +67,12 @@ AnswersPrepare ballot slot (RefusePrepare b s promise) = (b ≡ ballot) × (s �
 -- the slot has a vote of this ballot
 abbrev pub has_voted : Option Vote → Ballot → Bool
 has_voted None ballot = false
-has_voted (Some vote) ballot = is_same vote.ballot ballot
+has_voted (Some vote) ballot = is_same_ballot vote.ballot ballot
 
 -- the command that is accepted: that of the vote, where there is one of the ballot already
 abbrev pub command_in : Option Vote → Ballot → Command → Command
 command_in None ballot command = command
-command_in (Some vote) ballot command = if is_same vote.ballot ballot then vote.command else command
+command_in (Some vote) ballot command = if is_same_ballot vote.ballot ballot then vote.command else command
 
 -- a proposal of no ballot below what it promised is accepted
 abbrev pub answer_to_accept : Ballot → ℕ → Command → Store → AcceptAnswer

@@ -10,14 +10,15 @@ use Rattle.protocol_model.specs.Stores.{Store, promised, voted, Tells, StoreMove
 use Rattle.protocol_model.specs.Backing.{IsWithinPromise}
 use Rattle.acceptor.specs.declared.answers.PrepareAnswer.TheVariants.{Promise, Refuse as RefusePrepare}
 use Rattle.acceptor.specs.declared.answers.AcceptAnswer.TheVariants.{Accepted, Refuse as RefuseAccept}
-use Rattle.acceptor.specs.Answers.{is_below, is_same, told_of, answer_to_prepare, prepared, command_in, answer_to_accept, accepted}
+use Rattle.acceptor.specs.Answers.{told_of, answer_to_prepare, prepared, command_in, answer_to_accept, accepted}
+use Rattle.paxos_wire.specs.Order.{is_below, is_same_ballot}
 
 -- the tests tell the order of ballots, and whether two are the same
 abbrev pub BelowIsTested : Type 0
 BelowIsTested = (a b : Ballot) → (is_below a b ≡ true) ↔ Below a b
 
 abbrev pub SameIsTested : Type 0
-SameIsTested = (a b : Ballot) → (is_same a b ≡ true) ↔ (a ≡ b)
+SameIsTested = (a b : Ballot) → (is_same_ballot a b ≡ true) ↔ (a ≡ b)
 
 -- ---- what a promise tells
 

@@ -6,7 +6,7 @@ ghost use Rattle.promise_store.specs.Room.{promised_in, room, ShowSame};
 ghost use Rattle.acceptor.specs.Answers.{answer_to_prepare, refusal_of_prepare, prepared, AnswersPrepare, answer_to_accept, refusal_of_accept, accepted, AnswersAccept};
 
 use crate::answers::{AcceptAnswer, PrepareAnswer};
-use crate::telling::{entries_from, is_below, stored_in};
+use crate::telling::{entries_from, stored_in};
 use paxos_wire::Ballot;
 use promise_store::laws::{records_are_moves, what_is_kept_is_left};
 use promise_store::{Disk, Store, StoreFault};
@@ -87,7 +87,7 @@ impl<D: Disk> Acceptor<D> {
         records_are_moves();
         what_is_kept_is_left::<D>();
         let promised = self.store.held().promised();
-        if !is_below(promised, ballot) {
+        if !promised.is_below(ballot) {
             return Ok(PrepareAnswer::Refuse {
                 ballot,
                 slot,
@@ -147,7 +147,7 @@ impl<D: Disk> Acceptor<D> {
         records_are_moves();
         what_is_kept_is_left::<D>();
         let promised = self.store.held().promised();
-        if is_below(ballot, promised) {
+        if ballot.is_below(promised) {
             return Ok(AcceptAnswer::Refuse {
                 ballot,
                 slot,

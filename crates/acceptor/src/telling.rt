@@ -3,27 +3,13 @@ ghost use Rattle.paxos_wire.specs.Fits.{IsSlot, IsInRange, IsEntry, AreEntries};
 ghost use Rattle.promise_store.specs.declared.fault.StoreFault.TheVariants.{Closed};
 ghost use Rattle.promise_store.specs.Keeping.{is_closed};
 ghost use Rattle.promise_store.specs.Shown.{vote_pair};
-ghost use Rattle.acceptor.specs.Answers.{is_below, is_same, told_of, told_pair, command_found, stored_command};
+ghost use Rattle.acceptor.specs.Answers.{told_of, told_pair, command_found, stored_command};
 ghost use Rattle.acceptor.specs.Taken.{Read};
 
 use paxos_wire::limits::WINDOW;
 use paxos_wire::{Ballot, Entries, Entry};
 use promise_store::{Disk, Store, StoreFault};
 use slot_log::Command;
-
-/// Whether the first ballot is below the second.
-pub(crate) fn is_below(a: Ballot, b: Ballot) -> bool
-    ensures { result ≡ is_below a b }
-{
-    a.round < b.round || a.round == b.round && a.node < b.node
-}
-
-/// Whether two ballots are the same.
-pub(crate) fn is_same(a: Ballot, b: Ballot) -> bool
-    ensures { result ≡ is_same a b }
-{
-    a.round == b.round && a.node == b.node
-}
 
 /// Reads what was accepted at a slot.
 fn vote_at<D: Disk>(
@@ -91,7 +77,7 @@ pub(crate) fn stored_in<D: Disk>(
     let Some(placed) = store.held().find(slot) else {
         return Ok(None);
     };
-    if !is_same(placed.ballot, ballot) {
+    if !placed.ballot.is_same(ballot) {
         return Ok(None);
     }
     let found = vote_at(store, slot)?;

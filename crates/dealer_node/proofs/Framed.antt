@@ -11,7 +11,7 @@ use Rattle.promise_store.specs.declared.disk.Disk.{Ghosts}
 use Rattle.promise_store.specs.Keeping.{Keeps}
 use Rattle.acceptor.specs.Stored.{store_of}
 use Rattle.protocol_model.specs.Stores.{Store}
-use Rattle.proposer.specs.Told.{is_below}
+use Rattle.paxos_wire.specs.Order.{is_below}
 use Rattle.proposer.specs.declared.campaign.Campaign.{Campaign}
 use Rattle.learner.specs.Learning.{Learned, answer_to, hearing as hearing_vote, answer_to_chosen, believing as with_chosen}
 use Rattle.node_rules.specs.Standings.{Place, Standing, front_of, idle}

@@ -14,7 +14,8 @@ use Rattle.proposer.specs.declared.accept.Accept.{Accept}
 use Rattle.proposer.specs.declared.campaign.Campaign.{Campaign}
 use Rattle.proposer.specs.declared.fault.ProposeFault.{ProposeFault}
 use Rattle.proposer.specs.declared.fault.ProposeFault.TheVariants.{OutOfWindow}
-use Rattle.proposer.specs.Told.{is_below, better, best_in, best_after}
+use Rattle.proposer.specs.Told.{better, best_in, best_after}
+use Rattle.paxos_wire.specs.Order.{is_below}
 use Rattle.proposer.specs.Campaigns.{Proposing, next_ballot, new_campaign, with_promise, counting, counting_from, has_quorum, leads, is_covered, is_proposed, promise_by, greatest_told, value_of, accept_of, proposal_from, marked_from}
 use Rattle.learner.specs.Learning.{Learned}
 use Rattle.node_rules.specs.Standings.{Standing, applied, front_of, idle}

@@ -16,7 +16,7 @@ use Rattle.promise_store.specs.declared.fault.StoreFault.TheVariants.{Disk, OutO
 use Rattle.promise_store.specs.Keeping.{disk_of, Keeps, Leaves, LeavesDuring}
 use Rattle.protocol_model.specs.Messages.{Vote}
 use Rattle.protocol_model.specs.Stores.{Store, promised, voted}
-use Rattle.proposer.specs.Told.{is_below}
+use Rattle.paxos_wire.specs.Order.{is_below}
 use Rattle.proposer.specs.declared.accept.Accept.{Accept}
 use Rattle.proposer.specs.declared.campaign.Campaign.{Campaign}
 use Rattle.learner.specs.Learning.{Learned, answer_to, hearing as hearing_vote}

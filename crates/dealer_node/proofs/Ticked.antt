@@ -14,7 +14,7 @@ use Rattle.protocol_model.specs.Stores.{Store, promised}
 use Rattle.proposer.specs.declared.accept.Accept.{Accept}
 use Rattle.proposer.specs.declared.campaign.Campaign.{Campaign}
 use Rattle.proposer.specs.declared.fault.ProposeFault.{ProposeFault}
-use Rattle.proposer.specs.Told.{is_below}
+use Rattle.paxos_wire.specs.Order.{is_below}
 use Rattle.proposer.specs.Campaigns.{next_ballot, new_campaign, with_promise, is_counted, has_quorum, is_covered, is_proposed, accept_of, value_of, greatest_told, with_mark}
 use Rattle.proposer.specs.declared.fault.ProposeFault.TheVariants.{OutOfWindow}
 use Rattle.acceptor.specs.declared.answers.PrepareAnswer.{PrepareAnswer}

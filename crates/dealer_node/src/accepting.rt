@@ -3,7 +3,7 @@
 ghost use Rattle.std.specs.Prelude.{◌≡◌, ℕ, ◌+◌, ◌≤◌, false, IsTrue, IfSome, Ok};
 ghost use Rattle.paxos_wire.specs.Fits.{Fits, IsBallot, IsSlot, IsInRange};
 ghost use Rattle.paxos_wire.specs.declared.message.Message.TheVariants.{Accept as Proposing};
-ghost use Rattle.proposer.specs.Told.{is_below};
+ghost use Rattle.paxos_wire.specs.Order.{is_below};
 ghost use Rattle.node_rules.specs.Standings.{Standing};
 ghost use Rattle.node_rules.specs.Accepting.{preparing, accepting, voting};
 ghost use Rattle.node_rules.specs.Proposing.{proposing, closing};
@@ -24,13 +24,6 @@ use paxos_wire::Ballot;
 use promise_store::Disk;
 use proposer::Accept;
 use slot_log::Command;
-
-/// Whether a ballot is below another.
-fn is_below(one: Ballot, other: Ballot) -> bool
-    ensures { result ≡ is_below one other }
-{
-    one.round < other.round || one.round == other.round && one.node < other.node
-}
 
 impl<D: Disk + Drop> Up<D> {
     ghost use Rattle.dealer_node.specs.Working.{IsUp, Works, GoesOn, store_room};
@@ -137,7 +130,7 @@ impl<D: Disk + Drop> Up<D> {
         ensures left { (need : Needs) (votes frames : ℕ) → HasLeft self.old.running made.old need (votes + 1) (frames + 64) → HasLeft self.new.running made.new need votes frames }
     {
         let promised = self.acceptor.promised();
-        if is_below(ballot, promised) {
+        if ballot.is_below(promised) {
             send_refusal(&mut made.frames, from, ballot, slot, promised);
             return Ok(());
         }

@@ -6,7 +6,8 @@ use Rattle.betting.specs.declared.action.Action.TheVariants.{Fold}
 use Rattle.match_log.specs.Check.{said_text}
 use Rattle.match_log.specs.Numeral.{IsDecimal, IsWhole}
 use Rattle.match_log.specs.Payoffs.{total_of}
-use Rattle.match_log.specs.Reading.{IsFreeOf, MayBeSeats, Fields, AreApart, AreOfHand, AreKnown, AreNamed, HasSaid, IsNext}
+use Rattle.matchstate.specs.Free.{IsFreeOf}
+use Rattle.match_log.specs.Reading.{MayBeSeats, Fields, AreApart, AreOfHand, AreKnown, AreNamed, HasSaid, IsNext}
 use Rattle.match_log.specs.declared.checked.Checked.{Checked}
 use Rattle.match_log.proofs.Examples.{opened, two_players, alice_and_bob, ten_ace, two_names}
 use Rattle.match_log.proofs.VerdictExamples.{folded_hand, hand_played}

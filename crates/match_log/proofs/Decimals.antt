@@ -12,7 +12,7 @@ use Rattle.std.proofs.lemmas.Int.Digits.{digits_value_more}
 use Rattle.std.proofs.Math.Nat.{add-mul-mod_self_left, div-add-mod}
 use Rattle.match_log.specs.Lines.{names_field}
 use Rattle.match_log.specs.Numeral.{IsDecimal, IsWhole}
-use Rattle.match_log.specs.Reading.{IsFreeOf}
+use Rattle.matchstate.specs.Free.{IsFreeOf}
 
 abbrev AreDigits : List ℕ → Type 0
 AreDigits text = AllByRecursion (λ byte. is_ascii_digit byte ≡ true) text

@@ -11,7 +11,7 @@ use Rattle.betting.specs.declared.action.Action.{Action}
 use Rattle.betting.specs.declared.action.Action.TheVariants.{Fold, Call, Raise}
 use Rattle.betting.specs.Text.{text, action_text}
 use Rattle.match_log.specs.Names.{IsName, IsGameWord, is_name_byte}
-use Rattle.match_log.specs.Reading.{IsFreeOf}
+use Rattle.matchstate.specs.Free.{IsFreeOf}
 
 pub free_append : (byte : ℕ) (xs ys : List ℕ) → IsFreeOf byte xs → IsFreeOf byte ys → IsFreeOf byte (xs ++ ys)
 free_append byte [] ys free others = others

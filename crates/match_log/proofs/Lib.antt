@@ -9,7 +9,6 @@ pub mod Settling
 pub mod ByPosition
 pub mod BestOfCards
 pub mod Examples
-pub mod Cutting
 pub mod Pieces
 pub mod Decimals
 pub mod Free

@@ -5,7 +5,7 @@ use Rattle.std.proofs.lemmas.List.{append-nil, drop_more, take_more_set, length-
 use Rattle.std.proofs.lemmas.List.Concat.{flat_map-append}
 use Rattle.match_log.specs.Lines.{names_field}
 use Rattle.match_log.specs.Names.{IsName}
-use Rattle.match_log.specs.Reading.{IsFreeOf}
+use Rattle.matchstate.specs.Free.{IsFreeOf}
 use Rattle.match_log.proofs.Free.{name_free}
 
 -- names with | behind each

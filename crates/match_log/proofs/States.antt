@@ -18,7 +18,8 @@ use Rattle.match_log.specs.Lines.{names_field, values_field, shown_cards, state_
 use Rattle.match_log.specs.Names.{IsName, AreNames, names_by_position}
 use Rattle.match_log.specs.Numeral.{IsWhole}
 use Rattle.match_log.specs.Payoffs.{payoffs_of}
-use Rattle.match_log.specs.Reading.{IsFreeOf, Fields, joined, AreApart, AreOfHand, MayBeSeats, AreKnown, AreNamed}
+use Rattle.matchstate.specs.Free.{IsFreeOf}
+use Rattle.match_log.specs.Reading.{Fields, joined, AreApart, AreOfHand, MayBeSeats, AreKnown, AreNamed}
 use Rattle.match_log.proofs.Decimals.{decimal_free, whole_free}
 use Rattle.match_log.proofs.Free.{free_append, name_free, betting_free}
 

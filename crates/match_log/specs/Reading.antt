@@ -1,5 +1,6 @@
 -- What is read from a log, piece by piece.
-use Rattle.std.specs.Prelude.{◌≡◌, ◌≢◌, ℕ, List, [], ◌∷◌, ◌++◌, length, take, codes, Option, Some, None}
+use Rattle.std.specs.Prelude.{◌≡◌, ℕ, List, [], ◌∷◌, ◌++◌, length, take, codes, Option, Some, None}
+use Rattle.matchstate.specs.Free.{IsFreeOf}
 use Rattle.std.specs.List.{AllByRecursion}
 use Rattle.game_def.specs.Game.{Game}
 use Rattle.slot_log.specs.Hand.{Hand}
@@ -11,10 +12,6 @@ use Rattle.match_log.specs.Lines.{shown_cards, with_bars, names_field, state_lin
 use Rattle.match_log.specs.Tally.{IsTallyOf}
 use Rattle.match_log.specs.declared.checked.Checked.{Checked}
 use Rattle.match_log.specs.declared.state_fields.StateFields.{StateFields}
-
--- no such byte stands in the text
-abbrev pub IsFreeOf : ℕ → List ℕ → Type 0
-IsFreeOf byte text = AllByRecursion (λ other. other ≢ byte) text
 
 -- the fields of a hand's line
 pub record Fields : Type 0 where

@@ -13,7 +13,7 @@
 
 mod checked;
 mod checking;
-mod cut;
+mod front;
 mod dealt;
 mod fault;
 mod fault_kind;

@@ -4,7 +4,8 @@ ghost use Rattle.match_log.specs.Lines.{header_line};
 ghost use Rattle.match_log.specs.Check.{HasTitle};
 ghost use Rattle.match_log.specs.Log.{Title};
 
-use crate::cut::{after, cut};
+use crate::front::after;
+use matchstate::cut;
 use crate::game_word::is_game_word;
 use crate::name::is_name;
 use matchstate::{put, put_number, read_number};

@@ -3,7 +3,7 @@ ghost use Rattle.std.specs.List.{AllByRecursion};
 ghost use Rattle.match_log.specs.Lines.{names_field};
 ghost use Rattle.match_log.specs.Names.{IsName};
 
-use crate::cut::cut;
+use matchstate::cut;
 use crate::name::Name;
 
 /// The names by position, in the places in front.

@@ -5,7 +5,7 @@ ghost use Rattle.std.specs.Str.Parse.{digits_value};
 ghost use Rattle.match_log.specs.Numeral.{IsDecimal, IsWhole};
 ghost use Rattle.match_log.specs.Lines.{with_bars};
 
-use crate::cut::cut;
+use matchstate::cut;
 
 /// Whether a text is a decimal, however long.
 pub(crate) fn is_decimal(bytes: &[u8]) -> bool

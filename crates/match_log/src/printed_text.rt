@@ -2,7 +2,7 @@ ghost use Rattle.std.specs.Prelude.{◌≡◌, ℕ, ◌++◌, ◌↔◌, List, I
 ghost use Rattle.std.specs.Fmt.{signed_decimal};
 ghost use Rattle.match_log.specs.Lines.{bar_before, values_field, names_field, score_text};
 
-use crate::cut::after;
+use crate::front::after;
 use crate::name::Name;
 use itoa::Buffer;
 

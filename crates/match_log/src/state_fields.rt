@@ -2,7 +2,8 @@ ghost use Rattle.std.specs.Prelude.{◌≡◌, ℕ, List, take, IfSome, IsSomeAn
 ghost use Rattle.slot_log.specs.Hand.{Hand};
 ghost use Rattle.match_log.specs.Reading.{Fields, fields_in, joined, AreApart, AreOfHand};
 
-use crate::cut::{after, cut};
+use crate::front::after;
+use matchstate::cut;
 use crate::name::Name;
 use crate::names_text::read_names;
 use crate::numeral::{are_values, is_decimal};

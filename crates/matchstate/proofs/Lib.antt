@@ -13,7 +13,7 @@ pub mod Examples
 pub mod Joined
 pub mod Parts
 pub mod Dealt
-pub mod Cutting
+pub mod Fronts
 pub mod Sighted
 pub mod Filled
 pub mod Shown

@@ -1,5 +1,6 @@
 pub mod Cards
 pub mod View
+pub mod Free
 pub mod Line
 pub mod Laws
 pub mod SeenCards

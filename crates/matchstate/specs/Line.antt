@@ -1,7 +1,7 @@
 -- The server's line of the ACPC protocol 2.0.0: MATCHSTATE:position:hand:betting:cards.
-use Rattle.std.specs.Prelude.{◌≡◌, ◌≢◌, ℕ, ◌<◌, ◌≤◌, List, [], ◌∷◌, ◌++◌, Option, Result, Ok, Err, codes, decimal}
+use Rattle.std.specs.Prelude.{◌≡◌, ℕ, ◌<◌, ◌≤◌, List, [], ◌∷◌, ◌++◌, Option, Result, Ok, Err, codes, decimal}
 use Rattle.std.specs.Option.{option_map, option_to_list}
-use Rattle.std.specs.List.{AllByRecursion, flat_map}
+use Rattle.std.specs.List.{flat_map}
 use Rattle.game_def.specs.Game.{Game}
 use Rattle.betting.specs.declared.action.Action.{Action}
 use Rattle.betting.specs.Text.{text}
@@ -9,6 +9,7 @@ use Rattle.betting.specs.Legal.{Legal}
 use Rattle.slot_log.specs.Hand.{Hand}
 use Rattle.slot_log.specs.declared.command.Command.{Command}
 use Rattle.slot_log.specs.Dealer.{hands_of}
+use Rattle.matchstate.specs.Free.{IsFreeOf}
 use Rattle.matchstate.specs.Cards.{cards_field, AreSeen}
 use Rattle.matchstate.specs.View.{View, seat_view, last_hand, sees, rounds_seen}
 use Rattle.matchstate.specs.declared.line_fault.LineFault.{LineFault}
@@ -27,7 +28,7 @@ joined fields = codes "MATCHSTATE:" ++ (fields.position ++ 58 ∷ (fields.hand +
 
 -- no : stands in a field
 abbrev pub IsField : List ℕ → Type 0
-IsField bytes = AllByRecursion (λ byte. byte ≢ 58) bytes
+IsField bytes = IsFreeOf 58 bytes
 
 -- the text is the word and four fields
 pub record HasFields (bytes : List ℕ) (fields : Fields) : Type 0 where

@@ -8,7 +8,8 @@ use crate::betting_field::{BettingText, read_betting};
 use crate::bytes::put;
 use crate::cards_field::put_seen;
 use crate::line_fault::LineFault;
-use crate::line_fields::{LineFields, cut_field, is_field};
+use crate::cutting::cut;
+use crate::line_fields::LineFields;
 use crate::number::{put_number, read_number};
 use crate::seating::position_of;
 use crate::seen_cards::SeenCards;
@@ -166,10 +167,10 @@ fn fields_of(bytes: &[u8]) -> Option<LineFields<'_>>
     ensures only { (fields : Fields) → HasFields bytes.now fields → IsSomeAnd result (λ found. fields_in found ≡ fields) }
 {
     let rest = after_word(bytes)?;
-    let (position, rest) = cut_field(rest)?;
-    let (hand, rest) = cut_field(rest)?;
-    let (betting, cards) = cut_field(rest)?;
-    if !is_field(cards) {
+    let (position, rest) = cut(rest, b':')?;
+    let (hand, rest) = cut(rest, b':')?;
+    let (betting, cards) = cut(rest, b':')?;
+    if cut(cards, b':').is_some() {
         return None;
     }
     Some(LineFields {

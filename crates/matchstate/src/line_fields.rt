@@ -11,18 +11,6 @@ pub(crate) struct LineFields<'a> {
     pub(crate) cards: &'a [u8],
 }
 
-/// The field in front of the first `:`, and what stands behind it.
-pub(crate) fn cut_field(bytes: &[u8]) -> Option<(&[u8], &[u8])>
-    ensures found { IfSome result (λ cut. (bytes.now ≡ cut.0.now ++ 58 ∷ cut.1.now) × IsField cut.0.now) }
-    ensures only { (field rest : List ℕ) → IsField field → bytes.now ≡ field ++ 58 ∷ rest → IsSomeAnd result (λ cut. (cut.0.now ≡ field) × (cut.1.now ≡ rest)) }
-{
-    let (field, behind) = bytes.split_at(field_len(bytes));
-    match behind {
-        [_, rest @ ..] => Some((field, rest)),
-        _ => None,
-    }
-}
-
 /// What stands in front of the last `:`, and the field behind it.
 pub(crate) fn cut_last_field(bytes: &[u8]) -> Option<(&[u8], &[u8])>
     ensures found { IfSome result (λ cut. (bytes.now ≡ cut.0.now ++ 58 ∷ cut.1.now) × IsField cut.1.now) }
@@ -43,24 +31,4 @@ fn last_colon(bytes: &[u8]) -> Option<usize>
         }
     }
     None
-}
-
-/// Whether no `:` stands in a text.
-pub(crate) fn is_field(bytes: &[u8]) -> bool
-    ensures { IsTrue result ↔ IsField bytes.now }
-{
-    field_len(bytes) == bytes.len()
-}
-
-/// How many bytes stand before the first `:`.
-fn field_len(bytes: &[u8]) -> usize
-    ensures value { result ≡ prefix_len (λ byte. not (byte == 58)) bytes.now }
-    ensures within { result ≤ length bytes.now }
-{
-    for (place, byte) in bytes.iter().enumerate() {
-        if *byte == b':' {
-            return place;
-        }
-    }
-    bytes.len()
 }

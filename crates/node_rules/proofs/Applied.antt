@@ -15,7 +15,7 @@ use Rattle.matchstate.specs.View.{View, seat_view}
 use Rattle.matchstate.specs.Line.{line_text}
 use Rattle.match_log.specs.Further.{further_lines}
 use Rattle.protocol_model.specs.Dealers.{Dealer, Log as ToLog}
-use Rattle.proposer.specs.Told.{is_below}
+use Rattle.paxos_wire.specs.Order.{is_below}
 use Rattle.learner.specs.Learning.{Learned, is_open, is_other, completes, answer_to, hearing, counting, knowing, answer_to_chosen, believing as with_chosen}
 use Rattle.seat_session.specs.Session.{Standing as Talk}
 use Rattle.dealer_kind.specs.Kind.{Setting, hands_after, fits, line_of, log_of, dealer_of}

@@ -12,7 +12,7 @@ use Rattle.protocol_model.specs.Nodes.{Node}
 use Rattle.protocol_model.specs.Arrivals.{Arrival}
 use Rattle.protocol_model.specs.Moves.{asks, tells}
 use Rattle.proposer.specs.declared.campaign.Campaign.{Campaign}
-use Rattle.proposer.specs.Told.{is_below}
+use Rattle.paxos_wire.specs.Order.{is_below}
 use Rattle.proposer.specs.Campaigns.{refused_from}
 use Rattle.node_rules.specs.Standings.{Standing, applied, front_of}
 use Rattle.node_rules.specs.Sending.{one}

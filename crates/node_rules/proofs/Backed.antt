@@ -14,8 +14,8 @@ use Rattle.protocol_model.specs.Dealers.{Dealer}
 use Rattle.protocol_model.specs.Nodes.{Node}
 use Rattle.protocol_model.specs.Worlds.{World, Reached, new_world}
 use Rattle.protocol_model.specs.Laws.{IsLeft}
-use Rattle.proposer.specs.Told.{is_below}
-use Rattle.proposer.specs.Campaigns.{next_ballot, is_same_ballot}
+use Rattle.paxos_wire.specs.Order.{is_below, is_same_ballot}
+use Rattle.proposer.specs.Campaigns.{next_ballot}
 use Rattle.learner.specs.Learning.{Learned, answer_to, hearing, answer_to_chosen, believing as with_chosen}
 use Rattle.seat_session.specs.Session.{Standing as Talk}
 use Rattle.seat_session.specs.declared.said.Said.{Said as Saying}

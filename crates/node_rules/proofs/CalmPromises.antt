@@ -11,7 +11,8 @@ use Rattle.protocol_model.specs.Ballots.{AtMost}
 use Rattle.protocol_model.specs.Messages.{Vote, entry_of, vote_of}
 use Rattle.protocol_model.specs.Stores.{Store}
 use Rattle.proposer.specs.declared.campaign.Campaign.{Campaign}
-use Rattle.proposer.specs.Campaigns.{promise_by, new_campaign, has_promised, has_quorum, is_same_ballot, is_counted, with_promise, greatest_told, value_of}
+use Rattle.proposer.specs.Campaigns.{promise_by, new_campaign, has_promised, has_quorum, is_counted, with_promise, greatest_told, value_of}
+use Rattle.paxos_wire.specs.Order.{is_same_ballot}
 use Rattle.proposer.specs.Counted.{IsGreatest}
 use Rattle.proposer.specs.Counted as counted_of
 use Rattle.node_rules.specs.Accepting.{told_by}

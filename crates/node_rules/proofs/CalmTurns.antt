@@ -22,7 +22,7 @@ use Rattle.proposer.specs.declared.accept.Accept.{Accept as Made}
 use Rattle.proposer.specs.declared.campaign.Campaign.{Campaign}
 use Rattle.proposer.specs.declared.fault.ProposeFault.{ProposeFault}
 use Rattle.proposer.specs.declared.fault.ProposeFault.TheVariants.{OutOfWindow}
-use Rattle.proposer.specs.Told.{is_below}
+use Rattle.paxos_wire.specs.Order.{is_below}
 use Rattle.proposer.specs.Campaigns.{has_quorum, leads, is_covered, is_proposed, accept_of, value_of, greatest_told, proposal_by, proposal_from, new_campaign, with_promise, counting_from, marked_from}
 use Rattle.learner.specs.declared.chosen.Chosen.{Chosen as Learnt}
 use Rattle.learner.specs.Learning.{Learned, is_open, is_other, completes, answer_to, hearing, counting, knowing}

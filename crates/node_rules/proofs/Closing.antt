@@ -24,7 +24,8 @@ use Rattle.proposer.specs.declared.accept.Accept.{Accept as Made}
 use Rattle.proposer.specs.declared.campaign.Campaign.{Campaign}
 use Rattle.proposer.specs.declared.fault.ProposeFault.{ProposeFault}
 use Rattle.proposer.specs.declared.fault.ProposeFault.TheVariants.{OutOfWindow}
-use Rattle.proposer.specs.Campaigns.{has_quorum, leads, is_covered, is_proposed, accept_of, value_of, greatest_told, proposal_by, proposal_from, with_mark, marked_from, is_same_ballot}
+use Rattle.proposer.specs.Campaigns.{has_quorum, leads, is_covered, is_proposed, accept_of, value_of, greatest_told, proposal_by, proposal_from, with_mark, marked_from}
+use Rattle.paxos_wire.specs.Order.{is_same_ballot}
 use Rattle.proposer.specs.Counted.{CountsFrom, CountsAll, MarksSent}
 use Rattle.proposer.specs.Laws.{IsSafe}
 use Rattle.dealer_kind.specs.Kind.{fits}

@@ -13,7 +13,7 @@ use Rattle.protocol_model.specs.Messages.{Message, Accept, Accepted}
 use Rattle.protocol_model.specs.Frames.{carried}
 use Rattle.protocol_model.specs.Arrivals.{Arrival}
 use Rattle.protocol_model.specs.Worlds.{World}
-use Rattle.proposer.specs.Told.{is_below}
+use Rattle.paxos_wire.specs.Order.{is_below}
 use Rattle.proposer.specs.Campaigns.{next_ballot}
 use Rattle.learner.specs.Learning.{Learned, answer_to, hearing, answer_to_chosen, believing as with_chosen}
 use Rattle.learner.specs.Counted.{IsOpen, CountsAll}

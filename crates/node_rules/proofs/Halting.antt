@@ -24,7 +24,7 @@ use Rattle.protocol_model.specs.Moves.{Shown, Chain, nothing, sending as sends, 
 use Rattle.proposer.specs.declared.accept.Accept.{Accept as Made}
 use Rattle.proposer.specs.declared.campaign.Campaign.{Campaign}
 use Rattle.proposer.specs.declared.fault.ProposeFault.{ProposeFault}
-use Rattle.proposer.specs.Told.{is_below}
+use Rattle.paxos_wire.specs.Order.{is_below}
 use Rattle.proposer.specs.declared.fault.ProposeFault.TheVariants.{OutOfWindow}
 use Rattle.proposer.specs.Laws.{IsSafe}
 use Rattle.proposer.specs.Campaigns.{next_ballot, new_campaign, has_promised, is_counted, with_promise, leads, is_covered, is_proposed, accept_of, value_of, greatest_told, proposal_from, marked_from}

@@ -6,8 +6,7 @@ use Rattle.paxos_wire.specs.declared.ballot.Ballot.{Ballot}
 use Rattle.protocol_model.specs.Sets.{In}
 use Rattle.protocol_model.specs.Ballots.{Below, AtMost, no_ballot}
 use Rattle.protocol_model.specs.Messages.{Message}
-use Rattle.proposer.specs.Told.{is_below}
-use Rattle.proposer.specs.Campaigns.{is_same_ballot}
+use Rattle.paxos_wire.specs.Order.{is_below, is_same_ballot}
 use Rattle.node_rules.specs.Proposing.{higher}
 use Rattle.node_rules.specs.Rules.{highest}
 use Rattle.node_rules.specs.Seen.{ballots_in, IsTold, Sees}

@@ -22,8 +22,8 @@ use Rattle.protocol_model.specs.Nodes.{Node}
 use Rattle.protocol_model.specs.Worlds.{World}
 use Rattle.protocol_model.specs.Arrivals.{Arrival}
 use Rattle.proposer.specs.declared.campaign.Campaign.{Campaign}
-use Rattle.proposer.specs.Told.{is_below}
-use Rattle.proposer.specs.Campaigns.{is_same_ballot, next_ballot}
+use Rattle.paxos_wire.specs.Order.{is_below, is_same_ballot}
+use Rattle.proposer.specs.Campaigns.{next_ballot}
 use Rattle.learner.specs.Learning.{Learned, is_open, is_other, knowing, answer_to, hearing, answer_to_chosen, believing as with_chosen}
 use Rattle.learner.specs.Counted.{IsOpen}
 use Rattle.seat_session.specs.Session.{Standing as Talk}

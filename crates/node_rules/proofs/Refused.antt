@@ -8,7 +8,7 @@ use Rattle.paxos_wire.specs.Faults.{reading}
 use Rattle.slot_log.specs.declared.command.Command.{Command}
 use Rattle.slot_log.specs.declared.slot_fault.SlotFault.{SlotFault}
 use Rattle.protocol_model.specs.Worlds.{World}
-use Rattle.proposer.specs.Told.{is_below}
+use Rattle.paxos_wire.specs.Order.{is_below}
 use Rattle.proposer.specs.Campaigns.{next_ballot}
 use Rattle.learner.specs.Learning.{Learned, answer_to, hearing, answer_to_chosen, believing as with_chosen}
 use Rattle.node_rules.specs.Standings.{Place, Standing, front_of, with_stored, idle}

@@ -11,7 +11,7 @@ use Rattle.slot_log.specs.declared.command.Command.{Command}
 use Rattle.slot_log.specs.declared.slot_fault.SlotFault.{SlotFault}
 use Rattle.protocol_model.specs.Stores.{Store}
 use Rattle.protocol_model.specs.Worlds.{World}
-use Rattle.proposer.specs.Told.{is_below}
+use Rattle.paxos_wire.specs.Order.{is_below}
 use Rattle.proposer.specs.Campaigns.{next_ballot}
 use Rattle.learner.specs.Learning.{Learned, answer_to, hearing as counts, answer_to_chosen, believing as with_chosen}
 use Rattle.seat_session.specs.Session.{Standing as Talk, fresh, with_piece, is_closed, Waits, AnswersOpen, Answers}

@@ -15,8 +15,7 @@ use Rattle.protocol_model.specs.Nodes.{Node}
 use Rattle.protocol_model.specs.Arrivals.{Arrival}
 use Rattle.protocol_model.specs.Moves.{sending as sends, with_store, with_sent, more, accepts, repeats}
 use Rattle.proposer.specs.declared.campaign.Campaign.{Campaign}
-use Rattle.proposer.specs.Told.{is_below}
-use Rattle.proposer.specs.Campaigns.{is_same_ballot}
+use Rattle.paxos_wire.specs.Order.{is_below, is_same_ballot}
 use Rattle.node_rules.specs.Standings.{Place, Standing, applied, front_of, with_stored, idle}
 use Rattle.node_rules.specs.Sending.{to_others}
 use Rattle.node_rules.specs.Showing.{Piece}

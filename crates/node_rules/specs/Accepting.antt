@@ -7,8 +7,7 @@ use Rattle.paxos_wire.specs.declared.message.Message.TheVariants.{Promise, Refus
 use Rattle.slot_log.specs.declared.command.Command.{Command}
 use Rattle.protocol_model.specs.Messages.{Vote, entry_of}
 use Rattle.protocol_model.specs.Stores.{Store, promised, voted}
-use Rattle.proposer.specs.Told.{is_below}
-use Rattle.proposer.specs.Campaigns.{is_same_ballot}
+use Rattle.paxos_wire.specs.Order.{is_below, is_same_ballot}
 use Rattle.node_rules.specs.Standings.{Place, Standing, with_stored, idle}
 use Rattle.node_rules.specs.Sending.{one, to_others}
 use Rattle.node_rules.specs.Turns.{Turn, Refusal, sending, and_then}

@@ -16,8 +16,32 @@ use Rattle.paxos_wire.specs.Spelling.{ballot_text, slot_text, action_text, comma
 use Rattle.paxos_wire.specs.Reading.{below_at, ballot_at, action_of, action_at, is_count, deal_of, deal_at, dealt_at, acted_at, command_at, of_ballot_at, ask_at, message_at, body_of}
 use Rattle.paxos_wire.specs.Faults.{header_fault, fault_of, reading}
 use Rattle.paxos_wire.specs.Stream.{needed, IsPartial, IsFaulty, Takes, stream_of, Splits}
+use Rattle.paxos_wire.specs.Order.{is_below, is_same_ballot}
 use Rattle.paxos_wire.specs.Lines.{fault_code, fault_line, message_line}
 use Rattle.paxos_wire.proofs.StreamLaws.{in_front}
+
+-- ---- ballots: by round, then by node
+
+abbrev ballot : ℕ → ℕ → Ballot
+ballot round node = record { round = round; node = node }
+
+pub later_round : is_below (ballot 1 4) (ballot 2 0) ≡ true
+later_round = refl
+
+pub same_round : is_below (ballot 2 0) (ballot 2 1) ≡ true
+same_round = refl
+
+pub not_itself : is_below (ballot 2 1) (ballot 2 1) ≡ false
+not_itself = refl
+
+pub earlier_round : is_below (ballot 2 0) (ballot 1 4) ≡ false
+earlier_round = refl
+
+pub same_node : is_same_ballot (ballot 2 1) (ballot 2 1) ≡ true
+same_node = refl
+
+pub other_node : is_same_ballot (ballot 2 1) (ballot 2 0) ≡ false
+other_node = refl
 
 -- ---- texts
 

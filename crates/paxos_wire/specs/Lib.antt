@@ -8,3 +8,4 @@ pub mod Stream
 pub mod Incoming
 pub mod FeedInside
 pub mod Lines
+pub mod Order

@@ -1,5 +1,6 @@
-ghost use Rattle.std.specs.Prelude.{Some};
+ghost use Rattle.std.specs.Prelude.{◌≡◌, Some};
 ghost use Rattle.paxos_wire.specs.Lines.{ballot_line};
+ghost use Rattle.paxos_wire.specs.Order.{is_below, is_same_ballot};
 
 use std::fmt;
 
@@ -12,6 +13,22 @@ pub struct Ballot {
     pub round: u32,
     /// The node that began it, counted from 0.
     pub node: u8,
+}
+
+impl Ballot {
+    /// Whether it is below another one: of a lower round, or of the same round and begun by a lower node.
+    pub fn is_below(self, other: Ballot) -> bool
+        ensures { result ≡ is_below self other }
+    {
+        self.round < other.round || self.round == other.round && self.node < other.node
+    }
+
+    /// Whether it is of the same round and node.
+    pub fn is_same(self, other: Ballot) -> bool
+        ensures { result ≡ is_same_ballot self other }
+    {
+        self.round == other.round && self.node == other.node
+    }
 }
 
 impl fmt::Display for Ballot {

@@ -5,7 +5,7 @@ use Rattle.std.specs.Fmt.{digits}
 use Rattle.hex.specs.Hex.{encode_with}
 use Rattle.play_script.specs.declared.bounds.Bounds.{Bounds}
 use Rattle.play_script.specs.declared.order.Order.TheVariants.{Tick, Flush, Connect}
-use Rattle.play_script.specs.Bytes.{IsFreeOf}
+use Rattle.matchstate.specs.Free.{IsFreeOf}
 use Rattle.play_script.specs.Orders.{IsNumber, Names, NamesSeat, AddressesSeat, SaysBehind, Says}
 use Rattle.play_script.specs.Shown.{whole_line, frame_text, seat_text, node_text}
 use Rattle.play_script.proofs.Numbers.{number_free}

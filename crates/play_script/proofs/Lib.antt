@@ -1,4 +1,3 @@
-pub mod Cutting
 pub mod Numbers
 pub mod Ordered
 pub mod Examples

@@ -4,7 +4,7 @@ ghost use Rattle.play_script.specs.declared.order.Order.{Order as Said};
 
 use crate::bad_script::BadScript;
 use crate::bounds::Bounds;
-use crate::cut::cut;
+use matchstate::cut;
 use crate::number::{named, number, place};
 use crate::order::Order;
 use crate::word::Word;

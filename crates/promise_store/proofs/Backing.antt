@@ -11,7 +11,8 @@ use Rattle.protocol_model.specs.Messages.{Vote, Message, Prepare, Promise, Refus
 use Rattle.protocol_model.specs.Stores.{Store}
 use Rattle.protocol_model.specs.Backing.{Backs, HasVote, HasNoOther}
 use Rattle.promise_store.specs.declared.records.Record.TheVariants.{Voted}
-use Rattle.promise_store.specs.Index.{is_below, later}
+use Rattle.promise_store.specs.Index.{later}
+use Rattle.paxos_wire.specs.Order.{is_below}
 use Rattle.promise_store.specs.Holding.{greater, stored}
 
 abbrev pub vote_of : Ballot → Command → Vote

@@ -11,7 +11,8 @@ use Rattle.promise_store.specs.declared.records.Record.{Record}
 use Rattle.promise_store.specs.declared.records.Record.TheVariants.{Promised, Voted}
 use Rattle.promise_store.specs.declared.placed.Placed.{Placed}
 use Rattle.promise_store.specs.declared.held.Held.{Held}
-use Rattle.promise_store.specs.Index.{found, is_below, later}
+use Rattle.promise_store.specs.Index.{found, later}
+use Rattle.paxos_wire.specs.Order.{is_below}
 use Rattle.promise_store.specs.Records.{payload, IsRecord, record_text}
 use Rattle.promise_store.specs.Journals.{gated, IsJournal}
 use Rattle.promise_store.specs.Holding.{Kept, Holding, nothing_held, kept_at, ballot_of, with_record, held_from, holding, vote_of, store_of, placed_of, Indexes}

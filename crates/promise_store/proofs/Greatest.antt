@@ -12,7 +12,8 @@ use Rattle.protocol_model.specs.Stores.{Store, empty_store}
 use Rattle.protocol_model.specs.Backing.{IsWithinPromise}
 use Rattle.promise_store.specs.declared.records.Record.{Record}
 use Rattle.promise_store.specs.declared.records.Record.TheVariants.{Promised, Voted}
-use Rattle.promise_store.specs.Index.{is_below, later}
+use Rattle.promise_store.specs.Index.{later}
+use Rattle.paxos_wire.specs.Order.{is_below}
 use Rattle.promise_store.specs.Journals.{gated}
 use Rattle.promise_store.specs.Holding.{Holding, nothing_held, greater, with_record, held_from, holding, store_of, stored}
 use Rattle.promise_store.specs.Laws.{ballot_of_record, IsGreatest, IsLastOfGreatest}

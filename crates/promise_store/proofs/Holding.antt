@@ -6,7 +6,8 @@ use Rattle.protocol_model.specs.Messages.{Vote}
 use Rattle.protocol_model.specs.Stores.{Store}
 use Rattle.promise_store.specs.declared.records.Record.{Record}
 use Rattle.promise_store.specs.declared.records.Record.TheVariants.{Promised, Voted}
-use Rattle.promise_store.specs.Index.{is_below, later}
+use Rattle.promise_store.specs.Index.{later}
+use Rattle.paxos_wire.specs.Order.{is_below}
 use Rattle.promise_store.specs.Records.{payload}
 use Rattle.promise_store.specs.Journals.{gated, IsEither, gate_behind}
 use Rattle.promise_store.specs.Holding.{Kept, Holding, nothing_held, greater, kept_at, ballot_of, with_record, held_from, holding, vote_of, store_of, StandsFor, stored}

@@ -5,7 +5,8 @@ use Rattle.std.specs.List.{AllByRecursion}
 use Rattle.std.proofs.lemmas.Bool.Decides.{nat_tests}
 use Rattle.promise_store.specs.declared.placed.Placed.{Placed}
 use Rattle.std.proofs.lemmas.List.{drop_all, get_or_default}
-use Rattle.promise_store.specs.Index.{Rise, found, IsPosition, is_below, later}
+use Rattle.promise_store.specs.Index.{Rise, found, IsPosition, later}
+use Rattle.paxos_wire.specs.Order.{is_below}
 
 abbrev pub Below : ℕ → List Placed → Type 0
 Below slot entries = AllByRecursion (λ e. e.slot < slot) entries

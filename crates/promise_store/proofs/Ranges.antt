@@ -7,7 +7,8 @@ use Rattle.paxos_wire.specs.declared.ballot.Ballot.{Ballot}
 use Rattle.paxos_wire.specs.Fits.{IsBallot, IsSlot}
 use Rattle.protocol_model.specs.Ballots.{no_ballot}
 use Rattle.promise_store.specs.declared.placed.Placed.{Placed}
-use Rattle.promise_store.specs.Index.{found, is_below, later}
+use Rattle.promise_store.specs.Index.{found, later}
+use Rattle.paxos_wire.specs.Order.{is_below}
 use Rattle.promise_store.specs.Ranges.{IsBallotOrNone, AreInRange}
 use Rattle.promise_store.proofs.Entries.{some_is}
 

@@ -12,7 +12,8 @@ use Rattle.promise_store.specs.declared.placed.Placed.{Placed}
 use Rattle.promise_store.specs.declared.held.Held.{Held}
 use Rattle.promise_store.specs.Records.{payload}
 use Rattle.promise_store.specs.Journals.{gated, IsJournal}
-use Rattle.promise_store.specs.Index.{found, is_below, later}
+use Rattle.promise_store.specs.Index.{found, later}
+use Rattle.paxos_wire.specs.Order.{is_below}
 
 -- an accepted command, its ballot, and where its record's payload stands in the journal
 pub record Kept : Type 0 where

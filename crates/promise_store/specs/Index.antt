@@ -4,6 +4,7 @@ use Rattle.std.specs.List.{AllByRecursion}
 use Rattle.std.specs.Coded.{×_prop, Unit-prop, le_prop}
 use Rattle.paxos_wire.specs.declared.ballot.Ballot.{Ballot}
 use Rattle.promise_store.specs.declared.placed.Placed.{Placed}
+use Rattle.paxos_wire.specs.Order.{is_below}
 
 -- their slots rise, from one on
 abbrev pub Rise : ℕ → List Placed → Type 0
@@ -24,10 +25,6 @@ pub record IsPosition (slot : ℕ) (entries : List Placed) (place : ℕ) : Type 
   pub within : place ≤ length entries
   pub below : AllByRecursion (λ e. e.slot < slot) (take place entries)
   pub above : AllByRecursion (λ e. slot ≤ e.slot) (drop place entries)
-
--- the first ballot is below the second
-abbrev pub is_below : Ballot → Ballot → Bool
-is_below a b = nat_lt a.round b.round || (nat_eq a.round b.round && nat_lt a.node b.node)
 
 -- of what was there and what comes: the one of the greater ballot, of one ballot the later
 abbrev pub later : {A : Type 0} → (A → Ballot) → Option A → A → A

@@ -3,7 +3,8 @@
 ghost use Rattle.std.specs.Prelude.{◌≡◌, ◌+◌, ◌<◌, ◌≤◌, ℕ, true, false, Some, if◌then◌else◌, nat_eq, slice_index_or, slice_set};
 ghost use Rattle.std.specs.Vec.{vec_len, vec_capacity};
 ghost use Rattle.paxos_wire.specs.Fits.{IsBallot, IsSlot};
-ghost use Rattle.promise_store.specs.Index.{Rise, IsPosition, found, is_below, later};
+ghost use Rattle.promise_store.specs.Index.{Rise, IsPosition, found, later};
+ghost use Rattle.paxos_wire.specs.Order.{is_below};
 ghost use Rattle.promise_store.specs.Ranges.{AreInRange};
 ghost use Rattle.promise_store.specs.declared.placed.Placed.{Placed};
 
@@ -48,13 +49,6 @@ pub fn find(entries: &[Placed], slot: u32) -> Option<Placed>
     }
 }
 
-/// Whether a ballot is below another one.
-fn is_outdone(ballot: Ballot, other: Ballot) -> bool
-    ensures { result ≡ is_below ballot other }
-{
-    ballot < other
-}
-
 /// Puts an entry in place of another one, unless that is of a greater ballot.
 fn replace(entries: &mut Vec<Placed>, place: usize, placed: Placed)
     requires { place < vec_len entries.old }
@@ -63,7 +57,7 @@ fn replace(entries: &mut Vec<Placed>, place: usize, placed: Placed)
     ensures capacity { vec_capacity entries.new ≡ vec_capacity entries.old }
     ensures len { vec_len entries.new ≡ vec_len entries.old }
 {
-    if is_outdone(placed.ballot, entries[place].ballot) {
+    if placed.ballot.is_below(entries[place].ballot) {
         return;
     }
     entries[place] = placed;

@@ -8,7 +8,7 @@ use Rattle.slot_log.specs.declared.command.Command.TheVariants.{Act}
 use Rattle.protocol_model.specs.Messages.{Promise}
 use Rattle.proposer.specs.declared.campaign.Campaign.{Campaign}
 use Rattle.proposer.specs.declared.fault.ProposeFault.TheVariants.{OutOfWindow}
-use Rattle.proposer.specs.Told.{is_below, best_in}
+use Rattle.proposer.specs.Told.{best_in}
 use Rattle.proposer.specs.Campaigns.{Proposing, next_ballot, begun, idle, refused, is_leading, ballot_in, counting, proposal_of, marked}
 use Rattle.proposer.specs.Counted.{CountsFrom, CountsAll, MarksSent, HasQuorum, IsGreatest}
 
@@ -23,20 +23,6 @@ call = Act 0 0 Call
 
 abbrev entry : ℕ → Ballot → Command → Entry
 entry slot b command = record { slot = slot; ballot = b; command = command }
-
--- ---- the order of ballots: by round, then by node
-
-pub later_round : is_below (ballot 1 4) (ballot 2 0) ≡ true
-later_round = refl
-
-pub same_round : is_below (ballot 2 0) (ballot 2 1) ≡ true
-same_round = refl
-
-pub not_itself : is_below (ballot 2 1) (ballot 2 1) ≡ false
-not_itself = refl
-
-pub earlier_round : is_below (ballot 2 0) (ballot 1 4) ≡ false
-earlier_round = refl
 
 -- ---- of the entries of a slot that of the greatest ballot, wherever it stands
 

@@ -7,7 +7,8 @@ use Rattle.paxos_wire.specs.declared.entry.Entry.{Entry}
 use Rattle.protocol_model.specs.Sets.{In}
 use Rattle.protocol_model.specs.Ballots.{AtMost}
 use Rattle.proposer.specs.declared.campaign.Campaign.{Campaign}
-use Rattle.proposer.specs.Told.{is_below, better, best_in, best_after}
+use Rattle.proposer.specs.Told.{better, best_in, best_after}
+use Rattle.paxos_wire.specs.Order.{is_below}
 use Rattle.proposer.specs.Campaigns.{promise_by, greatest_told}
 use Rattle.proposer.specs.Counted.{Tells, IsGreatest}
 

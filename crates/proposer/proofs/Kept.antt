@@ -10,7 +10,8 @@ use Rattle.protocol_model.specs.Sets.{In}
 use Rattle.protocol_model.specs.Messages.{Message, Promise, Covers, Accept as accept}
 use Rattle.proposer.specs.declared.campaign.Campaign.{Campaign}
 use Rattle.proposer.specs.declared.accept.Accept.{Accept}
-use Rattle.proposer.specs.Campaigns.{has_promised, has_quorum, is_same_ballot, is_counted, with_promise, with_mark, new_campaign, greatest_told, value_of, accept_of, proposal_by}
+use Rattle.proposer.specs.Campaigns.{has_promised, has_quorum, is_counted, with_promise, with_mark, new_campaign, greatest_told, value_of, accept_of, proposal_by}
+use Rattle.paxos_wire.specs.Order.{is_same_ballot}
 use Rattle.proposer.specs.Counted.{CountsFrom, MarksSent}
 use Rattle.proposer.proofs.Safe.{passed}
 

@@ -10,7 +10,8 @@ use Rattle.proposer.specs.declared.campaign.Campaign.{Campaign}
 use Rattle.proposer.specs.declared.accept.Accept.{Accept}
 use Rattle.proposer.specs.declared.fault.ProposeFault.{ProposeFault}
 use Rattle.proposer.specs.declared.fault.ProposeFault.TheVariants.{OutOfWindow}
-use Rattle.proposer.specs.Told.{is_below, best_after}
+use Rattle.proposer.specs.Told.{best_after}
+use Rattle.paxos_wire.specs.Order.{is_below, is_same_ballot}
 
 -- by node: what its promise tells, where it was counted
 abbrev pub promise_by : Campaign → ℕ → Option (List Entry)
@@ -72,9 +73,6 @@ is_leading p = leads p.nodes p.campaign
 
 abbrev pub ballot_in : Proposing → Option Ballot
 ballot_in p = option_map (λ campaign. campaign.ballot) p.campaign
-
-abbrev pub is_same_ballot : Ballot → Ballot → Bool
-is_same_ballot a b = if a.round == b.round then a.node == b.node else false
 
 -- a promise counts while no quorum has promised: of the own ballot and first slot, the first of its node
 abbrev pub is_counted : ℕ → Campaign → ℕ → Ballot → ℕ → Bool

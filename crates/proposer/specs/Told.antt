@@ -2,10 +2,7 @@
 use Rattle.std.specs.Prelude.{ℕ, ◌==◌, Bool, true, false, nat_lt, if◌then◌else◌, List, [], ◌∷◌, Option, Some, None}
 use Rattle.paxos_wire.specs.declared.ballot.Ballot.{Ballot}
 use Rattle.paxos_wire.specs.declared.entry.Entry.{Entry}
-
--- the test of the order of ballots: by round, then by node
-abbrev pub is_below : Ballot → Ballot → Bool
-is_below a b = if nat_lt a.round b.round then true else if a.round == b.round then nat_lt a.node b.node else false
+use Rattle.paxos_wire.specs.Order.{is_below}
 
 -- of two entries of the slot that of the greater ballot; an entry of another slot counts for nothing
 abbrev pub better : Option Entry → ℕ → Entry → Option Entry

@@ -1,7 +1,7 @@
 ghost use Rattle.std.specs.Prelude.{◌≡◌, ℕ, ◌<◌, ◌≤◌, is_some, None};
 ghost use Rattle.protocol_model.specs.Quorums.{count};
-ghost use Rattle.proposer.specs.Told.{is_below, better, best_in};
-ghost use Rattle.proposer.specs.Campaigns.{greatest_told, promise_by, has_quorum, is_outbid, with_promise, is_same_ballot, new_campaign, proposal_by, with_mark};
+ghost use Rattle.proposer.specs.Told.{better, best_in};
+ghost use Rattle.proposer.specs.Campaigns.{greatest_told, promise_by, has_quorum, is_outbid, with_promise, new_campaign, proposal_by, with_mark};
 
 use crate::accept::Accept;
 use crate::fault::ProposeFault;
@@ -25,18 +25,6 @@ pub struct Campaign {
     pub proposed: [bool; WINDOW],
 }
 
-fn is_same(a: Ballot, b: Ballot) -> bool
-    ensures { result ≡ is_same_ballot a b }
-{
-    a.round == b.round && a.node == b.node
-}
-
-fn is_below(a: Ballot, b: Ballot) -> bool
-    ensures { result ≡ is_below a b }
-{
-    a.round < b.round || a.round == b.round && a.node < b.node
-}
-
 fn better(best: Option<Entry>, slot: u32, entry: Entry) -> Option<Entry>
     ensures { result ≡ better best slot entry }
 {
@@ -46,7 +34,7 @@ fn better(best: Option<Entry>, slot: u32, entry: Entry) -> Option<Entry>
     match best {
         None => Some(entry),
         Some(other) => {
-            if is_below(other.ballot, entry.ballot) {
+            if other.ballot.is_below(entry.ballot) {
                 Some(entry)
             } else {
                 Some(other)
@@ -96,7 +84,7 @@ impl Campaign {
     pub fn is_outbid(&self, promised: Ballot) -> bool
         ensures { result ≡ is_outbid (Some self.now) promised }
     {
-        is_below(self.ballot, promised)
+        self.ballot.is_below(promised)
     }
 
     /// Counts a promise: of this ballot and first slot, the first of its node, while no quorum has promised.
@@ -105,7 +93,7 @@ impl Campaign {
         requires from { from < nodes }
         ensures { self.new ≡ with_promise nodes self.old from ballot first told.now }
     {
-        if self.has_quorum(nodes) || !is_same(ballot, self.ballot) || first != self.first {
+        if self.has_quorum(nodes) || !ballot.is_same(self.ballot) || first != self.first {
             return;
         }
         let place = from as usize;

@@ -1,7 +1,7 @@
 use Rattle.std.proofs.Common.{◌≡◌, true, Ok, subst, Err, refl, ap, sym, ◌∙◌}
 use Rattle.slot_log.specs.Slots.{front}
 use Rattle.learner.specs.Learning.{Learned}
-use Rattle.proposer.specs.Told.{is_below}
+use Rattle.paxos_wire.specs.Order.{is_below}
 use Rattle.proposer.specs.Campaigns.{next_ballot}
 use Rattle.paxos_wire.specs.declared.ballot.Ballot.{Ballot}
 use Rattle.protocol_model.specs.Stores.{Store}

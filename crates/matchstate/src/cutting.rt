@@ -1,11 +1,12 @@
-ghost use Rattle.std.specs.Prelude.{◌≡◌, ℕ, ◌≤◌, ◌∷◌, ◌++◌, ◌==◌, List, IfSome, IsSomeAnd, length, not};
+ghost use Rattle.std.specs.Prelude.{◌≡◌, ℕ, ◌≤◌, ◌∷◌, ◌++◌, ◌==◌, ◌↔◌, List, IfSome, IsSomeAnd, IsNone, length, not};
 ghost use Rattle.std.specs.List.{prefix_len};
-ghost use Rattle.play_script.specs.Bytes.{IsFreeOf};
+ghost use Rattle.matchstate.specs.Free.{IsFreeOf};
 
 /// What stands before the first such byte, and what stands behind it; none where there is no such byte.
-pub(crate) fn cut(bytes: &[u8], byte: u8) -> Option<(&[u8], &[u8])>
+pub fn cut(bytes: &[u8], byte: u8) -> Option<(&[u8], &[u8])>
     ensures found { IfSome result (λ cut. (bytes.now ≡ cut.0.now ++ byte ∷ cut.1.now) × IsFreeOf byte cut.0.now) }
     ensures only { (front behind : List ℕ) → IsFreeOf byte front → bytes.now ≡ front ++ byte ∷ behind → IsSomeAnd result (λ cut. (cut.0.now ≡ front) × (cut.1.now ≡ behind)) }
+    ensures missing { IsNone result ↔ IsFreeOf byte bytes.now }
 {
     let (front, behind) = bytes.split_at(front_len(bytes, byte));
     match behind {

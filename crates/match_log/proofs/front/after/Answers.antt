@@ -3,7 +3,7 @@ use Rattle.std.specs.Borrow.{Bor}
 use Rattle.std.proofs.lemmas.List.{append_cancel_left}
 use Rattle.std.proofs.lemmas.Slice.Eq.{strip_prefix_is}
 use Rattle.std.proofs.lemmas.Bool.Decides.{Decides-eqb}
-use Rattle.match_log.proofs.cut.after.Goals as goal
+use Rattle.match_log.proofs.front.after.Goals as goal
 
 stands : (r : Option (Bor (List ℕ))) (bytes front behind : List ℕ) → MatchOption r ((rest : List ℕ) → bytes ≢ front ++ rest) (λ x. bytes ≡ front ++ x.now) → bytes ≡ front ++ behind → IsSomeAnd r (λ rest. rest.now ≡ behind)
 stands None bytes front behind told is = absurd (told behind is)

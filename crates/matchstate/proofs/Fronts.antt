@@ -4,7 +4,7 @@ use Rattle.std.proofs.Math.Numerals.{one-add}
 use Rattle.std.specs.List.{prefix_len}
 use Rattle.std.proofs.lemmas.List.{take_at, drop_at}
 use Rattle.std.proofs.lemmas.Bool.Decides.{eqb_tells, nat_tests}
-use Rattle.match_log.specs.Reading.{IsFreeOf}
+use Rattle.matchstate.specs.Free.{IsFreeOf}
 
 -- other than the byte
 abbrev pub other_than : ℕ → ℕ → Bool
@@ -25,6 +25,14 @@ free_front byte (other ∷ bytes) =
       | inl same ↦ rw same.0 tt
       | inr apart ↦ rw (apart.0, one-add) (apart.1, free_front byte bytes)
     ]
+
+pub all_free : (byte : ℕ) (bytes : List ℕ) → IsFreeOf byte bytes → prefix_len (other_than byte) bytes ≡ length bytes
+all_free byte [] free = refl
+all_free byte (other ∷ bytes) free =
+    let apart : other ≢ byte = free.0 in
+    let test : eqb other byte ≡ false = grind (arith, nat_tests) in
+    let more = all_free byte bytes free.1 in
+    rw test (omega arith)
 
 pub byte_behind : (byte : ℕ) (bytes : List ℕ) (found : ℕ) (rest : List ℕ) → drop (prefix_len (other_than byte) bytes) bytes ≡ found ∷ rest → found ≡ byte
 byte_behind byte [] found rest e = cc

@@ -1,8 +1,8 @@
-use Rattle.std.proofs.Common.{◌≡◌, ℕ, ◌-◌, ◌≤◌, List, [], ◌∷◌, ◌++◌, length, take, drop, sym, ap, ◌∙◌, subst, arith}
-use Rattle.std.proofs.lemmas.List.{take-append-drop, take_all}
-use Rattle.play_script.specs.Bytes.{IsFreeOf}
-use Rattle.play_script.proofs.Cutting.{free_front, byte_behind, cut_at}
-use Rattle.play_script.proofs.cut.cut.Goals as goal
+use Rattle.std.proofs.Common.{◌≡◌, ℕ, ◌-◌, ◌≤◌, List, [], ◌∷◌, ◌++◌, length, take, drop, refl, sym, ap, ◌∙◌, subst, arith}
+use Rattle.std.proofs.lemmas.List.{take-append-drop, take_all, length-drop}
+use Rattle.matchstate.specs.Free.{IsFreeOf}
+use Rattle.matchstate.proofs.Fronts.{free_front, all_free, byte_behind, cut_at}
+use Rattle.matchstate.proofs.cutting.cut.Goals as goal
 
 some_rest : (xs : List ℕ) → 1 ≤ length xs → (byte : ℕ) × (xs ≡ byte ∷ take (length xs - 1) (drop 1 xs))
 some_rest [] some = absurd (omega arith)
@@ -15,6 +15,27 @@ returns-in_default-clause-only c =
     let some = ap length cut.1 in
     let none = c.in_default.len_below in
     omega arith
+
+pub returns-in_default-clause-missing : goal.returns-in_default-clause-missing
+returns-in_default-clause-missing c =
+    let bytes = c.args.bytes.now in
+    let n = c.front_len.result in
+    let rest = ap length c.split_at.ensures.back ∙ length-drop n bytes in
+    let none = c.in_default.len_below in
+    let whole : take n bytes ≡ bytes = take_all n bytes (omega arith) in
+    let free = subst (IsFreeOf c.args.byte) (ap (λ k. take k bytes) (sym c.front_len.ensures.value) ∙ whole) (free_front c.args.byte bytes) in
+    (λ missing. free, λ there. refl)
+
+pub returns-in-len1-up-clause-missing : goal.returns-in-len1-up-clause-missing
+returns-in-len1-up-clause-missing c =
+    let bytes = c.args.bytes.now in
+    let rest = ap length c.split_at.ensures.back ∙ length-drop c.front_len.result bytes in
+    let some = c.in-len1-up.len_at_least in (
+      λ missing. cc,
+      λ free.
+          let all = c.front_len.ensures.value ∙ all_free c.args.byte bytes free in
+          absurd (omega arith),
+    )
 
 pub returns-in-len1-up-clause-found : goal.returns-in-len1-up-clause-found
 returns-in-len1-up-clause-found c =
