@@ -171,6 +171,7 @@ module _ {D : Type 0} (g : Ghosts D) where
         told = taken.told;
         fits = taken.fits;
         moments = λ t image was. inl was;
+        untouched = λ still. refl;
       }
 
   -- where the question comes

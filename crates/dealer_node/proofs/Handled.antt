@@ -1,8 +1,10 @@
 -- From what a whole call makes of what runs to what it makes of the node.
-use Rattle.std.proofs.Common.{◌≡◌, ℕ, ◌≤◌, inl, inr, Bool, true, false, List, [], Result, Ok, Err, refl, sym, ap, subst, ◌∙◌}
-use Rattle.std.specs.Prelude.{◌⊎◌, Option, Some, None, IsErr}
+use Rattle.std.proofs.Common.{◌≡◌, ℕ, ◌≤◌, inl, inr, Bool, true, false, List, [], Result, Ok, Err, refl, sym, ap, subst, ◌∙◌, true≢false}
+use Rattle.std.specs.Prelude.{◌⊎◌, Option, Some, None, IsErr, OnOk}
 use Rattle.promise_store.specs.declared.disk.Disk.{Ghosts}
+use Rattle.promise_store.specs.declared.fault.StoreFault.{StoreFault}
 use Rattle.promise_store.specs.declared.fault.StoreFault.TheVariants.{Disk}
+use Rattle.acceptor.specs.Taken.{IsFault}
 use Rattle.promise_store.specs.Disks.{Rose}
 use Rattle.slot_log.specs.Hand.{Match}
 use Rattle.node_rules.specs.Standings.{Standing}
@@ -16,13 +18,13 @@ use Rattle.dealer_node.specs.declared.fault.NodeFault.TheVariants as fault
 use Rattle.dealer_node.specs.Outs.{Told}
 use Rattle.dealer_node.specs.Posts.{Post, place_at}
 use Rattle.dealer_node.specs.Working.{disk_under, IsDone, GoesOn}
-use Rattle.dealer_node.specs.Handling.{Stays, Handles}
+use Rattle.dealer_node.specs.Handling.{Stays, Handles, HasNoEffect, IsOfCall, AnswersUp}
 use Rattle.dealer_node.specs.Calling.{Wants, HandlesCall}
 use Rattle.dealer_node.specs.Nodes.{Node}
 use Rattle.dealer_node.specs.NodeInside.{node_of}
-use Rattle.dealer_node.specs.Seeing.{post_in, settled, IsSeen, begun_of, failures_of}
-use Rattle.dealer_node.specs.Taking.{MayFail, Takes, StaysItself}
-use Rattle.dealer_node.proofs.Settled.{noted, up_took, up_unchanged, up_refused, up_failed, up_clashed, seen_at}
+use Rattle.dealer_node.specs.Seeing.{post_in, runs, disk_in, settled, IsSeen, begun_of, failures_of}
+use Rattle.dealer_node.specs.Taking.{MayFail, TakesDown, AnswersRightly, LeavesDisk, Takes, StaysItself}
+use Rattle.dealer_node.proofs.Settled.{noted, turn_up, up_took, up_unchanged, up_refused, up_failed, up_clashed, seen_at}
 
 same_post : {D : Type 0} (answer : Result (Unit {0}) NodeFault) (node : Node D) → post_in (settled answer node) ≡ post_in node
 same_post (Ok done) node = refl
@@ -42,6 +44,54 @@ module _ {D : Type 0} (g : Ghosts D) where
   same_failures (Err (fault.Store why)) node = refl
   same_failures (Err fault.Conflict) node = refl
   same_failures (Err why) node = refl
+
+  -- where nothing was done it runs on
+  runs_on : (answer : Result (Unit {0}) NodeFault) (post : Post) (blank : Match) (disk : Option D) (up : Up D) → HasNoEffect answer → runs (settled answer (noted g post blank disk (Some up))) ≡ true
+  runs_on (Ok done) post blank disk up none = absurd none
+  runs_on (Err (fault.Store why)) post blank disk up none = absurd none
+  runs_on (Err fault.Conflict) post blank disk up none = absurd none
+  runs_on (Err why) post blank disk up none = refl
+
+  goes_down : (answer : Result (Unit {0}) NodeFault) (node : Node D) → TakesDown answer → runs (settled answer node) ≡ false
+  goes_down (Err (fault.Store why)) node falls = refl
+  goes_down (Err fault.Conflict) node falls = refl
+  goes_down (Err why) node falls = absurd falls
+  goes_down (Ok done) node falls = absurd falls
+
+  -- its disk is what its store had, whether it runs on or not
+  disk_after : (answer : Result (Unit {0}) NodeFault) (post : Post) (blank : Match) (disk : Option D) (up : Up D) → disk_in (settled answer (noted g post blank disk (Some up))) ≡ Some (disk_under up)
+  disk_after (Ok done) post blank disk up = refl
+  disk_after (Err (fault.Store why)) post blank disk up = refl
+  disk_after (Err fault.Conflict) post blank disk up = refl
+  disk_after (Err why) post blank disk up = refl
+
+  not_down : (answer : Result (Unit {0}) NodeFault) → IsOfCall answer → answer ≡ Err fault.Down → ⊥
+  not_down answer of e = let P : Result (Unit {0}) NodeFault → Type 0 = λ a. IsOfCall a in subst P e of
+
+  of_open : (answer : Result (Unit {0}) NodeFault) (why : StoreFault) → IsOfCall answer → answer ≡ Err (fault.Store why) → IsFault why
+  of_open answer why of e = let P : Result (Unit {0}) NodeFault → Type 0 = λ a. IsOfCall a in subst P e of
+
+  pub handled_answers : (post : Post) (blank : Match) (disk other : Option D) (old new : Up D) (answer : Result (Unit {0}) NodeFault) → AnswersUp old new answer
+      → AnswersRightly (noted g post blank disk (Some old)) (settled answer (noted g post blank other (Some new))) answer
+  handled_answers post blank disk other old new answer a = record {
+    down = λ down. absurd (true≢false down);
+    up = λ e. absurd (not_down answer a.of_call e);
+    stands = λ none. runs_on answer post blank other new none;
+    disk = λ none. disk_after answer post blank other new ∙ ap (λ (d : D). Some d) (a.disk none);
+    falls = goes_down answer (noted g post blank other (Some new));
+    carries = λ why e. of_open answer why a.of_call e;
+  }
+
+  -- a node that is down answers 90 and stays as it is
+  pub down_answers : (node : Node D) → runs node ≡ false → AnswersRightly node node (Err fault.Down)
+  down_answers node down = record {
+    down = λ d. refl;
+    up = λ e. down;
+    stands = λ none. refl;
+    disk = λ none. refl;
+    falls = λ falls. absurd falls;
+    carries = λ why e. absurd (cc);
+  }
 
   pub handled_stays : (post : Post) (blank : Match) (disk : Option D) (old new : Up D) (earlier later : Told) (answer : Result (Unit {0}) NodeFault)
       → GoesOn g old new answer → (IsErr answer → later ≡ earlier)
@@ -104,4 +154,28 @@ module _ {D : Type 0} (g : Ghosts D) where
       let N : Node D → Type 0 = λ n. Takes g called s (noted g i.post i.blank i.disk (Some up)) n earlier later answer in
       let P : Option (Up D) → Type 0 = λ u. Takes g called s (noted g i.post i.blank i.disk u) new earlier later answer in
       let Q : Node D → Type 0 = λ n. Takes g called s n new earlier later answer in
+      subst Q view (subst P (sym is) (subst N (sym next) (subst A (sym says) t)))
+
+  pub handled_reads : (post : Post) (blank : Match) (disk : Option D) (old new : Up D) (s : Standing) (called : Call) (earlier later : Told) (answer : Result (Unit {0}) NodeFault)
+      → IsSeen g (noted g post blank disk (Some old)) s → HandlesCall g post s called old new earlier later answer
+      → OnOk answer (LeavesDisk called s (noted g post blank disk (Some old)) (settled answer (noted g post blank disk (Some new))))
+  handled_reads post blank disk old new s called earlier later (Err why) seen handles = tt
+  handled_reads post blank disk old new s called earlier later (Ok done) seen (inl wants) = let never : Ok done ≡ Err fault.OutOfMemory = wants.memory in absurd (cc)
+  handled_reads post blank disk old new s called earlier later (Ok done) seen (inr (outcome, rule, h)) =
+      let P : Result Turn Refusal → Type 0 = λ o. IsTurnUp (place_at post) s called o in
+      record {
+        turn = h.turn;
+        rule = turn_up (place_at post) s called (Ok h.turn) seen.by.running.up (subst P h.rule rule);
+        untouched = λ still. ap (λ (d : D). Some d) (h.untouched still);
+      }
+
+  pub reads_at : (now : Node D) (i : Inside D) (up : Up D) (new node : Node D) (s : Standing) (called : Call) (answer given : Result (Unit {0}) NodeFault)
+      → node_of i ≡ now → i.up ≡ Some up → new ≡ node → answer ≡ given
+      → OnOk given (LeavesDisk called s (noted g i.post i.blank i.disk (Some up)) node)
+      → OnOk answer (LeavesDisk called s now new)
+  reads_at now i up new node s called answer given view is next says t =
+      let A : Result (Unit {0}) NodeFault → Type 0 = λ a. OnOk a (LeavesDisk called s (noted g i.post i.blank i.disk (Some up)) node) in
+      let N : Node D → Type 0 = λ n. OnOk answer (LeavesDisk called s (noted g i.post i.blank i.disk (Some up)) n) in
+      let P : Option (Up D) → Type 0 = λ u. OnOk answer (LeavesDisk called s (noted g i.post i.blank i.disk u) new) in
+      let Q : Node D → Type 0 = λ n. OnOk answer (LeavesDisk called s n new) in
       subst Q view (subst P (sym is) (subst N (sym next) (subst A (sym says) t)))

@@ -37,7 +37,7 @@ pub err_is : (r : Result (Unit {0}) NodeFault) (why : NodeFault) → IsErrAnd r 
 err_is (Ok done) why e = absurd e
 err_is (Err f) why e = ap Err e
 
-err_of : (a b : NodeFault) → (let r : Result (Unit {0}) NodeFault = Err a in r) ≡ Err b → a ≡ b
+pub err_of : (a b : NodeFault) → (let r : Result (Unit {0}) NodeFault = Err a in r) ≡ Err b → a ≡ b
 err_of a b e = cc
 
 pub spent_over : (old new : Running) (promised : Ballot) → new.seen ≡ old.seen → new.learner.learned ≡ old.learner.learned → is_spent_at new promised ≡ is_spent_at old promised
@@ -83,6 +83,7 @@ module _ {D : Type 0} (g : Ghosts D) where
         told = appends refl ∙ ap (both_told out) (w.told ∙ ap (λ (t : Told). both_told t (told_of w.turn)) nothing);
         fits = w.fits;
         moments = subst L same w.moments;
+        untouched = λ still. w.untouched still ∙ same;
       }
   works_over post s outcome before between after made later out behind (Err (fault.Store Disk)) same nothing appends w =
       let L : D → Type 0 = λ d. LeavesDuring g (head_of post) s.store w.left d (disk_under after) in

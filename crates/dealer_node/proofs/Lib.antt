@@ -11,6 +11,7 @@ pub mod Seating
 pub mod Told
 pub mod Placed
 pub mod Worked
+pub mod Still
 pub mod Remembered
 pub mod Settled
 pub mod Ahead
@@ -26,3 +27,4 @@ pub mod Heard
 pub mod Handled
 pub mod Within
 pub mod ReadBack
+pub mod AsOne

@@ -2,7 +2,9 @@
 use Rattle.std.proofs.Common.{◌≡◌, ℕ, inl, inr, Bool, true, false, List, [], ◌∷◌, Result, Ok, Err, refl, sym, ap, subst, ◌∙◌}
 use Rattle.std.specs.Prelude.{◌⊎◌, Option, Some, None, is_some}
 use Rattle.promise_store.specs.declared.disk.Disk.{Ghosts}
+use Rattle.promise_store.specs.declared.fault.StoreFault.{StoreFault}
 use Rattle.promise_store.specs.declared.fault.StoreFault.TheVariants.{Disk}
+use Rattle.promise_store.specs.Refusals.{Refuses}
 use Rattle.promise_store.specs.declared.store.Store.{Store as Journal}
 use Rattle.promise_store.specs.Settled.{OnlyReads}
 use Rattle.promise_store.specs.Keeping.{disk_of, Keeps, Leaves}
@@ -30,7 +32,7 @@ use Rattle.dealer_node.specs.Starting.{Starts, StaysDown}
 use Rattle.dealer_node.specs.declared.node.Node.TheInside.{Inside}
 use Rattle.dealer_node.specs.Nodes.{Node}
 use Rattle.dealer_node.specs.NodeInside.{node_of}
-use Rattle.dealer_node.specs.Seeing.{IsSeen}
+use Rattle.dealer_node.specs.Seeing.{post_in, bytes_of, IsSeen}
 use Rattle.dealer_node.specs.Taking.{IsStart, Takes}
 use Rattle.dealer_node.proofs.Messages.{no_messages}
 use Rattle.dealer_node.proofs.Worked.{memory_took, nothing_more}
@@ -212,6 +214,11 @@ module _ {D : Type 0} (g : Ghosts D) where
   down_now : (now : Node D) (i : Inside D) (disk : D) → node_of i ≡ now → is_some i.up ≡ false → i.disk ≡ Some disk → noted g i.post i.blank (Some disk) None ≡ now
   down_now now i disk view down has =
       ap (λ (d : Option D). noted g i.post i.blank d None) (sym has) ∙ (ap (λ (u : Option (Up D)). noted g i.post i.blank i.disk u) (sym (no_up i.up down)) ∙ view)
+
+  -- what opening the store found is said of the node's disk
+  pub refused_at : (now : Node D) (i : Inside D) (disk : D) (why : StoreFault) → node_of i ≡ now → is_some i.up ≡ false → i.disk ≡ Some disk
+      → Refuses (head_of i.post) (g.seen disk) why → Refuses (head_of (post_in now)) (bytes_of g now) why
+  refused_at now i disk why view down has refuses = let P : Node D → Type 0 = λ n. Refuses (head_of (post_in n)) (bytes_of g n) why in subst P (down_now now i disk view down has) refuses
 
   pub started_at : (now : Node D) (i : Inside D) (disk : D) (other : Option D) (up : Up D) (s : Standing) (earlier later : Told) → node_of i ≡ now → is_some i.up ≡ false → i.disk ≡ Some disk
       → IsSeen g now s → Starts g i.post s.store s.begun disk up earlier later

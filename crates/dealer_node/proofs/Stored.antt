@@ -1,7 +1,7 @@
 -- What a node stores: promises and votes, as the rules have them.
 use Rattle.std.proofs.Common.{◌≡◌, ℕ, zero, suc, ◌+◌, ◌≤◌, ◌<◌, inl, inr, Bool, true, false, List, [], ◌∷◌, ◌++◌, Result, Ok, Err, refl, ap, sym, subst, ◌∙◌, arith, true≢false}
 use Rattle.std.proofs.lemmas.List.{append-nil}
-use Rattle.std.specs.Prelude.{◌⊎◌, Option, Some, None, IfSome, OnOk, OnErr, IfOk, IfErr, map, if◌then◌else◌, nat_lt, ◌==◌}
+use Rattle.std.specs.Prelude.{◌⊎◌, Option, Some, None, IfSome, OnOk, OnErr, IfOk, IfErr, MatchResult, map, if◌then◌else◌, nat_lt, ◌==◌}
 use Rattle.std.proofs.lemmas.Bool.{le-ltb, eq-eqb}
 use Rattle.paxos_wire.specs.declared.limits.TheConstants.{WINDOW}
 use Rattle.paxos_wire.specs.declared.ballot.Ballot.{Ballot}
@@ -13,7 +13,10 @@ use Rattle.promise_store.specs.declared.disk.Disk.{Ghosts}
 use Rattle.promise_store.specs.declared.store.Store.{Store as Kept}
 use Rattle.promise_store.specs.declared.fault.StoreFault.{StoreFault}
 use Rattle.promise_store.specs.declared.fault.StoreFault.TheVariants.{Disk, OutOfMemory}
-use Rattle.promise_store.specs.Keeping.{disk_of, Keeps, Leaves, LeavesDuring}
+use Rattle.promise_store.specs.Room.{promised_in}
+use Rattle.promise_store.specs.Appended.{IsAsBefore}
+use Rattle.promise_store.specs.Keeping.{disk_of, held_of, Keeps, Leaves, LeavesDuring}
+use Rattle.protocol_model.specs.Sets.{In}
 use Rattle.protocol_model.specs.Messages.{Vote}
 use Rattle.protocol_model.specs.Stores.{Store, promised, voted}
 use Rattle.paxos_wire.specs.Order.{is_below}
@@ -25,9 +28,9 @@ use Rattle.acceptor.specs.declared.answers.PrepareAnswer.{PrepareAnswer}
 use Rattle.acceptor.specs.declared.answers.PrepareAnswer.TheVariants.{Promise, Refuse}
 use Rattle.acceptor.specs.declared.answers.AcceptAnswer.{AcceptAnswer}
 use Rattle.acceptor.specs.declared.answers.AcceptAnswer.TheVariants.{Accepted, Refuse as RefuseAccept}
-use Rattle.acceptor.specs.Answers.{told_from, told_of, answer_to_prepare, prepared, command_in, has_voted, answer_to_accept, accepted}
+use Rattle.acceptor.specs.Answers.{told_from, told_of, answer_to_prepare, refusal_of_prepare, prepared, command_in, has_voted, answer_to_accept, accepted}
 use Rattle.acceptor.specs.Stored.{store_of}
-use Rattle.acceptor.specs.Taken.{Taken}
+use Rattle.acceptor.specs.Taken.{IsFault, NeedsStore, Taken}
 use Rattle.node_rules.specs.Standings.{Place, Standing, with_stored, idle}
 use Rattle.node_rules.specs.Sending.{Frame, one, to_others}
 use Rattle.node_rules.specs.Turns.{Turn, Refusal, Conflict, still, sending, joined, behind, and_then}
@@ -50,7 +53,8 @@ use Rattle.dealer_node.specs.Voting.{telling_vote}
 use Rattle.dealer_node.specs.Working.{head_of, disk_under, ComesTo, IsDone, IsUp, Took, Failed, Clashed, Works}
 use Rattle.dealer_node.proofs.Telling.{told_with, frames_more}
 use Rattle.dealer_node.proofs.Learned.{stored_too}
-use Rattle.dealer_node.proofs.Worked.{nothing_more, memory_took, then_works, works_from}
+use Rattle.dealer_node.proofs.Still.{told_to_none, of_refusal}
+use Rattle.dealer_node.proofs.Worked.{in_first, nothing_more, memory_took, then_works, works_from}
 
 -- ---- what is told
 
@@ -91,17 +95,18 @@ module _ {D : Type 0} (g : Ghosts D) where
         told = frames_more told texts (map posted (one from (frame.Promise ballot slot (told_by s.store slot)))) (sent ∙ ap (λ m. told.frames ++ map posted (one from m)) same);
         fits = subst (λ m. AreMessages (one from m)) same fits;
         moments = during;
+        untouched = λ still. absurd (still _ (inl refl));
       }
 
   -- it is refused
   refused_by : (post : Post) (s : Standing) (from : ℕ) (ballot : Ballot) (slot : ℕ) (b : Bool) (old new : Up D) (answer : PrepareAnswer) (told : Told) (texts : List (Marked ℕ))
       → IsUp g post old s → answer ≡ answered_prepare b ballot slot s.store → Keeps g (head_of post) (prepared_by b ballot s.store) (store_of new.acceptor)
       → LeavesDuring g (head_of post) s.store (prepared_by b ballot s.store) (disk_under old) (disk_under new)
-      → new.running ≡ old.running → is_promise answer ≡ false → texts ≡ told.frames ++ map posted (one from (message_of answer)) → AreMessages (one from (message_of answer))
+      → new.running ≡ old.running → is_promise answer ≡ false → (b ≡ false → disk_under new ≡ disk_under old) → texts ≡ told.frames ++ map posted (one from (message_of answer)) → AreMessages (one from (message_of answer))
       → Took g post s (Ok (preparing_by b from ballot slot s)) old new told (told_with texts told.shown told.faults)
-  refused_by post s from ballot slot true old new answer told texts is given keeps during same refuses sent fits =
+  refused_by post s from ballot slot true old new answer told texts is given keeps during same refuses unread sent fits =
       absurd (true≢false (sym (ap is_promise given) ∙ refuses))
-  refused_by post s from ballot slot false old new answer told texts is given keeps during same refuses sent fits =
+  refused_by post s from ballot slot false old new answer told texts is given keeps during same refuses unread sent fits =
       let message : message_of answer ≡ frame.Refuse ballot slot s.store.promise = ap message_of given in
       record {
         turn = refusing from ballot slot s;
@@ -110,7 +115,17 @@ module _ {D : Type 0} (g : Ghosts D) where
         told = frames_more told texts (map posted (one from (frame.Refuse ballot slot s.store.promise))) (sent ∙ ap (λ m. told.frames ++ map posted (one from m)) message);
         fits = subst (λ m. AreMessages (one from m)) message fits;
         moments = during;
+        untouched = λ still. unread refl;
       }
+
+  -- what the promise that is shown refuses by itself touches no disk
+  pub prepare_unread : (ballot : Ballot) (slot : ℕ) (promise kept : Ballot) (old new : Kept D) (result : Result PrepareAnswer StoreFault) → promise ≡ promised_in (held_of old) → promise ≡ kept
+      → NeedsStore g (refusal_of_prepare ballot slot (promised_in (held_of old))) old new result → is_below kept ballot ≡ false → disk_of new ≡ disk_of old
+  prepare_unread ballot slot promise kept old new result shown same needs below =
+      let P : PrepareAnswer → Type 0 = λ told. MatchResult result (λ given. given ≡ told) (λ why. why ≡ OutOfMemory) × IsAsBefore g old new in
+      let unread : P (Refuse ballot slot (promised_in (held_of old))) =
+      of_refusal (is_below (promised_in (held_of old)) ballot) (Refuse ballot slot (promised_in (held_of old))) P (ap (λ (b : Ballot). is_below b ballot) (sym shown ∙ same) ∙ below) needs.refused in
+      unread.1.disk
 
   pub prepare_promised : (post : Post) (s : Standing) (from : ℕ) (ballot : Ballot) (slot : ℕ) (old new : Up D) (answer : PrepareAnswer) (told : Told) (texts : List (Marked ℕ))
       → IsUp g post old s → answer ≡ answer_to_prepare ballot slot s.store → Keeps g (head_of post) (prepared ballot s.store) (store_of new.acceptor)
@@ -122,7 +137,7 @@ module _ {D : Type 0} (g : Ghosts D) where
   pub prepare_refused : (post : Post) (s : Standing) (from : ℕ) (ballot : Ballot) (slot : ℕ) (old new : Up D) (answer : PrepareAnswer) (told : Told) (texts : List (Marked ℕ))
       → IsUp g post old s → answer ≡ answer_to_prepare ballot slot s.store → Keeps g (head_of post) (prepared ballot s.store) (store_of new.acceptor)
       → LeavesDuring g (head_of post) s.store (prepared ballot s.store) (disk_under old) (disk_under new)
-      → new.running ≡ old.running → is_promise answer ≡ false → texts ≡ told.frames ++ map posted (one from (message_of answer)) → AreMessages (one from (message_of answer))
+      → new.running ≡ old.running → is_promise answer ≡ false → (is_below s.store.promise ballot ≡ false → disk_under new ≡ disk_under old) → texts ≡ told.frames ++ map posted (one from (message_of answer)) → AreMessages (one from (message_of answer))
       → Took g post s (Ok (preparing from ballot slot s)) old new told (told_with texts told.shown told.faults)
   prepare_refused post s from ballot slot old new answer told texts = refused_by post s from ballot slot (is_below s.store.promise ballot) old new answer told texts
 
@@ -141,6 +156,11 @@ module _ {D : Type 0} (g : Ghosts D) where
   pub is_disk : (why : StoreFault) → (why ≡ Disk) ⊎ (why ≡ OutOfMemory) → (why ≡ OutOfMemory → ⊥) → why ≡ Disk
   is_disk why (inl e) memory = e
   is_disk why (inr e) memory = absurd (memory e)
+
+  -- without want of memory it is what an open store refuses
+  pub of_store : (why : StoreFault) → IsFault why ⊎ (why ≡ OutOfMemory) → (why ≡ OutOfMemory → ⊥) → IsFault why
+  of_store why (inl of) memory = of
+  of_store why (inr e) memory = absurd (memory e)
 
   pub fails_by : (post : Post) (s : Standing) (outcome : Result Turn Refusal) (old new : Up D) (earlier later : Told) (why : StoreFault) → why ≡ Disk → Failed g post s outcome old new
       → Works g post s outcome old new earlier later (Err (fault.Store why))
@@ -162,6 +182,19 @@ learning_keeps place (Ok answer) learned s first turn rule =
     let same = same_turn _ turn _ refl rule in
     record { store = ap (λ (t : Turn). t.after.store) (sym same); begun = ap (λ (t : Turn). t.after.begun) (sym same); campaign = ap (λ (t : Turn). t.after.campaign) (sym same) }
 learning_keeps place (Err why) learned s first turn rule = let never : Err (Conflict s.store) ≡ Ok turn = rule in absurd (cc)
+
+-- what a first turn sends is sent, whatever comes behind it
+sends_by : (first next turn : Turn) (sent : Frame) → behind first (Ok next) ≡ Ok turn → In sent first.frames → In sent turn.frames
+sends_by first next turn sent rule at = subst (λ (t : Turn). In sent t.frames) (same_turn (joined first next) turn (behind first (Ok next)) refl rule) (in_first sent first.frames next.frames at)
+
+behind_sends : (first turn : Turn) (next : Result Turn Refusal) (sent : Frame) → behind first next ≡ Ok turn → In sent first.frames → In sent turn.frames
+behind_sends first turn (Ok next) sent rule at = sends_by first next turn sent rule at
+behind_sends first turn (Err why) sent rule at = let never : Err why ≡ Ok turn = rule in absurd (cc)
+
+telling_sends : (place : Place) (ballot : Ballot) (slot : ℕ) (command : Command) (s : Standing) (turn : Turn) (sent : Frame) → telling_vote place ballot slot command s ≡ Ok turn
+    → In sent (to_others place (frame.Accepted ballot slot command)) → In sent turn.frames
+telling_sends place ballot slot command s turn sent rule at =
+    behind_sends (sending (to_others place (frame.Accepted ballot slot command)) s) turn (learning place (answer_to s.learned place.node ballot slot command) (hearing_vote s.learned place.node ballot slot command) s) sent rule at
 
 pub telling_keeps : (place : Place) (ballot : Ballot) (slot : ℕ) (command : Command) (s : Standing) (turn : Turn) → telling_vote place ballot slot command s ≡ Ok turn → KeepsStore s turn.after
 telling_keeps place ballot slot command s turn rule =
@@ -236,8 +269,9 @@ module _ {D : Type 0} (g : Ghosts D) where
       → Keeps g (head_of post) (accepted ballot slot command s.store) (store_of new.acceptor)
       → LeavesDuring g (head_of post) s.store (accepted ballot slot command s.store) (disk_under old) (disk_under new)
       → ((x : Standing) → IsRunning post old.running x → TakesTurn post new.running earlier later (telling_vote (place_at post) ballot slot stored x))
+      → 2 ≤ post.nodes
       → Took g post s (voting (place_at post) ballot slot command s) old new earlier later
-  vote_took post s ballot slot command stored old new earlier later is above own accepts keeps during tells =
+  vote_took post s ballot slot command stored old new earlier later is above own accepts keeps during tells many =
       let x : Standing = with_vote s ballot slot command in
       let t = tells x (stored_too post old.running s (storing s.store ballot slot command) is.running) in
       let same : stored ≡ stored_in (s.store.votes slot) ballot command = same_some _ _ (accepts ∙ vote_accepts ballot slot command s.store above) in
@@ -257,6 +291,7 @@ module _ {D : Type 0} (g : Ghosts D) where
         told = t.taken.told;
         fits = t.taken.fits;
         moments = subst (λ (st : Store). LeavesDuring g (head_of post) s.store st (disk_under old) (disk_under new)) stores during;
+        untouched = λ still. absurd (told_to_none post.nodes post.node (frame.Accepted ballot slot stored) many (λ e. e) (λ sent at. still sent (telling_sends (place_at post) ballot slot stored x t.turn sent t.rule at)));
       }
 
   -- another command was known
@@ -329,6 +364,7 @@ module _ {D : Type 0} (g : Ghosts D) where
         told = frames_more told texts (map posted (one from (frame.Refuse ballot slot s.store.promise))) (sent ∙ ap (λ (p : Ballot). told.frames ++ map posted (one from (frame.Refuse ballot slot p))) same);
         fits = subst (λ (p : Ballot). AreMessages (one from (frame.Refuse ballot slot p))) same fits;
         moments = λ t image was. inl was;
+        untouched = λ still. refl;
       }
 
   pub accept_voted : (post : Post) (s : Standing) (from : ℕ) (ballot promise : Ballot) (slot : ℕ) (command : Command) (mid old new : Up D) (earlier later : Told) (answer : Result (Unit {0}) NodeFault)
@@ -368,6 +404,7 @@ module _ {D : Type 0} (g : Ghosts D) where
         told = frames_more told texts (map posted frames) sent;
         fits = fits;
         moments = λ t image was. inl was;
+        untouched = λ still. refl;
       } in
       then_works g post s (voting (place_at post) made.ballot made.slot made.command) (Ok turn) old old new told (told_with texts told.shown told.faults) later answer first (inl refl)
       (votes (not_below made.ballot s.store.promise own) (subst (λ (b : Ballot). IfSome s.campaign (λ c. c.ballot ≡ b)) (sym own) is.stands))

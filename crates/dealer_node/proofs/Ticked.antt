@@ -32,6 +32,8 @@ use Rattle.dealer_node.specs.Posts.{Post, IsPost, place_at}
 use Rattle.dealer_node.specs.Running.{IsRunning, IsTaken, is_spent_at}
 use Rattle.dealer_node.specs.Working.{head_of, disk_under, ComesTo, IsDone, IsUp, Took, Failed, Works}
 use Rattle.dealer_node.specs.declared.fault.NodeFault.{NodeFault}
+use Rattle.paxos_wire.specs.declared.message.Message.TheVariants as frame
+use Rattle.dealer_node.proofs.Still.{more_than_one, told_to_none}
 use Rattle.dealer_node.proofs.Worked.{nothing_more, then_works}
 use Rattle.dealer_node.proofs.Stored.{told_same, answered_prepare, prepared_by}
 
@@ -165,6 +167,7 @@ module _ {D : Type 0} (g : Ghosts D) where
         told = taken.told;
         fits = taken.fits;
         moments = subst (λ (st : Store). LeavesDuring g (head_of post) s.store st (disk_under old) (disk_under new)) stores during;
+        untouched = λ still. absurd (told_to_none post.nodes post.node (frame.Prepare ballot (front_of s)) (more_than_one post.nodes is_post.nodes) (λ e. e) still);
       } in
       let closes = unled post ballot s is_post in
       let second : Took g post turn.after (closing (place_at post) turn.after) new new later later = record {
@@ -174,6 +177,7 @@ module _ {D : Type 0} (g : Ghosts D) where
         told = nothing_more later turn.after;
         fits = λ one at. absurd at;
         moments = λ t image was. inl was;
+        untouched = λ still. refl;
       } in
       then_works g post s (closing (place_at post)) (ticking (place_at post) s) old new new told later later (Ok tt) first (inr (still turn.after, closes, refl, refl)) second
 
@@ -204,6 +208,7 @@ module _ {D : Type 0} (g : Ghosts D) where
         told = nothing_more told s;
         fits = λ one at. absurd at;
         moments = λ t image was. inl was;
+        untouched = λ still. refl;
       } in
       then_works g post s (closing (place_at post)) (ticking (place_at post) s) old old new told told later answer first (inl refl) works
 

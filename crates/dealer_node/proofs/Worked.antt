@@ -35,6 +35,15 @@ in_either x [] ys at = inr at
 in_either x (y ∷ xs) ys (inl e) = inl (inl e)
 in_either x (y ∷ xs) ys (inr at) = elim (in_either x xs ys at) [ inl a ↦ inl (inr a) | inr b ↦ inr b ]
 
+pub in_first : {A : Type 0} (x : A) (xs ys : List A) → In x xs → In x (xs ++ ys)
+in_first x [] ys at = absurd at
+in_first x (y ∷ xs) ys (inl e) = inl e
+in_first x (y ∷ xs) ys (inr at) = inr (in_first x xs ys at)
+
+pub in_next : {A : Type 0} (x : A) (xs ys : List A) → In x ys → In x (xs ++ ys)
+in_next x [] ys at = at
+in_next x (y ∷ xs) ys at = inr (in_next x xs ys at)
+
 pub both_are : (first next : List Frame) → AreMessages first → AreMessages next → AreMessages (first ++ next)
 both_are first next a b one at = elim (in_either one first next at) [ inl i ↦ a one i | inr j ↦ b one j ]
 
@@ -121,6 +130,7 @@ module _ {D : Type 0} (g : Ghosts D) where
     fits = fits;
     now = record { running = runs; keeps = subst (λ (st : Store). Keeps g (head_of post) st (store_of up.acceptor)) (sym store) is.keeps; unbegun = begun ∙ is.unbegun ∙ sym store; stands = stands };
     moments = λ t image was. inl was;
+    untouched = λ still. refl;
   }
 
   then_took : (post : Post) (s : Standing) (next : Standing → Result Turn Refusal) (outcome : Result Turn Refusal) (a b c : Up D) (earlier middle later : Told)
@@ -134,6 +144,8 @@ module _ {D : Type 0} (g : Ghosts D) where
     told = told_more first.turn second.turn earlier middle later first.told second.told;
     fits = both_are first.turn.frames second.turn.frames first.fits second.fits;
     moments = left_during (head_of post) _ _ _ s.store first.turn.after.store second.turn.after.store (appends_once s first.turn.after (next first.turn.after) second.turn once second.rule) first.moments second.moments;
+    untouched = λ still.
+        second.untouched (λ sent at. still sent (in_next sent first.turn.frames second.turn.frames at)) ∙ first.untouched (λ sent at. still sent (in_first sent first.turn.frames second.turn.frames at));
   }
 
   then_failed : (post : Post) (s : Standing) (next : Standing → Result Turn Refusal) (outcome : Result Turn Refusal) (a b c : Up D) (earlier middle : Told)
@@ -186,7 +198,15 @@ module _ {D : Type 0} (g : Ghosts D) where
   pub works_from : (post : Post) (s other : Standing) (outcome : Result Turn Refusal) (a c b : Up D) (earlier later : Told) (answer : Result (Unit {0}) NodeFault)
       → other.store ≡ s.store → disk_under a ≡ disk_under c → Works g post other outcome a b earlier later answer → Works g post s outcome c b earlier later answer
   works_from post s other outcome a c b earlier later (Ok done) same disk w =
-      record { turn = w.turn; rule = w.rule; now = w.now; told = w.told; fits = w.fits; moments = moments_from post s.store other.store w.turn.after.store a c b same disk w.moments }
+      record {
+        turn = w.turn;
+        rule = w.rule;
+        now = w.now;
+        told = w.told;
+        fits = w.fits;
+        moments = moments_from post s.store other.store w.turn.after.store a c b same disk w.moments;
+        untouched = λ still. w.untouched still ∙ disk;
+      }
   works_from post s other outcome a c b earlier later (Err (fault.Store Disk)) same disk w =
       record { left = w.left; comes = comes_from s.store other.store outcome w.left w.comes same; done = w.done; leaves = subst (λ (st : Store). Leaves g (head_of post) st w.left (disk_under b)) same w.leaves; moments = moments_from post s.store other.store w.left a c b same disk w.moments }
   works_from post s other outcome a c b earlier later (Err fault.Conflict) same disk w =

@@ -2,6 +2,7 @@
 use Rattle.std.specs.Prelude.{◌≡◌, ℕ, ◌≤◌, length, vec_len, Result, Ok, Err}
 use Rattle.promise_store.specs.declared.disk.Disk.{Ghosts}
 use Rattle.promise_store.specs.declared.fault.StoreFault.TheVariants.{Disk}
+use Rattle.acceptor.specs.Taken.{IsFault}
 use Rattle.node_rules.specs.Standings.{Standing}
 use Rattle.node_rules.specs.Turns.{Turn, Refusal, Spent, BadFrame}
 use Rattle.dealer_node.specs.declared.up.Up.{Up}
@@ -13,6 +14,27 @@ use Rattle.dealer_node.specs.Outs.{Told}
 use Rattle.dealer_node.specs.Posts.{Post}
 use Rattle.dealer_node.specs.Texts.{byte_total}
 use Rattle.dealer_node.specs.Working.{disk_under, IsUp, Took, Failed, Clashed}
+
+-- 90, 92, 93 and 94: nothing but room has changed
+abbrev pub HasNoEffect : Result (Unit {0}) NodeFault → Type 0
+HasNoEffect (Err fault.Down) = Unit {0}
+HasNoEffect (Err fault.OutOfMemory) = Unit {0}
+HasNoEffect (Err fault.Spent) = Unit {0}
+HasNoEffect (Err (fault.BadFrame why)) = Unit {0}
+HasNoEffect other = ⊥
+
+-- what a whole call of a node that runs may answer, whatever its disk is: it isn't down, and 91 carries what an open store refuses
+abbrev pub IsOfCall : Result (Unit {0}) NodeFault → Type 0
+IsOfCall (Err fault.Down) = ⊥
+IsOfCall (Err (fault.Store why)) = IsFault why
+IsOfCall other = Unit {0}
+
+module _ {D : Type 0} where
+  -- a whole call of what runs, whatever its disk is
+  pub record AnswersUp (before after : Up D) (answer : Result (Unit {0}) NodeFault) : Type 0 where
+    pub of_call : IsOfCall answer
+    -- where nothing was done the disk is as it was
+    pub disk : HasNoEffect answer → disk_under after ≡ disk_under before
 
 module _ {D : Type 0} (g : Ghosts D) where
   -- nothing but room has changed

@@ -1,10 +1,11 @@
 -- What a call makes of a node, however it ends.
-use Rattle.std.specs.Prelude.{◌≡◌, ℕ, ◌⊎◌, ◌≤◌, Bool, true, false, List, [], map, Result, Ok, Err, IsErr}
+use Rattle.std.specs.Prelude.{◌≡◌, ◌≢◌, ℕ, ◌⊎◌, ◌≤◌, Bool, true, false, List, [], map, Result, Ok, Err, IsErr}
 use Rattle.promise_store.specs.declared.disk.Disk.{Ghosts}
 use Rattle.promise_store.specs.declared.fault.StoreFault.{StoreFault}
-use Rattle.promise_store.specs.declared.fault.StoreFault.TheVariants.{Disk}
+use Rattle.promise_store.specs.declared.fault.StoreFault.TheVariants.{Disk, OutOfMemory}
 use Rattle.promise_store.specs.Disks.{During, Rose}
 use Rattle.promise_store.specs.Holding.{StandsFor}
+use Rattle.acceptor.specs.Taken.{IsFault}
 use Rattle.paxos_wire.specs.Spelling.{frame}
 use Rattle.paxos_wire.specs.Faults.{reading}
 use Rattle.protocol_model.specs.Sets.{In}
@@ -23,8 +24,9 @@ use Rattle.dealer_node.specs.declared.fault.NodeFault.TheVariants as fault
 use Rattle.dealer_node.specs.Outs.{Told, both_told}
 use Rattle.dealer_node.specs.Posts.{place_at}
 use Rattle.dealer_node.specs.Turned.{posted, printed, fault_of}
-use Rattle.dealer_node.specs.Working.{IsDone}
-use Rattle.dealer_node.specs.Seeing.{head_of, post_in, IsSeen, begun_of, failures_of, since_of}
+use Rattle.dealer_node.specs.Working.{IsDone, AreStill}
+use Rattle.dealer_node.specs.Handling.{HasNoEffect}
+use Rattle.dealer_node.specs.Seeing.{head_of, post_in, runs, disk_in, IsSeen, begun_of, failures_of, since_of}
 
 -- ---- what it answers
 
@@ -69,6 +71,40 @@ FailsRightly place s called after frames shown (unchanged e f g) = Unit {0}
 abbrev pub MayBegin : Bool → Place → Standing → Call → Store → Type 0
 MayBegin false place s called next = next ≡ s.begun
 MayBegin true place s called next = (next ≡ s.store) ⊎ ((outcome : Result Turn Refusal) × IsTurn place s called outcome × (next ≡ (standing_after place s outcome).begun))
+
+-- ---- whatever the node is seen as
+
+-- 91 and 95: the node is down
+abbrev pub TakesDown : Result (Unit {0}) NodeFault → Type 0
+TakesDown (Err (fault.Store why)) = Unit {0}
+TakesDown (Err fault.Conflict) = Unit {0}
+TakesDown other = ⊥
+
+-- a start is refused for want of memory, or by what opening the store found
+abbrev pub IsOfStart : NodeFault → Type 0
+IsOfStart fault.OutOfMemory = Unit {0}
+IsOfStart (fault.Store why) = why ≢ OutOfMemory
+IsOfStart other = ⊥
+
+module _ {D : Type 0} where
+  -- what holds of every call but a start and a stop
+  pub record AnswersRightly (old new : Node D) (answer : Result (Unit {0}) NodeFault) : Type 0 where
+    -- 90 is what a node that is down answers, and no other
+    pub down : runs old ≡ false → answer ≡ Err fault.Down
+    pub up : answer ≡ Err fault.Down → runs old ≡ false
+    -- by 90, 92, 93 and 94 it runs or is down as before, and its disk was neither read nor written
+    pub stands : HasNoEffect answer → runs new ≡ runs old
+    pub disk : HasNoEffect answer → disk_in new ≡ disk_in old
+    -- by 91 and 95 it is down
+    pub falls : TakesDown answer → runs new ≡ false
+    -- 91 carries what an open store refuses, and not what only opening one finds
+    pub carries : (why : StoreFault) → answer ≡ Err (fault.Store why) → IsFault why
+
+  -- the disk is read and written only by a turn that sends a Prepare, a Promise or an Accepted
+  pub record LeavesDisk (called : Call) (s : Standing) (old new : Node D) : Type 0 where
+    pub turn : Turn
+    pub rule : IsTurn (place_at (post_in old)) s called (Ok turn)
+    pub untouched : AreStill turn.frames → disk_in new ≡ disk_in old
 
 -- ---- the whole
 

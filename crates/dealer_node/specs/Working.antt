@@ -7,9 +7,14 @@ use Rattle.promise_store.specs.Keeping.{disk_of, held_of, Keeps, Leaves, LeavesD
 use Rattle.promise_store.specs.Journals.{header}
 use Rattle.promise_store.specs.Room.{room}
 use Rattle.acceptor.specs.Stored.{store_of}
+use Rattle.acceptor.specs.Taken.{IsFault}
+use Rattle.paxos_wire.specs.declared.message.Message.{Message}
+use Rattle.paxos_wire.specs.declared.message.Message.TheVariants as frame
+use Rattle.protocol_model.specs.Sets.{In}
 use Rattle.protocol_model.specs.Stores.{Store}
 use Rattle.proposer.specs.declared.campaign.Campaign.{Campaign}
 use Rattle.node_rules.specs.Standings.{Standing}
+use Rattle.node_rules.specs.Sending.{Frame}
 use Rattle.node_rules.specs.Turns.{Turn, Refusal, Conflict}
 use Rattle.dealer_node.specs.declared.up.Up.{Up}
 use Rattle.dealer_node.specs.declared.running.Running.{Running}
@@ -42,6 +47,23 @@ IsDone (Ok turn) = Unit {0}
 IsDone (Err (Conflict store)) = Unit {0}
 IsDone (Err other) = ⊥
 
+-- a message behind which nothing was stored and no entry read: it asks for no promise and makes none, and tells of no vote
+abbrev pub TellsNoStore : Message → Type 0
+TellsNoStore (frame.Prepare ballot slot) = ⊥
+TellsNoStore (frame.Promise ballot slot entries) = ⊥
+TellsNoStore (frame.Accepted ballot slot command) = ⊥
+TellsNoStore other = Unit {0}
+
+abbrev pub AreStill : List Frame → Type 0
+AreStill frames = (sent : Frame) → In sent frames → TellsNoStore sent.message
+
+-- what a part of a call may answer, whatever its disk is: it is done, another command is known, or what an open store refuses
+abbrev pub IsOfPart : Result (Unit {0}) NodeFault → Type 0
+IsOfPart (Ok done) = Unit {0}
+IsOfPart (Err (fault.Store why)) = IsFault why
+IsOfPart (Err fault.Conflict) = Unit {0}
+IsOfPart (Err other) = ⊥
+
 module _ {D : Type 0} where
   abbrev pub disk_under : Up D → D
   disk_under up = disk_of (store_of up.acceptor)
@@ -68,6 +90,8 @@ module _ {D : Type 0} (g : Ghosts D) where
     pub told : later ≡ both_told earlier (told_of turn)
     pub fits : AreMessages turn.frames
     pub moments : LeavesDuring g (head_of post) s.store turn.after.store (disk_under before) (disk_under after)
+    -- the disk is read and written only where the turn sends a Prepare, a Promise or an Accepted
+    pub untouched : AreStill turn.frames → disk_under after ≡ disk_under before
 
   -- the disk failed: images stand for the store before or for what the outcome leaves
   pub record Failed (post : Post) (s : Standing) (outcome : Result Turn Refusal) (before after : Up D) : Type 0 where

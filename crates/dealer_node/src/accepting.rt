@@ -12,7 +12,7 @@ ghost use Rattle.dealer_node.specs.Outs.{told_by};
 ghost use Rattle.dealer_node.specs.declared.made.Need.{Need as Needs};
 ghost use Rattle.dealer_node.specs.Running.{IsAt, CanLearn, Learns};
 ghost use Rattle.dealer_node.specs.Rooms.{Grows};
-ghost use Rattle.dealer_node.specs.Working.{HasLeft};
+ghost use Rattle.dealer_node.specs.Working.{HasLeft, IsOfPart};
 
 use crate::answering::{accepted_command, send_prepare_answer, send_refusal};
 use crate::fault::NodeFault;
@@ -46,11 +46,13 @@ impl<D: Disk + Drop> Up<D> {
         ensures works { (s : Standing) → IsTrue D.is_honest → IsUp D.Disk post.now self.old s
             → Works D.Disk post.now s (Ok (preparing from ballot slot s)) self.old self.new (told_by made.old) (told_by made.new) result }
         ensures goes_on { GoesOn D.Disk self.old self.new result }
+        ensures only { IsOfPart result }
         ensures at { IsAt post.now self.new.running }
         ensures room { store_room self.old ≤ store_room self.new + 1 }
         ensures left { (need : Needs) (votes frames : ℕ) → HasLeft self.old.running made.old need (votes + 1) (frames + 64) → HasLeft self.new.running made.new need votes frames }
     {
         let _ = post;
+        let _promised = self.acceptor.promised();
         match self.acceptor.on_prepare(ballot, slot) {
             Ok(answer) => {
                 if send_prepare_answer(&mut made.frames, from, &answer) {
@@ -84,6 +86,7 @@ impl<D: Disk + Drop> Up<D> {
             → is_below ballot s.store.promise ≡ false → IfSome s.campaign (λ campaign. campaign.ballot ≡ ballot)
             → Works D.Disk post.now s (voting (place_at post.now) ballot slot command.now s) self.old self.new (told_by made.old) (told_by made.new) result }
         ensures goes_on { GoesOn D.Disk self.old self.new result }
+        ensures only { IsOfPart result }
         ensures at { IsAt post.now self.new.running }
         ensures room { store_room self.old ≤ store_room self.new + 1 }
         ensures left { (need : Needs) (votes frames : ℕ) → HasLeft self.old.running made.old need (votes + 1) (frames + 5) → HasLeft self.new.running made.new need votes frames }
@@ -125,6 +128,7 @@ impl<D: Disk + Drop> Up<D> {
         ensures works { (s : Standing) → IsTrue D.is_honest → IsUp D.Disk post.now self.old s
             → Works D.Disk post.now s (accepting (place_at post.now) from ballot slot command.now s) self.old self.new (told_by made.old) (told_by made.new) result }
         ensures goes_on { GoesOn D.Disk self.old self.new result }
+        ensures only { IsOfPart result }
         ensures at { IsAt post.now self.new.running }
         ensures room { store_room self.old ≤ store_room self.new + 1 }
         ensures left { (need : Needs) (votes frames : ℕ) → HasLeft self.old.running made.old need (votes + 1) (frames + 64) → HasLeft self.new.running made.new need votes frames }
@@ -151,6 +155,7 @@ impl<D: Disk + Drop> Up<D> {
         ensures works { (s : Standing) → IsTrue D.is_honest → IsUp D.Disk post.now self.old s → proposal.now.ballot ≡ s.store.promise
             → Works D.Disk post.now s (proposing (place_at post.now) proposal.now s) self.old self.new (told_by made.old) (told_by made.new) result }
         ensures goes_on { GoesOn D.Disk self.old self.new result }
+        ensures only { IsOfPart result }
         ensures at { IsAt post.now self.new.running }
         ensures left { (need : Needs) (votes frames : ℕ) → HasLeft self.old.running made.old need (votes + 1) (frames + 10) → HasLeft self.new.running made.new need votes frames }
     {
@@ -175,6 +180,7 @@ impl<D: Disk + Drop> Up<D> {
         ensures works { (s : Standing) → IsTrue D.is_honest → IsUp D.Disk post.now self.old s
             → Works D.Disk post.now s (closing (place_at post.now) s) self.old self.new (told_by made.old) (told_by made.new) result }
         ensures goes_on { GoesOn D.Disk self.old self.new result }
+        ensures only { IsOfPart result }
         ensures at { IsAt post.now self.new.running }
         ensures left { (need : Needs) (votes frames : ℕ) → HasLeft self.old.running made.old need (votes + 1) (frames + 10) → HasLeft self.new.running made.new need votes frames }
     {

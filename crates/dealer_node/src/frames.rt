@@ -9,7 +9,7 @@ ghost use Rattle.dealer_node.specs.Outs.{told_by};
 ghost use Rattle.dealer_node.specs.Rooms.{Grows};
 ghost use Rattle.dealer_node.specs.declared.made.Need.{Need as Needs};
 ghost use Rattle.dealer_node.specs.Running.{IsRunning, IsTaken, IsAt, CanLearn};
-ghost use Rattle.dealer_node.specs.Working.{HasLeft};
+ghost use Rattle.dealer_node.specs.Working.{HasLeft, IsOfPart};
 
 use crate::fault::NodeFault;
 use crate::made::Made;
@@ -61,6 +61,7 @@ impl<D: Disk + Drop> Up<D> {
         ensures works { (s : Standing) → IsTrue D.is_honest → IsUp D.Disk post.now self.old s
             → Works D.Disk post.now s (taking (place_at post.now) from message.now s) self.old self.new (told_by made.old) (told_by made.new) result }
         ensures goes_on { GoesOn D.Disk self.old self.new result }
+        ensures only { IsOfPart result }
         ensures at { IsAt post.now self.new.running }
         ensures room { store_room self.old ≤ store_room self.new + 1 }
         ensures left { (need : Needs) (votes frames : ℕ) → HasLeft self.old.running made.old need (votes + 1) (frames + 64) → HasLeft self.new.running made.new need votes frames }
@@ -99,6 +100,7 @@ impl<D: Disk + Drop> Up<D> {
         ensures works { (s : Standing) → IsTrue D.is_honest → IsUp D.Disk post.now self.old s
             → Works D.Disk post.now s (on_message (place_at post.now) from message.now s) self.old self.new (told_by made.old) (told_by made.new) result }
         ensures goes_on { GoesOn D.Disk self.old self.new result }
+        ensures only { IsOfPart result }
         ensures at { IsAt post.now self.new.running }
         ensures left { (need : Needs) → HasLeft self.old.running made.old need 2 75 → OnOk result (HasLeft self.new.running made.new need 0 0) }
     {

@@ -1,4 +1,4 @@
-ghost use Rattle.std.specs.Prelude.{◌≡◌, ℕ, ◌<◌, ◌≤◌, true, false, List, [], Option, IsTrue, IsErr, IfOk, IfErr, IfSome, OnOk, length};
+ghost use Rattle.std.specs.Prelude.{◌≡◌, ℕ, ◌<◌, ◌≤◌, true, false, List, [], Option, IsTrue, IsErr, Ok, Err, IfOk, IfErr, IfSome, OnOk, length};
 ghost use Rattle.protocol_model.specs.Stores.{Store as Kept, empty_store};
 ghost use Rattle.node_rules.specs.Standings.{Standing, applied, front_of, place_of, stopped};
 ghost use Rattle.node_rules.specs.Showing.{is_connected as is_talk_ready};
@@ -7,6 +7,7 @@ ghost use Rattle.node_rules.specs.Calls.{Start, Tick, Frame, Line, Connect, Drop
 ghost use Rattle.promise_store.specs.Disks.{Within, During, Rose};
 ghost use Rattle.promise_store.specs.Journals.{header};
 ghost use Rattle.promise_store.specs.Keeping.{Leaves};
+ghost use Rattle.promise_store.specs.declared.fault.StoreFault.{StoreFault as Fault};
 ghost use Rattle.promise_store.specs.declared.fault.StoreFault.TheVariants.{Disk as DiskFailed};
 ghost use Rattle.dealer_node.specs.Outs.{nothing_told};
 ghost use Rattle.dealer_node.specs.Posts.{place_at};
@@ -64,7 +65,9 @@ impl<D: Disk> Model for Node<D> {
 
 impl<D: Disk + Drop> Node<D> {
     ghost use Rattle.dealer_node.specs.Seeing.{post_in, runs, disk_in, IsSeen, begun_of, bytes_of, failures_of, images_of, since_of, downed, settled};
-    ghost use Rattle.dealer_node.specs.Taking.{Takes, StaysItself};
+    ghost use Rattle.promise_store.specs.Refusals.{Refuses};
+    ghost use Rattle.dealer_node.specs.Working.{head_of};
+    ghost use Rattle.dealer_node.specs.Taking.{Takes, StaysItself, AnswersRightly, LeavesDisk, IsOfStart};
 
     /// The node of this number, counted from 0, of a match, over this disk. It is down. An `Err` comes only where
     /// memory was refused.
@@ -123,6 +126,10 @@ impl<D: Disk + Drop> Node<D> {
         ensures taken { (s : Standing) → IsTrue D.is_honest → IsSeen D.Disk self.old s
             → (found : Kept) × Takes D.Disk (Start found) s self.old self.new out.old out.new result }
         ensures stays { StaysItself D.Disk self.old self.new out.old out.new result }
+        ensures running { runs self.old ≡ true → (self.new ≡ self.old) × (out.new ≡ out.old) × (result ≡ Ok tt) }
+        ensures down { IsErr result → runs self.new ≡ false }
+        ensures faults { IfErr result IsOfStart }
+        ensures refused { IsTrue D.is_honest → (why : Fault) → result ≡ Err (NodeFault.Store why) → Refuses (head_of (post_in self.old)) (bytes_of D.Disk self.old) why }
     {
         if self.up.is_some() {
             return Ok(());
@@ -153,6 +160,8 @@ impl<D: Disk + Drop> Node<D> {
         ensures taken { (s : Standing) → IsTrue D.is_honest → IsSeen D.Disk self.old s
             → Takes D.Disk (Frame from bytes.now) s self.old self.new out.old out.new result }
         ensures stays { StaysItself D.Disk self.old self.new out.old out.new result }
+        ensures answers { AnswersRightly self.old self.new result }
+        ensures untouched { (s : Standing) → IsTrue D.is_honest → IsSeen D.Disk self.old s → OnOk result (LeavesDisk (Frame from bytes.now) s self.old self.new) }
     {
         let _nodes = self.post.nodes();
         match &mut self.up {
@@ -173,6 +182,8 @@ impl<D: Disk + Drop> Node<D> {
         ensures taken { (s : Standing) → IsTrue D.is_honest → IsSeen D.Disk self.old s
             → Takes D.Disk (Line seat bytes.now) s self.old self.new out.old out.new result }
         ensures stays { StaysItself D.Disk self.old self.new out.old out.new result }
+        ensures answers { AnswersRightly self.old self.new result }
+        ensures untouched { (s : Standing) → IsTrue D.is_honest → IsSeen D.Disk self.old s → OnOk result (LeavesDisk (Line seat bytes.now) s self.old self.new) }
     {
         match &mut self.up {
             None => Err(NodeFault::Down),
@@ -191,6 +202,8 @@ impl<D: Disk + Drop> Node<D> {
         ensures taken { (s : Standing) → IsTrue D.is_honest → IsSeen D.Disk self.old s
             → Takes D.Disk Tick s self.old self.new out.old out.new result }
         ensures stays { StaysItself D.Disk self.old self.new out.old out.new result }
+        ensures answers { AnswersRightly self.old self.new result }
+        ensures untouched { (s : Standing) → IsTrue D.is_honest → IsSeen D.Disk self.old s → OnOk result (LeavesDisk Tick s self.old self.new) }
     {
         match &mut self.up {
             None => Err(NodeFault::Down),
@@ -207,6 +220,8 @@ impl<D: Disk + Drop> Node<D> {
         ensures taken { (s : Standing) → IsTrue D.is_honest → IsSeen D.Disk self.old s
             → Takes D.Disk (Connect seat) s self.old self.new nothing_told nothing_told result }
         ensures stays { StaysItself D.Disk self.old self.new nothing_told nothing_told result }
+        ensures answers { AnswersRightly self.old self.new result }
+        ensures disk { disk_in self.new ≡ disk_in self.old }
     {
         match &mut self.up {
             None => Err(NodeFault::Down),
@@ -223,6 +238,8 @@ impl<D: Disk + Drop> Node<D> {
         ensures taken { (s : Standing) → IsTrue D.is_honest → IsSeen D.Disk self.old s
             → Takes D.Disk (Dropping seat) s self.old self.new nothing_told nothing_told result }
         ensures stays { StaysItself D.Disk self.old self.new nothing_told nothing_told result }
+        ensures answers { AnswersRightly self.old self.new result }
+        ensures disk { disk_in self.new ≡ disk_in self.old }
     {
         match &mut self.up {
             None => Err(NodeFault::Down),

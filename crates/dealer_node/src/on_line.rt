@@ -9,7 +9,8 @@ ghost use Rattle.dealer_node.specs.Posts.{Post as Station};
 ghost use Rattle.dealer_node.specs.Rooms.{Grows, Tells};
 ghost use Rattle.dealer_node.specs.Seated.{feeds_with, HasRoomAt};
 ghost use Rattle.dealer_node.specs.Running.{IsAt};
-ghost use Rattle.dealer_node.specs.Handling.{IsWithin};
+ghost use Rattle.dealer_node.specs.Working.{IsOfPart};
+ghost use Rattle.dealer_node.specs.Handling.{IsWithin, AnswersUp};
 ghost use Rattle.dealer_node.specs.Calling.{line_need};
 
 use crate::fault::NodeFault;
@@ -77,6 +78,7 @@ impl<D: Disk + Drop> Up<D> {
         ensures works { (s : Standing) → IsTrue D.is_honest → IsUp D.Disk post.now self.old s
             → WorksLine D.Disk post.now s seat piece.now self.old self.new (told_by made.old) (told_by made.new) result }
         ensures goes_on { GoesOn D.Disk self.old self.new result }
+        ensures only { IsOfPart result }
         ensures at { IsAt post.now self.new.running }
         ensures within { told_by made.old ≡ nothing_told → IsWithin made.new (line_need self.old.running limit) }
     {
@@ -129,6 +131,7 @@ impl<D: Disk + Drop> Up<D> {
         ensures handles { (s : Standing) → IsTrue D.is_honest → IsUp D.Disk post.now self.old s
             → HandlesCall D.Disk post.now s (Piece seat bytes.now) self.old self.new (told_by out.old) (told_by out.new) result }
         ensures goes_on { GoesOn D.Disk self.old self.new result }
+        ensures answers { AnswersUp self.old self.new result }
         ensures at { IsAt post.now self.new.running }
         ensures unmade { IsErr result → told_by out.new ≡ told_by out.old }
     {

@@ -8,7 +8,8 @@ ghost use Rattle.node_rules.specs.Proposing.{is_over, ticking, closing};
 ghost use Rattle.dealer_node.specs.Outs.{told_by, nothing_told};
 ghost use Rattle.dealer_node.specs.Posts.{place_at};
 ghost use Rattle.dealer_node.specs.Running.{IsAt, is_spent_at};
-ghost use Rattle.dealer_node.specs.Handling.{IsWithin};
+ghost use Rattle.dealer_node.specs.Working.{IsOfPart};
+ghost use Rattle.dealer_node.specs.Handling.{IsWithin, AnswersUp};
 ghost use Rattle.dealer_node.specs.Calling.{close_need};
 
 use crate::fault::NodeFault;
@@ -52,6 +53,7 @@ impl<D: Disk + Drop> Up<D> {
         ensures works { (s : Standing) → IsTrue D.is_honest → IsUp D.Disk post.now self.old s → promised ≡ s.store.promise → over ≡ is_over (place_at post.now) s
             → Works D.Disk post.now s (and_then (ticking (place_at post.now) s) (closing (place_at post.now))) self.old self.new (told_by made.old) (told_by made.new) result }
         ensures goes_on { GoesOn D.Disk self.old self.new result }
+        ensures only { IsOfPart result }
         ensures at { IsAt post.now self.new.running }
         ensures within { told_by made.old ≡ nothing_told → IsWithin made.new (close_need self.old.running) }
     {
@@ -74,6 +76,7 @@ impl<D: Disk + Drop> Up<D> {
         ensures handles { (s : Standing) → IsTrue D.is_honest → IsUp D.Disk post.now self.old s
             → HandlesCall D.Disk post.now s Tick self.old self.new (told_by out.old) (told_by out.new) result }
         ensures goes_on { GoesOn D.Disk self.old self.new result }
+        ensures answers { AnswersUp self.old self.new result }
         ensures at { IsAt post.now self.new.running }
         ensures unmade { IsErr result → told_by out.new ≡ told_by out.old }
     {

@@ -6,6 +6,8 @@ ghost use Rattle.promise_store.specs.Disks.{Rose};
 ghost use Rattle.promise_store.specs.Settled.{OnlyReads};
 ghost use Rattle.promise_store.specs.Keeping.{disk_of, Keeps, Leaves};
 ghost use Rattle.acceptor.specs.Stored.{store_of};
+ghost use Rattle.promise_store.specs.Refusals.{Refuses};
+ghost use Rattle.promise_store.specs.declared.fault.StoreFault.{StoreFault as Fault};
 ghost use Rattle.promise_store.specs.declared.fault.StoreFault.TheVariants.{Disk as DiskFailed};
 ghost use Rattle.dealer_node.specs.Posts.{place_at};
 ghost use Rattle.dealer_node.specs.Outs.{told_by, both_told, nothing_told, HasRoom};
@@ -16,6 +18,7 @@ ghost use Rattle.dealer_node.specs.Fitting.{AreMessages};
 ghost use Rattle.dealer_node.specs.Running.{IsRunning, IsAt};
 ghost use Rattle.dealer_node.specs.Working.{head_of, disk_under};
 ghost use Rattle.dealer_node.specs.Starting.{Starts, StaysDown, GoesOver};
+ghost use Rattle.dealer_node.specs.Taking.{IsOfStart};
 
 use crate::fault::NodeFault;
 use crate::lines::show_header;
@@ -79,7 +82,8 @@ fn greet(post: &Post, promised: Ballot, made: &mut Made)
 fn fault_of(fault: StoreFault) -> NodeFault
     ensures memory { fault ≡ StoreFault.OutOfMemory → result ≡ NodeFault.OutOfMemory }
     ensures disk { fault ≡ DiskFailed → result ≡ NodeFault.Store DiskFailed }
-    ensures only { result ≡ NodeFault.Store DiskFailed → fault ≡ DiskFailed }
+    ensures only { (why : Fault) → result ≡ NodeFault.Store why → fault ≡ why }
+    ensures of_start { IsOfStart result }
 {
     match fault {
         StoreFault::OutOfMemory => NodeFault::OutOfMemory,
@@ -96,6 +100,8 @@ fn open_store<D: Disk>(alloc: Global, post: &Post, disk: D) -> Result<Acceptor<D
     ensures reads { IfOk result (λ acceptor. OnlyReads D.Disk disk (disk_of (store_of acceptor))) }
     ensures reads_err { IfErr result (λ x. OnlyReads D.Disk disk x.0) }
     ensures rose { IfErr result (λ x. x.1 ≡ NodeFault.Store DiskFailed → Rose (D.count disk) (D.count x.0)) }
+    ensures faults { IfErr result (λ x. IsOfStart x.1) }
+    ensures finds { IsTrue D.is_honest → IfErr result (λ x. (why : Fault) → x.1 ≡ NodeFault.Store why → Refuses (head_of post.now) (D.seen disk) why) }
 {
     match Store::open(alloc, disk, post.node(), post.nodes()) {
         Ok(store) => Ok(Acceptor::new(store)),
@@ -121,6 +127,8 @@ pub(crate) fn open<D: Disk + Drop>(
     ensures over { IfOk result (λ up. GoesOver D.Disk disk (disk_under up)) }
     ensures over_err { IfErr result (λ x. GoesOver D.Disk disk x.0) }
     ensures rose { IfErr result (λ x. x.1 ≡ NodeFault.Store DiskFailed → Rose (D.count disk) (D.count x.0)) }
+    ensures faults_err { IfErr result (λ x. IsOfStart x.1) }
+    ensures finds { IsTrue D.is_honest → IfErr result (λ x. (why : Fault) → x.1 ≡ NodeFault.Store why → Refuses (head_of post.now) (D.seen disk) why) }
     ensures at { IfOk result (λ up. IsAt post.now up.running) }
     ensures frames { Grows made.old.frames made.new.frames 5 230 }
     ensures texts { length made.new.shown.texts ≤ length made.old.shown.texts + 1 }

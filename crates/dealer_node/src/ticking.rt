@@ -15,7 +15,7 @@ ghost use Rattle.dealer_node.specs.Rooms.{Grows};
 ghost use Rattle.dealer_node.specs.Answering.{message_of};
 ghost use Rattle.dealer_node.specs.Running.{IsRunning, IsTaken, IsAt, is_spent_at};
 ghost use Rattle.dealer_node.specs.declared.made.Need.{Need as Needs};
-ghost use Rattle.dealer_node.specs.Working.{HasLeft};
+ghost use Rattle.dealer_node.specs.Working.{HasLeft, IsOfPart};
 
 use crate::fault::NodeFault;
 use crate::made::Made;
@@ -86,6 +86,7 @@ impl<D: Disk + Drop> Up<D> {
         ensures works { (s : Standing) → IsTrue D.is_honest → IsUp D.Disk post.now self.old s → promised ≡ s.store.promise → is_over (place_at post.now) s ≡ false
             → Works D.Disk post.now s (and_then (ticking (place_at post.now) s) (closing (place_at post.now))) self.old self.new (told_by made.old) (told_by made.new) result }
         ensures goes_on { GoesOn D.Disk self.old self.new result }
+        ensures only { IsOfPart result }
         ensures at { IsAt post.now self.new.running }
         ensures left { (need : Needs) (votes frames : ℕ) → HasLeft self.old.running made.old need (votes + 1) (frames + 10) → HasLeft self.new.running made.new need votes frames }
     {

@@ -34,7 +34,7 @@ is_for_prop nodes players (event.Stop node pick) = hlevel props
 is_for_prop nodes players (event.Start node) = hlevel props
 
 module _ {D : Type 0} where
-  same_place : (nodes : List (Node D)) (i j : ℕ) (new d : Node D) → place_at (post_in new) ≡ place_at (post_in (get_or nodes i d))
+  pub same_place : (nodes : List (Node D)) (i j : ℕ) (new d : Node D) → place_at (post_in new) ≡ place_at (post_in (get_or nodes i d))
       → place_at (post_in (get_or (set nodes i new) j d)) ≡ place_at (post_in (get_or nodes j d))
   same_place [] i j new d is = refl
   same_place (node ∷ nodes) zero zero new d is = is

@@ -28,9 +28,11 @@ use Rattle.dealer_node.specs.declared.reader.Reader.TheVariants as reads
 use Rattle.dealer_node.specs.declared.fault.NodeFault.TheVariants as fault
 use Rattle.dealer_world.specs.declared.event.Event.TheVariants as event
 use Rattle.dealer_world.specs.Events.{node_of, brought_by}
+use Rattle.node_rules.specs.Calm.{Ticks}
+use Rattle.dealer_world.specs.CalmCluster.{AreEvents}
 use Rattle.dealer_world.specs.Stepping.{IsFor, arrived_by_event, begins_by_event}
 use Rattle.dealer_world.specs.Recordings.{whole}
-use Rattle.dealer_world.specs.RuleRuns.{State, Steps, RunsTo, fresh, step, opened}
+use Rattle.dealer_world.specs.RuleRuns.{State, Steps, RunsTo, fresh, step, opened, IsAddressed}
 use Rattle.dealer_world.specs.Ruling.{AreLeft, GoesOn}
 use Rattle.dealer_world.specs.Beginning.{first_starts, first_asks}
 
@@ -368,3 +370,28 @@ no_run_of_two setting _ _ _ (opened before sources old latest begun others state
 -- in a step only its node changes
 others_stay : (plan : Plan) (old new : State) (s : Steps plan old new) (i : ℕ) (d : Standing) → i ≢ s.node → get_or new.standings i d ≡ get_or old.standings i d
 others_stay plan old new s i d other = ap (λ standings. get_or standings i d) s.standings ∙ get_or-set_other old.standings s.node i s.after d other
+
+-- ---- where frames go, and the events of a round
+
+-- a frame from a node to itself, and one to a node that isn't there
+to_itself : (bytes : List ℕ) → IsAddressed 3 (record { from = 1; to = 1; bytes = bytes }) → ⊥
+to_itself bytes (from, to, other) = other refl
+
+to_nobody : (bytes : List ℕ) → IsAddressed 3 (record { from = 1; to = 3; bytes = bytes }) → ⊥
+to_nobody bytes (from, to, other) = omega (arith, to)
+
+to_another : (bytes : List ℕ) → IsAddressed 3 (record { from = 1; to = 2; bytes = bytes })
+to_another bytes = (omega arith, omega arith, λ same. omega (arith, same))
+
+-- an event of a round is of the same kind and of the same node
+tick_of_a_round : AreEvents (event.Tick 0 ∷ []) (Ticks 0 ∷ [])
+tick_of_a_round = (refl, tt)
+
+tick_of_another : AreEvents (event.Tick 1 ∷ []) (Ticks 0 ∷ []) → ⊥
+tick_of_another (same, rest) = let is : 1 ≡ 0 = same in omega (arith, is)
+
+start_in_a_round : AreEvents (event.Start 0 ∷ []) (Ticks 0 ∷ []) → ⊥
+start_in_a_round (none, rest) = none
+
+one_too_few : AreEvents (event.Tick 0 ∷ []) (Ticks 0 ∷ Ticks 1 ∷ []) → ⊥
+one_too_few (same, none) = none

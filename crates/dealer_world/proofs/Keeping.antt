@@ -53,7 +53,7 @@ never e = cc
 -- ---- whose deals are whose
 
 -- the deals that count as each node's own: those of the sources, and of the eras before
-abbrev own_of : Setting → List Source → List Era → ℕ → Command → Bool
+abbrev pub own_of : Setting → List Source → List Era → ℕ → Command → Bool
 own_of setting sources before = either (owns setting.game.players sources) (owned_in setting.game.players before)
 
 same_bytes : (bytes : List ℕ) → bytes_eq bytes bytes ≡ true
@@ -70,7 +70,7 @@ or_left_true : (a b : Bool) → a ≡ true → either (λ node command. a) (λ n
 or_left_true true b is = refl
 or_left_true false b is = cc
 
-is_place : (setting : Setting) (sources : List Source) (before : List Era) (i : ℕ) → IsPlan (plan_of setting sources) → i < length sources
+pub is_place : (setting : Setting) (sources : List Source) (before : List Era) (i : ℕ) → IsPlan (plan_of setting sources) → i < length sources
     → IsPlace (own_of setting sources before) (place_of (plan_of setting sources) i)
 is_place setting sources before i kept less = record {
   few = kept.nodes;
@@ -81,12 +81,12 @@ is_place setting sources before i kept less = record {
 }
 
 -- a standing of node i is the world's node
-abbrev IsNode : Setting → List Source → List Era → ℕ → Standing → WorldNode → List ℕ → Type 0
+abbrev pub IsNode : Setting → List Source → List Era → ℕ → Standing → WorldNode → List ℕ → Type 0
 IsNode setting sources before i s there log = IsOfRule (own_of setting sources before) (place_of (plan_of setting sources) i) s there log
 
 -- ---- what arrived
 
-arrived_here : (i : ℕ) (up : Bool) (called : Call) (what : Arrived) → In what (arrived_at up i called) → IsAt i what
+pub arrived_here : (i : ℕ) (up : Bool) (called : Call) (what : Arrived) → In what (arrived_at up i called) → IsAt i what
 arrived_here i false called what there = elim there [ ]
 arrived_here i true (Start found) what there = elim there [ ]
 arrived_here i true Tick what there = elim there [ ]
@@ -196,7 +196,7 @@ record Ended (setting : Setting) (sources : List Source) (before : List Era) (ol
   have : HaveStores behind.world 0 old.standings
   is_begun : (i : ℕ) → i < length old.standings → (behind.world.nodes i).begun ≡ begun i
 
-abbrev BehindRules : Setting → List Source → List Era → State → Type 0
+abbrev pub BehindRules : Setting → List Source → List Era → State → Type 0
 BehindRules setting sources before state = Behind (IsNode setting sources before) (dealer_of setting (own_of setting sources before)) state.standings state.now before
 
 ended_by : (setting : Setting) (sources : List Source) (before : List Era) (old : State) (eras : List Era) (begun : ℕ → Store) → Reaches
@@ -271,13 +271,13 @@ ended_in_a_call setting sources before old begun node s called outcome reach app
 
 -- ---- the run
 
-record Kept (setting : Setting) (n : ℕ) (before : List Era) (sources : List Source) (state : State) : Type 0 where
-  plan : IsPlan (plan_of setting sources)
-  sources_are : length sources ≡ n
-  count : length state.standings ≡ n
-  placed : ArePlaced state.now.sent state.now.delivered
-  deals : OwnsDeals (own_of setting sources before)
-  behind : IsUnforged state.now.sent state.now.delivered → BehindRules setting sources before state
+pub record Kept (setting : Setting) (n : ℕ) (before : List Era) (sources : List Source) (state : State) : Type 0 where
+  pub plan : IsPlan (plan_of setting sources)
+  pub sources_are : length sources ≡ n
+  pub count : length state.standings ≡ n
+  pub placed : ArePlaced state.now.sent state.now.delivered
+  pub deals : OwnsDeals (own_of setting sources before)
+  pub behind : IsUnforged state.now.sent state.now.delivered → BehindRules setting sources before state
 
 -- the laws that this stands on
 pub record Laws : Type 0 where
@@ -335,7 +335,7 @@ opened_behind laws setting before sources old latest begun others state same end
     (subst (λ (w : World). (i : ℕ) → i < length old.standings → (w.nodes i).up ≡ false) (sym same_world) ended.down)
     (subst (λ (w : World). EachNode (λ i t. IsNode setting others (latest ∷ before) i t (w.nodes i) []) 0 state.standings) (sym same_world) each))
 
-run_keeps : (laws : Laws) (setting : Setting) (n : ℕ) (before : List Era) (sources : List Source) (state : State) → RunsTo setting n before sources state → Kept setting n before sources state
+pub run_keeps : (laws : Laws) (setting : Setting) (n : ℕ) (before : List Era) (sources : List Source) (state : State) → RunsTo setting n before sources state → Kept setting n before sources state
 run_keeps laws setting n _ _ _ (fresh sources state plan are is) = record {
   plan = plan;
   sources_are = are;

@@ -13,9 +13,13 @@ mod Opening
 mod Reading
 mod Ruling
 mod Keeping
+mod Conflicts
+mod CalmRun
 mod Ruled
 mod Giving
 mod Advancing
+mod Answering
+mod CalmCluster
 mod Founding
 mod Started
 mod Leaving

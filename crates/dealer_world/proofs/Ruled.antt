@@ -43,13 +43,13 @@ same_reader : (reader : model.Reader) → reader_by (reader_of reader) ≡ reade
 same_reader (model.Seat seat) = refl
 same_reader model.Log = refl
 
-same_texts : (shown : List Shown) → map text_by (map printed shown) ≡ map text_by_rule shown
+pub same_texts : (shown : List Shown) → map text_by (map printed shown) ≡ map text_by_rule shown
 same_texts [] = refl
 same_texts (piece ∷ shown) =
     let first : Text → List Text = λ text. text ∷ map text_by (map printed shown) in
     ap (λ reader. first (record { reader = reader; text = piece.text })) (same_reader piece.reader) ∙ ap (λ texts. text_by_rule piece ∷ texts) (same_texts shown)
 
-written : (i : ℕ) (frames : List Outgoing) → ((one : Outgoing) → In one frames → reading (frame one.message) ≡ Ok one.message) → AreWritten i frames (map (frame_by i) (map posted frames))
+pub written : (i : ℕ) (frames : List Outgoing) → ((one : Outgoing) → In one frames → reading (frame one.message) ≡ Ok one.message) → AreWritten i frames (map (frame_by i) (map posted frames))
 written i [] fits = tt
 written i (one ∷ frames) fits = (refl, refl, refl, fits one (inl refl), written i frames (λ other there. fits other (inr there)))
 
@@ -64,7 +64,7 @@ brought (event.Drop node seat) found = refl
 brought (event.Stop node pick) found = refl
 brought (event.Start node) found = refl
 
-arrives : (up : Bool) (e : Event) (found : Store) → arrived_by_event up e ≡ arrived_at up (node_of e) (call_of found e)
+pub arrives : (up : Bool) (e : Event) (found : Store) → arrived_by_event up e ≡ arrived_at up (node_of e) (call_of found e)
 arrives true e found = brought e found
 arrives false e found = refl
 
@@ -91,7 +91,7 @@ down_at_start false (Drop seat) is = absurd is
 down_at_start false Stop is = absurd is
 down_at_start true called is = absurd is
 
-kept : (place : Place) (s : Standing) (e : Event) (found : Store) (after : Standing) (frames : List Outgoing) (shown : List Shown) (faults : List SeatFault)
+pub kept : (place : Place) (s : Standing) (e : Event) (found : Store) (after : Standing) (frames : List Outgoing) (shown : List Shown) (faults : List SeatFault)
     (answer : Result (Unit {0}) NodeFault) (up : Bool) → place.node ≡ node_of e → up ≡ s.up → (answer ≡ Err fault.OutOfMemory → ⊥)
     → (ends : Ends place s (call_of found e) after frames shown) → Answered place s (call_of found e) after frames shown ends faults answer
     → Keeps place s (call_of found e) after frames shown ends (arrived_by_event up e) (begins_by_event up e answer)
@@ -108,7 +108,7 @@ kept place s e found after frames shown faults answer up here is ample ends answ
     by_end (unchanged a b c) (told, inl none) = absurd (ample none)
     by_end (unchanged a b c) (told, inr (start, err)) = (ap (λ u. arrived_by_event u e) (is ∙ down_at_start s.up (call_of found e) start), begins_not up e answer _ err)
 
-ruled_by : (place : Place) (s : Standing) (e : Event) (found : Store) (after : Standing) (frames : List Outgoing) (shown : List Shown) (faults : List SeatFault)
+abbrev pub ruled_by : (place : Place) (s : Standing) (e : Event) (found : Store) (after : Standing) (frames : List Outgoing) (shown : List Shown) (faults : List SeatFault)
     (answer : Result (Unit {0}) NodeFault) (told : Told) (up : Bool) → place.node ≡ node_of e → up ≡ s.up → (answer ≡ Err fault.OutOfMemory → ⊥)
     → IsSeated place.setting.game.players (call_of found e)
     → (ends : Ends place s (call_of found e) after frames shown) → Answered place s (call_of found e) after frames shown ends faults answer
@@ -185,7 +185,7 @@ fault_in (Err why) = why
 pub fault_is : (a b : Result (Unit {0}) NodeFault) → a ≡ b → fault_in a ≡ fault_in b
 fault_is a b is = ap fault_in is
 
-err_is : (a b : NodeFault) (answer : Result (Unit {0}) NodeFault) → answer ≡ Err a → answer ≡ Err b → a ≡ b
+pub err_is : (a b : NodeFault) (answer : Result (Unit {0}) NodeFault) → answer ≡ Err a → answer ≡ Err b → a ≡ b
 err_is a b answer is_a is_b = fault_is (Err a) (Err b) (sym is_a ∙ is_b)
 
 same_after : (place : Place) (s : Standing) (called : Call) (after : Standing) (frames : List Outgoing) (shown : List Shown) (faults : List SeatFault)

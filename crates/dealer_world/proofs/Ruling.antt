@@ -166,6 +166,7 @@ built own place world log base called events frames shown arrived made new c wit
           let others = c.carry.others found.0 found.1 in
           record {
             is_node = subst (λ k. k < place.nodes) (sym found.2) within;
+            to_node = subst (λ k. k < place.nodes) (sym found.3) others.0;
             other = λ equal. others.1 (sym found.3 ∙ (equal ∙ found.2));
             own = λ message h. c.carry.own message (c.carry.said message (found.0.to, (found.0, found.1, refl, subst (In message) (said_as i found.0 frame found.2 found.4) h))) ∙ sym found.2;
           };

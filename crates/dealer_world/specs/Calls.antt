@@ -89,6 +89,7 @@ pub record IsSound (n i : ℕ) (ever : List Message) (frame : Frame) : Type 0 wh
 -- a frame from a node of n, to another one, which says only what is its sender's
 pub record IsOwn (n : ℕ) (frame : Frame) : Type 0 where
   pub is_node : frame.from < n
+  pub to_node : frame.to < n
   pub other : frame.to ≢ frame.from
   pub own : (message : Message) → In message (said_by frame) → sender_of message ≡ frame.from
 

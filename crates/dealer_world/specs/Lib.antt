@@ -15,8 +15,10 @@ pub mod Openings
 pub mod RecordLaws
 pub mod Runs
 pub mod RuleRuns
+pub mod CalmRun
 pub mod Stepping
 pub mod Ruling
 pub mod Viewing
 pub mod Promise
+pub mod CalmCluster
 pub mod Beginning

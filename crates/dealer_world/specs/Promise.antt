@@ -1,9 +1,10 @@
 -- What is promised of a cluster, by its record.
-use Rattle.std.specs.Prelude.{◌≡◌, ℕ, ◌<◌, List, [], ◌∷◌, length, map, take, Err, false, IsTrue}
+use Rattle.std.specs.Prelude.{◌≡◌, ℕ, ◌<◌, List, [], ◌∷◌, length, map, take, Result, Err, false, IsTrue}
 use Rattle.std.proofs.Common.{get_or}
 use Rattle.promise_store.specs.declared.disk.Disk.{Ghosts}
 use Rattle.dealer_kind.specs.Plans.{Plan}
 use Rattle.dealer_node.specs.Nodes.{Node}
+use Rattle.dealer_node.specs.declared.fault.NodeFault.{NodeFault}
 use Rattle.dealer_node.specs.declared.fault.NodeFault.TheVariants as fault
 use Rattle.dealer_node.specs.Seeing.{begun_of, images_of}
 use Rattle.promise_store.specs.Journals.{header}
@@ -17,6 +18,7 @@ use Rattle.dealer_world.specs.Calls.{nothing_made}
 use Rattle.dealer_world.specs.Views.{grown}
 use Rattle.dealer_world.specs.Unforged.{IsUnforged}
 use Rattle.dealer_world.specs.Headline.{Era, dealer_in, OneList}
+use Rattle.dealer_world.specs.RuleRuns.{IsAddressed}
 use Rattle.dealer_world.specs.Stepping.{View, IsFor, Stepped, Ran}
 use Rattle.dealer_world.specs.Ruling.{GoesOn}
 
@@ -75,3 +77,12 @@ module _ {D : Type 0} (g : Ghosts D) where
   -- over honest disks, where no frame was forged, what was said is backed
   abbrev pub IsBackedBy : View (Node D) → Type 0
   IsBackedBy view = (before : List Era) → GoesOnFrom view before → IsTrue g.is_honest → HasNoForged view → AreBacked view
+
+  -- over honest disks, where no frame was forged, each frame goes from a node of the match to another
+  abbrev pub AreAddressed : View (Node D) → Type 0
+  AreAddressed view = (before : List Era) → GoesOnFrom view before → IsTrue g.is_honest → HasNoForged view
+      → (frame : Frame) → In frame view.all.sent → IsAddressed (length view.config.sources) frame
+
+  -- over honest disks, where no frame was forged, by this event neither, it isn't answered that another command is known where one was chosen
+  abbrev pub NeverConflicts : View (Node D) → Result (Unit {0}) NodeFault → View (Node D) → Type 0
+  NeverConflicts old answer new = (before : List Era) → GoesOnFrom old before → IsTrue g.is_honest → HasNoForged new → answer ≡ Err fault.Conflict → ⊥

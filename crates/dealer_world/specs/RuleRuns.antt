@@ -1,5 +1,5 @@
 -- Runs of a cluster whose nodes keep the rules, over all its eras.
-use Rattle.std.specs.Prelude.{◌≡◌, ◌≢◌, ℕ, ◌+◌, ◌<◌, true, List, [], ◌∷◌, length, Result}
+use Rattle.std.specs.Prelude.{◌≡◌, ◌≢◌, ℕ, ◌+◌, ◌<◌, true, List, [], ◌∷◌, ◌++◌, map, length, Result, Err}
 use Rattle.std.proofs.Common.{get_or, set}
 use Rattle.protocol_model.specs.Sets.{In}
 use Rattle.protocol_model.specs.Messages.{Message}
@@ -10,15 +10,15 @@ use Rattle.dealer_kind.specs.Plans.{Plan, IsPlan}
 use Rattle.dealer_kind.specs.declared.source.Source.{Source}
 use Rattle.node_rules.specs.Standings.{Standing, place_of, stopped}
 use Rattle.node_rules.specs.Calls.{Call}
-use Rattle.node_rules.specs.Turns.{Turn, Refusal}
+use Rattle.node_rules.specs.Turns.{Turn, Refusal, Conflict}
 use Rattle.node_rules.specs.Rules.{IsTurn, standing_after}
 use Rattle.dealer_world.specs.Records.{Record, Frame, Arrived, no_record, said_by}
 use Rattle.dealer_world.specs.Unforged.{IsUnforged}
 use Rattle.dealer_world.specs.Headline.{Era, dealer_in, OneList}
 use Rattle.dealer_world.specs.Calls.{Made, nothing_made}
-use Rattle.dealer_world.specs.Views.{grown}
+use Rattle.dealer_world.specs.Views.{grown, placed_at}
 use Rattle.dealer_world.specs.Behind.{EachNode}
-use Rattle.dealer_world.specs.Runs.{Ruled, IsSeated, arrived_by}
+use Rattle.dealer_world.specs.Runs.{Ruled, IsSeated, arrived_by, arrived_at}
 
 -- what all nodes hold and know, by their numbers, and the record
 pub record State : Type 0 where
@@ -91,6 +91,22 @@ IsBacked sent i s = (frame : Frame) (message : Message) → In frame sent → fr
 abbrev pub RunsAreBacked : Type 0
 RunsAreBacked = (setting : Setting) (n : ℕ) (before : List Era) (sources : List Source) (state : State) → RunsTo setting n before sources state
     → IsUnforged state.now.sent state.now.delivered → EachNode (IsBacked state.now.sent) 0 state.standings
+
+-- the frame goes from a node of n to another
+abbrev pub IsAddressed : ℕ → Frame → Type 0
+IsAddressed n frame = (frame.from < n) × (frame.to < n) × (frame.to ≢ frame.from)
+
+-- in every run of the rules in which no frame was forged each frame goes from a node of the match to another
+abbrev pub RunsSendToNodes : Type 0
+RunsSendToNodes = (setting : Setting) (n : ℕ) (before : List Era) (sources : List Source) (state : State) → RunsTo setting n before sources state
+    → IsUnforged state.now.sent state.now.delivered → (frame : Frame) → In frame state.now.sent → IsAddressed n frame
+
+-- in every run of the rules in which no frame was forged, and none is by this call, the call doesn't find another command known where one was chosen
+abbrev pub RunsNeverConflict : Type 0
+RunsNeverConflict = (setting : Setting) (n : ℕ) (before : List Era) (sources : List Source) (state : State) (node : ℕ) (s : Standing) (called : Call) (store : Store)
+    → RunsTo setting n before sources state → node < length state.standings → get_or state.standings node s ≡ s → IsSeated setting.game.players called
+    → IsUnforged state.now.sent (state.now.delivered ++ map (placed_at (length state.now.sent)) (arrived_at s.up node called))
+    → IsTurn (place_of (plan_of setting sources) node) s called (Err (Conflict store)) → ⊥
 
 -- in every run of the rules in which no frame was forged there is one list behind all that was shown, in all eras
 abbrev pub RunsShowOneList : Type 0

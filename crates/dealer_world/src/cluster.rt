@@ -11,11 +11,12 @@ ghost use Rattle.dealer_world.specs.Headline.{Era};
 ghost use Rattle.dealer_world.specs.Beginning.{AreImages, AreImagesDuring, AreStarted, StartsAll, HaveStores, AreEach};
 ghost use Rattle.protocol_model.specs.Stores.{Store, empty_store};
 ghost use Rattle.dealer_world.specs.Stepping.{View, IsFor, IsGiven, begins_by_event, Stepped, Ran};
+ghost use Rattle.dealer_world.specs.CalmCluster.{MovesOn};
 ghost use Rattle.dealer_world.specs.Events.{node_of};
 ghost use Rattle.dealer_world.specs.declared.event.Event.{Event as Call};
 ghost use Rattle.dealer_node.specs.declared.fault.NodeFault.{NodeFault as Fault};
 ghost use Rattle.dealer_node.specs.Nodes.{Node};
-ghost use Rattle.dealer_world.specs.Promise.{IsForMatch, IsPromised, IsPromisedNew, IsBackedBy, StopsAt, IsSameMatch, GoesOnFrom, HasNoForged, era_of, with_brought};
+ghost use Rattle.dealer_world.specs.Promise.{IsForMatch, IsPromised, IsPromisedNew, IsBackedBy, StopsAt, IsSameMatch, GoesOnFrom, HasNoForged, AreAddressed, NeverConflicts, era_of, with_brought};
 ghost use Rattle.dealer_world.specs.Ruling.{ArePosted, IsBehind};
 
 use crate::arrivals::Arrival;
@@ -23,12 +24,14 @@ use crate::beginning::{created_all, reopened_all};
 use crate::begun::Begun;
 use crate::event::Event;
 use crate::frames::Frame;
-use crate::laws::{runs_are_backed, runs_show_one_list};
+use crate::laws::{
+    rounds_move_on, runs_are_backed, runs_never_conflict, runs_send_to_nodes, runs_show_one_list,
+};
 use crate::recording::Recording;
 use crate::shown::Piece;
 use crate::stopped::Stopped;
 use dealer_kind::Config;
-use dealer_node::laws::{images_are_seen, moments_pass};
+use dealer_node::laws::{images_are_seen, moments_pass, seen_as_one};
 use dealer_node::{Node, NodeFault, Out};
 use promise_store::Disk;
 use std::alloc::{AllocError, Global};
@@ -118,10 +121,15 @@ impl<D: Disk + Drop> Cluster<D> {
         ensures promised_new { IsPromisedNew D.Disk (view_of self.new) }
         ensures promised { IsPromised D.Disk (view_of self.new) }
         ensures backed { IsBackedBy D.Disk (view_of self.new) }
+        ensures addressed { AreAddressed D.Disk (view_of self.new) }
+        ensures conflict { NeverConflicts D.Disk (view_of self.old) result (view_of self.new) }
     {
         runs_show_one_list();
         runs_are_backed();
+        runs_send_to_nodes();
+        runs_never_conflict();
         images_are_seen::<D>();
+        seen_as_one::<D>();
         self.advance(event)
     }
 
@@ -135,10 +143,16 @@ impl<D: Disk + Drop> Cluster<D> {
         ensures promised_new { IsPromisedNew D.Disk (view_of self.new) }
         ensures promised { IsPromised D.Disk (view_of self.new) }
         ensures backed { IsBackedBy D.Disk (view_of self.new) }
+        ensures addressed { AreAddressed D.Disk (view_of self.new) }
+        // A cluster at rest moves by the events of its round.
+        ensures moves_on { OnOk result (MovesOn D.Disk (view_of self.old) events.now (view_of self.new)) }
     {
         runs_show_one_list();
         runs_are_backed();
+        runs_send_to_nodes();
+        rounds_move_on();
         images_are_seen::<D>();
+        seen_as_one::<D>();
         for (at, event) in events.iter().enumerate() {
             if is_out_of_memory(self.step(event)) {
                 return Err(Stopped { at });

@@ -12,11 +12,12 @@ ghost use Rattle.protocol_model.specs.Dealers.{Dealer};
 ghost use Rattle.protocol_model.specs.Laws.{OneDealer, HasOrigin};
 ghost use Rattle.protocol_model.specs.Worlds.{World, Reached};
 ghost use Rattle.dealer_world.specs.RecordLaws.{LinesOfRecordsAgree, AlikeListsShowTheSame, CompleteLogsAreMatchLogs};
-ghost use Rattle.dealer_world.specs.RuleRuns.{RunsShowOneList, RunsAreBacked};
+ghost use Rattle.dealer_world.specs.CalmRun.{RoundsMoveOn, FreshClustersAreCalm};
+ghost use Rattle.dealer_world.specs.RuleRuns.{RunsShowOneList, RunsAreBacked, RunsSendToNodes, RunsNeverConflict};
 
 use dealer_kind::laws::{deals_are_owned_and_acts_are_said, owners_may_widen};
 use matchstate::laws::{agree, beginnings_are_alike};
-use node_rules::laws::calls_are_sound;
+use node_rules::laws::{calls_are_sound, calm_rounds_move, refusals_have_reasons};
 use protocol_model::laws::{
     backing_lasts, chains_reach, one_dealer as protocol_one_dealer, owners_may_change,
 };
@@ -102,4 +103,51 @@ pub fn runs_are_backed()
     deals_are_owned_and_acts_are_said();
     owners_may_widen();
     backing_lasts();
+}
+
+/// In every run of a cluster whose nodes keep the rules, in which no frame was forged, each frame goes from a node of the
+/// match to another.
+pub fn runs_send_to_nodes()
+    ensures { RunsSendToNodes }
+{
+    calls_are_sound();
+    chains_reach();
+    owners_may_change();
+    deals_are_owned_and_acts_are_said();
+    owners_may_widen();
+}
+
+/// And no call finds another command known at a slot where one was chosen: 95 never comes.
+pub fn runs_never_conflict()
+    ensures { RunsNeverConflict }
+{
+    calls_are_sound();
+    chains_reach();
+    owners_may_change();
+    deals_are_owned_and_acts_are_said();
+    owners_may_widen();
+    refusals_have_reasons();
+}
+
+/// A cluster at rest whose nodes keep the rules moves: in every run in which no frame was forged, where the members of a
+/// least quorum are calm for a node, none of the frames of its round is forged and none of its events is refused, after
+/// each beginning of it; and once all of it was given to its nodes, and found memory and disks that didn't fail, that
+/// node's front has passed the slot, where it knows the command.
+pub fn rounds_move_on()
+    ensures { RoundsMoveOn }
+{
+    calls_are_sound();
+    calm_rounds_move();
+    chains_reach();
+    owners_may_change();
+    deals_are_owned_and_acts_are_said();
+    owners_may_widen();
+}
+
+/// Nodes that have just been started on empty stores are at rest: where a node deals the first hand, it could move each
+/// least quorum to which it belongs on to that deal. So what is said of clusters at rest isn't said of none.
+pub fn fresh_clusters_are_calm()
+    ensures { FreshClustersAreCalm }
+{
+    calm_rounds_move();
 }

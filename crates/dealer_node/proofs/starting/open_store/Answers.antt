@@ -2,6 +2,8 @@ use Rattle.std.proofs.Common.{◌≡◌, ℕ, List, inl, inr, ap, sym, subst, �
 use Rattle.std.specs.Prelude.{◌⊎◌}
 use Rattle.promise_store.specs.Journals.{header}
 use Rattle.promise_store.specs.Keeping.{Leaves}
+use Rattle.promise_store.specs.Refusals.{Refuses}
+use Rattle.promise_store.specs.declared.fault.StoreFault.{StoreFault}
 use Rattle.acceptor.specs.Stored.{store_of}
 use Rattle.dealer_node.specs.Posts.{Post}
 use Rattle.dealer_node.specs.Working.{head_of}
@@ -26,3 +28,10 @@ returns-in-Err-clause-refused g c = λ old new honest leaves.
       | inl failed ↦ inr (c.fault_of.ensures.disk failed)
       | inr memory ↦ inl (c.fault_of.ensures.memory memory)
     ]
+
+pub returns-in-Err-clause-finds : goal.returns-in-Err-clause-finds
+returns-in-Err-clause-finds g c = λ honest why is.
+    let same = heads c.args.post.now c.node.result c.nodes.result c.node.ensures.value c.nodes.ensures.value in
+    let R : List ℕ → Type 0 = λ h. Refuses h (g.D.Disk.seen c.args.disk) why in
+    let F : StoreFault → Type 0 = λ f. Refuses (header c.node.result c.nodes.result) (g.D.Disk.seen c.args.disk) f in
+    subst R same (subst F (c.fault_of.ensures.only why is) (c.in-Err.ensures.refused honest))

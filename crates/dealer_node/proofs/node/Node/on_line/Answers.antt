@@ -4,7 +4,7 @@ use Rattle.node_rules.specs.Calls.{Line}
 use Rattle.dealer_node.specs.Outs.{Told, told_by}
 use Rattle.dealer_node.specs.Taking.{Takes}
 use Rattle.dealer_node.proofs.Settled.{seen_at, refuses_at}
-use Rattle.dealer_node.proofs.Handled.{handled, settled_at}
+use Rattle.dealer_node.proofs.Handled.{handled, settled_at, handled_reads, reads_at}
 use Rattle.dealer_node.proofs.node.Node.on_line.Goals as goal
 
 pub returns-in-None-clause-taken : goal.returns-in-None-clause-taken
@@ -20,3 +20,11 @@ returns-in-Some-clause-taken g c s honest seen =
     let t = handled d c.self.inside.post c.self.inside.blank c.self.inside.disk c.in-Some.up call.new.self s (Line c.args.seat c.args.bytes.now) before (told_by call.new.out) call.result there call.ensures.unmade (λ o done. done) (call.ensures.handles s honest there.by) in
     subst (λ (told : Told). Takes d (Line c.args.seat c.args.bytes.now) s c.args.self.now c.settle.new.self told (told_by call.new.out) c.settle.result) c.out.view_is
     (settled_at d c.args.self.now c.self.inside c.in-Some.up c.settle.new.self _ s (Line c.args.seat c.args.bytes.now) before (told_by call.new.out) c.settle.result call.result c.self.view_is c.in-Some.is c.settle.ensures.node c.settle.ensures.same t)
+
+pub returns-in-Some-clause-untouched : goal.returns-in-Some-clause-untouched
+returns-in-Some-clause-untouched g c s honest seen =
+    let d = g.D.Disk in
+    let call = c.on_line-answer in
+    let there = seen_at d c.args.self.now c.self.inside (Some c.in-Some.up) s c.self.view_is c.in-Some.is seen in
+    reads_at d c.args.self.now c.self.inside c.in-Some.up c.settle.new.self _ s (Line c.args.seat c.args.bytes.now) c.settle.result call.result c.self.view_is c.in-Some.is c.settle.ensures.node c.settle.ensures.same
+    (handled_reads d c.self.inside.post c.self.inside.blank c.self.inside.disk c.in-Some.up call.new.self s (Line c.args.seat c.args.bytes.now) (told_by c.out.inside.made) (told_by call.new.out) call.result there (call.ensures.handles s honest there.by))

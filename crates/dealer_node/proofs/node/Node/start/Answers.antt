@@ -2,8 +2,8 @@ use Rattle.std.proofs.Common.{◌≡◌, refl, ap, sym, ◌∙◌}
 use Rattle.dealer_node.specs.Outs.{Told, told_by, both_told}
 use Rattle.dealer_node.specs.Working.{head_of}
 use Rattle.dealer_node.specs.declared.fault.NodeFault.TheVariants as fault
-use Rattle.dealer_node.proofs.Heard.{err_is}
-use Rattle.dealer_node.proofs.Started.{runs_on_at, wanting_at, seen_down, started_at, unstarted_at, starts_behind}
+use Rattle.dealer_node.proofs.Heard.{err_is, err_of}
+use Rattle.dealer_node.proofs.Started.{runs_on_at, wanting_at, seen_down, started_at, unstarted_at, refused_at, starts_behind}
 use Rattle.dealer_node.proofs.node.Node.start.Goals as goal
 
 pub returns-then-is_some-clause-taken : goal.returns-then-is_some-clause-taken
@@ -33,3 +33,8 @@ returns-in-Err-clause-taken g c = λ s honest seen.
     let there = seen_down g.D.Disk c.args.self.now c.self.inside c.in-Some.disk s c.self.view_is down has seen in
     unstarted_at g.D.Disk c.args.self.now c.self.inside c.in-Some.disk c.in-Err.disk s c.args.out.now (told_by c.ready.new.out) c.in-Err.fault c.self.view_is down has (c.ready.ensures.same ∙ c.out.view_is) seen
     (c.in-Err.ensures.stays s.store s.begun honest there.by.leaves)
+
+pub returns-in-Err-clause-refused : goal.returns-in-Err-clause-refused
+returns-in-Err-clause-refused g c = λ honest why is.
+    refused_at g.D.Disk c.args.self.now c.self.inside c.in-Some.disk why c.self.view_is (sym c.is_some.ensures ∙ c.if-is_some.false) (sym c.take.ensures.value ∙ c.in-Some.is)
+    (c.in-Err.ensures.finds honest why (err_of c.in-Err.fault (fault.Store why) is))

@@ -13,7 +13,7 @@ use Rattle.node_rules.specs.Proposing.{higher, beginning}
 use Rattle.dealer_node.specs.Posts.{place_at}
 use Rattle.dealer_node.specs.Outs.{told_by}
 use Rattle.dealer_node.specs.Working.{head_of}
-use Rattle.dealer_node.proofs.Stored.{is_disk, fails_by}
+use Rattle.dealer_node.proofs.Stored.{is_disk, of_store, fails_by}
 use Rattle.dealer_node.proofs.Ticked.{tick_begins, next_is_above, is_promised, begin_took, begin_failed}
 use Rattle.dealer_node.proofs.up.Up.begin.Goals as goal
 
@@ -45,3 +45,6 @@ returns-in-Err-clause-works g c s honest is same over =
     fails_by g.D.Disk post s _ c.args.self.now _ (told_by c.args.made.now) (told_by c.args.made.now) c.in-Err.fault (is_disk g.D.Disk c.in-Err.fault (t.only (head_of post) s.store is.keeps honest) (λ x. c.in-Err.ensures.memory (ap Err x)))
     (begin_failed g.D.Disk post s c.next_ballot-ballot.result c.args.self.now _ c.limits.ensures
     (tick_begins post running s c.args.promised is.running same over c.requires.unspent ∙ ap (λ (b : Ballot). Ok (beginning (place_at post) b s)) (sym e)) (ap (is_below s.store.promise) e ∙ above) (t.leaves (head_of post) s.store is.keeps honest) (t.any_moment (head_of post) s.store is.keeps honest))
+
+pub returns-in-Err-clause-only : goal.returns-in-Err-clause-only
+returns-in-Err-clause-only g c = of_store g.D.Disk c.in-Err.fault c.in-Err.ensures.needs.only (λ e. c.in-Err.ensures.memory (ap Err e))

@@ -1,10 +1,14 @@
-use Rattle.std.proofs.Common.{◌≡◌, ◌∙◌, [], Err, subst, sym, refl, rules}
+use Rattle.std.proofs.Common.{◌≡◌, ◌∙◌, List, [], Err, subst, sym, refl, rules}
+use Rattle.std.proofs.lemmas.List.{take_all}
 use Rattle.dealer_kind.specs.Plans.{Plan}
 use Rattle.dealer_node.specs.declared.fault.NodeFault.TheVariants as fault
-use Rattle.dealer_world.specs.Stepping.{none}
+use Rattle.dealer_world.specs.declared.event.Event.{Event}
+use Rattle.dealer_world.specs.Stepping.{Ran, none}
 use Rattle.dealer_world.specs.Promise.{IsForMatch}
 use Rattle.dealer_world.specs.Viewing.{view_of}
 use Rattle.dealer_world.proofs.Promising.{promised_new, promised, backed, ran_more}
+use Rattle.dealer_world.proofs.Answering.{addressed}
+use Rattle.dealer_world.proofs.CalmCluster.{moves_on}
 use Rattle.dealer_world.proofs.cluster.Cluster.run.Goals as goal
 
 pub step-requires : goal.step-requires
@@ -32,3 +36,12 @@ returns-clause-backed g c = backed g.D.Disk (view_of c.loop-at.self) c.runs_are_
 
 pub returns-clause-promised_new : goal.returns-clause-promised_new
 returns-clause-promised_new g c = promised_new g.D.Disk (view_of c.loop-at.self) (promised g.D.Disk (view_of c.loop-at.self) c.runs_show_one_list.ensures c.loop-at.self.behind)
+
+pub returns-clause-addressed : goal.returns-clause-addressed
+returns-clause-addressed g c = addressed g.D.Disk (view_of c.loop-at.self) c.runs_send_to_nodes.ensures c.loop-at.self.behind
+
+pub returns-clause-moves_on : goal.returns-clause-moves_on
+returns-clause-moves_on g c =
+    moves_on g.D.Disk (view_of c.args.self.now) (view_of c.loop-at.self) c.args.events.now c.rounds_move_on.ensures c.seen_as_one.ensures.one c.seen_as_one.ensures.up c.args.self.now.posted
+    c.args.self.now.count c.args.self.now.behind
+    (subst (λ (l : List Event). Ran g.D.Disk (view_of c.args.self.now) l (view_of c.loop-at.self)) (take_all c.loop-at.at c.args.events.now c.loop-at-test.false) c.loop-at.invariant.ran)
