@@ -25,6 +25,7 @@ TASKS = [
     ("promises", "promises counted by a proposer", 1_000_000, None),
     ("answers", "answers counted by a learner", 5_000_000, None),
     ("refusals", "proposals refused by an acceptor", 5_000_000, None),
+    ("nodes", "whole commands on three nodes in memory", 90_000, None),
 ]
 
 

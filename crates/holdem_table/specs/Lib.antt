@@ -8,4 +8,7 @@ pub mod Running
 pub mod Ending
 pub mod Outcome
 pub mod Verdict
+pub mod Played
+pub mod Scripted
+pub mod PlayOutcome
 pub mod OneOutput

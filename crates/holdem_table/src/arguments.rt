@@ -2,7 +2,9 @@ ghost use Rattle.std.specs.Prelude.{◌≤◌};
 
 use crate::ending::Ending;
 use crate::game_word::GameWord;
-use crate::help::{AFTER_CHECK_HELP, AFTER_HAND_HELP, AFTER_HELP, AFTER_INIT_HELP};
+use crate::help::{
+    AFTER_CHECK_HELP, AFTER_HAND_HELP, AFTER_HELP, AFTER_INIT_HELP, AFTER_PLAY_HELP,
+};
 use crate::wrong_words::WrongWords;
 use clap::{Arg, ArgAction, ArgMatches, Command, value_parser};
 use slot_log::limits::HANDS;
@@ -13,6 +15,8 @@ use std::alloc::{AllocError, Global};
 pub(crate) enum Task<'a> {
     Hand(HandArguments<'a>),
     Check(CheckArguments<'a>),
+    /// The word that names the match file.
+    Play(&'a str),
     /// The word that names the match file.
     Init(&'a str),
 }
@@ -47,6 +51,7 @@ pub(crate) fn command<'a>(alloc: Global) -> Result<Command<'a>, AllocError> {
         .after_help(AFTER_HELP)
         .subcommand_required(true)
         .subcommand(hand_command(alloc)?)?
+        .subcommand(play_command(alloc)?)?
         .subcommand(check_command(alloc)?)?
         .subcommand(init_command(alloc)?)
 }
@@ -82,15 +87,25 @@ fn check_command<'a>(alloc: Global) -> Result<Command<'a>, AllocError> {
         .arg(log)
 }
 
+fn play_command<'a>(alloc: Global) -> Result<Command<'a>, AllocError> {
+    Command::new(alloc, "play")
+        .about("Runs all nodes of a match over a script, and prints all they send")
+        .after_help(AFTER_PLAY_HELP)
+        .arg(match_argument(alloc))
+}
+
 fn init_command<'a>(alloc: Global) -> Result<Command<'a>, AllocError> {
-    let file = Arg::new(alloc, "match")
-        .value_name("MATCH")
-        .required(true)
-        .help("The match file");
     Command::new(alloc, "init")
         .about("Makes the empty stores of a match's nodes")
         .after_help(AFTER_INIT_HELP)
-        .arg(file)
+        .arg(match_argument(alloc))
+}
+
+fn match_argument<'a>(alloc: Global) -> Arg<'a> {
+    Arg::new(alloc, "match")
+        .value_name("MATCH")
+        .required(true)
+        .help("The match file")
 }
 
 fn game_argument<'a>(alloc: Global) -> Arg<'a> {
@@ -109,6 +124,9 @@ pub(crate) fn requested<'a>(matches: &ArgMatches<'a>) -> Result<Task<'a>, Ending
     }
     if let Some(matches) = matches.subcommand_matches("check") {
         return check_task(matches);
+    }
+    if let Some(matches) = matches.subcommand_matches("play") {
+        return Ok(Task::Play(word(matches, "match")?));
     }
     if let Some(matches) = matches.subcommand_matches("init") {
         return Ok(Task::Init(word(matches, "match")?));

@@ -94,3 +94,43 @@ docs/FAULTS.md says of each number what it means and what to do about it.
 Example:
   mkdir stores
   holdem_table init examples/three.toml";
+
+pub(crate) const AFTER_PLAY_HELP: &str = "\
+MATCH is a match file: TOML with name, game, hands, names, and a node table
+for each of three or five nodes. Its paths go from the working folder. All
+nodes start over new stores in memory; what one sends to another stays on its
+way until the script delivers it.
+
+A script comes on standard input, one line after another. I is a node, S a
+seat, K a frame, each counted from 0:
+  tick I         node I begins a new ballot, so that it may deal or go on
+  deliver K      frame K is delivered, again if it was before
+  flush N        at most N times: the first frame that was never delivered is
+  connect I S    seat S connects to node I
+  drop I S       its session at node I ends
+  line I S TEXT  it sends TEXT and CR LF to node I
+  stop I PICK    node I stops; PICK says what its disk keeps of what wasn't
+                 synced (0: nothing)
+  start I        node I starts again, from its store
+Each line ends with LF; a last line without one isn't read. Words are
+separated by one space.
+
+An answer is written before the next line is read, of each event first the
+frames, then lines of seats and logs, then faults:
+  frame K I>J HEX    node I sends frame K, with these bytes, to node J
+  I S LINE           what seat S gets from node I
+  I L LINE           a line of node I's log
+  I S E CODE Name    what is wrong with what the seat sent
+  I E CODE Name      why node I did nothing, or went down
+  E 110 BadScript    the line says nothing, or names what there isn't
+
+Exit status:
+  0  all of the script was read, whatever was answered
+  2  the command line is wrong, MATCH or its game can't be read or is
+     refused, memory was refused, or standard input or output failed;
+     standard error says which
+docs/FAULTS.md says of each number what it means and what to do about it.
+
+Example:
+  printf 'connect 0 0\\nline 0 0 VERSION:2.0.0\\ntick 0\\nflush 99\\n' > script
+  holdem_table play examples/three.toml < script";

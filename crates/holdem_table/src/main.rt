@@ -1,5 +1,5 @@
-//! The program `holdem_table`: `hand` runs one dealer over a script, `check` checks the log of a match, `init` makes the
-//! stores of a match's nodes.
+//! The program `holdem_table`: `hand` runs one dealer over a script, `play` all nodes of a match, `check` checks the log
+//! of a match, `init` makes the stores of a match's nodes.
 #![tactic(auto)]
 
 mod arguments;
@@ -14,8 +14,10 @@ mod late_file;
 mod laws;
 mod line;
 mod log_lines;
+mod play_run;
 mod running;
 mod script_line;
+mod scripted;
 mod stop;
 mod stream;
 mod wrong_words;
@@ -26,9 +28,11 @@ use crate::ending::Ending;
 use crate::hand_run::hand_run;
 use crate::init::init;
 use crate::late_file::LateFile;
+use crate::play_run::play_run;
 use crate::wrong_words::WrongWords;
 use clap::error::ErrorKind;
 use clap::{ArgMatches, Error};
+use match_file::{MatchFault, MatchFile};
 use std::process::ExitCode;
 use std::{fs, io};
 
@@ -71,6 +75,7 @@ fn run(rt: &HostRuntime, words: &[String]) -> Ending {
         Ok(matches) => match requested(&matches) {
             Ok(Task::Hand(arguments)) => hand(rt, arguments),
             Ok(Task::Check(arguments)) => check(rt, arguments),
+            Ok(Task::Play(path)) => play(rt, path),
             Ok(Task::Init(path)) => init(rt, path),
             Err(ending) => ending,
         },
@@ -112,6 +117,42 @@ fn hand(rt: &HostRuntime, arguments: HandArguments<'_>) -> Ending {
     }
 }
 
+/// Runs `play` over standard input and output.
+fn play(rt: &HostRuntime, path: &str) -> Ending {
+    let file = match fs::read(rt, path) {
+        Ok(file) => file,
+        Err(error) => return Ending::unread(&error),
+    };
+    match read_game(rt, &file) {
+        Ok(game) => play_run(
+            rt.alloc(),
+            &file,
+            game.as_deref(),
+            &mut rt.reader(),
+            &mut io::writer(rt),
+        ),
+        Err(ending) => ending,
+    }
+}
+
+/// The game file that a match file names; none where it names none, or where that can't be read. The `Err` is
+/// `OutOfMemory`.
+fn read_game(rt: &HostRuntime, file: &[u8]) -> Result<Option<Vec<u8>>, Ending> {
+    let file = match MatchFile::read(rt.alloc(), file) {
+        Ok(file) => file,
+        Err(MatchFault::OutOfMemory) => return Err(Ending::OutOfMemory),
+        Err(_) => return Ok(None),
+    };
+    let Ok(name) = file.game() else {
+        return Ok(None);
+    };
+    match fs::read(rt, name) {
+        Ok(game) => Ok(Some(game)),
+        Err(error) if error.kind() == io::ErrorKind::OutOfMemory => Err(Ending::OutOfMemory),
+        Err(_) => Ok(None),
+    }
+}
+
 /// Runs `check` over a log file and standard output. The log is opened once the game is read.
 fn check(rt: &HostRuntime, arguments: CheckArguments<'_>) -> Ending {
     match fs::read(rt, arguments.game) {
@@ -129,5 +170,7 @@ fn check(rt: &HostRuntime, arguments: CheckArguments<'_>) -> Ending {
 mod check_tests;
 #[cfg(test)]
 mod hand_tests;
+#[cfg(test)]
+mod play_tests;
 #[cfg(test)]
 mod test_streams;

@@ -2,11 +2,11 @@
 //! what it shows; and the players' answers, a line and an action. `laws` has what holds of the lines of every match.
 //!
 //! A dealer makes the hand's `BettingText` once after each command (`newest`) and appends `seat_line` for each seat.
-//! What a seat sees is a `View`, by `seat_view`; `write` appends its line, `read` reads a line back, and
-//! `read_answer` a player's answer, both against the game alone. `read_betting`, `read_action`, `read_deal` and
-//! `read_shown` read parts of lines, and `put`, `put_number`, `put_cards` and `betting_text` append parts. Calls with
-//! `reserved` in their name take no memory where there is room for the most that they append, a constant beside each;
-//! no other call but those that answer a `Result` of `AllocError` takes any.
+//! What a seat sees is a `View`, by `seat_view`; `write` appends its line, `read` reads a line back, and `read_answer`
+//! a player's answer, both against the game alone. `read_betting`, `read_action`, `read_deal` and `read_shown` read
+//! parts of lines, `cut` parts a text at a byte, and `put`, `put_number`, `put_cards` and `betting_text` append parts.
+//! Calls with `reserved` in their name take no memory where there is room for the most that they append, a constant
+//! beside each; no other call but those that answer a `Result` of `AllocError` takes any.
 //!
 //! The test `all_seats_share_one_betting_text` writes the lines of a table, `lines_read_as_they_are_written` and
 //! `answers_read_as_views_and_actions` read. Faults: `LineFault`, 40 to 44, the first in the order that

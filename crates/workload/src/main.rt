@@ -2,7 +2,7 @@
 //!
 //! Each argument names what to run, and prints counts and checksums: `five-card-hands`, `best-of-seven`, `draws`,
 //! `sevens-by-counts`, `sevens-by-fives`, `sevens`, `short-hands`, `long-hands`, `encode`, `decode`, `promises`,
-//! `answers`, `refusals`; `decks`, which reads lines `seed hand players deal`; and `frames`, which reads lines of a frame
+//! `answers`, `refusals`, `nodes`, `nodes-short`; `decks`, which reads lines `seed hand players deal`; and `frames`, which reads lines of a frame
 //! in hexadecimal and `ok` or its fault. The tasks of the store work on the file `workload.journal`: `store-append`,
 //! `store-appends`, `store-short`, `store-long`, `store-open-short`, `store-open-long`.
 #![tactic(auto)]
@@ -12,12 +12,14 @@ mod frame_speed;
 mod frames;
 mod hand_play;
 mod hands;
+mod nodes;
 mod parts;
 mod sevens;
 mod stores;
 mod task;
 
 use hand_play::Policy;
+use nodes::Course;
 use sevens::Body;
 use std::fs::File;
 use std::rt::Files;
@@ -53,6 +55,8 @@ fn run(rt: &(impl Input + Print + AllocGlobal + Files<File = File>), task: Task)
         Task::Promises => parts::print_promises(rt),
         Task::Answers => parts::print_answers(rt),
         Task::Refusals => parts::print_refusals(rt),
+        Task::Nodes => nodes::print_played(rt, 1000, 10, Course::Plain),
+        Task::NodesShort => nodes::print_played(rt, 1, 10, Course::Varied),
         Task::Append => stores::print_appended(rt, 1),
         Task::Appends => stores::print_many_appended(rt),
         Task::ShortJournal => stores::print_written(rt, 10_000),

@@ -31,6 +31,10 @@ pub enum Task {
     Answers,
     /// Refuses proposals.
     Refusals,
+    /// Plays 1000 matches of 10 hands on three nodes.
+    Nodes,
+    /// Plays a match of 10 hands on three nodes, one of which is down for a while.
+    NodesShort,
     /// Appends one promise to a store on a file.
     Append,
     /// Appends many promises to a store on a file.
@@ -64,6 +68,8 @@ impl Task {
             "promises" => Some(Task::Promises),
             "answers" => Some(Task::Answers),
             "refusals" => Some(Task::Refusals),
+            "nodes" => Some(Task::Nodes),
+            "nodes-short" => Some(Task::NodesShort),
             "store-append" => Some(Task::Append),
             "store-appends" => Some(Task::Appends),
             "store-short" => Some(Task::ShortJournal),

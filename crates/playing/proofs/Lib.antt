@@ -1,0 +1,5 @@
+pub mod Delivered
+pub mod Examples
+pub mod Marking
+pub mod Gaining
+pub mod Happening
