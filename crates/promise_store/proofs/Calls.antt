@@ -1,11 +1,12 @@
 -- What calls make of a file in memory.
-use Rattle.std.proofs.Common.{◌≡◌, ◌⊎◌, inl, inr, ℕ, zero, suc, ◌+◌, ◌-◌, ◌≤◌, min, max, Bool, true, false, List, [], ◌∷◌, ◌++◌, length, take, drop, map, reverse, refl, sym, ◌∙◌, ap, subst, arith, length-append, length-drop}
+use Rattle.std.proofs.Common.{Vec, Global, ◌≡◌, ◌⊎◌, inl, inr, ℕ, zero, suc, ◌+◌, ◌-◌, ◌≤◌, min, max, Bool, true, false, List, [], ◌∷◌, ◌++◌, length, take, drop, map, reverse, refl, sym, ◌∙◌, ap, subst, arith, length-append, length-drop}
 use Rattle.std.specs.Prelude.{◌%◌, ◌/◌, replicate}
 use Rattle.std.proofs.lemmas.Bool.{cases_lt}
-use Rattle.std.proofs.lemmas.List.{take_min, take-take, take-append-le, drop_at, drop_all, length-take-le, length-replicate, reverse-append, map-append, append-nil}
+use Rattle.std.proofs.lemmas.List.{take_min, take-take, take-append-le, drop-append-le, take_rest, drop_at, drop_all, length-take-le, length-replicate, reverse-append, map-append, append-nil}
 use Rattle.promise_store.specs.Disks.{Torn, TornFrom, Within, Holds, Elapses}
 use Rattle.promise_store.specs.declared.call.Call.{Call}
-use Rattle.promise_store.specs.Calls.{Event, wrote, synced, stopped, event_of, events, grown, landed, Write, picked, contents, Reaches, IsImage, Had, Since}
+use Rattle.promise_store.specs.declared.call.Call.TheVariants.{Wrote, Synced}
+use Rattle.promise_store.specs.Calls.{Event, wrote, synced, stopped, event_of, events, grown, landed, redone, replayed, Write, write_of, picked, Contents, contents, Reaches, IsImage, Had, Since, IsTied}
 
 pub torn_same : (at n : ℕ) (file : List ℕ) → Torn at n file file
 torn_same at n file = record { before = take_min at file; after = refl; no_shorter = omega arith; no_longer = omega arith }
@@ -115,3 +116,81 @@ module _ (calls : List Event) where
 
 pub events_push : (calls : List Call) (call : Call) → events (calls ++ call ∷ []) ≡ event_of call ∷ events calls
 events_push calls call = ap reverse (map-append event_of calls (call ∷ [])) ∙ reverse-append (map event_of calls) (event_of call ∷ [])
+
+-- ---- what a file in memory keeps
+
+pub replayed_append : (file : List ℕ) (before after : List Call) → replayed file (before ++ after) ≡ replayed (replayed file before) after
+replayed_append file [] after = refl
+replayed_append file (call ∷ before) after = replayed_append (redone call file) before after
+
+pub write_noted : (calls noted : List Call) (at : ℕ) (copy : Vec ℕ Global) (bytes : List ℕ) (done : Bool)
+    → noted ≡ calls ++ Wrote at copy done ∷ [] → copy.items ≡ bytes
+    → Within (TornFrom at (length bytes) (IsImage (contents (events calls)))) (IsImage (contents (events noted)))
+write_noted calls noted at copy bytes done more same =
+    let step : events noted ≡ wrote at bytes done ∷ events calls = ap events more ∙ events_push calls (Wrote at copy done) ∙ ap (λ (l : List ℕ). wrote at l done ∷ events calls) same in
+    subst (λ (l : List Event). Within (TornFrom at (length bytes) (IsImage (contents (events calls)))) (IsImage (contents l))) (sym step) (write_follows (events calls) at bytes done)
+
+module _ (bytes base : List ℕ) (based unsynced begun : ℕ) (calls : List Call) (tied : IsTied bytes base based unsynced begun calls) where
+  dropped : (n : ℕ) (call : Call) → n ≤ length calls → drop n (calls ++ call ∷ []) ≡ drop n calls ++ call ∷ []
+  dropped n call le = drop-append-le n calls (call ∷ []) le
+
+  synced_part : (call : Call) → replayed base (take (unsynced - based) (drop based (calls ++ call ∷ []))) ≡ (contents (events calls)).base
+  synced_part call =
+      ap (λ (l : List Call). replayed base (take (unsynced - based) l)) (dropped based call (omega (arith, tied.ordered, tied.within)))
+      ∙ ap (replayed base) (take-append-le (unsynced - based) (drop based calls) (call ∷ []) (omega (arith, tied.ordered, tied.within, length-drop based calls)))
+      ∙ tied.is_base
+
+  one_more : (call : Call) → replayed base (drop based (calls ++ call ∷ [])) ≡ redone call bytes
+  one_more call =
+      ap (replayed base) (dropped based call (omega (arith, tied.ordered, tied.within)))
+      ∙ replayed_append base (drop based calls) (call ∷ [])
+      ∙ ap (redone call) tied.is_replayed
+
+  longer : (call : Call) → length (calls ++ call ∷ []) ≡ length calls + 1
+  longer call = length-append calls (call ∷ [])
+
+  wrote_more : (at : ℕ) (new : Vec ℕ Global) (done : Bool) → IsTied (redone (Wrote at new done) bytes) base based unsynced begun (calls ++ Wrote at new done ∷ [])
+  wrote_more at new done =
+      let call : Call = Wrote at new done in
+      let more : contents (events (calls ++ call ∷ [])) ≡ contents (event_of call ∷ events calls) = ap contents (events_push calls call) in
+      record {
+        is_seen = ap (redone call) tied.is_seen ∙ sym (ap (λ (c : Contents). c.seen) more);
+        is_base = synced_part call ∙ sym (ap (λ (c : Contents). c.base) more);
+        is_replayed = one_more call;
+        ordered = tied.ordered;
+        within = omega (arith, tied.within, longer call);
+        is_pending =
+            ap (map write_of) (dropped unsynced call tied.within)
+            ∙ map-append write_of (drop unsynced calls) (call ∷ [])
+            ∙ ap (λ (l : List Write). l ++ write_of call ∷ []) tied.is_pending
+            ∙ sym (ap (λ (c : Contents). c.pending) more);
+        has_begun = omega (arith, tied.has_begun, longer call);
+      }
+
+  pub tied_wrote : (at : ℕ) (new : Vec ℕ Global) (done : Bool) (file : List ℕ) (noted : List Call)
+      → file ≡ redone (Wrote at new done) bytes → noted ≡ calls ++ Wrote at new done ∷ []
+      → IsTied file base based unsynced begun noted
+  tied_wrote at new done file noted is more =
+      subst (λ (l : List Call). IsTied file base based unsynced begun l) (sym more)
+      (subst (λ (l : List ℕ). IsTied l base based unsynced begun (calls ++ Wrote at new done ∷ [])) (sym is) (wrote_more at new done))
+
+  synced_more : IsTied bytes base based (length (calls ++ Synced ∷ [])) begun (calls ++ Synced ∷ [])
+  synced_more =
+      let more : contents (events (calls ++ Synced ∷ [])) ≡ contents (synced ∷ events calls) = ap contents (events_push calls Synced) in
+      record {
+        is_seen = tied.is_seen ∙ sym (ap (λ (c : Contents). c.seen) more);
+        is_base =
+            ap (replayed base) (take_rest (calls ++ Synced ∷ []) based)
+            ∙ one_more Synced ∙ tied.is_seen
+            ∙ sym (ap (λ (c : Contents). c.base) more);
+        is_replayed = one_more Synced;
+        ordered = omega (arith, tied.ordered, tied.within, longer Synced);
+        within = omega arith;
+        is_pending = ap (map write_of) (drop_all (length (calls ++ Synced ∷ [])) (calls ++ Synced ∷ []) (omega arith)) ∙ sym (ap (λ (c : Contents). c.pending) more);
+        has_begun = omega (arith, tied.has_begun, longer Synced);
+      }
+
+  pub tied_synced : (noted : List Call) (end : ℕ) → noted ≡ calls ++ Synced ∷ [] → end ≡ length noted → IsTied bytes base based end begun noted
+  tied_synced noted end more is =
+      subst (λ (n : ℕ). IsTied bytes base based n begun noted) (sym is)
+      (subst (λ (l : List Call). IsTied bytes base based (length l) begun l) (sym more) synced_more)

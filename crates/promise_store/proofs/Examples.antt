@@ -1,16 +1,17 @@
 -- A journal byte by byte, near misses, what it holds, and images of writes cut short.
-use Rattle.std.proofs.Common.{◌≡◌, inl, inr, ℕ, length, List, [], ◌∷◌, ◌++◌, take, drop, Some, None, true, false, get_or, refl, sym, arith, ap, length-append}
+use Rattle.std.proofs.Common.{◌≡◌, inl, inr, ℕ, length, List, [], ◌∷◌, ◌++◌, take, drop, Some, None, true, false, get_or, refl, sym, ◌∙◌, arith, ap, length-append, Vec, Global}
 use Rattle.std.specs.Prelude.{codes}
 use Rattle.slot_log.specs.declared.command.Command.{Command}
 use Rattle.slot_log.specs.declared.command.Command.TheVariants.{Deal}
 use Rattle.paxos_wire.specs.declared.ballot.Ballot.{Ballot}
 use Rattle.paxos_wire.proofs.Examples.{first_ballot, cards, ballot_fits, deal_is_command}
 use Rattle.protocol_model.specs.Messages.{Vote}
+use Rattle.promise_store.specs.declared.call.Call.TheVariants.{Wrote, Synced}
 use Rattle.promise_store.specs.declared.records.Record.{Record}
 use Rattle.promise_store.specs.declared.records.Record.TheVariants.{Promised, Voted}
 use Rattle.promise_store.specs.declared.fault.StoreFault.TheVariants.{NoStore, BadHeader, Closed}
 use Rattle.promise_store.specs.Disks.{Torn, Holds, Rose}
-use Rattle.promise_store.specs.Calls.{wrote, synced, contents, picked, IsImage}
+use Rattle.promise_store.specs.Calls.{wrote, synced, contents, landed, replayed, picked, IsImage}
 use Rattle.promise_store.specs.Records.{payload, record_text}
 use Rattle.promise_store.specs.Journals.{header, gated, IsJournal}
 use Rattle.promise_store.specs.Holding.{holding, store_of, placed_of}
@@ -166,6 +167,14 @@ failed_write = refl
 
 pub failed_write_left : IsImage (contents (wrote 0 (8 ∷ []) false ∷ [])) (8 ∷ [])
 failed_write_left = inr (8 ∷ [], record { before = refl; after = refl; no_shorter = omega arith; no_longer = omega arith }, refl)
+
+-- calls again on the file that a stop left: a write that was done gives its bytes, one that failed none, and a sync nothing
+pub replayed_calls : (first failed : Vec ℕ Global) → first.items ≡ 8 ∷ 9 ∷ [] → replayed (5 ∷ 6 ∷ []) (Wrote 1 first true ∷ Synced ∷ Wrote 0 failed false ∷ []) ≡ 5 ∷ 8 ∷ 9 ∷ []
+replayed_calls first failed is = ap (λ (l : List ℕ). landed 1 (5 ∷ 6 ∷ []) 1 l) is
+
+-- the last of two writes at one place stays
+pub replayed_twice : (first second : Vec ℕ Global) → first.items ≡ 8 ∷ [] → second.items ≡ 9 ∷ [] → replayed [] (Wrote 0 first true ∷ Wrote 0 second true ∷ []) ≡ 9 ∷ []
+replayed_twice first second is same = ap (λ (l : List ℕ). landed 1 (landed 1 [] 0 l) 0 second.items) is ∙ ap (landed 1 (8 ∷ []) 0) same
 
 -- after a sync nothing but what a read gives
 pub synced_write-none : IsImage (contents (synced ∷ wrote 0 (8 ∷ []) true ∷ [])) [] → ⊥

@@ -97,10 +97,24 @@ write_of (Wrote at bytes done) = (at, bytes.items)
 write_of Synced = (0, [])
 write_of (Stopped pick) = (0, [])
 
--- the fields are what the calls make of an empty file, and it was begun after some of them
-pub record IsTied (bytes base : List ℕ) (unsynced begun : ℕ) (calls : List Call) : Type 0 where
+-- what a read gives after a call: only a write that was done changes it
+abbrev pub redone : Call → List ℕ → List ℕ
+redone (Wrote at bytes done) file = if done then landed 1 file at bytes.items else file
+redone Synced file = file
+redone (Stopped pick) file = file
+
+-- what a read gives after calls without a stop, the oldest first
+abbrev pub replayed : List ℕ → List Call → List ℕ
+replayed file [] = file
+replayed file (call ∷ calls) = replayed (redone call file) calls
+
+-- the fields are what the calls make of an empty file, and it was begun after some of them: the base and what was replayed since
+pub record IsTied (bytes base : List ℕ) (based unsynced begun : ℕ) (calls : List Call) : Type 0 where
   pub is_seen : bytes ≡ (contents (events calls)).seen
-  pub is_base : base ≡ (contents (events calls)).base
+  -- what was on the disk for certain at the last sync
+  pub is_base : replayed base (take (unsynced - based) (drop based calls)) ≡ (contents (events calls)).base
+  pub is_replayed : replayed base (drop based calls) ≡ bytes
+  pub ordered : based ≤ unsynced
   pub within : unsynced ≤ length calls
   pub is_pending : map write_of (drop unsynced calls) ≡ (contents (events calls)).pending
   pub has_begun : begun ≤ length calls

@@ -1,8 +1,8 @@
 //! A file in memory, which keeps a record of its calls; each call is told whether it is to fail.
 
-ghost use Rattle.std.specs.Prelude.{◌≡◌, ◌∷◌, ◌++◌, [], ◌+◌, ◌<◌, ◌≤◌, ◌%◌, ◌/◌, ◌^◌, List, ℕ, length, take, drop, map, ◌↔◌, IsTrue, IfOk, IsOk, IsErr, OnOk, OnErr, true, false};
+ghost use Rattle.std.specs.Prelude.{◌≡◌, ◌∷◌, ◌++◌, [], ◌+◌, ◌<◌, ◌≤◌, ◌%◌, ◌/◌, ◌^◌, List, ℕ, length, take, drop, map, ◌↔◌, if◌then◌else◌, IsTrue, IfOk, IsOk, IsErr, OnOk, OnErr, true, false};
 ghost use Rattle.promise_store.specs.Disks.{Holds, TornFrom, Within, Only, Elapses, Counts, Rose};
-ghost use Rattle.promise_store.specs.Calls.{event_of, events, landed, picked, write_of, IsTied};
+ghost use Rattle.promise_store.specs.Calls.{event_of, events, landed, replayed, picked, write_of, IsTied};
 
 use crate::call::Call;
 use crate::disk::DiskFault;
@@ -14,16 +14,18 @@ pub struct Medium {
     alloc: Global,
     /// What a read gives.
     bytes: Vec<u8>,
-    /// What was on the disk at the last sync or stop.
+    /// What the last stop left; before the first, nothing.
     base: Vec<u8>,
     /// All calls that changed it.
     calls: Vec<Call>,
+    /// The first of them since the last stop.
+    based: usize,
     /// The first of them since the last sync or stop.
     unsynced: usize,
     /// How many of them there were when it was begun.
     begun: usize,
     failures: u64,
-    ghost tied: { IsTied bytes.items base.items unsynced begun calls.items },
+    ghost tied: { IsTied bytes.items base.items based unsynced begun calls.items },
 }
 
 fn fail(failures: &mut u64) -> DiskFault
@@ -34,44 +36,68 @@ fn fail(failures: &mut u64) -> DiskFault
     DiskFault
 }
 
-/// What a digit makes of a write: 0 the old bytes, with zeros past the old end; 1 the new bytes; else ones.
-fn land(
-    alloc: Global,
-    file: &[u8],
-    digit: u64,
-    at: usize,
-    bytes: &[u8],
-) -> Result<Vec<u8>, AllocError>
-    ensures { IfOk result (λ v. v.items ≡ landed digit file.now at bytes.now) }
+/// Makes of a write what its digit says: 0 the old bytes, with zeros past the old end; 1 the new bytes; else ones. An
+/// `Err` changes no byte.
+fn land(file: &mut Vec<u8>, digit: u64, at: usize, bytes: &[u8]) -> Result<(), AllocError>
+    ensures landed { OnOk result (file.new.items ≡ landed digit file.old.items at bytes.now) }
+    ensures err { OnErr result (file.new.items ≡ file.old.items) }
 {
     let end = at.checked_add(bytes.len()).ok_or(AllocError)?;
-    let mut next = file.to_vec(alloc)?;
-    if end > next.len() {
-        next.resize(end, 0)?;
+    if end > file.len() {
+        file.resize(end, 0)?;
     }
     match digit {
         0 => {}
-        1 => next[at..end].copy_from_slice(bytes),
-        _ => next[at..end].fill(1),
+        1 => file[at..end].copy_from_slice(bytes),
+        _ => file[at..end].fill(1),
     }
-    Ok(next)
+    Ok(())
+}
+
+/// Writes where that passes. Else it makes room alone, so that a stop can still put the bytes there. An `Err` changes
+/// no byte.
+fn write(file: &mut Vec<u8>, passes: bool, at: usize, bytes: &[u8]) -> Result<(), AllocError>
+    ensures written { OnOk result (file.new.items ≡ (if passes then landed 1 file.old.items at bytes.now else file.old.items)) }
+    ensures err { OnErr result (file.new.items ≡ file.old.items) }
+{
+    if passes {
+        return land(file, 1, at, bytes);
+    }
+    let end = at.checked_add(bytes.len()).ok_or(AllocError)?;
+    file.reserve(end.saturating_sub(file.len()))
+}
+
+/// Does the writes among these calls again that were done.
+fn replay(file: &mut Vec<u8>, calls: &[Call]) -> Result<(), AllocError>
+    ensures { OnOk result (file.new.items ≡ replayed file.old.items calls.now) }
+{
+    for call in calls {
+        if let Call::Wrote {
+            at,
+            bytes,
+            done: true,
+        } = call
+        {
+            land(file, 1, *at, bytes)?;
+        }
+    }
+    Ok(())
 }
 
 /// What the digits of the pick make of the writes.
-fn pick_image(alloc: Global, base: &[u8], calls: &[Call], pick: u64) -> Result<Vec<u8>, AllocError>
-    ensures { IfOk result (λ v. v.items ≡ picked base.now (map write_of calls.now) pick) }
+fn pick_image(file: &mut Vec<u8>, calls: &[Call], pick: u64) -> Result<(), AllocError>
+    ensures { OnOk result (file.new.items ≡ picked file.old.items (map write_of calls.now) pick) }
 {
-    let mut image = base.to_vec(alloc)?;
     let mut digits = pick;
     for call in calls {
-        image = match call {
-            Call::Wrote { at, bytes, done: _ } => land(alloc, &image, digits % 3, *at, bytes)?,
-            Call::Synced => land(alloc, &image, digits % 3, 0, &[])?,
-            Call::Stopped { pick: _ } => land(alloc, &image, digits % 3, 0, &[])?,
-        };
+        match call {
+            Call::Wrote { at, bytes, done: _ } => land(file, digits % 3, *at, bytes)?,
+            Call::Synced => land(file, digits % 3, 0, &[])?,
+            Call::Stopped { pick: _ } => land(file, digits % 3, 0, &[])?,
+        }
         digits /= 3;
     }
-    Ok(image)
+    Ok(())
 }
 
 /// Puts a call behind the last one.
@@ -96,6 +122,7 @@ impl Medium {
             bytes: Vec::new(alloc),
             base: Vec::new(alloc),
             calls: Vec::new(alloc),
+            based: 0,
             unsynced: 0,
             begun: 0,
             failures: 0,
@@ -185,21 +212,18 @@ impl Medium {
         let Ok(copy) = bytes.to_vec(self.alloc) else {
             return Err(fail(&mut self.failures));
         };
-        let Ok(next) = land(self.alloc, &self.bytes, 1, at, bytes) else {
+        // The room for the call comes first, so that nothing fails behind the write.
+        if self.calls.reserve(1).is_err() || write(&mut self.bytes, passes, at, bytes).is_err() {
             return Err(fail(&mut self.failures));
-        };
-        let call = Call::Wrote {
+        }
+        self.calls.push_reserved(Call::Wrote {
             at,
             bytes: copy,
             done: passes,
-        };
-        if note(&mut self.calls, call).is_err() {
-            return Err(fail(&mut self.failures));
-        }
+        });
         if !passes {
             return Err(fail(&mut self.failures));
         }
-        self.bytes = next;
         Ok(())
     }
 
@@ -215,13 +239,9 @@ impl Medium {
         if !passes {
             return Err(fail(&mut self.failures));
         }
-        let Ok(copy) = self.bytes.to_vec(self.alloc) else {
-            return Err(fail(&mut self.failures));
-        };
         if note(&mut self.calls, Call::Synced).is_err() {
             return Err(fail(&mut self.failures));
         }
-        self.base = copy;
         self.unsynced = self.calls.len();
         Ok(())
     }
@@ -236,11 +256,14 @@ impl Medium {
         ensures time { Elapses (moment_of self.old) (moment_of self.new) (since_of self.old) (since_of self.new) (images_of self.new) }
         ensures failed { count_of self.new ≡ count_of self.old }
     {
-        let image = pick_image(self.alloc, &self.base, &self.calls[self.unsynced..], pick)?;
+        let mut image = self.base.to_vec(self.alloc)?;
+        replay(&mut image, &self.calls[self.based..self.unsynced])?;
+        pick_image(&mut image, &self.calls[self.unsynced..], pick)?;
         let copy = image.to_vec(self.alloc)?;
         note(&mut self.calls, Call::Stopped { pick })?;
         self.bytes = image;
         self.base = copy;
+        self.based = self.calls.len();
         self.unsynced = self.calls.len();
         Ok(())
     }
