@@ -28,3 +28,4 @@ pub mod Handled
 pub mod Within
 pub mod ReadBack
 pub mod AsOne
+pub mod Own

@@ -120,6 +120,22 @@ marked_stands None made ballot is = tt
 marked_stands (Some campaign) None ballot is = is
 marked_stands (Some campaign) (Some accept) ballot is = is
 
+-- ---- without a quorum nothing is proposed
+
+none_by : (campaign : Campaign) (slot : ℕ) (value : Option Command) (quorum covered proposed : Bool) → quorum ≡ false
+    → (let outcome : Result (Option Accept) ProposeFault = if not quorum then Ok None else if not covered then Err OutOfWindow else if proposed then Ok None else Ok (accept_of campaign slot value) in Ok None ≡ outcome)
+none_by campaign slot value true covered proposed e = absurd (true≢false e)
+none_by campaign slot value false covered proposed e = refl
+
+no_proposal : (nodes slot : ℕ) (campaign : Option Campaign) (own : Option Command) → leads nodes campaign ≡ false → Ok None ≡ proposal_from nodes campaign slot own
+no_proposal nodes slot None own unled = refl
+no_proposal nodes slot (Some campaign) own unled =
+    none_by campaign slot (value_of (greatest_told campaign slot nodes) own) (has_quorum nodes campaign) (is_covered campaign.first slot) (is_proposed campaign slot) unled
+
+unmarked : (campaign : Option Campaign) → campaign ≡ marked_from campaign (Ok None)
+unmarked None = refl
+unmarked (Some campaign) = refl
+
 -- ---- the close
 
 -- a slot is left for a node that leads
@@ -188,6 +204,15 @@ module _ (post : Post) (old : Running) (s : Standing) (at : IsAt post old) (is :
         stands = marked_stands s.campaign made;
         own = λ ballot led. made_is_of old.proposer.nodes slot old.proposer.campaign own made e ballot (subst (λ (c : Option Campaign). IfSome c (λ k. k.ballot ≡ ballot)) (sym is.campaign) led);
       }
+
+  -- a node that doesn't lead proposes nothing, whatever it would of its own
+  pub close_unled : leads old.proposer.nodes old.proposer.campaign ≡ false → Closes post old s None
+  close_unled unled =
+      close_proposed old (own_value (place_at post) s) (front old.learner.learned.log) None (no_proposal old.proposer.nodes (front old.learner.learned.log) old.proposer.campaign (own_value (place_at post) s) unled) refl refl
+      (λ leading. absurd (true≢false (sym leading ∙ leads_here))) (unmarked old.proposer.campaign) refl
+    where
+      leads_here : leads post.nodes old.proposer.campaign ≡ false
+      leads_here = ap (λ n. leads n old.proposer.campaign) (sym at.nodes) ∙ unled
 
   pub close_outside : (new : Running) (own : Option Command) (slot : ℕ) (fault : ProposeFault)
       → Err fault ≡ proposal_from old.proposer.nodes old.proposer.campaign slot own → slot ≡ front old.learner.learned.log → own ≡ own_value (place_at post) s

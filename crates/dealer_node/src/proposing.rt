@@ -123,6 +123,11 @@ impl Running {
         ensures at { IsAt post.now self.new }
         ensures rest { self.new ≡ record self.old { proposer = self.new.proposer } }
     {
+        // The own deal is drawn only where it may be proposed.
+        let leading = self.proposer.is_leading();
+        if !leading {
+            return None;
+        }
         let front = self.front();
         let own = own_value(post, &self.table, &self.pending);
         match self.proposer.propose(front, own) {

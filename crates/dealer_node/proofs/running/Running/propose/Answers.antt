@@ -1,7 +1,7 @@
 use Rattle.std.proofs.Common.{◌<◌, ◌∙◌, ap, sym, subst, refl}
 use Rattle.paxos_wire.specs.declared.limits.TheConstants.{SLOTS}
 use Rattle.proposer.specs.Campaigns.{Proposing, leads}
-use Rattle.dealer_node.proofs.Proposed.{made_fits, close_proposed, close_outside}
+use Rattle.dealer_node.proofs.Proposed.{made_fits, close_proposed, close_unled, close_outside}
 use Rattle.dealer_node.proofs.running.Running.propose.Goals as goal
 
 pub returns-in-Ok-clause-closes : goal.returns-in-Ok-clause-closes
@@ -22,3 +22,7 @@ returns-in-Err-clause-closes c = λ s is.
     close_outside c.args.post.now c.args.self.now s c.requires.at is _ c.own_value-own.result c.front-front.result c.in-Err.field-0
     (sym c.in-Err.is ∙ c.propose.ensures.proposal) c.front-front.ensures.value (c.own_value-own.ensures.value s is.hands is.waits) c.requires.left
     (ap (λ (p : Proposing). p.campaign) c.turn_idle.ensures) refl
+
+pub returns-then-not-leading-clause-closes : goal.returns-then-not-leading-clause-closes
+returns-then-not-leading-clause-closes c = λ s is.
+    close_unled c.args.post.now c.args.self.now s c.requires.at is (sym c.is_leading-leading.ensures ∙ c.if-not-leading.true)
