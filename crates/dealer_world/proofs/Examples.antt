@@ -1,5 +1,5 @@
 -- Records, read out; and records that aren't so.
-use Rattle.std.proofs.Common.{◌≡◌, Err, Ok, get_or, ◌≢◌, ℕ, zero, suc, ◌+◌, ◌*◌, ◌<◌, ◌≤◌, inl, inr, Bool, true, false, cond, Option, Some, None, List, [], ◌∷◌, ◌++◌, length, take, refl, ap, sym, ◌∙◌, subst, arith}
+use Rattle.std.proofs.Common.{◌≡◌, Err, Ok, get_or, ◌≢◌, ℕ, zero, suc, ◌+◌, ◌*◌, ◌<◌, ◌≤◌, inl, inr, Bool, true, false, cond, Option, Some, None, List, [], ◌∷◌, ◌++◌, length, take, replicate, refl, ap, sym, ◌∙◌, subst, arith}
 use Rattle.paxos_wire.specs.Reading.{body_of, message_at, ask_at, below_at}
 use Rattle.paxos_wire.specs.Faults.{header_fault, reading}
 use Rattle.slot_log.specs.declared.command.Command.{Command}
@@ -32,6 +32,7 @@ use Rattle.node_rules.specs.Calm.{Ticks}
 use Rattle.dealer_world.specs.CalmCluster.{AreEvents}
 use Rattle.dealer_world.specs.Stepping.{IsFor, arrived_by_event, begins_by_event}
 use Rattle.dealer_world.specs.Recordings.{whole}
+use Rattle.dealer_world.specs.KeptStarts.{AreCounted}
 use Rattle.dealer_world.specs.RuleRuns.{State, Steps, RunsTo, fresh, step, opened, IsAddressed}
 use Rattle.dealer_world.specs.Ruling.{AreLeft, GoesOn}
 use Rattle.dealer_world.specs.Beginning.{first_starts, first_asks}
@@ -90,6 +91,13 @@ logs_apart = refl
 
 starts_counted : (start_count shown.starts 0 ≡ 2) × (last_start shown.starts 0 ≡ 1) × (last_start shown.starts 1 ≡ 0) × (start_count shown.starts 2 ≡ 0)
 starts_counted = (refl, refl, refl, refl)
+
+-- a start that isn't counted, and one counted under another node
+uncounted : AreCounted ((record { node = 0; start = 0 }) ∷ []) (replicate 256 0) → ⊥
+uncounted are = let e : ◌≡◌ {A = ℕ} 0 1 = are.1 0 (omega arith) in omega (arith, e)
+
+counted_elsewhere : AreCounted ((record { node = 1; start = 0 }) ∷ []) (1 ∷ replicate 255 0) → ⊥
+counted_elsewhere are = let e : ◌≡◌ {A = ℕ} 1 0 = are.1 0 (omega arith) in omega (arith, e)
 
 -- a log is shown as a whole each time
 abbrev text_at : ℕ → ℕ → ℕ → List ℕ → Shown

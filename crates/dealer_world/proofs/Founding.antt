@@ -16,7 +16,7 @@ use Rattle.dealer_world.specs.Beginning.{IsCreatedAt, IsReopenedAt, AreEach}
 
 -- ---- of a new match
 
-abbrev created : {N : Type 0} → Plan → ℕ → List N → List Standing
+abbrev pub created : {N : Type 0} → Plan → ℕ → List N → List Standing
 created plan k [] = []
 created plan k (node ∷ nodes) = stopped (place_of plan k) empty_store empty_store ∷ created plan (k + 1) nodes
 
@@ -36,7 +36,7 @@ pub rest_of : {N : Type 0} (IsSo : ℕ → N → Type 0) (k : ℕ) (node : N) (n
 rest_of IsSo k node nodes each i d less = let e : k + suc i ≡ (k + 1) + i = omega arith in subst (λ j. IsSo j (get_or nodes i d)) e (each (suc i) d (omega arith))
 
 module _ {D : Type 0} (g : Ghosts D) where
-  created_seen : (plan : Plan) (k : ℕ) (nodes : List (Node D)) → AreEach (λ i. IsCreatedAt g plan (k + i)) nodes → AreSeen g nodes (created plan k nodes)
+  pub created_seen : (plan : Plan) (k : ℕ) (nodes : List (Node D)) → AreEach (λ i. IsCreatedAt g plan (k + i)) nodes → AreSeen g nodes (created plan k nodes)
   created_seen plan k [] each = tt
   created_seen plan k (node ∷ nodes) each =
       ((first_of (IsCreatedAt g plan) k node nodes each).seen, created_seen plan (k + 1) nodes (rest_of (IsCreatedAt g plan) k node nodes each))

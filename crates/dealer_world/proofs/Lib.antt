@@ -1,10 +1,10 @@
 mod Lists
 mod Finding
 mod Each
-mod Counting
 mod Saying
 mod Cutting
 mod Pieces
+mod Counting
 mod Heard
 mod Extends
 mod Starting
@@ -21,6 +21,7 @@ mod Advancing
 mod Answering
 mod CalmCluster
 mod Founding
+mod Wanting
 mod Started
 mod Leaving
 mod Stopping

@@ -2,6 +2,7 @@
 use Rattle.std.specs.Prelude.{◌≡◌, ◌≢◌, ℕ, zero, suc, ◌⊎◌, ◌<◌, false, List, [], ◌∷◌, ◌++◌, map, length, Ok}
 use Rattle.std.proofs.Common.{get_or}
 use Rattle.promise_store.specs.declared.disk.Disk.{Ghosts}
+use Rattle.promise_store.specs.declared.fault.StoreFault.TheVariants.{Disk}
 use Rattle.promise_store.specs.Journals.{header}
 use Rattle.promise_store.specs.Holding.{StandsFor}
 use Rattle.protocol_model.specs.Stores.{Store, empty_store}
@@ -12,6 +13,8 @@ use Rattle.dealer_kind.specs.Plans.{Plan}
 use Rattle.node_rules.specs.Standings.{place_of, stopped, started}
 use Rattle.node_rules.specs.Rules.{asking_all}
 use Rattle.dealer_node.specs.Nodes.{Node}
+use Rattle.dealer_node.specs.declared.fault.NodeFault.{NodeFault}
+use Rattle.dealer_node.specs.declared.fault.NodeFault.TheVariants as fault
 use Rattle.dealer_node.specs.Outs.{nothing_told}
 use Rattle.dealer_node.specs.Turned.{posted}
 use Rattle.dealer_node.specs.Posts.{place_at}
@@ -20,6 +23,10 @@ use Rattle.dealer_world.specs.declared.event.Event.TheVariants as event
 use Rattle.dealer_world.specs.Records.{Record, Frame, Start, Piece}
 use Rattle.dealer_world.specs.Recordings.{frame_by}
 use Rattle.dealer_world.specs.Stepping.{View, Stepped}
+
+-- memory or a disk failed
+abbrev pub IsWant : NodeFault → Type 0
+IsWant why = (why ≡ fault.OutOfMemory) ⊎ (why ≡ fault.Store Disk)
 
 module _ {D : Type 0} (g : Ghosts D) where
   -- node i of a new match, down, over an empty store

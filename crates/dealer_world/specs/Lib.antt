@@ -10,6 +10,7 @@ pub mod Headline
 pub mod Calls
 pub mod Views
 pub mod Recordings
+pub mod KeptStarts
 pub mod Behind
 pub mod Openings
 pub mod RecordLaws

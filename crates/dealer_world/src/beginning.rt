@@ -1,8 +1,8 @@
 //! The nodes of a cluster before they are started.
 
-ghost use Rattle.std.specs.Prelude.{◌≡◌, ◌<◌, length, map, IfOk};
+ghost use Rattle.std.specs.Prelude.{◌≡◌, ◌<◌, length, map, IfOk, IfErr};
 ghost use Rattle.dealer_node.specs.Seeing.{begun_of};
-ghost use Rattle.dealer_world.specs.Beginning.{IsCreatedAt, IsReopenedAt, AreEach};
+ghost use Rattle.dealer_world.specs.Beginning.{IsCreatedAt, IsReopenedAt, AreEach, IsWant};
 
 use dealer_kind::Config;
 use dealer_node::{Node, NodeFault};
@@ -17,7 +17,8 @@ fn created<D: Disk + Drop>(
     disk: D,
 ) -> Result<Node<D>, NodeFault>
     requires { number < length config.now.sources }
-    ensures { IfOk result (λ node. IsCreatedAt D.Disk config.now number node) }
+    ensures node { IfOk result (λ node. IsCreatedAt D.Disk config.now number node) }
+    ensures failed { IfErr result IsWant }
 {
     let mut node = Node::new(alloc, config, number, disk)?;
     node.create()?;
@@ -34,6 +35,7 @@ fn reopened<D: Disk + Drop>(
     requires { number < length config.now.sources }
     ensures node { IfOk result (λ node. IsReopenedAt D.Disk config.now number node) }
     ensures begun { IfOk result (λ node. begun_of D.Disk node ≡ D.seen disk) }
+    ensures failed { IfErr result IsWant }
 {
     match disk.sync() {
         Err(_) => Err(NodeFault::Store(StoreFault::Disk)),
@@ -54,6 +56,7 @@ pub(crate) fn created_all<D: Disk + Drop>(
     requires { length disks.items ≡ length config.now.sources }
     ensures count { IfOk result (λ nodes. length nodes.items ≡ length config.now.sources) }
     ensures each { IfOk result (λ nodes. AreEach (IsCreatedAt D.Disk config.now) nodes.items) }
+    ensures failed { IfErr result IsWant }
 {
     let mut nodes = Vec::with_capacity(alloc, disks.len())?;
     for disk in disks {
@@ -76,6 +79,7 @@ pub(crate) fn reopened_all<D: Disk + Drop>(
     ensures count { IfOk result (λ nodes. length nodes.items ≡ length config.now.sources) }
     ensures each { IfOk result (λ nodes. AreEach (IsReopenedAt D.Disk config.now) nodes.items) }
     ensures begun { IfOk result (λ nodes. map (begun_of D.Disk) nodes.items ≡ map D.seen disks.items) }
+    ensures failed { IfErr result IsWant }
 {
     let mut nodes = Vec::with_capacity(alloc, disks.len())?;
     for disk in disks {

@@ -8,7 +8,7 @@ ghost use Rattle.dealer_node.specs.Seeing.{post_in, runs, IsSeen, begun_of};
 ghost use Rattle.node_rules.specs.Standings.{Standing};
 ghost use Rattle.dealer_world.specs.Records.{no_record};
 ghost use Rattle.dealer_world.specs.Headline.{Era};
-ghost use Rattle.dealer_world.specs.Beginning.{AreImages, AreImagesDuring, AreStarted, StartsAll, HaveStores, AreEach};
+ghost use Rattle.dealer_world.specs.Beginning.{AreImages, AreImagesDuring, AreStarted, StartsAll, HaveStores, AreEach, IsWant};
 ghost use Rattle.protocol_model.specs.Stores.{Store, empty_store};
 ghost use Rattle.dealer_world.specs.Stepping.{View, IsFor, IsGiven, begins_by_event, Stepped, Ran};
 ghost use Rattle.dealer_world.specs.CalmCluster.{MovesOn};
@@ -17,7 +17,7 @@ ghost use Rattle.dealer_world.specs.declared.event.Event.{Event as Call};
 ghost use Rattle.dealer_node.specs.declared.fault.NodeFault.{NodeFault as Fault};
 ghost use Rattle.dealer_node.specs.Nodes.{Node};
 ghost use Rattle.dealer_world.specs.Promise.{IsForMatch, IsPromised, IsPromisedNew, IsBackedBy, StopsAt, IsSameMatch, GoesOnFrom, HasNoForged, AreAddressed, NeverConflicts, era_of, with_brought};
-ghost use Rattle.dealer_world.specs.Ruling.{ArePosted, IsBehind};
+ghost use Rattle.dealer_world.specs.Ruling.{ArePosted, AreSeen, IsBehind};
 
 use crate::arrivals::Arrival;
 use crate::beginning::{created_all, reopened_all};
@@ -187,6 +187,7 @@ impl<D: Disk + Drop> Cluster<D> {
         ensures begun { map (begun_of D.Disk) (view_of self.new).nodes ≡ map (begun_of D.Disk) (view_of self.old).nodes }
         ensures last { OnOk result ((view_of self.new).last ≡ nothing_told) }
         ensures started { OnOk result (StartsAll D.Disk (view_of self.old) (view_of self.new)) }
+        ensures failed { IfErr result (λ why. (standings : List Standing) → IsTrue D.is_honest → AreSeen D.Disk (view_of self.old).nodes standings → IsWant why) }
     {
         for node in 0..self.config.nodes() as u8 {
             self.advance(&Event::Start { node })?;
@@ -198,7 +199,7 @@ impl<D: Disk + Drop> Cluster<D> {
 
     /// A cluster of new nodes, one over each disk, each with a new store; all of them are started.
     ///
-    /// Refused is the fault of the first node that fails; then the disks are dropped.
+    /// Refused is the fault of the first node that fails, 91 or 92; then the disks are dropped.
     pub fn new(alloc: Global, config: Config, disks: Vec<D>) -> Result<Cluster<D>, NodeFault>
         requires { length disks.items ≡ length config.sources }
         ensures config { IfOk result (λ made. (view_of made).config ≡ config) }
@@ -207,6 +208,7 @@ impl<D: Disk + Drop> Cluster<D> {
         ensures last { IfOk result (λ made. (view_of made).last ≡ nothing_told) }
         ensures promised_new { IfOk result (λ made. IsPromisedNew D.Disk (view_of made)) }
         ensures promised { IfOk result (λ made. IsPromised D.Disk (view_of made)) }
+        ensures failed { IfErr result (λ why. IsTrue D.is_honest → IsWant why) }
     {
         runs_show_one_list();
         config.limits();
@@ -218,8 +220,8 @@ impl<D: Disk + Drop> Cluster<D> {
 
     /// A cluster that goes on from the stores that its disks have; all nodes are started.
     ///
-    /// Each disk is begun anew and synced first. Refused is the fault of the first node that fails; then the disks are
-    /// dropped.
+    /// Each disk is begun anew and synced first. Refused is the fault of the first node that fails, and where each disk
+    /// has a store of its node that is 92, or 91 of a disk that failed; then the disks are dropped.
     pub fn open(alloc: Global, config: Config, disks: Vec<D>) -> Result<Cluster<D>, NodeFault>
         requires { length disks.items ≡ length config.sources }
         ensures config { IfOk result (λ made. (view_of made).config ≡ config) }
@@ -240,6 +242,7 @@ impl<D: Disk + Drop> Cluster<D> {
             → ∥ GoesOnFrom D.Disk (view_of made) (era_of (view_of before) ∷ eras) ⊎ GoesOnFrom D.Disk (view_of made) (era_of (with_brought (view_of before) event) ∷ eras) ∥₁) }
         ensures last { IfOk result (λ made. (view_of made).last ≡ nothing_told) }
         ensures promised { IfOk result (λ made. IsPromised D.Disk (view_of made)) }
+        ensures failed { IfErr result (λ why. (stores : ℕ → Store) → IsTrue D.is_honest → HaveStores (length config.sources) (map D.seen disks.items) stores → IsWant why) }
     {
         runs_show_one_list();
         images_are_seen::<D>();

@@ -24,6 +24,7 @@ pub mod laws;
 mod recording;
 mod rows;
 mod shown;
+mod starts;
 mod stopped;
 
 pub use arrivals::{Arrival, Arrivals, What};

@@ -1,9 +1,9 @@
 //! The record of a cluster as it is kept.
 
-ghost use Rattle.std.specs.Prelude.{◌≡◌, ◌+◌, ◌≤◌, ◌++◌, ◌∷◌, [], length, map, count_by, ◌==◌, ◌-◌, ◌^◌, min, true, if◌then◌else◌, OnOk, IfSome, IsNone, Some, ◌↔◌, slice_get, vec_len, vec_capacity};
+ghost use Rattle.std.specs.Prelude.{◌≡◌, ◌+◌, ◌≤◌, ◌++◌, [], length, map, ◌-◌, ◌^◌, min, true, if◌then◌else◌, OnOk, IfSome, IsNone, Some, ◌↔◌, slice_get};
 ghost use Rattle.dealer_node.specs.Texts.{byte_total};
 ghost use Rattle.dealer_node.specs.Outs.{nothing_told};
-ghost use Rattle.dealer_world.specs.Records.{no_record, start_count, last_start};
+ghost use Rattle.dealer_world.specs.Records.{no_record, last_start};
 ghost use Rattle.dealer_world.specs.Views.{grown, placed_at, piece_of, starts_after};
 ghost use Rattle.dealer_world.specs.Events.{node_of, bytes_in, brought_by};
 ghost use Rattle.dealer_world.specs.KeptShown.{piece_by};
@@ -14,6 +14,7 @@ use crate::begun::Begun;
 use crate::event::Event;
 use crate::frames::{Frame, Frames};
 use crate::shown::{Piece, Shown};
+use crate::starts::Starts;
 use dealer_node::{Out, Reader, Reading};
 use std::alloc::{AllocError, Global};
 use std::marker::Model;
@@ -80,25 +81,17 @@ fn put_pieces(pieces: &mut Shown, at: Begun, shown: Reading<'_, Reader>)
     }
 }
 
-/// How often a node was started.
-fn count_starts(starts: &[Begun], node: u8) -> usize
-    ensures { result ≡ count_by (λ begun. begun.node == node) starts.now }
-{
-    starts.iter().filter(|begun| begun.node == node).count()
-}
-
 /// Puts down that a start of a node begins, where it does, into room that was reserved for it, and tells the number of
 /// the node's last start.
-fn put_start(starts: &mut Vec<Begun>, node: u8, begins: bool) -> usize
-    requires { vec_len starts.old + 1 ≤ vec_capacity starts.old }
-    ensures starts { map start_by starts.new.items ≡ starts_after (map start_by starts.old.items) node begins }
-    ensures last { result ≡ last_start (map start_by starts.new.items) node }
+fn put_start(starts: &mut Starts, node: u8, begins: bool) -> usize
+    requires { 1 ≤ starts.old.room }
+    ensures starts { map start_by starts.new.begun ≡ starts_after (map start_by starts.old.begun) node begins }
+    ensures last { result ≡ last_start (map start_by starts.new.begun) node }
 {
     if begins {
-        let start = count_starts(starts, node);
-        starts.push_reserved(Begun { node, start });
+        starts.push_reserved(node);
     }
-    count_starts(starts, node).saturating_sub(1)
+    starts.last_of(node)
 }
 
 /// Puts down what an event brings, after so many frames, into room that was reserved for it.
@@ -159,7 +152,7 @@ fn put_arrival(arrivals: &mut Arrivals, event: &Event, arrives: bool, sent_befor
 pub(crate) struct Recording {
     frames: Frames,
     arrivals: Arrivals,
-    starts: Vec<Begun>,
+    starts: Starts,
     pieces: Shown,
     last: Out,
     /// Of which start of which node what the last call made is; none where it was put away.
@@ -167,19 +160,19 @@ pub(crate) struct Recording {
 }
 
 impl Model for Recording {
-    ghost use Rattle.std.specs.Prelude.{◌-◌, vec_len, vec_capacity, is_none};
+    ghost use Rattle.std.specs.Prelude.{is_none};
     ghost use Rattle.dealer_world.specs.KeptShown.{piece_by};
     ghost use Rattle.dealer_world.specs.Recordings.{Recorded, whole};
 
     ghost Value = { Recorded };
 
     ghost view = { λ r. record {
-      all = whole r.frames.frames r.arrivals.arrivals r.starts.items r.pieces.pieces r.last r.last_of;
+      all = whole r.frames.frames r.arrivals.arrivals r.starts.begun r.pieces.pieces r.last r.last_of;
       last = r.last;
       is_settled = is_none r.last_of;
       arrival_room = r.arrivals.arrival_room;
       byte_room = r.arrivals.byte_room;
-      start_room = vec_capacity r.starts - vec_len r.starts;
+      start_room = r.starts.room;
     } };
 }
 
@@ -192,7 +185,7 @@ impl Recording {
         Recording {
             frames: Frames::new(alloc),
             arrivals: Arrivals::new(alloc),
-            starts: Vec::new(alloc),
+            starts: Starts::new(alloc),
             pieces: Shown::new(alloc),
             last: Out::new(alloc),
             last_of: None,
@@ -337,6 +330,6 @@ impl Recording {
     pub(crate) fn starts(&self) -> &[Begun]
         ensures { map start_by result.now ≡ self.now.all.starts }
     {
-        &self.starts
+        self.starts.all()
     }
 }

@@ -5,8 +5,8 @@ use Rattle.dealer_node.specs.Posts.{place_at}
 use Rattle.dealer_node.specs.Seeing.{IsSeen}
 use Rattle.dealer_world.proofs.beginning.created.Goals as goal
 
-pub returns : goal.returns
-returns g c = record {
+pub returns-clause-node : goal.returns-clause-node
+returns-clause-node g c = record {
   placed = ap place_at c.create.ensures.post ∙ c.in_ok-node.ensures.place;
   down = c.create.ensures.down;
   seen = subst (λ (place : Place). IsSeen g.D.Disk c.create.new.self (stopped place empty_store empty_store)) c.in_ok-node.ensures.place c.in_ok-create.ensures.made;

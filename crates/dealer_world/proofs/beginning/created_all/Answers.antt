@@ -16,5 +16,5 @@ loop-disk-preserved g c =
       tt,
       omega (arith, grown, taken, length-append nodes (c.in_ok-node.node ∷ []), c.loop-disk.invariant.2),
       subst (λ (ns : List (Node g.row.D.Denot)). AreEach (IsCreatedAt g.D.Disk c.args.config.now) ns) (sym c.in-Ok.ensures.items)
-          (each_more (IsCreatedAt g.D.Disk c.args.config.now) nodes c.in_ok-node.node c.loop-disk.invariant.3 (subst (λ i. IsCreatedAt g.D.Disk c.args.config.now i c.in_ok-node.node) size c.in_ok-node.ensures)),
+          (each_more (IsCreatedAt g.D.Disk c.args.config.now) nodes c.in_ok-node.node c.loop-disk.invariant.3 (subst (λ i. IsCreatedAt g.D.Disk c.args.config.now i c.in_ok-node.node) size c.in_ok-node.ensures.node)),
     )

@@ -1,15 +1,18 @@
-use Rattle.std.proofs.Common.{◌≡◌, ◌∙◌, ◌+◌, suc, length, Ok, Result, refl, ap, subst, arith, rules}
+use Rattle.std.proofs.Common.{◌≡◌, ◌∙◌, ◌+◌, suc, List, length, Ok, Err, Result, IsTrue, refl, ap, subst, arith, rules}
+use Rattle.node_rules.specs.Standings.{Standing}
 use Rattle.dealer_node.specs.declared.fault.NodeFault.{NodeFault}
 use Rattle.dealer_node.specs.Outs.{Told}
 use Rattle.dealer_world.specs.declared.event.Event.TheVariants as event
 use Rattle.dealer_world.specs.Records.{Record}
 use Rattle.dealer_world.specs.Stepping.{Stepped}
-use Rattle.dealer_world.specs.Beginning.{Starts, none, more}
+use Rattle.dealer_world.specs.Beginning.{Starts, IsWant, none, more}
+use Rattle.dealer_world.specs.Ruling.{AreSeen}
 use Rattle.dealer_world.specs.Viewing.{view_of}
+use Rattle.dealer_world.proofs.Wanting.{seen_on, start_wants, on_fault}
 use Rattle.dealer_world.proofs.cluster.Cluster.start_all.Goals as goal
 
 pub loop-node-init : goal.loop-node-init
-loop-node-init g c = record { same_config = refl; same_opened = refl; started = none 0 _ refl refl; begun = refl }
+loop-node-init g c = record { same_config = refl; same_opened = refl; started = none 0 _ refl refl; seen = λ standings honest are. (standings, are); begun = refl }
 
 pub loop-node-preserved : goal.loop-node-preserved
 loop-node-preserved g c =
@@ -21,6 +24,9 @@ loop-node-preserved g c =
       same_opened = c.advance.ensures.stepped.same_opened ∙ c.loop-node.invariant.same_opened;
       started = more k (k + 1) (view_of c.loop-node.self) (view_of c.advance.new.self) c.loop-node.invariant.started
           (subst (λ (answer : Result (Unit {0}) NodeFault). Stepped g.D.Disk (view_of c.loop-node.self) (event.Start k) answer (view_of c.advance.new.self)) went c.advance.ensures.stepped) one;
+      seen = λ standings honest are.
+          let now = c.loop-node.invariant.seen standings honest are in
+          seen_on g.D.Disk (view_of c.loop-node.self) (view_of c.advance.new.self) (event.Start k) c.advance.result now.0 c.advance.ensures.stepped honest now.1;
       begun = c.advance.ensures.begun ∙ c.loop-node.invariant.begun;
     }
 
@@ -35,3 +41,12 @@ returns-clause-started g c =
       starts = subst (λ n. Starts g.D.Disk (view_of c.args.self.now) n v) end c.loop-node.invariant.started;
       forgets = ap (λ (a : Record). record v { all = a; last = now.last }) all ∙ ap (λ (l : Told). record v { last = l }) c.in_ok-forget_last.ensures.last;
     }
+
+pub returns-in_err-advance-clause-failed : goal.returns-in_err-advance-clause-failed
+returns-in_err-advance-clause-failed g c =
+    let why = c.in_err-advance.field-0.0 in
+    let went : c.advance.result ≡ Err why = search rules in
+    let same : c.from_residual.result ≡ Err why = search rules in
+    on_fault c.from_residual.result why (λ (w : NodeFault). (standings : List Standing) → IsTrue g.D.Disk.is_honest → AreSeen g.D.Disk (view_of c.args.self.now).nodes standings → IsWant w) same (λ standings honest are.
+    let now = c.loop-node.invariant.seen standings honest are in
+    start_wants g.D.Disk (view_of c.loop-node.self) (view_of c.advance.new.self) c.loop-node.node c.advance.result why now.0 c.advance.ensures.stepped honest now.1 went)

@@ -1,4 +1,6 @@
-use Rattle.std.proofs.Common.{◌≡◌}
+use Rattle.std.proofs.Common.{◌≡◌, List, IsTrue}
+use Rattle.node_rules.specs.Standings.{Standing}
+use Rattle.dealer_world.specs.Ruling.{AreSeen}
 use Rattle.std.specs.Prelude.{map}
 use Rattle.dealer_node.specs.Seeing.{begun_of}
 use Rattle.dealer_world.specs.Beginning.{Starts}
@@ -10,5 +12,6 @@ invariant-loop-node g l = record {
   same_config : l.self.config ≡ l.initial.self.config;
   same_opened : l.self.opened ≡ l.initial.self.opened;
   started : Starts g.D.Disk (view_of l.initial.self) l.node (view_of l.self);
+  seen : (standings : List Standing) → IsTrue g.D.Disk.is_honest → AreSeen g.D.Disk l.initial.self.nodes.items standings → (after : List Standing) × AreSeen g.D.Disk l.self.nodes.items after;
   begun : map (begun_of g.D.Disk) l.self.nodes.items ≡ map (begun_of g.D.Disk) l.initial.self.nodes.items;
 }

@@ -11,5 +11,5 @@ returns-clause-found c =
     let at : slice_get r.last.shown (c.args.number - length r.pieces.pieces) ≡ Some (record { mark = c.in_ok-reader.reader; text = c.in_ok-reader.text.now }) = search rules in
     let is : r.last_of ≡ Some c.in_ok-at.at = search rules in
     sym (ap (λ (k : Recorded). slice_get k.all.shown c.args.number) c.self.view_is)
-    ∙ (ap (λ o. slice_get (whole r.frames.frames r.arrivals.arrivals r.starts.items r.pieces.pieces r.last o).shown c.args.number) is
+    ∙ (ap (λ o. slice_get (whole r.frames.frames r.arrivals.arrivals r.starts.begun r.pieces.pieces r.last o).shown c.args.number) is
     ∙ shown_at r.pieces.pieces c.in_ok-at.at.node c.in_ok-at.at.start r.last.shown c.args.number c.in_ok-reader.reader c.in_ok-reader.text.now past at)
