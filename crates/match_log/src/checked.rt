@@ -5,8 +5,8 @@ ghost use Rattle.match_log.specs.Lines.{score_line};
 ghost use Rattle.match_log.specs.Names.{AreNames};
 ghost use Rattle.match_log.specs.Reading.{HasSaid, IsNext};
 
-use crate::front::begins_line;
 use crate::fault_kind::LogFaultKind;
+use crate::front::begins_line;
 use crate::name::Name;
 use crate::printed_text::{after_score, are_values_printed, is_number_printed};
 use crate::score::Score;

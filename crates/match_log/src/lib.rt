@@ -13,11 +13,11 @@
 
 mod checked;
 mod checking;
-mod front;
 mod dealt;
 mod fault;
 mod fault_kind;
 mod fields;
+mod front;
 mod game_word;
 pub mod laws;
 mod log_addition;

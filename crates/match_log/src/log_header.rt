@@ -5,10 +5,9 @@ ghost use Rattle.match_log.specs.Check.{HasTitle};
 ghost use Rattle.match_log.specs.Log.{Title};
 
 use crate::front::after;
-use matchstate::cut;
 use crate::game_word::is_game_word;
 use crate::name::is_name;
-use matchstate::{put, put_number, read_number};
+use matchstate::{cut, put, put_number, read_number};
 use slot_log::limits::HANDS;
 use std::alloc::AllocError;
 

@@ -3,8 +3,8 @@ ghost use Rattle.std.specs.List.{AllByRecursion};
 ghost use Rattle.match_log.specs.Lines.{names_field};
 ghost use Rattle.match_log.specs.Names.{IsName};
 
-use matchstate::cut;
 use crate::name::Name;
+use matchstate::cut;
 
 /// The names by position, in the places in front.
 pub(crate) fn read_names(bytes: &[u8], players: usize) -> Option<[Name; 10]>

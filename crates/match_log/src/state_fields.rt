@@ -3,14 +3,13 @@ ghost use Rattle.slot_log.specs.Hand.{Hand};
 ghost use Rattle.match_log.specs.Reading.{Fields, fields_in, joined, AreApart, AreOfHand};
 
 use crate::front::after;
-use matchstate::cut;
 use crate::name::Name;
 use crate::names_text::read_names;
 use crate::numeral::{are_values, is_decimal};
 use betting::Play;
 use card_core::Deal;
 use game_def::GameDef;
-use matchstate::{read_betting, read_shown};
+use matchstate::{cut, read_betting, read_shown};
 
 /// The texts of the fields of a hand's line, and what stands behind it.
 #[derive(Clone, Copy)]

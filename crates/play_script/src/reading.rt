@@ -4,10 +4,10 @@ ghost use Rattle.play_script.specs.declared.order.Order.{Order as Said};
 
 use crate::bad_script::BadScript;
 use crate::bounds::Bounds;
-use matchstate::cut;
 use crate::number::{named, number, place};
 use crate::order::Order;
 use crate::word::Word;
+use matchstate::cut;
 
 /// What stands between words.
 const SPACE: u8 = b' ';

@@ -148,7 +148,11 @@ impl Peer {
         let table = self.node.table();
         let hand = table.finished();
         let position = table.play(hand)?.to_act()?;
-        Some(if (position % 2 == 1) == (hand % 2 == 1) { 0 } else { 1 })
+        Some(if (position % 2 == 1) == (hand % 2 == 1) {
+            0
+        } else {
+            1
+        })
     }
 }
 
@@ -170,7 +174,13 @@ struct Counts {
 
 /// Lets a node take an event. A call that finds no memory changes nothing, and is made again; where its disk fails the
 /// node is started again, its seats sit down, and the call is made again.
-fn take(alloc: Global, peer: &mut Peer, event: Event<'_>, seated: bool, counts: &mut Counts) -> Out {
+fn take(
+    alloc: Global,
+    peer: &mut Peer,
+    event: Event<'_>,
+    seated: bool,
+    counts: &mut Counts,
+) -> Out {
     let mut out = Out::new(alloc);
     let before = peer.shown();
     let mut answer = peer.step(event, &mut out);
@@ -404,7 +414,11 @@ impl Trio {
 
     /// The node at which a seat answers in a turn.
     fn answering(&self, turn: u32) -> u8 {
-        if self.course == Course::Varied && turn % 3 == 0 { 1 } else { 0 }
+        if self.course == Course::Varied && turn % 3 == 0 {
+            1
+        } else {
+            0
+        }
     }
 
     /// Plays the match to its end: all calls. Where nothing moves, a node ticks at which the match isn't over.
