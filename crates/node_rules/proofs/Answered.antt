@@ -48,7 +48,7 @@ use Rattle.node_rules.proofs.Led.{tick_splits, piece_splits, asking_after, frame
 -- the close sends nothing or a proposal, and the front stays
 pub close_sends : (place : Place) (s : Standing) (c : Turn) → Closed place s c → IsOfClose place (front_of c.after) c.frames × (front_of c.after ≡ front_of s)
 close_sends place s c (rests campaign e) = (inl (ap (λ (t : Turn). t.frames) e), ap (λ (t : Turn). front_of t.after) e)
-close_sends place s c (proposes made campaign learned mine at promise none left_over counts log e) =
+close_sends place s c (proposes made campaign learned led mine at promise none left_over counts log e) =
     let same : front_of c.after ≡ front_of s = ap (λ (t : Turn). front_of t.after) e ∙ ap front log in (
       inr (
         made.ballot,

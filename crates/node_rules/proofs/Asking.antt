@@ -1,25 +1,18 @@
 -- Asking and telling on the path of a call, and rules that say nothing.
-use Rattle.std.proofs.Common.{◌≡◌, ◌≢◌, ℕ, zero, suc, ◌<◌, ◌+◌, ◌-◌, Bool, true, false, if◌then◌else◌, List, Option, Some, None, Result, Ok, Err, refl, ap, subst, ◌∙◌, append_assoc}
+use Rattle.std.proofs.Common.{◌≡◌, ◌≢◌, ℕ, zero, suc, ◌<◌, ◌+◌, ◌-◌, Bool, true, false, if◌then◌else◌, List, Option, Some, None, Result, Ok, Err, refl, subst, append_assoc}
 use Rattle.std.specs.Prelude.{min, nat_lt}
-use Rattle.paxos_wire.specs.declared.ballot.Ballot.{Ballot}
 use Rattle.paxos_wire.specs.declared.message.Message.TheVariants as frame
 use Rattle.slot_log.specs.Slots.{known_at}
 use Rattle.slot_log.specs.declared.command.Command.{Command}
-use Rattle.protocol_model.specs.Sets.{In}
-use Rattle.protocol_model.specs.Ballots.{Below}
-use Rattle.protocol_model.specs.Messages.{Refuse, Chosen, Ask}
-use Rattle.protocol_model.specs.Nodes.{Node}
+use Rattle.protocol_model.specs.Messages.{Chosen, Ask}
 use Rattle.protocol_model.specs.Arrivals.{Arrival}
 use Rattle.protocol_model.specs.Moves.{asks, tells}
 use Rattle.proposer.specs.declared.campaign.Campaign.{Campaign}
-use Rattle.paxos_wire.specs.Order.{is_below}
-use Rattle.proposer.specs.Campaigns.{refused_from}
 use Rattle.node_rules.specs.Standings.{Standing, applied, front_of}
 use Rattle.node_rules.specs.Sending.{one}
 use Rattle.node_rules.specs.Turns.{Turn, Refusal, still, sending, joined, behind}
 use Rattle.node_rules.specs.Learning.{comes_to_window, asking_on, told_of, telling_from, next_window, telling, asking_above}
 use Rattle.node_rules.specs.Being.{IsProposer, IsPending}
-use Rattle.node_rules.proofs.Ordering.{below_if}
 use Rattle.node_rules.specs.Proposing.{own_value}
 use Rattle.node_rules.proofs.Proposed.{pending_proposed}
 use Rattle.node_rules.proofs.Paths.{Hearing, Scope, dealer_in, Path, Goes}
@@ -166,34 +159,3 @@ with_pending x came heard upto t act p pending same = record {
   got_only = p.got_only;
   got_all = p.got_all;
 }
-
--- ---- a refusal
-
-some_is : (a b : Campaign) → ◌≡◌ {A = Option Campaign} (Some a) (Some b) → a ≡ b
-some_is a b e = cc
-
-refused_by : (n i : ℕ) (node : Node) (front : ℕ) (c : Campaign) (promised : Ballot) (sender : ℕ) (refused : Ballot) (slot : ℕ) (b : Bool)
-    → is_below c.ballot promised ≡ b → In (Refuse sender refused slot promised) node.has → IsProposer n i node front (Some c)
-    → IsProposer n i node front (if b then None else Some c)
-refused_by n i node front c promised sender refused slot false e had p = p
-refused_by n i node front c promised sender refused slot true e had p = record {
-  is_campaign = tt;
-  began = p.began;
-  proposed = p.proposed;
-  stands = λ b f st near left. let found = p.stands b f st near left in
-      absurd (st.unrefused sender refused slot promised had
-      (subst (λ (y : Ballot). Below y promised) (ap (λ (y : Campaign). y.ballot) (some_is c found.0 found.1) ∙ found.2) (below_if c.ballot promised e)));
-}
-
-refused_is : (n i : ℕ) (node : Node) (front : ℕ) (c : Option Campaign) (promised : Ballot) (sender : ℕ) (refused : Ballot) (slot : ℕ)
-    → In (Refuse sender refused slot promised) node.has → IsProposer n i node front c → IsProposer n i node front (refused_from c promised)
-refused_is n i node front None promised sender refused slot had p = p
-refused_is n i node front (Some c) promised sender refused slot had p = refused_by n i node front c promised sender refused slot (is_below c.ballot promised) refl had p
-
--- a ballot that is outbid is given up
-pub give_up : (x : Scope) (came : List Arrival) (heard : Hearing) (upto : List Command) (t : Turn) (promised : Ballot) (sender : ℕ) (refused : Ballot) (slot : ℕ)
-    → (p : Path x came heard upto t) → In (Refuse sender refused slot promised) p.node.has
-    → Path x came heard upto (record t { after = record t.after { campaign = refused_from t.after.campaign promised } })
-give_up x came heard upto t promised sender refused slot p had =
-    with_campaign x came heard upto t (refused_from t.after.campaign promised) p
-    (refused_is x.place.nodes x.place.node p.node (front_of t.after) t.after.campaign promised sender refused slot had p.knows.proposer)

@@ -1,5 +1,5 @@
 -- Where the path of a call begins, and what it is when it ends.
-use Rattle.std.proofs.Common.{◌≡◌, ℕ, zero, suc, inl, inr, true, List, [], ◌∷◌, ◌++◌, Option, Some, None, Result, Ok, Err, refl, sym, ap, subst, ◌∙◌, arith, length, reverse}
+use Rattle.std.proofs.Common.{◌≡◌, ℕ, zero, suc, inl, inr, Bool, true, false, if◌then◌else◌, List, [], ◌∷◌, ◌++◌, Option, Some, None, Result, Ok, Err, refl, sym, ap, subst, ◌∙◌, arith, length, reverse}
 use Rattle.std.specs.Prelude.{slice_get}
 use Rattle.std.proofs.lemmas.List.{reverse-append, length-reverse}
 use Rattle.std.proofs.lemmas.Option.{slice_get_within}
@@ -8,13 +8,15 @@ use Rattle.paxos_wire.specs.declared.entry.Entry.{Entry}
 use Rattle.slot_log.specs.Slots.{Log, front, known_at}
 use Rattle.slot_log.specs.declared.command.Command.{Command}
 use Rattle.protocol_model.specs.Sets.{In}
-use Rattle.protocol_model.specs.Messages.{Message, Prepare, Promise, Accept}
+use Rattle.protocol_model.specs.Ballots.{Below}
+use Rattle.protocol_model.specs.Messages.{Message, Prepare, Promise, Refuse, Accept}
 use Rattle.protocol_model.specs.Calls.{HasGotAtMost}
 use Rattle.protocol_model.specs.Nodes.{Node, Knows as KnowsCommands}
 use Rattle.protocol_model.specs.Arrivals.{Arrival, Event}
 use Rattle.protocol_model.specs.Moves.{nothing, more, none, gets}
 use Rattle.proposer.specs.declared.campaign.Campaign.{Campaign}
-use Rattle.proposer.specs.Campaigns.{with_promise, counting_from}
+use Rattle.paxos_wire.specs.Order.{is_below}
+use Rattle.proposer.specs.Campaigns.{with_promise, counting_from, refused_from}
 use Rattle.seat_session.specs.Session.{Standing as Talk}
 use Rattle.dealer_kind.specs.Kind.{log_of}
 use Rattle.node_rules.specs.Standings.{Standing, applied, front_of}
@@ -26,9 +28,9 @@ use Rattle.node_rules.specs.Called.{AreShown, events_of, Taken}
 use Rattle.node_rules.proofs.Sets.{in_split}
 use Rattle.node_rules.proofs.Carrying.{nothing_carried, nothing_lost}
 use Rattle.node_rules.proofs.Telling.{nothing_shown}
-use Rattle.node_rules.proofs.Ordering.{sees_more}
+use Rattle.node_rules.proofs.Ordering.{below_if, at_most_if_not, not_below, sees_more}
 use Rattle.node_rules.specs.Given.{Given}
-use Rattle.node_rules.proofs.Keeping.{with_got, IsNoPromise, got_knows, got_learner, got_pending}
+use Rattle.node_rules.proofs.Keeping.{with_got, IsNoAnswer, stood_before, got_knows, got_learner, got_pending}
 use Rattle.node_rules.proofs.Paths.{Hearing, Scope, dealer_in, first_in, Path, Goes, has_in}
 use Rattle.node_rules.proofs.Settling.{below_front}
 use Rattle.node_rules.specs.Proposing.{own_value}
@@ -132,9 +134,9 @@ begin_with x s after m r one sent talks runs unbegun learned knows = record {
   got_all = λ o h. subst (λ (l : List Message). In o l) one h;
 }
 
--- a message of another node that is no promise
+-- a message of another node that is no answer to a Prepare
 pub begin_frame : (x : Scope) (s : Standing) (m : Message) (bs : List Ballot) → Runs x s → x.messages ≡ m ∷ []
-    → In m x.world.ever → IsNoPromise m → ballots_in m ≡ bs
+    → In m x.world.ever → IsNoAnswer m → ballots_in m ≡ bs
     → Path x [] (hearing_of s (first_in x)) (applied s) (still (record s { seen = highest s.seen bs }))
 begin_frame x s m bs r one sent other ballots =
     begin_with x s (record s { seen = highest s.seen bs }) m r one sent refl r.up (r.of.runs r.up).unbegun refl
@@ -145,6 +147,9 @@ begin_frame x s m bs r one sent other ballots =
 
 some_is : (a b : Campaign) → ◌≡◌ {A = Option Campaign} (Some a) (Some b) → a ≡ b
 some_is a b e = cc
+
+told_promise : (a b : ℕ) (c d : Ballot) (s t : ℕ) (e f : Ballot) → Refuse a c s e ≡ Refuse b d t f → e ≡ f
+told_promise a b c d s t e f same = cc
 
 promise_campaign : (g : Given) (n i : ℕ) (node : Node) (front : ℕ) (c : Campaign) (from : ℕ) (ballot : Ballot) (first : ℕ) (told : List Entry)
     → Campaigns n i node c → Campaigns n i (with_got node (Promise from ballot first told)) (with_promise n c from ballot first told)
@@ -157,6 +162,7 @@ promise_campaign g n i node front c from ballot first told h = record {
   counts_all = g.promise_all n node.has c from ballot first told h.counts_all;
   marks = g.promise_marks n node.sent c from ballot first told h.marks;
   votes = λ s v e b. subst (λ (y : Ballot). In (Accept y s v.command) node.sent) (sym stays.0) (h.votes s v e (b ∙ stays.0));
+  unrefused = λ k r s up had low. elim had [ inl e ↦ absurd (cc) | inr old ↦ h.unrefused k r s up old (subst (λ (y : Ballot). Below y up) stays.0 low) ];
 }
   where
     m : Message
@@ -207,6 +213,73 @@ begin_promise x s from ballot first told bs r one sent ballots =
   where
     m : Message
     m = Promise from ballot first told
+
+    k : Knows (dealer_in x) x.place (applied s) s (first_in x)
+    k = (r.of.runs r.up).knows
+
+-- ---- a refusal is got, and a ballot that is outbid is given up
+
+refused_by : (g : Given) (n i : ℕ) (node : Node) (front : ℕ) (c : Campaign) (from : ℕ) (refused : Ballot) (slot : ℕ) (promised : Ballot) (b : Bool)
+    → is_below c.ballot promised ≡ b → IsProposer n i node front (Some c)
+    → IsProposer n i (with_got node (Refuse from refused slot promised)) front (if b then None else Some c)
+refused_by g n i node front c from refused slot promised false e p = record {
+  is_campaign = record {
+    own = p.is_campaign.own;
+    promised = p.is_campaign.promised;
+    prepared = p.is_campaign.prepared;
+    counts = g.others node.has c (Refuse from refused slot promised) p.is_campaign.counts;
+    counts_all = g.others_all n node.has c (Refuse from refused slot promised) (λ k told same. absurd (cc)) p.is_campaign.counts_all;
+    marks = p.is_campaign.marks;
+    votes = p.is_campaign.votes;
+    unrefused = λ k r s up had low. elim had [
+      | inl same ↦ not_below promised c.ballot (at_most_if_not c.ballot promised e) (subst (λ (y : Ballot). Below c.ballot y) (told_promise k from r refused s slot up promised same) low)
+      | inr old ↦ p.is_campaign.unrefused k r s up old low
+    ];
+  };
+  began = p.began;
+  proposed = p.proposed;
+  stands = λ b f st. p.stands b f (stood_before node (Refuse from refused slot promised) b f st);
+}
+refused_by g n i node front c from refused slot promised true e p = record {
+  is_campaign = tt;
+  began = p.began;
+  proposed = p.proposed;
+  stands = λ b f st near left. let found = p.stands b f (stood_before node (Refuse from refused slot promised) b f st) near left in
+      absurd (st.unrefused from refused slot promised (inl refl)
+      (subst (λ (y : Ballot). Below y promised) (ap (λ (y : Campaign). y.ballot) (some_is c found.0 found.1) ∙ found.2) (below_if c.ballot promised e)));
+}
+
+refused_proposer : (g : Given) (n i : ℕ) (node : Node) (front : ℕ) (c : Option Campaign) (from : ℕ) (refused : Ballot) (slot : ℕ) (promised : Ballot)
+    → IsProposer n i node front c → IsProposer n i (with_got node (Refuse from refused slot promised)) front (refused_from c promised)
+refused_proposer g n i node front None from refused slot promised p = record {
+  is_campaign = tt;
+  began = p.began;
+  proposed = p.proposed;
+  stands = λ b f st. p.stands b f (stood_before node (Refuse from refused slot promised) b f st);
+}
+refused_proposer g n i node front (Some c) from refused slot promised p = refused_by g n i node front c from refused slot promised (is_below c.ballot promised) refl p
+
+pub begin_refusal : (x : Scope) (s : Standing) (from : ℕ) (refused : Ballot) (slot : ℕ) (promised : Ballot) (bs : List Ballot) → Runs x s
+    → x.messages ≡ Refuse from refused slot promised ∷ [] → In (Refuse from refused slot promised) x.world.ever
+    → ballots_in (Refuse from refused slot promised) ≡ bs
+    → Path x [] (hearing_of s (first_in x)) (applied s) (still (record s { seen = highest s.seen bs; campaign = refused_from s.campaign promised }))
+begin_refusal x s from refused slot promised bs r one sent ballots =
+    begin_with x s (record s { seen = highest s.seen bs; campaign = refused_from s.campaign promised }) m r one sent refl r.up (r.of.runs r.up).unbegun refl
+    (record {
+      up = k.up;
+      store = k.store;
+      within = k.within;
+      proposer = refused_proposer x.given x.place.nodes x.place.node (first_in x) (front_of s) s.campaign from refused slot promised k.proposer;
+      learner = got_learner x.place.nodes (first_in x).has (first_in x).known m s k.learner;
+      pending = got_pending (dealer_in x) x.place.node (first_in x) m (applied s) s.pending k.pending;
+      places = k.places;
+      shown = k.shown;
+      seen = sees_more (first_in x).has m (first_in x).store.promise s.seen bs ballots k.seen;
+      proposals = got_proposed x.place.nodes x.place.node (applied s) (front_of s) (own_value x.place s) (first_in x).store (first_in x).has (first_in x).sent m k.proposals;
+    })
+  where
+    m : Message
+    m = Refuse from refused slot promised
 
     k : Knows (dealer_in x) x.place (applied s) s (first_in x)
     k = (r.of.runs r.up).knows

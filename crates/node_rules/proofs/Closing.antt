@@ -13,7 +13,7 @@ use Rattle.slot_log.specs.declared.command.Command.{Command}
 use Rattle.slot_log.specs.declared.command.Command.TheVariants.{Deal}
 use Rattle.protocol_model.specs.Sets.{In}
 use Rattle.protocol_model.specs.Ballots.{AtMost}
-use Rattle.protocol_model.specs.Messages.{Vote, Message, Prepare, Accept, Accepted}
+use Rattle.protocol_model.specs.Messages.{Vote, Message, Prepare, Refuse, Accept, Accepted}
 use Rattle.protocol_model.specs.Quorums.{IsFree, IsGreatestTold}
 use Rattle.protocol_model.specs.Stores.{Store, voted}
 use Rattle.protocol_model.specs.Dealers.{Dealer}
@@ -169,6 +169,7 @@ proposed_campaign g n i node new c at own made h so ballot promised has sent vot
       (g.others_marks (accept ∷ node.sent) (with_mark c (Ok (Some made))) (Accepted i made.ballot made.slot made.command) (λ s k e. absurd (cc))
       (g.proposal_marks n node.sent c at own made so h.marks));
   votes = λ s v e b. subst (λ (l : List Message). In (Accept c.ballot s v.command) l) (sym sent) (vote_of s v e b (votes s v e));
+  unrefused = λ k r s up had low. elim (subst (λ (l : List Message). In (Refuse k r s up) l) has had) [ inl e ↦ absurd (cc) | inr old ↦ h.unrefused k r s up old low ];
 }
   where
     accept : Message

@@ -9,13 +9,15 @@ use Rattle.paxos_wire.specs.declared.message.Message.TheVariants as frame
 use Rattle.slot_log.specs.Slots.{Log, front, known_at}
 use Rattle.slot_log.specs.declared.command.Command.{Command}
 use Rattle.protocol_model.specs.Sets.{In}
+use Rattle.protocol_model.specs.Ballots.{Below}
 use Rattle.protocol_model.specs.Messages.{Message, Accept, Accepted}
 use Rattle.protocol_model.specs.Frames.{carried}
 use Rattle.protocol_model.specs.Arrivals.{Arrival}
 use Rattle.protocol_model.specs.Worlds.{World}
 use Rattle.paxos_wire.specs.Order.{is_below}
+use Rattle.proposer.specs.declared.campaign.Campaign.{Campaign}
 use Rattle.proposer.specs.Campaigns.{next_ballot}
-use Rattle.learner.specs.Learning.{Learned, answer_to, hearing, answer_to_chosen, believing as with_chosen}
+use Rattle.learner.specs.Learning.{answer_to, hearing, answer_to_chosen, believing as with_chosen}
 use Rattle.learner.specs.Counted.{IsOpen, CountsAll}
 use Rattle.seat_session.specs.Session.{Standing as Talk}
 use Rattle.node_rules.specs.Standings.{Place, Standing, applied, front_of}
@@ -32,13 +34,15 @@ use Rattle.node_rules.specs.Being.{IsLearner}
 use Rattle.node_rules.specs.Called.{Comes, IsSaid}
 use Rattle.node_rules.specs.Given.{Given}
 use Rattle.node_rules.specs.Sound.{Stands}
+use Rattle.node_rules.specs.Outcomes.{IsAnswered}
 use Rattle.node_rules.specs.LawsAnswers.{asks_if, AnswersPrepare, AnswersAccept, acts_in, forwards}
 use Rattle.node_rules.specs.LawsAnswers as answers
-use Rattle.node_rules.specs.LawsVotes.{OwnVotesAreInTime}
+use Rattle.node_rules.specs.LawsVotes.{OwnVotesAreInTime, RefusedBallotsEnd}
 use Rattle.node_rules.proofs.Sets.{in_split}
 use Rattle.node_rules.proofs.Carrying.{in_to}
 use Rattle.node_rules.proofs.Paths.{Hearing, Scope, Path}
 use Rattle.node_rules.proofs.Chaining.{ok_is, ok_not}
+use Rattle.node_rules.proofs.Closing.{campaigns_of}
 use Rattle.node_rules.proofs.Counting.{counts_vote, had_in_time}
 use Rattle.node_rules.proofs.Resting.{Closed, rests, proposes}
 use Rattle.node_rules.proofs.Led.{tick_splits, piece_splits, asking_after, frame_turn}
@@ -178,18 +182,21 @@ accept_in i (frame.Forward c) ballot slot command (inr h) = absurd h
 same_accept : (a b : Ballot) (k l : ℕ) (c d : Command) → frame.Accept a k c ≡ frame.Accept b l d → (a ≡ b) × (k ≡ l) × (c ≡ d)
 same_accept a b k l c d e = ((let s : a ≡ b = cc in s), (let s : k ≡ l = cc in s), (let s : c ≡ d = cc in s))
 
--- what the learner then counts
-pub record OwnVote (place : Place) (learned : Learned) (ballot : Ballot) (slot : ℕ) (command : Command) : Type 0 where
+-- what the learner then counts, and what the node leads
+pub record OwnVote (place : Place) (s : Standing) (ballot : Ballot) (slot : ℕ) (command : Command) : Type 0 where
   pub came : List Message
-  pub all : CountsAll came learned
+  pub all : CountsAll came s.learned
   pub has_vote : In (Accepted place.node ballot slot command) came
-  pub reached : front learned.log ≤ slot
+  pub reached : front_of s ≤ slot
   pub is_slot : slot < SLOTS
+  pub campaign : Campaign
+  pub leads : s.campaign ≡ Some campaign
+  pub of_ballot : campaign.ballot ≡ ballot
 
 closed_own : (x : Scope) (came : List Arrival) (heard : Hearing) (t : Turn) (p : Path x came heard (applied t.after) t) (c : Turn) → Closed x.place t.after c
-    → (f : Frame) → In f c.frames → (ballot : Ballot) (slot : ℕ) (command : Command) → f.message ≡ frame.Accept ballot slot command → OwnVote x.place c.after.learned ballot slot command
+    → (f : Frame) → In f c.frames → (ballot : Ballot) (slot : ℕ) (command : Command) → f.message ≡ frame.Accept ballot slot command → OwnVote x.place c.after ballot slot command
 closed_own x came heard t p c (rests campaign e) f h ballot slot command is = absurd (subst (λ (l : List Frame). In f l) (ap (λ (u : Turn). u.frames) e) h)
-closed_own x came heard t p c (proposes made campaign learned mine at promise none left_over counts log e) f h ballot slot command is =
+closed_own x came heard t p c (proposes made campaign learned led mine at promise none left_over counts log e) f h ballot slot command is =
     let accept : Wire = frame.Accept made.ballot made.slot made.command in
     let vote : Wire = frame.Accepted made.ballot made.slot made.command in
     let same : f.message ≡ accept = elim (in_split (to_others x.place accept) (to_others x.place vote) f (subst (λ (l : List Frame). In f l) (ap (λ (u : Turn). u.frames) e) h)) [
@@ -197,9 +204,9 @@ closed_own x came heard t p c (proposes made campaign learned mine at promise no
       | inr later ↦ absurd (let v : vote ≡ frame.Accept ballot slot command = sym (in_to x.place.nodes x.place.nodes x.place.node vote f (omega arith) later).2 ∙ is in cc)
     ] in
     let q = same_accept made.ballot ballot made.slot slot made.command command (sym same ∙ is) in
-    subst (λ (b : Ballot). OwnVote x.place c.after.learned b slot command) q.0
-    (subst (λ k. OwnVote x.place c.after.learned made.ballot k command) q.1
-    (subst (λ (d : Command). OwnVote x.place c.after.learned made.ballot made.slot d) q.2 own))
+    subst (λ (b : Ballot). OwnVote x.place c.after b slot command) q.0
+    (subst (λ k. OwnVote x.place c.after made.ballot k command) q.1
+    (subst (λ (d : Command). OwnVote x.place c.after made.ballot made.slot d) q.2 own))
   where
     l : IsLearner x.place.nodes p.node.has p.node.known t.after.learned
     l = p.knows.learner
@@ -215,19 +222,22 @@ closed_own x came heard t p c (proposes made campaign learned mine at promise no
     learned_is : c.after.learned ≡ hearing t.after.learned x.place.node made.ballot made.slot made.command
     learned_is = ap (λ (u : Turn). u.after.learned) e ∙ counts.heard
 
-    own : OwnVote x.place c.after.learned made.ballot made.slot made.command
+    own : OwnVote x.place c.after made.ballot made.slot made.command
     own = record {
       came = Accepted x.place.node made.ballot made.slot made.command ∷ p.knows.learner.in_time;
       all = subst (CountsAll (Accepted x.place.node made.ballot made.slot made.command ∷ p.knows.learner.in_time)) (sym learned_is) counted;
       has_vote = inl refl;
       reached = (let k : front c.after.learned.log ≡ front_of t.after = ap (λ (u : Turn). front_of u.after) e ∙ ap front log in omega (arith, k, at));
       is_slot = omega (arith, at, left_over);
+      campaign = campaign;
+      leads = ap (λ (u : Turn). u.after.campaign) e;
+      of_ballot = led;
     }
 
 -- a proposal among the frames of a rule, its close and a question
 whole_own : (x : Scope) (came : List Arrival) (heard : Hearing) (first : Turn) (p : Path x came heard (applied first.after) first) (c : Turn) (last : List Frame) → Closed x.place first.after c
     → ProposesNothing first.frames → ProposesNothing last → (frames : List Frame) → frames ≡ (first.frames ++ c.frames) ++ last
-    → (ballot : Ballot) (slot : ℕ) (command : Command) → IsSaid x.place.node frames (Accept ballot slot command) → OwnVote x.place c.after.learned ballot slot command
+    → (ballot : Ballot) (slot : ℕ) (command : Command) → IsSaid x.place.node frames (Accept ballot slot command) → OwnVote x.place c.after ballot slot command
 whole_own x came heard first p c last closed none_first none_last frames e ballot slot command (to, (f, inside, goes, says)) =
     let is : f.message ≡ frame.Accept ballot slot command = accept_in x.place.node f.message ballot slot command says in
     elim (in_split (first.frames ++ c.frames) last f (subst (λ (l : List Frame). In f l) e inside)) [
@@ -243,12 +253,12 @@ nothing_said i frames m e (to, (f, inside, goes, says)) = subst (λ (l : List Fr
 
 own_up : (g : Given) (own : ℕ → Command → Bool) (place : Place) (world : World) (s : Standing) (called : Call) (turn : Turn) (st : Stands own place world s) → s.up ≡ true
     → Comes place world.ever called → IsTurnUp place s called (Ok turn) → (ballot : Ballot) (slot : ℕ) (command : Command)
-    → IsSaid place.node turn.frames (Accept ballot slot command) → OwnVote place turn.after.learned ballot slot command
+    → IsSaid place.node turn.frames (Accept ballot slot command) → OwnVote place turn.after ballot slot command
 own_up g own place world s (Start found) turn st up comes h ballot slot command said =
     absurd (nothing_said place.node turn.frames (Accept ballot slot command) (ap (λ (t : Turn). t.frames) (ok_is turn (still s) h)) said)
 own_up g own place world s Tick turn st up comes h ballot slot command said = elim (tick_splits g own place world s st up) [
   | inl split ↦ (let whole = ok_is turn (joined split.first split.closes.turn) (h ∙ split.whole) in
-      subst (λ (l : Learned). OwnVote place l ballot slot command) (sym (ap (λ (t : Turn). t.after.learned) whole))
+      subst (λ (y : Standing). OwnVote place y ballot slot command) (sym (ap (λ (t : Turn). t.after) whole))
       (whole_own _ _ _ split.first split.path split.closes.turn [] split.closes.closed (tick_frames place s split.first (is_over place s) (is_spent s) split.is) nothing_at_all turn.frames
       (ap (λ (t : Turn). t.frames) whole ∙ sym (append-nil (split.first.frames ++ split.closes.turn.frames))) ballot slot command said))
   | inr none ↦ absurd (ok_not turn none.0 (h ∙ none.2))
@@ -256,13 +266,13 @@ own_up g own place world s Tick turn st up comes h ballot slot command said = el
 own_up g own place world s (call.Frame from bytes) turn st up comes h ballot slot command said =
     let f = frame_turn g own place world s st up from bytes turn comes h in
     let c : Turn = f.split.closes.turn in
-    subst (λ (l : Learned). OwnVote place l ballot slot command) (sym (ap (λ (t : Turn). t.after.learned) f.whole ∙ ap (λ (y : Standing). y.learned) (asking_after from f.message c.after)))
+    subst (λ (y : Standing). OwnVote place y ballot slot command) (sym (ap (λ (t : Turn). t.after) f.whole ∙ asking_after from f.message c.after))
     (whole_own _ _ _ f.split.first f.split.path c (asking from f.message c.after).frames f.split.closes.closed (message_frames place s from f.message f.split.first f.split.is)
     (asking_frames from f.message c.after) turn.frames (ap (λ (t : Turn). t.frames) f.whole) ballot slot command said)
 own_up g own place world s (Line seat bytes) turn st up comes (heard, hears, e) ballot slot command said =
     let p = piece_splits g own place world s st up seat bytes heard comes hears in
     let whole = ok_is turn (joined heard p.closes.turn) (e ∙ ap (λ (k : Result Turn Refusal). behind heard k) p.closes.is) in
-    subst (λ (l : Learned). OwnVote place l ballot slot command) (sym (ap (λ (t : Turn). t.after.learned) whole))
+    subst (λ (y : Standing). OwnVote place y ballot slot command) (sym (ap (λ (t : Turn). t.after) whole))
     (whole_own _ _ _ heard p.path p.closes.turn [] p.closes.closed (heard_frames place s seat bytes heard (session_at s.sessions seat) hears) nothing_at_all turn.frames
     (ap (λ (t : Turn). t.frames) whole ∙ sym (append-nil (heard.frames ++ p.closes.turn.frames))) ballot slot command said)
 own_up g own place world s (Connect seat) turn st up comes h ballot slot command said =
@@ -272,8 +282,20 @@ own_up g own place world s (Drop seat) turn st up comes h ballot slot command sa
 own_up g own place world s Stop turn st up comes h ballot slot command said =
     absurd (nothing_said place.node turn.frames (Accept ballot slot command) (ap (λ (t : Turn). t.frames) (ok_is turn (stopping place s) h)) said)
 
+own_of : (g : Given) (own : ℕ → Command → Bool) (place : Place) (world : World) (s : Standing) (called : Call) (turn : Turn) (ballot : Ballot) (slot : ℕ) (command : Command)
+    → IsAnswered own place world s called turn → s.up ≡ true → IsSaid place.node turn.frames (Accept ballot slot command) → OwnVote place turn.after ballot slot command
+own_of g own place world s called turn ballot slot command answered up said =
+    own_up g own place world s called turn answered.stands up answered.comes (subst (λ b. IsTurnBy b place s called (Ok turn)) up answered.turn_is) ballot slot command said
+
 pub own_votes_are_in_time : Given → OwnVotesAreInTime
 own_votes_are_in_time g own place world s called turn ballot slot command answered up taken said =
-    let v = own_up g own place world s called turn answered.stands up answered.comes (subst (λ b. IsTurnBy b place s called (Ok turn)) up answered.turn_is) ballot slot command said in
+    let v = own_of g own place world s called turn ballot slot command answered up said in
     had_in_time g place.nodes taken.called.last.has taken.called.last.known turn.after.learned v.came place.node ballot slot command
     (taken.called.of.runs answered.runs).knows.learner v.all answered.stands.is_place.node v.reached v.is_slot v.has_vote
+
+-- what it proposes it leads, and it leads no ballot that was refused
+pub refused_ballots_end : Given → RefusedBallotsEnd
+refused_ballots_end g own place world s called turn ballot slot command sender refused at greater answered up taken had above said =
+    let v = own_of g own place world s called turn ballot slot command answered up said in
+    (campaigns_of place.nodes place.node taken.called.last turn.after.campaign v.campaign v.leads (taken.called.of.runs answered.runs).knows.proposer.is_campaign).unrefused
+    sender refused at greater had (subst (λ (b : Ballot). Below b greater) (sym v.of_ballot) above)

@@ -27,10 +27,10 @@ use Rattle.node_rules.proofs.Proposed.{waiting_value}
 use Rattle.node_rules.proofs.Promising.{prepare}
 use Rattle.node_rules.proofs.Voting.{accept}
 use Rattle.node_rules.proofs.Learning.{count, tell}
-use Rattle.node_rules.proofs.Asking.{behind_still, ask_on, ask_above, tell_known, with_pending, give_up}
+use Rattle.node_rules.proofs.Asking.{behind_still, ask_on, ask_above, tell_known, with_pending}
 use Rattle.node_rules.proofs.Closing.{close}
 use Rattle.node_rules.proofs.Ticking.{tick}
-use Rattle.node_rules.proofs.Beginning.{Runs, hearing_of, begin, begin_frame, begin_promise, and_goes}
+use Rattle.node_rules.proofs.Beginning.{Runs, hearing_of, begin, begin_frame, begin_promise, begin_refusal, and_goes}
 
 -- ---- an act that another node hands on
 
@@ -80,11 +80,7 @@ taken x s from (frame.Prepare ballot slot) ends r one sent =
 taken x s from (frame.Promise ballot slot told) ends r one sent =
     begin_promise x s from ballot slot told (ballots_of (frame.Promise ballot slot told)) r one (sent.sent (Promise from ballot slot told) (inl refl)) refl
 taken x s from (frame.Refuse ballot slot promised) ends r one sent =
-    let h : Hearing = hearing_of s (first_in x) in
-    let m : Message = Refuse from ballot slot promised in
-    let p = begin_frame x s m (ballot ∷ promised ∷ []) r one (sent.sent m (inl refl)) tt refl in
-    give_up x [] h (applied s) (still (seeing (frame.Refuse ballot slot promised) s)) promised from ballot slot p
-    (has_in x [] h (applied s) _ p m (subst (λ (l : List Message). In m l) (sym one) (inl refl)))
+    begin_refusal x s from ballot slot promised (ballots_of (frame.Refuse ballot slot promised)) r one (sent.sent (Refuse from ballot slot promised) (inl refl)) refl
 taken x s from (frame.Accept ballot slot command) ends r one sent =
     let h : Hearing = hearing_of s (first_in x) in
     let m : Message = Accept ballot slot command in

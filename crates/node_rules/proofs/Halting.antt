@@ -46,10 +46,10 @@ use Rattle.node_rules.proofs.Paths.{Hearing, Scope, dealer_in, first_in, Path, G
 use Rattle.node_rules.proofs.Promising.{refuse}
 use Rattle.node_rules.proofs.Learning.{count}
 use Rattle.node_rules.proofs.Closing.{IsMade, made_by, campaigns_of, may}
-use Rattle.node_rules.proofs.Asking.{tell_known, give_up, behind_still}
+use Rattle.node_rules.proofs.Asking.{tell_known, behind_still}
 use Rattle.node_rules.proofs.Framing.{hand_on, chosen_goes}
 use Rattle.node_rules.proofs.Ticking.{above}
-use Rattle.node_rules.proofs.Beginning.{Runs, hearing_of, begin, begin_frame, begin_promise}
+use Rattle.node_rules.proofs.Beginning.{Runs, hearing_of, begin, begin_frame, begin_promise, begin_refusal}
 
 -- the chain of a call that stops here, whose append may leave this store
 pub record Halted (x : Scope) (came : List Arrival) (store : Store) : Type 0 where
@@ -274,11 +274,7 @@ taken_rests x s from (frame.Prepare ballot slot) q same r one sent =
 taken_rests x s from (frame.Promise ballot slot told) q same r one sent =
     inl (begin_promise x s from ballot slot told (ballots_of (frame.Promise ballot slot told)) r one (sent.sent (Promise from ballot slot told) (inl refl)) refl)
 taken_rests x s from (frame.Refuse ballot slot promised) q same r one sent =
-    let h : Hearing = hearing_of s (first_in x) in
-    let m : Message = Refuse from ballot slot promised in
-    let s0 : Standing = seeing (frame.Refuse ballot slot promised) s in
-    let p = begin_frame x s m (ballot ∷ promised ∷ []) r one (sent.sent m (inl refl)) tt refl in
-    inl (give_up x [] h (applied s) (still s0) promised from ballot slot p (has_in x [] h (applied s) (still s0) p m (subst (λ (l : List Message). In m l) (sym one) (inl refl))))
+    inl (begin_refusal x s from ballot slot promised (ballots_of (frame.Refuse ballot slot promised)) r one (sent.sent (Refuse from ballot slot promised) (inl refl)) refl)
 taken_rests x s from (frame.Accept ballot slot command) q same r one sent =
     let h : Hearing = hearing_of s (first_in x) in
     let m : Message = Accept ballot slot command in

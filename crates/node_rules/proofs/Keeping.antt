@@ -21,34 +21,36 @@ use Rattle.node_rules.proofs.Proposed.{got_proposed, sent_proposed}
 abbrev pub with_got : Node → Message → Node
 with_got node m = record node { has = m ∷ node.has }
 
-abbrev pub IsNoPromise : Message → Type 0
-IsNoPromise (Prepare ballot slot) = Unit {0}
-IsNoPromise (Promise sender ballot slot told) = ⊥
-IsNoPromise (Refuse sender ballot slot promised) = Unit {0}
-IsNoPromise (Accept ballot slot command) = Unit {0}
-IsNoPromise (Accepted sender ballot slot command) = Unit {0}
-IsNoPromise (Chosen sender slot command) = Unit {0}
-IsNoPromise (Ask sender slot) = Unit {0}
-IsNoPromise (Forward sender command) = Unit {0}
-IsNoPromise (Said sender command) = Unit {0}
+-- it is no answer to a Prepare
+abbrev pub IsNoAnswer : Message → Type 0
+IsNoAnswer (Prepare ballot slot) = Unit {0}
+IsNoAnswer (Promise sender ballot slot told) = ⊥
+IsNoAnswer (Refuse sender ballot slot promised) = ⊥
+IsNoAnswer (Accept ballot slot command) = Unit {0}
+IsNoAnswer (Accepted sender ballot slot command) = Unit {0}
+IsNoAnswer (Chosen sender slot command) = Unit {0}
+IsNoAnswer (Ask sender slot) = Unit {0}
+IsNoAnswer (Forward sender command) = Unit {0}
+IsNoAnswer (Said sender command) = Unit {0}
 
-got_campaign : (g : Given) (n i : ℕ) (node : Node) (m : Message) (c : Option Campaign) → IsNoPromise m → IsCampaign n i node c → IsCampaign n i (with_got node m) c
+got_campaign : (g : Given) (n i : ℕ) (node : Node) (m : Message) (c : Option Campaign) → IsNoAnswer m → IsCampaign n i node c → IsCampaign n i (with_got node m) c
 got_campaign g n i node m None other h = tt
 got_campaign g n i node m (Some c) other h = record {
   own = h.own;
   promised = h.promised;
   prepared = h.prepared;
   counts = g.others node.has c m h.counts;
-  counts_all = g.others_all n node.has c m (λ k told e. subst IsNoPromise (sym e) other) h.counts_all;
+  counts_all = g.others_all n node.has c m (λ k told e. subst IsNoAnswer (sym e) other) h.counts_all;
   marks = h.marks;
   votes = h.votes;
+  unrefused = λ k r s up had low. elim had [ inl e ↦ absurd (subst IsNoAnswer (sym e) other) | inr old ↦ h.unrefused k r s up old low ];
 }
 
 -- less was refused before
-stood_before : (node : Node) (m : Message) (b : Ballot) (f : ℕ) → Stands (with_got node m) b f → Stands node b f
+pub stood_before : (node : Node) (m : Message) (b : Ballot) (f : ℕ) → Stands (with_got node m) b f → Stands node b f
 stood_before node m b f st = record { began = st.began; promised = st.promised; unrefused = λ k r s up h. st.unrefused k r s up (inr h) }
 
-pub got_proposer : (g : Given) (n i : ℕ) (node : Node) (m : Message) (front : ℕ) (c : Option Campaign) → IsNoPromise m → IsProposer n i node front c
+pub got_proposer : (g : Given) (n i : ℕ) (node : Node) (m : Message) (front : ℕ) (c : Option Campaign) → IsNoAnswer m → IsProposer n i node front c
     → IsProposer n i (with_got node m) front c
 got_proposer g n i node m front c other p = record {
   is_campaign = got_campaign g n i node m c other p.is_campaign;
@@ -80,7 +82,7 @@ pub got_pending : (d : Dealer) (i : ℕ) (node : Node) (m : Message) (upto : Lis
 got_pending d i node m upto None h = tt
 got_pending d i node m upto (Some c) h = (hand_got d i node m c h.0, h.1)
 
-pub got_knows : (g : Given) (d : Dealer) (place : Place) (upto : List Command) (s : Standing) (node : Node) (m : Message) (seen : Ballot) → IsNoPromise m
+pub got_knows : (g : Given) (d : Dealer) (place : Place) (upto : List Command) (s : Standing) (node : Node) (m : Message) (seen : Ballot) → IsNoAnswer m
     → Sees (m ∷ node.has) node.store.promise seen → Knows d place upto s node → Knows d place upto (record s { seen = seen }) (with_got node m)
 got_knows g d place upto s node m seen other sees k = record {
   up = k.up;
@@ -118,6 +120,7 @@ sent_campaign g n i node m (Some c) quiet h = record {
   counts_all = h.counts_all;
   marks = g.others_marks node.sent c m (λ s k e. subst IsQuiet (sym e) quiet) h.marks;
   votes = λ s v e b. inr (h.votes s v e b);
+  unrefused = h.unrefused;
 }
 
 pub prepared_before : (node : Node) (m : Message) (b : Ballot) (f : ℕ) → IsQuiet m → In (Prepare b f) (m ∷ node.sent) → In (Prepare b f) node.sent

@@ -121,6 +121,7 @@ known_campaign n i node known (Some c) h = record {
   counts_all = h.counts_all;
   marks = h.marks;
   votes = h.votes;
+  unrefused = h.unrefused;
 }
 
 known_proposer : (n i : ℕ) (node : Node) (known : List (ℕ × Command)) (at further : ℕ) (c : Option Campaign) → at ≤ further → IsProposer n i node at c

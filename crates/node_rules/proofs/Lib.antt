@@ -48,6 +48,7 @@ mod Shown
 mod Seated
 mod Refused
 mod Counted
+mod Valued
 mod Created
 pub mod Examples
 pub mod TurnExamples

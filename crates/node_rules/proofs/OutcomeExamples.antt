@@ -1,21 +1,25 @@
 -- Proposals and votes of three nodes, worked out.
 use Rattle.std.proofs.Common.{◌≡◌, ℕ, zero, suc, ◌<◌, ◌≤◌, ◌+◌, inl, inr, Bool, true, false, List, [], ◌∷◌, Option, Some, None, refl, sym, subst, arith, replicate}
 use Rattle.paxos_wire.specs.declared.entry.Entry.{Entry}
+use Rattle.betting.specs.declared.action.Action.TheVariants.{Fold}
 use Rattle.slot_log.specs.declared.command.Command.{Command}
+use Rattle.slot_log.specs.declared.command.Command.TheVariants.{Act}
 use Rattle.protocol_model.specs.Sets.{In}
 use Rattle.protocol_model.specs.Ballots.{AtMost}
-use Rattle.protocol_model.specs.Messages.{Vote, Message, Prepare, Promise, Accept, Accepted}
+use Rattle.protocol_model.specs.Messages.{Vote, Message, Prepare, Promise, Refuse, Accept, Accepted}
 use Rattle.protocol_model.specs.Stores.{empty_store, promised}
 use Rattle.protocol_model.specs.Nodes.{Node, new_node}
 use Rattle.proposer.specs.Counted.{HasQuorum}
 use Rattle.learner.specs.Learning.{new_learned}
 use Rattle.learner.specs.Counted.{KnowsChosen}
+use Rattle.dealer_kind.specs.Kind.{dealer_of}
 use Rattle.node_rules.specs.Turns.{still}
 use Rattle.node_rules.specs.Proposed.{IsValue, IsProposed, IsSettled}
-use Rattle.node_rules.specs.Being.{Stands}
+use Rattle.node_rules.specs.Being.{Campaigns, Stands}
 use Rattle.node_rules.specs.Outcomes.{IsElected, HasValue, HasProposed, IsAhead, Brings, came, own_vote}
+use Rattle.node_rules.specs.LawsValue.{IsOwnValue}
 use Rattle.node_rules.specs.Calls.{Tick}
-use Rattle.node_rules.proofs.Examples.{opened, place, ballot, dealt, store_0, campaign_0, leads_0, dealt_0, told}
+use Rattle.node_rules.proofs.Examples.{opened, setting, deal_by, place, ballot, dealt, store_0, campaign_0, leads_0, dealt_0, told}
 
 -- ---- the value of a slot
 
@@ -117,6 +121,22 @@ invented_is_refuted h = elim (h.by_rule (dealt 0) (inl refl)) [
   | inl greatest ↦ greatest.1.3
   | inr free ↦ (let e : ◌≡◌ {A = Option Command} None (Some (dealt 0)) = free.1 in cc)
 ]
+
+-- one whose ballot a Refuse outbids leads no longer
+outbid_leader_is_refuted : Campaigns 3 0 (record leader { has = Refuse 1 (ballot 1 0) 0 (ballot 2 2) ∷ leader.has }) campaign_0 → ⊥
+outbid_leader_is_refuted c = c.unrefused 1 (ballot 1 0) 0 (ballot 2 2) (inl refl) (inl (omega arith))
+
+-- ---- what a node has of its own to propose
+
+-- an act that waits isn't it, where a deal of its own fits
+act_before_the_deal_is_refuted : IsOwnValue (dealer_of setting (λ node command. true)) (place 0) [] (Some (Act 0 0 Fold)) (Some (Act 0 0 Fold)) → ⊥
+unfolding opened
+act_before_the_deal_is_refuted h = let e : ◌≡◌ {A = Option Command} (Some (Act 0 0 Fold)) (Some (dealt 0)) = h.deals 0 (deal_by 0) (refl, refl) in cc
+
+-- nor is nothing, where a hand runs and an act waits
+act_that_waits_in_vain_is_refuted : IsOwnValue (dealer_of setting (λ node command. true)) (place 0) (dealt 0 ∷ []) (Some (Act 0 0 Fold)) None → ⊥
+unfolding opened
+act_that_waits_in_vain_is_refuted h = let e : ◌≡◌ {A = Option Command} None (Some (Act 0 0 Fold)) = h.waits (λ hand deal is. let runs : false ≡ true = is.1 in cc) in cc
 
 -- ---- slots ahead
 

@@ -195,11 +195,11 @@ pub record CountsOwn (place : Place) (s : Standing) (made : Made) (learned : Lea
 -- no vote there, and votes for that itself
 pub data Closed (place : Place) (s : Standing) (turn : Turn) : Type 0 where
   rests : (campaign : Option Campaign) → turn ≡ still (record s { campaign = campaign }) → Closed place s turn
-  proposes : (made : Made) (campaign : Option Campaign) (learned : Learned) → made.ballot.node ≡ place.node → made.slot ≡ front_of s
+  proposes : (made : Made) (campaign : Campaign) (learned : Learned) → campaign.ballot ≡ made.ballot → made.ballot.node ≡ place.node → made.slot ≡ front_of s
       → s.store.promise ≡ made.ballot → ((vote : Vote) → s.store.votes made.slot ≡ Some vote → vote.ballot ≡ made.ballot → ⊥) → front_of s < SLOTS
       → CountsOwn place s made learned → learned.log ≡ s.learned.log
       → turn ≡ record {
-        after = record (with_stored s (voted s.store made.slot (vote_of_made made))) { campaign = campaign; learned = learned };
+        after = record (with_stored s (voted s.store made.slot (vote_of_made made))) { campaign = Some campaign; learned = learned };
         frames = to_others place (frame.Accept made.ballot made.slot made.command) ++ to_others place (frame.Accepted made.ballot made.slot made.command);
         shown = [];
         faults = [];
@@ -245,7 +245,7 @@ close_is x came heard t p = close_by (leads x.place.nodes t.after.campaign && na
         subst (λ (y : Option Campaign). Closes x.place t.after (proposing x.place made (record t.after { campaign = y }))) (sym marked) (record {
           turn = whole;
           is = is_whole;
-          closed = proposes made (Some marked_campaign) new mine safe.slot promised none_stored left (record { heard = refl; ok = own_ok }) same_log refl;
+          closed = proposes made marked_campaign new (sym safe.ballot) mine safe.slot promised none_stored left (record { heard = refl; ok = own_ok }) same_log refl;
           rest = rest;
         })
       where

@@ -39,6 +39,7 @@ shown_campaign n i node last (Some c) h = record {
   counts_all = h.counts_all;
   marks = h.marks;
   votes = h.votes;
+  unrefused = h.unrefused;
 }
 
 pub shown_proposer : (n i : ℕ) (node : Node) (last at : ℕ) (c : Option Campaign) → IsProposer n i node at c → IsProposer n i (with_shown node last) at c

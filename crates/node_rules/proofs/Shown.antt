@@ -50,27 +50,27 @@ use Rattle.node_rules.proofs.Applied.{seat_line_is, takes_all, keeps_all, scene_
 
 pub closed_shown : (place : Place) (s : Standing) (c : Turn) → Closed place s c → c.shown ≡ []
 closed_shown place s c (rests campaign e) = ap (λ (t : Turn). t.shown) e
-closed_shown place s c (proposes made campaign learned mine at promise none left_over counts log e) = ap (λ (t : Turn). t.shown) e
+closed_shown place s c (proposes made campaign learned led mine at promise none left_over counts log e) = ap (λ (t : Turn). t.shown) e
 
 pub closed_faults : (place : Place) (s : Standing) (c : Turn) → Closed place s c → c.faults ≡ []
 closed_faults place s c (rests campaign e) = ap (λ (t : Turn). t.faults) e
-closed_faults place s c (proposes made campaign learned mine at promise none left_over counts log e) = ap (λ (t : Turn). t.faults) e
+closed_faults place s c (proposes made campaign learned led mine at promise none left_over counts log e) = ap (λ (t : Turn). t.faults) e
 
 closed_applied : (place : Place) (s : Standing) (c : Turn) → Closed place s c → applied c.after ≡ applied s
 closed_applied place s c (rests campaign e) = ap (λ (t : Turn). applied t.after) e
-closed_applied place s c (proposes made campaign learned mine at promise none left_over counts log e) = ap (λ (t : Turn). applied t.after) e ∙ ap (λ (l : Log). l.below) log
+closed_applied place s c (proposes made campaign learned led mine at promise none left_over counts log e) = ap (λ (t : Turn). applied t.after) e ∙ ap (λ (l : Log). l.below) log
 
 pub closed_pending : (place : Place) (s : Standing) (c : Turn) → Closed place s c → c.after.pending ≡ s.pending
 closed_pending place s c (rests campaign e) = ap (λ (t : Turn). t.after.pending) e
-closed_pending place s c (proposes made campaign learned mine at promise none left_over counts log e) = ap (λ (t : Turn). t.after.pending) e
+closed_pending place s c (proposes made campaign learned led mine at promise none left_over counts log e) = ap (λ (t : Turn). t.after.pending) e
 
 pub closed_sessions : (place : Place) (s : Standing) (c : Turn) → Closed place s c → c.after.sessions ≡ s.sessions
 closed_sessions place s c (rests campaign e) = ap (λ (t : Turn). t.after.sessions) e
-closed_sessions place s c (proposes made campaign learned mine at promise none left_over counts log e) = ap (λ (t : Turn). t.after.sessions) e
+closed_sessions place s c (proposes made campaign learned led mine at promise none left_over counts log e) = ap (λ (t : Turn). t.after.sessions) e
 
 closed_up : (place : Place) (s : Standing) (c : Turn) → Closed place s c → c.after.up ≡ s.up
 closed_up place s c (rests campaign e) = ap (λ (t : Turn). t.after.up) e
-closed_up place s c (proposes made campaign learned mine at promise none left_over counts log e) = ap (λ (t : Turn). t.after.up) e
+closed_up place s c (proposes made campaign learned led mine at promise none left_over counts log e) = ap (λ (t : Turn). t.after.up) e
 
 -- nor does a question show anything
 above_shown : (b : Bool) (from slot : ℕ) (s : Standing) → (if b then sending (one from (frame.Ask slot)) s else still s).shown ≡ []
@@ -435,12 +435,16 @@ one_row known one (c ∷ a) (d ∷ b) ka kb e =
 some_is : (c d : Command) → ◌≡◌ {A = Option Command} (Some c) (Some d) → c ≡ d
 some_is c d e = cc
 
-pub waiting_fits : WaitingFits
-waiting_fits own place world s before act st up knows front waits =
+-- the commands that are known below the front are those applied
+pub applied_is : (own : ℕ → Command → Bool) (place : Place) (world : World) (s : Standing) (before : List Command) → Stands own place world s → s.up ≡ true
+    → KnowsCommands (world.nodes place.node).known before → front_of s ≡ length before → applied s ≡ before
+applied_is own place world s before st up knows front =
     let k = (st.of.runs up).knows in
     let one : (slot : ℕ) (c d : Command) → In (slot, c) (world.nodes place.node).known → In (slot, d) (world.nodes place.node).known → c ≡ d =
     λ slot c d hc hd. some_is c d (sym (k.learner.only slot c hc) ∙ k.learner.only slot d hd) in
-    let same : applied s ≡ before =
-    one_row (world.nodes place.node).known one (applied s) before (commands_known s.learned.log (world.nodes place.node).known k.learner.knows) knows front in
-    subst (λ (l : List Command). fits place.setting l act ≡ true) same
-    ((subst (IsPending (dealer_of place.setting own) place.node (world.nodes place.node) (applied s)) waits k.pending).1)
+    one_row (world.nodes place.node).known one (applied s) before (commands_known s.learned.log (world.nodes place.node).known k.learner.knows) knows front
+
+pub waiting_fits : WaitingFits
+waiting_fits own place world s before act st up knows front waits =
+    subst (λ (l : List Command). fits place.setting l act ≡ true) (applied_is own place world s before st up knows front)
+    ((subst (IsPending (dealer_of place.setting own) place.node (world.nodes place.node) (applied s)) waits (st.of.runs up).knows.pending).1)

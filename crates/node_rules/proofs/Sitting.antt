@@ -235,6 +235,7 @@ heard_campaign n i node heard (Some c) h = record {
   counts_all = h.counts_all;
   marks = h.marks;
   votes = h.votes;
+  unrefused = h.unrefused;
 }
 
 heard_pending : (d : Dealer) (i : ℕ) (node : Node) (heard : ℕ → Option (List ℕ)) (upto : List Command) (c : Option Command) → IsPending d i node upto c → IsPending d i (with_heard node heard) upto c

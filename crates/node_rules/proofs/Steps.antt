@@ -17,7 +17,7 @@ use Rattle.node_rules.specs.Called.{Carry, CarryAll, AreShown, log_after}
 use Rattle.node_rules.proofs.Sets.{in_first}
 use Rattle.node_rules.proofs.Carrying.{joined_carry, joined_all, IsForOne, one_carry, one_all}
 use Rattle.node_rules.proofs.Ordering.{sees_own}
-use Rattle.node_rules.proofs.Keeping.{with_got, IsNoPromise, got_knows, IsQuiet, sent_knows}
+use Rattle.node_rules.proofs.Keeping.{with_got, IsNoAnswer, got_knows, IsQuiet, sent_knows}
 use Rattle.node_rules.proofs.Paths.{Hearing, Scope, dealer_in, Path}
 use Rattle.std.proofs.lemmas.List.{append-nil}
 
@@ -28,7 +28,7 @@ pub record Leads (x : Scope) (came : List Arrival) (heard : Hearing) (upto : Lis
 
 -- the node gets a message of its own
 pub get_own : (x : Scope) (came : List Arrival) (heard : Hearing) (upto : List Command) (t : Turn) (m : Message) (p : Path x came heard upto t)
-    → IsNoPromise m → In m p.sent → ((b : Ballot) → In b (ballots_in m) → AtMost b p.node.store.promise)
+    → IsNoAnswer m → In m p.sent → ((b : Ballot) → In b (ballots_in m) → AtMost b p.node.store.promise)
     → Leads x came heard upto t m
 get_own x came heard upto t m p other sent low = record {
   path = record {

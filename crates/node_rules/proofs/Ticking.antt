@@ -9,7 +9,7 @@ use Rattle.paxos_wire.specs.declared.message.Message.TheVariants as frame
 use Rattle.slot_log.specs.declared.command.Command.{Command}
 use Rattle.protocol_model.specs.Sets.{In}
 use Rattle.protocol_model.specs.Ballots.{Below, AtMost}
-use Rattle.protocol_model.specs.Messages.{vote_of, Message, Prepare, Promise, Accept}
+use Rattle.protocol_model.specs.Messages.{vote_of, Message, Prepare, Promise, Refuse, Accept}
 use Rattle.protocol_model.specs.Stores.{Store, promised, Tells}
 use Rattle.protocol_model.specs.Nodes.{Node}
 use Rattle.protocol_model.specs.Arrivals.{Arrival}
@@ -216,6 +216,10 @@ begin x came heard t ends p = record {
       marks = x.given.promise_marks x.place.nodes (m ∷ prepare ∷ p.node.sent) (new_campaign ballot front) i ballot front told
           (x.given.begin_marks (m ∷ prepare ∷ p.node.sent) ballot front no_proposal);
       votes = λ s v e b. absurd (not_below ballot p.node.store.promise (subst (λ (y : Ballot). AtMost y p.node.store.promise) (b ∙ stays.0) (p.knows.within s v e)) up);
+      unrefused = λ k r s b had above. elim had [
+        | inl e ↦ absurd (cc)
+        | inr old ↦ not_below ballot b (of_below ballot b (subst (λ (y : Ballot). Below y b) stays.0 above)) (below_it b (Refuse k r s b, old, inr (inl refl)))
+      ];
     }
 
 -- ---- a tick

@@ -38,7 +38,8 @@ pub record IsPlace (own : ℕ → Command → Bool) (place : Place) : Type 0 whe
 
 -- ---- the proposer
 
--- the ballot is the node's own and promised, its promises that came are counted, and its proposals that were sent are marked and stored
+-- the ballot is the node's own and promised, its promises that came are counted, its proposals that were sent are marked and stored, and no refusal
+-- that came tells a greater one
 pub record Campaigns (n i : ℕ) (node : Node) (campaign : Campaign) : Type 0 where
   pub own : campaign.ballot.node ≡ i
   pub promised : node.store.promise ≡ campaign.ballot
@@ -48,6 +49,8 @@ pub record Campaigns (n i : ℕ) (node : Node) (campaign : Campaign) : Type 0 wh
   pub marks : MarksSent node.sent campaign
   pub votes : (slot : ℕ) (vote : Vote) → node.store.votes slot ≡ Some vote → vote.ballot ≡ campaign.ballot
       → In (Accept campaign.ballot slot vote.command) node.sent
+  pub unrefused : (sender : ℕ) (refused : Ballot) (slot : ℕ) (greater : Ballot) → In (Refuse sender refused slot greater) node.has
+      → Below campaign.ballot greater → ⊥
 
 abbrev pub IsCampaign : ℕ → ℕ → Node → Option Campaign → Type 0
 IsCampaign n i node None = Unit {0}

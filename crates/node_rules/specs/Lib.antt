@@ -26,4 +26,5 @@ pub mod LawsPending
 pub mod LawsSeats
 pub mod LawsRefused
 pub mod LawsVotes
+pub mod LawsValue
 pub mod LawsCreated

@@ -12,7 +12,8 @@ ghost use Rattle.node_rules.specs.LawsRefused.{RefusalsHaveReasons};
 ghost use Rattle.node_rules.specs.LawsSeats.{PiecesAreHeard, OthersArePassedOver, ConnectBeginsAnew, DropEnds, SessionsStay, FaultsAreOfPieces, LivesAreWhole, AwayIsUnconnected};
 ghost use Rattle.node_rules.specs.LawsShown.{CallsShow, DownShowsNothing};
 ghost use Rattle.node_rules.specs.LawsTick.{TicksPrepare};
-ghost use Rattle.node_rules.specs.LawsVotes.{OwnVotesAreInTime};
+ghost use Rattle.node_rules.specs.LawsValue.{DealsComeFirst};
+ghost use Rattle.node_rules.specs.LawsVotes.{OwnVotesAreInTime, RefusedBallotsEnd};
 
 use dealer_kind::laws::answers_are_heard;
 use learner::laws::{
@@ -184,6 +185,20 @@ pub fn own_votes_are_in_time()
 {
     layers_below();
 }
+
+/// A ballot ends where it is refused: no call sends a proposal of a ballot where a Refuse that the node has got since its
+/// start, with this call too, tells a greater one.
+pub fn refused_ballots_end()
+    ensures { RefusedBallotsEnd }
+{
+    layers_below();
+}
+
+/// What a node has of its own to propose is its own deal, where one fits after the commands that it knows below its front,
+/// and else the act that waits.
+pub fn deals_come_first()
+    ensures { DealsComeFirst }
+{}
 
 /// A node whose store was just made, and that is down, is one that the world has never started.
 pub fn created_is_new()
