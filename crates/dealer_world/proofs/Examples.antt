@@ -1,5 +1,5 @@
 -- Records, read out; and records that aren't so.
-use Rattle.std.proofs.Common.{◌≡◌, Err, Ok, get_or, ◌≢◌, ℕ, zero, suc, ◌+◌, ◌*◌, ◌<◌, ◌≤◌, inl, inr, Bool, true, false, cond, Option, Some, None, List, [], ◌∷◌, ◌++◌, length, take, replicate, refl, ap, sym, ◌∙◌, subst, arith}
+use Rattle.std.proofs.Common.{◌≡◌, Err, Ok, get_or, ◌≢◌, ℕ, zero, suc, ◌+◌, ◌*◌, ◌<◌, ◌≤◌, inl, inr, Bool, true, false, cond, Option, Some, None, Vec, Global, List, [], ◌∷◌, ◌++◌, length, take, replicate, refl, ap, sym, ◌∙◌, subst, arith}
 use Rattle.paxos_wire.specs.Reading.{body_of, message_at, ask_at, below_at}
 use Rattle.paxos_wire.specs.Faults.{header_fault, reading}
 use Rattle.slot_log.specs.declared.command.Command.{Command}
@@ -23,6 +23,10 @@ use Rattle.protocol_model.specs.Stores.{Store, empty_store}
 use Rattle.dealer_kind.specs.Kind.{Setting}
 use Rattle.dealer_kind.specs.Plans.{Plan, HasNodes}
 use Rattle.dealer_kind.specs.declared.source.Source.{Source}
+use Rattle.dealer_kind.specs.declared.source.Source.TheVariants.{Seed, Listed}
+use Rattle.dealer_kind.specs.Sources.{HasDeals}
+use Rattle.dealer_world.specs.RecordLaws.{HaveDeals}
+use Rattle.std.proofs.lemmas.List.Elements.{All-nil, All-cons, All-head}
 use Rattle.node_rules.specs.Standings.{Standing}
 use Rattle.dealer_node.specs.declared.reader.Reader.TheVariants as reads
 use Rattle.dealer_node.specs.declared.fault.NodeFault.TheVariants as fault
@@ -403,3 +407,23 @@ start_in_a_round (none, rest) = none
 
 one_too_few : AreEvents (event.Tick 0 ∷ []) (Ticks 0 ∷ Ticks 1 ∷ []) → ⊥
 one_too_few (same, none) = none
+
+-- ---- deals of the eras
+
+abbrev era_by : Source → Era
+era_by source = record { sources = source ∷ []; record_of = no_record }
+
+-- a seed has a deal for each hand
+seeds_have_deals : (setting : Setting) → HaveDeals setting (era_by (Seed 7) ∷ [])
+seeds_have_deals setting =
+    let has : Source → Type 0 = HasDeals setting.game.players setting.title.hands in
+    (All-cons has (Seed 7) [] tt (All-nil has), tt)
+
+-- a node of an earlier era whose list has no deal for the first hand
+no_deal_for_a_hand : (setting : Setting) (deals : Vec (List ℕ) Global) → deals.items ≡ [] → 1 ≤ setting.title.hands
+    → HaveDeals setting (era_by (Seed 7) ∷ era_by (Listed deals) ∷ []) → ⊥
+no_deal_for_a_hand setting deals none some have =
+    let has = All-head (HasDeals setting.game.players setting.title.hands) (Listed deals) [] have.1.0 in
+    let enough : setting.title.hands ≤ length deals.items = has.0 in
+    let size : length deals.items ≡ 0 = ap length none in
+    omega arith

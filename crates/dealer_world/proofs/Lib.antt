@@ -10,6 +10,7 @@ mod Extends
 mod Starting
 mod OneList
 mod Opening
+mod Dealt
 mod Reading
 mod Ruling
 mod Keeping

@@ -15,6 +15,7 @@ use Rattle.dealer_kind.specs.Kind.{Setting}
 use Rattle.dealer_world.specs.Records.{Line, Written, lines_of, logs_of}
 use Rattle.dealer_world.specs.Headline.{Era, InEach, InSome, dealer_in, IsLineOf, IsLogOf, IsOfOneList, OneList}
 use Rattle.dealer_world.specs.RecordLaws.{HasLine, HasLog, LinesOfRecordsAgree, AlikeListsShowTheSame, CompleteLogsAreMatchLogs}
+use Rattle.dealer_world.proofs.Dealt.{DrawsAreDeals, deals_fairly}
 
 some_of_each : (IsSo IsThere : Era → Type 0) (eras : List Era) (Goal : Type 0) → ((era : Era) → IsSo era → IsThere era → Goal) → InEach IsSo eras → InSome IsThere eras → Goal
 some_of_each IsSo IsThere [] Goal gives each some = absurd some
@@ -86,8 +87,9 @@ all_of_beginning : (newer first : List Command) → AllByRecursion DealsFairly (
 all_of_beginning [] first all = all
 all_of_beginning (command ∷ newer) first all = all_of_beginning newer first all.1
 
-pub complete_logs : CompleteLogsAreMatchLogs
-complete_logs setting n eras log kept one fair has =
+pub complete_logs : DrawsAreDeals → CompleteLogsAreMatchLogs
+complete_logs draws setting n eras log kept have one has =
+    let fair = deals_fairly draws setting n eras kept.is_game.most_players have one in
     let is = log_of_record setting n eras log one has in (
       is.0,
       is.1,

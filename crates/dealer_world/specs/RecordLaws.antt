@@ -1,17 +1,18 @@
 -- What follows for whoever reads the records.
 use Rattle.std.specs.Prelude.{◌≡◌, ℕ, true, Some, List, length}
-use Rattle.std.specs.List.{AllByRecursion}
+use Rattle.std.specs.List.{All}
 use Rattle.slot_log.specs.Dealer.{hands_of, is_match_over}
 use Rattle.slot_log.specs.declared.command.Command.{Command}
 use Rattle.matchstate.specs.View.{View}
 use Rattle.matchstate.specs.Line.{line_text}
 use Rattle.matchstate.specs.Laws.{Agree, Alike}
-use Rattle.match_log.specs.Check.{DealsFairly, IsMatchLog}
+use Rattle.match_log.specs.Check.{IsMatchLog}
 use Rattle.protocol_model.specs.Sets.{In, IsBeginning}
 use Rattle.dealer_kind.specs.Kind.{Setting}
 use Rattle.dealer_kind.specs.Plans.{IsSetting}
+use Rattle.dealer_kind.specs.Sources.{HasDeals}
 use Rattle.dealer_world.specs.Records.{Line, Written, lines_of, logs_of}
-use Rattle.dealer_world.specs.Headline.{Era, InSome, dealer_in, OneList}
+use Rattle.dealer_world.specs.Headline.{Era, InEach, InSome, dealer_in, OneList}
 
 -- some era's record has this line, or this log
 abbrev pub HasLine : List Era → Line → Type 0
@@ -34,9 +35,13 @@ AlikeListsShowTheSame = (setting : Setting) (n : ℕ) (eras : List Era) (other :
     → (first : List Command) × (before : List Command) × IsBeginning first one.commands × IsBeginning before other × (length before ≡ length first)
     × ((dealer_in setting eras).line first line.seat ≡ Some line.text) × ((dealer_in setting eras).line before line.seat ≡ Some line.text)
 
+-- each era's nodes have a deal for each hand of the match, as those of every config have
+abbrev pub HaveDeals : Setting → List Era → Type 0
+HaveDeals setting eras = InEach (λ era. All (HasDeals setting.game.players setting.title.hands) era.sources) eras
+
 -- a log after which the match is over is the log of a match, which `check` accepts
 abbrev pub CompleteLogsAreMatchLogs : Type 0
-CompleteLogsAreMatchLogs = (setting : Setting) (n : ℕ) (eras : List Era) (log : Written) → IsSetting setting → (one : OneList (dealer_in setting eras) n eras)
-    → AllByRecursion DealsFairly one.commands → HasLog eras log
+CompleteLogsAreMatchLogs = (setting : Setting) (n : ℕ) (eras : List Era) (log : Written) → IsSetting setting → HaveDeals setting eras
+    → (one : OneList (dealer_in setting eras) n eras) → HasLog eras log
     → (first : List Command) × IsBeginning first one.commands × ((dealer_in setting eras).log first ≡ log.text)
     × (is_match_over setting.game setting.title.hands (hands_of setting.game setting.title.hands first) ≡ true → IsMatchLog setting.game log.text)

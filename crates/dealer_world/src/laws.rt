@@ -16,6 +16,7 @@ ghost use Rattle.dealer_world.specs.CalmRun.{RoundsMoveOn, FreshClustersAreCalm}
 ghost use Rattle.dealer_world.specs.RuleRuns.{RunsShowOneList, RunsAreBacked, RunsSendToNodes, RunsNeverConflict};
 
 use dealer_kind::laws::{deals_are_owned_and_acts_are_said, owners_may_widen};
+use deck_draw::laws::draws_are_deals;
 use matchstate::laws::{agree, beginnings_are_alike};
 use node_rules::laws::{calls_are_sound, calm_rounds_move, refusals_have_reasons};
 use protocol_model::laws::{
@@ -75,10 +76,13 @@ pub fn alike_lists_show_the_same()
     beginnings_are_alike();
 }
 
-/// A log whose match is over is one that `match_log::check` accepts: its payoffs are those of the pots.
+/// A log whose match is over is one that `match_log::check` accepts: its payoffs are those of the pots. The nodes of each
+/// era had deals within the limits of a config; what they drew from their seeds are deals.
 pub fn complete_logs_are_match_logs()
     ensures { CompleteLogsAreMatchLogs }
-{}
+{
+    draws_are_deals();
+}
 
 /// In every run of a cluster whose nodes keep the rules, over all its eras, in which no frame was forged, there is one
 /// list of chosen commands behind all lines and logs.

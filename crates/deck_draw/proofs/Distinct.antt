@@ -8,7 +8,7 @@ use Rattle.std.proofs.lemmas.List.Sorted.{length_permutation}
 use Rattle.std.proofs.lemmas.List.{length-take-le}
 use Rattle.deck_draw.specs.Deck.{pack}
 
-AllByRecursion-take : (P : ℕ → Type 0) (n : ℕ) (xs : List ℕ) → AllByRecursion P xs → AllByRecursion P (take n xs)
+pub AllByRecursion-take : (P : ℕ → Type 0) (n : ℕ) (xs : List ℕ) → AllByRecursion P xs → AllByRecursion P (take n xs)
 AllByRecursion-take P zero xs all = tt
 AllByRecursion-take P (suc n) [] all = all
 AllByRecursion-take P (suc n) (x ∷ xs) all = (all.0, AllByRecursion-take P n xs all.1)

@@ -1,2 +1,3 @@
 mod Distinct
+mod Drawing
 pub mod Examples
