@@ -9,13 +9,13 @@ use Rattle.dealer_world.specs.Promise.{IsPromised}
 use Rattle.playing.specs.declared.playing.Playing.{Playing}
 use Rattle.playing.specs.Playing.{Scene, Begins, Answers, Plays, begun, answered}
 use Rattle.playing.specs.PlayingInside.{scene_of}
-use Rattle.holdem_table.specs.Script.{AreLines}
+use Rattle.streamed.specs.Script.{AreLines}
 use Rattle.holdem_table.specs.Played.{Played}
 use Rattle.holdem_table.specs.Scripted.{Reaches, BeginsPlay}
 use Rattle.holdem_table.specs.PlayOutcome.{AnswersPlay}
 use Rattle.holdem_table.specs.declared.scripted.Scripted.{Scripted}
-use Rattle.holdem_table.proofs.Streams.{append_twice, consume_twice}
-use Rattle.holdem_table.proofs.Lines.{line_ends, line_goes_on}
+use Rattle.streamed.proofs.Streams.{append_twice, consume_twice}
+use Rattle.streamed.proofs.Lines.{line_ends, line_goes_on}
 
 pub keep_here : (a : Option (List ℕ)) → Keeps a a
 keep_here None = tt

@@ -1,14 +1,3 @@
-pub mod Names
-pub mod Told
-pub mod Logged
-pub mod Further
-pub mod Answer
-pub mod Script
-pub mod Running
-pub mod Ending
-pub mod Outcome
-pub mod Verdict
 pub mod Played
 pub mod Scripted
 pub mod PlayOutcome
-pub mod OneOutput

@@ -8,8 +8,8 @@ use Rattle.match_file.specs.Matches.{HasMembers, SaysMatch}
 use Rattle.match_file.specs.Refusals.{IsNoToml, IsRefused}
 use Rattle.holdem_table.specs.Played.{Played}
 use Rattle.holdem_table.specs.Scripted.{BeginsPlay}
-use Rattle.holdem_table.specs.declared.ending.Ending.{Ending}
-use Rattle.holdem_table.specs.declared.ending.Ending.TheVariants.{Done, SaidNo, Refused, Match, StoreExists, Store, Unreadable, OutOfMemory, StreamFailed, WrongWords}
+use Rattle.streamed.specs.declared.ending.Ending.{Ending}
+use Rattle.streamed.specs.declared.ending.Ending.TheVariants.{Done, SaidNo, Refused, Match, StoreExists, Store, Unreadable, OutOfMemory, StreamFailed, WrongWords}
 
 -- a match file and its game file, none where it can't be read, say this match
 abbrev pub SaysPlan : List ℕ → Option (List ℕ) → Plan → Type 0

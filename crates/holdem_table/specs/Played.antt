@@ -4,7 +4,7 @@ use Rattle.promise_store.specs.contracts.memory_disk.MemoryDiskDisk.TheImpl.{gho
 use Rattle.dealer_kind.specs.Plans.{Plan}
 use Rattle.dealer_world.specs.Promise.{IsPromised}
 use Rattle.playing.specs.Playing.{Scene, Plays}
-use Rattle.holdem_table.specs.Script.{AreLines}
+use Rattle.streamed.specs.Script.{AreLines}
 
 -- what is written for a match and a script: the headers of a new cluster's logs and the answer to each whole line; a rest without a line feed isn't read.
 -- One list of chosen commands is behind all that the cluster showed

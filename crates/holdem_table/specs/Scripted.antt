@@ -6,7 +6,7 @@ use Rattle.dealer_kind.specs.Plans.{Plan}
 use Rattle.dealer_world.specs.Promise.{IsPromised}
 use Rattle.playing.specs.Playing.{Plays}
 use Rattle.playing.specs.PlayingInside.{scene_of}
-use Rattle.holdem_table.specs.Script.{AreLines}
+use Rattle.streamed.specs.Script.{AreLines}
 use Rattle.holdem_table.specs.Played.{Played}
 use Rattle.holdem_table.specs.declared.scripted.Scripted.{Scripted}
 

@@ -1,14 +1,12 @@
 ghost use Rattle.std.specs.Prelude.{◌≤◌};
 
-use crate::ending::Ending;
-use crate::game_word::GameWord;
 use crate::help::{
     AFTER_CHECK_HELP, AFTER_HAND_HELP, AFTER_HELP, AFTER_INIT_HELP, AFTER_PLAY_HELP,
 };
-use crate::wrong_words::WrongWords;
 use clap::{Arg, ArgAction, ArgMatches, Command, value_parser};
 use slot_log::limits::HANDS;
 use std::alloc::{AllocError, Global};
+use streamed::{Ending, GameWord, WrongWords};
 
 /// What the command line asks for.
 #[derive(Drop)]

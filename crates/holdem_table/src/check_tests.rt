@@ -1,9 +1,7 @@
-use crate::check_run::{check_run, read_all};
-use crate::ending::Ending;
-use crate::stop::Stop;
 use crate::test_streams::{L2, Reading, Writing};
 use std::io::ErrorKind;
 use std::test::Fail;
+use streamed::{Ending, Stop, check_run, read_all};
 
 const LOG: &[u8] = b"# name/game/hands m l2.game 1
 STATE:0:f:TdAs|8hTc:5|-5:alice|bob

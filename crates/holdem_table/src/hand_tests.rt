@@ -1,12 +1,8 @@
-use crate::ending::Ending;
-use crate::game_word::GameWord;
-use crate::hand_run::{hand_run, run_script};
-use crate::stop::Stop;
-use crate::stream::MOST_READS;
 use crate::test_streams::{L2, Listener, Reading, Talker, Writing};
 use std::cell::Cell;
 use std::io::ErrorKind;
 use std::test::Fail;
+use streamed::{Ending, GameWord, MOST_READS, Stop, hand_run, run_script};
 
 const SCRIPT: &[u8] = b"names alice|bob
 deal TdAs|8hTc/2c8c3h/9c/Kh

@@ -1,10 +1,10 @@
 //! What `init` does: the empty stores of a match's nodes, one file for each.
 
-use crate::ending::Ending;
 use match_file::MatchFile;
 use promise_store::{FileDisk, Store};
 use std::fs::File;
 use std::{fs, io};
+use streamed::Ending;
 
 /// Makes the empty stores of a match's nodes: the files `node0.journal` and so on in the folder that the match file
 /// names, each on the disk before the next is made, and then the folder's entries.

@@ -3,38 +3,22 @@
 #![tactic(auto)]
 
 mod arguments;
-mod check_run;
-mod dealing;
-mod ending;
-mod game_word;
-mod hand_run;
 mod help;
 mod init;
 mod late_file;
-mod laws;
-mod line;
-mod log_lines;
 mod play_run;
-mod running;
-mod script_line;
 mod scripted;
-mod stop;
-mod stream;
-mod wrong_words;
 
 use crate::arguments::{CheckArguments, HandArguments, Task, command, requested};
-use crate::check_run::check_run;
-use crate::ending::Ending;
-use crate::hand_run::hand_run;
 use crate::init::init;
 use crate::late_file::LateFile;
 use crate::play_run::play_run;
-use crate::wrong_words::WrongWords;
 use clap::error::ErrorKind;
 use clap::{ArgMatches, Error};
 use match_file::{MatchFault, MatchFile};
 use std::process::ExitCode;
 use std::{fs, io};
+pub use streamed::{Ending, GameWord, WrongWords, check_run, hand_run};
 
 fn main(rt: HostRuntime) -> ExitCode {
     let ending = match words(&rt) {

@@ -2,14 +2,12 @@ ghost use Rattle.std.specs.Prelude.{MatchResult, OnOk, OnErr};
 ghost use Rattle.std.specs.Option.{option_copied};
 ghost use Rattle.holdem_table.specs.PlayOutcome.{SaysPlan, IsNoPlan, AnswersPlay, StopsPlay, EndsPlay};
 
-use crate::ending::Ending;
 use crate::scripted::Scripted;
-use crate::stop::Stop;
-use crate::stream::{MOST_READS, PIECE, read_piece};
 use dealer_kind::Config;
 use match_file::{MatchFault, MatchFile};
 use std::alloc::Global;
 use std::io::{Read, Write};
+use streamed::{Ending, MOST_READS, PIECE, Stop, read_piece};
 
 /// Runs all nodes of a match over a network in memory, driven by a script, which the reader gives in any pieces.
 ///

@@ -1,7 +1,4 @@
-use crate::ending::Ending;
 use crate::play_run::{play_run, run_cluster};
-use crate::stop::Stop;
-use crate::stream::MOST_READS;
 use crate::test_streams::{L2, Listener, Reading, Talker, Writing};
 use match_file::MatchFile;
 use std::alloc::{AllocError, Global};
@@ -10,6 +7,7 @@ use std::io::ErrorKind;
 use std::ops::Range;
 use std::process::Abort;
 use std::test::Fail;
+use streamed::{Ending, MOST_READS, Stop};
 
 const MATCH: &[u8] = b"name = \"m1\"
 game = \"l2.game\"

@@ -3,12 +3,11 @@ ghost use Rattle.std.specs.Io.KnownBytes.{Keeps};
 ghost use Rattle.dealer_kind.specs.Plans.{Plan};
 ghost use Rattle.holdem_table.specs.Scripted.{Reaches, BeginsPlay};
 
-use crate::stop::Stop;
-use crate::stream::send;
 use dealer_kind::Config;
 use playing::Playing;
 use std::alloc::{AllocError, Global};
 use std::io::Write;
+use streamed::{Stop, send};
 
 /// A script of `play` on its way: the cluster as the lines so far have made it, what has come of the next line, and
 /// room for an answer.

@@ -1,5 +1,5 @@
 use Rattle.std.proofs.Common.{◌≡◌, [], ◌++◌, take, inr, rules}
-use Rattle.holdem_table.proofs.Streams.{consume_here, consume_kept, consume_twice, on_err}
+use Rattle.streamed.proofs.Streams.{consume_here, consume_kept, consume_twice, on_err}
 use Rattle.holdem_table.proofs.Scripting.{plays_here, plays_all}
 use Rattle.holdem_table.proofs.play_run.run_cluster.Goals as goal
 use Rattle.holdem_table.proofs.play_run.run_cluster.Goals.{in-Some+in_ok-take_piece-in-Some, in-None}

@@ -1,5 +1,5 @@
 use Rattle.std.proofs.Common.{arith}
-use Rattle.std.proofs.lemmas.Option.{slice_get_read, gets}
+use Rattle.std.proofs.lemmas.Option.{gets}
 use Rattle.playing.proofs.Delivered.{delivered_more}
 use Rattle.playing.proofs.marks.missing_from.Goals as goal
 

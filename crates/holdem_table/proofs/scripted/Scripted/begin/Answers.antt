@@ -1,7 +1,7 @@
 use Rattle.std.proofs.Common.{◌≡◌, ◌++◌, ◌∙◌, ap, subst, sym, inl, inr, List, ℕ}
 use Rattle.playing.specs.Playing.{Begins}
 use Rattle.playing.specs.PlayingInside.{scene_of}
-use Rattle.holdem_table.proofs.Streams.{on_err}
+use Rattle.streamed.proofs.Streams.{on_err}
 use Rattle.holdem_table.proofs.Scripting.{keep_here, headers_written, headers_begun}
 use Rattle.holdem_table.proofs.scripted.Scripted.begin.Goals as goal
 

@@ -1,8 +1,8 @@
 use Rattle.std.proofs.Common.{◌≡◌, [], ◌∷◌, ◌++◌, ◌∙◌, ap, subst, sym, List, ℕ}
 use Rattle.playing.specs.Playing.{Answers}
 use Rattle.playing.specs.PlayingInside.{scene_of}
-use Rattle.holdem_table.proofs.Streams.{on_err}
-use Rattle.holdem_table.proofs.Taking.{on_ok_map, on_err_map}
+use Rattle.streamed.proofs.Streams.{on_err}
+use Rattle.streamed.proofs.Taking.{on_ok_map, on_err_map}
 use Rattle.holdem_table.proofs.Scripting.{plays_so_far, play_line_answered, play_line_begun}
 use Rattle.holdem_table.proofs.scripted.Scripted.end_line.Goals as goal
 

@@ -1,5 +1,5 @@
 use Rattle.std.proofs.Common.{refl, ◌∷◌, []}
-use Rattle.holdem_table.proofs.Streams.{on_err}
+use Rattle.streamed.proofs.Streams.{on_err}
 use Rattle.holdem_table.proofs.Scripting.{play_byte_kept, plays_so_far}
 use Rattle.holdem_table.proofs.scripted.Scripted.take_byte.Goals as goal
 

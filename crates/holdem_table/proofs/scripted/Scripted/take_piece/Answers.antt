@@ -1,7 +1,7 @@
 use Rattle.std.proofs.Common.{◌+◌, ◌++◌, take, drop, subst, List, ℕ, arith}
 use Rattle.holdem_table.specs.Scripted.{BeginsPlay}
-use Rattle.holdem_table.proofs.Streams.{on_err}
-use Rattle.holdem_table.proofs.Progress.{piece_split}
+use Rattle.streamed.proofs.Streams.{on_err}
+use Rattle.streamed.proofs.Progress.{piece_split}
 use Rattle.holdem_table.proofs.Scripting.{plays_still}
 use Rattle.holdem_table.proofs.scripted.Scripted.take_piece.Goals as goal
 

@@ -1,4 +1,4 @@
-use Rattle.std.proofs.Common.{◌≡◌, ◌++◌, subst, refl}
+use Rattle.std.proofs.Common.{◌++◌, subst, refl}
 use Rattle.std.specs.Prelude.{codes}
 use Rattle.play_script.specs.declared.bounds.Bounds.{Bounds}
 use Rattle.play_script.specs.Orders.{Says}

@@ -1,6 +1,6 @@
-use Rattle.std.proofs.Common.{◌≡◌, ◌+◌, ◌++◌, ◌∙◌, [], ap, subst, sym, refl, append_assoc, List, ℕ}
+use Rattle.std.proofs.Common.{◌+◌, ◌++◌, ◌∙◌, [], ap, subst, sym, refl, append_assoc}
 use Rattle.std.proofs.lemmas.List.{append-nil}
-use Rattle.playing.specs.Playing.{Scene, Delivery, Flushes, none, more}
+use Rattle.playing.specs.Playing.{Scene, Delivery, none, more}
 use Rattle.playing.specs.PlayingInside.{scene_of}
 use Rattle.playing.proofs.playing.Playing.flush.Goals as goal
 

@@ -1,4 +1,4 @@
-use Rattle.std.proofs.Common.{◌≡◌, ◌≤◌, ◌+◌, ◌∙◌, ℕ, Err, ap, rules, arith, length}
+use Rattle.std.proofs.Common.{◌≡◌, ◌≤◌, ◌∙◌, ℕ, Err, ap, rules, arith, length}
 use Rattle.promise_store.specs.contracts.memory_disk.MemoryDiskDisk.TheImpl.{ghosts as in_memory}
 use Rattle.dealer_node.specs.Outs.{Told}
 use Rattle.dealer_node.specs.declared.fault.NodeFault.TheVariants.{OutOfMemory}

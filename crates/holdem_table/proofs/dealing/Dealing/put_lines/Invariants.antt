@@ -1,7 +1,0 @@
-use Rattle.std.proofs.Common.{◌≡◌, ◌++◌}
-use Rattle.std.specs.List.{flat_map, range_with_len}
-use Rattle.holdem_table.specs.Answer.{line_for}
-use Rattle.holdem_table.proofs.dealing.Dealing.put_lines.Given as goal
-
-abbrev pub invariant-loop-seat : goal.invariant-loop-seat
-invariant-loop-seat l = l.out.items ≡ l.fn.out.items ++ flat_map (line_for l.self.table.game l.self.table.hands) (range_with_len 0 l.seat)

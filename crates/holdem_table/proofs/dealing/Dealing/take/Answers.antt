@@ -1,8 +1,0 @@
-use Rattle.holdem_table.proofs.Streams.{on_ok}
-use Rattle.holdem_table.proofs.dealing.Dealing.take.Goals as goal
-
-pub returns-in-Told-clause-stands : goal.returns-in-Told-clause-stands
-returns-in-Told-clause-stands c = rw c.in-Told.is c.take_command.ensures.stands
-
-pub returns-in-Names-clause-stands : goal.returns-in-Names-clause-stands
-returns-in-Names-clause-stands c = on_ok c.take_names.result _ (rw c.in-Names.is c.take_names.ensures.stands)

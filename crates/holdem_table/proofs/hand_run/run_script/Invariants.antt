@@ -1,8 +1,0 @@
-use Rattle.std.proofs.Common.{ℕ, List}
-use Rattle.std.specs.Io.KnownBytes.{Consumes}
-use Rattle.holdem_table.specs.Running.{Shows}
-use Rattle.holdem_table.proofs.hand_run.run_script.Given as goal
-
-abbrev pub invariant-loop : goal.invariant-loop
-invariant-loop g l = (bytes : List ℕ) × Consumes (g.R.Read.remaining l.fn.reader) (g.R.Read.remaining l.reader) bytes
-    × Shows l.fn.game l.fn.hands l.fn.log (g.W.Write.contents l.fn.writer) bytes l.running (g.W.Write.contents l.writer)

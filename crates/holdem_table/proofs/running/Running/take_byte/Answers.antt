@@ -1,7 +1,0 @@
-use Rattle.std.proofs.Common.{refl}
-use Rattle.holdem_table.proofs.Progress.{byte_kept}
-use Rattle.holdem_table.proofs.running.Running.take_byte.Goals as goal
-
-pub returns-else-byte-eq10-clause-ok : goal.returns-else-byte-eq10-clause-ok
-returns-else-byte-eq10-clause-ok g c = λ game count log start seen shows.
-    byte_kept game count log start _ seen c.args.byte c.args.self.now _ c.if-byte-eq10.false refl c.keep.ensures shows

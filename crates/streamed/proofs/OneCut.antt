@@ -1,0 +1,37 @@
+-- A script is cut into lines in one way.
+use Rattle.std.proofs.Common.{◌≡◌, ℕ, List, [], ◌∷◌, ◌++◌, reverse, refl, sym, ◌∙◌, ap, subst, append_assoc}
+use Rattle.std.specs.List.{AllByRecursion, flat_map}
+use Rattle.std.proofs.lemmas.List.{reverse-append, reverse-reverse}
+use Rattle.match_log.proofs.FieldCuts.{All-joined, cut_alike}
+use Rattle.streamed.specs.Script.{AreLines, HasNoFeed}
+
+all_reversed : {X : Type 0} (P : X → Type 0) (xs : List X) → AllByRecursion P xs → AllByRecursion P (reverse xs)
+all_reversed P [] all = tt
+all_reversed P (x ∷ xs) all = subst (AllByRecursion P) (sym (reverse-append (x ∷ []) xs)) (All-joined P (reverse xs) (x ∷ []) (all_reversed P xs all.1) (all.0, tt))
+
+-- the first line, its line feed and what stands behind it
+first_line : (line : List ℕ) (lines : List (List ℕ)) (rest : List ℕ) → flat_map (λ l. l ++ 10 ∷ []) (line ∷ lines) ++ rest ≡ line ++ 10 ∷ (flat_map (λ l. l ++ 10 ∷ []) lines ++ rest)
+first_line line lines rest =
+    let others : List ℕ = flat_map (λ l. l ++ 10 ∷ []) lines in
+    append_assoc (line ++ 10 ∷ []) others rest ∙ append_assoc line (10 ∷ []) (others ++ rest)
+
+feed_stands : (line behind : List ℕ) → HasNoFeed (line ++ 10 ∷ behind) → ⊥
+feed_stands [] behind clear = clear.0 refl
+feed_stands (byte ∷ line) behind clear = feed_stands line behind clear.1
+
+-- lines oldest first
+cut_once : (lines others : List (List ℕ)) (rest behind : List ℕ) → AllByRecursion HasNoFeed lines → AllByRecursion HasNoFeed others → HasNoFeed rest → HasNoFeed behind
+    → flat_map (λ l. l ++ 10 ∷ []) lines ++ rest ≡ flat_map (λ l. l ++ 10 ∷ []) others ++ behind → lines ≡ others
+cut_once [] [] rest behind whole all partial clear e = refl
+cut_once [] (other ∷ others) rest behind whole all partial clear e =
+    absurd (feed_stands other _ (subst HasNoFeed (e ∙ first_line other others behind) partial))
+cut_once (line ∷ lines) [] rest behind whole all partial clear e =
+    absurd (feed_stands line _ (subst HasNoFeed (sym e ∙ first_line line lines rest) clear))
+cut_once (line ∷ lines) (other ∷ others) rest behind whole all partial clear e =
+    let cut = cut_alike 10 line other _ _ whole.0 all.0 (sym (first_line line lines rest) ∙ e ∙ first_line other others behind) in
+    ap (λ (l : List ℕ). l ∷ lines) cut.0 ∙ ap (λ (ls : List (List ℕ)). other ∷ ls) (cut_once lines others rest behind whole.1 all.1 partial clear cut.1)
+
+pub same_lines : (bytes : List ℕ) (lines others : List (List ℕ)) (rest behind : List ℕ) → AreLines bytes lines rest → AreLines bytes others behind → lines ≡ others
+same_lines bytes lines others rest behind are those =
+    let same = cut_once (reverse lines) (reverse others) rest behind (all_reversed HasNoFeed lines are.whole) (all_reversed HasNoFeed others those.whole) are.partial those.partial (sym are.joined ∙ those.joined) in
+    sym (reverse-reverse lines) ∙ ap reverse same ∙ reverse-reverse others

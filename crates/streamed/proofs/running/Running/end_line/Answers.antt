@@ -1,0 +1,33 @@
+use Rattle.std.proofs.Common.{[], ◌∷◌, ◌++◌, ◌∙◌, ap}
+use Rattle.streamed.specs.Answer.{answer}
+use Rattle.streamed.proofs.Streams.{on_err}
+use Rattle.streamed.proofs.Taking.{on_ok_map, on_err_map}
+use Rattle.streamed.proofs.Progress.{LineEnds, begins_so_far, line_answered, line_begun}
+use Rattle.streamed.proofs.running.Running.end_line.Goals as goal
+
+pub returns-in_err-take-clause-err : goal.returns-in_err-take-clause-err
+returns-in_err-take-clause-err g c = on_err c.from_residual.result _ (λ game count log start seen shows. begins_so_far game count log start _ seen (10 ∷ []) c.args.self.now shows)
+
+pub returns-clause-ok : goal.returns-clause-ok
+returns-clause-ok g c =
+    let ends : LineEnds c.args.self.now c.read-said.result c.take.new.self c.deref-2.result.now = record {
+      says = λ line kept. c.read-said.ensures.says line (c.deref.ensures.0 ∙ kept);
+      stands = c.in_ok-take.ensures.stands;
+      answered = λ game count log before stands. c.deref-2.ensures.value ∙ c.in_ok-take.ensures.answered game count log before stands
+          ∙ ap (λ z. z ++ answer game count log before c.read-said.result) c.clear-2.ensures.items;
+    } in
+    on_ok_map c.send.result _ _
+    (λ sent game count log start seen shows. line_answered game count log start _ _ seen c.deref-2.result.now c.args.self.now c.read-said.result _ ends c.clear.ensures sent shows)
+    c.send.ensures.ok
+
+pub returns-clause-err : goal.returns-clause-err
+returns-clause-err g c =
+    let ends : LineEnds c.args.self.now c.read-said.result c.take.new.self c.deref-2.result.now = record {
+      says = λ line kept. c.read-said.ensures.says line (c.deref.ensures.0 ∙ kept);
+      stands = c.in_ok-take.ensures.stands;
+      answered = λ game count log before stands. c.deref-2.ensures.value ∙ c.in_ok-take.ensures.answered game count log before stands
+          ∙ ap (λ z. z ++ answer game count log before c.read-said.result) c.clear-2.ensures.items;
+    } in
+    on_err_map c.send.result _ _
+    (λ sent game count log start seen shows. line_begun game count log start _ _ seen c.deref-2.result.now sent.0 sent.1 c.args.self.now c.read-said.result c.take.new.self ends sent.2 sent.3 shows)
+    c.send.ensures.err

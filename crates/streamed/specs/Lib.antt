@@ -1,0 +1,11 @@
+pub mod Names
+pub mod Told
+pub mod Logged
+pub mod Further
+pub mod Answer
+pub mod Script
+pub mod Running
+pub mod Ending
+pub mod Outcome
+pub mod Verdict
+pub mod OneOutput
