@@ -214,13 +214,14 @@ impl<D: Disk + Drop> Node<D> {
         }
     }
 
-    /// Connects a seat: its session begins anew. Refused is 90.
+    /// Connects a seat: its session begins anew. Refused is 90, and nothing else.
     pub fn connect(&mut self, seat: usize) -> Result<(), NodeFault>
         requires { seat < (post_in self.old).setting.game.players }
         ensures taken { (s : Standing) → IsTrue D.is_honest → IsSeen D.Disk self.old s
             → Takes D.Disk (Connect seat) s self.old self.new nothing_told nothing_told result }
         ensures stays { StaysItself D.Disk self.old self.new nothing_told nothing_told result }
         ensures answers { AnswersRightly self.old self.new result }
+        ensures done { runs self.old ≡ true → result ≡ Ok tt }
         ensures disk { disk_in self.new ≡ disk_in self.old }
     {
         match &mut self.up {
@@ -232,13 +233,14 @@ impl<D: Disk + Drop> Node<D> {
         }
     }
 
-    /// Drops a seat's session. Refused is 90.
+    /// Drops a seat's session. Refused is 90, and nothing else.
     pub fn drop_seat(&mut self, seat: usize) -> Result<(), NodeFault>
         requires { seat < (post_in self.old).setting.game.players }
         ensures taken { (s : Standing) → IsTrue D.is_honest → IsSeen D.Disk self.old s
             → Takes D.Disk (Dropping seat) s self.old self.new nothing_told nothing_told result }
         ensures stays { StaysItself D.Disk self.old self.new nothing_told nothing_told result }
         ensures answers { AnswersRightly self.old self.new result }
+        ensures done { runs self.old ≡ true → result ≡ Ok tt }
         ensures disk { disk_in self.new ≡ disk_in self.old }
     {
         match &mut self.up {
