@@ -47,8 +47,8 @@ fn reads_as(alloc: Global, bytes: &[u8], answer: &str) -> Result<bool, AllocErro
     }
 }
 
-/// The bytes that pairs of digits write.
-fn from_hexadecimal(alloc: Global, digits: &[u8]) -> Result<Option<Vec<u8>>, AllocError> {
+/// The bytes that pairs of digits write; none where there are other characters, or a digit alone.
+pub fn from_hexadecimal(alloc: Global, digits: &[u8]) -> Result<Option<Vec<u8>>, AllocError> {
     if digits.len() % 2 == 1 {
         return Ok(None);
     }

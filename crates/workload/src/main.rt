@@ -2,29 +2,41 @@
 //!
 //! Each argument names what to run, and prints counts and checksums: `five-card-hands`, `best-of-seven`, `draws`,
 //! `sevens-by-counts`, `sevens-by-fives`, `sevens`, `short-hands`, `long-hands`, `encode`, `decode`, `promises`,
-//! `answers`, `refusals`, `nodes`, `nodes-short`; `decks`, which reads lines `seed hand players deal`; and `frames`, which reads lines of a frame
-//! in hexadecimal and `ok` or its fault. The tasks of the store work on the file `workload.journal`: `store-append`,
-//! `store-appends`, `store-short`, `store-long`, `store-open-short`, `store-open-long`.
+//! `answers`, `refusals`, `nodes`, `nodes-short`, `creations`; `decks`, which reads lines `seed hand players deal`; and
+//! `frames`, which reads lines of a frame in hexadecimal and `ok` or its fault. The tasks of the store work on the file
+//! `workload.journal`: `store-append`, `store-appends`, `store-short`, `store-long`, `store-open-short`,
+//! `store-open-long`.
+//!
+//! `fused-cluster`, `failing-cluster`, `new-file-cluster` and `file-cluster` read lines that drive the nodes of a match
+//! over disks of that kind (`clusters`), and print all that comes of each.
 #![tactic(auto)]
 
+mod clusters;
+mod creations;
 mod decks;
+mod driving;
 mod frame_speed;
 mod frames;
 mod hand_play;
 mod hands;
 mod nodes;
 mod parts;
+mod peer;
 mod sevens;
 mod stores;
+mod taking;
 mod task;
+mod telling;
+mod trio;
 
+use clusters::Disks;
 use hand_play::Policy;
-use nodes::Course;
 use sevens::Body;
 use std::fs::File;
 use std::rt::Files;
 use std::{env, io};
 use task::Task;
+use trio::Course;
 
 fn main(rt: HostRuntime) -> io::Result<()> {
     let words = env::args(&rt)?;
@@ -57,6 +69,11 @@ fn run(rt: &(impl Input + Print + AllocGlobal + Files<File = File>), task: Task)
         Task::Refusals => parts::print_refusals(rt),
         Task::Nodes => nodes::print_played(rt, 1000, 10, Course::Plain),
         Task::NodesShort => nodes::print_played(rt, 1, 10, Course::Varied),
+        Task::Creations => creations::print_created(rt),
+        Task::FusedCluster => clusters::print_driven(rt, Disks::Fused),
+        Task::FailingCluster => clusters::print_driven(rt, Disks::FailingOnce),
+        Task::NewFileCluster => clusters::print_driven(rt, Disks::NewFiles),
+        Task::FileCluster => clusters::print_driven(rt, Disks::Files),
         Task::Append => stores::print_appended(rt, 1),
         Task::Appends => stores::print_many_appended(rt),
         Task::ShortJournal => stores::print_written(rt, 10_000),

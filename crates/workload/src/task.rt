@@ -35,6 +35,16 @@ pub enum Task {
     Nodes,
     /// Plays a match of 10 hands on three nodes, one of which is down for a while.
     NodesShort,
+    /// Makes nodes' stores over disks that fail.
+    Creations,
+    /// Drives a cluster by lines, over disks in memory with fuses.
+    FusedCluster,
+    /// Drives a cluster by lines, over disks in memory of which one call fails.
+    FailingCluster,
+    /// Drives a cluster by lines, over files that are made anew.
+    NewFileCluster,
+    /// Drives a cluster by lines, over files that have stores.
+    FileCluster,
     /// Appends one promise to a store on a file.
     Append,
     /// Appends many promises to a store on a file.
@@ -70,6 +80,11 @@ impl Task {
             "refusals" => Some(Task::Refusals),
             "nodes" => Some(Task::Nodes),
             "nodes-short" => Some(Task::NodesShort),
+            "creations" => Some(Task::Creations),
+            "fused-cluster" => Some(Task::FusedCluster),
+            "failing-cluster" => Some(Task::FailingCluster),
+            "new-file-cluster" => Some(Task::NewFileCluster),
+            "file-cluster" => Some(Task::FileCluster),
             "store-append" => Some(Task::Append),
             "store-appends" => Some(Task::Appends),
             "store-short" => Some(Task::ShortJournal),

@@ -1,0 +1,139 @@
+//! A node of three in a match of two players, over a disk in memory, and what comes to it.
+
+ghost use Rattle.std.specs.Prelude.{◌≡◌};
+ghost use Rattle.dealer_node.specs.Seeing.{post_in};
+
+use dealer_kind::{Config, Source};
+use dealer_node::{Node, NodeFault, Out};
+use match_log::{Name, SeatNames};
+use promise_store::MemoryDisk;
+use slot_log::Command;
+use std::alloc::{AllocError, Global};
+
+/// Two players, limit.
+const GAME: &[u8] = b"GAMEDEF
+limit
+numPlayers = 2
+numRounds = 4
+blind = 10 5
+raiseSize = 10 10 20 20
+firstPlayer = 2 1 1 1
+maxRaises = 3 4 4 4
+numSuits = 4
+numRanks = 13
+numHoleCards = 2
+numBoardCards = 0 3 1 1
+END GAMEDEF
+";
+
+/// What a seat names the version by.
+pub const VERSION: &[u8] = b"VERSION:2.0.0\r\n";
+
+/// A match of so many hands, whose nodes draw their deals from seeds of their own.
+pub fn config(alloc: Global, hands: u32) -> Result<Option<Config>, AllocError> {
+    let mut sources = Vec::new(alloc);
+    for seed in 1..4 {
+        sources.push(Source::Seed(seed))?;
+    }
+    let word = Vec::from_slice(alloc, b"l2.game")?;
+    Ok(configured(word, hands, sources))
+}
+
+/// The match whose log names the game by this word, with these sources of deals.
+fn configured(word: Vec<u8>, hands: u32, sources: Vec<Source>) -> Option<Config> {
+    let game = game_def::read(GAME).ok()?;
+    let name = Name::new(b"workload")?;
+    let names = SeatNames::read(b"alice|bob", 2)?;
+    Config::new(game, name, word, names, hands, sources)
+}
+
+/// What comes to a node.
+#[derive(Clone, Copy)]
+pub enum Event<'a> {
+    Start,
+    Tick,
+    /// The bytes of a frame, and the node that it is from, 0 to 2.
+    Frame(u8, &'a [u8]),
+    /// A piece of the bytes of seat 0 or 1.
+    Line(u8, &'a [u8]),
+    /// A connection of seat 0 or 1.
+    Connect(u8),
+}
+
+/// A node of three in a match of two players.
+#[derive(Drop)]
+pub struct Peer {
+    pub node: Node<MemoryDisk>,
+    ghost nodes: { (post_in node).nodes ≡ 3 },
+    ghost players: { (post_in node).setting.game.players ≡ 2 },
+}
+
+impl Peer {
+    /// The node of this number, down, over an empty disk; none where the match isn't one of three nodes and two players.
+    pub fn new(alloc: Global, config: &Config, number: usize) -> Result<Option<Peer>, AllocError> {
+        if config.nodes() != 3 || config.game().players() != 2 || number >= 3 {
+            return Ok(None);
+        }
+        let disk = MemoryDisk::new(alloc, &[])?;
+        let node = Node::new(alloc, config, number, disk)?;
+        Ok(Some(Peer { node }))
+    }
+
+    /// Makes the node's store, and once more where that fails.
+    pub fn create(&mut self) -> Result<(), NodeFault> {
+        if self.node.running() || self.node.create().is_ok() {
+            return Ok(());
+        }
+        self.node.create()
+    }
+
+    /// Lets the node take an event.
+    pub fn step(&mut self, event: Event<'_>, out: &mut Out) -> Result<(), NodeFault> {
+        match event {
+            Event::Start => self.node.start(out),
+            Event::Tick => self.node.on_tick(out),
+            Event::Frame(from, bytes) => self.node.on_frame(usize::from(from.min(2)), bytes, out),
+            Event::Line(seat, bytes) => self.node.on_line(usize::from(seat.min(1)), bytes, out),
+            Event::Connect(seat) => self.node.connect(usize::from(seat.min(1))),
+        }
+    }
+
+    /// Starts the node, and once more where it found no memory.
+    pub fn start(&mut self, out: &mut Out) -> Result<(), NodeFault> {
+        if self.node.start(out).is_ok() {
+            return Ok(());
+        }
+        self.node.start(out)
+    }
+
+    /// Stops the node. Its disk comes back as it was at the last sync.
+    pub fn stop(&mut self) {
+        self.node.stop(0);
+    }
+
+    /// Connects both seats, each of which names the version.
+    pub fn seat_all(&mut self, out: &mut Out) -> Result<(), NodeFault> {
+        for seat in 0..2 {
+            self.step(Event::Connect(seat), out)?;
+            self.step(Event::Line(seat, VERSION), out)?;
+        }
+        Ok(())
+    }
+
+    /// What its readers show.
+    pub fn shown(&self) -> (bool, u32, Option<Command>) {
+        (self.node.running(), self.node.front(), self.node.pending())
+    }
+
+    /// The seat that is to act; none where no hand runs.
+    pub fn to_act(&self) -> Option<u8> {
+        let table = self.node.table();
+        let hand = table.finished();
+        let position = table.play(hand)?.to_act()?;
+        Some(if (position % 2 == 1) == (hand % 2 == 1) {
+            0
+        } else {
+            1
+        })
+    }
+}

@@ -1,0 +1,73 @@
+//! How a node takes an event though memory or its disk fails once, and what is counted of it.
+
+use crate::peer::{Event, Peer};
+use dealer_node::{NodeFault, Out};
+use promise_store::StoreFault;
+use std::alloc::Global;
+
+/// What was counted over all matches.
+#[derive(Clone, Copy, Debug)]
+pub struct Counts {
+    /// How many commands each node knew at the end of its match.
+    pub commands: [u64; 3],
+    pub frames: u64,
+    /// A sum over all bytes of frames, in their order.
+    pub sum: u64,
+    /// How many calls found no memory, and were then made again.
+    pub refused: u64,
+    /// In how many calls a disk failed, and the node was started again before the call was made again.
+    pub failed: u64,
+    /// How many calls failed again, or changed something where they found no memory.
+    pub wrong: u64,
+}
+
+/// Lets a node take an event. A call that finds no memory changes nothing, and is made again; where its disk fails the
+/// node is started again, its seats sit down, and the call is made again.
+pub fn take(
+    alloc: Global,
+    peer: &mut Peer,
+    event: Event<'_>,
+    seated: bool,
+    counts: &mut Counts,
+) -> Out {
+    let mut out = Out::new(alloc);
+    let before = peer.shown();
+    let mut answer = peer.step(event, &mut out);
+    if answer == Err(NodeFault::OutOfMemory) {
+        counts.refused = counts.refused.wrapping_add(1);
+        if peer.shown() != before || out.frames().next().is_some() || out.shown().next().is_some() {
+            counts.wrong = counts.wrong.wrapping_add(1);
+        }
+        answer = peer.step(event, &mut out);
+    } else if answer == Err(NodeFault::Store(StoreFault::Disk)) {
+        counts.failed = counts.failed.wrapping_add(1);
+        answer = take_again(peer, event, seated, &mut out);
+    }
+    if answer.is_err() {
+        counts.wrong = counts.wrong.wrapping_add(1);
+    }
+    out
+}
+
+/// Starts a node whose disk failed, lets its seats sit down where it has any, and lets it take the same event.
+fn take_again(
+    peer: &mut Peer,
+    event: Event<'_>,
+    seated: bool,
+    out: &mut Out,
+) -> Result<(), NodeFault> {
+    peer.start(out)?;
+    if seated {
+        peer.seat_all(out)?;
+    }
+    peer.step(event, out)
+}
+
+/// A sum of bytes in their order, behind that of earlier ones.
+pub fn summed(sum: u64, bytes: &[u8]) -> u64 {
+    let mut sum = sum;
+    for byte in bytes {
+        sum = sum.wrapping_mul(31).wrapping_add(u64::from(*byte));
+    }
+    sum
+}
