@@ -1,0 +1,73 @@
+ghost use Rattle.std.specs.Prelude.{◌≡◌, ◌≤◌, length, take, drop, vec_len};
+ghost use Rattle.match_links.specs.Pieces.{part_len};
+
+use crate::piece::piece_len;
+use std::alloc::{AllocError, Global};
+use std::io;
+use std::io::Read;
+
+/// The most bytes of a piece: a line that is too long by one.
+pub(crate) const PIECE: usize = 4097;
+
+/// What came of a connection and isn't read yet.
+#[derive(Debug, Drop)]
+pub(crate) struct Input {
+    bytes: Vec<u8>,
+}
+
+impl Input {
+    /// Nothing came. All the room that it takes is made now.
+    pub(crate) fn new(alloc: Global) -> Result<Input, AllocError> {
+        Ok(Input {
+            bytes: Vec::with_capacity(alloc, PIECE)?,
+        })
+    }
+
+    /// Whether a whole piece came: a line with its line feed, or as many bytes as a piece may have.
+    pub(crate) fn is_whole(&self) -> bool {
+        self.bytes.len() >= PIECE || self.bytes.contains(&b'\n')
+    }
+
+    /// Waits for more bytes, and says how many came: none at the end.
+    pub(crate) fn fill<R: Read>(&mut self, from: &mut R) -> io::Result<usize> {
+        let mut buffer = [0u8; PIECE];
+        let room = PIECE.saturating_sub(self.bytes.len());
+        let count = from.read(&mut buffer[..room])?;
+        self.bytes.extend_from_slice(&buffer[..count])?;
+        Ok(count)
+    }
+
+    /// Reads the next piece into a buffer, as much of it as fits, and says how long that is.
+    pub(crate) fn take(&mut self, piece: &mut [u8]) -> usize
+        ensures count { result ≡ part_len (length piece.old) self.old.bytes.items }
+        ensures piece { take result piece.new ≡ take result self.old.bytes.items }
+        ensures rest { self.new.bytes.items ≡ drop result self.old.bytes.items }
+        ensures within { result ≤ length piece.new }
+    {
+        let count = give(&self.bytes, piece);
+        remove_front(&mut self.bytes, count);
+        count
+    }
+}
+
+/// Copies the next piece of these bytes into a buffer, as much of it as fits, and says how long that is.
+pub(crate) fn give(bytes: &[u8], piece: &mut [u8]) -> usize
+    ensures count { result ≡ part_len (length piece.old) bytes.now }
+    ensures piece { take result piece.new ≡ take result bytes.now }
+    ensures within { result ≤ length piece.new }
+    ensures there { result ≤ length bytes.now }
+{
+    let count = piece_len(bytes).min(piece.len());
+    piece[..count].copy_from_slice(&bytes[..count]);
+    count
+}
+
+/// Takes so many bytes away from the front.
+fn remove_front(bytes: &mut Vec<u8>, count: usize)
+    requires { count ≤ vec_len bytes.old }
+    ensures { bytes.new.items ≡ drop count bytes.old.items }
+{
+    let left = bytes.len() - count;
+    bytes.as_mut_slice().copy_within(count.., 0);
+    bytes.truncate(left);
+}

@@ -1,0 +1,54 @@
+//! What a server reaches outside of its nodes: seats, the connections between nodes, and logs.
+
+ghost use Rattle.std.specs.Prelude.{◌≤◌, length, IfOk};
+
+/// Why a call of a link did nothing.
+#[derive(Clone, Copy, Debug, PartialEq, Eq)]
+pub enum LinkFault {
+    /// The link failed.
+    Failed,
+    /// Memory was refused before anything was taken from the link: the same call may be made again.
+    OutOfMemory,
+}
+
+/// The links of a match: the connections of seats to nodes, one for each ordered pair of nodes, and a log for each
+/// node. Nodes and seats are counted from 0.
+///
+/// Any call may fail, and nothing is said of what a link gives: what is promised of a server holds whatever its links
+/// answer.
+pub trait Links {
+    /// Waits for a connection of a seat at a node, which has sent something. Those that ended before they sent anything
+    /// are passed over.
+    ///
+    /// This is the one call that may want memory, for what the seat will send.
+    fn accept(&mut self, node: u8, seat: u8) -> Result<(), LinkFault>;
+
+    /// Waits for the next piece of what a seat sent, up to and with its first line feed, and no more than the buffer
+    /// holds; at the connection's end what is left, and then nothing. The answer is how many bytes it has.
+    fn read(&mut self, node: u8, seat: u8, piece: &mut [u8]) -> Result<usize, LinkFault>
+        ensures { IfOk result (λ count. count ≤ length piece.new) };
+
+    /// Sends a line to a seat, with CR LF behind it.
+    fn write(&mut self, node: u8, seat: u8, line: &[u8]) -> Result<(), LinkFault>;
+
+    /// Closes the connection of a seat to a node.
+    fn hang_up(&mut self, node: u8, seat: u8);
+
+    /// Writes a frame to the connection of two nodes.
+    fn send(&mut self, from: u8, to: u8, frame: &[u8]) -> Result<(), LinkFault>;
+
+    /// Fills the buffer from the other end of the connection of two nodes.
+    fn receive(&mut self, from: u8, to: u8, frame: &mut [u8]) -> Result<(), LinkFault>;
+
+    /// Empties the log of a node.
+    fn empty_log(&mut self, node: u8) -> Result<(), LinkFault>;
+
+    /// Puts text behind what the log of a node has, and has it in the file when it answers.
+    fn add_to_log(&mut self, node: u8, text: &[u8]) -> Result<(), LinkFault>;
+
+    /// Opens the seats' ports of a node that is to start.
+    fn open(&mut self, node: u8) -> Result<(), LinkFault>;
+
+    /// Closes the seats' ports of a node, and the connections to it.
+    fn close(&mut self, node: u8);
+}

@@ -1,0 +1,289 @@
+//! Links in memory, of whose calls one may fail.
+
+ghost use Rattle.std.specs.Prelude.{◌≡◌, ◌+◌, ◌≤◌, length, take, drop, vec_len};
+ghost use Rattle.match_links.specs.Pieces.{part_len};
+
+use crate::input::give;
+use crate::links::{LinkFault, Links};
+use std::alloc::{AllocError, Global};
+
+/// How many bytes of a log, and of a frame, there is room for from the start.
+const ROOM: usize = 8192;
+
+/// The most nodes that a match has.
+const NODES: usize = 5;
+
+/// A connection of a seat to a node, and what it sends before it ends.
+#[derive(Debug, Drop)]
+struct Caller {
+    node: u8,
+    seat: u8,
+    bytes: Vec<u8>,
+    /// How many bytes were read.
+    read: usize,
+    state: State,
+    ghost within: { read ≤ vec_len bytes },
+}
+
+impl Caller {
+    /// Reads the next piece of what it sends, as much of it as fits into the buffer, and says how long that is.
+    fn read(&mut self, piece: &mut [u8]) -> usize
+        ensures count { result ≡ part_len (length piece.old) (drop self.old.read self.old.bytes.items) }
+        ensures piece { take result piece.new ≡ take result (drop self.old.read self.old.bytes.items) }
+        ensures read { self.new.read ≡ self.old.read + result }
+        ensures same { self.new.bytes ≡ self.old.bytes }
+        ensures within { result ≤ length piece.new }
+    {
+        let count = give(&self.bytes[self.read..], piece);
+        self.read += count;
+        count
+    }
+}
+
+#[derive(Clone, Copy, Debug, PartialEq, Eq)]
+enum State {
+    Waiting,
+    Open,
+    Closed,
+}
+
+/// What a call of a link reaches.
+#[derive(Clone, Copy, Debug, PartialEq, Eq)]
+pub enum Reached {
+    /// A seat's connection.
+    Seat,
+    /// The connection of two nodes.
+    Peer,
+    /// The seats' ports of a node.
+    Ports,
+    /// A node's log.
+    Log,
+}
+
+/// A line that a seat got at a node, without its line end.
+#[derive(Debug, Drop)]
+pub struct Told {
+    pub node: u8,
+    pub seat: u8,
+    pub line: Vec<u8>,
+}
+
+/// Links in memory: connections that wait from the start, each with all that it sends; what was told to seats; a log
+/// for each node. Nodes are counted from 0, to 4.
+///
+/// Connections that wait at a node when its ports are closed go on waiting: they stand for bots that dial again.
+#[derive(Drop)]
+pub struct MemoryLinks {
+    alloc: Global,
+    callers: Vec<Caller>,
+    told: Vec<Told>,
+    logs: Vec<Vec<u8>>,
+    /// The last frame, and the nodes whose connection it is in.
+    wire: Vec<u8>,
+    ends: (u8, u8),
+    /// Of which nodes the seats' ports are closed.
+    closed: [bool; NODES],
+    /// How many calls pass before the one that fails; none once it has.
+    left: Option<u64>,
+    /// What the call that failed was to reach.
+    failed: Option<Reached>,
+}
+
+impl MemoryLinks {
+    /// Links of so many nodes. The call of this number fails, counted from 1; with 0 none does.
+    pub fn new(alloc: Global, nodes: usize, call: u64) -> Result<MemoryLinks, AllocError> {
+        let mut logs = Vec::new(alloc);
+        for _ in 0..nodes {
+            logs.push(Vec::with_capacity(alloc, ROOM)?)?;
+        }
+        Ok(MemoryLinks {
+            alloc,
+            callers: Vec::new(alloc),
+            told: Vec::new(alloc),
+            logs,
+            wire: Vec::with_capacity(alloc, ROOM)?,
+            ends: (0, 0),
+            closed: [false; NODES],
+            left: call.checked_sub(1),
+            failed: None,
+        })
+    }
+
+    /// Puts a connection of a seat to a node behind those that wait there. It sends these bytes, and ends.
+    pub fn call(&mut self, node: u8, seat: u8, bytes: &[u8]) -> Result<(), AllocError> {
+        let caller = Caller {
+            node,
+            seat,
+            bytes: Vec::from_slice(self.alloc, bytes)?,
+            read: 0,
+            state: State::Waiting,
+        };
+        self.callers.push(caller)?;
+        Ok(())
+    }
+
+    /// All lines that seats got, in order.
+    pub fn told(&self) -> &[Told] {
+        &self.told
+    }
+
+    /// The log of a node; nothing of a number that no node has.
+    pub fn log(&self, node: usize) -> &[u8] {
+        match self.logs.get(node) {
+            Some(log) => log,
+            None => &[],
+        }
+    }
+
+    /// What the call that was to fail was to reach, once it has been made.
+    pub fn failed(&self) -> Option<Reached>
+        ensures { result ≡ self.now.failed }
+    {
+        self.failed
+    }
+
+    /// Whether the seats' ports of a node are closed.
+    fn is_closed(&self, node: u8) -> bool {
+        match self.closed.get(node as usize) {
+            Some(closed) => *closed,
+            None => true,
+        }
+    }
+
+    fn set_closed(&mut self, node: u8, closed: bool) {
+        if (node as usize) < NODES {
+            self.closed[node as usize] = closed;
+        }
+    }
+
+    /// Whether a seat has a connection to a node.
+    fn is_open(&self, node: u8, seat: u8) -> bool {
+        self.callers.iter().any(|caller| caller.node == node
+            && caller.seat == seat
+            && caller.state == State::Open)
+    }
+
+    /// Whether this call passes.
+    fn pass(&mut self, reached: Reached) -> Result<(), LinkFault> {
+        match self.left {
+            None => Ok(()),
+            Some(0) => {
+                self.left = None;
+                self.failed = Some(reached);
+                Err(LinkFault::Failed)
+            }
+            Some(count) => {
+                self.left = Some(count - 1);
+                Ok(())
+            }
+        }
+    }
+}
+
+impl Links for MemoryLinks {
+    fn accept(&mut self, node: u8, seat: u8) -> Result<(), LinkFault> {
+        self.pass(Reached::Seat)?;
+        if self.is_closed(node) {
+            return Err(LinkFault::Failed);
+        }
+        for caller in &mut self.callers {
+            if caller.node == node
+                && caller.seat == seat
+                && caller.state == State::Waiting
+                && !caller.bytes.is_empty()
+            {
+                caller.state = State::Open;
+                return Ok(());
+            }
+        }
+        Err(LinkFault::Failed)
+    }
+
+    fn read(&mut self, node: u8, seat: u8, piece: &mut [u8]) -> Result<usize, LinkFault> {
+        self.pass(Reached::Seat)?;
+        for caller in &mut self.callers {
+            if caller.node == node && caller.seat == seat && caller.state == State::Open {
+                return Ok(caller.read(piece));
+            }
+        }
+        Err(LinkFault::Failed)
+    }
+
+    fn write(&mut self, node: u8, seat: u8, line: &[u8]) -> Result<(), LinkFault> {
+        self.pass(Reached::Seat)?;
+        if !self.is_open(node, seat) {
+            return Err(LinkFault::Failed);
+        }
+        match Vec::from_slice(self.alloc, line) {
+            Ok(line) => match self.told.push(Told { node, seat, line }) {
+                Ok(()) => Ok(()),
+                Err(_) => Err(LinkFault::Failed),
+            },
+            Err(_) => Err(LinkFault::Failed),
+        }
+    }
+
+    fn hang_up(&mut self, node: u8, seat: u8) {
+        for caller in &mut self.callers {
+            if caller.node == node && caller.seat == seat && caller.state == State::Open {
+                caller.state = State::Closed;
+            }
+        }
+    }
+
+    fn send(&mut self, from: u8, to: u8, frame: &[u8]) -> Result<(), LinkFault> {
+        self.pass(Reached::Peer)?;
+        self.wire.clear();
+        self.ends = (from, to);
+        match self.wire.extend_from_slice(frame) {
+            Ok(()) => Ok(()),
+            Err(_) => Err(LinkFault::Failed),
+        }
+    }
+
+    fn receive(&mut self, from: u8, to: u8, frame: &mut [u8]) -> Result<(), LinkFault> {
+        self.pass(Reached::Peer)?;
+        if self.ends.0 != from || self.ends.1 != to || frame.len() != self.wire.len() {
+            return Err(LinkFault::Failed);
+        }
+        frame.copy_from_slice(&self.wire);
+        Ok(())
+    }
+
+    fn empty_log(&mut self, node: u8) -> Result<(), LinkFault> {
+        self.pass(Reached::Log)?;
+        match self.logs.get_mut(node as usize) {
+            Some(log) => {
+                log.clear();
+                Ok(())
+            }
+            None => Err(LinkFault::Failed),
+        }
+    }
+
+    fn add_to_log(&mut self, node: u8, text: &[u8]) -> Result<(), LinkFault> {
+        self.pass(Reached::Log)?;
+        match self.logs.get_mut(node as usize) {
+            Some(log) => match log.extend_from_slice(text) {
+                Ok(()) => Ok(()),
+                Err(_) => Err(LinkFault::Failed),
+            },
+            None => Err(LinkFault::Failed),
+        }
+    }
+
+    fn open(&mut self, node: u8) -> Result<(), LinkFault> {
+        self.pass(Reached::Ports)?;
+        self.set_closed(node, false);
+        Ok(())
+    }
+
+    fn close(&mut self, node: u8) {
+        self.set_closed(node, true);
+        for caller in &mut self.callers {
+            if caller.node == node && caller.state == State::Open {
+                caller.state = State::Closed;
+            }
+        }
+    }
+}

@@ -1,0 +1,162 @@
+-- What is due, on values.
+use Rattle.std.proofs.Common.{◌≡◌, ℕ, refl, true, false, [], ◌∷◌, Option, Some, None, Err}
+use Rattle.serving.specs.declared.place.Place.TheVariants.{Awaited, Seated, Leaving}
+use Rattle.serving.specs.declared.known.NodeSight.{NodeSight}
+use Rattle.serving.specs.declared.known.Repair.TheVariants as repair
+use Rattle.serving.specs.declared.due.Due.TheVariants.{Stop, Start, Drop, Await, Read, Deliver, Tick, Over}
+use Rattle.dealer_kind.specs.Plans.{Plan}
+use Rattle.dealer_node.specs.declared.fault.NodeFault.TheVariants as fault
+use Rattle.dealer_world.specs.declared.event.Event.TheVariants as event
+use Rattle.serving.specs.declared.serve_fault.ServeFault.TheVariants.{LogFailed}
+use Rattle.serving.specs.declared.turn.Turn.TheVariants as turn
+use Rattle.serving.specs.Dues.{next_frame}
+use Rattle.serving.specs.Going.{delivered_after, ends_in_line_feed}
+use Rattle.serving.specs.Next.{due_by, running_from}
+use Rattle.serving.specs.Placing.{moved}
+use Rattle.serving.specs.Repairs.{stopped, started, greeted_after}
+use Rattle.serving.specs.Turning.{goes_on, turn_of, IsForDue, MayFail}
+
+-- a node that has applied so many commands, with this seat to act
+abbrev at : ℕ → Option ℕ → NodeSight
+at front seat = record { runs = true; is_out = false; over = false; front = front; to_act = seat; pends = false }
+
+-- the same with an act that waits there
+abbrev asked : ℕ → Option ℕ → NodeSight
+asked front seat = record { runs = true; is_out = false; over = false; front = front; to_act = seat; pends = true }
+
+-- a node that is to be out and runs, and one that is out
+abbrev to_stop : ℕ → Option ℕ → NodeSight
+to_stop front seat = record { runs = true; is_out = true; over = false; front = front; to_act = seat; pends = false }
+
+abbrev out : NodeSight
+out = record { runs = false; is_out = true; over = false; front = 0; to_act = None; pends = false }
+
+-- a node that is down and not to be out
+abbrev to_start : NodeSight
+to_start = record { runs = false; is_out = false; over = false; front = 0; to_act = None; pends = false }
+
+abbrev done : ℕ → NodeSight
+done front = record { runs = true; is_out = false; over = true; front = front; to_act = None; pends = false }
+
+-- ---- greeting
+
+first_seat_is_awaited : due_by (at 0 None ∷ at 0 None ∷ at 0 None ∷ []) (Awaited 0 ∷ Awaited 0 ∷ []) 0 None None ≡ Await 0 0
+first_seat_is_awaited = refl
+
+and_its_first_line_read : due_by (at 0 None ∷ at 0 None ∷ at 0 None ∷ []) (Seated 0 ∷ Awaited 0 ∷ []) 0 (Some 0) None ≡ Read 0 0
+and_its_first_line_read = refl
+
+then_the_second : due_by (at 0 None ∷ at 0 None ∷ at 0 None ∷ []) (Seated 0 ∷ Awaited 0 ∷ []) 1 (Some 0) None ≡ Await 1 0
+then_the_second = refl
+
+-- ---- frames, outages, ticks, in this order
+
+greeted_all_a_node_ticks : due_by (at 0 None ∷ at 0 None ∷ at 0 None ∷ []) (Seated 0 ∷ Seated 0 ∷ []) 2 None None ≡ Tick 0
+greeted_all_a_node_ticks = refl
+
+frames_come_first : due_by (to_stop 1 (Some 1) ∷ at 0 None ∷ at 0 None ∷ []) (Seated 0 ∷ Seated 0 ∷ []) 2 (Some 7) None ≡ Deliver 7
+frames_come_first = refl
+
+then_outages : due_by (to_stop 1 (Some 1) ∷ at 1 (Some 1) ∷ at 1 (Some 1) ∷ []) (Seated 0 ∷ Seated 0 ∷ []) 2 None None ≡ Stop 0
+then_outages = refl
+
+starts_before_stops : due_by (to_stop 1 (Some 1) ∷ to_start ∷ at 1 (Some 1) ∷ []) (Seated 0 ∷ Seated 0 ∷ []) 2 None None ≡ Start 1
+starts_before_stops = refl
+
+-- ---- seats
+
+seat_to_act_is_read : due_by (at 1 (Some 1) ∷ at 1 (Some 1) ∷ at 1 (Some 1) ∷ []) (Seated 0 ∷ Seated 0 ∷ []) 2 None None ≡ Read 1 0
+seat_to_act_is_read = refl
+
+where_an_act_waits_its_node_ticks : due_by (out ∷ asked 1 (Some 1) ∷ at 1 (Some 1) ∷ []) (Awaited 1 ∷ Seated 1 ∷ []) 2 None None ≡ Tick 1
+where_an_act_waits_its_node_ticks = refl
+
+elsewhere_it_may_wait : due_by (out ∷ asked 1 (Some 1) ∷ at 1 (Some 1) ∷ []) (Awaited 1 ∷ Seated 2 ∷ []) 2 None None ≡ Read 1 2
+elsewhere_it_may_wait = refl
+
+blank_node_of_a_seat_ticks : due_by (at 5 (Some 1) ∷ out ∷ at 5 (Some 1) ∷ at 0 None ∷ at 5 (Some 1) ∷ []) (Seated 3 ∷ Seated 3 ∷ []) 2 None None ≡ Tick 3
+blank_node_of_a_seat_ticks = refl
+
+gone_seat_is_awaited_at_the_next_node : due_by (out ∷ at 1 (Some 1) ∷ at 1 (Some 1) ∷ []) (Awaited 1 ∷ Awaited 1 ∷ []) 2 None None ≡ Await 1 1
+gone_seat_is_awaited_at_the_next_node = refl
+
+or_at_the_first_behind_it : running_from (at 1 None ∷ at 1 None ∷ out ∷ []) 2 ≡ 0
+or_at_the_first_behind_it = refl
+
+leaving_comes_before_frames : due_by (at 1 (Some 1) ∷ at 1 (Some 1) ∷ at 1 (Some 1) ∷ []) (Seated 0 ∷ Leaving 0 ∷ []) 2 (Some 9) None ≡ Drop 1 0
+leaving_comes_before_frames = refl
+
+failed_store_comes_before_all : due_by (at 1 (Some 1) ∷ to_start ∷ at 1 (Some 1) ∷ []) (Seated 0 ∷ Leaving 0 ∷ []) 2 (Some 9) (Some (repair.Start 1)) ≡ Start 1
+failed_store_comes_before_all = refl
+
+-- ---- the end
+
+over_where_it_is_over_at_all_that_run : due_by (out ∷ done 5 ∷ done 5 ∷ []) (Awaited 1 ∷ Seated 1 ∷ []) 2 (Some 9) None ≡ Over
+over_where_it_is_over_at_all_that_run = refl
+
+not_while_one_has_further_to_go : due_by (done 5 ∷ done 5 ∷ at 0 None ∷ []) (Awaited 1 ∷ Seated 1 ∷ []) 2 None None ≡ Tick 2
+not_while_one_has_further_to_go = refl
+
+one_that_is_behind_ticks : due_by (at 2 (Some 0) ∷ at 5 (Some 1) ∷ at 5 (Some 1) ∷ []) (Seated 1 ∷ Seated 1 ∷ []) 2 None None ≡ Tick 0
+one_that_is_behind_ticks = refl
+
+-- ---- how what is known goes on
+
+seat_of_a_stopped_node_is_awaited_behind_it : moved 1 2 (Seated 1) ≡ Awaited 2
+seat_of_a_stopped_node_is_awaited_behind_it = refl
+
+so_is_one_that_was_awaited_there : moved 1 2 (Awaited 1) ≡ Awaited 2
+so_is_one_that_was_awaited_there = refl
+
+seat_elsewhere_stays : moved 1 2 (Seated 0) ≡ Seated 0
+seat_elsewhere_stays = refl
+
+nothing_sent_is_no_frame : next_frame [] 0 ≡ None
+nothing_sent_is_no_frame = refl
+
+delivered_once : delivered_after (turn.Delivered 3) 3 ≡ 4
+delivered_once = refl
+
+and_by_nothing_else : delivered_after (turn.Ticked 0) 3 ≡ 3
+and_by_nothing_else = refl
+
+stopped_is_to_be_started : stopped 1 (Some (repair.Stop 1)) ≡ Some (repair.Start 1)
+stopped_is_to_be_started = refl
+
+another_node_stopped : stopped 0 (Some (repair.Stop 1)) ≡ Some (repair.Stop 1)
+another_node_stopped = refl
+
+started_is_mended : started 1 (Some (repair.Start 1)) ≡ None
+started_is_mended = refl
+
+seats_are_greeted_in_order : greeted_after 0 0 ≡ 1
+seats_are_greeted_in_order = refl
+
+seat_met_later_is_not_greeted_again : greeted_after 0 2 ≡ 2
+seat_met_later_is_not_greeted_again = refl
+
+whole_line : ends_in_line_feed (65 ∷ 10 ∷ []) ≡ true
+whole_line = refl
+
+end_of_a_connection : ends_in_line_feed (10 ∷ 65 ∷ []) ≡ false
+end_of_a_connection = refl
+
+-- ---- calls and their answers
+
+frame_to_a_node_that_is_down_is_lost : (bytes : _) → goes_on (event.Frame 0 1 bytes) (Err fault.Down) ≡ true
+frame_to_a_node_that_is_down_is_lost bytes = refl
+
+tick_of_a_node_that_is_down_ends_all : goes_on (event.Tick 0) (Err fault.Down) ≡ false
+tick_of_a_node_that_is_down_ends_all = refl
+
+line_is_its_seats : (bytes : _) → turn_of 0 (event.Line 0 1 bytes) ≡ turn.Read 1
+line_is_its_seats bytes = refl
+
+line_of_another_seat_is_not_due : (bytes : _) → IsForDue (Read 1 0) 0 (event.Line 0 0 bytes) → ⊥
+line_of_another_seat_is_not_due bytes (same, other) = cc
+
+tick_is_not_due_where_a_seat_is_read : IsForDue (Read 1 0) 0 (event.Tick 0) → ⊥
+tick_is_not_due_where_a_seat_is_read is = is
+
+seat_that_is_read_breaks_no_log : (plan : Plan) → MayFail plan (Read 1 0) LogFailed → ⊥
+seat_that_is_read_breaks_no_log plan may = may

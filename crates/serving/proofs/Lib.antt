@@ -1,0 +1,5 @@
+pub mod Examples
+mod Serving
+mod Sights
+mod Over
+mod Turns

@@ -1,0 +1,63 @@
+-- What is seen of a table.
+use Rattle.std.proofs.Common.{◌≡◌, ℕ, ◌+◌, List, [], ◌∷◌, ◌++◌, reverse, length, Some, None, refl, sym, ap, ◌∙◌, arith}
+use Rattle.std.specs.List.{slice_get}
+use Rattle.std.specs.Option.{option_map}
+use Rattle.std.proofs.lemmas.List.{reverse-append, length-reverse}
+use Rattle.game_def.specs.Game.{Game}
+use Rattle.betting.specs.declared.action.Action.{Action}
+use Rattle.betting.specs.Rounds.{to_act, turns}
+use Rattle.slot_log.specs.Hand.{Hand, Match}
+use Rattle.slot_log.specs.Dealer.{hand_at, is_match_over}
+use Rattle.slot_log.specs.declared.command.Command.{Command}
+use Rattle.matchstate.specs.View.{seat_of}
+use Rattle.dealer_kind.specs.Kind.{Setting, hands_after}
+use Rattle.dealer_node.specs.Scenes.{IsTableOf}
+use Rattle.serving.specs.Sights.{acting_seat}
+
+last_of : {A : Type 0} (xs : List A) (y : A) → slice_get (xs ++ y ∷ []) (length xs) ≡ Some y
+last_of [] y = refl
+last_of (x ∷ xs) y = last_of xs y
+
+newest_at : (newest : Hand) (earlier : List Hand) → hand_at (newest ∷ earlier) (length earlier) ≡ Some newest
+newest_at newest earlier =
+    ap (λ hs. slice_get hs (length earlier)) (reverse-append (newest ∷ []) earlier)
+    ∙ ap (λ n. slice_get (reverse earlier ++ newest ∷ []) n) (sym (length-reverse earlier)) ∙ last_of (reverse earlier) newest
+
+-- no hand was dealt
+pub none_acts : (game : Game) (hands : List Hand) → length hands ≡ 0 → None ≡ acting_seat game hands
+none_acts game [] none = refl
+none_acts game (newest ∷ earlier) none = absurd (omega arith)
+
+-- the newest hand, by its number
+pub acts_in : (game : Game) (hands : List Hand) (hand : ℕ) (past : List Action) → length hands ≡ hand + 1 → Some past ≡ option_map (λ found. found.past) (hand_at hands hand)
+    → option_map (seat_of game.players hand) (to_act game (turns game past)) ≡ acting_seat game hands
+acts_in game [] hand past count its_past = absurd (omega arith)
+acts_in game (newest ∷ earlier) hand past count its_past =
+    let number : hand ≡ length earlier = omega arith in
+    let at = ap (hand_at (newest ∷ earlier)) number ∙ newest_at newest earlier in
+    let past_is : Some past ≡ Some newest.past = its_past ∙ ap (option_map (λ found. found.past)) at in
+    let p : past ≡ newest.past = cc in
+    ap (λ n. option_map (seat_of game.players n) (to_act game (turns game past))) number
+    ∙ ap (λ (xs : List Action). option_map (seat_of game.players (length earlier)) (to_act game (turns game xs))) p
+
+-- a hand that was dealt is found
+pub is_found : (hands : List Hand) (hand : ℕ) → length hands ≡ hand + 1 → None ≡ option_map (λ found. found.past) (hand_at hands hand) → ⊥
+is_found [] hand count none = omega arith
+is_found (newest ∷ earlier) hand count none =
+    let number : hand ≡ length earlier = omega arith in
+    let at = ap (hand_at (newest ∷ earlier)) number ∙ newest_at newest earlier in
+    let past_is : None ≡ Some newest.past = none ∙ ap (option_map (λ found. found.past)) at in
+    cc
+
+-- the same of the table that commands make
+pub over_of : (setting : Setting) (applied : List Command) (table : Match) → IsTableOf setting applied table
+    → is_match_over table.game table.count table.hands ≡ is_match_over setting.game setting.title.hands (hands_after setting applied)
+over_of setting applied table is =
+    ap (λ (game : Game). is_match_over game table.count table.hands) is.game
+    ∙ ap (λ n. is_match_over setting.game n table.hands) is.count
+    ∙ ap (λ (hands : List Hand). is_match_over setting.game setting.title.hands hands) is.hands
+
+pub acting_of : (setting : Setting) (applied : List Command) (table : Match) → IsTableOf setting applied table
+    → acting_seat table.game table.hands ≡ acting_seat setting.game (hands_after setting applied)
+acting_of setting applied table is =
+    ap (λ (game : Game). acting_seat game table.hands) is.game ∙ ap (λ (hands : List Hand). acting_seat setting.game hands) is.hands

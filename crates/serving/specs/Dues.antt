@@ -1,0 +1,31 @@
+-- What is due of a cluster, by what a server knows beside it.
+use Rattle.std.specs.Prelude.{◌≡◌, ℕ, nat_lt, if◌then◌else◌, List, length, Option, Some, None}
+use Rattle.promise_store.specs.declared.disk.Disk.{Ghosts}
+use Rattle.dealer_node.specs.Nodes.{Node}
+use Rattle.dealer_world.specs.Records.{Frame}
+use Rattle.dealer_world.specs.Stepping.{View}
+use Rattle.serving.specs.declared.known.NodeSight.{NodeSight}
+use Rattle.serving.specs.declared.due.Due.{Due}
+use Rattle.serving.specs.declared.progress.Progress.{Progress}
+use Rattle.serving.specs.declared.waiting.Waiting.{Waiting}
+use Rattle.serving.specs.Next.{due_by}
+use Rattle.serving.specs.Outing.{outages_in}
+use Rattle.serving.specs.Placed.{places_in}
+use Rattle.serving.specs.Sights.{AreSights}
+use Rattle.serving.specs.Turning.{IsTaken}
+
+-- the number of the next frame, where more were sent than were delivered
+abbrev pub next_frame : List Frame → ℕ → Option ℕ
+next_frame sent delivered = if nat_lt delivered (length sent) then Some delivered else None
+
+module _ {D : Type 0} (g : Ghosts D) where
+  -- the first that is due, as the nodes are seen
+  pub record IsDue (view : View (Node D)) (progress : Progress) (what : Due) : Type 0 where
+    pub sights : List NodeSight
+    pub seen : AreSights g view.nodes (outages_in progress.outages) progress.count sights
+    pub first : what ≡ due_by sights (places_in progress.places) progress.greeted (next_frame view.all.sent progress.delivered) progress.repair
+
+  -- the event that a turn gives to the cluster: the one that waits, or else that of what is due
+  abbrev pub IsNext : View (Node D) → Progress → Option Waiting → Option Waiting → Type 0
+  IsNext view progress (Some waiting) found = found ≡ Some waiting
+  IsNext view progress None found = (what : Due) × IsDue view progress what × IsTaken what found

@@ -1,0 +1,15 @@
+pub mod FaultText
+pub mod Outing
+pub mod Placing
+pub mod Placed
+pub mod Next
+pub mod Turning
+pub mod Sights
+pub mod Lowest
+pub mod Dues
+pub mod Turned
+pub mod Repairs
+pub mod Going
+pub mod Served
+pub mod Serving
+pub mod Waits

@@ -1,0 +1,56 @@
+-- What a turn does.
+use Rattle.std.specs.Prelude.{◌≡◌, ◌⊎◌, ℕ, Bool, true, Some, None, Result, Ok, Err, OnOk}
+use Rattle.promise_store.specs.declared.disk.Disk.{Ghosts}
+use Rattle.dealer_node.specs.Nodes.{Node}
+use Rattle.dealer_node.specs.declared.fault.NodeFault.{NodeFault}
+use Rattle.dealer_node.specs.declared.fault.NodeFault.TheVariants as fault
+use Rattle.dealer_world.specs.Events.{node_of}
+use Rattle.dealer_world.specs.Stepping.{View, Stepped}
+use Rattle.serving.specs.declared.progress.Progress.{Progress}
+use Rattle.serving.specs.declared.waiting.Waiting.{Waiting}
+use Rattle.serving.specs.declared.due.Due.{Due}
+use Rattle.serving.specs.declared.turn.Turn.{Turn}
+use Rattle.serving.specs.declared.turn.Turn.TheVariants as turn
+use Rattle.serving.specs.declared.serve_fault.ServeFault.{ServeFault}
+use Rattle.serving.specs.Served.{Served}
+use Rattle.serving.specs.Dues.{IsDue, IsNext}
+use Rattle.serving.specs.Going.{Settled, IsKept, AsksRepair}
+use Rattle.serving.specs.Turning.{turn_of, IsWaiting, Tells, MayFail}
+
+-- a store's fault is mended where it is its first; others need nothing
+abbrev pub Mends : NodeFault → ℕ → Progress → Bool → Progress → Type 0
+Mends (fault.Store why) node old mends new = AsksRepair old node mends new
+Mends other node old mends new = (mends ≡ true) × (new ≡ old)
+
+-- what is known goes on after a call of a node was settled: a store that failed for the first time asks for repair, and seats that don't take a line leave
+abbrev pub Ends : Result (Unit {0}) NodeFault → Waiting → Progress → Progress → Type 0
+Ends (Err (fault.Store why)) waiting settled new = (asked : Progress) × AsksRepair settled (node_of waiting.event) true asked × IsKept asked new
+Ends other waiting settled new = IsKept settled new
+
+module _ {D : Type 0} (g : Ghosts D) where
+  -- what is known after an event was given and answered so
+  pub record Went (view : View (Node D)) (waiting : Waiting) (called : Result (Unit {0}) NodeFault) (old new : Progress) : Type 0 where
+    pub settled : Progress
+    pub settles : Settled g view waiting.event (turn_of waiting.number waiting.event) old settled
+    pub ends : Ends called waiting settled new
+
+  -- this event was given to the cluster, and answered so; where it found no memory it waits
+  pub record Gave (waiting : Waiting) (old : Served (Node D)) (answer : Result Turn ServeFault) (new : Served (Node D)) : Type 0 where
+    pub called : Result (Unit {0}) NodeFault
+    pub of_match : IsWaiting old.view waiting
+    pub stepped : Stepped g old.view waiting.event called new.view
+    pub tells : Tells (turn_of waiting.number waiting.event) waiting.event called answer
+    pub again : called ≡ Err fault.OutOfMemory → (new.waiting ≡ Some waiting) × (new.progress ≡ old.progress)
+    pub given : (called ≡ Err fault.OutOfMemory → ⊥) → new.waiting ≡ None
+    pub went : OnOk answer (Went new.view waiting called old.progress new.progress)
+
+  -- no call was made: all is over, or what is due couldn't be taken from the links
+  abbrev pub DidNothing : Served (Node D) → Result Turn ServeFault → Type 0
+  DidNothing old (Ok t) = (t ≡ turn.Over) × IsNext g old.view old.progress old.waiting None
+  DidNothing old (Err why) = (what : Due) × IsDue g old.view old.progress what × MayFail old.view.config what why
+
+  -- a turn did what is due: it gave the one event that is next to the cluster, or nothing
+  abbrev pub Turned : Served (Node D) → Result Turn ServeFault → Served (Node D) → Type 0
+  Turned old answer new =
+      ((new ≡ old) × DidNothing old answer)
+      ⊎ ((waiting : Waiting) × IsNext g old.view old.progress old.waiting (Some waiting) × Gave waiting old answer new)

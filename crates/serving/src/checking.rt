@@ -1,0 +1,51 @@
+//! Whether events are of a match.
+
+ghost use Rattle.std.specs.Prelude.{◌≡◌, ◌<◌, ◌↔◌, IsTrue, IfOk, IfErr};
+ghost use Rattle.std.specs.Option.{ForSome};
+ghost use Rattle.dealer_world.specs.Viewing.{view_of};
+ghost use Rattle.dealer_world.specs.Promise.{IsForMatch};
+ghost use Rattle.serving.specs.Turning.{IsFrameless, IsWaiting, IsOutside, IsForDue, IsTaken};
+ghost use Rattle.serving.specs.declared.serve_fault.ServeFault.TheVariants.{LinkFailed};
+
+use crate::due::Due;
+use crate::serve_fault::ServeFault;
+use crate::waiting::Waiting;
+use dealer_world::{Cluster, Event};
+use promise_store::Disk;
+
+/// Whether the nodes and the seat of an event are of a cluster's match.
+pub(crate) fn is_for<D: Disk + Drop>(cluster: &Cluster<D>, event: &Event) -> bool
+    ensures { IsTrue result ↔ IsForMatch (view_of cluster.now).config event.now }
+{
+    let nodes = cluster.node_count();
+    let players = cluster.config().game().players();
+    match event {
+        Event::Frame { from, to, .. } => (*from as usize) < nodes && (*to as usize) < nodes,
+        Event::Line { node, seat, .. }
+        | Event::Connect { node, seat }
+        | Event::Drop { node, seat } => (*node as usize) < nodes && (*seat as usize) < players,
+        Event::Tick { node } | Event::Stop { node, .. } | Event::Start { node } => {
+            (*node as usize) < nodes
+        }
+    }
+}
+
+/// An event that is no frame, for what is due, as it is to be given to a cluster of its match.
+pub(crate) fn checked<D: Disk + Drop>(
+    cluster: &Cluster<D>,
+    due: Due,
+    event: Event,
+) -> Result<Option<Waiting>, ServeFault>
+    requires frameless { IsFrameless event }
+    requires due { IsForDue due 0 event }
+    ensures due { IfOk result (IsTaken due) }
+    ensures waiting { IfOk result (λ found. ForSome found (λ waiting. IsWaiting (view_of cluster.now) waiting)) }
+    ensures fault { IfErr result (λ fault. (fault ≡ LinkFailed) × IsOutside (view_of cluster.now).config due) }
+{
+    let _due = due;
+    if is_for(cluster, &event) {
+        Ok(Some(Waiting { event, number: 0 }))
+    } else {
+        Err(ServeFault::LinkFailed)
+    }
+}

@@ -1,0 +1,42 @@
+ghost use Rattle.std.specs.Prelude.{◌≡◌};
+ghost use Rattle.match_file.specs.Outages.{is_out as keeps_out, is_node_out};
+
+use match_file::Outage;
+
+/// When which nodes of a match are out, by how many commands are applied.
+#[derive(Drop)]
+pub struct Outages {
+    listed: Vec<Outage>,
+}
+
+impl Outages {
+    ghost use Rattle.serving.specs.Outing.{outages_in};
+
+    /// These outages, as a match file lists them.
+    pub fn new(listed: Vec<Outage>) -> Outages
+        ensures { outages_in result ≡ listed.items }
+    {
+        Outages { listed }
+    }
+
+    /// Whether a node is out when so many commands are applied.
+    pub fn is_out(&self, node: usize, count: u64) -> bool
+        ensures { result ≡ is_node_out (outages_in self.now) count node }
+    {
+        self.listed
+            .iter()
+            .any(|outage| keeps_out(outage, node, count))
+    }
+}
+
+/// Whether an outage keeps a node out when so many commands are applied.
+fn keeps_out(outage: &Outage, node: usize, count: u64) -> bool
+    ensures { result ≡ keeps_out count node outage.now }
+{
+    outage.node == node
+        && outage.at <= count
+        && match outage.back {
+            Some(back) => count < back,
+            None => true,
+        }
+}

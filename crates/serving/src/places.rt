@@ -1,0 +1,97 @@
+ghost use Rattle.std.specs.Prelude.{◌≡◌, ◌≤◌, length, map, set, slice_get, IsTrue, ◌↔◌, Some};
+ghost use Rattle.serving.specs.Placing.{moved};
+ghost use Rattle.serving.specs.declared.place.Place.TheVariants.{Seated};
+
+use crate::place::Place;
+use arrayvec::ArrayVec;
+
+/// The most seats that a table has.
+const SEATS: usize = 10;
+
+/// Where each seat is; seats and nodes are counted from 0.
+#[derive(Debug, Drop)]
+pub(crate) struct Places {
+    all: ArrayVec<Place, SEATS>,
+}
+
+impl Places {
+    ghost use Rattle.serving.specs.Placed.{places_in};
+
+    /// So many seats, each awaited at node 0.
+    pub(crate) fn new(count: usize) -> Places
+        requires { count ≤ 10 }
+        ensures { length (places_in result) ≡ count }
+    {
+        let mut all = ArrayVec::new();
+        for pass in 0..count {
+            let _ = pass;
+            all.push(Place::Awaited(0));
+        }
+        Places { all }
+    }
+
+    /// Where each is.
+    pub(crate) fn as_slice(&self) -> &[Place]
+        ensures value { result.now ≡ places_in self.now }
+        ensures few { length result.now ≤ 10 }
+    {
+        self.all.as_slice()
+    }
+
+    /// Where a seat is; none of a number that no seat has.
+    pub(crate) fn at(&self, seat: usize) -> Option<Place>
+        ensures { result ≡ slice_get (places_in self.now) seat }
+    {
+        self.all.as_slice().get(seat).copied()
+    }
+
+    /// A seat is here now.
+    pub(crate) fn put(&mut self, seat: usize, place: Place)
+        ensures { places_in self.new ≡ set (places_in self.old) seat place }
+    {
+        put_at(self.all.as_mut_slice(), seat, place);
+    }
+
+    /// Whether a seat has a connection to this node.
+    pub(crate) fn is_seated(&self, seat: usize, node: u8) -> bool
+        ensures { IsTrue result ↔ (slice_get (places_in self.now) seat ≡ Some (Seated node)) }
+    {
+        matches!(self.at(seat), Some(Place::Seated(found)) if found == node)
+    }
+
+    /// All seats that were at a node, or awaited there, are awaited from another on.
+    pub(crate) fn move_on(&mut self, node: u8, next: u8)
+        ensures { places_in self.new ≡ map (moved node next) (places_in self.old) }
+    {
+        move_all(self.all.as_mut_slice(), node, next);
+    }
+}
+
+/// Puts a place where a seat's is.
+fn put_at(places: &mut [Place], seat: usize, place: Place)
+    ensures { places.new ≡ set places.old seat place }
+{
+    if seat < places.len() {
+        places[seat] = place;
+    }
+}
+
+fn move_all(places: &mut [Place], node: u8, next: u8)
+    ensures { places.new ≡ map (moved node next) places.old }
+{
+    for at in 0..places.len() {
+        places[at] = moved(places[at], node, next);
+    }
+}
+
+/// Where a seat is after a node stopped: where it was at that node, or awaited there, it is awaited from another on.
+fn moved(place: Place, node: u8, next: u8) -> Place
+    ensures { result ≡ moved node next place }
+{
+    match place {
+        Place::Awaited(found) | Place::Seated(found) | Place::Leaving(found) if found == node => {
+            Place::Awaited(next)
+        }
+        place => place,
+    }
+}

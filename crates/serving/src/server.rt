@@ -1,0 +1,239 @@
+ghost use Rattle.std.specs.Prelude.{◌≡◌, ◌↔◌, map, None, IsTrue, Err, IfOk, IfErr, OnOk};
+ghost use Rattle.std.specs.Option.{ForSome};
+ghost use Rattle.dealer_node.specs.declared.fault.NodeFault.TheVariants.{OutOfMemory};
+ghost use Rattle.dealer_world.specs.Viewing.{view_of};
+ghost use Rattle.dealer_world.specs.Promise.{IsPromised, HasNoForged};
+ghost use Rattle.dealer_node.specs.Seeing.{begun_of};
+ghost use Rattle.dealer_world.specs.Events.{node_of};
+ghost use Rattle.serving.specs.Dues.{IsNext};
+ghost use Rattle.serving.specs.Turned.{Turned, Gave, DidNothing, Ends, Mends};
+ghost use Rattle.serving.specs.Waits.{waits_prop};
+ghost use Rattle.serving.specs.Turning.{Tells, turn_of, goes_on, fault_in, IsWaiting};
+ghost use Rattle.serving.specs.declared.serve_fault.ServeFault.TheVariants.{LogFailed};
+
+use crate::desk::Desk;
+use crate::due::Due;
+use crate::outages::Outages;
+use crate::place::Place;
+use crate::serve_fault::ServeFault;
+use crate::turn::Turn;
+use crate::waiting::Waiting;
+use dealer_node::NodeFault;
+use dealer_world::{Cluster, Event};
+use match_links::Links;
+use promise_store::Disk;
+use std::alloc::Global;
+
+/// A match that is served: a cluster, its links, and when which nodes are out.
+///
+/// It changes the cluster by `Cluster::step` alone, so what is promised of a cluster's record holds of this one's,
+/// whatever the links answer.
+#[derive(Drop)]
+pub struct Server<D: Disk + Drop, L: Links + Drop> {
+    alloc: Global,
+    cluster: Cluster<D>,
+    desk: Desk<L>,
+    /// An event that found no memory, and is given again.
+    waiting: Option<Waiting>,
+    ghost waits: { ForSome waiting (IsWaiting (view_of cluster)) } by { waits_prop (view_of cluster) waiting },
+    ghost promised: { IsPromised D.Disk (view_of cluster) },
+}
+
+/// Whether the server goes on after a call of a node that was answered so: it was taken, or a frame was lost since its
+/// node is down, or the node's store failed, which is mended once.
+fn goes_on(event: &Event, answer: Result<(), NodeFault>) -> bool
+    ensures { result ≡ goes_on event.now answer }
+{
+    match answer {
+        Ok(()) => true,
+        Err(NodeFault::Down) => matches!(event, Event::Frame { .. }),
+        Err(NodeFault::Store(_)) => true,
+        Err(_) => false,
+    }
+}
+
+/// What refused a call, if anything did.
+fn fault_of(answer: Result<(), NodeFault>) -> Option<NodeFault>
+    ensures { result ≡ fault_in answer }
+{
+    match answer {
+        Ok(()) => None,
+        Err(fault) => Some(fault),
+    }
+}
+
+/// Whether it is want of memory.
+fn is_out_of_memory(answer: Result<(), NodeFault>) -> bool
+    ensures { IsTrue result ↔ (answer ≡ Err OutOfMemory) }
+{
+    matches!(answer, Err(NodeFault::OutOfMemory))
+}
+
+impl<D: Disk + Drop, L: Links + Drop> Server<D, L> {
+    ghost use Rattle.serving.specs.Serving.{served_of};
+
+    /// Serves a cluster over these links: each node's log is emptied, and gets what the node's log has.
+    ///
+    /// Refused is 106 where a log can't be emptied or written.
+    pub fn new(
+        alloc: Global,
+        cluster: Cluster<D>,
+        links: L,
+        outages: Outages,
+    ) -> Result<Server<D, L>, ServeFault>
+        requires { IsPromised D.Disk (view_of cluster) }
+        ensures cluster { IfOk result (λ server. view_of server.cluster ≡ view_of cluster) }
+        ensures fault { IfErr result (λ fault. fault ≡ LogFailed) }
+    {
+        cluster.config().game().limits();
+        let mut desk = Desk::new(links, outages, cluster.config().game().players());
+        desk.progress.count_commands(&cluster);
+        desk.empty_logs(&cluster)?;
+        desk.show(&cluster)?;
+        Ok(Server {
+            alloc,
+            cluster,
+            desk,
+            waiting: None,
+        })
+    }
+
+    /// Does the first thing that is due, by at most one call of a node: the one that the answer names. What the call
+    /// showed is given to its readers before the answer.
+    ///
+    /// By 92 nothing has changed, and the same turn comes again. After 105 and 106, and after another fault of a node,
+    /// the match can't go on.
+    pub fn turn(&mut self) -> Result<Turn, ServeFault>
+        ensures turned { Turned D.Disk (served_of self.old) result (served_of self.new) }
+        ensures promised { IsPromised D.Disk (view_of self.new.cluster) }
+        ensures unforged { HasNoForged (view_of self.old.cluster) → HasNoForged (view_of self.new.cluster) }
+        ensures begun { map (begun_of D.Disk) (view_of self.new.cluster).nodes ≡ map (begun_of D.Disk) (view_of self.old.cluster).nodes }
+    {
+        match self.take_waiting()? {
+            Some(waiting) => self.give(waiting),
+            None => {
+                self.desk.close(&self.cluster);
+                Ok(Turn::Over)
+            }
+        }
+    }
+
+    /// The event that is to be given next: one that found no memory, or a new one.
+    fn take_waiting(&mut self) -> Result<Option<Waiting>, ServeFault>
+        ensures same { self.new.cluster ≡ self.old.cluster }
+        ensures progress { self.new.desk.progress ≡ self.old.desk.progress }
+        ensures taken { self.new.waiting ≡ None }
+        ensures next { IfOk result (IsNext D.Disk (view_of self.old.cluster) self.old.desk.progress self.old.waiting) }
+        ensures waiting { IfOk result (λ found. ForSome found (λ event. IsWaiting (view_of self.old.cluster) event)) }
+        ensures fault { IfErr result (λ fault. (self.old.waiting ≡ None) × DidNothing D.Disk (served_of self.old) (Err fault)) }
+    {
+        match self.waiting.take() {
+            Some(waiting) => Ok(Some(waiting)),
+            None => self.desk.next(self.alloc, &self.cluster),
+        }
+    }
+
+    /// Gives an event to the cluster, and what that showed to its readers.
+    fn give(&mut self, waiting: Waiting) -> Result<Turn, ServeFault>
+        requires { IsWaiting (view_of self.old.cluster) waiting }
+        ensures gave { Gave D.Disk waiting (served_of self.old) result (served_of self.new) }
+        ensures begun { map (begun_of D.Disk) (view_of self.new.cluster).nodes ≡ map (begun_of D.Disk) (view_of self.old.cluster).nodes }
+    {
+        let answer = self.cluster.step(&waiting.event);
+        self.desk.last_fault = fault_of(answer);
+        if is_out_of_memory(answer) {
+            self.waiting = Some(waiting);
+            return Err(ServeFault::Node(NodeFault::OutOfMemory));
+        }
+        self.waiting = None;
+        self.desk.settle(&self.cluster, &waiting);
+        self.close(&waiting, answer)
+    }
+
+    /// Ends a turn whose event was answered so: what was shown is given to its readers.
+    fn close(
+        &mut self,
+        waiting: &Waiting,
+        answer: Result<(), NodeFault>,
+    ) -> Result<Turn, ServeFault>
+        ensures same { self.new.cluster ≡ self.old.cluster }
+        ensures waiting { self.new.waiting ≡ self.old.waiting }
+        ensures ends { OnOk result (Ends answer waiting.now self.old.desk.progress self.new.desk.progress) }
+        ensures tells { Tells (turn_of waiting.now.number waiting.now.event) waiting.now.event answer result }
+    {
+        match answer {
+            Ok(()) => {
+                self.desk.show(&self.cluster)?;
+                Ok(waiting.turn())
+            }
+            Err(fault) => self.mend(waiting, fault),
+        }
+    }
+
+    /// Ends a turn whose event was refused, where the server goes on.
+    fn mend(&mut self, waiting: &Waiting, fault: NodeFault) -> Result<Turn, ServeFault>
+        ensures same { self.new.cluster ≡ self.old.cluster }
+        ensures waiting { self.new.waiting ≡ self.old.waiting }
+        ensures ends { OnOk result (Ends (Err fault) waiting.now self.old.desk.progress self.new.desk.progress) }
+        ensures tells { Tells (turn_of waiting.now.number waiting.now.event) waiting.now.event (Err fault) result }
+    {
+        if !goes_on(&waiting.event, Err(fault)) || !self.mends(&waiting.event, fault) {
+            return Err(ServeFault::Node(fault));
+        }
+        self.desk.show(&self.cluster)?;
+        Ok(waiting.turn())
+    }
+
+    /// Whether a fault needs nothing, or a node's store failed for the first time.
+    fn mends(&mut self, event: &Event, fault: NodeFault) -> bool
+        ensures same { self.new.cluster ≡ self.old.cluster }
+        ensures waiting { self.new.waiting ≡ self.old.waiting }
+        ensures mended { Mends fault (node_of event.now) self.old.desk.progress result self.new.desk.progress }
+    {
+        match fault {
+            NodeFault::Store(_) => self.desk.progress.repairs(event.node()),
+            _ => true,
+        }
+    }
+
+    /// The cluster as it is.
+    pub fn cluster(&self) -> &Cluster<D>
+        ensures same { result.now ≡ self.now.cluster }
+        ensures promised { IsPromised D.Disk (view_of self.now.cluster) }
+    {
+        &self.cluster
+    }
+
+    /// The links.
+    pub fn links(&self) -> &L {
+        &self.desk.links
+    }
+
+    /// The node that was called last, counted from 0; 0 before the first call.
+    pub fn last_node(&self) -> u8 {
+        self.desk.last_node
+    }
+
+    /// By what the last call of a node was refused, if it was; a node whose store failed goes on to be stopped and started.
+    pub fn last_fault(&self) -> Option<NodeFault>
+        ensures { result ≡ self.now.desk.last_fault }
+    {
+        self.desk.last_fault
+    }
+
+    /// Where a seat is, counted from 0; none of a number that no seat has.
+    pub fn place(&self, seat: usize) -> Option<Place> {
+        self.desk.progress.place(seat)
+    }
+
+    /// Which seat the next turn will await at which node, if any.
+    pub fn awaited(&self) -> Option<(u8, u8)> {
+        if self.waiting.is_some() {
+            return None;
+        }
+        match self.desk.progress.due(&self.cluster) {
+            Due::Await { seat, node } => Some((seat, node)),
+            _ => None,
+        }
+    }
+}

@@ -1,0 +1,32 @@
+ghost use Rattle.std.specs.Prelude.{◌≡◌};
+ghost use Rattle.serving.specs.Turning.{turn_of};
+
+use crate::turn::Turn;
+use dealer_world::Event;
+
+/// An event that is to be given to the cluster; of a frame its number too, counted from 0 in the order of sending.
+#[derive(Debug, Drop)]
+pub(crate) struct Waiting {
+    pub(crate) event: Event,
+    pub(crate) number: usize,
+}
+
+impl Waiting {
+    /// The turn that gives it.
+    pub(crate) fn turn(&self) -> Turn
+        ensures { result ≡ turn_of self.now.number self.now.event }
+    {
+        match &self.event {
+            Event::Frame { .. } => Turn::Delivered(self.number),
+            Event::Line { seat, .. } => Turn::Read(*seat),
+            Event::Tick { node } => Turn::Ticked(*node),
+            Event::Connect { node, seat } => Turn::Seated {
+                seat: *seat,
+                node: *node,
+            },
+            Event::Drop { seat, .. } => Turn::Gone(*seat),
+            Event::Stop { node, .. } => Turn::Stopped(*node),
+            Event::Start { node } => Turn::Started(*node),
+        }
+    }
+}
