@@ -1,1 +1,4 @@
+mod ServingExamples
+pub mod Noting
+pub mod ServedTurns
 pub mod Scripting

@@ -2,6 +2,7 @@ ghost use Rattle.std.specs.Prelude.{◌≤◌};
 
 use crate::help::{
     AFTER_CHECK_HELP, AFTER_HAND_HELP, AFTER_HELP, AFTER_INIT_HELP, AFTER_PLAY_HELP,
+    AFTER_SERVE_HELP,
 };
 use clap::{Arg, ArgAction, ArgMatches, Command, value_parser};
 use slot_log::limits::HANDS;
@@ -17,6 +18,8 @@ pub(crate) enum Task<'a> {
     Play(&'a str),
     /// The word that names the match file.
     Init(&'a str),
+    /// The word that names the match file.
+    Serve(&'a str),
 }
 
 /// What `hand` is asked for.
@@ -51,7 +54,8 @@ pub(crate) fn command<'a>(alloc: Global) -> Result<Command<'a>, AllocError> {
         .subcommand(hand_command(alloc)?)?
         .subcommand(play_command(alloc)?)?
         .subcommand(check_command(alloc)?)?
-        .subcommand(init_command(alloc)?)
+        .subcommand(init_command(alloc)?)?
+        .subcommand(serve_command(alloc)?)
 }
 
 fn hand_command<'a>(alloc: Global) -> Result<Command<'a>, AllocError> {
@@ -99,6 +103,13 @@ fn init_command<'a>(alloc: Global) -> Result<Command<'a>, AllocError> {
         .arg(match_argument(alloc))
 }
 
+fn serve_command<'a>(alloc: Global) -> Result<Command<'a>, AllocError> {
+    Command::new(alloc, "serve")
+        .about("Deals a match to its seats over TCP")
+        .after_help(AFTER_SERVE_HELP)
+        .arg(match_argument(alloc))
+}
+
 fn match_argument<'a>(alloc: Global) -> Arg<'a> {
     Arg::new(alloc, "match")
         .value_name("MATCH")
@@ -128,6 +139,9 @@ pub(crate) fn requested<'a>(matches: &ArgMatches<'a>) -> Result<Task<'a>, Ending
     }
     if let Some(matches) = matches.subcommand_matches("init") {
         return Ok(Task::Init(word(matches, "match")?));
+    }
+    if let Some(matches) = matches.subcommand_matches("serve") {
+        return Ok(Task::Serve(word(matches, "match")?));
     }
     Err(Ending::WrongWords(WrongWords::Incomplete))
 }

@@ -134,3 +134,35 @@ docs/FAULTS.md says of each number what it means and what to do about it.
 Example:
   printf 'connect 0 0\\nline 0 0 VERSION:2.0.0\\ntick 0\\nflush 99\\n' > script
   holdem_table play examples/three.toml < script";
+
+pub(crate) const AFTER_SERVE_HELP: &str = "\
+MATCH is a match file: TOML with name, game, hands, names, a node table for
+each of three or five nodes, stores, logs, port, and perhaps outage. Its paths
+go from the working folder. The stores must be there: holdem_table init makes
+them. The logs node0.log and so on are emptied: copy old ones away first.
+
+Seat S is awaited at node I at port + I * (seats) + S on 127.0.0.1, first at
+node 0. It names the version, and then answers each line on which it is to
+act. Where its connection ends or is refused it dials the next node. Started
+again, serve goes on with the match that the stores have.
+
+Standard error has notes, one a line: ports, who is awaited where, who was
+seated or is gone, faults in what seats sent, nodes stopped and started, and
+at the end the score. Nothing is printed on standard output.
+
+Exit status:
+  0  the match is over
+  1  a port can't be bound or a node not be reached (105), a log can't be
+     opened or written (106), a store is refused, or failed and was no better
+     when its node was started again (91), a node can't go on (93, 94, 95), or
+     memory was refused (92)
+  2  the command line is wrong, MATCH is refused (100, 101, 102), or MATCH,
+     its game or a store can't be read (104)
+The last line of standard error says which; where a port or a file is at
+fault, the line before names it.
+docs/FAULTS.md says of each number what it means and what to do about it.
+
+Example:
+  mkdir stores logs
+  holdem_table init examples/three.toml
+  holdem_table serve examples/three.toml";

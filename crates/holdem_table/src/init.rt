@@ -2,6 +2,7 @@
 
 use match_file::MatchFile;
 use promise_store::{FileDisk, Store};
+use std::alloc::AllocError;
 use std::fs::File;
 use std::{fs, io};
 use streamed::Ending;
@@ -50,8 +51,8 @@ fn read(rt: &HostRuntime, path: &str) -> Result<Vec<u8>, Ending> {
 }
 
 /// The name of a node's store file.
-pub(crate) fn store_path(rt: &HostRuntime, folder: &str, node: u8) -> Result<String, Ending> {
-    Ok(format!(in rt.alloc(); "{folder}/node{node}.journal")?)
+pub(crate) fn store_path(rt: &HostRuntime, folder: &str, node: u8) -> Result<String, AllocError> {
+    format!(in rt.alloc(); "{folder}/node{node}.journal")
 }
 
 fn refuse_present(rt: &HostRuntime, folder: &str, node: u8) -> Result<(), Ending> {

@@ -1,18 +1,24 @@
 //! The program `holdem_table`: `hand` runs one dealer over a script, `play` all nodes of a match, `check` checks the log
-//! of a match, `init` makes the stores of a match's nodes.
+//! of a match, `init` makes the stores of a match's nodes, and `serve` deals it to seats over TCP.
 #![tactic(auto)]
 
 mod arguments;
+mod conclusion;
 mod help;
 mod init;
 mod late_file;
+mod note;
 mod play_run;
 mod scripted;
+mod serve;
+mod serve_run;
 
 use crate::arguments::{CheckArguments, HandArguments, Task, command, requested};
+use crate::conclusion::Conclusion;
 use crate::init::init;
 use crate::late_file::LateFile;
 use crate::play_run::play_run;
+use crate::serve::serve;
 use clap::error::ErrorKind;
 use clap::{ArgMatches, Error};
 use match_file::{MatchFault, MatchFile};
@@ -21,20 +27,22 @@ use std::{fs, io};
 pub use streamed::{Ending, GameWord, WrongWords, check_run, hand_run};
 
 fn main(rt: HostRuntime) -> ExitCode {
-    let ending = match words(&rt) {
+    let conclusion = match words(&rt) {
         Ok(words) => run(&rt, &words),
-        Err(error) => no_words(&error),
+        Err(error) => Conclusion::Ended(no_words(&error)),
     };
-    tell(&rt, ending);
-    ExitCode::from(ending.status())
+    tell(&rt, conclusion);
+    ExitCode::from(conclusion.status())
 }
 
-/// Prints what standard error gets of an ending.
-fn tell(rt: &HostRuntime, ending: Ending) {
-    match ending {
-        Ending::Done | Ending::SaidNo(_) | Ending::WrongWords(WrongWords::Told) => {}
+/// Prints the last line that standard error gets, if any.
+fn tell(rt: &HostRuntime, conclusion: Conclusion) {
+    match conclusion {
+        Conclusion::Ended(
+            Ending::Done | Ending::SaidNo(_) | Ending::WrongWords(WrongWords::Told),
+        ) => {}
         _ => {
-            let _ = eprintln!(rt; "{ending}");
+            let _ = eprintln!(rt; "{conclusion}");
         }
     }
 }
@@ -54,16 +62,17 @@ fn no_words(error: &io::Error) -> Ending {
 }
 
 /// Runs what the words ask for.
-fn run(rt: &HostRuntime, words: &[String]) -> Ending {
+fn run(rt: &HostRuntime, words: &[String]) -> Conclusion {
     match matches(rt, words) {
         Ok(matches) => match requested(&matches) {
-            Ok(Task::Hand(arguments)) => hand(rt, arguments),
-            Ok(Task::Check(arguments)) => check(rt, arguments),
-            Ok(Task::Play(path)) => play(rt, path),
-            Ok(Task::Init(path)) => init(rt, path),
-            Err(ending) => ending,
+            Ok(Task::Hand(arguments)) => Conclusion::Ended(hand(rt, arguments)),
+            Ok(Task::Check(arguments)) => Conclusion::Ended(check(rt, arguments)),
+            Ok(Task::Play(path)) => Conclusion::Ended(play(rt, path)),
+            Ok(Task::Init(path)) => Conclusion::Ended(init(rt, path)),
+            Ok(Task::Serve(path)) => serve(rt, path),
+            Err(ending) => Conclusion::Ended(ending),
         },
-        Err(error) => show(rt, &error),
+        Err(error) => Conclusion::Ended(show(rt, &error)),
     }
 }
 

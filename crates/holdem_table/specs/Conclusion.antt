@@ -1,0 +1,26 @@
+-- How the program ends: its exit status, and the last line that standard error gets.
+use Rattle.std.specs.Prelude.{◌≡◌, ℕ, List}
+use Rattle.serving.specs.FaultText.{fault_text}
+use Rattle.match_file.specs.declared.match_fault.MatchFault.TheVariants.{OutOfMemory}
+use Rattle.streamed.specs.declared.ending.Ending.TheVariants.{Done, Match, Unreadable}
+use Rattle.streamed.specs.Ending.{status_of as ending_status, ending_text}
+use Rattle.holdem_table.specs.declared.conclusion.Conclusion.{Conclusion}
+use Rattle.holdem_table.specs.declared.conclusion.Conclusion.TheVariants.{Ended, Served}
+
+-- the exit status; of a match that can't be served, or not to its end, it is 1
+abbrev pub status_of : Conclusion → ℕ
+status_of (Ended ending) = ending_status ending
+status_of (Served fault) = 1
+
+-- the last line that standard error gets: nothing where all was done, and where `check` said no
+abbrev pub conclusion_text : Conclusion → List ℕ
+conclusion_text (Ended ending) = ending_text ending
+conclusion_text (Served fault) = fault_text fault
+
+-- how `serve` ends: the match is over; or its file or game is refused; or a file can't be read; or with a fault of the server, want of memory always so
+abbrev pub IsOfServe : Conclusion → Type 0
+IsOfServe (Ended Done) = Unit {0}
+IsOfServe (Ended (Match why)) = why ≡ OutOfMemory → ⊥
+IsOfServe (Ended Unreadable) = Unit {0}
+IsOfServe (Ended other) = ⊥
+IsOfServe (Served fault) = Unit {0}

@@ -1,0 +1,251 @@
+//! `serve`: deals a match over TCP, from the files that a match file names.
+
+ghost use Rattle.std.specs.Prelude.{◌≡◌, ◌≤◌, IfOk, length};
+ghost use Rattle.holdem_table.specs.Conclusion.{IsOfServe};
+
+use crate::conclusion::{Conclusion, Unserved};
+use crate::init::store_path;
+use crate::note::{Note, tell};
+use crate::serve_run::serve_run;
+use arrayvec::ArrayVec;
+use dealer_kind::Config;
+use dealer_node::NodeFault;
+use dealer_world::Cluster;
+use match_file::{MatchFile, Service};
+use match_links::{Failed, PortFault, TcpLinks};
+use promise_store::{FileDisk, Store, StoreFault};
+use serving::{Outages, ServeFault, Server};
+use std::alloc::AllocError;
+use std::fs::File;
+use std::{fs, io};
+use streamed::Ending;
+
+/// A server over files and sockets.
+type TcpServer<'a> = Server<FileDisk, TcpLinks<'a>>;
+
+/// Deals the match of a match file to its end: listens for its seats, and keeps its stores and logs.
+///
+/// The match file's entries are looked at, its ports bound, its stores read and its logs opened, in this order, before
+/// anything is changed. `Ended` with `Match` or `Unreadable` (status 2) comes where the match file is refused, or it, its
+/// game or a store file can't be read; else it is `Done`, once the match is over. What else comes, want of memory too, is
+/// the fault of the server (status 1). Notes go to standard error, one a line; the one before a fault names its port or
+/// file, where it has one.
+pub(crate) fn serve(rt: &HostRuntime, path: &str) -> Conclusion
+    ensures { IsOfServe result }
+{
+    match serve_match(rt, path) {
+        Ok(()) => Conclusion::Ended(Ending::Done),
+        Err(why) => why.conclusion(),
+    }
+}
+
+fn serve_match(rt: &HostRuntime, path: &str) -> Result<(), Unserved> {
+    let text = read(rt, path)?;
+    let file = MatchFile::read(rt.alloc(), &text)?;
+    let game = read(rt, file.game()?)?;
+    let config = file.config(rt.alloc(), Some(&game))?;
+    let service = file.service(rt.alloc(), config.nodes())?;
+    let (stores, logs) = (service.stores, service.logs);
+    let mut server = begin(rt, config, service)?;
+    match serve_run(rt.alloc(), &mut server, &mut rt.stderr()) {
+        Ok(()) => Ok(()),
+        Err(fault) => {
+            note_failed(rt, &server, stores, logs, fault)?;
+            Err(Unserved::Fault(fault))
+        }
+    }
+}
+
+/// What a file has. A note names one that can't be read.
+fn read(rt: &HostRuntime, path: &str) -> Result<Vec<u8>, Unserved> {
+    match fs::read(rt, path) {
+        Ok(text) => Ok(text),
+        Err(error) => Err(unread(rt, path, &error)),
+    }
+}
+
+/// Why it isn't served where a file can't be read; a note names it, unless it is for want of memory.
+fn unread(rt: &HostRuntime, path: &str, error: &io::Error) -> Unserved {
+    let why = Unserved::unread(error);
+    if let Unserved::Unreadable = why {
+        note(rt, &Note::File(path));
+    }
+    why
+}
+
+/// Tells the port or the file where a turn failed.
+fn note_failed(
+    rt: &HostRuntime,
+    server: &TcpServer<'_>,
+    stores: &str,
+    logs: &str,
+    fault: ServeFault,
+) -> Result<(), Unserved> {
+    match (fault, server.links().failed()) {
+        (ServeFault::Node(NodeFault::Store(_)), _) => {
+            let path = store_path(rt, stores, server.last_node())?;
+            note(rt, &Note::File(path.as_str()));
+        }
+        (ServeFault::LinkFailed, Some(Failed::Port(port))) => note(rt, &Note::Port(port)),
+        (ServeFault::LogFailed, Some(Failed::Log(node))) => {
+            let path = log_path(rt, logs, node)?;
+            note(rt, &Note::File(path.as_str()));
+        }
+        _ => {}
+    }
+    Ok(())
+}
+
+/// Writes a note to standard error.
+fn note(rt: &HostRuntime, told: &Note<'_>) {
+    tell(rt.alloc(), &mut rt.stderr(), told);
+}
+
+/// Binds the ports, opens stores and logs, and makes the server.
+fn begin<'a>(
+    rt: &'a HostRuntime,
+    config: Config,
+    service: Service<'_>,
+) -> Result<TcpServer<'a>, Unserved>
+    requires { service.port ≤ 65000 }
+{
+    let nodes = config.nodes();
+    config.limits();
+    let mut links = bind(rt, service.port, nodes, config.game().players())?;
+    note_ports(rt, &config, &links);
+    let disks = open_stores(rt, service.stores, nodes)?;
+    let cluster = match Cluster::open(rt.alloc(), config, disks) {
+        Ok(cluster) => cluster,
+        Err(fault) => return Err(unbegun(rt, service.stores, fault.into())),
+    };
+    open_logs(rt, &mut links, service.logs, nodes)?;
+    let outages = Outages::new(service.outages);
+    match Server::new(rt.alloc(), cluster, links, outages) {
+        Ok(server) => Ok(server),
+        Err(fault) => Err(unbegun(rt, service.logs, fault)),
+    }
+}
+
+/// Why it isn't served where stores or logs that could be opened fail after all; a note names their folder.
+fn unbegun(rt: &HostRuntime, folder: &str, fault: ServeFault) -> Unserved {
+    if let ServeFault::LogFailed | ServeFault::Node(NodeFault::Store(_)) = fault {
+        note(rt, &Note::File(folder));
+    }
+    Unserved::Fault(fault)
+}
+
+/// Binds the ports. A note names one that can't be had.
+fn bind(rt: &HostRuntime, port: u16, nodes: usize, players: usize) -> Result<TcpLinks<'_>, Unserved>
+    requires port { port ≤ 65000 }
+    requires nodes { nodes ≤ 5 }
+    requires players { players ≤ 10 }
+{
+    match TcpLinks::bind(rt, port, nodes, players) {
+        Ok(links) => Ok(links),
+        Err(PortFault::Port(port)) => {
+            note(rt, &Note::Port(port));
+            Err(Unserved::Fault(ServeFault::LinkFailed))
+        }
+        Err(PortFault::OutOfMemory) => Err(Unserved::from(AllocError)),
+    }
+}
+
+/// Tells each seat's ports, node by node.
+fn note_ports(rt: &HostRuntime, config: &Config, links: &TcpLinks<'_>) {
+    for (seat, name) in config.names().as_slice().iter().enumerate() {
+        let mut ports: ArrayVec<u16, 5> = ArrayVec::new();
+        for node in 0..config.nodes() as u8 {
+            let _ = ports.try_push(links.seat_port(node, seat as u8));
+        }
+        let told = Note::Ports {
+            seat,
+            name: *name,
+            ports: ports.as_slice(),
+        };
+        note(rt, &told);
+    }
+}
+
+/// Opens the stores of so many nodes, and looks whether they are stores.
+fn open_stores(rt: &HostRuntime, folder: &str, nodes: usize) -> Result<Vec<FileDisk>, Unserved>
+    requires { nodes ≤ 5 }
+    ensures { IfOk result (λ disks. length disks.items ≡ nodes) }
+{
+    let mut disks = Vec::with_capacity(rt.alloc(), nodes)?;
+    for node in 0..nodes {
+        let path = store_path(rt, folder, node as u8)?;
+        let disk = open_store(rt, path.as_str(), node as u8, nodes as u8)?;
+        if disks.push(disk).is_err() {
+            return Err(Unserved::from(AllocError));
+        }
+    }
+    Ok(disks)
+}
+
+/// A store file that is there, and has a store of this node. A note names one that isn't.
+fn open_store(rt: &HostRuntime, path: &str, node: u8, nodes: u8) -> Result<FileDisk, Unserved> {
+    let file = match File::options().read(true).write(true).open(rt, path) {
+        Ok(file) => file,
+        Err(error) => return Err(unread(rt, path, &error)),
+    };
+    match Store::open(rt.alloc(), FileDisk::new(file), node, nodes) {
+        Ok(store) => Ok(store.close()),
+        Err((_, StoreFault::OutOfMemory)) => Err(Unserved::from(AllocError)),
+        Err((_, fault)) => {
+            note(rt, &Note::File(path));
+            Err(Unserved::Fault(ServeFault::Node(NodeFault::Store(fault))))
+        }
+    }
+}
+
+/// Opens the logs of so many nodes. No log is made before all that are there were looked at.
+fn open_logs(
+    rt: &HostRuntime,
+    links: &mut TcpLinks<'_>,
+    folder: &str,
+    nodes: usize,
+) -> Result<(), Unserved>
+    requires { nodes ≤ 5 }
+{
+    for node in 0..nodes {
+        let path = log_path(rt, folder, node as u8)?;
+        look_at_log(rt, path.as_str())?;
+    }
+    for node in 0..nodes {
+        let path = log_path(rt, folder, node as u8)?;
+        let log = open_log(rt, path.as_str())?;
+        links.add_log(log)?;
+    }
+    Ok(())
+}
+
+/// The name of a node's log.
+fn log_path(rt: &HostRuntime, folder: &str, node: u8) -> Result<String, AllocError> {
+    format!(in rt.alloc(); "{folder}/node{node}.log")
+}
+
+/// Whether a log that is there can be opened.
+fn look_at_log(rt: &HostRuntime, path: &str) -> Result<(), Unserved> {
+    match File::options().append(true).open(rt, path) {
+        Ok(_) => Ok(()),
+        Err(error) if error.kind() == io::ErrorKind::NotFound => Ok(()),
+        Err(error) => Err(no_log(rt, path, &error)),
+    }
+}
+
+/// A log, as it is: it is emptied only once all could be opened. One that isn't there is made.
+fn open_log(rt: &HostRuntime, path: &str) -> Result<File, Unserved> {
+    match File::options().append(true).create(true).open(rt, path) {
+        Ok(file) => Ok(file),
+        Err(error) => Err(no_log(rt, path, &error)),
+    }
+}
+
+/// Why it isn't served where a log can't be opened; a note names it, unless it is for want of memory.
+fn no_log(rt: &HostRuntime, path: &str, error: &io::Error) -> Unserved {
+    if error.kind() == io::ErrorKind::OutOfMemory {
+        return Unserved::from(AllocError);
+    }
+    note(rt, &Note::File(path));
+    Unserved::Fault(ServeFault::LogFailed)
+}

@@ -1,0 +1,278 @@
+"""What tests/serve stands on: a match with its files in a folder of its own, its players, and clients that aren't any."""
+import importlib.machinery
+import importlib.util
+import os
+import random
+import resource
+import shutil
+import signal
+import socket
+import subprocess
+import sys
+import tempfile
+import threading
+import time
+from pathlib import Path
+
+sys.dont_write_bytecode = True
+TOP = Path(__file__).resolve().parent.parent
+sys.path.insert(0, str(TOP / "examples/bots"))
+
+from player import dial, play
+
+# The longest wait for anything that has to happen, and how long is waited for what must not, in seconds.
+WAIT, QUIET = 40, 0.4
+# When all tests have to be done; nothing that has to happen is waited for beyond it.
+END = [None]
+# Where nothing waits for a disk, if there is such a place.
+FAST = "/dev/shm" if os.access("/dev/shm", os.W_OK) else None
+NAMES = ["alice", "bob", "carol"]
+
+
+def loaded(path):
+    """A script of this tree as a module."""
+    loader = importlib.machinery.SourceFileLoader(Path(path).name, str(TOP / path))
+    module = importlib.util.module_from_spec(importlib.util.spec_from_loader(loader.name, loader))
+    loader.exec_module(module)
+    return module
+
+
+class Wrong(Exception):
+    """What a test found otherwise than it must be."""
+
+
+def want(is_so, text):
+    if not is_so:
+        raise Wrong(text)
+
+
+def patience():
+    """How long anything that has to happen may still take, in seconds."""
+    return WAIT if END[0] is None else max(0.1, min(WAIT, END[0] - time.monotonic()))
+
+
+def waited(happened, text, notes=lambda: ""):
+    """Waits until something has happened, and fails where that takes too long, telling the notes. Its value."""
+    until = time.monotonic() + patience()
+    while time.monotonic() < until:
+        value = happened()
+        if value:
+            return value
+        time.sleep(0.005)
+    raise Wrong(f"waited in vain: {text}; {notes()}")
+
+
+def is_free(port):
+    with socket.socket() as tried:
+        try:
+            tried.bind(("127.0.0.1", port))
+        except OSError:
+            return False
+    return True
+
+
+def free_ports(count):
+    """The first of so many ports in a row that nobody uses, below those that a system gives to connections."""
+    for _ in range(1000):
+        port = random.randrange(10000, 32000 - count)
+        if all(is_free(port + place) for place in range(count)):
+            return port
+    raise Wrong("no free ports were found")
+
+
+class Match:
+    """A match's files in a folder, and the program that serves it."""
+
+    program = TOP / "crates/holdem_table/out/holdem_table"
+    made = []
+
+    def __init__(self, game, hands, sources, outages=(), place=FAST):
+        self.folder = Path(tempfile.mkdtemp(prefix="serve.", dir=place))
+        self.made.append(self)
+        self.starter = []
+        self.game = (TOP / "examples" / game).read_text() if game.endswith(".game") else game
+        self.word = game if game.endswith(".game") else "test.game"
+        self.players = 3 if game == "n3.game" else 2
+        self.nodes, self.process = len(sources), None
+        self.port = free_ports(self.nodes * (self.players + 1))
+        (self.folder / self.word).write_text(self.game)
+        (self.folder / "stores").mkdir()
+        (self.folder / "logs").mkdir()
+        entries = [
+            'name = "m1"', f'game = "{self.word}"', f"hands = {hands}", f"names = {NAMES[:self.players]}".replace("'", '"'),
+            'stores = "stores"', 'logs = "logs"', f"port = {self.port}", f"node = [{', '.join(sources)}]",
+        ]
+        entries += [f"[[outage]]\n{outage}" for outage in outages]
+        (self.folder / "m.toml").write_text("\n".join(entries) + "\n")
+
+    def run(self, *words):
+        return subprocess.run([self.program, *words], cwd=self.folder, capture_output=True, timeout=patience(), stdin=subprocess.DEVNULL)
+
+    def init(self):
+        ran = self.run("init", "m.toml")
+        want(ran.returncode == 0, f"init ended with {ran.returncode}: {ran.stderr.decode()}")
+        return self
+
+    def start(self, file_size=None, stderr=None):
+        """Starts `serve`; with a size, no file may grow beyond it; its notes may go elsewhere than into their file."""
+        def limit():
+            signal.signal(signal.SIGXFSZ, signal.SIG_IGN)
+            resource.setrlimit(resource.RLIMIT_FSIZE, (file_size, file_size))
+
+        with open(self.folder / "notes", "wb") as notes, open(self.folder / "printed", "wb") as printed:
+            self.process = subprocess.Popen(
+                [*self.starter, self.program, "serve", "m.toml"], cwd=self.folder, stdin=subprocess.DEVNULL, stdout=printed,
+                stderr=stderr or notes, preexec_fn=limit if file_size is not None else None,
+            )
+        return self
+
+    def seat(self, seat):
+        """The ports of a seat, by node."""
+        return [self.port + node * self.players + seat for node in range(self.nodes)]
+
+    def notes(self):
+        return (self.folder / "notes").read_text(errors="replace").splitlines()
+
+    def last_notes(self):
+        return f"the last notes are {self.notes()[-5:]}"
+
+    def await_note(self, text):
+        waited(lambda: text in self.notes() or self.process.poll() is not None, f"the note {text!r}", self.last_notes)
+        want(text in self.notes(), f"no note {text!r}; {self.last_notes()}")
+
+    def await_seat(self, seat, node):
+        self.await_note(f"awaiting seat {seat} ({NAMES[seat]}) at node {node}, port {self.seat(seat)[node]}")
+
+    def fault(self, seat, node, text):
+        """The note of a fault of a seat's session."""
+        return f"seat {seat} ({NAMES[seat]}) at node {node}: {text}"
+
+    def await_status(self):
+        waited(lambda: self.process.poll() is not None, "the end of serve", self.last_notes)
+        return self.process.returncode
+
+    def goes_on(self):
+        """Nothing ends within a while."""
+        time.sleep(QUIET)
+        want(self.process.poll() is None, f"serve ended with {self.process.poll()}: {self.notes()}")
+
+    def ends(self, status=0, last=None):
+        """`serve` ends with this status, this last note, and nothing on standard output."""
+        got = self.await_status()
+        want(got == status, f"status {got}, not {status}: {self.notes()[-5:]}")
+        want(last is None or self.notes()[-1:] == [last], f"the last note isn't {last!r}: {self.notes()[-5:]}")
+        printed = (self.folder / "printed").read_bytes()
+        want(printed == b"", f"standard output has {printed!r}")
+
+    def kill(self):
+        if self.process is not None:
+            self.process.kill()
+            self.process.wait()
+
+    def remove(self):
+        self.kill()
+        shutil.rmtree(self.folder)
+
+    def log(self, node):
+        return (self.folder / f"logs/node{node}.log").read_text()
+
+    def is_right(self, *nodes):
+        """The logs of these nodes, or of all, are the same, and `check` accepts them."""
+        nodes = nodes or range(self.nodes)
+        logs = {self.log(node) for node in nodes}
+        want(len(logs) == 1, f"the logs of nodes {list(nodes)} differ")
+        for node in nodes:
+            ran = self.run("check", self.word, f"logs/node{node}.log")
+            want((ran.returncode, ran.stdout) == (0, b"yes\n"), f"check says {ran.stdout!r} of node {node}'s log")
+        return logs.pop()
+
+
+class Player(threading.Thread):
+    """A player who keeps the lines that he gets, and may do something when he has got so many."""
+
+    def __init__(self, ports, answer, node=0, after=None, then=None):
+        super().__init__(daemon=True)
+        self.ports, self.answer, self.node, self.after, self.then = ports, answer, node, after, then
+        self.lines = []
+        self.start()
+
+    def run(self):
+        play(self.ports, self.take, self.node)
+
+    def take(self, line):
+        self.lines.append(line)
+        if len(self.lines) == self.after:
+            self.then()
+        return self.answer(line)
+
+    def ends(self):
+        """All lines that he got, where he has gone home."""
+        self.join(patience())
+        want(not self.is_alive(), "a player is still there")
+        return self.lines
+
+
+class Client:
+    """A client that does what it is told to."""
+
+    def __init__(self, port, version="VERSION:2.0.0\r\n", room=None):
+        self.rest, self.connection = b"", waited(lambda: self.dialled(port, room), f"a connection to port {port}")
+        self.send(version)
+
+    def dialled(self, port, room):
+        if room is None:
+            return dial(port)
+        connection = socket.socket()
+        connection.setsockopt(socket.SOL_SOCKET, socket.SO_RCVBUF, room)
+        try:
+            connection.connect(("127.0.0.1", port))
+        except OSError:
+            return None
+        connection.settimeout(patience())
+        return connection
+
+    def send(self, text):
+        try:
+            self.connection.sendall(text.encode() if isinstance(text, str) else text)
+        except OSError:
+            pass
+
+    def line(self):
+        """The next line, without its end; none where the connection has ended."""
+        while b"\r\n" not in self.rest:
+            got = self.received()
+            if not got:
+                return None
+            self.rest += got
+        line, self.rest = self.rest.split(b"\r\n", 1)
+        return line.decode("ascii")
+
+    def received(self):
+        try:
+            return self.connection.recv(4096)
+        except socket.timeout:
+            raise Wrong("a client waited in vain for a line")
+        except OSError:
+            return b""
+
+    def gets_nothing(self):
+        self.connection.settimeout(QUIET)
+        try:
+            got = self.connection.recv(1)
+        except socket.timeout:
+            got = None
+        except OSError:
+            got = b""
+        self.connection.settimeout(patience())
+        want(got is None, f"a client got {got!r}, where nothing was to come")
+
+    def is_closed(self):
+        """The dealer ends the connection, whatever came before."""
+        while self.received():
+            pass
+
+    def close(self):
+        self.connection.close()
+
+
+socket.setdefaulttimeout(WAIT)
