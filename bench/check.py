@@ -21,7 +21,9 @@ RUNS = 3
 # Runs the words and writes how many nanoseconds they took, their peak of memory in KiB, and their status. (The
 # peak that a child of this script itself would have holds this script's own.)
 RUNNER = r"""
+#include <signal.h>
 #include <stdio.h>
+#include <sys/prctl.h>
 #include <sys/resource.h>
 #include <sys/wait.h>
 #include <time.h>
@@ -33,6 +35,8 @@ int main(int argc, char **argv) {
     clock_gettime(CLOCK_MONOTONIC, &before);
     pid_t child = fork();
     if (child == 0) {
+        /* Who ends the runner ends what it runs. */
+        prctl(PR_SET_PDEATHSIG, SIGKILL);
         execv(argv[1], argv + 1);
         _exit(127);
     }

@@ -1,17 +1,22 @@
 #!/usr/bin/env python3
-"""Times `holdem_table serve` and prints figures: bench/serve.py [RUNS] [FOLDER] [PROGRAM].
+"""Times `holdem_table serve` and prints figures beside their limits: bench/serve.py [RUNS] [FOLDER] [PROGRAM].
 
-Build the program first (./check, or `rt run` in crates/holdem_table). Two players in C call through a match of limit
-hold'em over TCP. With the stores in FOLDER (the working folder by default) and in memory, with three nodes and with
-five, such a match and a C program that makes the same disk calls in the same order are run in turn, RUNS times each
-(10 by default): printed are the medians and the ranges of commands a second, and the ratio. Then, how long an act at a
-new node waits for its line when a node was lost, the worst of a hundred losses; and with stores in memory what the
-process takes at 1,000 and at 10,000 hands. Where /dev/shm isn't there, what goes by memory is left out.
+Build the program first (./check, or `rt run` in crates/holdem_table), and let nothing else run: all takes five to ten
+minutes. Two players in C call through matches of limit hold'em over TCP. With the stores in FOLDER (the working folder by
+default) and in memory, with three nodes and with five, such a match and a C program that makes the same disk calls in the
+same order (the floor) are run in turn, RUNS times each (10 by default): printed are medians and ranges of commands a
+second, and their ratio. Where a sync in FOLDER takes less than 0.3 ms the same is done once more with each sync of both
+programs made as long as that, by a library that is loaded before them. Then, how long the first act at a new node waits
+for its line when a node was lost, the worst of a hundred losses; and with stores in memory what the process takes at
+1,000 and at 10,000 hands. The last lines are a table of the aims: each is met or not, and the status is 1 where one isn't.
+Where /dev/shm isn't there, what goes by memory is left out.
 """
+import os
 import statistics
 import subprocess
 import sys
 import tempfile
+import time
 from pathlib import Path
 
 sys.dont_write_bytecode = True
@@ -21,19 +26,41 @@ sys.path.insert(0, str(TOP / "tests"))
 from check import RUNNER
 from serving import FAST, Match
 
-PLAYER = r"""
-/* A player of limit hold'em for two who calls: words are the ports of its seat, by node. At the end it prints how many
-   lines it got, the nanoseconds from the first to the last, the longest wait from an act to its line, how many acts were
-   the first at a new node, and the longest wait of these. */
+# What a sync takes at least in the runs by which `serve` is compared with the floor, in seconds.
+SYNC = 300e-6
+# About how long a run beside its floor is to take, in seconds, and the fewest and the most hands of it.
+RUN_TAKES, FEWEST, MOST = 2.0, 20, 1000
+# How many commands a hand has, where nobody raises or folds: a deal and eight calls.
+OF_A_HAND = 9
+LOSSES = 100
+# The limits of the aims.
+OF_THE_FLOOR = 0.85
+BEYOND = {3: 250, 5: 500}
+FIRST_ACT, ANY_LINE = 10.0, 40.0
+A_COMMAND, SLOWER = 2048, 1.1
+
+PLAYERS = r"""
+/* Two players of limit hold'em who call: words are the count of nodes, and for each seat its ports, by node. Printed are
+   the number of the last command whose line seat 0 got, the nanoseconds from its first line to its last, the longest time
+   from an act to the lines that came of it, at either seat (of a deal, from the act before it), how many acts were the
+   first at a new node and had their line there, and the longest time of one of these. */
+#define _GNU_SOURCE
 #include <arpa/inet.h>
 #include <netinet/tcp.h>
+#include <stdatomic.h>
 #include <stdio.h>
 #include <stdlib.h>
 #include <string.h>
+#include <sys/mman.h>
 #include <sys/socket.h>
+#include <sys/wait.h>
 #include <time.h>
 #include <unistd.h>
-static long long first, last, lines, worst, moves, worst_move;
+enum { SEATS = 2, COMMANDS = 1 << 17, OF_A_HAND = 9 };
+static struct shared {
+    _Atomic long long acted[COMMANDS];
+    struct found { long long last_command, first, last, longest, moves, longest_move; } found[SEATS];
+} *shared;
 static long long now(void) {
     struct timespec time;
     clock_gettime(CLOCK_MONOTONIC, &time);
@@ -49,6 +76,13 @@ static int dial(int port) {
     setsockopt(link, IPPROTO_TCP, TCP_NODELAY, &yes, sizeof yes);
     return link;
 }
+/* The number of the command after which a line shows the table, counted from 1. */
+static long long command_of(const char *line) {
+    char *at;
+    long long hand = strtoll(line + 13, &at, 10), calls = 0;
+    for (at++; *at != ':'; at++) calls += *at == 'c';
+    return OF_A_HAND * hand + 1 + calls;
+}
 /* Whether the player who got the line is to act, where nobody folds or raises: two calls a round, the first of the first
    round by position 1, of the others by position 0. */
 static int is_to_act(const char *line) {
@@ -60,10 +94,20 @@ static int is_to_act(const char *line) {
     }
     return calls < 2 && position == ((round == 0) + calls) % 2;
 }
-static void sit(int link, int has_moved) {
+/* Takes note of a line that came, where it is of a command that the seat hasn't had a line of. */
+static void take_note(struct found *found, long long command, long long time) {
+    if (command <= found->last_command || command >= COMMANDS) return;
+    found->last_command = command;
+    found->last = time;
+    if (!found->first) found->first = time;
+    long long cause = shared->acted[command] ? shared->acted[command] : shared->acted[command - 1];
+    if (cause && time - cause > found->longest) found->longest = time - cause;
+}
+static void sit(int link, int has_moved, struct found *found) {
     char text[8192], answer[4096];
-    int size = 0, got, has_acted = 0;
-    long long acted = 0;
+    int size = 0, got;
+    /* The command that this seat's first act here comes to, and when it was sent; -1 once its line has come. */
+    long long awaited = 0, acted = 0;
     if (write(link, "VERSION:2.0.0\r\n", 15) != 15) return;
     while ((got = read(link, text + size, sizeof text - 1 - size)) > 0) {
         long long time = now();
@@ -72,18 +116,18 @@ static void sit(int link, int has_moved) {
         char *line = text, *end;
         while ((end = strstr(line, "\r\n"))) {
             *end = 0;
-            if (!first) first = time;
-            last = time;
-            lines++;
-            if (acted && has_moved && !has_acted) {
-                moves++;
-                has_acted = 1;
-                if (time - acted > worst_move) worst_move = time - acted;
-            } else if (acted && time - acted > worst) worst = time - acted;
-            acted = 0;
+            long long command = command_of(line);
+            take_note(found, command, time);
+            if (has_moved && awaited > 0 && command >= awaited) {
+                found->moves++;
+                if (time - acted > found->longest_move) found->longest_move = time - acted;
+                awaited = -1;
+            }
             if (is_to_act(line)) {
                 int length = snprintf(answer, sizeof answer, "%s:c\r\n", line);
-                acted = now();
+                long long begun = now();
+                if (!awaited) awaited = command + 1, acted = begun;
+                if (command + 1 < COMMANDS) shared->acted[command + 1] = begun;
                 if (write(link, answer, length) != length) return;
             }
             line = end + 2;
@@ -92,21 +136,34 @@ static void sit(int link, int has_moved) {
         memmove(text, line, size);
     }
 }
-int main(int count, char **words) {
-    int nodes = count - 1, node = 0, refusals = 0, has_moved = 0, link, tries = 0;
-    while ((link = dial(atoi(words[1]))) < 0 && tries++ < 10000) usleep(1000);
+static void play(int nodes, char **ports, struct found *found) {
+    int node = 0, refusals = 0, has_moved = 0, link, tries = 0;
+    while ((link = dial(atoi(ports[0]))) < 0 && tries++ < 10000) usleep(1000);
     while (refusals < nodes) {
         if (link < 0) refusals++;
         else {
             refusals = 0;
-            sit(link, has_moved);
+            sit(link, has_moved, found);
             close(link);
             has_moved = 1;
         }
         node = (node + 1) % nodes;
-        link = dial(atoi(words[1 + node]));
+        link = dial(atoi(ports[node]));
     }
-    printf("%lld %lld %lld %lld %lld\n", lines, last - first, worst, moves, worst_move);
+}
+int main(int count, char **words) {
+    int nodes = count > 1 ? atoi(words[1]) : 0;
+    shared = mmap(0, sizeof *shared, PROT_READ | PROT_WRITE, MAP_SHARED | MAP_ANONYMOUS, -1, 0);
+    if (shared == MAP_FAILED || count != 2 + SEATS * nodes) return 1;
+    for (int seat = 0; seat < SEATS; seat++)
+        if (fork() == 0) {
+            play(nodes, words + 2 + seat * nodes, &shared->found[seat]);
+            return 0;
+        }
+    for (int seat = 0; seat < SEATS; seat++) wait(0);
+    struct found a = shared->found[0], b = shared->found[1];
+    printf("%lld %lld %lld %lld %lld\n", a.last_command, a.last - a.first, a.longest > b.longest ? a.longest : b.longest,
+        a.moves + b.moves, a.longest_move > b.longest_move ? a.longest_move : b.longest_move);
     return 0;
 }
 """
@@ -182,46 +239,100 @@ int main(int count, char **words) {
 }
 """
 
+SLOW_SYNC = r"""
+/* Loaded before a program, makes each of its fdatasync calls take at least as many nanoseconds as SYNC_TAKES says, the
+   rest of them asleep, as where a disk is waited for; and counts the calls in the first eight bytes of the file that
+   SYNC_COUNT names. */
+#define _GNU_SOURCE
+#include <errno.h>
+#include <fcntl.h>
+#include <stdlib.h>
+#include <sys/mman.h>
+#include <sys/prctl.h>
+#include <sys/syscall.h>
+#include <time.h>
+#include <unistd.h>
+static long long takes, none, *calls = &none;
+__attribute__((constructor)) static void begin(void) {
+    const char *takes_text = getenv("SYNC_TAKES"), *name = getenv("SYNC_COUNT");
+    takes = takes_text ? atoll(takes_text) : 0;
+    int file = name ? open(name, O_RDWR) : -1;
+    void *found = file < 0 ? MAP_FAILED : mmap(0, sizeof none, PROT_READ | PROT_WRITE, MAP_SHARED, file, 0);
+    if (found != MAP_FAILED) calls = found;
+    if (file >= 0) close(file);
+    prctl(PR_SET_TIMERSLACK, 1);
+}
+int fdatasync(int file) {
+    struct timespec until;
+    clock_gettime(CLOCK_MONOTONIC, &until);
+    until.tv_nsec += takes;
+    until.tv_sec += until.tv_nsec / 1000000000;
+    until.tv_nsec %= 1000000000;
+    int answer = syscall(SYS_fdatasync, file), why = errno;
+    while (clock_nanosleep(CLOCK_MONOTONIC, TIMER_ABSTIME, &until, 0) == EINTR) {}
+    ++*calls;
+    errno = why;
+    return answer;
+}
+"""
 
-def built(name, source, folder):
-    """The path of a C program, built of this text."""
+
+def built(name, source, folder, *more):
+    """The path of what is built of a text in C."""
     path = Path(folder) / name
     path.with_suffix(".c").write_text(source)
-    subprocess.run(["cc", "-O2", "-o", path, path.with_suffix(".c")], check=True)
+    subprocess.run(["cc", "-O2", *more, "-o", path, path.with_suffix(".c")], check=True)
     return path
 
 
 class Tools:
-    """The C programs."""
+    """The C programs, and the library that makes syncs slow."""
 
     def __init__(self, folder):
-        self.runner, self.player, self.floor = (
-            built(name, source, folder) for name, source in (("runner", RUNNER), ("player", PLAYER), ("floor", FLOOR))
+        self.runner, self.players, self.floor = (
+            built(name, source, folder) for name, source in (("runner", RUNNER), ("players", PLAYERS), ("floor", FLOOR))
         )
+        self.slow_sync = built("slow_sync.so", SLOW_SYNC, folder, "-shared", "-fPIC")
+        self.count = Path(folder) / "count"
+
+    def slowed(self, sync):
+        """The words before a program whose syncs take at least so long; none where they take what they take."""
+        if sync is None:
+            return []
+        self.count.write_bytes(bytes(8))
+        settings = [f"LD_PRELOAD={self.slow_sync}", f"SYNC_TAKES={sync * 1e9:.0f}", f"SYNC_COUNT={self.count}"]
+        return ["/usr/bin/env", *settings]
+
+    def slowed_calls(self):
+        """How many syncs the last program that was to be slowed has made by the library."""
+        return int.from_bytes(self.count.read_bytes(), sys.byteorder)
 
 
 class Run:
     """A match from its beginning to its end, and what was measured. Times are in seconds, memory in bytes."""
 
-    def __init__(self, tools, nodes, hands, place, outages=()):
+    def __init__(self, tools, nodes, hands, place, outages=(), sync=None):
         self.match = Match("l2.game", hands, [f"{{seed = {seed}}}" for seed in range(nodes)], outages, place=place).init()
-        self.match.starter = [tools.runner]
+        self.match.starter = [tools.runner, *tools.slowed(sync)]
         self.match.start()
-        players = [
-            subprocess.Popen([tools.player, *map(str, self.match.seat(seat))], stdout=subprocess.PIPE, text=True) for seat in (0, 1)
-        ]
-        said = [list(map(int, player.communicate()[0].split())) for player in players]
-        if self.match.process.wait() != 0:
-            sys.exit(f"serve ended badly: {self.match.notes()[-3:]}")
-        self.peak = int(self.match.notes()[-1].split()[1]) * 1024
+        ports = [str(port) for seat in (0, 1) for port in self.match.seat(seat)]
+        ran = subprocess.run([tools.players, str(nodes), *ports], check=True, capture_output=True, text=True)
+        self.match.process.wait()
+        _, peak, status = map(int, self.match.notes()[-1].split())
+        if status != 0:
+            sys.exit(f"serve ended with {status}: {self.match.notes()[-4:-1]}")
+        if sync is not None and tools.slowed_calls() == 0:
+            sys.exit("the library that makes syncs slow isn't reached by the program")
+        command, nanoseconds, longest, self.moves, longest_move = map(int, ran.stdout.split())
+        if command != OF_A_HAND * hands:
+            sys.exit(f"the players got lines of {command} commands, not of {OF_A_HAND * hands}")
         # The first line is that of the first deal.
-        self.commands, self.seconds = said[0][0] - 1, said[0][1] / 1e9
-        self.worst = max(worst for _, _, worst, _, _ in said) / 1e9
-        self.moves, self.worst_move = sum(found[3] for found in said), max(found[4] for found in said) / 1e9
+        self.commands, self.seconds, self.peak = command - 1, nanoseconds / 1e9, peak * 1024
+        self.longest, self.longest_move = longest / 1e6, longest_move / 1e6
 
-    def floor(self, tools):
+    def floor(self, tools, sync=None):
         """How long the same calls take, and how long one sync of them."""
-        words = [tools.floor, str(self.match.nodes), self.match.folder / "stores"]
+        words = [*tools.slowed(sync), tools.floor, str(self.match.nodes), self.match.folder / "stores"]
         nanoseconds, syncs = map(int, subprocess.run(words, check=True, capture_output=True, text=True).stdout.split())
         return nanoseconds / 1e9, nanoseconds / 1e9 / max(syncs, 1)
 
@@ -230,67 +341,165 @@ class Run:
         return self
 
 
-def spread(values):
-    return f"{statistics.median(values):,.0f} ({min(values):,.0f} to {max(values):,.0f})"
+class Aims:
+    """What was to be reached, and what was."""
+
+    def __init__(self):
+        self.rows = []
+
+    def take(self, name, figure, limit, is_met):
+        self.rows.append((name, figure, limit, "met" if is_met else "NOT MET"))
+
+    def table(self):
+        rows = [("aim", "figure", "limit", ""), *self.rows]
+        widths = [max(len(row[column]) for row in rows) for column in range(4)]
+        return "\n".join("  ".join(text.ljust(width) for text, width in zip(row, widths)).rstrip() for row in rows)
 
 
-def compare(tools, nodes, hands, place, runs):
-    """Commands a second of `serve` and of the same disk calls alone."""
-    ours, floors, syncs, beyond, worst = [], [], [], [], 0
-    for _ in range(runs):
-        run = Run(tools, nodes, hands, place)
-        seconds, sync = run.floor(tools)
-        run.done()
-        ours.append(run.commands / run.seconds)
-        floors.append(run.commands / seconds)
-        syncs.append(sync)
-        beyond.append((run.seconds - seconds) / run.commands * 1e6)
-        worst = max(worst, run.worst)
-    print(f"{nodes} nodes, {run.commands:,} commands, stores in {place or 'the temporary folder'}, {runs} runs each:")
-    print(f"  serve {spread(ours)} commands a second, the same disk calls in C {spread(floors)}", end=": ")
-    print(f"{statistics.median(ours) / statistics.median(floors):.2f} of them")
-    print(f"  a sync takes {statistics.median(syncs) * 1e3:.3f} ms; beyond the disk calls a command takes {spread(beyond)} microseconds")
-    print(f"  the longest wait from an act to its line: {worst * 1e3:.2f} ms", flush=True)
+def spread(values, digits=0):
+    return f"{statistics.median(values):,.{digits}f} ({min(values):,.{digits}f} to {max(values):,.{digits}f})"
 
 
-def lose_nodes(tools, losses, place):
+def hands_for(nodes, sync):
+    """How many hands take about RUN_TAKES, where each command makes two syncs at each node and some work."""
+    return max(FEWEST, min(MOST, int(RUN_TAKES / (OF_A_HAND * (2 * nodes * sync + 50e-6 * nodes)))))
+
+
+def sync_of(place):
+    """How long a write of some bytes and its sync take in a folder, the median of a hundred, in seconds."""
+    taken = []
+    with tempfile.NamedTemporaryFile(dir=place) as file:
+        for _ in range(100):
+            begun = time.monotonic()
+            os.write(file.fileno(), b"x" * 30)
+            os.fdatasync(file.fileno())
+            taken.append(time.monotonic() - begun)
+    return statistics.median(taken)
+
+
+class Compared:
+    """`serve` and the same disk calls alone, in turn."""
+
+    def __init__(self, tools, nodes, place, runs, sync=None):
+        hands = hands_for(nodes, max(sync_of(place), sync or 0))
+        ours, floors, syncs, beyond, longest = [], [], [], [], []
+        for _ in range(runs):
+            run = Run(tools, nodes, hands, place, sync=sync)
+            seconds, each = run.floor(tools, sync)
+            run.done()
+            ours.append(run.commands / run.seconds)
+            floors.append(run.commands / seconds)
+            syncs.append(each)
+            beyond.append((run.seconds - seconds) / run.commands * 1e6)
+            longest.append(run.longest)
+        self.sync, self.longest = statistics.median(syncs), max(longest)
+        self.ratio = statistics.median(ours) / statistics.median(floors)
+        self.beyond = statistics.median(beyond)
+        slowed = "" if sync is None else f", each sync made to take {sync * 1e3:.1f} ms or more"
+        print(f"{nodes} nodes, {run.commands:,} commands, stores in {place}{slowed}, {runs} runs each:")
+        print(f"  serve {spread(ours)} commands a second, the floor {spread(floors)}: {self.ratio:.2f} of it")
+        print(f"  a write and its sync take {self.sync * 1e3:.3f} ms; beyond the floor a command takes {spread(beyond)} microseconds")
+        print(f"  the longest time from an act to a line that came of it: {spread(longest, 1)} ms", flush=True)
+
+
+def compare_on_disk(tools, place, runs, aims):
+    """How near `serve` comes to the floor where a sync takes what it takes, and where it takes SYNC or more."""
+    longest = []
+    for nodes in (3, 5):
+        found = Compared(tools, nodes, place, runs)
+        longest.append(found.longest)
+        name = f"commands a second over the floor's, {nodes} nodes"
+        if found.sync < SYNC:
+            slow = Compared(tools, nodes, place, runs, SYNC)
+            print(f"  (as the disk is, at {found.sync * 1e3:.3f} ms a sync: {found.ratio:.2f}; no aim holds there)")
+            longest.append(slow.longest)
+            name, found = name + f", syncs slowed to {slow.sync * 1e3:.2f} ms", slow
+        else:
+            name += f", syncs of {found.sync * 1e3:.2f} ms"
+        aims.take(name, f"{found.ratio:.3f}", f"{OF_THE_FLOOR} or more", found.ratio >= OF_THE_FLOOR)
+    return max(longest)
+
+
+def compare_in_memory(tools, runs, aims):
+    longest = []
+    for nodes in (3, 5):
+        found = Compared(tools, nodes, FAST, runs)
+        longest.append(found.longest)
+        name = f"microseconds a command beyond the floor, stores in memory, {nodes} nodes"
+        aims.take(name, f"{found.beyond:.0f}", f"{BEYOND[nodes]} at most", found.beyond <= BEYOND[nodes])
+    return max(longest)
+
+
+def lose_nodes(tools, place, aims, sync=None):
     """Each node in turn is lost and comes back, and with it both seats go to the next one."""
-    outages = [f"node = {turn % 3}\nat = {20 + 12 * turn}\nback = {26 + 12 * turn}" for turn in range(losses)]
-    run = Run(tools, 3, (20 + 12 * losses) // 9 + 3, place, outages).done()
-    print(f"{losses} losses of a node, stores in {place}: {run.moves} first acts at a new node,", end=" ")
-    print(f"the longest wait of one for its line {run.worst_move * 1e3:.2f} ms", flush=True)
+    outages = [f"node = {turn % 3}\nat = {20 + 12 * turn}\nback = {26 + 12 * turn}" for turn in range(LOSSES)]
+    run = Run(tools, 3, (20 + 12 * LOSSES) // OF_A_HAND + 3, place, outages, sync).done()
+    where = f"stores in {place}" + ("" if sync is None else f", syncs of {sync * 1e3:.1f} ms or more")
+    print(f"{LOSSES} losses of a node, {where}: {run.moves} first acts at a new node,", end=" ")
+    print(f"the longest time of one to its line {run.longest_move:.2f} ms", flush=True)
+    is_met = run.longest_move < FIRST_ACT and run.moves >= LOSSES
+    aims.take(f"ms from a first act after a loss to its line, worst of {run.moves}, {where}", f"{run.longest_move:.2f}", f"below {FIRST_ACT:.0f}", is_met)
 
 
-def grow(tools, place):
-    """What a process takes for ten times the hands."""
-    few, many = Run(tools, 3, 1000, place).done(), Run(tools, 3, 10000, place).done()
-    for run in (few, many):
-        each = run.seconds / run.commands * 1e6
-        print(f"{run.commands:,} commands: {each:,.1f} microseconds each, peak {run.peak / 2**20:.1f} MiB, longest wait {run.worst * 1e3:.2f} ms")
-    slope = (many.peak - few.peak) / (many.commands - few.commands)
-    ratio = (many.seconds / many.commands) / (few.seconds / few.commands)
-    print(f"  {slope:,.0f} bytes a command; a command takes {ratio:.2f} times as long")
+def grow(tools, aims):
+    """What a process takes for ten times the hands, three times in turn."""
+    slopes, ratios = [], []
+    for _ in range(3):
+        few, many = Run(tools, 3, 1000, FAST).done(), Run(tools, 3, 10000, FAST).done()
+        for run in (few, many):
+            each = run.seconds / run.commands * 1e6
+            print(f"{run.commands:,} commands: {each:,.1f} microseconds each, peak {run.peak / 2**20:.1f} MiB, longest wait {run.longest:.2f} ms", flush=True)
+        slopes.append((many.peak - few.peak) / (many.commands - few.commands))
+        ratios.append((many.seconds / many.commands) / (few.seconds / few.commands))
+    print(f"  {spread(slopes)} bytes a command; a command takes {spread(ratios, 2)} times as long")
+    slope, ratio = statistics.median(slopes), statistics.median(ratios)
+    aims.take("bytes of the peak a command, 1,000 to 10,000 hands", f"{slope:,.0f}", f"{A_COMMAND:,} at most", slope <= A_COMMAND)
+    aims.take("time a command at 10,000 hands over that at 1,000", f"{ratio:.2f}", f"{SLOWER} at most", ratio <= SLOWER)
+
+
+def wait_for_lines(longest, where, aims):
+    """A line comes no later behind the last sync before it than behind the act that the sync was for."""
+    name = f"ms from an act, and so from the last sync, to a line of it, worst of all, stores in {where}"
+    aims.take(name, f"{longest:.1f}", f"below {ANY_LINE:.0f}", longest < ANY_LINE)
+
+
+def measure(tools, place, runs, aims):
+    """All figures, those first that go by the disk."""
+    longest = compare_on_disk(tools, place, runs, aims)
+    lose_nodes(tools, place, aims)
+    if sync_of(place) < SYNC:
+        lose_nodes(tools, place, aims, SYNC)
+    if longest < ANY_LINE:
+        wait_for_lines(longest, place, aims)
+    else:
+        print(f"from an act to a line of it {longest:.1f} ms went by, but syncs are among it: it tells nothing of the time behind them")
+    if FAST is not None:
+        longest = compare_in_memory(tools, runs, aims)
+        lose_nodes(tools, FAST, aims)
+        wait_for_lines(longest, FAST, aims)
+        grow(tools, aims)
 
 
 def main(words):
     if words[:1] in (["-h"], ["--help"]):
         print(__doc__.strip())
-        return
+        return 0
     runs = int(words[0]) if words else 10
     place = Path(words[1] if len(words) > 1 else ".").resolve()
     if len(words) > 2:
         Match.program = Path(words[2]).resolve()
-    with tempfile.TemporaryDirectory() as folder:
-        tools = Tools(folder)
-        for nodes in (3, 5):
-            compare(tools, nodes, 30, place, runs)
-        lose_nodes(tools, 100, place)
-        if FAST is not None:
-            for nodes in (3, 5):
-                compare(tools, nodes, 300, FAST, runs)
-            lose_nodes(tools, 100, FAST)
-            grow(tools, FAST)
+    aims, begun, load = Aims(), time.monotonic(), os.getloadavg()[0]
+    print(f"{os.cpu_count()} processors, load {load:.1f} at the beginning" + (": NOT QUIET" if load > 0.5 else ""), flush=True)
+    try:
+        with tempfile.TemporaryDirectory() as folder:
+            measure(Tools(folder), place, runs, aims)
+    finally:
+        for match in Match.made:
+            if match.folder.exists():
+                match.remove()
+    print(f"\nafter {(time.monotonic() - begun) / 60:.1f} minutes, {runs} runs each:\n\n{aims.table()}")
+    return 0 if all(row[-1] == "met" for row in aims.rows) else 1
 
 
 if __name__ == "__main__":
-    main(sys.argv[1:])
+    sys.exit(main(sys.argv[1:]))
