@@ -1,5 +1,13 @@
 //! The acceptor of 'Paxos Made Simple' for a row of slots: it promises ballots and accepts proposals, and answers only
 //! what its store keeps. `laws` has what its answers mean among the moves of nodes.
+//!
+//! `Acceptor::new` takes a `promise_store::Store` that was created or opened. `on_prepare` and `on_accept` take what came,
+//! of its own node too; what they answer is stored before they answer, by one append at most, and goes into the frame for
+//! the sender (`PrepareAnswer`, `AcceptAnswer`). `reserve` makes room for slots, so that `on_accept_reserved` takes no
+//! memory. `close` hands the disk back.
+//!
+//! The test `what_was_accepted_is_told` walks this way. Faults are those of the store, 63, 64 and 92: after 63 and 64 the
+//! disk is to be opened again, which finds what was stored before the call, with or without what the call was to store.
 #![tactic(auto)]
 
 mod acceptor;

@@ -5,9 +5,9 @@
 //! `seat_session` hears (`specs/Kind.antt`). `laws` says that they agree with what sessions answer.
 //!
 //! `Config::new` takes a match and its nodes, within their limits, and its readers give them back; a node's
-//! `Source` gives the node's own deal of each hand by `Source::deal`. Both are for the nodes that are to come. The
-//! test `a_match_has_three_or_five_nodes_with_deals_for_each_hand` makes a config. There are no faults of its own:
-//! what isn't within its limits is none.
+//! `Source` gives the node's own deal of each hand by `Source::deal`. The test
+//! `a_match_has_three_or_five_nodes_with_deals_for_each_hand` makes a config. There are no faults of its own: what
+//! isn't within its limits is none.
 #![tactic(auto)]
 
 mod config;

@@ -1,5 +1,16 @@
 //! What a node may never forget: the ballot that it promised and what it accepted, on a disk that a crash may cut
 //! short at any moment.
+//!
+//! `Store::create` makes an empty store on a `Disk`, once for each node of a match; `Store::open` finds the one that a
+//! disk has, also after a crash. `promise` and `accept` append one record each, and have it on the disk when they answer;
+//! `held` and `entry` give back what is stored; `close` hands the disk back. `FileDisk` is a file; `MemoryDisk`, whose
+//! fuses let its calls fail, and `OnceDisk`, of whose calls one fails, lie in memory, and leave after a `stop` any of
+//! what wasn't synced. `laws` has what bytes of a journal mean, and what is stored in words of the protocol;
+//! `docs/FORMATS.md` has the journal byte by byte.
+//!
+//! The test `journal_byte_by_byte` walks this way, `stops_in_a_promise` stops the disk at each of its calls. Faults:
+//! `StoreFault`, 60 to 62 of `open`, 63 where a call of the disk failed, 64 from then on, until the disk is opened
+//! again, and 92.
 #![tactic(auto)]
 
 mod appending;
