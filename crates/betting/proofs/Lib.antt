@@ -2,7 +2,7 @@ pub mod Examples
 pub mod Counts
 pub mod Search
 pub mod Steps
-pub mod Limits
+pub mod Bounds
 pub mod Advance
 pub mod Sound
 pub mod SoundSteps

@@ -10,7 +10,7 @@ use Rattle.betting.specs.Rounds.{over, current_round, search_start}
 use Rattle.betting.specs.Legal.{Allows, MayRaise, least_raise, greatest_raise, limit_to}
 use Rattle.betting.proofs.Counts.{count_below-le, count_below-some, count_below-one_less}
 use Rattle.betting.proofs.Search.{Before, before_cases, before-turned, not_before_last}
-use Rattle.betting.proofs.Limits.{blind_fits, top_blind, stack_above, stack_fits, big_blind_fits, first_fits, size_positive}
+use Rattle.betting.proofs.Bounds.{blind_fits, top_blind, stack_above, stack_fits, big_blind_fits, first_fits, size_positive}
 use Rattle.betting.proofs.Steps.{max_spent-turn, spent-other, folded-other, live-other, answered-turn, answered-own, answered-new, actions-turn, actions-new, raises-turn, raises-new, min_to-new, owes-own, owing-new, spent-fold, spent-call, spent-raise, folded-call, folded-raise, min_to-fold, min_to-call, min_to-raise, owing-paid}
 use Rattle.betting.proofs.Advance.{won, goes_on, begins, ends, shows, advance}
 use Rattle.betting.proofs.Sound.{Sound, IsNext, live_parts}

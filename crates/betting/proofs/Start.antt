@@ -12,7 +12,7 @@ use Rattle.betting.specs.PlayInside.{IsKept}
 use Rattle.betting.specs.TotalsInside.{IsTotals}
 use Rattle.betting.proofs.Counts.{count_below-same}
 use Rattle.betting.proofs.Search.{first_from-suc, first_cyclic-above}
-use Rattle.betting.proofs.Limits.{first_fits}
+use Rattle.betting.proofs.Bounds.{first_fits}
 use Rattle.betting.proofs.SoundSteps.{live_at_start, owes_at_start}
 
 all_pass : (n : ℕ) → count_below (λ _. true) n ≡ n

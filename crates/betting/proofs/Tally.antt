@@ -12,7 +12,7 @@ use Rattle.betting.specs.Turns.{Turn, turn_by, is_raise, raised_to, count_below,
 use Rattle.betting.specs.Rounds.{first_cyclic, over, current_round, search_start, to_act}
 use Rattle.betting.proofs.Counts.{count_below-same}
 use Rattle.betting.proofs.Search.{first_cyclic-same}
-use Rattle.betting.proofs.Limits.{first_fits}
+use Rattle.betting.proofs.Bounds.{first_fits}
 use Rattle.betting.proofs.Advance.{current-turn, over-turn, round_fits, round_moves}
 use Rattle.betting.proofs.Steps.{max_spent-turn, spent-other, folded-other, actions-turn, raises-turn, spent-fold, spent-call, spent-raise, folded-fold, folded-call, folded-raise, min_to-fold, min_to-call, min_to-raise, owing-paid, owing-raised, min_to-new, raises-new, actions-new, owing-new}
 use Rattle.betting.specs.TotalsInside.{IsTally, IsTotals, GoesUp, folds, calls, puts_in, raises_to, takes, seat_lives, lives_in, seat_stays, stays_in, round_after, ends_hand, enters, looks_from, advances}

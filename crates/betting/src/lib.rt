@@ -15,6 +15,7 @@
 mod action;
 mod fault;
 pub mod laws;
+pub mod limits;
 mod play;
 mod totals;
 

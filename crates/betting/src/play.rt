@@ -8,12 +8,10 @@ ghost use Rattle.betting.specs.Betting.{history};
 
 use crate::action::Action;
 use crate::fault::ActFault;
+use crate::limits::ACTIONS;
 use crate::totals::Totals;
 use game_def::GameDef;
 use std::marker::Model;
-
-/// The most actions of a hand.
-const MOST_ACTIONS: usize = 256;
 
 /// The betting of one hand: its game, and the actions so far, each of which was allowed.
 ///
@@ -21,24 +19,24 @@ const MOST_ACTIONS: usize = 256;
 #[derive(Debug, Drop)]
 pub struct Play {
     game: GameDef,
-    actions: [Action; MOST_ACTIONS],
-    slashes: [u8; MOST_ACTIONS],
+    actions: [Action; ACTIONS],
+    slashes: [u8; ACTIONS],
     count: usize,
     totals: Totals,
 }
 
 /// The room for a hand's actions.
-fn room_for_actions() -> [Action; MOST_ACTIONS]
+fn room_for_actions() -> [Action; ACTIONS]
     ensures { length result ≡ 256 }
 {
-    [Action::Fold; MOST_ACTIONS]
+    [Action::Fold; ACTIONS]
 }
 
 /// The room for the numbers of slashes behind them.
-fn room_for_slashes() -> [u8; MOST_ACTIONS]
+fn room_for_slashes() -> [u8; ACTIONS]
     ensures { length result ≡ 256 }
 {
-    [0; MOST_ACTIONS]
+    [0; ACTIONS]
 }
 
 impl Model for Play {

@@ -6,24 +6,21 @@ ghost use Rattle.betting.specs.TotalsInside.{IsTotals, least_by, greatest_by, no
 
 use crate::action::Action;
 use crate::fault::ActFault;
+use crate::limits::ACTIONS_OF_A_ROUND;
+use card_core::limits::PLAYERS;
 use game_def::GameDef;
-
-/// The most players of a game.
-pub(crate) const MOST_PLAYERS: usize = 10;
-
-/// The most actions of a round.
-const MOST_ACTIONS_OF_A_ROUND: usize = 64;
+use game_def::limits::ROUNDS;
 
 /// The last round of a hand; rounds count from 0.
-const LAST_ROUND: usize = 3;
+const LAST_ROUND: usize = ROUNDS - 1;
 
 /// The running totals of a hand: what a list of its actions would have to be searched for.
 #[derive(Clone, Copy, Debug)]
 pub(crate) struct Totals {
     /// What each position has in, in chips over the whole hand.
-    pub(crate) spent: [u32; MOST_PLAYERS],
+    pub(crate) spent: [u32; PLAYERS],
     /// Who has given the hand up.
-    pub(crate) folded: [bool; MOST_PLAYERS],
+    pub(crate) folded: [bool; PLAYERS],
     /// The greatest amount that anyone has in.
     pub(crate) max_spent: u32,
     /// The least amount of a full raise.
@@ -41,11 +38,11 @@ pub(crate) struct Totals {
 }
 
 /// What each position has in before the first action.
-fn blinds(game: &GameDef) -> [u32; MOST_PLAYERS]
+fn blinds(game: &GameDef) -> [u32; PLAYERS]
     ensures each { (position : ℕ) → position < game.now.players → slice_index result position ≡ blind_of game.now position }
     ensures places { length result ≡ 10 }
 {
-    let mut blinds = [0; MOST_PLAYERS];
+    let mut blinds = [0; PLAYERS];
     for position in 0..game.players() {
         blinds[position] = game.blind(position);
     }
@@ -61,7 +58,7 @@ impl Totals {
         let big_blind = game.big_blind();
         Totals {
             spent: blinds(game),
-            folded: [false; MOST_PLAYERS],
+            folded: [false; PLAYERS],
             max_spent: big_blind,
             min_to: 2 * u64::from(big_blind),
             round: 0,
@@ -182,7 +179,7 @@ impl Totals {
         let stack = game.stack(position);
         if self.raises >= usize::from(game.max_raises(self.round)) {
             Some(ActFault::TooManyRaises)
-        } else if self.actions + game.players() > MOST_ACTIONS_OF_A_ROUND {
+        } else if self.actions + game.players() > ACTIONS_OF_A_ROUND {
             Some(ActFault::RoundFull)
         } else if self.live_count(game) < 2 {
             Some(ActFault::NobodyToCall)

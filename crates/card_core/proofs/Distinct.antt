@@ -1,14 +1,14 @@
 -- Walking down a list: no card stands there twice where the first isn't among the rest, in which none does.
-use Rattle.std.proofs.Common.{◌≡◌, ◌<◌, ◌≤◌, ◌-◌, ◌↔◌, ℕ, Bool, true, false, List, [], ◌∷◌, length, get_or, take, drop, nat_eq, arith, rules, ap, refl, sym, ◌∙◌}
+use Rattle.std.proofs.Common.{◌≡◌, ◌<◌, ◌≤◌, ◌-◌, ◌↔◌, ℕ, Bool, true, false, List, [], ◌∷◌, length, get_or, take, drop, nat_eq, arith, rules, ap, refl, sym, ◌∙◌, zero, suc}
 use Rattle.std.specs.List.{IsDistinct, AllByRecursion, list_any}
 use Rattle.std.proofs.lemmas.Map.Keys.{IsDistinct-head, IsDistinct-tail, IsDistinct-cons}
 use Rattle.std.proofs.lemmas.Grind.{common_steps}
 
-none_from_any : (p : ℕ → Bool) (xs : List ℕ) → list_any p xs ≡ false → AllByRecursion (λ y. p y ≡ false) xs
+pub none_from_any : (p : ℕ → Bool) (xs : List ℕ) → list_any p xs ≡ false → AllByRecursion (λ y. p y ≡ false) xs
 none_from_any p [] e = tt
 none_from_any p (x ∷ xs) e = search (arith, common_steps, none_from_any p xs)
 
-any_from_none : (p : ℕ → Bool) (xs : List ℕ) → AllByRecursion (λ y. p y ≡ false) xs → list_any p xs ≡ false
+pub any_from_none : (p : ℕ → Bool) (xs : List ℕ) → AllByRecursion (λ y. p y ≡ false) xs → list_any p xs ≡ false
 any_from_none p [] e = refl
 any_from_none p (x ∷ xs) e = let k = any_from_none p xs e.1 in rw (e.0, k) refl
 
@@ -47,3 +47,14 @@ IsDistinct-first_repeated (x ∷ xs) first number h i n e d =
     ap (λ y. list_any (λ card. nat_eq y card) xs) (sym (n ∙ i)) ∙ ap (λ ys. list_any (λ card. nat_eq number card) ys) (sym r) ∙ e in
     let none = any_from_none (λ card. nat_eq x card) xs (IsDistinct-head nat_eq x xs d) in
     cc
+
+pub All-take : (P : ℕ → Type 0) (n : ℕ) (xs : List ℕ) → AllByRecursion P xs → AllByRecursion P (take n xs)
+All-take P zero xs all = tt
+All-take P (suc n) [] all = tt
+All-take P (suc n) (x ∷ xs) all = (all.0, All-take P n xs all.1)
+
+pub IsDistinct-take : (n : ℕ) (xs : List ℕ) → IsDistinct nat_eq xs → IsDistinct nat_eq (take n xs)
+unfolding IsDistinct
+IsDistinct-take zero xs distinct = tt
+IsDistinct-take (suc n) [] distinct = tt
+IsDistinct-take (suc n) (x ∷ xs) distinct = (All-take (λ y. nat_eq x y ≡ false) n xs distinct.0, IsDistinct-take n xs distinct.1)

@@ -1,4 +1,4 @@
-mod Distinct
-mod Letters
+pub mod Distinct
+pub mod Letters
 mod Parts
 pub mod Examples

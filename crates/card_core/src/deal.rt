@@ -5,10 +5,8 @@ ghost use Rattle.card_core.specs.declared.fault.DealFault.TheVariants.{WrongCoun
 
 use crate::card::Card;
 use crate::fault::DealFault;
+use crate::limits::CARDS;
 use std::marker::Model;
-
-/// The most cards of a deal: two for each of ten players, and five for the board.
-const MOST_CARDS: usize = 25;
 
 /// The cards of one hand of Texas hold'em: two hole cards for each position from 0 on, then the five
 /// board cards (flop, turn, river). No card stands there twice.
@@ -16,7 +14,7 @@ const MOST_CARDS: usize = 25;
 /// Contracts see a deal as the list of its cards in that order.
 #[derive(Clone, Copy, Debug, PartialEq, Eq)]
 pub struct Deal {
-    cards: [Card; MOST_CARDS],
+    cards: [Card; CARDS],
     players: usize,
 }
 
@@ -57,7 +55,7 @@ impl Deal {
         if !are_distinct(cards) {
             return Err(DealFault::Repeated);
         }
-        let mut kept = [Card::from_number(0); MOST_CARDS];
+        let mut kept = [Card::from_number(0); CARDS];
         kept[..cards.len()].copy_from_slice(cards);
         Ok(Deal {
             cards: kept,

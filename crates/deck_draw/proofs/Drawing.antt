@@ -15,7 +15,8 @@ use Rattle.rand.proofs.UniformLemmas.{carry_room, if_below}
 use Rattle.rand.proofs.ShuffleLemmas.{rising_more, rising_one, rising_positive, rest_below, last_below}
 use Rattle.card_core.specs.Deal.{IsDeal}
 use Rattle.deck_draw.specs.Deck.{pack, stream_of_hand, deck_of, drawn}
-use Rattle.deck_draw.proofs.Distinct.{AllByRecursion-take, drawn_cards}
+use Rattle.deck_draw.proofs.Distinct.{drawn_cards}
+use Rattle.card_core.proofs.Distinct.{All-take}
 
 -- each word that the stream answers is below 2 ^ 32
 abbrev AnswersWords : Stream → Type 0
@@ -140,6 +141,6 @@ draws_deals seed hand players few =
     let moved = deck_is_pack seed hand in
     let cards = drawn_cards (2 * players + 5) (deck_of seed hand) moved (omega arith) in record {
       count = cards.0;
-      cards_of_the_pack = AllByRecursion-take _ (2 * players + 5) (deck_of seed hand) (all_shuffled _ pack (deck_of seed hand) moved of_the_pack);
+      cards_of_the_pack = All-take _ (2 * players + 5) (deck_of seed hand) (all_shuffled _ pack (deck_of seed hand) moved of_the_pack);
       distinct = cards.1;
     }

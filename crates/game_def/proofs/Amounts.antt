@@ -4,11 +4,11 @@ use Rattle.std.specs.List.{AllByRecursion}
 use Rattle.std.proofs.lemmas.List.Elements.{All-from_recursion, recursion_from_All, All-get_or, All-from_get_or}
 use Rattle.game_def.specs.Game.{Game, IsGame, big_blind, blind_of, most_chips}
 
-start_within : (start : ℕ) (xs : List ℕ) → start ≤ fold max start xs
+pub start_within : (start : ℕ) (xs : List ℕ) → start ≤ fold max start xs
 start_within start [] = omega arith
 start_within start (x ∷ xs) = omega (arith, start_within (max start x) xs)
 
-each_within : (start : ℕ) (xs : List ℕ) (place : ℕ) → get_or xs place 0 ≤ fold max start xs
+pub each_within : (start : ℕ) (xs : List ℕ) (place : ℕ) → get_or xs place 0 ≤ fold max start xs
 each_within start [] place = omega arith
 each_within start (x ∷ xs) zero = omega (arith, start_within (max start x) xs)
 each_within start (x ∷ xs) (suc place) = each_within (max start x) xs place

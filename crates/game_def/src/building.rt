@@ -6,17 +6,19 @@ ghost use Rattle.game_def.specs.GameFile.{Defines};
 ghost use Rattle.game_def.specs.WholeFile.{game_of};
 
 use crate::entries::Entries;
-use crate::game::{GameDef, MOST_CHIPS, MOST_PLAYERS, ROUNDS};
+use crate::game::GameDef;
 use crate::key::Key;
+use crate::limits::{MOST_CHIPS, ROUNDS};
 use crate::whole_file::player_count;
+use card_core::limits::PLAYERS;
 
 /// An amount for each player, and 0 in the places behind the last.
-fn amounts(values: &[u64]) -> [u32; MOST_PLAYERS]
+fn amounts(values: &[u64]) -> [u32; PLAYERS]
     requires few { length values.now ≤ 10 }
     requires fitting { AllByRecursion (λ value. value ≤ most_chips) values.now }
     ensures { result ≡ values.now ++ replicate (10 - length values.now) 0 }
 {
-    let mut amounts = [0; MOST_PLAYERS];
+    let mut amounts = [0; PLAYERS];
     for (position, value) in values.iter().enumerate() {
         amounts[position] = *value as u32;
     }
@@ -24,11 +26,11 @@ fn amounts(values: &[u64]) -> [u32; MOST_PLAYERS]
 }
 
 /// One amount for each of so many players, and 0 in the places behind the last.
-fn amount_for_each(amount: u32, players: usize) -> [u32; MOST_PLAYERS]
+fn amount_for_each(amount: u32, players: usize) -> [u32; PLAYERS]
     requires { players ≤ 10 }
     ensures { result ≡ replicate players amount ++ replicate (10 - players) 0 }
 {
-    let mut amounts = [0; MOST_PLAYERS];
+    let mut amounts = [0; PLAYERS];
     for position in 0..players {
         amounts[position] = amount;
     }
@@ -77,7 +79,7 @@ fn raises(values: &[u64]) -> [u8; ROUNDS]
 }
 
 /// The amounts that a key gives to the players, or one amount for each where it isn't set.
-fn amounts_of(entries: &Entries, key: Key, otherwise: u32, players: usize) -> [u32; MOST_PLAYERS]
+fn amounts_of(entries: &Entries, key: Key, otherwise: u32, players: usize) -> [u32; PLAYERS]
     requires few { players ≤ 10 }
     requires count { length (values_or entries.now key (replicate players otherwise)) ≡ players }
     requires fitting { AllByRecursion (λ amount. amount ≤ most_chips) (values_or entries.now key (replicate players otherwise)) }

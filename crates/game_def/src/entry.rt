@@ -1,8 +1,9 @@
 use crate::key::Key;
 use arrayvec::ArrayVec;
+use card_core::limits::PLAYERS;
 
-/// The most values of a key.
-pub(crate) const MOST_VALUES: usize = 10;
+/// The most values of a key: one for each player.
+pub(crate) const MOST_VALUES: usize = PLAYERS;
 
 /// A line that sets a key: its number, counted from 1, and the values.
 #[derive(Drop)]

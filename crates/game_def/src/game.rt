@@ -1,16 +1,9 @@
 ghost use Rattle.std.specs.Prelude.{◌≡◌, ◌<◌, ◌≤◌, ◌↔◌, slice_index, IfSome, IsSome, IsTrue};
 ghost use Rattle.game_def.specs.Game.{IsGame, most_chips, big_blind, stack_of, blind_of, raise_size_of};
 
+use crate::limits::ROUNDS;
+use card_core::limits::PLAYERS;
 use std::marker::Model;
-
-/// The most players of a game.
-pub(crate) const MOST_PLAYERS: usize = 10;
-
-/// The most chips of a stack, a blind or a raise.
-pub(crate) const MOST_CHIPS: u64 = 2_147_483_647;
-
-/// The rounds of a hand: before the flop, flop, turn, river.
-pub(crate) const ROUNDS: usize = 4;
 
 /// A game of Texas hold'em: players, stacks, blinds and the rules of raising.
 ///
@@ -19,8 +12,8 @@ pub(crate) const ROUNDS: usize = 4;
 #[derive(Clone, Copy, Debug, PartialEq, Eq)]
 pub struct GameDef {
     pub(crate) players: usize,
-    pub(crate) stacks: [u32; MOST_PLAYERS],
-    pub(crate) blinds: [u32; MOST_PLAYERS],
+    pub(crate) stacks: [u32; PLAYERS],
+    pub(crate) blinds: [u32; PLAYERS],
     pub(crate) raise_sizes: Option<[u32; ROUNDS]>,
     pub(crate) first_players: [usize; ROUNDS],
     pub(crate) max_raises: [u8; ROUNDS],

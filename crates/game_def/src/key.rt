@@ -1,7 +1,9 @@
 ghost use Rattle.std.specs.Prelude.{◌≡◌};
 ghost use Rattle.game_def.specs.Key.{name_of, place_of, same_key, key_named, fits, allows, is_nolimit};
 
-use crate::game::MOST_CHIPS;
+use crate::entry::MOST_VALUES;
+use crate::limits::MOST_CHIPS;
+use card_core::limits::PLAYERS;
 
 /// What a line of a game file sets.
 #[derive(Clone, Copy, Debug, PartialEq, Eq)]
@@ -108,7 +110,7 @@ impl Key {
     {
         match self {
             Key::Stack | Key::Blind | Key::RaiseSize => number <= MOST_CHIPS,
-            Key::FirstPlayer => number >= 1 && number <= 10,
+            Key::FirstPlayer => number >= 1 && number <= PLAYERS as u64,
             Key::MaxRaises => number <= 255,
             _ => true,
         }
@@ -125,7 +127,7 @@ impl Key {
             | Key::RaiseSize
             | Key::FirstPlayer
             | Key::MaxRaises
-            | Key::NumBoardCards => count >= 1 && count <= 10,
+            | Key::NumBoardCards => count >= 1 && count <= MOST_VALUES,
             _ => count == 1,
         }
     }

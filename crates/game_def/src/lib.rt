@@ -4,8 +4,8 @@
 //! the bounds that `GameDef` ensures.
 //!
 //! First `read`, of the bytes of a file; then the readers of `GameDef`, one for each key, by position or by round
-//! from 0. What holds of every game is the contract of `GameDef::limits`. What a game file is stands in
-//! `specs/GameFile.antt`.
+//! from 0. What holds of every game is the contract of `GameDef::limits`, and how large its numbers may be stands in
+//! `limits`. What a game file is stands in `specs/GameFile.antt`.
 //!
 //! The tests `limit_games` and `nolimit_games` read files and look at each key. Faults: `GameFault`, with its line
 //! from 1 and a `FaultKind` from 10 to 19.
@@ -19,6 +19,7 @@ mod fault;
 mod fault_kind;
 mod game;
 mod key;
+pub mod limits;
 mod line;
 mod reading;
 mod test;

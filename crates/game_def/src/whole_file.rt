@@ -9,9 +9,10 @@ ghost use Rattle.game_def.specs.WholeFile.{single, players_of, has_values, has_c
 use crate::entries::Entries;
 use crate::fault::GameFault;
 use crate::fault_kind::FaultKind;
-use crate::game::MOST_CHIPS;
 use crate::key::Key;
+use crate::limits::MOST_CHIPS;
 use crate::test::Test;
+use card_core::limits::PLAYERS;
 
 /// The number of players; 0 where it is missing.
 pub(crate) fn player_count(entries: &Entries) -> u64
@@ -108,7 +109,7 @@ fn required(entries: &Entries) -> [Test; 6]
     let kind = FaultKind::Unsupported;
     [
         Test {
-            passes: 2 <= players && players <= 10,
+            passes: 2 <= players && players <= PLAYERS as u64,
             kind,
             key: Key::NumPlayers,
         },

@@ -1,20 +1,10 @@
 -- Lists made by position, one more each time.
-use Rattle.std.proofs.Common.{◌≡◌, ℕ, ◌+◌, ◌<◌, ◌≤◌, List, [], ◌∷◌, ◌++◌, length, map, set, take, sym, ◌∙◌, ap, arith}
+use Rattle.std.proofs.Common.{◌≡◌, ℕ, ◌+◌, ◌<◌, ◌≤◌, List, [], ◌∷◌, ◌++◌, length, map, set, take, ◌∙◌, ap, arith}
 use Rattle.std.specs.List.{All, range_with_len}
 use Rattle.std.proofs.lemmas.List.{take_more_set}
 use Rattle.std.proofs.lemmas.List.Elements.{All-append, All-from_recursion, All-get_or}
-use Rattle.std.proofs.lemmas.List.FromFn.{map-range_with_len_more, length-map-range_with_len}
 use Rattle.game_def.specs.Game.{Game, IsGame, stack_of, most_chips}
-
--- one more of a list made by position
-pub push_range : {X : Type 0} (f : ℕ → X) (items : List X) (i : ℕ) (x : X) → items ≡ map f (range_with_len 0 i) → x ≡ f i → items ++ x ∷ [] ≡ map f (range_with_len 0 (i + 1))
-push_range {X} f items i x so_far read =
-    ap (λ (xs : List X). xs ++ x ∷ []) so_far
-    ∙ (ap (λ (y : X). map f (range_with_len 0 i) ++ y ∷ []) read
-    ∙ sym (map-range_with_len_more f 0 i i (omega arith)))
-
-pub room_in_range : {X : Type 0} (f : ℕ → X) (items : List X) (i n : ℕ) → items ≡ map f (range_with_len 0 i) → i < n → length items < n
-room_in_range f items i n so_far within = omega (arith, ap length so_far, length-map-range_with_len f 0 i)
+use Rattle.side_pots.proofs.OddChips.{push_range}
 
 -- the next place of an array filled by position
 pub fill_range : {X : Type 0} (f : ℕ → X) (xs : List X) (i : ℕ) (x : X) → i < length xs → take i xs ≡ map f (range_with_len 0 i) → x ≡ f i → take (i + 1) (set xs i x) ≡ map f (range_with_len 0 (i + 1))

@@ -1,5 +1,5 @@
 -- Decimals and whole numbers, and texts of several with | between them.
-use Rattle.std.proofs.Common.{◌≡◌, ◌≢◌, ℕ, zero, suc, ◌+◌, ◌-◌, ◌*◌, ◌/◌, ◌%◌, ◌<◌, ◌≤◌, Bool, true, false, IsTrue, List, [], ◌∷◌, ◌++◌, length, take, get_or, refl, sym, ap, ◌∙◌, subst, arith, inl, inr}
+use Rattle.std.proofs.Common.{◌≡◌, ◌≢◌, ℕ, ◌+◌, ◌-◌, ◌*◌, ◌/◌, ◌%◌, ◌<◌, ◌≤◌, Bool, true, false, IsTrue, List, [], ◌∷◌, ◌++◌, length, take, get_or, refl, sym, ap, ◌∙◌, subst, arith, inl, inr}
 use Rattle.std.specs.Char.{is_ascii_digit, digit_value}
 use Rattle.std.specs.List.{AllByRecursion, list_all}
 use Rattle.std.specs.Str.Parse.{digits_value}
@@ -13,6 +13,7 @@ use Rattle.std.proofs.Math.Nat.{add-mul-mod_self_left, div-add-mod}
 use Rattle.match_log.specs.Lines.{names_field}
 use Rattle.match_log.specs.Numeral.{IsDecimal, IsWhole}
 use Rattle.matchstate.specs.Free.{IsFreeOf}
+use Rattle.matchstate.proofs.CardTexts.{All-at}
 
 abbrev AreDigits : List ℕ → Type 0
 AreDigits text = AllByRecursion (λ byte. is_ascii_digit byte ≡ true) text
@@ -59,11 +60,6 @@ remainder_step value digit divisor =
     let whole : value * 10 + digit ≡ (value % divisor * 10 + digit) + divisor * (value / divisor * 10) = omega (arith, parts) in
     sym (ap (λ n. n % divisor) whole ∙ add-mul-mod_self_left (value % divisor * 10 + digit) divisor (value / divisor * 10))
 
-pub all_at : (P : ℕ → Type 0) (xs : List ℕ) (place : ℕ) → place < length xs → AllByRecursion P xs → P (get_or xs place 0)
-all_at P [] place within all = absurd (omega arith)
-all_at P (x ∷ xs) zero within all = all.0
-all_at P (x ∷ xs) (suc place) within all = all_at P xs place (omega arith) all.1
-
 pub remainder_more : (digits : List ℕ) (place left divisor : ℕ) → place < length digits → AreDigits digits → left ≡ digits_value 10 (take place digits) % divisor
     → (left * 10 + (get_or digits place 0 - 48)) % divisor ≡ digits_value 10 (take (place + 1) digits) % divisor
 remainder_more digits place left divisor within all so_far =
@@ -71,7 +67,7 @@ remainder_more digits place left divisor within all so_far =
     let value = digits_value 10 (take place digits) in
     ap (λ n. (n * 10 + (digit - 48)) % divisor) so_far
     ∙ remainder_step value (digit - 48) divisor
-    ∙ ap (λ d. (value * 10 + d) % divisor) (sym (digit_is digit (all_at (λ byte. is_ascii_digit byte ≡ true) digits place within all)))
+    ∙ ap (λ d. (value * 10 + d) % divisor) (sym (digit_is digit (All-at (λ byte. is_ascii_digit byte ≡ true) digits place within all)))
     ∙ ap (λ n. n % divisor) (sym (digits_value_more 10 digits place within))
 
 -- ---- whole numbers with | between them

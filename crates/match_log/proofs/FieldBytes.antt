@@ -16,8 +16,9 @@ use Rattle.matchstate.specs.Cards.{cards_text, cards_field}
 use Rattle.matchstate.specs.View.{seat_of}
 use Rattle.match_log.specs.Lines.{names_field}
 use Rattle.match_log.specs.Names.{IsName, AreNames, is_name_byte, names_by_position}
-use Rattle.match_log.proofs.FieldCuts.{IsWithout, All-joined, All-weaker, All-pieces, All-each, All-range}
+use Rattle.match_log.proofs.FieldCuts.{IsWithout, All-weaker, All-pieces, All-each, All-range}
 use Rattle.match_log.proofs.NumberTexts.{IsDigit, IsSignedByte, decimal_digits}
+use Rattle.slot_log.proofs.Inside.{all_joined}
 
 -- neither a colon nor a line's end
 abbrev pub IsPlain : ℕ → Type 0
@@ -80,8 +81,8 @@ unfolding text
 text_plain game [] = tt
 text_plain game (action ∷ past) =
     let slashes : List ℕ = replicate (current_round game (turns game (action ∷ past)) - current_round game (turns game past)) 47 in
-    All-joined IsPlain (text game past ++ action_text game action) slashes
-    (All-joined IsPlain (text game past) (action_text game action) (text_plain game past) (action_plain game action)) (slashes_plain _)
+    all_joined IsPlain (text game past ++ action_text game action) slashes
+    (all_joined IsPlain (text game past) (action_text game action) (text_plain game past) (action_plain game action)) (slashes_plain _)
 
 -- ---- cards
 
@@ -104,14 +105,14 @@ card_plain card = (letter_plain (codes "23456789TJQKA") (rank_of card) (plain_fr
 
 All-flat : {X : Type 0} (P : ℕ → Type 0) (f : X → List ℕ) (xs : List X) → ((x : X) → AllByRecursion P (f x)) → AllByRecursion P (flat_map f xs)
 All-flat P f [] each = tt
-All-flat P f (x ∷ xs) each = All-joined P (f x) (flat_map f xs) (each x) (All-flat P f xs each)
+All-flat P f (x ∷ xs) each = all_joined P (f x) (flat_map f xs) (each x) (All-flat P f xs each)
 
 cards_plain : (cards : List ℕ) → AllByRecursion IsPlain (cards_text cards)
 cards_plain cards = All-flat IsPlain text_of cards card_plain
 
 pub field_plain : (holes boards : List (List ℕ)) → AllByRecursion IsPlain (cards_field holes boards)
 field_plain holes boards =
-    All-joined IsPlain (join_by cards_text (124 ∷ []) holes) (flat_map (λ cards. 47 ∷ cards_text cards) boards)
+    all_joined IsPlain (join_by cards_text (124 ∷ []) holes) (flat_map (λ cards. 47 ∷ cards_text cards) boards)
     (All-pieces IsPlain cards_text holes bar_plain (All-each (λ cards. AllByRecursion IsPlain (cards_text cards)) holes cards_plain))
     (All-flat IsPlain (λ cards. 47 ∷ cards_text cards) boards (λ cards. ((λ e. omega arith, λ e. omega arith), cards_plain cards)))
 

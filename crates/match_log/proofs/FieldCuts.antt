@@ -2,14 +2,11 @@
 use Rattle.std.proofs.Common.{◌≡◌, ◌≢◌, ℕ, ◌+◌, ◌<◌, ◌≤◌, List, [], ◌∷◌, ◌++◌, length, map, zero, suc, refl, sym, ◌∙◌, ap, arith}
 use Rattle.std.specs.List.{AllByRecursion, flat_map, join_by, range_with_len}
 use Rattle.std.proofs.lemmas.List.{append-nil}
+use Rattle.slot_log.proofs.Inside.{all_joined}
 
 -- the byte doesn't stand in the text
 abbrev pub IsWithout : ℕ → List ℕ → Type 0
 IsWithout end bytes = AllByRecursion (λ byte. byte ≢ end) bytes
-
-pub All-joined : {X : Type 0} (P : X → Type 0) (xs ys : List X) → AllByRecursion P xs → AllByRecursion P ys → AllByRecursion P (xs ++ ys)
-All-joined P [] ys all others = others
-All-joined P (x ∷ xs) ys all others = (all.0, All-joined P xs ys all.1 others)
 
 pub All-weaker : {X : Type 0} (P Q : X → Type 0) (xs : List X) → ((x : X) → P x → Q x) → AllByRecursion P xs → AllByRecursion Q xs
 All-weaker P Q [] weaker all = tt
@@ -55,11 +52,11 @@ pieces_alike f (x ∷ xs) (y ∷ ys) count all others e =
 
 All-tail_of : {X : Type 0} (P : ℕ → Type 0) (f : X → List ℕ) (xs : List X) → P 124 → AllByRecursion (λ x. AllByRecursion P (f x)) xs → AllByRecursion P (tail_of f xs)
 All-tail_of P f [] bar all = tt
-All-tail_of P f (x ∷ xs) bar all = (bar, All-joined P (f x) (tail_of f xs) all.0 (All-tail_of P f xs bar all.1))
+All-tail_of P f (x ∷ xs) bar all = (bar, all_joined P (f x) (tail_of f xs) all.0 (All-tail_of P f xs bar all.1))
 
 pub All-pieces : {X : Type 0} (P : ℕ → Type 0) (f : X → List ℕ) (xs : List X) → P 124 → AllByRecursion (λ x. AllByRecursion P (f x)) xs → AllByRecursion P (join_by f (124 ∷ []) xs)
 All-pieces P f [] bar all = tt
-All-pieces P f (x ∷ xs) bar all = All-joined P (f x) (tail_of f xs) all.0 (All-tail_of P f xs bar all.1)
+All-pieces P f (x ∷ xs) bar all = all_joined P (f x) (tail_of f xs) all.0 (All-tail_of P f xs bar all.1)
 
 pub All-each : {X : Type 0} (P : X → Type 0) (xs : List X) → ((x : X) → P x) → AllByRecursion P xs
 All-each P [] each = tt

@@ -1,15 +1,15 @@
 -- What each command adds to the log, and so that it only grows.
 use Rattle.std.proofs.Common.{◌≡◌, ℕ, suc, ◌≤◌, List, [], ◌∷◌, ◌++◌, length, sym, ◌∙◌, ap, refl, append_assoc, arith, Bool, true, false, not, cond}
-use Rattle.std.specs.Prelude.{Option, Some, None, is_none, nat_le, reverse}
-use Rattle.std.specs.List.{flat_map, slice_get}
+use Rattle.std.specs.Prelude.{Option, Some, None, is_none, nat_le}
+use Rattle.std.specs.List.{flat_map}
 use Rattle.std.specs.Option.{option_to_list}
 use Rattle.std.proofs.lemmas.Bool.Decides.{nat_tests}
-use Rattle.std.proofs.lemmas.List.{append-nil, reverse-append, length-reverse}
+use Rattle.std.proofs.lemmas.List.{append-nil}
 use Rattle.std.proofs.lemmas.List.Sums.{sum_by-cons}
 use Rattle.game_def.specs.Game.{Game}
 use Rattle.betting.specs.declared.action.Action.{Action}
 use Rattle.slot_log.specs.Hand.{Hand}
-use Rattle.slot_log.specs.Dealer.{is_finished, is_running, finished_count, is_match_over, reason_of, deal_reason, act_reason, hands_of, hands_after, with_command, hand_at}
+use Rattle.slot_log.specs.Dealer.{is_finished, is_running, finished_count, is_match_over, reason_of, deal_reason, act_reason, hands_of, hands_after, with_command}
 use Rattle.slot_log.specs.declared.command.Command.{Command}
 use Rattle.slot_log.specs.declared.command.Command.TheVariants.{Deal, Act}
 use Rattle.slot_log.specs.declared.reason.Reason.{Reason}
@@ -17,6 +17,8 @@ use Rattle.match_log.specs.Lines.{header_line, state_line, score_line}
 use Rattle.match_log.specs.Log.{Title, state_lines, log_of, log_lines}
 use Rattle.match_log.specs.Further.{last_line, score_of, further_lines, log_added}
 use Rattle.match_log.specs.Laws.{LogsGrow, CommandsAddToTheLog, LogsBeginWithTheirHeader}
+use Rattle.matchstate.proofs.Seats.{newest_at}
+use Rattle.slot_log.proofs.Allowed.{past_test}
 
 -- ---- how many hands are finished
 
@@ -48,23 +50,19 @@ all_over game (newest ∷ earlier) over none =
 
 -- ---- why a command fits
 
-unless : (b : Bool) (reason : Reason) (other : Option Reason) → cond b (Some reason) other ≡ None → (b ≡ false) × (other ≡ None)
-unless true reason other e = cc
-unless false reason other e = (refl, e)
-
 -- the match goes on
 goes_on : (game : Game) (count : ℕ) (hands : List Hand) (command : Command) → reason_of game count hands command ≡ None → is_match_over game count hands ≡ false
-goes_on game count hands (Deal hand deal) fits = (unless (is_match_over game count hands) _ (deal_reason game hands hand deal) fits).0
-goes_on game count hands (Act hand index action) fits = (unless (is_match_over game count hands) _ (act_reason game hands hand index action) fits).0
+goes_on game count hands (Deal hand deal) fits = (past_test (is_match_over game count hands) _ (deal_reason game hands hand deal) fits).0
+goes_on game count hands (Act hand index action) fits = (past_test (is_match_over game count hands) _ (act_reason game hands hand index action) fits).0
 
 -- no hand runs where one is dealt
 none_runs : (game : Game) (count : ℕ) (hands : List Hand) (hand : ℕ) (deal : List ℕ) → reason_of game count hands (Deal hand deal) ≡ None → is_running game hands ≡ false
-none_runs game count hands hand deal fits = (unless (is_running game hands) _ _ (unless (is_match_over game count hands) _ (deal_reason game hands hand deal) fits).1).0
+none_runs game count hands hand deal fits = (past_test (is_running game hands) _ _ (past_test (is_match_over game count hands) _ (deal_reason game hands hand deal) fits).1).0
 
 -- the newest hand runs where one acts
 newest_runs : (game : Game) (count : ℕ) (newest : Hand) (earlier : List Hand) (hand index : ℕ) (action : Action) → reason_of game count (newest ∷ earlier) (Act hand index action) ≡ None → is_finished game newest ≡ false
 newest_runs game count newest earlier hand index action fits =
-    (unless (is_finished game newest) _ _ (unless (is_match_over game count (newest ∷ earlier)) _ (act_reason game (newest ∷ earlier) hand index action) fits).1).0
+    (past_test (is_finished game newest) _ _ (past_test (is_match_over game count (newest ∷ earlier)) _ (act_reason game (newest ∷ earlier) hand index action) fits).1).0
 
 -- ---- all hands but the newest are finished, whatever the commands
 
@@ -86,16 +84,6 @@ earlier_over game count [] = tt
 earlier_over game count (command ∷ earlier) = over_after game count (hands_of game count earlier) command (earlier_over game count earlier)
 
 -- ---- the lines of a hand's end
-
-slice_get-last : (xs : List Hand) (x : Hand) → slice_get (xs ++ x ∷ []) (length xs) ≡ Some x
-slice_get-last [] x = refl
-slice_get-last (y ∷ xs) x = slice_get-last xs x
-
-newest_at : (newest : Hand) (earlier : List Hand) → hand_at (newest ∷ earlier) (length earlier) ≡ Some newest
-newest_at newest earlier =
-    ap (λ hs. slice_get hs (length earlier)) (reverse-append (newest ∷ []) earlier)
-    ∙ ap (λ n. slice_get (reverse earlier ++ newest ∷ []) n) (sym (length-reverse earlier))
-    ∙ slice_get-last (reverse earlier) newest
 
 newest_line : (game : Game) (names : List (List ℕ)) (newest : Hand) (earlier : List Hand) (finished : ℕ) → finished ≡ suc (length earlier) → last_line game names (newest ∷ earlier) finished ≡ state_line game names (length earlier) newest
 newest_line game names newest earlier finished all =
@@ -135,7 +123,7 @@ unfolding state_lines
 log_grows game title names hands (Deal hand deal) over fits =
     grown game title names hands (record { deal = deal; past = [] }) hands refl (goes_on game title.hands hands (Deal hand deal) fits) refl (all_over game hands over (none_runs game title.hands hands hand deal fits))
 log_grows game title names [] (Act hand index action) over fits =
-    let none = (unless (is_match_over game title.hands []) _ (act_reason game [] hand index action) fits).1 in cc
+    let none = (past_test (is_match_over game title.hands []) _ (act_reason game [] hand index action) fits).1 in cc
 log_grows game title names (newest ∷ earlier) (Act hand index action) over fits =
     let runs : is_finished game newest ≡ false = newest_runs game title.hands newest earlier hand index action fits in
     let before : state_lines game names (newest ∷ earlier) ≡ state_lines game names earlier =

@@ -13,8 +13,8 @@ use Rattle.match_log.specs.Names.{IsName, AreNames, names_by_position}
 use Rattle.match_log.specs.Check.{said_text}
 use Rattle.match_log.proofs.FieldCuts.{IsWithout, cut_alike, pieces_alike}
 use Rattle.match_log.proofs.NumberTexts.{signed_bytes}
-use Rattle.match_log.proofs.PayoffBounds.{length_payoffs}
 use Rattle.match_log.proofs.FieldBytes.{AreValues, no_colon, no_end, decimal_plain, text_plain, field_plain, values_plain, values_without_bar, names_plain, names_without_bar, by_position_are_names, length_by_position}
+use Rattle.match_log.proofs.Settling.{length_payoffs}
 
 -- what is said of a hand beside its actions and cards: a number, and for each player a value and a name
 pub record AreSaid (players : ℕ) (number : List ℕ) (values names : List (List ℕ)) : Type 0 where

@@ -1,5 +1,5 @@
 -- How far a payoff is from 0, from its definition: so far that its text tells it.
-use Rattle.std.proofs.Common.{◌≡◌, ℕ, ◌+◌, ◌*◌, ◌/◌, ◌%◌, ◌^◌, ◌<◌, ◌≤◌, Bool, true, false, cond, leb, ltb, max, ℤ, pos, negsuc, ◌-ℤ◌, List, [], ◌∷◌, length, take, get_or, zero, suc, refl, ◌∙◌, subst, arith}
+use Rattle.std.proofs.Common.{◌≡◌, ℕ, ◌+◌, ◌*◌, ◌/◌, ◌%◌, ◌^◌, ◌<◌, ◌≤◌, Bool, true, false, cond, leb, ltb, max, ℤ, pos, negsuc, ◌-ℤ◌, List, [], ◌∷◌, length, take, get_or, zero, suc, refl, subst, arith}
 use Rattle.std.specs.List.{AllByRecursion, fold, sum_by}
 use Rattle.std.specs.Int.Signed.{mag}
 use Rattle.std.proofs.lemmas.Int.{ints}
@@ -18,7 +18,7 @@ use Rattle.side_pots.specs.Pots.{is_eligible, is_same_set, chips_at, levels, pot
 use Rattle.slot_log.specs.Hand.{Hand}
 use Rattle.match_log.specs.Payoffs.{amounts_of, folds_of, values_of, payoffs_of}
 use Rattle.match_log.proofs.ByPosition.{stack_fits}
-use Rattle.match_log.proofs.FieldCuts.{All-range}
+use Rattle.match_log.proofs.FieldCuts.{All-range, All-each}
 
 most_of : (start most : ℕ) (xs : List ℕ) → start ≤ most → AllByRecursion (λ x. x ≤ most) xs → fold max start xs ≤ most
 most_of start most [] h all = h
@@ -31,12 +31,8 @@ cond_within false x bound h = omega arith
 length_levels : (amounts : List ℕ) → length (levels amounts) ≡ fold max 0 amounts
 length_levels amounts = length-range_with_len 1 (fold max 0 amounts)
 
-all_of : {X : Type 0} (P : X → Type 0) (xs : List X) → ((x : X) → P x) → AllByRecursion P xs
-all_of P [] each = tt
-all_of P (x ∷ xs) each = (each x, all_of P xs each)
-
 each_within : {X : Type 0} (f : X → ℕ) (bound : ℕ) (xs : List X) → ((x : X) → f x ≤ bound) → sum_by f xs ≤ length xs * bound
-each_within f bound xs each = sum_by-le f bound xs (All-from_recursion (λ x. f x ≤ bound) xs (all_of (λ x. f x ≤ bound) xs each))
+each_within f bound xs each = sum_by-le f bound xs (All-from_recursion (λ x. f x ≤ bound) xs (All-each (λ x. f x ≤ bound) xs each))
 
 -- a sum over all levels
 levels_within : (f : ℕ → ℕ) (bound : ℕ) (amounts : List ℕ) → ((level : ℕ) → f level ≤ bound) → sum_by f (levels amounts) ≤ fold max 0 amounts * bound
@@ -122,9 +118,3 @@ payoffs_bounded stacks game hand is legal =
     let are = amounts_few stacks game hand.past is legal in
     All-range (λ z. mag z < 10 ^ 62) (payoff (amounts_of game hand.past) (folds_of game hand.past) (values_of game.players hand.deal)) 0 (length (amounts_of game hand.past))
     (λ position from to. payoff_within (amounts_of game hand.past) (folds_of game hand.past) (values_of game.players hand.deal) position are)
-
-pub length_payoffs : (game : Game) (hand : Hand) → length (payoffs_of game hand) ≡ game.players
-unfolding payoffs_of amounts_of
-length_payoffs game hand =
-    length-map-range_with_len (payoff (amounts_of game hand.past) (folds_of game hand.past) (values_of game.players hand.deal)) 0 (length (amounts_of game hand.past))
-    ∙ length-map-range_with_len (spent game (turns game hand.past)) 0 game.players

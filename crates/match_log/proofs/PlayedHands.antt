@@ -1,13 +1,11 @@
 -- The hands of a list of commands that ends the match are played by the rules to their end.
 use Rattle.std.proofs.Common.{◌≡◌, ◌≢◌, ℕ, ◌+◌, ◌*◌, ◌<◌, ◌≤◌, Bool, true, false, not, cond, eqb, leb, List, [], ◌∷◌, length, Option, Some, None, refl, ap, subst, arith}
 use Rattle.std.specs.List.{AllByRecursion}
-use Rattle.std.specs.Option.{option_map}
 use Rattle.std.proofs.lemmas.Bool.Decides.{nat_tests}
 use Rattle.std.proofs.lemmas.List.Sums.{sum_by-cons}
 use Rattle.game_def.specs.Game.{Game}
 use Rattle.card_core.specs.Deal.{IsDeal, player_count}
 use Rattle.betting.specs.declared.action.Action.{Action}
-use Rattle.betting.specs.declared.fault.ActFault.{ActFault}
 use Rattle.betting.specs.Legal.{CanAct, Legal}
 use Rattle.betting.specs.Laws.{AllowedWithoutFault}
 use Rattle.betting.specs.Rounds.{turns}
@@ -16,9 +14,12 @@ use Rattle.slot_log.specs.Dealer.{is_finished, finished_count, is_running, hands
 use Rattle.slot_log.specs.declared.command.Command.{Command}
 use Rattle.slot_log.specs.declared.command.Command.TheVariants.{Deal, Act}
 use Rattle.slot_log.specs.declared.reason.Reason.{Reason}
-use Rattle.slot_log.specs.declared.reason.Reason.TheVariants.{MatchDone, NoHand, HandRunning, WrongHand, WrongIndex, WrongCards, Illegal}
+use Rattle.slot_log.specs.declared.reason.Reason.TheVariants.{MatchDone, NoHand, HandRunning, WrongHand, WrongIndex, WrongCards}
 use Rattle.match_log.specs.Check.{DealsFairly, IsPlayed}
 use Rattle.match_log.specs.Verdict.{HandsEndFinished}
+use Rattle.slot_log.proofs.Allowed.{past_test}
+use Rattle.match_log.proofs.SoFar.{finished_all}
+use Rattle.slot_log.proofs.Fitting.{no_reason}
 
 -- dealt, and legal so far
 pub record IsBegun (game : Game) (hand : Hand) : Type 0 where
@@ -35,24 +36,9 @@ record IsCourse (game : Game) (count : ℕ) (hands : List Hand) : Type 0 where
   in_order : AreInOrder game hands
   few : length hands ≤ count
 
-finished_all : (game : Game) (hands : List Hand) → AllByRecursion (IsPlayed game) hands → finished_count game hands ≡ length hands
-finished_all game [] all = refl
-finished_all game (hand ∷ earlier) all =
-    let one : ◌≡◌ {A = ℕ} (cond (is_finished game hand) 1 0) 1 = ap (λ (b : Bool). cond b 1 0) all.0.finished in
-    omega (arith, one, sum_by-cons (λ (h : Hand). cond (is_finished game h) 1 0) hand earlier, finished_all game earlier all.1)
-
 stopped : (b : Bool) → not b ≡ false → b ≡ true
 stopped true e = refl
 stopped false e = cc
-
--- where a test stands before all else and there is no reason, it failed
-past_test : (b : Bool) (reason : Reason) (others : Option Reason) → cond b (Some reason) others ≡ None → (b ≡ false) × (others ≡ None)
-past_test true reason others e = cc
-past_test false reason others e = (refl, e)
-
-no_fault : (fault : Option ActFault) → option_map Illegal fault ≡ None → fault ≡ None
-no_fault None e = refl
-no_fault (Some fault) e = cc
 
 -- no hand runs where there is no reason against a deal
 deal_begins : (game : Game) (count number : ℕ) (deal : List ℕ) (hands : List Hand) → reason_of game count hands (Deal number deal) ≡ None → (finished_count game hands < count) × (is_running game hands ≡ false) × (length deal ≡ 2 * game.players + 5)
@@ -72,7 +58,7 @@ act_goes_on law game count number index action newest earlier none =
     let second = past_test (is_finished game newest) NoHand _ first.1 in
     let third = past_test (not (eqb number (length earlier))) WrongHand _ second.1 in
     let fourth = past_test (not (eqb index (length newest.past))) WrongIndex _ third.1 in
-    (law game (turns game newest.past) action).1 (no_fault _ fourth.1)
+    (law game (turns game newest.past) action).1 (no_reason _ fourth.1)
 
 none_to_act : (game : Game) (count number index : ℕ) (action : Action) → reason_of game count [] (Act number index action) ≢ None
 none_to_act game count number index action none = let first = past_test (leb count (finished_count game [])) MatchDone _ none in let rest = first.1 in cc

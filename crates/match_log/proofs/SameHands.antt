@@ -21,7 +21,7 @@ use Rattle.match_log.proofs.FieldCuts.{IsWithout, All-weaker, cut_alike}
 use Rattle.std.proofs.lemmas.Fmt.{decimal_injective}
 use Rattle.match_log.proofs.FieldBytes.{no_end, decimal_plain, name_without}
 use Rattle.match_log.proofs.OneLine.{SaysTheSame, lines_say_the_same, paid, state_line_says, state_line_said}
-use Rattle.match_log.proofs.ShownPayoffs.{map_range-same}
+use Rattle.side_pots.proofs.Settled.{map_range-same}
 
 -- ---- headers
 

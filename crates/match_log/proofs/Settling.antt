@@ -17,17 +17,9 @@ use Rattle.hand_rank.specs.Worth.{Worth}
 use Rattle.slot_log.specs.Hand.{Hand}
 use Rattle.match_log.specs.BestFive.{best_worth}
 use Rattle.match_log.specs.Payoffs.{seven_of, amounts_of, folds_of, values_of, payoffs_of, IsWithin, most_payoff}
+use Rattle.game_def.proofs.Amounts.{each_within}
 
 -- ---- somebody who hasn't folded has the greatest amount in
-
-start_within : (start : ℕ) (xs : List ℕ) → start ≤ fold max start xs
-start_within start [] = omega arith
-start_within start (x ∷ xs) = omega (arith, start_within (max start x) xs)
-
-each_within : (start : ℕ) (xs : List ℕ) (place : ℕ) → get_or xs place 0 ≤ fold max start xs
-each_within start [] place = omega arith
-each_within start (x ∷ xs) zero = omega (arith, start_within (max start x) xs)
-each_within start (x ∷ xs) (suc place) = each_within (max start x) xs place
 
 max_within : (start most : ℕ) (xs : List ℕ) → start ≤ most → All (λ x. x ≤ most) xs → fold max start xs ≤ most
 max_within start most [] h all = h

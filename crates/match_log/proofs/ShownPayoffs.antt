@@ -1,6 +1,6 @@
 -- What a hand pays depends on what its line shows alone: at a showdown it shows all cards, and otherwise the
 -- cards don't count.
-use Rattle.std.proofs.Common.{◌≡◌, ℕ, ◌+◌, ◌<◌, ◌≤◌, Bool, true, false, not, cond, List, [], ◌∷◌, ◌++◌, length, map, take, drop, get_or, zero, suc, refl, sym, ◌∙◌, ap, subst, arith, inl, inr, ◌⊎◌}
+use Rattle.std.proofs.Common.{◌≡◌, ℕ, ◌+◌, ◌<◌, ◌≤◌, Bool, true, false, not, cond, List, [], ◌∷◌, ◌++◌, map, take, drop, get_or, zero, suc, sym, ◌∙◌, ap, subst, arith, inl, inr, ◌⊎◌}
 use Rattle.std.specs.List.{range_with_len}
 use Rattle.std.proofs.lemmas.List.{take-append-drop, drop-drop, append-nil, get_or_past}
 use Rattle.std.proofs.lemmas.Bool.{cases_lt}
@@ -20,6 +20,8 @@ use Rattle.match_log.specs.Payoffs.{seven_of, values_of, amounts_of, folds_of, p
 use Rattle.match_log.specs.Lines.{shown_cards}
 use Rattle.match_log.specs.Verdict.{PayoffsAreThoseShown}
 use Rattle.matchstate.specs.OneToOne.{ShownDealsAreOneToOne}
+use Rattle.side_pots.proofs.Settled.{map_range-same}
+use Rattle.match_log.proofs.Settling.{length_values}
 
 -- ---- all cards shown
 
@@ -39,12 +41,6 @@ joined_board deal = ap (λ (t : List ℕ). take 3 (board_of deal) ++ (take 1 (dr
 
 same_board : (first second : List ℕ) → take 3 (boards_of first) ≡ take 3 (boards_of second) → board_of first ≡ board_of second
 same_board first second same = sym (joined_board first) ∙ ap joined same ∙ joined_board second
-
-pub map_range-same : {X : Type 0} (f g : ℕ → X) (first count : ℕ) → ((place : ℕ) → first ≤ place → place < first + count → f place ≡ g place) → map f (range_with_len first count) ≡ map g (range_with_len first count)
-map_range-same {X} f g first zero same = refl
-map_range-same {X} f g first (suc count) same =
-    ap (λ (x : X). x ∷ map f (range_with_len (first + 1) count)) (same first (omega arith) (omega arith))
-    ∙ ap (λ (xs : List X). g first ∷ xs) (map_range-same f g (first + 1) count (λ place from to. same place (omega arith) (omega arith)))
 
 same_hole : (players : ℕ) (first second : List ℕ) (position : ℕ) → position < players → holes_of players first ≡ holes_of players second → hole_of first position ≡ hole_of second position
 same_hole players first second position within same =
@@ -114,10 +110,6 @@ lone game past few first second one other =
     by here there (inl less) greater = absurd (omega (arith, few, count_two passes first second game.players less there.0 here.1 there.1))
     by here there (inr up) (inl less) = absurd (omega (arith, few, count_two passes second first game.players less here.0 there.1 here.1))
     by here there (inr up) (inr down) = omega arith
-
-length_values : (players : ℕ) (deal : List ℕ) → length (values_of players deal) ≡ players
-unfolding values_of
-length_values players deal = length-map-range_with_len (λ position. best_worth (seven_of deal position)) 0 players
 
 -- ---- both cases
 

@@ -120,7 +120,7 @@ counted_from game start (hand ∷ hands) all =
     one_more : (m n : ℕ) → m + 1 + n ≡ m + suc n
     one_more m n = omega arith
 
-finished_all : (game : Game) (hands : List Hand) → AllByRecursion (IsPlayed game) hands → finished_count game hands ≡ length hands
+pub finished_all : (game : Game) (hands : List Hand) → AllByRecursion (IsPlayed game) hands → finished_count game hands ≡ length hands
 finished_all game hands all = let counted = counted_from game 0 hands all in counted ∙ from_none (length hands)
   where
     from_none : (n : ℕ) → 0 + n ≡ n

@@ -22,6 +22,7 @@ use Rattle.matchstate.specs.Free.{IsFreeOf}
 use Rattle.match_log.specs.Reading.{Fields, joined, AreApart, AreOfHand, MayBeSeats, AreKnown, AreNamed}
 use Rattle.match_log.proofs.Decimals.{decimal_free, whole_free}
 use Rattle.match_log.proofs.Free.{free_append, name_free, betting_free}
+use Rattle.match_log.proofs.OneLine.{line_fields}
 
 -- ---- it can be told where each field ends
 
@@ -78,29 +79,13 @@ fields_apart game fields hand values by_position of = record {
 
 -- ---- a line that says a hand, by its fields
 
-said_is : (game : Game) (number : List ℕ) (hand : Hand) (values names : List (List ℕ)) (behind : List ℕ)
-    → said_text game number hand values names ++ behind
-    ≡ codes "STATE:" ++ (number ++ 58 ∷ (text game hand.past ++ 58 ∷ (shown_cards game hand.past hand.deal ++ 58 ∷ (names_field values ++ 58 ∷ (names_field names ++ 10 ∷ behind)))))
-unfolding said_text
-said_is game number hand values names behind =
-    let e = names_field names ++ 10 ∷ [] in
-    let d = names_field values ++ 58 ∷ e in
-    let c = shown_cards game hand.past hand.deal ++ 58 ∷ d in
-    let b = text game hand.past ++ 58 ∷ c in
-    append_assoc (codes "STATE:") (number ++ 58 ∷ b) behind
-    ∙ ap (λ (t : List ℕ). codes "STATE:" ++ t) (append_assoc number (58 ∷ b) behind
-    ∙ ap (λ (t : List ℕ). number ++ 58 ∷ t) (append_assoc (text game hand.past) (58 ∷ c) behind
-    ∙ ap (λ (t : List ℕ). text game hand.past ++ 58 ∷ t) (append_assoc (shown_cards game hand.past hand.deal) (58 ∷ d) behind
-    ∙ ap (λ (t : List ℕ). shown_cards game hand.past hand.deal ++ 58 ∷ t) (append_assoc (names_field values) (58 ∷ e) behind
-    ∙ ap (λ (t : List ℕ). names_field values ++ 58 ∷ t) (append_assoc (names_field names) (10 ∷ []) behind)))))
-
 fields_said : (game : Game) (fields : Fields) (hand : Hand) (values names : List (List ℕ)) (behind : List ℕ) → AreOfHand game fields hand values names → joined fields behind ≡ said_text game fields.number hand values names ++ behind
 fields_said game fields hand values names behind of =
     ap (λ (t : List ℕ). codes "STATE:" ++ (fields.number ++ 58 ∷ (t ++ 58 ∷ (fields.cards ++ 58 ∷ (fields.values ++ 58 ∷ (fields.names ++ 10 ∷ behind)))))) of.betting_text
     ∙ (ap (λ (t : List ℕ). codes "STATE:" ++ (fields.number ++ 58 ∷ (text game hand.past ++ 58 ∷ (t ++ 58 ∷ (fields.values ++ 58 ∷ (fields.names ++ 10 ∷ behind)))))) of.cards_text
     ∙ (ap (λ (t : List ℕ). codes "STATE:" ++ (fields.number ++ 58 ∷ (text game hand.past ++ 58 ∷ (shown_cards game hand.past hand.deal ++ 58 ∷ (t ++ 58 ∷ (fields.names ++ 10 ∷ behind)))))) of.values_text
     ∙ (ap (λ (t : List ℕ). codes "STATE:" ++ (fields.number ++ 58 ∷ (text game hand.past ++ 58 ∷ (shown_cards game hand.past hand.deal ++ 58 ∷ (names_field values ++ 58 ∷ (t ++ 10 ∷ behind)))))) of.names_text
-    ∙ sym (said_is game fields.number hand values names behind))))
+    ∙ sym (line_fields game fields.number hand values names behind))))
 
 pub to_state : (game : Game) (names : List (List ℕ)) (hands : List Hand) (rest : List ℕ) (fields : Fields) (behind : List ℕ) (hand : Hand) (values by_position : List (List ℕ))
     → rest ≡ joined fields behind → AreOfHand game fields hand values by_position → FitNames game.players names hands (digits_value 10 fields.number) by_position
@@ -164,7 +149,7 @@ in_fields game names hands known rest number hand values are are_known has =
       };
       behind = has.behind;
       by_position = has.by_position;
-      is = has.whole ∙ said_is game number hand values has.by_position has.behind;
+      is = has.whole ∙ line_fields game number hand values has.by_position has.behind;
       of_hand = record {
         numbered = has.numbered;
         played = has.played;

@@ -13,13 +13,14 @@ use crate::score::Score;
 use crate::seats::seats;
 use crate::settlement::payoffs;
 use crate::state_fields::read_state;
+use card_core::limits::PLAYERS;
 use game_def::GameDef;
 
 /// What the lines of a log have said so far, each of them right.
 #[derive(Drop)]
 pub(crate) struct Checked {
     /// The seats' names; none before the first hand.
-    names: Option<[Name; 10]>,
+    names: Option<[Name; PLAYERS]>,
     score: Score,
 }
 

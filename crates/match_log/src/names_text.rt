@@ -4,10 +4,11 @@ ghost use Rattle.match_log.specs.Lines.{names_field};
 ghost use Rattle.match_log.specs.Names.{IsName};
 
 use crate::name::Name;
+use card_core::limits::PLAYERS;
 use matchstate::cut;
 
 /// The names by position, in the places in front.
-pub(crate) fn read_names(bytes: &[u8], players: usize) -> Option<[Name; 10]>
+pub(crate) fn read_names(bytes: &[u8], players: usize) -> Option<[Name; PLAYERS]>
     requires least { 2 ≤ players }
     requires most { players ≤ 10 }
     ensures found { IfSome result (λ names. bytes.now ≡ names_field (take players names)) }
@@ -18,7 +19,7 @@ pub(crate) fn read_names(bytes: &[u8], players: usize) -> Option<[Name; 10]>
         return None;
     };
     let first = Name::new(front)?;
-    let mut names = [first; 10];
+    let mut names = [first; PLAYERS];
     let mut rest = later;
     for position in 1..players - 1 {
         let Some((front, behind)) = cut(rest, b'|') else {

@@ -3,6 +3,7 @@ ghost use Rattle.std.specs.List.{All, range_with_len};
 ghost use Rattle.matchstate.specs.View.{position_of};
 ghost use Rattle.match_log.specs.Payoffs.{IsWithin, most_payoff};
 
+use card_core::limits::PLAYERS;
 use matchstate::position_of;
 use std::marker::Model;
 
@@ -12,7 +13,7 @@ use std::marker::Model;
 /// most 10000 hands.
 #[derive(Debug, Drop)]
 pub(crate) struct Score {
-    totals: [i64; 10],
+    totals: [i64; PLAYERS],
     hands: u32,
 }
 
@@ -34,7 +35,7 @@ impl Score {
         ensures { result ≡ record { totals = replicate 10 (pos 0); hands = 0 } }
     {
         Score {
-            totals: [0; 10],
+            totals: [0; PLAYERS],
             hands: 0,
         }
     }

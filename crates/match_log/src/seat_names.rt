@@ -5,17 +5,15 @@ ghost use Rattle.match_log.specs.Names.{IsName, AreNames};
 
 use crate::name::Name;
 use crate::names_text::read_names;
+use card_core::limits::PLAYERS;
 use std::marker::Model;
-
-/// The most seats of a match.
-const MOST_SEATS: usize = 10;
 
 /// A name for each seat of a match, in seat order, no two the same.
 ///
 /// Contracts see the list of the names.
 #[derive(Clone, Copy, Debug, PartialEq, Eq)]
 pub struct SeatNames {
-    names: [Name; MOST_SEATS],
+    names: [Name; PLAYERS],
     count: usize,
 }
 
@@ -46,7 +44,7 @@ impl SeatNames {
         if !are_names(names, players) {
             return None;
         }
-        let mut kept = [names[0]; MOST_SEATS];
+        let mut kept = [names[0]; PLAYERS];
         kept[..names.len()].copy_from_slice(names);
         Some(SeatNames {
             names: kept,

@@ -9,16 +9,17 @@ ghost use Rattle.match_log.specs.Reading.{MayBeSeats};
 use crate::name::Name;
 use crate::numeral::remainder;
 use crate::seat_names::are_names;
+use card_core::limits::PLAYERS;
 use matchstate::position_of;
 
 /// The seats' names that names by position say in a hand of this number; none where they aren't the names
 /// that are known, or, where none are, no names for so many seats.
 pub(crate) fn seats(
-    by_position: &[Name; 10],
+    by_position: &[Name; PLAYERS],
     number: &[u8],
     players: usize,
-    known: &Option<[Name; 10]>,
-) -> Option<[Name; 10]>
+    known: &Option<[Name; PLAYERS]>,
+) -> Option<[Name; PLAYERS]>
     requires least { 2 ≤ players }
     requires most { players ≤ 10 }
     requires number { IsDecimal number.now }
@@ -35,7 +36,7 @@ pub(crate) fn seats(
 }
 
 /// Names by position put into the order of seats, in a hand of this number.
-fn by_seat(by_position: &[Name; 10], players: usize, hand: u32) -> [Name; 10]
+fn by_seat(by_position: &[Name; PLAYERS], players: usize, hand: u32) -> [Name; PLAYERS]
     requires least { 1 ≤ players }
     requires most { players ≤ 10 }
     ensures { take players result ≡ map (λ seat. slice_index_or by_position.now (position_of players hand seat) []) (range_with_len 0 players) }

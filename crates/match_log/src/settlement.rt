@@ -9,6 +9,7 @@ ghost use Rattle.match_log.specs.Payoffs.{seven_of, values_of, amounts_of, folds
 
 use arrayvec::ArrayVec;
 use betting::{Play, laws};
+use card_core::limits::PLAYERS;
 use card_core::{Card, Deal};
 use game_def::GameDef;
 use hand_rank::{HandValue, best_of_seven};
@@ -16,7 +17,7 @@ use side_pots::settle;
 
 /// What each position wins or loses in a finished hand, in whole chips: the pots go to the best five of
 /// each player's hole cards and the board.
-pub(crate) fn payoffs(game: &GameDef, play: &Play, deal: &Deal) -> ArrayVec<i64, 10>
+pub(crate) fn payoffs(game: &GameDef, play: &Play, deal: &Deal) -> ArrayVec<i64, PLAYERS>
     requires same_game { play.now.game ≡ game.now }
     requires dealt { IsDeal game.now.players deal.now }
     ensures value { result.items ≡ payoffs_of game.now (record { deal = deal.now; past = play.now.past }) }
@@ -58,11 +59,11 @@ fn value(deal: &Deal, position: usize) -> HandValue
 }
 
 /// What each position's best five are worth; behind the last position stands what the first one's are.
-fn values(deal: &Deal) -> [HandValue; 10]
+fn values(deal: &Deal) -> [HandValue; PLAYERS]
     ensures { take (player_count deal.now) result ≡ values_of (player_count deal.now) deal.now }
 {
     let players = deal.players();
-    let mut values = [value(deal, 0); 10];
+    let mut values = [value(deal, 0); PLAYERS];
     for position in 1..players {
         values[position] = value(deal, position);
     }
@@ -70,7 +71,7 @@ fn values(deal: &Deal) -> [HandValue; 10]
 }
 
 /// What each position has put in.
-fn amounts(game: &GameDef, play: &Play) -> ArrayVec<u32, 10>
+fn amounts(game: &GameDef, play: &Play) -> ArrayVec<u32, PLAYERS>
     requires { play.now.game ≡ game.now }
     ensures value { result.items ≡ amounts_of game.now play.now.past }
     ensures most { All (λ amount. amount ≤ 2147483647) result.items }
@@ -85,7 +86,7 @@ fn amounts(game: &GameDef, play: &Play) -> ArrayVec<u32, 10>
 }
 
 /// Which positions have folded.
-fn folds(game: &GameDef, play: &Play) -> ArrayVec<bool, 10>
+fn folds(game: &GameDef, play: &Play) -> ArrayVec<bool, PLAYERS>
     requires { play.now.game ≡ game.now }
     ensures { result.items ≡ folds_of game.now play.now.past }
 {

@@ -8,6 +8,7 @@ use crate::names_text::read_names;
 use crate::numeral::{are_values, is_decimal};
 use betting::Play;
 use card_core::Deal;
+use card_core::limits::PLAYERS;
 use game_def::GameDef;
 use matchstate::{cut, read_betting, read_shown};
 
@@ -30,7 +31,7 @@ pub(crate) struct StateLine<'a> {
     pub(crate) play: Play,
     pub(crate) deal: Deal,
     pub(crate) values: &'a [u8],
-    pub(crate) names: [Name; 10],
+    pub(crate) names: [Name; PLAYERS],
     pub(crate) behind: &'a [u8],
 }
 

@@ -21,6 +21,7 @@ use Rattle.matchstate.specs.View.{View, view_of, sees, rounds_seen, position_of,
 use Rattle.matchstate.specs.Line.{line_text}
 use Rattle.matchstate.specs.Laws.{IsBeginning, IsTextBeginning, Place, hole, board, card_at, shown_at, AgreeOnHand, Agree, LinesAgree}
 use Rattle.matchstate.proofs.Seats.{newest_at}
+use Rattle.matchstate.proofs.Parts.{concat-append}
 
 -- ---- a view shows the deal's cards
 
@@ -28,10 +29,6 @@ slice_get-append : {A : Type 0} (xs ys : List A) (i : ℕ) (x : A) → slice_get
 slice_get-append [] ys i x e = cc
 slice_get-append (y ∷ xs) ys zero x e = e
 slice_get-append (y ∷ xs) ys (suc i) x e = slice_get-append xs ys i x e
-
-concat-append : (xs ys : List (List ℕ)) → concat (xs ++ ys) ≡ concat xs ++ concat ys
-concat-append [] ys = refl
-concat-append (x ∷ xs) ys = ap (λ rest. x ++ rest) (concat-append xs ys) ∙ sym (append_assoc x (concat xs) (concat ys))
 
 shown_hole : (f : ℕ → Bool) (cards : ℕ → List ℕ) (players position i card : ℕ) → slice_get (get_or (map (λ p. cond (f p) (cards p) []) (range_with_len 0 players)) position []) i ≡ Some card → slice_get (cards position) i ≡ Some card
 shown_hole f cards players position i card shown =

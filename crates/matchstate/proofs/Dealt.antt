@@ -1,14 +1,11 @@
 -- A deal's text shows all its cards.
-use Rattle.std.proofs.Common.{◌≡◌, ℕ, zero, suc, ◌+◌, ◌-◌, ◌*◌, ◌<◌, ◌≤◌, true, false, cond, List, [], ◌∷◌, ◌++◌, map, length, take, drop, get_or, replicate, Option, refl, sym, ap, ◌∙◌, arith, append_assoc}
+use Rattle.std.proofs.Common.{◌≡◌, ℕ, zero, suc, ◌+◌, ◌-◌, ◌*◌, ◌<◌, ◌≤◌, true, false, cond, List, [], ◌∷◌, ◌++◌, map, length, take, drop, get_or, replicate, Option, refl, sym, ap, ◌∙◌, arith}
 use Rattle.std.specs.List.{concat, range_with_len}
 use Rattle.std.proofs.lemmas.List.{append-nil, take-append-drop, take-take, drop-take, drop-drop, take_more, map-append, get_or-replicate}
 use Rattle.card_core.specs.Deal.{IsDeal, hole_of, board_of}
 use Rattle.matchstate.specs.Cards.{holes_seen, holes_of, boards_of, all_cards}
 use Rattle.matchstate.specs.SeenCards.{hole_in, seen_at}
-
-concat_push : (xs : List (List ℕ)) (x : List ℕ) → concat (xs ++ x ∷ []) ≡ concat xs ++ x
-concat_push [] x = append-nil x
-concat_push (y ∷ xs) x = ap (λ r. y ++ r) (concat_push xs x) ∙ sym (append_assoc y (concat xs) x)
+use Rattle.matchstate.proofs.Joined.{concat_push}
 
 pub gather_more : (holes : List (Option (List ℕ))) (p : ℕ) (d : Option (List ℕ)) → p < length holes → concat (map hole_in (take (p + 1) holes)) ≡ concat (map hole_in (take p holes)) ++ hole_in (get_or holes p d)
 gather_more holes p d below =

@@ -1,21 +1,13 @@
 -- Cards that are put behind others, each of which doesn't stand there yet.
-use Rattle.std.proofs.Common.{◌≡◌, ℕ, zero, suc, ◌+◌, ◌<◌, Bool, true, false, inl, inr, nat_eq, List, [], ◌∷◌, ◌++◌, length, take, set, refl, sym, ap, ◌∙◌, arith}
+use Rattle.std.proofs.Common.{◌≡◌, ℕ, ◌+◌, ◌<◌, Bool, true, false, inl, inr, nat_eq, List, [], ◌∷◌, ◌++◌, length, take, set, refl, sym, ap, ◌∙◌, arith}
 use Rattle.std.specs.List.{IsDistinct, AllByRecursion, list_any}
 use Rattle.std.proofs.lemmas.List.{take_more_set}
 use Rattle.std.specs.Prelude.{◌||◌}
 use Rattle.std.proofs.lemmas.Bool.Decides.{eqb_tells, nat_tests}
-use Rattle.std.proofs.lemmas.Grind.{common_steps}
 use Rattle.matchstate.proofs.Counts.{from_absent}
 use Rattle.matchstate.proofs.Completion.{fresh_card}
 use Rattle.matchstate.proofs.CardTexts.{All-push}
-
-none_from_any : (p : ℕ → Bool) (xs : List ℕ) → list_any p xs ≡ false → AllByRecursion (λ y. p y ≡ false) xs
-none_from_any p [] e = tt
-none_from_any p (x ∷ xs) e = search (arith, common_steps, none_from_any p xs)
-
-any_from_none : (p : ℕ → Bool) (xs : List ℕ) → AllByRecursion (λ y. p y ≡ false) xs → list_any p xs ≡ false
-any_from_none p [] e = refl
-any_from_none p (x ∷ xs) e = let k = any_from_none p xs e.1 in rw (e.0, k) refl
+use Rattle.card_core.proofs.Distinct.{none_from_any, any_from_none}
 
 IsDistinct-push : (xs : List ℕ) (x : ℕ) → IsDistinct nat_eq xs → AllByRecursion (λ y. nat_eq x y ≡ false) xs → IsDistinct nat_eq (xs ++ x ∷ [])
 unfolding IsDistinct
@@ -45,17 +37,6 @@ used_more xs place card number below same_number used k small =
       | inl same ↦ any_last (λ other. nat_eq k other) (take place xs) card (ap (nat_eq k) same_number ∙ same.0)
       | inr apart ↦ (let other = apart.1 in any_push (λ other. nat_eq k other) (take place xs) card (used k (omega arith)))
     ])
-
-All-take : (P : ℕ → Type 0) (n : ℕ) (xs : List ℕ) → AllByRecursion P xs → AllByRecursion P (take n xs)
-All-take P zero xs all = tt
-All-take P (suc n) [] all = tt
-All-take P (suc n) (x ∷ xs) all = (all.0, All-take P n xs all.1)
-
-pub IsDistinct-take : (n : ℕ) (xs : List ℕ) → IsDistinct nat_eq xs → IsDistinct nat_eq (take n xs)
-unfolding IsDistinct
-IsDistinct-take zero xs distinct = tt
-IsDistinct-take (suc n) [] distinct = tt
-IsDistinct-take (suc n) (x ∷ xs) distinct = (All-take (λ y. nat_eq x y ≡ false) n xs distinct.0, IsDistinct-take n xs distinct.1)
 
 -- fewer than 52 cards can't be the whole pack
 pub not_the_whole_pack : (xs : List ℕ) → length xs < 52 → ((k : ℕ) → k < 52 → list_any (λ card. nat_eq k card) xs ≡ true) → ⊥

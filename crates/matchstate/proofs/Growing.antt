@@ -7,21 +7,21 @@ use Rattle.std.proofs.lemmas.Bool.Decides.{eqb_tells, nat_tests}
 use Rattle.std.proofs.lemmas.List.{append-nil, reverse-append, length-reverse}
 use Rattle.game_def.specs.Game.{Game}
 use Rattle.betting.specs.declared.action.Action.{Action}
-use Rattle.betting.specs.declared.fault.ActFault.{ActFault}
 use Rattle.betting.specs.Laws.{AllowedWithoutFault}
-use Rattle.betting.specs.Turns.{Turn}
-use Rattle.betting.specs.Rounds.{over, turns, with_turn, current_round, to_act, is_alone, ends_round, can_bet_on}
+use Rattle.betting.specs.Rounds.{over, turns, with_turn, current_round, is_alone, ends_round, can_bet_on}
 use Rattle.betting.specs.Legal.{Legal, CanAct, fault_of}
 use Rattle.slot_log.specs.Hand.{Hand}
 use Rattle.slot_log.specs.Dealer.{hands_of, hands_after, with_command, with_action, with_deal, reason_of, act_reason, is_match_over, is_finished}
 use Rattle.slot_log.specs.declared.command.Command.{Command}
 use Rattle.slot_log.specs.declared.command.Command.TheVariants.{Deal, Act}
 use Rattle.slot_log.specs.declared.reason.Reason.{Reason}
-use Rattle.slot_log.specs.declared.reason.Reason.TheVariants.{MatchDone, NoHand, WrongHand, WrongIndex, Illegal}
+use Rattle.slot_log.specs.declared.reason.Reason.TheVariants.{MatchDone, NoHand, WrongHand, WrongIndex}
 use Rattle.matchstate.specs.View.{sees, rounds_seen, position_of}
 use Rattle.matchstate.specs.Laws.{IsBeginning, Place, hole, board, board_count, SeesPlace, past_at, SeatSees, SameButUnseen, AllSameButUnseen}
 use Rattle.matchstate.proofs.Alikeness.{alike_lines}
 use Rattle.matchstate.specs.Beginnings.{BeginningsAreAlike, AlikeThroughout}
+use Rattle.betting.proofs.Sound.{to_act-over}
+use Rattle.slot_log.proofs.Fitting.{no_reason}
 
 -- ---- the actions of each hand
 
@@ -136,10 +136,6 @@ passed : {A : Type 0} (b : Bool) (reason : A) (rest : Option A) → cond b (Some
 passed true reason rest e = cc
 passed false reason rest e = e
 
-no_fault : (found : Option ActFault) → option_map Illegal found ≡ None → found ≡ None
-no_fault None e = refl
-no_fault (Some fault) e = cc
-
 -- an act that fits is allowed
 allowed : AllowedWithoutFault → (game : Game) (count : ℕ) (newest : Hand) (earlier : List Hand) (hand index : ℕ) (action : Action) → reason_of game count (newest ∷ earlier) (Act hand index action) ≡ None → CanAct game (turns game newest.past) action
 allowed without game count newest earlier hand index action none =
@@ -147,7 +143,7 @@ allowed without game count newest earlier hand index action none =
     let runs = passed (is_finished game newest) NoHand _ act in
     let right = passed (not (eqb hand (length earlier))) WrongHand _ runs in
     let next = passed (not (eqb index (length newest.past))) WrongIndex _ right in
-    (without game (turns game newest.past) action).1 (no_fault (fault_of game (turns game newest.past) action) next)
+    (without game (turns game newest.past) action).1 (no_reason (fault_of game (turns game newest.past) action) next)
 
 module _ (without : AllowedWithoutFault) (game : Game) (count : ℕ) where
   Grow-after : (hands : List Hand) (command : Command) → Grow hands (hands_after game count hands command)
@@ -180,10 +176,6 @@ module _ (without : AllowedWithoutFault) (game : Game) (count : ℕ) where
   AllLegal-commands (command ∷ commands) = AllLegal-after (hands_of game count commands) command (AllLegal-commands commands)
 
 -- ---- nothing is done once a hand is over, and rounds go on
-
-to_act-over : (game : Game) (past : List Turn) → over game past ≡ true → to_act game past ≡ None
-unfolding to_act
-to_act-over game past done = rw (done, to_act) refl
 
 nobody_acts : (game : Game) (past : List Action) (action : Action) → over game (turns game past) ≡ true → CanAct game (turns game past) action → ⊥
 unfolding CanAct

@@ -50,7 +50,7 @@ All-hole P [] p all = tt
 All-hole P (hole ∷ holes) zero all = (All-part P hole (concat holes) all).0
 All-hole P (hole ∷ holes) (suc p) all = All-hole P holes p (All-part P hole (concat holes) all).1
 
-get_or-map-length : (groups : List (List ℕ)) (p : ℕ) → get_or (map length groups) p 0 ≡ length (get_or groups p [])
+pub get_or-map-length : (groups : List (List ℕ)) (p : ℕ) → get_or (map length groups) p 0 ≡ length (get_or groups p [])
 get_or-map-length [] p = refl
 get_or-map-length (group ∷ groups) zero = refl
 get_or-map-length (group ∷ groups) (suc p) = get_or-map-length groups p
@@ -66,7 +66,7 @@ module _ (want : ℕ → ℕ) (players : ℕ) (holes : List (List ℕ)) (counts 
 
 -- ---- one more position read
 
-concat_push : (xs : List (List ℕ)) (x : List ℕ) → concat (xs ++ x ∷ []) ≡ concat xs ++ x
+pub concat_push : (xs : List (List ℕ)) (x : List ℕ) → concat (xs ++ x ∷ []) ≡ concat xs ++ x
 concat_push [] x = append-nil x
 concat_push (y ∷ xs) x = ap (λ r. y ++ r) (concat_push xs x) ∙ sym (append_assoc y (concat xs) x)
 

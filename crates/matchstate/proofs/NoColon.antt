@@ -2,11 +2,9 @@
 use Rattle.std.proofs.Common.{◌≡◌, ◌≢◌, ℕ, zero, suc, ◌-◌, ◌^◌, ◌<◌, Bool, true, false, ◌&&◌, eqb, List, [], ◌∷◌, ◌++◌, replicate, Option, Some, None, decimal, refl, sym, ap, ◌∙◌, subst, arith}
 use Rattle.std.specs.Char.{is_ascii_digit}
 use Rattle.std.specs.Str.{all_ascii_digits}
-use Rattle.std.specs.Str.Parse.{digits_value}
 use Rattle.std.specs.List.{concat, join_by}
 use Rattle.std.proofs.lemmas.Bool.{agree_below_at, false≢true}
 use Rattle.std.proofs.lemmas.Fmt.{digits_decimal}
-use Rattle.std.proofs.lemmas.Str.Parse.{IsNumeralModel, numerals_by_value, tells_all_ascii_digits}
 use Rattle.game_def.specs.Game.{Game, IsGame}
 use Rattle.card_core.specs.Card.{rank_of, suit_of, rank_letter, suit_letter}
 use Rattle.betting.specs.declared.action.Action.{Action}
@@ -18,7 +16,7 @@ use Rattle.matchstate.specs.Cards.{cards_text, cards_field, all_cards}
 use Rattle.matchstate.specs.Line.{IsField}
 use Rattle.matchstate.specs.Reading.{slashes_after}
 use Rattle.matchstate.proofs.Texts.{text_none, text_next}
-use Rattle.matchstate.proofs.Words.{raise_fits}
+use Rattle.matchstate.proofs.Words.{raise_fits, decimals_are_numerals}
 use Rattle.matchstate.proofs.OneField.{OfPack, OfPack-parts, marked}
 
 joins : (xs ys : List ℕ) → IsField xs → IsField ys → IsField (xs ++ ys)
@@ -26,9 +24,6 @@ joins [] ys field others = others
 joins (x ∷ xs) ys field others = (field.0, joins xs ys field.1 others)
 
 -- ---- numbers
-
-own : IsNumeralModel (λ ds. all_ascii_digits ds ≡ true) (digits_value 10)
-own = numerals_by_value _ tells_all_ascii_digits
 
 no_colon_in_digits : (digits : List ℕ) → all_ascii_digits digits ≡ true → IsField digits
 no_colon_in_digits [] all = tt
@@ -41,7 +36,7 @@ no_colon_in_digits (digit ∷ digits) all =
     both false b e = cc
 
 pub no_colon_in_decimal : (number : ℕ) → number < 2 ^ 64 → IsField (decimal number)
-no_colon_in_decimal number small = no_colon_in_digits (decimal number) (digits_decimal own number small)
+no_colon_in_decimal number small = no_colon_in_digits (decimal number) (digits_decimal decimals_are_numerals number small)
 
 -- ---- betting texts
 

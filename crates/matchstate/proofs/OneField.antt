@@ -1,28 +1,13 @@
 -- Cards at the same places have one text.
-use Rattle.std.proofs.Common.{◌≡◌, ℕ, ◌+◌, ◌*◌, ◌<◌, true, cond, eqb, List, [], ◌∷◌, ◌++◌, map, length, take, get_or, refl, sym, ap, ◌∙◌, arith, codes, append_assoc}
+use Rattle.std.proofs.Common.{◌≡◌, ℕ, ◌+◌, ◌<◌, true, List, [], ◌∷◌, ◌++◌, map, length, take, refl, sym, ap, ◌∙◌, arith, append_assoc}
 use Rattle.std.specs.List.{AllByRecursion, concat, flat_map, join_by}
-use Rattle.std.proofs.lemmas.Bool.{agree_below_at, eqb-true}
 use Rattle.card_core.specs.Card.{text_of}
 use Rattle.card_core.specs.Deal.{IsDeal}
 use Rattle.matchstate.specs.Cards.{cards_text, holes_of, boards_of, all_cards, AreSeenOf, AreInPlace}
 use Rattle.matchstate.proofs.Seen.{place_from_seen}
 use Rattle.matchstate.proofs.Dealt.{all_of}
 use Rattle.matchstate.specs.OneToOne.{CardsFieldsAreOneToOne, SeenFieldsAreOneToOne, ShownDealsAreOneToOne, DealTextsAreOneToOne}
-
--- where a letter stands among others
-abbrev place_in : List ℕ → ℕ → ℕ
-place_in [] letter = 0
-place_in (x ∷ xs) letter = cond (eqb x letter) 0 (place_in xs letter + 1)
-
--- the card that two letters name
-abbrev card_named : List ℕ → ℕ
-card_named text = 4 * place_in (codes "23456789TJQKA") (get_or text 0 0) + place_in (codes "cdhs") (get_or text 1 0)
-
-card_again : (card : ℕ) → card < 52 → card_named (text_of card) ≡ card
-card_again card below = eqb-true _ _ (agree_below_at (λ c. eqb (card_named (text_of c)) c) (λ _. true) 52 card refl below)
-
-same_card : (card other : ℕ) → card < 52 → other < 52 → text_of card ≡ text_of other → card ≡ other
-same_card card other below small e = sym (card_again card below) ∙ ap card_named e ∙ card_again other small
+use Rattle.card_core.proofs.Letters.{text_of-one}
 
 abbrev pub OfPack : List ℕ → Type 0
 OfPack cards = AllByRecursion (λ card. card < 52) cards
@@ -38,7 +23,7 @@ same_cards [] (other ∷ others) behind rest count all each e = absurd (omega ar
 same_cards (card ∷ cards) [] behind rest count all each e = absurd (omega arith)
 same_cards (card ∷ cards) (other ∷ others) behind rest count all each e =
     let letters : text_of card ≡ text_of other = cc in
-    let first = same_card card other all.0 each.0 letters in
+    let first = text_of-one card other all.0 each.0 letters in
     let later : cards_text cards ++ behind ≡ cards_text others ++ rest = cc in
     let same = same_cards cards others behind rest (omega arith) all.1 each.1 later in
     (cc, same.1)

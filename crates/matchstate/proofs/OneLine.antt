@@ -115,7 +115,7 @@ line_is_view game bytes view line =
       seen = subst (λ (g : Game). AreSeen g.players (sees g view.past view.position) (rounds_seen g view.past) view.holes view.boards) own line.cards.seen;
     }
 
-line_is_text : (game : Game) (bytes : List ℕ) (view : View) → IsLine game bytes view → bytes ≡ line_text view
+pub line_is_text : (game : Game) (bytes : List ℕ) (view : View) → IsLine game bytes view → bytes ≡ line_text view
 line_is_text game bytes view line =
     line.has_fields.whole
     ∙ ap (λ x. joined (fields_with x line.fields.hand line.fields.betting line.fields.cards)) line.numbers.position_text

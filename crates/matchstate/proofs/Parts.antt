@@ -40,7 +40,7 @@ parted (suc (suc (suc zero))) (f ∷ t ∷ r ∷ []) most count = record { flop 
 parted (suc (suc (suc zero))) (f ∷ t ∷ r ∷ more ∷ boards) most count = cc
 parted (suc (suc (suc (suc rounds)))) boards most count = absurd (omega arith)
 
-concat-append : (xs ys : List (List ℕ)) → concat (xs ++ ys) ≡ concat xs ++ concat ys
+pub concat-append : (xs ys : List (List ℕ)) → concat (xs ++ ys) ≡ concat xs ++ concat ys
 concat-append [] ys = refl
 concat-append (x ∷ xs) ys = ap (λ rest. x ++ rest) (concat-append xs ys) ∙ sym (append_assoc x (concat xs) (concat ys))
 

@@ -11,16 +11,13 @@ use Rattle.std.proofs.lemmas.List.{append-nil}
 use Rattle.betting.specs.Text.{text}
 use Rattle.matchstate.specs.View.{View, view_of, position_of, seat_view}
 use Rattle.matchstate.specs.Line.{joined, line_text, newest_text, seat_text}
-
-last_of : {A : Type 0} (xs : List A) (y : A) → slice_get (xs ++ y ∷ []) (length xs) ≡ Some y
-last_of [] y = refl
-last_of (x ∷ xs) y = last_of xs y
+use Rattle.slot_log.proofs.Hands.{at_end}
 
 pub newest_at : (newest : Hand) (earlier : List Hand) → hand_at (newest ∷ earlier) (length earlier) ≡ Some newest
 newest_at newest earlier =
     let back = reverse-append (newest ∷ []) earlier in
     ap (λ hs. slice_get hs (length earlier)) back
-    ∙ ap (λ n. slice_get (reverse earlier ++ newest ∷ []) n) (sym (length-reverse earlier)) ∙ last_of (reverse earlier) newest
+    ∙ ap (λ n. slice_get (reverse earlier ++ newest ∷ []) n) (sym (length-reverse earlier)) ∙ at_end (reverse earlier) newest
 
 pub seat_view_is : (game : Game) (hands : List Hand) (seat hand : ℕ) (deal : List ℕ) (past : List Action) (view : View) → length hands ≡ hand + 1 → Some deal ≡ option_map (λ found. found.deal) (hand_at hands hand) → Some past ≡ option_map (λ found. found.past) (hand_at hands hand) → view ≡ view_of game (position_of game.players hand seat) hand (let h : Hand = record { deal = deal; past = past } in h) → Some view ≡ seat_view game hands seat
 seat_view_is game [] seat hand deal past view count its_deal its_past is = absurd (omega arith)

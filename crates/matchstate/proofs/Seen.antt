@@ -7,6 +7,7 @@ use Rattle.card_core.specs.Deal.{IsDeal, hole_of, board_of}
 use Rattle.matchstate.specs.Cards.{holes_seen, boards_of, all_cards, AreSeenOf, AreSeen, AreInPlace}
 use Rattle.matchstate.proofs.Counts.{count_of, IsPart, count_of-append, count_of-take-drop, IsPart-from_pack, pack_from_IsPart}
 use Rattle.matchstate.proofs.Completion.{fresh_cards}
+use Rattle.matchstate.proofs.Joined.{get_or-map-length}
 
 -- ---- counts of parts of a list
 
@@ -165,11 +166,6 @@ place_from_seen players sees rounds holes boards deal seen =
     }
 
 -- ---- what is in place is seen of some deal
-
-get_or-map-length : (groups : List (List ℕ)) (p : ℕ) → get_or (map length groups) p 0 ≡ length (get_or groups p [])
-get_or-map-length [] p = refl
-get_or-map-length (group ∷ groups) zero = refl
-get_or-map-length (group ∷ groups) (suc p) = get_or-map-length groups p
 
 AreTwos-map : (f : ℕ → List ℕ) (a n : ℕ) → ((p : ℕ) → a ≤ p → p < a + n → length (f p) ≡ 2) → AreTwos (map f (range_with_len a n))
 unfolding AreTwos

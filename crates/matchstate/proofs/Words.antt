@@ -40,12 +40,12 @@ unfolding IsWord
 word_ends [] behind word none = absurd word
 word_ends (letter ∷ digits) behind word none = let e = digits_end digits behind word none in omega arith
 
-own : IsNumeralModel (λ ds. all_ascii_digits ds ≡ true) (digits_value 10)
-own = numerals_by_value _ tells_all_ascii_digits
+pub decimals_are_numerals : IsNumeralModel (λ ds. all_ascii_digits ds ≡ true) (digits_value 10)
+decimals_are_numerals = numerals_by_value _ tells_all_ascii_digits
 
 raise_word : (sizes : Option (List ℕ)) (amount : ℕ) → amount < 2 ^ 32 → IsWord (elim sizes as (λ _. List ℕ) [ None ↦ 114 ∷ decimal amount | Some _ ↦ 114 ∷ [] ])
 unfolding IsWord
-raise_word None amount small = digits_decimal own amount (omega arith)
+raise_word None amount small = digits_decimal decimals_are_numerals amount (omega arith)
 raise_word (Some sizes) amount small = refl
 
 -- an amount that may be raised to is at most a stack

@@ -8,6 +8,7 @@ use crate::bytes::{after_byte, put};
 use crate::cards::{put_cards, read_cards};
 use crate::seen_cards::SeenCards;
 use card_core::Card;
+use card_core::limits::PLAYERS;
 
 /// No cards field has more bytes: ten holes with as many `|`, five board cards behind three `/`.
 pub(crate) const MOST_CARDS_FIELD: usize = 63;
@@ -27,7 +28,7 @@ pub(crate) fn put_seen(out: &mut Vec<u8>, players: usize, seen: &SeenCards)
 }
 
 /// Appends the hole cards by position, with `|` between them.
-fn put_holes(out: &mut Vec<u8>, players: usize, holes: &[Option<[Card; 2]>; 10])
+fn put_holes(out: &mut Vec<u8>, players: usize, holes: &[Option<[Card; 2]>; PLAYERS])
     requires players { players ≤ 10 }
     requires room { vec_len out.old + 50 ≤ vec_capacity out.old }
     ensures items { out.new.items ≡ out.old.items ++ join_by cards_text (124 ∷ []) (map hole_in (take players holes.now)) }
@@ -73,7 +74,7 @@ fn put_street<const N: usize>(out: &mut Vec<u8>, street: &Option<[Card; N]>)
 pub(crate) fn read_seen(
     bytes: &[u8],
     players: usize,
-    sees: &[bool; 10],
+    sees: &[bool; PLAYERS],
     rounds: usize,
 ) -> Option<SeenCards>
     requires players { players ≤ 10 }
@@ -104,8 +105,8 @@ pub(crate) fn read_seen(
 fn read_holes(
     bytes: &[u8],
     players: usize,
-    sees: &[bool; 10],
-) -> Option<([Option<[Card; 2]>; 10], usize)>
+    sees: &[bool; PLAYERS],
+) -> Option<([Option<[Card; 2]>; PLAYERS], usize)>
     requires { players ≤ 10 }
     ensures within { IfSome result (λ found. found.1 ≤ length bytes.now) }
     ensures found { IfSome result (λ found. bytes.now ≡ join_by cards_text (124 ∷ []) (map hole_in (take players found.0)) ++ drop found.1 bytes.now) }
@@ -114,7 +115,7 @@ fn read_holes(
     ensures only { (holes : List (List ℕ)) (behind : List ℕ) → map length holes ≡ map (λ position. if seen_at sees.now position then 2 else 0) (range_with_len 0 players) → AllByRecursion (λ card. card < 52) (concat holes) → bytes.now ≡ join_by cards_text (124 ∷ []) holes ++ behind
         → IsSomeAnd result (λ found. (map hole_in (take players found.0) ≡ holes) × (drop found.1 bytes.now ≡ behind)) }
 {
-    let mut holes = [None; 10];
+    let mut holes = [None; PLAYERS];
     let mut rest = bytes;
     for position in 0..players {
         let text = after_separator(rest, position)?;

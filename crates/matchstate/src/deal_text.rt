@@ -6,6 +6,7 @@ use crate::cards_field::read_seen;
 use crate::seen_cards::gather;
 use crate::unused_cards::fill_up;
 use card_core::Deal;
+use card_core::limits::PLAYERS;
 
 /// The deal that a text of all its cards says, as `TdAs|8hTc/2c8c3h/9c/Kh`, for 2 to 10 players: the hole
 /// cards by position with `|` between them, then `/` and the cards for flop, turn and river.
@@ -30,7 +31,7 @@ pub fn read_shown(bytes: &[u8], players: usize, rounds: usize) -> Option<Deal>
     ensures found { IfSome result (λ deal. bytes.now ≡ cards_field (holes_of players deal) (take rounds (boards_of deal))) }
     ensures only { (deal : List ℕ) → IsDeal players deal → bytes.now ≡ cards_field (holes_of players deal) (take rounds (boards_of deal)) → IsSomeAnd result (λ found. (holes_of players found ≡ holes_of players deal) × (take rounds (boards_of found) ≡ take rounds (boards_of deal))) }
 {
-    let seen = read_seen(bytes, players, &[true; 10], rounds)?;
+    let seen = read_seen(bytes, players, &[true; PLAYERS], rounds)?;
     let (mut cards, count) = gather(&seen, players);
     let end = 2 * players + 5;
     fill_up(&mut cards, count, end);

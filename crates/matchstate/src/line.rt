@@ -18,6 +18,7 @@ use crate::view::View;
 use betting::Play;
 use game_def::GameDef;
 use slot_log::Table;
+use slot_log::limits::HANDS;
 use std::alloc::AllocError;
 
 /// No line has more bytes.
@@ -125,9 +126,6 @@ fn put_line(
     put_seen(out, players, seen);
 }
 
-/// The last of the numbers of hands.
-const LAST_HAND: u32 = 9999;
-
 /// The view that a server's line of the ACPC protocol 2.0.0 says, given without its line end; or the first of
 /// its faults: 40 not the word and four fields, 41 a position that the game hasn't, a hand above 9999 or no
 /// decimal without leading zeros, 42 not the betting text of a legal play, 43 not the cards that a viewer at
@@ -197,7 +195,7 @@ fn numbers_of(fields: &LineFields, game: &GameDef) -> Option<(usize, u32)>
     let players = game.players();
     let position = read_number(fields.position)? as usize;
     let hand = read_number(fields.hand)?;
-    if position < players && hand <= LAST_HAND {
+    if position < players && hand < HANDS {
         Some((position, hand))
     } else {
         None

@@ -4,27 +4,25 @@ ghost use Rattle.matchstate.specs.Cards.{all_cards};
 ghost use Rattle.matchstate.specs.SeenCards.{hole_in, holes_in, boards_in};
 
 use card_core::Card;
+use card_core::limits::{CARDS, PLAYERS};
 
 /// The cards that a line shows: two for each position that is seen, and three, one and one for the later
 /// rounds that have begun.
 #[derive(Clone, Copy, Debug)]
 pub(crate) struct SeenCards {
-    pub(crate) holes: [Option<[Card; 2]>; 10],
+    pub(crate) holes: [Option<[Card; 2]>; PLAYERS],
     pub(crate) flop: Option<[Card; 3]>,
     pub(crate) turn: Option<[Card; 1]>,
     pub(crate) river: Option<[Card; 1]>,
 }
 
-/// The most cards of a deal.
-const MOST_CARDS: usize = 25;
-
 /// All cards that are seen, in the order of a line, and how many.
-pub(crate) fn gather(seen: &SeenCards, players: usize) -> ([Card; MOST_CARDS], usize)
+pub(crate) fn gather(seen: &SeenCards, players: usize) -> ([Card; CARDS], usize)
     requires { players ≤ 10 }
     ensures value { take result.1 result.0 ≡ all_cards (holes_in players seen.now) (boards_in seen.now) }
     ensures count { result.1 ≤ 2 * players + 5 }
 {
-    let mut cards = [Card::from_number(0); MOST_CARDS];
+    let mut cards = [Card::from_number(0); CARDS];
     let holes = gather_holes(&mut cards, players, &seen.holes);
     let flop = add(&mut cards, holes, &seen.flop);
     let turn = add(&mut cards, flop, &seen.turn);
@@ -45,7 +43,7 @@ pub(crate) fn gather_board(seen: &SeenCards) -> ([Card; 5], usize)
 }
 
 /// Puts the hole cards that are seen in front, and says how many they are.
-fn gather_holes(cards: &mut [Card], players: usize, holes: &[Option<[Card; 2]>; 10]) -> usize
+fn gather_holes(cards: &mut [Card], players: usize, holes: &[Option<[Card; 2]>; PLAYERS]) -> usize
     requires players { players ≤ 10 }
     requires room { length cards.old ≡ 25 }
     ensures value { take result cards.new ≡ concat (map hole_in (take players holes.now)) }

@@ -7,6 +7,7 @@ ghost use Rattle.matchstate.specs.View.{is_showdown, sees, rounds_seen};
 use crate::cards_field::read_seen;
 use crate::seen_cards::{SeenCards, gather};
 use betting::Play;
+use card_core::limits::PLAYERS;
 use card_core::{Card, Deal, are_distinct};
 
 /// What a viewer sees of a deal after the actions of a play.
@@ -30,11 +31,11 @@ pub(crate) fn sight(deal: &Deal, play: &Play, viewer: usize) -> SeenCards
 }
 
 /// The hole cards that a viewer sees, by position.
-fn holes_in_sight(deal: &Deal, play: &Play, viewer: usize) -> [Option<[Card; 2]>; 10]
+fn holes_in_sight(deal: &Deal, play: &Play, viewer: usize) -> [Option<[Card; 2]>; PLAYERS]
     requires { IsDeal play.now.game.players deal.now }
     ensures { map hole_in (take play.now.game.players result) ≡ holes_seen play.now.game.players (sees play.now.game play.now.past viewer) deal.now }
 {
-    let mut holes = [None; 10];
+    let mut holes = [None; PLAYERS];
     for position in 0..play.players() {
         let hole = hole_in_sight(deal, play, viewer, position);
         holes[position] = hole;
@@ -56,10 +57,10 @@ fn hole_in_sight(deal: &Deal, play: &Play, viewer: usize, position: usize) -> Op
 }
 
 /// Which positions' hole cards a viewer sees.
-pub(crate) fn positions_in_sight(play: &Play, viewer: usize) -> [bool; 10]
+pub(crate) fn positions_in_sight(play: &Play, viewer: usize) -> [bool; PLAYERS]
     ensures { (position : ℕ) → position < play.now.game.players → seen_at result position ≡ sees play.now.game play.now.past viewer position }
 {
-    let mut seen = [false; 10];
+    let mut seen = [false; PLAYERS];
     for position in 0..play.players() {
         let in_sight = is_in_sight(play, viewer, position);
         seen[position] = in_sight;

@@ -10,13 +10,11 @@ ghost use Rattle.matchstate.specs.declared.line_fault.LineFault.{LineFault};
 use crate::comparison::{are_same_actions, are_same_cards};
 use crate::laws::a_view_has_one_line;
 use crate::seen_cards::{SeenCards, gather, gather_board};
+use betting::limits::ACTIONS;
 use betting::{Action, Play};
 use card_core::Card;
 use game_def::GameDef;
 use std::marker::Model;
-
-/// The most actions of a hand.
-const MOST_ACTIONS: usize = 256;
 
 /// What a line shows to a viewer of a game: the position that it is for, the hand's number, the actions so
 /// far, the hole cards that he sees and the board of the rounds that have begun.
@@ -28,9 +26,9 @@ pub struct View {
     pub(crate) game: GameDef,
     pub(crate) position: usize,
     pub(crate) hand: u32,
-    pub(crate) actions: [Action; MOST_ACTIONS],
+    pub(crate) actions: [Action; ACTIONS],
     /// How many `/` stand behind each in the betting text.
-    pub(crate) slashes: [u8; MOST_ACTIONS],
+    pub(crate) slashes: [u8; ACTIONS],
     pub(crate) count: usize,
     pub(crate) seen: SeenCards,
 }
@@ -56,9 +54,9 @@ impl View {
         ensures { result ≡ record { game = play.now.game; position = position; hand = hand; past = play.now.past; holes = holes_in play.now.game.players seen; boards = boards_in seen } }
     {
         let taken = play.actions();
-        let mut actions = [Action::Fold; MOST_ACTIONS];
+        let mut actions = [Action::Fold; ACTIONS];
         actions[..taken.len()].copy_from_slice(taken);
-        let mut slashes = [0; MOST_ACTIONS];
+        let mut slashes = [0; ACTIONS];
         slashes[..taken.len()].copy_from_slice(play.slashes());
         View {
             game: *play.game(),

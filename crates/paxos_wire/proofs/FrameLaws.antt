@@ -1,5 +1,5 @@
 -- Frames: what is read is what is written, and what is written is read again.
-use Rattle.std.proofs.Common.{◌≡◌, ℕ, suc, ◌+◌, ◌*◌, ◌≤◌, Bool, true, false, not, cond, ltb, leb, eqb, List, [], ◌∷◌, ◌++◌, length, map, slice_index, drop, Option, Some, None, Ok, Err, refl, sym, ap, ◌∙◌, arith, length-append}
+use Rattle.std.proofs.Common.{◌≡◌, ℕ, suc, ◌+◌, ◌*◌, ◌≤◌, true, false, not, cond, ltb, leb, eqb, List, [], ◌∷◌, ◌++◌, length, map, slice_index, drop, Option, Some, None, Ok, Err, refl, sym, ap, ◌∙◌, arith, length-append}
 use Rattle.std.specs.List.{flat_map, AllByRecursion}
 use Rattle.std.proofs.lemmas.Bool.{ltb-false, le-ltb, leb-true, eqb-true, eq-eqb, not-false}
 use Rattle.std.proofs.lemmas.List.Concat.{flat_map-cons}
@@ -23,6 +23,7 @@ use Rattle.paxos_wire.proofs.Steps.{IsBytes}
 use Rattle.paxos_wire.proofs.Numbers.{wide4}
 use Rattle.paxos_wire.proofs.Distinct.{and_true}
 use Rattle.paxos_wire.proofs.MessageLaws.{body_is, body_again}
+use Rattle.slot_log.proofs.Allowed.{past_test}
 
 -- ---- lengths
 
@@ -102,10 +103,6 @@ single_frame_most m fits single = omega (arith, frame_length m, single_most m fi
 
 -- ---- what was read is a frame
 
-if_none : {A : Type 0} (b : Bool) (x : A) (r : Option A) → cond b (Some x) r ≡ None → (b ≡ false) × (r ≡ None)
-if_none true x r e = absurd cc
-if_none false x r e = (refl, e)
-
 -- what no fault of the header says
 record IsHeaded (bytes : List ℕ) : Type 0 where
   pub long : 4 ≤ length bytes
@@ -118,12 +115,12 @@ record IsHeaded (bytes : List ℕ) : Type 0 where
 is_headed : (bytes : List ℕ) → header_fault bytes ≡ None → IsHeaded bytes
 unfolding header_fault
 is_headed bytes e =
-    let a = if_none (ltb (length bytes) 4) TooShort (cond (ltb (length_field bytes) LEAST_LENGTH) (Some TooShort) (cond (ltb MOST_LENGTH (length_field bytes)) (Some TooLong) (cond (not (eqb (length bytes) (4 + length_field bytes))) (Some BadBody) (cond (not (eqb (slice_index bytes 4) VERSION)) (Some BadVersion) (cond (not (is_kind (slice_index bytes 5))) (Some BadKind) None))))) e in
-    let b = if_none (ltb (length_field bytes) LEAST_LENGTH) TooShort (cond (ltb MOST_LENGTH (length_field bytes)) (Some TooLong) (cond (not (eqb (length bytes) (4 + length_field bytes))) (Some BadBody) (cond (not (eqb (slice_index bytes 4) VERSION)) (Some BadVersion) (cond (not (is_kind (slice_index bytes 5))) (Some BadKind) None)))) a.1 in
-    let c = if_none (ltb MOST_LENGTH (length_field bytes)) TooLong (cond (not (eqb (length bytes) (4 + length_field bytes))) (Some BadBody) (cond (not (eqb (slice_index bytes 4) VERSION)) (Some BadVersion) (cond (not (is_kind (slice_index bytes 5))) (Some BadKind) None))) b.1 in
-    let d = if_none (not (eqb (length bytes) (4 + length_field bytes))) BadBody (cond (not (eqb (slice_index bytes 4) VERSION)) (Some BadVersion) (cond (not (is_kind (slice_index bytes 5))) (Some BadKind) None)) c.1 in
-    let f = if_none (not (eqb (slice_index bytes 4) VERSION)) BadVersion (cond (not (is_kind (slice_index bytes 5))) (Some BadKind) None) d.1 in
-    let g = if_none (not (is_kind (slice_index bytes 5))) BadKind None f.1 in
+    let a = past_test (ltb (length bytes) 4) TooShort (cond (ltb (length_field bytes) LEAST_LENGTH) (Some TooShort) (cond (ltb MOST_LENGTH (length_field bytes)) (Some TooLong) (cond (not (eqb (length bytes) (4 + length_field bytes))) (Some BadBody) (cond (not (eqb (slice_index bytes 4) VERSION)) (Some BadVersion) (cond (not (is_kind (slice_index bytes 5))) (Some BadKind) None))))) e in
+    let b = past_test (ltb (length_field bytes) LEAST_LENGTH) TooShort (cond (ltb MOST_LENGTH (length_field bytes)) (Some TooLong) (cond (not (eqb (length bytes) (4 + length_field bytes))) (Some BadBody) (cond (not (eqb (slice_index bytes 4) VERSION)) (Some BadVersion) (cond (not (is_kind (slice_index bytes 5))) (Some BadKind) None)))) a.1 in
+    let c = past_test (ltb MOST_LENGTH (length_field bytes)) TooLong (cond (not (eqb (length bytes) (4 + length_field bytes))) (Some BadBody) (cond (not (eqb (slice_index bytes 4) VERSION)) (Some BadVersion) (cond (not (is_kind (slice_index bytes 5))) (Some BadKind) None))) b.1 in
+    let d = past_test (not (eqb (length bytes) (4 + length_field bytes))) BadBody (cond (not (eqb (slice_index bytes 4) VERSION)) (Some BadVersion) (cond (not (is_kind (slice_index bytes 5))) (Some BadKind) None)) c.1 in
+    let f = past_test (not (eqb (slice_index bytes 4) VERSION)) BadVersion (cond (not (is_kind (slice_index bytes 5))) (Some BadKind) None) d.1 in
+    let g = past_test (not (is_kind (slice_index bytes 5))) BadKind None f.1 in
     record {
       long = ltb-false _ _ a.0;
       least = ltb-false _ _ b.0;

@@ -7,19 +7,17 @@ ghost use Rattle.paxos_wire.specs.Reading.{Gives, are_cards, is_count, deal_of, 
 use crate::entry::Entry;
 use crate::fields::{read_action, read_ballot, read_below, read_byte, read_short_below, read_slot};
 use crate::limits::{ACTIONS, HANDS};
+use card_core::limits::CARDS;
 use card_core::{Card, Deal};
 use slot_log::Command;
 
-/// The most cards of a deal.
-const MOST_CARDS: usize = 25;
-
 /// The cards of these bytes, and clubs' deuces behind them, unless one is no card.
-fn cards_of(bytes: &[u8]) -> Option<[Card; MOST_CARDS]>
-    requires { length bytes.now ≤ MOST_CARDS }
+fn cards_of(bytes: &[u8]) -> Option<[Card; CARDS]>
+    requires { length bytes.now ≤ CARDS }
     ensures cards { IsSome result ↔ (are_cards bytes.now ≡ true) }
     ensures value { IfSome result (λ cards. take (length bytes.now) cards ≡ bytes.now) }
 {
-    let mut cards = [Card::from_number(0); MOST_CARDS];
+    let mut cards = [Card::from_number(0); CARDS];
     for (place, number) in bytes.iter().enumerate() {
         if *number >= 52 {
             return None;
@@ -50,7 +48,7 @@ fn read_deal(bytes: &[u8]) -> Option<(Deal, &[u8])>
 {
     let (count, rest) = read_byte(bytes)?;
     let count = count as usize;
-    if count < 9 || count > MOST_CARDS || count % 2 != 1 || rest.len() < count {
+    if count < 9 || count > CARDS || count % 2 != 1 || rest.len() < count {
         return None;
     }
     let (numbers, rest) = rest.split_at(count);

@@ -1,5 +1,5 @@
 //! The ranges of the numbers in frames, each in this one place; those of hands, actions and slots are the sequential
-//! dealer's.
+//! dealer's, and the greatest amount is the game's.
 
 /// The version byte that frames are written with.
 pub const VERSION: u8 = 1;
@@ -17,7 +17,7 @@ pub const HANDS: u32 = slot_log::limits::HANDS;
 pub const ACTIONS: u16 = slot_log::limits::ACTIONS;
 
 /// The greatest amount of a raise, in whole chips.
-pub const MOST_CHIPS: u32 = 2_147_483_647;
+pub const MOST_CHIPS: u32 = game_def::limits::MOST_CHIPS as u32;
 
 /// The slots from the one that is asked for that a Promise tells of, and so its most entries.
 pub const WINDOW: usize = 64;

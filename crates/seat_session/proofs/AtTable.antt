@@ -1,9 +1,6 @@
 -- What a line of the game says at a table.
-use Rattle.std.proofs.Common.{◌≡◌, ℕ, ◌≤◌, Bool, true, false, List, [], ◌∷◌, ◌++◌, length, reverse, Option, Some, None, Result, Ok, Err, IfSome, IfOk, refl, sym, ◌∙◌, ap, arith}
-use Rattle.std.specs.Prelude.{codes, decimal}
-use Rattle.std.specs.List.{slice_get}
+use Rattle.std.proofs.Common.{◌≡◌, ℕ, ◌≤◌, Bool, true, false, List, [], ◌∷◌, ◌++◌, length, Option, Some, None, Result, Ok, Err, IfSome, IfOk, refl, sym, ◌∙◌, ap, arith}
 use Rattle.std.specs.Option.{option_map}
-use Rattle.std.proofs.lemmas.List.{reverse-append, length-reverse}
 use Rattle.std.proofs.lemmas.List.Sums.{count_by-le-length}
 use Rattle.game_def.specs.Game.{Game}
 use Rattle.betting.specs.declared.action.Action.{Action}
@@ -17,26 +14,14 @@ use Rattle.slot_log.specs.Range.{IsInRange}
 use Rattle.slot_log.specs.declared.command.Command.{Command}
 use Rattle.slot_log.specs.Dealer.{is_finished, finished_count, hand_at, Fits}
 use Rattle.slot_log.specs.declared.command.Command.TheVariants.{Act}
-use Rattle.matchstate.specs.Line.{IsLine, line_text}
 use Rattle.matchstate.specs.View.{View, view_of, position_of, seat_view}
 use Rattle.matchstate.specs.Answer.{AnswerReadsAs}
 use Rattle.seat_session.specs.Saying.{Echoes, SaysAct, SaidFits, IsSaidInRange}
 use Rattle.seat_session.specs.declared.said.Said.{Said}
 use Rattle.seat_session.specs.declared.said.Said.TheVariants.{Ready, Act as Says}
 use Rattle.seat_session.specs.declared.session_fault.SessionFault.{SessionFault}
-
--- a line that says a view is the view's one text
-pub line_is : (game : Game) (line : List ℕ) (view : View) → IsLine game line view → line ≡ line_text view
-line_is game line view says =
-    let position = says.numbers.position_text in
-    let hand = says.numbers.hand_text in
-    let cards = says.cards.cards_text in
-    let betting : says.fields.betting ≡ text view.game view.past = says.betting.betting_text ∙ ap (λ g. text g view.past) (sym says.same_game) in
-    says.has_fields.whole
-    ∙ ap (λ (l : List ℕ). codes "MATCHSTATE:" ++ (l ++ 58 ∷ (says.fields.hand ++ 58 ∷ (says.fields.betting ++ 58 ∷ says.fields.cards)))) position
-    ∙ ap (λ (l : List ℕ). codes "MATCHSTATE:" ++ (decimal view.position ++ 58 ∷ (l ++ 58 ∷ (says.fields.betting ++ 58 ∷ says.fields.cards)))) hand
-    ∙ ap (λ (l : List ℕ). codes "MATCHSTATE:" ++ (decimal view.position ++ 58 ∷ (decimal view.hand ++ 58 ∷ (l ++ 58 ∷ says.fields.cards)))) betting
-    ∙ ap (λ (l : List ℕ). codes "MATCHSTATE:" ++ (decimal view.position ++ 58 ∷ (decimal view.hand ++ 58 ∷ (text view.game view.past ++ 58 ∷ l)))) cards
+use Rattle.matchstate.proofs.OneLine.{line_is_text}
+use Rattle.matchstate.proofs.Seats.{newest_at}
 
 -- an answer whose line is the one that the seat has now
 pub echoes_now : (game : Game) (hands : List Hand) (seat : ℕ) (text : List ℕ) (view : View) (action : Action)
@@ -46,7 +31,7 @@ echoes_now game hands seat text view action reads current =
       reads = reads;
       current = current;
       field = reads.field;
-      whole = reads.cut.whole ∙ ap (λ (l : List ℕ). l ++ 58 ∷ reads.field) (line_is game reads.line view reads.line_is);
+      whole = reads.cut.whole ∙ ap (λ (l : List ℕ). l ++ 58 ∷ reads.field) (line_is_text game reads.line view reads.line_is);
       action_text = reads.action_is;
     }
 
@@ -69,15 +54,6 @@ of_newest game (newest ∷ earlier) seat view current =
       hand_is = ap (λ (v : View). v.hand) (sym same);
       past_is = ap (λ (v : View). v.past) (sym same);
     }
-
-last_of : (xs : List Hand) (y : Hand) → slice_get (xs ++ y ∷ []) (length xs) ≡ Some y
-last_of [] y = refl
-last_of (x ∷ xs) y = last_of xs y
-
-newest_at : (newest : Hand) (earlier : List Hand) → hand_at (newest ∷ earlier) (length earlier) ≡ Some newest
-newest_at newest earlier =
-    ap (λ hs. slice_get hs (length earlier)) (reverse-append (newest ∷ []) earlier)
-    ∙ ap (λ n. slice_get (reverse earlier ++ newest ∷ []) n) (sym (length-reverse earlier)) ∙ last_of (reverse earlier) newest
 
 -- the actions of the hand that the seat's view is of
 pub current_past : (game : Game) (hands : List Hand) (seat : ℕ) (view : View) → seat_view game hands seat ≡ Some view

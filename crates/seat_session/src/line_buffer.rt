@@ -6,11 +6,13 @@ ghost use Rattle.seat_session.specs.Front.{IsFrontOf};
 
 use crate::feeds::line_feeds;
 use crate::front::Front;
+use matchstate::MOST_LINE;
 use std::alloc::{AllocError, Global};
 use std::marker::Model;
 
-/// The most bytes that a client's line may have before its line feed, a carriage return counted.
-const LONGEST_LINE: usize = 4096;
+/// The most bytes that a client's line may have before its line feed, a carriage return counted: as many as the
+/// table's own lines.
+const LONGEST_LINE: usize = MOST_LINE;
 
 /// Bytes of a stream that come in any pieces and are taken line by line.
 ///

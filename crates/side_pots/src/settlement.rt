@@ -7,6 +7,7 @@ use crate::amounts::{chips_between, next_amount};
 use crate::shares::with_shares;
 use crate::winners::winners;
 use arrayvec::ArrayVec;
+use card_core::limits::PLAYERS;
 use hand_rank::HandValue;
 
 /// The payoffs of a finished hand by position, in whole chips: what each player gets of the pots less
@@ -20,7 +21,7 @@ use hand_rank::HandValue;
 ///
 /// For two to ten players, amounts up to 2147483647, and a greatest amount that an unfolded player put
 /// in. The payoffs sum to zero, and nobody loses more than he put in.
-pub fn settle(spent: &[u32], folded: &[bool], values: &[HandValue]) -> ArrayVec<i64, 10>
+pub fn settle(spent: &[u32], folded: &[bool], values: &[HandValue]) -> ArrayVec<i64, PLAYERS>
     requires two_players { 2 ≤ length spent.now }
     requires ten_players { length spent.now ≤ 10 }
     requires folded { length folded.now ≡ length spent.now }
@@ -49,7 +50,7 @@ pub fn settle(spent: &[u32], folded: &[bool], values: &[HandValue]) -> ArrayVec<
 }
 
 /// Nothing, for each of the players.
-fn nothing_won(players: usize) -> ArrayVec<u64, 10>
+fn nothing_won(players: usize) -> ArrayVec<u64, PLAYERS>
     requires { players ≤ 10 }
     ensures { result.items ≡ replicate players 0 }
 {
@@ -61,7 +62,7 @@ fn nothing_won(players: usize) -> ArrayVec<u64, 10>
 }
 
 /// What each player won less what he put in.
-fn less_spent(won: &[u64], spent: &[u32]) -> ArrayVec<i64, 10>
+fn less_spent(won: &[u64], spent: &[u32]) -> ArrayVec<i64, PLAYERS>
     requires players { length spent.now ≤ 10 }
     requires one_length { length won.now ≡ length spent.now }
     requires fits { sum won.now < 2 ^ 63 }
@@ -69,7 +70,7 @@ fn less_spent(won: &[u64], spent: &[u32]) -> ArrayVec<i64, 10>
         (λ position. pos (slice_index won.now position) -ℤ pos (slice_index spent.now position))
         (range_with_len 0 (length spent.now)) }
 {
-    let mut payoffs: ArrayVec<i64, 10> = ArrayVec::new();
+    let mut payoffs: ArrayVec<i64, PLAYERS> = ArrayVec::new();
     for position in 0..spent.len() {
         payoffs.push(won[position] as i64 - i64::from(spent[position]));
     }

@@ -3,10 +3,11 @@ ghost use Rattle.std.specs.List.{range_with_len, sum};
 ghost use Rattle.side_pots.specs.Pots.{share, wins};
 
 use arrayvec::ArrayVec;
+use card_core::limits::PLAYERS;
 
 /// What each player has won when the pot is shared too: equal parts in whole chips, and the odd chips
 /// one each to the winners in order of position from 0.
-pub(crate) fn with_shares(won: &[u64], pot: u64, winners: &[bool]) -> ArrayVec<u64, 10>
+pub(crate) fn with_shares(won: &[u64], pot: u64, winners: &[bool]) -> ArrayVec<u64, PLAYERS>
     requires players { length won.now ≤ 10 }
     requires winners { length winners.now ≡ length won.now }
     requires some_winner { 0 < wins winners.now }
@@ -17,7 +18,7 @@ pub(crate) fn with_shares(won: &[u64], pot: u64, winners: &[bool]) -> ArrayVec<u
     ensures total { sum result.items ≡ sum won.now + pot }
 {
     let count = winner_count(winners);
-    let mut shared: ArrayVec<u64, 10> = ArrayVec::new();
+    let mut shared: ArrayVec<u64, PLAYERS> = ArrayVec::new();
     let mut winners_before = 0;
     for position in 0..won.len() {
         let mut amount = won[position];

@@ -2,6 +2,7 @@ ghost use Rattle.std.specs.Prelude.{◌≡◌, ◌<◌, ◌≤◌, length};
 ghost use Rattle.side_pots.specs.Pots.{is_eligible as eligible, is_winner as wins_by, winners_of};
 
 use arrayvec::ArrayVec;
+use card_core::limits::PLAYERS;
 use hand_rank::HandValue;
 
 /// By position, whether the player wins the pot whose levels end at an amount: unfolded players who put
@@ -11,13 +12,13 @@ pub(crate) fn winners(
     folded: &[bool],
     values: &[HandValue],
     level: u32,
-) -> ArrayVec<bool, 10>
+) -> ArrayVec<bool, PLAYERS>
     requires players { length spent.now ≤ 10 }
     requires folded { length folded.now ≡ length spent.now }
     requires values { length values.now ≡ length spent.now }
     ensures { result.items ≡ winners_of values.now (eligible spent.now folded.now level) }
 {
-    let mut winners: ArrayVec<bool, 10> = ArrayVec::new();
+    let mut winners: ArrayVec<bool, PLAYERS> = ArrayVec::new();
     for position in 0..spent.len() {
         winners.push(is_winner(spent, folded, values, level, position));
     }

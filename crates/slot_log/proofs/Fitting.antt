@@ -14,7 +14,7 @@ use Rattle.slot_log.specs.declared.reason.Reason.TheVariants.{MatchDone, NoHand,
 use Rattle.betting.specs.Laws.{AllowedWithoutFault}
 use Rattle.slot_log.proofs.Allowed.{past_test}
 
-no_reason : (fault : Option ActFault) → option_map Illegal fault ≡ None → fault ≡ None
+pub no_reason : (fault : Option ActFault) → option_map Illegal fault ≡ None → fault ≡ None
 no_reason None e = refl
 no_reason (Some fault) e = cc
 

@@ -95,11 +95,11 @@ all_of : (game : Game) (hands : List PlayedHand) → AllByRecursion (IsOf game) 
 all_of game [] all = tt
 all_of game (hand ∷ hands) all = (of_game game hand all.0, all_of game hands all.1)
 
-all_joined : {X : Type 0} (P : X → Type 0) (xs ys : List X) → AllByRecursion P xs → AllByRecursion P ys → AllByRecursion P (xs ++ ys)
+pub all_joined : {X : Type 0} (P : X → Type 0) (xs ys : List X) → AllByRecursion P xs → AllByRecursion P ys → AllByRecursion P (xs ++ ys)
 all_joined P [] ys first second = second
 all_joined P (x ∷ xs) ys first second = (first.0, all_joined P xs ys first.1 second)
 
-all_reversed : {X : Type 0} (P : X → Type 0) (xs : List X) → AllByRecursion P xs → AllByRecursion P (reverse xs)
+pub all_reversed : {X : Type 0} (P : X → Type 0) (xs : List X) → AllByRecursion P xs → AllByRecursion P (reverse xs)
 all_reversed P [] all = tt
 all_reversed P (x ∷ xs) all = rw (reverse-cons x xs) (all_joined P (reverse xs) (x ∷ []) (all_reversed P xs all.1) (all.0, tt))
 

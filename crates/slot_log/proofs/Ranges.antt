@@ -16,7 +16,7 @@ use Rattle.slot_log.specs.Laws.{FitsWithoutReason, CommandsMakeHands, FittingIsI
 use Rattle.slot_log.specs.declared.command.Command.{Command}
 use Rattle.slot_log.specs.declared.command.Command.TheVariants.{Deal, Act}
 use Rattle.slot_log.specs.declared.reason.Reason.{Reason}
-use Rattle.slot_log.proofs.Hands.{count_all, reverse-cons}
+use Rattle.slot_log.proofs.Hands.{count_all, reverse-cons, at_end}
 use Rattle.slot_log.proofs.Fitting.{fits_from_none, none_from_fits}
 
 pub fits_without_reason : AllowedWithoutFault → FitsWithoutReason
@@ -90,10 +90,6 @@ fitting_is_in_range ends up game count (newest ∷ earlier) (Act hand index acti
     (omega (arith, few, same_hand, within), omega (arith, next_index, acts), amount_fits up game newest.past action is_game are.legal.0.legal fits.allowed)
 
 -- ---- the newest hand
-
-at_end : (xs : List Hand) (x : Hand) → slice_get (xs ++ x ∷ []) (length xs) ≡ Some x
-at_end [] x = refl
-at_end (y ∷ xs) x = at_end xs x
 
 pub newest_is_found : NewestIsFound
 newest_is_found newest earlier =

@@ -10,7 +10,7 @@ use Rattle.slot_log.specs.declared.limits.TheConstants.{SLOTS}
 use Rattle.slot_log.specs.Slots.{Log, IsLog, Rise, front, known_by, find, known_at, with_known, settled, with_command}
 use Rattle.slot_log.specs.SlotsInside.{run_of}
 use Rattle.slot_log.specs.SlotLaws.{FrontIsFirstHole, SlotsEnd, OneMoreIsKnown, FrontsGoOn, CommandsAreKept, known_count}
-use Rattle.slot_log.proofs.Hands.{reverse-cons}
+use Rattle.slot_log.proofs.Hands.{reverse-cons, at_end}
 
 -- ---- places in a list
 
@@ -23,10 +23,6 @@ in_front : {X : Type 0} (xs ys : List X) (i : ℕ) → i < length xs → slice_g
 in_front [] ys i below = absurd (omega (arith, below))
 in_front (x ∷ xs) ys zero below = refl
 in_front (x ∷ xs) ys (suc i) below = in_front xs ys i (omega (arith, below))
-
-at_end : {X : Type 0} (xs : List X) (x : X) → slice_get (xs ++ x ∷ []) (length xs) ≡ Some x
-at_end [] x = refl
-at_end (y ∷ xs) x = at_end xs x
 
 -- ---- what stands beyond
 

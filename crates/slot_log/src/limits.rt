@@ -4,7 +4,7 @@
 pub const HANDS: u32 = 10_000;
 
 /// The actions of a hand are numbered from 0 to one below this.
-pub const ACTIONS: u16 = 256;
+pub const ACTIONS: u16 = betting::limits::ACTIONS as u16;
 
 /// Slots are numbered from 0 to one below this.
 pub const SLOTS: u32 = 4_000_000;

@@ -1,12 +1,11 @@
 -- No right script line is longer than 335 bytes.
-use Rattle.std.proofs.Common.{◌≡◌, ℕ, zero, suc, ◌+◌, ◌-◌, ◌*◌, ◌≤◌, List, [], ◌∷◌, ◌++◌, length, take, drop, ◌∙◌, ap, subst, arith, refl, inl, inr}
+use Rattle.std.proofs.Common.{◌≡◌, ℕ, zero, suc, ◌+◌, ◌-◌, ◌*◌, ◌≤◌, List, [], ◌∷◌, ◌++◌, length, take, drop, ◌∙◌, ap, subst, arith, inl, inr}
 use Rattle.std.specs.Prelude.{Option, Some, None, map, codes, decimal}
 use Rattle.std.specs.List.{AllByRecursion, flat_map, range_with_len}
 use Rattle.std.proofs.lemmas.Bool.{cases_lt}
 use Rattle.std.proofs.lemmas.Fmt.{length-decimal-le}
 use Rattle.std.proofs.lemmas.List.{length-append, length-take, length-drop, take_all, length-take-le}
 use Rattle.game_def.specs.Game.{Game}
-use Rattle.card_core.specs.Card.{text_of}
 use Rattle.card_core.specs.Deal.{IsDeal, hole_of, board_of}
 use Rattle.betting.specs.declared.action.Action.{Action}
 use Rattle.betting.specs.declared.action.Action.TheVariants.{Fold, Call, Raise}
@@ -23,6 +22,7 @@ use Rattle.streamed.specs.Names.{IsNamesLine}
 use Rattle.streamed.specs.Answer.{Tells, Says}
 use Rattle.streamed.specs.declared.script_line.ScriptLine.{ScriptLine}
 use Rattle.streamed.specs.declared.script_line.ScriptLine.TheVariants.{Names, Told, Bad}
+use Rattle.matchstate.proofs.CardTexts.{length_cards_text}
 
 -- names with | between them have 33 bytes each, and one less
 names_length : (name : List ℕ) (others : List (List ℕ)) → AllByRecursion IsName (name ∷ others) → length (names_field (name ∷ others)) + 1 ≤ 33 * length (name ∷ others)
@@ -40,10 +40,6 @@ line_length players (name ∷ others) line most right =
     let bound = names_length name others right.are_names.each_name in
     omega arith
 
-cards_length : (cards : List ℕ) → length (cards_text cards) ≡ 2 * length cards
-cards_length [] = refl
-cards_length (card ∷ cards) = let rest : length (cards_text cards) ≡ 2 * length cards = cards_length cards in omega (arith, length-append (text_of card) (cards_text cards))
-
 holes_length : (deal : List ℕ) (first count : ℕ) → length (flat_map (λ y. (124 ∷ []) ++ cards_text y) (map (hole_of deal) (range_with_len first count))) ≤ 5 * count
 holes_length deal first zero = omega arith
 holes_length deal first (suc count) =
@@ -51,7 +47,7 @@ holes_length deal first (suc count) =
     let rest : List ℕ = flat_map (λ y. (124 ∷ []) ++ cards_text y) (map (hole_of deal) (range_with_len (first + 1) count)) in
     let two : length hole ≤ 2 = omega (arith, length-take 2 (drop (2 * first) deal)) in
     let after : length rest ≤ 5 * count = holes_length deal (first + 1) count in
-    omega (arith, length-append (124 ∷ cards_text hole) rest, cards_length hole)
+    omega (arith, length-append (124 ∷ cards_text hole) rest, length_cards_text hole)
 
 -- the flop, the turn and the river have 13
 boards_length : (deal : List ℕ) → 5 ≤ length deal → length (flat_map (λ cards. 47 ∷ cards_text cards) (boards_of deal)) ≤ 13
@@ -70,9 +66,9 @@ boards_length deal least =
       length-append (47 ∷ cards_text flop) ((47 ∷ cards_text turn) ++ whole),
       length-append (47 ∷ cards_text turn) whole,
       length-append (47 ∷ cards_text river) [],
-      cards_length flop,
-      cards_length turn,
-      cards_length river,
+      length_cards_text flop,
+      length_cards_text turn,
+      length_cards_text river,
     )
 
 -- ten players' cards have 63 bytes
@@ -85,7 +81,7 @@ deal_length (suc others) deal most dealt =
     let two : length hole ≤ 2 = omega (arith, length-take 2 (drop 0 deal)) in
     let after : length rest ≤ 5 * others = holes_length deal 1 others in
     let board : length boards ≤ 13 = boards_length deal (omega (arith, dealt.count)) in
-    omega (arith, length-append (cards_text hole ++ rest) boards, length-append (cards_text hole) rest, cards_length hole)
+    omega (arith, length-append (cards_text hole ++ rest) boards, length-append (cards_text hole) rest, length_cards_text hole)
 
 raise_length : (sizes : Option (List ℕ)) (game : Game) (past : List Turn) (text : List ℕ) (amount : ℕ) → IsRaiseText sizes game past text amount → length text ≤ 11
 raise_length None game past text amount right =

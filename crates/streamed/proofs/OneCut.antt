@@ -1,13 +1,10 @@
 -- A script is cut into lines in one way.
 use Rattle.std.proofs.Common.{◌≡◌, ℕ, List, [], ◌∷◌, ◌++◌, reverse, refl, sym, ◌∙◌, ap, subst, append_assoc}
 use Rattle.std.specs.List.{AllByRecursion, flat_map}
-use Rattle.std.proofs.lemmas.List.{reverse-append, reverse-reverse}
-use Rattle.match_log.proofs.FieldCuts.{All-joined, cut_alike}
+use Rattle.std.proofs.lemmas.List.{reverse-reverse}
+use Rattle.match_log.proofs.FieldCuts.{cut_alike}
 use Rattle.streamed.specs.Script.{AreLines, HasNoFeed}
-
-all_reversed : {X : Type 0} (P : X → Type 0) (xs : List X) → AllByRecursion P xs → AllByRecursion P (reverse xs)
-all_reversed P [] all = tt
-all_reversed P (x ∷ xs) all = subst (AllByRecursion P) (sym (reverse-append (x ∷ []) xs)) (All-joined P (reverse xs) (x ∷ []) (all_reversed P xs all.1) (all.0, tt))
+use Rattle.slot_log.proofs.Inside.{all_reversed}
 
 -- the first line, its line feed and what stands behind it
 first_line : (line : List ℕ) (lines : List (List ℕ)) (rest : List ℕ) → flat_map (λ l. l ++ 10 ∷ []) (line ∷ lines) ++ rest ≡ line ++ 10 ∷ (flat_map (λ l. l ++ 10 ∷ []) lines ++ rest)

@@ -5,8 +5,9 @@ use Rattle.betting.specs.Betting.{history}
 use Rattle.betting.specs.Rounds.{turns}
 use Rattle.betting.specs.Turns.{spent, max_spent}
 use Rattle.match_log.specs.Payoffs.{amounts_of}
-use Rattle.match_log.proofs.ByPosition.{push_range, room_in_range, all_and_one, stack_fits, whole_range}
+use Rattle.match_log.proofs.ByPosition.{all_and_one, stack_fits, whole_range}
 use Rattle.match_log.proofs.settlement.amounts.Goals as goal
+use Rattle.side_pots.proofs.OddChips.{push_range, room_in_range}
 
 pub push-requires : goal.push-requires
 push-requires c =

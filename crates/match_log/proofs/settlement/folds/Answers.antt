@@ -3,8 +3,9 @@ use Rattle.std.specs.List.{range_with_len}
 use Rattle.betting.specs.Betting.{history}
 use Rattle.betting.specs.Turns.{folded}
 use Rattle.match_log.specs.Payoffs.{folds_of}
-use Rattle.match_log.proofs.ByPosition.{push_range, room_in_range, whole_range}
+use Rattle.match_log.proofs.ByPosition.{whole_range}
 use Rattle.match_log.proofs.settlement.folds.Goals as goal
+use Rattle.side_pots.proofs.OddChips.{push_range, room_in_range}
 
 pub push-requires : goal.push-requires
 push-requires c =
