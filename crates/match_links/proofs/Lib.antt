@@ -1,1 +1,4 @@
 mod Examples
+mod PassageExamples
+pub mod Walks
+pub mod Passed

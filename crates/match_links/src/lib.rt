@@ -7,6 +7,7 @@
 mod input;
 mod links;
 mod memory_links;
+mod passages;
 mod piece;
 mod tcp_links;
 

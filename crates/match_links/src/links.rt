@@ -1,6 +1,7 @@
 //! What a server reaches outside of its nodes: seats, the connections between nodes, and logs.
 
-ghost use Rattle.std.specs.Prelude.{◌≤◌, length, IfOk};
+ghost use Rattle.std.specs.Prelude.{◌≡◌, ◌≤◌, List, [], ◌∷◌, ◌++◌, length, take, IfOk, OnOk, OnErr};
+ghost use Rattle.match_links.specs.Passages.{Passage, Told, Emptied, Logged, came};
 
 /// Why a call of a link did nothing.
 #[derive(Clone, Copy, Debug, PartialEq, Eq)]
@@ -15,40 +16,58 @@ pub enum LinkFault {
 /// node. Nodes and seats are counted from 0.
 ///
 /// Any call may fail, and nothing is said of what a link gives: what is promised of a server holds whatever its links
-/// answer.
+/// answer. What passed is said: the pieces that came, the lines that seats were told, and what logs were given. A call
+/// that fails adds nothing to it.
 pub trait Links {
+    /// What passed so far, in order.
+    ghost passed: { Self → List Passage };
+
     /// Waits for a connection of a seat at a node, which has sent something. Those that ended before they sent anything
     /// are passed over.
     ///
     /// This is the one call that may want memory, for what the seat will send.
-    fn accept(&mut self, node: u8, seat: u8) -> Result<(), LinkFault>;
+    fn accept(&mut self, node: u8, seat: u8) -> Result<(), LinkFault>
+        ensures { passed self.new ≡ passed self.old };
 
     /// Waits for the next piece of what a seat sent, up to and with its first line feed, and no more than the buffer
     /// holds; at the connection's end what is left, and then nothing. The answer is how many bytes it has.
     fn read(&mut self, node: u8, seat: u8, piece: &mut [u8]) -> Result<usize, LinkFault>
-        ensures { IfOk result (λ count. count ≤ length piece.new) };
+        ensures within { IfOk result (λ count. count ≤ length piece.new) }
+        ensures came { IfOk result (λ count. passed self.new ≡ passed self.old ++ came node seat (take count piece.new)) }
+        ensures failed { OnErr result (passed self.new ≡ passed self.old) };
 
     /// Sends a line to a seat, with CR LF behind it.
-    fn write(&mut self, node: u8, seat: u8, line: &[u8]) -> Result<(), LinkFault>;
+    fn write(&mut self, node: u8, seat: u8, line: &[u8]) -> Result<(), LinkFault>
+        ensures told { OnOk result (passed self.new ≡ passed self.old ++ Told node seat line.now ∷ []) }
+        ensures failed { OnErr result (passed self.new ≡ passed self.old) };
 
     /// Closes the connection of a seat to a node.
-    fn hang_up(&mut self, node: u8, seat: u8);
+    fn hang_up(&mut self, node: u8, seat: u8)
+        ensures { passed self.new ≡ passed self.old };
 
     /// Writes a frame to the connection of two nodes.
-    fn send(&mut self, from: u8, to: u8, frame: &[u8]) -> Result<(), LinkFault>;
+    fn send(&mut self, from: u8, to: u8, frame: &[u8]) -> Result<(), LinkFault>
+        ensures { passed self.new ≡ passed self.old };
 
     /// Fills the buffer from the other end of the connection of two nodes.
-    fn receive(&mut self, from: u8, to: u8, frame: &mut [u8]) -> Result<(), LinkFault>;
+    fn receive(&mut self, from: u8, to: u8, frame: &mut [u8]) -> Result<(), LinkFault>
+        ensures { passed self.new ≡ passed self.old };
 
     /// Empties the log of a node.
-    fn empty_log(&mut self, node: u8) -> Result<(), LinkFault>;
+    fn empty_log(&mut self, node: u8) -> Result<(), LinkFault>
+        ensures emptied { OnOk result (passed self.new ≡ passed self.old ++ Emptied node ∷ []) }
+        ensures failed { OnErr result (passed self.new ≡ passed self.old) };
 
     /// Puts text behind what the log of a node has, and has it in the file when it answers.
-    fn add_to_log(&mut self, node: u8, text: &[u8]) -> Result<(), LinkFault>;
+    fn add_to_log(&mut self, node: u8, text: &[u8]) -> Result<(), LinkFault>
+        ensures logged { OnOk result (passed self.new ≡ passed self.old ++ Logged node text.now ∷ []) }
+        ensures failed { OnErr result (passed self.new ≡ passed self.old) };
 
     /// Opens the seats' ports of a node that is to start.
-    fn open(&mut self, node: u8) -> Result<(), LinkFault>;
+    fn open(&mut self, node: u8) -> Result<(), LinkFault>
+        ensures { passed self.new ≡ passed self.old };
 
     /// Closes the seats' ports of a node, and the connections to it.
-    fn close(&mut self, node: u8);
+    fn close(&mut self, node: u8)
+        ensures { passed self.new ≡ passed self.old };
 }

@@ -1,10 +1,13 @@
 //! Links in memory, of whose calls one may fail.
 
-ghost use Rattle.std.specs.Prelude.{◌≡◌, ◌+◌, ◌≤◌, length, take, drop, vec_len};
+ghost use Rattle.std.specs.Prelude.{◌≡◌, ◌+◌, ◌++◌, ◌==◌, [], ℕ, ◌≤◌, if◌then◌else◌, ◌∷◌, length, take, drop, map, get_or, vec_len, IfOk, OnOk, OnErr};
+ghost use Rattle.match_links.specs.Memory.{told_by, AreTold, told_prop, AreLogged, logged_prop};
+ghost use Rattle.match_links.specs.Passages.{lines_in, log_of, Told as WasTold};
 ghost use Rattle.match_links.specs.Pieces.{part_len};
 
 use crate::input::give;
 use crate::links::{LinkFault, Links};
+use crate::passages::Passages;
 use std::alloc::{AllocError, Global};
 
 /// How many bytes of a log, and of a frame, there is room for from the start.
@@ -87,30 +90,148 @@ pub struct MemoryLinks {
     left: Option<u64>,
     /// What the call that failed was to reach.
     failed: Option<Reached>,
+    /// What passed, for clauses alone.
+    passed: Passages,
+    ghost lines: { AreTold told.items passed.items } by { told_prop told.items passed.items },
+    ghost logged: { AreLogged (map (λ log. log.items) logs.items) passed.items } by { logged_prop (map (λ log. log.items) logs.items) passed.items },
+}
+
+/// Puts a line behind those that seats got; fails without memory for it.
+fn tell_one(
+    alloc: Global,
+    told: &mut Vec<Told>,
+    node: u8,
+    seat: u8,
+    line: &[u8],
+) -> Result<(), LinkFault>
+    ensures told { OnOk result (map told_by told.new.items ≡ map told_by told.old.items ++ WasTold node seat line.now ∷ []) }
+    ensures failed { OnErr result (told.new.items ≡ told.old.items) }
+{
+    let Ok(line) = Vec::from_slice(alloc, line) else {
+        return Err(LinkFault::Failed);
+    };
+    match told.push(Told { node, seat, line }) {
+        Ok(()) => Ok(()),
+        Err(_) => Err(LinkFault::Failed),
+    }
+}
+
+/// The logs of so many nodes, with nothing in them.
+#[tactic(auto, using(crate::proofs::Passed::none_more))]
+fn empty_logs(alloc: Global, nodes: usize) -> Result<Vec<Vec<u8>>, AllocError>
+    ensures { IfOk result (λ logs. (node : ℕ) → get_or (map (λ log. log.items) logs.items) node [] ≡ []) }
+{
+    let mut logs = Vec::new(alloc);
+    for _ in 0..nodes {
+        logs.push(Vec::with_capacity(alloc, ROOM)?)?;
+    }
+    Ok(logs)
+}
+
+/// Empties the log of this number; fails where there is none.
+#[tactic(auto, using(crate::proofs::Passed::put_in))]
+fn empty_one(logs: &mut Vec<Vec<u8>>, node: usize) -> Result<(), LinkFault>
+    ensures emptied { OnOk result ((i : ℕ) → get_or (map (λ log. log.items) logs.new.items) i [] ≡ (if node == i then [] else get_or (map (λ log. log.items) logs.old.items) i [])) }
+    ensures failed { OnErr result (map (λ log. log.items) logs.new.items ≡ map (λ log. log.items) logs.old.items) }
+{
+    if node >= logs.len() {
+        return Err(LinkFault::Failed);
+    }
+    logs[node].clear();
+    Ok(())
+}
+
+/// Puts text behind the log of this number; fails where there is none, or no room for it.
+#[tactic(auto, using(crate::proofs::Passed::put_in))]
+fn add_to_one(logs: &mut Vec<Vec<u8>>, node: usize, text: &[u8]) -> Result<(), LinkFault>
+    ensures added { OnOk result ((i : ℕ) → get_or (map (λ log. log.items) logs.new.items) i [] ≡
+        (if node == i then get_or (map (λ log. log.items) logs.old.items) i [] ++ text.now else get_or (map (λ log. log.items) logs.old.items) i [])) }
+    ensures failed { OnErr result (map (λ log. log.items) logs.new.items ≡ map (λ log. log.items) logs.old.items) }
+{
+    if node >= logs.len() {
+        return Err(LinkFault::Failed);
+    }
+    match logs[node].extend_from_slice(text) {
+        Ok(()) => Ok(()),
+        Err(_) => Err(LinkFault::Failed),
+    }
+}
+
+/// Opens the first connection of a seat to a node that waits and sends something; fails where there is none.
+fn open_one(callers: &mut [Caller], node: u8, seat: u8) -> Result<(), LinkFault> {
+    for caller in callers {
+        if caller.node == node
+            && caller.seat == seat
+            && caller.state == State::Waiting
+            && !caller.bytes.is_empty()
+        {
+            caller.state = State::Open;
+            return Ok(());
+        }
+    }
+    Err(LinkFault::Failed)
+}
+
+/// Reads the next piece from a seat's connection to a node; fails where it has none.
+fn read_from(
+    callers: &mut [Caller],
+    node: u8,
+    seat: u8,
+    piece: &mut [u8],
+) -> Result<usize, LinkFault>
+    ensures { IfOk result (λ count. count ≤ length piece.new) }
+{
+    for caller in callers {
+        if caller.node == node && caller.seat == seat && caller.state == State::Open {
+            return Ok(caller.read(piece));
+        }
+    }
+    Err(LinkFault::Failed)
+}
+
+/// Closes a seat's connection to a node.
+fn close_seat(callers: &mut [Caller], node: u8, seat: u8) {
+    for caller in callers {
+        if caller.node == node && caller.seat == seat && caller.state == State::Open {
+            caller.state = State::Closed;
+        }
+    }
+}
+
+/// Closes all connections to a node.
+fn close_node(callers: &mut [Caller], node: u8) {
+    for caller in callers {
+        if caller.node == node && caller.state == State::Open {
+            caller.state = State::Closed;
+        }
+    }
 }
 
 impl MemoryLinks {
+    ghost use Rattle.match_links.specs.MemoryPassed.{passed_of};
+
     /// Links of so many nodes. The call of this number fails, counted from 1; with 0 none does.
-    pub fn new(alloc: Global, nodes: usize, call: u64) -> Result<MemoryLinks, AllocError> {
-        let mut logs = Vec::new(alloc);
-        for _ in 0..nodes {
-            logs.push(Vec::with_capacity(alloc, ROOM)?)?;
-        }
+    pub fn new(alloc: Global, nodes: usize, call: u64) -> Result<MemoryLinks, AllocError>
+        ensures { IfOk result (λ links. passed_of links ≡ []) }
+    {
         Ok(MemoryLinks {
             alloc,
             callers: Vec::new(alloc),
             told: Vec::new(alloc),
-            logs,
+            logs: empty_logs(alloc, nodes)?,
             wire: Vec::with_capacity(alloc, ROOM)?,
             ends: (0, 0),
             closed: [false; NODES],
             left: call.checked_sub(1),
             failed: None,
+            passed: Passages::new(),
         })
     }
 
     /// Puts a connection of a seat to a node behind those that wait there. It sends these bytes, and ends.
-    pub fn call(&mut self, node: u8, seat: u8, bytes: &[u8]) -> Result<(), AllocError> {
+    pub fn call(&mut self, node: u8, seat: u8, bytes: &[u8]) -> Result<(), AllocError>
+        ensures { passed_of self.new ≡ passed_of self.old }
+    {
         let caller = Caller {
             node,
             seat,
@@ -123,12 +244,16 @@ impl MemoryLinks {
     }
 
     /// All lines that seats got, in order.
-    pub fn told(&self) -> &[Told] {
+    pub fn told(&self) -> &[Told]
+        ensures { map told_by result.now ≡ lines_in (passed_of self.now) }
+    {
         &self.told
     }
 
     /// The log of a node; nothing of a number that no node has.
-    pub fn log(&self, node: usize) -> &[u8] {
+    pub fn log(&self, node: usize) -> &[u8]
+        ensures { result.now ≡ log_of (passed_of self.now) node }
+    {
         match self.logs.get(node) {
             Some(log) => log,
             None => &[],
@@ -150,7 +275,9 @@ impl MemoryLinks {
         }
     }
 
-    fn set_closed(&mut self, node: u8, closed: bool) {
+    fn set_closed(&mut self, node: u8, closed: bool)
+        ensures { self.new.passed ≡ self.old.passed }
+    {
         if (node as usize) < NODES {
             self.closed[node as usize] = closed;
         }
@@ -164,7 +291,9 @@ impl MemoryLinks {
     }
 
     /// Whether this call passes.
-    fn pass(&mut self, reached: Reached) -> Result<(), LinkFault> {
+    fn pass(&mut self, reached: Reached) -> Result<(), LinkFault>
+        ensures { self.new.passed ≡ self.old.passed }
+    {
         match self.left {
             None => Ok(()),
             Some(0) => {
@@ -181,54 +310,37 @@ impl MemoryLinks {
 }
 
 impl Links for MemoryLinks {
+    ghost passed = { λ links. links.passed.items };
+
     fn accept(&mut self, node: u8, seat: u8) -> Result<(), LinkFault> {
         self.pass(Reached::Seat)?;
         if self.is_closed(node) {
             return Err(LinkFault::Failed);
         }
-        for caller in &mut self.callers {
-            if caller.node == node
-                && caller.seat == seat
-                && caller.state == State::Waiting
-                && !caller.bytes.is_empty()
-            {
-                caller.state = State::Open;
-                return Ok(());
-            }
-        }
-        Err(LinkFault::Failed)
+        open_one(&mut self.callers, node, seat)
     }
 
+    #[tactic(auto, using(crate::proofs::Passed::lines_when_came, crate::proofs::Passed::log_when_came))]
     fn read(&mut self, node: u8, seat: u8, piece: &mut [u8]) -> Result<usize, LinkFault> {
         self.pass(Reached::Seat)?;
-        for caller in &mut self.callers {
-            if caller.node == node && caller.seat == seat && caller.state == State::Open {
-                return Ok(caller.read(piece));
-            }
-        }
-        Err(LinkFault::Failed)
+        let count = read_from(&mut self.callers, node, seat, piece)?;
+        self.passed.came(node, seat, &piece[..count]);
+        Ok(count)
     }
 
+    #[tactic(auto, using(crate::proofs::Passed::lines_when_told, crate::proofs::Passed::log_when_told))]
     fn write(&mut self, node: u8, seat: u8, line: &[u8]) -> Result<(), LinkFault> {
         self.pass(Reached::Seat)?;
         if !self.is_open(node, seat) {
             return Err(LinkFault::Failed);
         }
-        match Vec::from_slice(self.alloc, line) {
-            Ok(line) => match self.told.push(Told { node, seat, line }) {
-                Ok(()) => Ok(()),
-                Err(_) => Err(LinkFault::Failed),
-            },
-            Err(_) => Err(LinkFault::Failed),
-        }
+        tell_one(self.alloc, &mut self.told, node, seat, line)?;
+        self.passed.told(node, seat, line);
+        Ok(())
     }
 
     fn hang_up(&mut self, node: u8, seat: u8) {
-        for caller in &mut self.callers {
-            if caller.node == node && caller.seat == seat && caller.state == State::Open {
-                caller.state = State::Closed;
-            }
-        }
+        close_seat(&mut self.callers, node, seat);
     }
 
     fn send(&mut self, from: u8, to: u8, frame: &[u8]) -> Result<(), LinkFault> {
@@ -250,26 +362,20 @@ impl Links for MemoryLinks {
         Ok(())
     }
 
+    #[tactic(auto, using(crate::proofs::Passed::lines_when_emptied, crate::proofs::Passed::log_when_emptied))]
     fn empty_log(&mut self, node: u8) -> Result<(), LinkFault> {
         self.pass(Reached::Log)?;
-        match self.logs.get_mut(node as usize) {
-            Some(log) => {
-                log.clear();
-                Ok(())
-            }
-            None => Err(LinkFault::Failed),
-        }
+        empty_one(&mut self.logs, node as usize)?;
+        self.passed.emptied(node);
+        Ok(())
     }
 
+    #[tactic(auto, using(crate::proofs::Passed::lines_when_logged, crate::proofs::Passed::log_when_logged))]
     fn add_to_log(&mut self, node: u8, text: &[u8]) -> Result<(), LinkFault> {
         self.pass(Reached::Log)?;
-        match self.logs.get_mut(node as usize) {
-            Some(log) => match log.extend_from_slice(text) {
-                Ok(()) => Ok(()),
-                Err(_) => Err(LinkFault::Failed),
-            },
-            None => Err(LinkFault::Failed),
-        }
+        add_to_one(&mut self.logs, node as usize, text)?;
+        self.passed.logged(node, text);
+        Ok(())
     }
 
     fn open(&mut self, node: u8) -> Result<(), LinkFault> {
@@ -280,10 +386,6 @@ impl Links for MemoryLinks {
 
     fn close(&mut self, node: u8) {
         self.set_closed(node, true);
-        for caller in &mut self.callers {
-            if caller.node == node && caller.state == State::Open {
-                caller.state = State::Closed;
-            }
-        }
+        close_node(&mut self.callers, node);
     }
 }

@@ -1,9 +1,10 @@
 //! Links over TCP on this machine, and logs in files.
 
-ghost use Rattle.std.specs.Prelude.{◌≡◌, ◌≤◌, ◌<◌, ◌+◌, ◌*◌, length, IfOk};
+ghost use Rattle.std.specs.Prelude.{◌≡◌, ◌≤◌, ◌<◌, ◌+◌, ◌*◌, length, IfOk, IsErr, Some};
 
 use crate::input::Input;
 use crate::links::{LinkFault, Links};
+use crate::passages::Passages;
 use std::alloc::{AllocError, Global};
 use std::fs::File;
 use std::io;
@@ -77,6 +78,8 @@ pub struct TcpLinks<'a> {
     line: Vec<u8>,
     /// What failed last of ports, connections of nodes and logs.
     failed: Option<Failed>,
+    /// What passed over the seats' connections and into the logs, for clauses alone.
+    passed: Passages,
     ghost low: { port ≤ 65000 },
     ghost few_nodes: { nodes ≤ 5 },
     ghost few_players: { players ≤ 10 },
@@ -109,6 +112,7 @@ impl<'a> TcpLinks<'a> {
             logs: Vec::with_capacity(alloc, nodes)?,
             line: Vec::with_capacity(alloc, LINE)?,
             failed: None,
+            passed: Passages::new(),
         };
         links.bind_seats()?;
         links.bind_doors()?;
@@ -123,7 +127,9 @@ impl<'a> TcpLinks<'a> {
     }
 
     /// What failed last of the nodes' ports, their connections and the logs, if anything did: which port or which log.
-    pub fn failed(&self) -> Option<Failed> {
+    pub fn failed(&self) -> Option<Failed>
+        ensures { result ≡ self.now.failed }
+    {
         self.failed
     }
 
@@ -274,6 +280,8 @@ fn done(answer: io::Result<()>) -> Result<(), LinkFault> {
 }
 
 impl Links for TcpLinks<'_> {
+    ghost passed = { λ links. links.passed.items };
+
     fn accept(&mut self, node: u8, seat: u8) -> Result<(), LinkFault> {
         let place = self.place(node, seat);
         let Some(Some(port)) = self.ports.get(place) else {
@@ -305,7 +313,11 @@ impl Links for TcpLinks<'_> {
     fn read(&mut self, node: u8, seat: u8, piece: &mut [u8]) -> Result<usize, LinkFault> {
         let place = self.place(node, seat);
         match self.callers.get_mut(place) {
-            Some(Some(caller)) => caller.read(piece),
+            Some(Some(caller)) => {
+                let count = caller.read(piece)?;
+                self.passed.came(node, seat, &piece[..count]);
+                Ok(count)
+            }
             _ => Err(LinkFault::Failed),
         }
     }
@@ -313,7 +325,11 @@ impl Links for TcpLinks<'_> {
     fn write(&mut self, node: u8, seat: u8, line: &[u8]) -> Result<(), LinkFault> {
         let place = self.place(node, seat);
         match self.callers.get_mut(place) {
-            Some(Some(caller)) => done(send_line(&mut caller.stream, &mut self.line, line)),
+            Some(Some(caller)) => {
+                done(send_line(&mut caller.stream, &mut self.line, line))?;
+                self.passed.told(node, seat, line);
+                Ok(())
+            }
             _ => Err(LinkFault::Failed),
         }
     }
@@ -348,6 +364,7 @@ impl Links for TcpLinks<'_> {
     fn empty_log(&mut self, node: u8) -> Result<(), LinkFault> {
         if let Some(log) = self.logs.get_mut(node as usize) {
             if log.set_len(0).is_ok() {
+                self.passed.emptied(node);
                 return Ok(());
             }
         }
@@ -357,6 +374,7 @@ impl Links for TcpLinks<'_> {
     fn add_to_log(&mut self, node: u8, text: &[u8]) -> Result<(), LinkFault> {
         if let Some(log) = self.logs.get_mut(node as usize) {
             if log.write_all(text).is_ok() {
+                self.passed.logged(node, text);
                 return Ok(());
             }
         }
@@ -381,13 +399,19 @@ impl Links for TcpLinks<'_> {
 
 impl TcpLinks<'_> {
     /// Notes what failed.
-    fn fail(&mut self, what: Failed) -> Result<(), LinkFault> {
+    fn fail(&mut self, what: Failed) -> Result<(), LinkFault>
+        ensures failed { IsErr result }
+        ensures same { self.new.passed ≡ self.old.passed }
+        ensures what { self.new.failed ≡ Some what }
+    {
         self.failed = Some(what);
         Err(LinkFault::Failed)
     }
 
     /// Binds a seat's port where it is closed.
-    fn open_port(&mut self, node: u8, seat: u8) -> Result<(), LinkFault> {
+    fn open_port(&mut self, node: u8, seat: u8) -> Result<(), LinkFault>
+        ensures { self.new.passed ≡ self.old.passed }
+    {
         let port = self.seat_port(node, seat);
         let place = self.place(node, seat);
         if let Some(slot) = self.ports.get_mut(place) {
@@ -402,13 +426,17 @@ impl TcpLinks<'_> {
         self.fail(Failed::Port(port))
     }
 
-    fn close_ports(&mut self, node: u8) {
+    fn close_ports(&mut self, node: u8)
+        ensures { self.new.passed ≡ self.old.passed }
+    {
         for seat in 0..self.players as u8 {
             self.close_port(node, seat);
         }
     }
 
-    fn close_port(&mut self, node: u8, seat: u8) {
+    fn close_port(&mut self, node: u8, seat: u8)
+        ensures { self.new.passed ≡ self.old.passed }
+    {
         let place = self.place(node, seat);
         if let Some(slot) = self.ports.get_mut(place) {
             *slot = None;

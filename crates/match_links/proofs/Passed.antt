@@ -1,0 +1,88 @@
+-- What one more passage leaves of the lines and the logs.
+use Rattle.std.proofs.Common.{◌≡◌, ℕ, zero, suc, ◌<◌, ◌==◌, if◌then◌else◌, List, [], ◌∷◌, ◌++◌, map, length, get_or, set, refl, ap, ◌∙◌, arith, rules}
+use Rattle.match_links.specs.Passages.{Passage, Came, Told, Emptied, Logged, came, lines_in, logged_by, log_after, log_of}
+
+lines_more : (xs ys : List Passage) → lines_in (xs ++ ys) ≡ lines_in xs ++ lines_in ys
+lines_more [] ys = refl
+lines_more (Came node seat bytes ∷ xs) ys = lines_more xs ys
+lines_more (Told node seat line ∷ xs) ys = ap (λ ls. Told node seat line ∷ ls) (lines_more xs ys)
+lines_more (Emptied node ∷ xs) ys = lines_more xs ys
+lines_more (Logged node text ∷ xs) ys = lines_more xs ys
+
+more : (node : ℕ) (log : List ℕ) (xs ys : List Passage) → log_after node log (xs ++ ys) ≡ log_after node (log_after node log xs) ys
+more node log [] ys = refl
+more node log (x ∷ xs) ys = more node (logged_by node log x) xs ys
+
+-- a line more
+pub lines_when_told : (passed : List Passage) (node seat : ℕ) (line : List ℕ) → lines_in (passed ++ Told node seat line ∷ []) ≡ lines_in passed ++ Told node seat line ∷ []
+lines_when_told passed node seat line = lines_more passed (Told node seat line ∷ [])
+
+no_more : (ls : List Passage) → ls ++ [] ≡ ls
+no_more [] = refl
+no_more (l ∷ ls) = ap (λ more. l ∷ more) (no_more ls)
+
+-- no line more
+pub lines_when_came : (passed : List Passage) (node seat : ℕ) (bytes : List ℕ) → lines_in (passed ++ came node seat bytes) ≡ lines_in passed
+lines_when_came passed node seat [] = ap lines_in (no_more passed)
+lines_when_came passed node seat (byte ∷ bytes) = lines_more passed (Came node seat (byte ∷ bytes) ∷ []) ∙ no_more (lines_in passed)
+
+pub lines_when_emptied : (passed : List Passage) (node : ℕ) → lines_in (passed ++ Emptied node ∷ []) ≡ lines_in passed
+lines_when_emptied passed node = lines_more passed (Emptied node ∷ []) ∙ no_more (lines_in passed)
+
+pub lines_when_logged : (passed : List Passage) (node : ℕ) (text : List ℕ) → lines_in (passed ++ Logged node text ∷ []) ≡ lines_in passed
+lines_when_logged passed node text = lines_more passed (Logged node text ∷ []) ∙ no_more (lines_in passed)
+
+-- a log grows by what is put behind it, and is emptied; nothing else changes it
+pub log_when_told : (passed : List Passage) (i node seat : ℕ) (line : List ℕ) → log_of (passed ++ Told node seat line ∷ []) i ≡ log_of passed i
+log_when_told passed i node seat line = more i [] passed (Told node seat line ∷ [])
+
+pub log_when_came : (passed : List Passage) (i node seat : ℕ) (bytes : List ℕ) → log_of (passed ++ came node seat bytes) i ≡ log_of passed i
+log_when_came passed i node seat [] = ap (λ ps. log_of ps i) (no_more passed)
+log_when_came passed i node seat (byte ∷ bytes) = more i [] passed (Came node seat (byte ∷ bytes) ∷ [])
+
+pub log_when_emptied : (passed : List Passage) (i node : ℕ) → log_of (passed ++ Emptied node ∷ []) i ≡ (if node == i then [] else log_of passed i)
+log_when_emptied passed i node = more i [] passed (Emptied node ∷ [])
+
+pub log_when_logged : (passed : List Passage) (i node : ℕ) (text : List ℕ) → log_of (passed ++ Logged node text ∷ []) i ≡ (if node == i then log_of passed i ++ text else log_of passed i)
+log_when_logged passed i node text = more i [] passed (Logged node text ∷ [])
+
+-- ---- lists
+
+same : (n i : ℕ) → (n == i) ≡ (suc n == suc i)
+same n i = search rules
+
+-- of a list in which one is put at its place, that one is found there and the others at theirs
+pub put_in : {A : Type 0} (f : A → List ℕ) (xs : List A) (n i : ℕ) (v : A) → n < length xs → get_or (map f (set xs n v)) i [] ≡ (if n == i then f v else get_or (map f xs) i [])
+put_in f [] n i v within = absurd (omega (arith, within))
+put_in f (x ∷ xs) zero zero v within = refl
+put_in f (x ∷ xs) zero (suc i) v within = search rules
+put_in f (x ∷ xs) (suc n) zero v within = search rules
+put_in f (x ∷ xs) (suc n) (suc i) v within = put_in f xs n i v (omega (arith, within)) ∙ ap (λ b. if b then f v else get_or (map f xs) i []) (same n i)
+
+-- where each is empty, and one more that is
+pub none_more : {A : Type 0} (f : A → List ℕ) (xs : List A) (v : A) → ((i : ℕ) → get_or (map f xs) i [] ≡ []) → f v ≡ [] → (i : ℕ) → get_or (map f (xs ++ v ∷ [])) i [] ≡ []
+none_more f [] v none empty zero = empty
+none_more f [] v none empty (suc i) = refl
+none_more f (x ∷ xs) v none empty zero = none zero
+none_more f (x ∷ xs) v none empty (suc i) = none_more f xs v (λ k. none (suc k)) empty i
+
+-- the one at its place got more
+pub put_more : {A : Type 0} (f : A → List ℕ) (xs : List A) (n i : ℕ) (v : A) (text : List ℕ) → n < length xs → f v ≡ get_or (map f xs) n [] ++ text
+    → get_or (map f (set xs n v)) i [] ≡ (if n == i then get_or (map f xs) i [] ++ text else get_or (map f xs) i [])
+put_more f [] n i v text within is = absurd (omega (arith, within))
+put_more f (x ∷ xs) zero zero v text within is = is
+put_more f (x ∷ xs) zero (suc i) v text within is = search rules
+put_more f (x ∷ xs) (suc n) zero v text within is = search rules
+put_more f (x ∷ xs) (suc n) (suc i) v text within is =
+    put_more f xs n i v text (omega (arith, within)) is ∙ ap (λ b. if b then get_or (map f xs) i [] ++ text else get_or (map f xs) i []) (same n i)
+
+-- the one at its place has what was there
+pub put_same : {A : Type 0} (f : A → List ℕ) (xs : List A) (n : ℕ) (v : A) → n < length xs → f v ≡ get_or (map f xs) n [] → map f (set xs n v) ≡ map f xs
+put_same f [] n v within is = refl
+put_same f (x ∷ xs) zero v within is = ap (λ y. y ∷ map f xs) is
+put_same f (x ∷ xs) (suc n) v within is = ap (λ ys. f x ∷ ys) (put_same f xs n v (omega (arith, within)) is)
+
+pub in_place : {A : Type 0} (f : A → List ℕ) (xs : List A) (n : ℕ) (d : A) → n < length xs → f (get_or xs n d) ≡ get_or (map f xs) n []
+in_place f [] n d within = absurd (omega (arith, within))
+in_place f (x ∷ xs) zero d within = refl
+in_place f (x ∷ xs) (suc n) d within = in_place f xs n d (omega (arith, within))
