@@ -1,7 +1,18 @@
 //! What a match reaches outside of its nodes: its seats, the connections between its nodes, and their logs.
 //!
-//! `Links` is the trait; `TcpLinks` are sockets of this machine and files, `MemoryLinks` stand for them in tests. Nothing
-//! is promised of what a link gives: what is promised of a match holds whatever its links answer.
+//! `Links` is the trait; `TcpLinks` are sockets of this machine and files, `MemoryLinks` stand for them in tests.
+//!
+//! The way through it: `TcpLinks::bind` takes the ports of a match and joins its nodes, and `add_log` gives each node its
+//! log, from node 0 on. Then come the calls of `Links`: `open` and `empty_log` for a node that starts; `accept` for a seat
+//! that is awaited, and `read` for each piece that it sends; `send` and `receive` for a frame between two nodes; `write`
+//! and `add_to_log` for what a node shows; `hang_up` for a seat that is dropped, and `close` for a node that stops.
+//!
+//! Nothing is promised of what a link gives: what is promised of a match holds whatever its links answer. What passed is
+//! kept, in order, for clauses alone (`specs/Passages.antt`): the pieces that came, the lines that seats were told, and
+//! what logs were given. It takes no memory.
+//!
+//! Faults: a call that answers `LinkFault` did nothing; by `OutOfMemory` the same call may be made again, by `Failed` the
+//! link is done for. `PortFault` says which port can't be had. `TcpLinks::failed` tells which port or log failed last.
 #![tactic(auto)]
 
 mod input;

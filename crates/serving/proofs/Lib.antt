@@ -2,4 +2,6 @@ pub mod Examples
 mod Serving
 mod Sights
 mod Over
+mod Giving
+mod GivingExamples
 mod Turns

@@ -1,10 +1,16 @@
 -- A turn as a whole: what its steps made is what it did.
-use Rattle.std.proofs.Common.{◌≡◌, true, Option, Some, None, Result, Ok, Err, refl, ap, subst, ◌∙◌}
+use Rattle.std.proofs.Common.{◌≡◌, ◌≤◌, ℕ, Bool, true, List, [], ◌++◌, length, Option, Some, None, Result, Ok, Err, refl, ap, sym, subst, arith, ◌∙◌}
+use Rattle.std.proofs.lemmas.List.{append_assoc, append-nil, length-append}
 use Rattle.std.specs.Prelude.{OnOk}
 use Rattle.promise_store.specs.declared.disk.Disk.{Ghosts}
+use Rattle.match_links.specs.Passages.{Passage}
 use Rattle.dealer_node.specs.Nodes.{Node}
+use Rattle.dealer_node.specs.Outs.{Told}
+use Rattle.dealer_node.specs.Seeing.{runs}
 use Rattle.dealer_node.specs.declared.fault.NodeFault.{NodeFault}
-use Rattle.dealer_world.specs.Stepping.{View, Stepped}
+use Rattle.dealer_world.specs.declared.event.Event.{Event}
+use Rattle.dealer_world.specs.Records.{Record}
+use Rattle.dealer_world.specs.Stepping.{View, Stepped, Gains, nothing, call}
 use Rattle.serving.specs.declared.progress.Progress.{Progress}
 use Rattle.serving.specs.declared.waiting.Waiting.{Waiting}
 use Rattle.serving.specs.declared.turn.Turn.{Turn}
@@ -13,31 +19,83 @@ use Rattle.serving.specs.Dues.{IsNext}
 use Rattle.serving.specs.Served.{Served}
 use Rattle.dealer_node.specs.declared.fault.NodeFault.TheVariants as fault
 use Rattle.dealer_world.specs.Events.{node_of}
+use Rattle.serving.specs.Giving.{Gives, taken}
 use Rattle.serving.specs.Going.{IsKept}
-use Rattle.serving.specs.Turned.{Went, Gave, Ends, Mends}
+use Rattle.serving.specs.Placed.{places_in}
+use Rattle.serving.specs.Turned.{Went, Gave, Ends, Mends, Passes}
 use Rattle.serving.specs.Turning.{IsWaiting}
+use Rattle.serving.proofs.Giving.{gives_none}
 
 -- what holds after an Ok goes over to what follows from it
 pub on_ok : {A E P Q : Type 0} (answer : Result A E) → (P → Q) → OnOk answer P → OnOk answer Q
 on_ok (Ok told) follows holds = follows holds
 on_ok (Err why) follows holds = tt
 
--- a server is its cluster, what is known, and what waits
-pub same_served : {N : Type 0} (a b : Served N) → a.view ≡ b.view → a.progress ≡ b.progress → a.waiting ≡ b.waiting → a ≡ b
-same_served {N} a b view progress waiting =
-    ap (λ (v : View N). record { view = v; progress = a.progress; waiting = a.waiting }) view
-    ∙ ap (λ (n : Progress). record { view = b.view; progress = n; waiting = a.waiting }) progress
-    ∙ ap (λ (w : Option Waiting). record { view = b.view; progress = b.progress; waiting = w }) waiting
+abbrev made : {N : Type 0} → View N → Progress → Option Waiting → List Passage → ℕ → ℕ → Option NodeFault → Served N
+made view progress waiting passed shown called refused = record {
+  view = view;
+  progress = progress;
+  waiting = waiting;
+  passed = passed;
+  shown = shown;
+  called = called;
+  refused = refused;
+}
+
+-- a server is all that is seen of it
+pub same_served : {N : Type 0} (a b : Served N) → a.view ≡ b.view → a.progress ≡ b.progress → a.waiting ≡ b.waiting → a.passed ≡ b.passed → a.shown ≡ b.shown
+    → a.called ≡ b.called → a.refused ≡ b.refused → a ≡ b
+same_served {N} a b view progress waiting passed shown called refused =
+    ap (λ (v : View N). made v a.progress a.waiting a.passed a.shown a.called a.refused) view
+    ∙ ap (λ (n : Progress). made b.view n a.waiting a.passed a.shown a.called a.refused) progress
+    ∙ ap (λ (w : Option Waiting). made b.view b.progress w a.passed a.shown a.called a.refused) waiting
+    ∙ ap (λ (p : List Passage). made b.view b.progress b.waiting p a.shown a.called a.refused) passed
+    ∙ ap (λ (k : ℕ). made b.view b.progress b.waiting b.passed k a.called a.refused) shown
+    ∙ ap (λ (i : ℕ). made b.view b.progress b.waiting b.passed b.shown i a.refused) called
+    ∙ ap (λ (f : Option NodeFault). made b.view b.progress b.waiting b.passed b.shown b.called f) refused
 
 -- nothing is next only where nothing waits
 pub none_waits : {D : Type 0} (g : Ghosts D) (view : View (Node D)) (progress : Progress) (waiting : Option Waiting) → IsNext g view progress waiting None → waiting ≡ None
 none_waits g view progress None next = refl
 none_waits g view progress (Some w) next = cc
 
+-- what was taken before, and what was given then
+pub passes_from : {N : Type 0} (took : List Passage) (between old new : Served N) → between.shown ≡ old.shown → between.passed ≡ old.passed ++ took
+    → Passes [] between new → Passes took old new
+passes_from took between old new shown passed passes = record {
+  given = passes.given;
+  passed = passes.passed ∙ ap (λ (ps : List Passage). ps ++ passes.given) passed ∙ append_assoc old.passed took passes.given;
+  gives = subst (λ (k : ℕ). Gives (places_in new.progress.places) new.view.all.shown k new.shown passes.given) shown passes.gives;
+}
+
+-- nothing passed
+pub passes_none : {N : Type 0} (old new : Served N) → new.passed ≡ old.passed → new.shown ≡ old.shown → new.shown ≤ length new.view.all.shown → Passes [] old new
+passes_none old new passed shown within = record {
+  given = [];
+  passed = passed ∙ sym (append-nil old.passed);
+  gives = subst (λ (k : ℕ). Gives (places_in new.progress.places) new.view.all.shown k new.shown []) shown
+      (gives_none (places_in new.progress.places) new.view.all.shown new.shown within);
+}
+
+-- a record only grows
+no_shorter : {A : Type 0} (n : ℕ) (xs ys : List A) → n ≤ length xs → n ≤ length (xs ++ ys)
+no_shorter n xs ys within = omega (arith, within, length-append xs ys)
+
+grows : {N : Type 0} (n : ℕ) (e : Event) (up : Bool) (told : Told) (old new : View N) (answer : Result (Unit {0}) NodeFault) → Gains e up told old new answer
+    → n ≤ length old.all.shown → n ≤ length new.all.shown
+grows n e up told old new answer (nothing a is same last) within = subst (λ (all : Record). n ≤ length all.shown) (sym same) within
+grows n e up told old new answer (call a ample more last) within =
+    subst (λ (all : Record). n ≤ length all.shown) (sym more) (no_shorter n old.all.shown _ within)
+
+pub still_within : {D : Type 0} (g : Ghosts D) (n : ℕ) (old new : View (Node D)) (e : Event) (answer : Result (Unit {0}) NodeFault) → Stepped g old e answer new
+    → n ≤ length old.all.shown → n ≤ length new.all.shown
+still_within g n old new e answer stepped = grows n e (runs stepped.before) stepped.told old new answer stepped.gains
+
 -- what waited is none of what an event changes
-pub gave_from : {D : Type 0} (g : Ghosts D) (w : Waiting) (between old : Served (Node D)) (answer : Result Turn ServeFault) (new : Served (Node D))
-    → between.view ≡ old.view → between.progress ≡ old.progress → Gave g w between answer new → Gave g w old answer new
-gave_from {D} g w between old answer new view progress gave = record {
+pub gave_from : {D : Type 0} (g : Ghosts D) (w : Waiting) (took : List Passage) (between old : Served (Node D)) (answer : Result Turn ServeFault) (new : Served (Node D))
+    → between.view ≡ old.view → between.progress ≡ old.progress → between.shown ≡ old.shown → between.passed ≡ old.passed ++ took
+    → Gave g w [] between answer new → Gave g w took old answer new
+gave_from {D} g w took between old answer new view progress shown passed gave = record {
   called = gave.called;
   of_match = subst (λ (v : View (Node D)). IsWaiting v w) view gave.of_match;
   stepped = subst (λ (v : View (Node D)). Stepped g v w.event gave.called new.view) view gave.stepped;
@@ -45,6 +103,10 @@ gave_from {D} g w between old answer new view progress gave = record {
   again = λ none. let both = gave.again none in (both.0, both.1 ∙ progress);
   given = gave.given;
   went = on_ok answer (subst (λ (n : Progress). Went g new.view w gave.called n new.progress) progress) gave.went;
+  passes = passes_from took between old new shown passed gave.passes;
+  all_given = gave.all_given;
+  refused = gave.refused;
+  named = gave.named;
 }
 
 -- a fault that was mended, and what was shown behind it
@@ -55,3 +117,8 @@ mended_ends fault.OutOfMemory w old mended new (goes, same) kept = subst (λ (p 
 mended_ends fault.Spent w old mended new (goes, same) kept = subst (λ (p : Progress). IsKept p new) same kept
 mended_ends (fault.BadFrame bytes) w old mended new (goes, same) kept = subst (λ (p : Progress). IsKept p new) same kept
 mended_ends fault.Conflict w old mended new (goes, same) kept = subst (λ (p : Progress). IsKept p new) same kept
+
+-- where all is over nothing is taken
+pub taken_nothing : (waiting : Option Waiting) → taken waiting None ≡ []
+taken_nothing None = refl
+taken_nothing (Some w) = refl

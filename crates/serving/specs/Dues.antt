@@ -6,17 +6,24 @@ use Rattle.dealer_world.specs.Records.{Frame}
 use Rattle.dealer_world.specs.Stepping.{View}
 use Rattle.serving.specs.declared.known.NodeSight.{NodeSight}
 use Rattle.serving.specs.declared.due.Due.{Due}
+use Rattle.serving.specs.declared.due.Due.TheVariants as due
 use Rattle.serving.specs.declared.progress.Progress.{Progress}
 use Rattle.serving.specs.declared.waiting.Waiting.{Waiting}
 use Rattle.serving.specs.Next.{due_by}
 use Rattle.serving.specs.Outing.{outages_in}
 use Rattle.serving.specs.Placed.{places_in}
+use Rattle.serving.specs.Served.{Served}
 use Rattle.serving.specs.Sights.{AreSights}
 use Rattle.serving.specs.Turning.{IsTaken}
 
 -- the number of the next frame, where more were sent than were delivered
 abbrev pub next_frame : List Frame → ℕ → Option ℕ
 next_frame sent delivered = if nat_lt delivered (length sent) then Some delivered else None
+
+-- the seat that is awaited, and at which node
+abbrev pub awaited_in : Due → Option (ℕ × ℕ)
+awaited_in (due.Await seat node) = Some (seat, node)
+awaited_in other = None
 
 module _ {D : Type 0} (g : Ghosts D) where
   -- the first that is due, as the nodes are seen
@@ -29,3 +36,11 @@ module _ {D : Type 0} (g : Ghosts D) where
   abbrev pub IsNext : View (Node D) → Progress → Option Waiting → Option Waiting → Type 0
   IsNext view progress (Some waiting) found = found ≡ Some waiting
   IsNext view progress None found = (what : Due) × IsDue view progress what × IsTaken what found
+
+  -- the seat that the next turn awaits: none where an event waits, or something else is due
+  abbrev pub IsAwaitedBy : View (Node D) → Progress → Option Waiting → Option (ℕ × ℕ) → Type 0
+  IsAwaitedBy view progress (Some waiting) found = found ≡ None
+  IsAwaitedBy view progress None found = (what : Due) × IsDue view progress what × (found ≡ awaited_in what)
+
+  abbrev pub IsAwaited : Served (Node D) → Option (ℕ × ℕ) → Type 0
+  IsAwaited server found = IsAwaitedBy server.view server.progress server.waiting found

@@ -7,6 +7,7 @@ pub mod Turning
 pub mod Sights
 pub mod Lowest
 pub mod Dues
+pub mod Giving
 pub mod Turned
 pub mod Repairs
 pub mod Going

@@ -1,9 +1,18 @@
 -- How a server is seen.
 use Rattle.promise_store.specs.declared.disk.Disk.{Ghosts}
+use Rattle.match_links.specs.declared.links.Links.{Ghosts as OfLinks}
 use Rattle.dealer_node.specs.Nodes.{Node}
 use Rattle.dealer_world.specs.Viewing.{view_of}
 use Rattle.serving.specs.declared.server.Server.{Server}
 use Rattle.serving.specs.Served.{Served}
 
-abbrev pub served_of : {D L : Type 0} {disk : Ghosts D} → Server D L disk → Served (Node D)
-served_of server = record { view = view_of server.cluster; progress = server.desk.progress; waiting = server.waiting }
+abbrev pub served_of : {D L : Type 0} {disk : Ghosts D} {links : OfLinks L} → Server D L disk links → Served (Node D)
+served_of {links = links} server = record {
+  view = view_of server.cluster;
+  progress = server.desk.progress;
+  waiting = server.waiting;
+  passed = links.passed server.desk.links;
+  shown = server.desk.shown;
+  called = server.desk.last_node;
+  refused = server.desk.last_fault;
+}

@@ -1,5 +1,5 @@
 -- What a turn does.
-use Rattle.std.specs.Prelude.{◌≡◌, ◌⊎◌, ℕ, Bool, true, Some, None, Result, Ok, Err, OnOk}
+use Rattle.std.specs.Prelude.{◌≡◌, ◌⊎◌, ℕ, Bool, true, List, ◌++◌, Some, None, Result, Ok, Err, OnOk}
 use Rattle.promise_store.specs.declared.disk.Disk.{Ghosts}
 use Rattle.dealer_node.specs.Nodes.{Node}
 use Rattle.dealer_node.specs.declared.fault.NodeFault.{NodeFault}
@@ -12,10 +12,13 @@ use Rattle.serving.specs.declared.due.Due.{Due}
 use Rattle.serving.specs.declared.turn.Turn.{Turn}
 use Rattle.serving.specs.declared.turn.Turn.TheVariants as turn
 use Rattle.serving.specs.declared.serve_fault.ServeFault.{ServeFault}
+use Rattle.match_links.specs.Passages.{Passage}
 use Rattle.serving.specs.Served.{Served}
+use Rattle.serving.specs.Giving.{Gives, counted, all_emptied, taken}
+use Rattle.serving.specs.Placed.{places_in}
 use Rattle.serving.specs.Dues.{IsDue, IsNext}
 use Rattle.serving.specs.Going.{Settled, IsKept, AsksRepair}
-use Rattle.serving.specs.Turning.{turn_of, IsWaiting, Tells, MayFail}
+use Rattle.serving.specs.Turning.{turn_of, fault_in, IsWaiting, Tells, MayFail}
 
 -- a store's fault is mended where it is its first; others need nothing
 abbrev pub Mends : NodeFault → ℕ → Progress → Bool → Progress → Type 0
@@ -27,6 +30,24 @@ abbrev pub Ends : Result (Unit {0}) NodeFault → Waiting → Progress → Progr
 Ends (Err (fault.Store why)) waiting settled new = (asked : Progress) × AsksRepair settled (node_of waiting.event) true asked × IsKept asked new
 Ends other waiting settled new = IsKept settled new
 
+-- what passed between two moments: this was taken from the links, and then they were given the pieces that weren't given yet, or the
+-- first of them
+pub record Passes {N : Type 0} (took : List Passage) (old new : Served N) : Type 0 where
+  pub given : List Passage
+  pub passed : new.passed ≡ old.passed ++ (took ++ given)
+  pub gives : Gives (places_in new.progress.places) new.view.all.shown old.shown new.shown given
+
+-- all that the record has was given
+abbrev pub HasGivenAll : {N : Type 0} → Served N → Type 0
+HasGivenAll now = now.shown ≡ counted now.view.all.shown
+
+-- at first each log is emptied, and then all is given that the record has, since the links were as they were
+pub record Opens {N : Type 0} (nodes : ℕ) (before : List Passage) (new : Served N) : Type 0 where
+  pub given : List Passage
+  pub passed : new.passed ≡ before ++ (all_emptied nodes ++ given)
+  pub gives : Gives (places_in new.progress.places) new.view.all.shown 0 new.shown given
+  pub all_given : HasGivenAll new
+
 module _ {D : Type 0} (g : Ghosts D) where
   -- what is known after an event was given and answered so
   pub record Went (view : View (Node D)) (waiting : Waiting) (called : Result (Unit {0}) NodeFault) (old new : Progress) : Type 0 where
@@ -34,8 +55,8 @@ module _ {D : Type 0} (g : Ghosts D) where
     pub settles : Settled g view waiting.event (turn_of waiting.number waiting.event) old settled
     pub ends : Ends called waiting settled new
 
-  -- this event was given to the cluster, and answered so; where it found no memory it waits
-  pub record Gave (waiting : Waiting) (old : Served (Node D)) (answer : Result Turn ServeFault) (new : Served (Node D)) : Type 0 where
+  -- this event was given to the cluster, for which this was taken from the links, and answered so; where it found no memory it waits
+  pub record Gave (waiting : Waiting) (took : List Passage) (old : Served (Node D)) (answer : Result Turn ServeFault) (new : Served (Node D)) : Type 0 where
     pub called : Result (Unit {0}) NodeFault
     pub of_match : IsWaiting old.view waiting
     pub stepped : Stepped g old.view waiting.event called new.view
@@ -43,6 +64,10 @@ module _ {D : Type 0} (g : Ghosts D) where
     pub again : called ≡ Err fault.OutOfMemory → (new.waiting ≡ Some waiting) × (new.progress ≡ old.progress)
     pub given : (called ≡ Err fault.OutOfMemory → ⊥) → new.waiting ≡ None
     pub went : OnOk answer (Went new.view waiting called old.progress new.progress)
+    pub passes : Passes took old new
+    pub all_given : OnOk answer (HasGivenAll new)
+    pub refused : new.refused ≡ fault_in called
+    pub named : (called ≡ Err fault.OutOfMemory → ⊥) → new.called ≡ node_of waiting.event
 
   -- no call was made: all is over, or what is due couldn't be taken from the links
   abbrev pub DidNothing : Served (Node D) → Result Turn ServeFault → Type 0
@@ -53,4 +78,4 @@ module _ {D : Type 0} (g : Ghosts D) where
   abbrev pub Turned : Served (Node D) → Result Turn ServeFault → Served (Node D) → Type 0
   Turned old answer new =
       ((new ≡ old) × DidNothing old answer)
-      ⊎ ((waiting : Waiting) × IsNext g old.view old.progress old.waiting (Some waiting) × Gave waiting old answer new)
+      ⊎ ((waiting : Waiting) × IsNext g old.view old.progress old.waiting (Some waiting) × Gave waiting (taken old.waiting (Some waiting)) old answer new)

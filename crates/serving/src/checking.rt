@@ -1,6 +1,6 @@
 //! Whether events are of a match.
 
-ghost use Rattle.std.specs.Prelude.{◌≡◌, ◌<◌, ◌↔◌, IsTrue, IfOk, IfErr};
+ghost use Rattle.std.specs.Prelude.{◌≡◌, ◌<◌, ◌↔◌, Some, IsTrue, IfOk, IfErr};
 ghost use Rattle.std.specs.Option.{ForSome};
 ghost use Rattle.dealer_world.specs.Viewing.{view_of};
 ghost use Rattle.dealer_world.specs.Promise.{IsForMatch};
@@ -38,6 +38,7 @@ pub(crate) fn checked<D: Disk + Drop>(
 ) -> Result<Option<Waiting>, ServeFault>
     requires frameless { IsFrameless event }
     requires due { IsForDue due 0 event }
+    ensures event { IfOk result (λ found. found ≡ Some (record { event = event; number = 0 })) }
     ensures due { IfOk result (IsTaken due) }
     ensures waiting { IfOk result (λ found. ForSome found (λ waiting. IsWaiting (view_of cluster.now) waiting)) }
     ensures fault { IfErr result (λ fault. (fault ≡ LinkFailed) × IsOutside (view_of cluster.now).config due) }

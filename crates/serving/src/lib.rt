@@ -16,6 +16,7 @@ mod progress;
 mod seeing;
 mod serve_fault;
 mod server;
+mod taking;
 mod turn;
 mod waiting;
 

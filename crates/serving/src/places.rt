@@ -1,4 +1,4 @@
-ghost use Rattle.std.specs.Prelude.{◌≡◌, ◌≤◌, length, map, set, slice_get, IsTrue, ◌↔◌, Some};
+ghost use Rattle.std.specs.Prelude.{◌≡◌, ◌≤◌, ◌<◌, length, map, set, slice_get, IsTrue, ◌↔◌, Some, IfSome};
 ghost use Rattle.serving.specs.Placing.{moved};
 ghost use Rattle.serving.specs.declared.place.Place.TheVariants.{Seated};
 
@@ -40,9 +40,10 @@ impl Places {
 
     /// Where a seat is; none of a number that no seat has.
     pub(crate) fn at(&self, seat: usize) -> Option<Place>
-        ensures { result ≡ slice_get (places_in self.now) seat }
+        ensures value { result ≡ slice_get (places_in self.now) seat }
+        ensures few { IfSome result (λ place. seat < 10) }
     {
-        self.all.as_slice().get(seat).copied()
+        self.as_slice().get(seat).copied()
     }
 
     /// A seat is here now.
@@ -54,7 +55,8 @@ impl Places {
 
     /// Whether a seat has a connection to this node.
     pub(crate) fn is_seated(&self, seat: usize, node: u8) -> bool
-        ensures { IsTrue result ↔ (slice_get (places_in self.now) seat ≡ Some (Seated node)) }
+        ensures value { IsTrue result ↔ (slice_get (places_in self.now) seat ≡ Some (Seated node)) }
+        ensures few { IsTrue result → seat < 10 }
     {
         matches!(self.at(seat), Some(Place::Seated(found)) if found == node)
     }

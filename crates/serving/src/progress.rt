@@ -1,4 +1,4 @@
-ghost use Rattle.std.specs.Prelude.{◌≡◌, ◌≤◌, ◌+◌, ◌-◌, ◌^◌, min, set, slice_get, Some, IsTrue, ◌↔◌};
+ghost use Rattle.std.specs.Prelude.{◌≡◌, ◌≤◌, ◌<◌, ◌+◌, ◌-◌, ◌^◌, min, set, slice_get, Some, IsTrue, ◌↔◌};
 ghost use Rattle.dealer_world.specs.Viewing.{view_of};
 ghost use Rattle.dealer_world.specs.declared.event.Event.TheVariants.{Stop as Stopping, Drop as Dropping};
 ghost use Rattle.serving.specs.Lowest.{IsCounted};
@@ -53,13 +53,16 @@ impl Progress {
     }
 
     /// Where a seat is.
-    pub(crate) fn place(&self, seat: usize) -> Option<Place> {
+    pub(crate) fn place(&self, seat: usize) -> Option<Place>
+        ensures { result ≡ slice_get (places_in self.now.places) seat }
+    {
         self.places.at(seat)
     }
 
     /// Whether a seat has a connection to this node.
     pub(crate) fn is_seated(&self, seat: usize, node: u8) -> bool
-        ensures { IsTrue result ↔ (slice_get (places_in self.now.places) seat ≡ Some (Seated node)) }
+        ensures value { IsTrue result ↔ (slice_get (places_in self.now.places) seat ≡ Some (Seated node)) }
+        ensures few { IsTrue result → seat < 10 }
     {
         self.places.is_seated(seat, node)
     }

@@ -1,12 +1,14 @@
-ghost use Rattle.std.specs.Prelude.{◌≡◌, ◌↔◌, map, None, IsTrue, Err, IfOk, IfErr, OnOk};
+ghost use Rattle.std.specs.Prelude.{◌≡◌, ◌↔◌, ◌≤◌, ◌++◌, [], length, map, slice_get, None, IsTrue, Err, IfOk, IfErr, OnOk, OnErr};
 ghost use Rattle.std.specs.Option.{ForSome};
 ghost use Rattle.dealer_node.specs.declared.fault.NodeFault.TheVariants.{OutOfMemory};
 ghost use Rattle.dealer_world.specs.Viewing.{view_of};
 ghost use Rattle.dealer_world.specs.Promise.{IsPromised, HasNoForged};
 ghost use Rattle.dealer_node.specs.Seeing.{begun_of};
 ghost use Rattle.dealer_world.specs.Events.{node_of};
-ghost use Rattle.serving.specs.Dues.{IsNext};
-ghost use Rattle.serving.specs.Turned.{Turned, Gave, DidNothing, Ends, Mends};
+ghost use Rattle.serving.specs.Dues.{IsNext, IsAwaited};
+ghost use Rattle.serving.specs.Giving.{taken};
+ghost use Rattle.serving.specs.Placed.{places_in};
+ghost use Rattle.serving.specs.Turned.{Turned, Gave, DidNothing, Ends, Mends, Passes, HasGivenAll, Opens};
 ghost use Rattle.serving.specs.Waits.{waits_prop};
 ghost use Rattle.serving.specs.Turning.{Tells, turn_of, goes_on, fault_in, IsWaiting};
 ghost use Rattle.serving.specs.declared.serve_fault.ServeFault.TheVariants.{LogFailed};
@@ -16,6 +18,7 @@ use crate::due::Due;
 use crate::outages::Outages;
 use crate::place::Place;
 use crate::serve_fault::ServeFault;
+use crate::taking::{close_all, empty_logs, take};
 use crate::turn::Turn;
 use crate::waiting::Waiting;
 use dealer_node::NodeFault;
@@ -37,6 +40,7 @@ pub struct Server<D: Disk + Drop, L: Links + Drop> {
     waiting: Option<Waiting>,
     ghost waits: { ForSome waiting (IsWaiting (view_of cluster)) } by { waits_prop (view_of cluster) waiting },
     ghost promised: { IsPromised D.Disk (view_of cluster) },
+    ghost shown: { desk.shown ≤ length (view_of cluster).all.shown },
 }
 
 /// Whether the server goes on after a call of a node that was answered so: it was taken, or a frame was lost since its
@@ -83,13 +87,16 @@ impl<D: Disk + Drop, L: Links + Drop> Server<D, L> {
     ) -> Result<Server<D, L>, ServeFault>
         requires { IsPromised D.Disk (view_of cluster) }
         ensures cluster { IfOk result (λ server. view_of server.cluster ≡ view_of cluster) }
+        ensures opens { IfOk result (λ server. Opens (length (view_of cluster).nodes) (L.passed links) (served_of server)) }
         ensures fault { IfErr result (λ fault. fault ≡ LogFailed) }
     {
         cluster.config().game().limits();
         let mut desk = Desk::new(links, outages, cluster.config().game().players());
         desk.progress.count_commands(&cluster);
-        desk.empty_logs(&cluster)?;
-        desk.show(&cluster)?;
+        empty_logs(&mut desk.links, &cluster)?;
+        if let Err(fault) = desk.show(&cluster) {
+            return Err(fault);
+        }
         Ok(Server {
             alloc,
             cluster,
@@ -112,7 +119,7 @@ impl<D: Disk + Drop, L: Links + Drop> Server<D, L> {
         match self.take_waiting()? {
             Some(waiting) => self.give(waiting),
             None => {
-                self.desk.close(&self.cluster);
+                close_all(&mut self.desk.links, &self.cluster);
                 Ok(Turn::Over)
             }
         }
@@ -122,21 +129,29 @@ impl<D: Disk + Drop, L: Links + Drop> Server<D, L> {
     fn take_waiting(&mut self) -> Result<Option<Waiting>, ServeFault>
         ensures same { self.new.cluster ≡ self.old.cluster }
         ensures progress { self.new.desk.progress ≡ self.old.desk.progress }
+        ensures shown { self.new.desk.shown ≡ self.old.desk.shown }
+        ensures called { self.new.desk.last_node ≡ self.old.desk.last_node }
+        ensures refused { self.new.desk.last_fault ≡ self.old.desk.last_fault }
         ensures taken { self.new.waiting ≡ None }
+        ensures passed { IfOk result (λ found. L.passed self.new.desk.links ≡ L.passed self.old.desk.links ++ taken self.old.waiting found) }
+        ensures failed { OnErr result (L.passed self.new.desk.links ≡ L.passed self.old.desk.links) }
         ensures next { IfOk result (IsNext D.Disk (view_of self.old.cluster) self.old.desk.progress self.old.waiting) }
         ensures waiting { IfOk result (λ found. ForSome found (λ event. IsWaiting (view_of self.old.cluster) event)) }
         ensures fault { IfErr result (λ fault. (self.old.waiting ≡ None) × DidNothing D.Disk (served_of self.old) (Err fault)) }
     {
         match self.waiting.take() {
             Some(waiting) => Ok(Some(waiting)),
-            None => self.desk.next(self.alloc, &self.cluster),
+            None => {
+                let due = self.desk.progress.due(&self.cluster);
+                take(self.alloc, &mut self.desk.links, &self.cluster, due)
+            }
         }
     }
 
     /// Gives an event to the cluster, and what that showed to its readers.
     fn give(&mut self, waiting: Waiting) -> Result<Turn, ServeFault>
         requires { IsWaiting (view_of self.old.cluster) waiting }
-        ensures gave { Gave D.Disk waiting (served_of self.old) result (served_of self.new) }
+        ensures gave { Gave D.Disk waiting [] (served_of self.old) result (served_of self.new) }
         ensures begun { map (begun_of D.Disk) (view_of self.new.cluster).nodes ≡ map (begun_of D.Disk) (view_of self.old.cluster).nodes }
     {
         let answer = self.cluster.step(&waiting.event);
@@ -158,6 +173,10 @@ impl<D: Disk + Drop, L: Links + Drop> Server<D, L> {
     ) -> Result<Turn, ServeFault>
         ensures same { self.new.cluster ≡ self.old.cluster }
         ensures waiting { self.new.waiting ≡ self.old.waiting }
+        ensures called { self.new.desk.last_node ≡ self.old.desk.last_node }
+        ensures refused { self.new.desk.last_fault ≡ self.old.desk.last_fault }
+        ensures passes { Passes [] (served_of self.old) (served_of self.new) }
+        ensures all_given { OnOk result (HasGivenAll (served_of self.new)) }
         ensures ends { OnOk result (Ends answer waiting.now self.old.desk.progress self.new.desk.progress) }
         ensures tells { Tells (turn_of waiting.now.number waiting.now.event) waiting.now.event answer result }
     {
@@ -174,6 +193,10 @@ impl<D: Disk + Drop, L: Links + Drop> Server<D, L> {
     fn mend(&mut self, waiting: &Waiting, fault: NodeFault) -> Result<Turn, ServeFault>
         ensures same { self.new.cluster ≡ self.old.cluster }
         ensures waiting { self.new.waiting ≡ self.old.waiting }
+        ensures called { self.new.desk.last_node ≡ self.old.desk.last_node }
+        ensures refused { self.new.desk.last_fault ≡ self.old.desk.last_fault }
+        ensures passes { Passes [] (served_of self.old) (served_of self.new) }
+        ensures all_given { OnOk result (HasGivenAll (served_of self.new)) }
         ensures ends { OnOk result (Ends (Err fault) waiting.now self.old.desk.progress self.new.desk.progress) }
         ensures tells { Tells (turn_of waiting.now.number waiting.now.event) waiting.now.event (Err fault) result }
     {
@@ -188,6 +211,10 @@ impl<D: Disk + Drop, L: Links + Drop> Server<D, L> {
     fn mends(&mut self, event: &Event, fault: NodeFault) -> bool
         ensures same { self.new.cluster ≡ self.old.cluster }
         ensures waiting { self.new.waiting ≡ self.old.waiting }
+        ensures passed { L.passed self.new.desk.links ≡ L.passed self.old.desk.links }
+        ensures shown { self.new.desk.shown ≡ self.old.desk.shown }
+        ensures called { self.new.desk.last_node ≡ self.old.desk.last_node }
+        ensures refused { self.new.desk.last_fault ≡ self.old.desk.last_fault }
         ensures mended { Mends fault (node_of event.now) self.old.desk.progress result self.new.desk.progress }
     {
         match fault {
@@ -205,29 +232,37 @@ impl<D: Disk + Drop, L: Links + Drop> Server<D, L> {
     }
 
     /// The links.
-    pub fn links(&self) -> &L {
+    pub fn links(&self) -> &L
+        ensures { L.passed result.now ≡ (served_of self.now).passed }
+    {
         &self.desk.links
     }
 
     /// The node that was called last, counted from 0; 0 before the first call.
-    pub fn last_node(&self) -> u8 {
+    pub fn last_node(&self) -> u8
+        ensures { result ≡ (served_of self.now).called }
+    {
         self.desk.last_node
     }
 
     /// By what the last call of a node was refused, if it was; a node whose store failed goes on to be stopped and started.
     pub fn last_fault(&self) -> Option<NodeFault>
-        ensures { result ≡ self.now.desk.last_fault }
+        ensures { result ≡ (served_of self.now).refused }
     {
         self.desk.last_fault
     }
 
     /// Where a seat is, counted from 0; none of a number that no seat has.
-    pub fn place(&self, seat: usize) -> Option<Place> {
+    pub fn place(&self, seat: usize) -> Option<Place>
+        ensures { result ≡ slice_get (places_in (served_of self.now).progress.places) seat }
+    {
         self.desk.progress.place(seat)
     }
 
     /// Which seat the next turn will await at which node, if any.
-    pub fn awaited(&self) -> Option<(u8, u8)> {
+    pub fn awaited(&self) -> Option<(u8, u8)>
+        ensures { IsAwaited D.Disk (served_of self.now) result }
+    {
         if self.waiting.is_some() {
             return None;
         }

@@ -1,11 +1,16 @@
-use Rattle.std.proofs.Common.{◌≡◌, Err, refl, rules}
+use Rattle.std.proofs.Common.{◌≡◌, ◌≤◌, ℕ, [], Err, length, refl, sym, subst, ◌∙◌, rules}
+use Rattle.std.proofs.lemmas.List.{append-nil}
 use Rattle.dealer_node.specs.declared.fault.NodeFault.TheVariants as fault
-use Rattle.serving.proofs.Turns.{on_ok}
+use Rattle.dealer_world.specs.Viewing.{view_of}
+use Rattle.serving.specs.Serving.{served_of}
+use Rattle.serving.proofs.Turns.{on_ok, passes_from, passes_none, still_within}
 use Rattle.serving.proofs.server.Server.give.Goals as goal
 
 pub returns-then-is_out_of_memory-clause-gave : goal.returns-then-is_out_of_memory-clause-gave
 returns-then-is_out_of_memory-clause-gave g c =
     let none : c.step-answer.result ≡ Err fault.OutOfMemory = search rules in
+    let old = view_of c.args.self.now.cluster in
+    let new = view_of c.step-answer.new.self in
     record {
       called = c.step-answer.result;
       of_match = c.requires;
@@ -14,7 +19,19 @@ returns-then-is_out_of_memory-clause-gave g c =
       again = λ same. (refl, refl);
       given = λ ample. absurd (ample none);
       went = tt;
+      passes = passes_none (served_of c.args.self.now) _ refl refl
+          (still_within g.D.Disk c.args.self.now.desk.shown old new c.args.waiting.event c.step-answer.result c.step-answer.ensures.stepped c.args.self.now.shown);
+      all_given = tt;
+      refused = search rules;
+      named = λ ample. absurd (ample none);
     }
+
+pub invariant_of-self-2-clause-shown : goal.invariant_of-self-2-clause-shown
+invariant_of-self-2-clause-shown g c =
+    let old = view_of c.args.self.now.cluster in
+    let new = view_of c.step-answer.new.self in
+    subst (λ (k : ℕ). k ≤ length new.all.shown) (sym c.settle.ensures.shown)
+    (still_within g.D.Disk c.args.self.now.desk.shown old new c.args.waiting.event c.step-answer.result c.step-answer.ensures.stepped c.args.self.now.shown)
 
 pub returns-clause-gave : goal.returns-clause-gave
 returns-clause-gave g c =
@@ -28,7 +45,12 @@ returns-clause-gave g c =
       given = λ _. c.close.ensures.waiting;
       went = on_ok c.close.result (λ ends. record {
         settled = c.settle.new.self.progress;
-        settles = rw c.close.ensures.same c.settle.ensures;
+        settles = rw c.close.ensures.same c.settle.ensures.settled;
         ends = ends;
       }) c.close.ensures.ends;
+      passes = passes_from [] _ (served_of c.args.self.now) (served_of c.close.new.self) c.settle.ensures.shown (c.settle.ensures.passed ∙ sym (append-nil _))
+          c.close.ensures.passes;
+      all_given = c.close.ensures.all_given;
+      refused = c.close.ensures.refused ∙ (c.settle.ensures.refused ∙ search rules);
+      named = λ _. c.close.ensures.called ∙ c.settle.ensures.called;
     }
