@@ -34,10 +34,3 @@ pub use event::Event;
 pub use frames::{Frame, Frames};
 pub use shown::{Piece, Shown};
 pub use stopped::Stopped;
-
-#[cfg(test)]
-mod choice_tests;
-#[cfg(test)]
-mod match_tests;
-#[cfg(test)]
-mod tests;

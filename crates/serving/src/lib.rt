@@ -27,8 +27,3 @@ pub use place::Place;
 pub use serve_fault::ServeFault;
 pub use server::Server;
 pub use turn::Turn;
-
-#[cfg(test)]
-mod tcp_tests;
-#[cfg(test)]
-mod tests;

@@ -1,89 +1,26 @@
-//! A match of one hand that tests play on a cluster, one event at a time.
+//! A match of one hand, played on a cluster one event at a time.
 
-use crate::{Cluster, Event};
-use dealer_kind::{Config, Source};
+use crate::samples::{deal, one_hand};
 use dealer_node::NodeFault;
-use game_def::GameDef;
-use match_log::{Name, SeatNames};
-use matchstate::read_deal;
-use promise_store::{Disk, MemoryDisk};
+use dealer_world::{Cluster, Event, What};
+use promise_store::{Disk, OnceDisk};
 use std::alloc::Global;
 use std::process::Abort;
 use std::test::Fail;
 
-/// Two players, limit.
-const LIMIT: &[u8] = b"GAMEDEF
-limit
-numPlayers = 2
-numRounds = 4
-blind = 10 5
-raiseSize = 10 10 20 20
-firstPlayer = 2 1 1 1
-maxRaises = 3 4 4 4
-numSuits = 4
-numRanks = 13
-numHoleCards = 2
-numBoardCards = 0 3 1 1
-END GAMEDEF
-";
-
-/// What each node would deal, in the order of nodes.
-const DEALS: [&[u8]; 5] = [
-    b"TdAs|8hTc/2c8c3h/9c/Kh",
-    b"2d2h|3d3s/4c5c6c/7c/8d",
-    b"AhAd|KdKs/QcJc9d/5d/6s",
-    b"2c3c|4c5c/6c7c8c/9c/Tc",
-    b"AcKc|QcJc/Tc9c8c/7c/6c",
-];
-
-pub(crate) fn game(rt: &impl Abort) -> GameDef {
-    game_def::read(LIMIT).expect(rt, "a game")
-}
-
-/// The deal that a node lists for the hand.
-pub(crate) fn deal_of(rt: &impl Abort, node: usize) -> card_core::Deal {
-    let text = DEALS.get(node).copied().expect(rt, "a deal for the node");
-    read_deal(text, 2).expect(rt, "a deal")
-}
-
-/// A match between alice and bob, dealt by so many nodes, each of which lists a deal of its own.
-pub(crate) fn config(rt: &impl Abort, alloc: Global, nodes: usize) -> Result<Config, Fail> {
-    let name = Name::new(b"m1").expect(rt, "a name");
-    let word = b"l2.game".to_vec(alloc)?;
-    let names = SeatNames::read(b"alice|bob", 2).expect(rt, "names");
-    let mut sources = Vec::new(alloc);
-    for node in 0..nodes {
-        let deals = vec![in alloc; deal_of(rt, node)]?;
-        sources.push(Source::Listed(deals))?;
-    }
-    Ok(Config::new(game(rt), name, word, names, 1, sources).expect(rt, "a config"))
-}
-
-/// A new cluster of so many nodes over disks in memory. The disk of this node has these fuses; the others never fail.
-pub(crate) fn fused(
-    rt: &impl Abort,
-    alloc: Global,
-    nodes: usize,
-    fused: usize,
-    fuses: &[u64],
-) -> Result<Cluster<MemoryDisk>, Fail> {
-    let config = config(rt, alloc, nodes)?;
-    let mut disks = Vec::new(alloc);
-    for node in 0..nodes {
-        let burning = if node == fused { fuses } else { &[] };
-        disks.push(MemoryDisk::new(alloc, burning)?)?;
-    }
-    assert!(rt; disks.len() == config.nodes());
-    Ok(Cluster::new(alloc, config, disks)?)
-}
-
-/// A new cluster of so many nodes over disks that never fail.
+/// A new cluster of so many nodes over disks in memory that never fail.
 pub(crate) fn fresh(
     rt: &impl Abort,
     alloc: Global,
     nodes: usize,
-) -> Result<Cluster<MemoryDisk>, Fail> {
-    fused(rt, alloc, nodes, nodes, &[])
+) -> Result<Cluster<OnceDisk>, Fail> {
+    let config = one_hand(rt, alloc, nodes)?;
+    let mut disks = Vec::new(alloc);
+    for _ in 0..nodes {
+        disks.push(OnceDisk::new(alloc, 0))?;
+    }
+    assert!(rt; disks.len() == config.nodes());
+    Ok(Cluster::new(alloc, config, disks)?)
 }
 
 /// Gives a node a tick.
@@ -201,8 +138,8 @@ pub(crate) fn dealt_by<D: Disk + Drop>(
     node: usize,
 ) -> Option<usize> {
     assert!(rt; node < cluster.node_count());
-    let deal = cluster.node(node).table().deal(0)?;
-    (0..5).find(|owner| deal.is_same(&deal_of(rt, *owner)))
+    let dealt = cluster.node(node).table().deal(0)?;
+    (0..5).find(|owner| dealt.is_same(&deal(rt, *owner)))
 }
 
 /// Asserts that the frame of this number goes this way and has these bytes.
@@ -218,4 +155,64 @@ pub(crate) fn assert_sent<D: Disk + Drop>(
     assert_eq!(rt; frame.from, from, "the sender of frame {number}");
     assert_eq!(rt; frame.to, to, "the receiver of frame {number}");
     assert_eq!(rt; frame.bytes, bytes, "the bytes of frame {number}");
+}
+
+/// Gives a tick of node 0 and its round with node 1 at once: the frames are a Prepare, a Promise, an Accept and an
+/// Accepted.
+pub(crate) fn run_round<D: Disk + Drop>(
+    rt: &impl Abort,
+    alloc: Global,
+    cluster: &mut Cluster<D>,
+    frames: [&[u8]; 4],
+) -> Result<(), Fail> {
+    assert!(rt; cluster.node_count() == 3);
+    let [prepare, promise, accept, accepted] = frames;
+    let prepare = prepare.to_vec(alloc)?;
+    let promise = promise.to_vec(alloc)?;
+    let accept = accept.to_vec(alloc)?;
+    let accepted = accepted.to_vec(alloc)?;
+    let events = [
+        Event::Tick { node: 0 },
+        Event::Frame {
+            from: 0,
+            to: 1,
+            bytes: prepare,
+        },
+        Event::Frame {
+            from: 1,
+            to: 0,
+            bytes: promise,
+        },
+        Event::Frame {
+            from: 0,
+            to: 1,
+            bytes: accept,
+        },
+        Event::Frame {
+            from: 1,
+            to: 0,
+            bytes: accepted,
+        },
+    ];
+    assert!(rt; cluster.run(&events).is_ok());
+    Ok(())
+}
+
+/// Asserts that the arrival of this number is a frame that goes this way, with these bytes, and came when so many had
+/// been sent.
+pub(crate) fn assert_arrived<D: Disk + Drop>(
+    rt: &impl Abort,
+    cluster: &Cluster<D>,
+    number: usize,
+    way: (u8, u8),
+    bytes: &[u8],
+    sent_before: usize,
+) {
+    let arrival = cluster.arrival(number).expect(rt, "an arrival");
+    match arrival.what {
+        What::Frame { from, to } => assert!(rt; (from, to) == way, "arrival {number}"),
+        What::Line { .. } | What::Connect { .. } | What::Drop { .. } => assert!(rt; false),
+    }
+    assert_eq!(rt; arrival.bytes, bytes, "the bytes of arrival {number}");
+    assert_eq!(rt; arrival.sent_before, sent_before, "arrival {number}");
 }

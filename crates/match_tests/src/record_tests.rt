@@ -1,4 +1,4 @@
-use crate::{Arrivals, Frames, What};
+use dealer_world::{Arrivals, Frames, What};
 use std::test::Fail;
 
 #[test]

@@ -1,19 +1,8 @@
-use crate::match_tests::{assert_sent, dealt_by, deliver, fresh, front, round, stop, tick};
+use crate::rounds::{
+    assert_arrived, assert_sent, dealt_by, deliver, fresh, front, round, run_round, stop, tick,
+};
+use crate::samples::{ACCEPT, ACCEPTED, PREPARE, PROMISE};
 use std::test::Fail;
-
-/// Node 0 asks for a promise of (1, 0) at slot 0.
-const PREPARE: &[u8] = b"\x00\x00\x00\x0b\x01\x01\x00\x00\x00\x01\x00\x00\x00\x00\x00";
-
-/// A node's promise of it, with nothing to tell.
-const PROMISE: &[u8] = b"\x00\x00\x00\x0c\x01\x02\x00\x00\x00\x01\x00\x00\x00\x00\x00\x00";
-
-/// The deal of node 0, proposed in (1, 0) at slot 0.
-const ACCEPT: &[u8] =
-    b"\x00\x00\x00\x1a\x01\x04\x00\x00\x00\x01\x00\x00\x00\x00\x00\x01\x00\x00\x00\x00\x09\x21\x33\x1a\x20\x00\x18\x06\x1c\x2e";
-
-/// The same, accepted.
-const ACCEPTED: &[u8] =
-    b"\x00\x00\x00\x1a\x01\x05\x00\x00\x00\x01\x00\x00\x00\x00\x00\x01\x00\x00\x00\x00\x09\x21\x33\x1a\x20\x00\x18\x06\x1c\x2e";
 
 /// On three nodes at rest a tick and four deliveries move the ticking node one slot on.
 #[test]
@@ -29,6 +18,26 @@ fn a_tick_and_four_deliveries_deal(rt: HostRuntime) -> Result<(), Fail> {
     assert_eq!(rt; dealt_by(&rt, &cluster, 0), Some(0));
     assert_eq!(rt; front(&rt, &cluster, 1), 0);
     assert_eq!(rt; cluster.arrival_count(), 4);
+    Ok(())
+}
+
+/// The same round given at once. The record says what reached the nodes, and how many frames had been sent before.
+#[test]
+fn a_round_is_run_at_once(rt: HostRuntime) -> Result<(), Fail> {
+    let alloc = rt.alloc();
+    let mut cluster = fresh(&rt, alloc, 3)?;
+    run_round(
+        &rt,
+        alloc,
+        &mut cluster,
+        [PREPARE, PROMISE, ACCEPT, ACCEPTED],
+    )?;
+    assert_eq!(rt; front(&rt, &cluster, 0), 1);
+    assert_eq!(rt; cluster.arrival_count(), 4);
+    assert_arrived(&rt, &cluster, 0, (0, 1), PREPARE, 2);
+    assert_arrived(&rt, &cluster, 1, (1, 0), PROMISE, 3);
+    assert_arrived(&rt, &cluster, 2, (0, 1), ACCEPT, 7);
+    assert_arrived(&rt, &cluster, 3, (1, 0), ACCEPTED, 9);
     Ok(())
 }
 

@@ -1,0 +1,195 @@
+//! A match of two hands that is served, and what came of it.
+
+use crate::samples::two_hands;
+use dealer_node::NodeFault;
+use dealer_world::Cluster;
+use match_file::Outage;
+use match_links::{Links, MemoryLinks, Reached};
+use promise_store::{Disk, OnceDisk};
+use serving::{Outages, ServeFault, Server, Turn};
+use std::alloc::Global;
+use std::process::Abort;
+use std::test::Fail;
+
+/// The header of a log of the match.
+pub(crate) const HEADER: &[u8] = b"# name/game/hands m1 l2.game 2\n";
+
+/// The log of the match where bob folds the first hand and alice the second.
+pub(crate) const LOG: &[u8] = b"# name/game/hands m1 l2.game 2
+STATE:0:f:TdAs|8hTc:5|-5:alice|bob
+STATE:1:f:2d2h|3d3s:5|-5:bob|alice
+SCORE:0|0:alice|bob
+";
+
+/// What a bot sends first.
+pub(crate) const VERSION: &[u8] = b"VERSION:2.0.0\r\n";
+
+/// What bob's bot sends where he folds the first hand.
+pub(crate) const BOB: &[u8] = b"VERSION:2.0.0\r\nMATCHSTATE:1:0::|8hTc:f\r\n";
+
+/// What alice's bot sends where she folds the second.
+pub(crate) const ALICE: &[u8] = b"VERSION:2.0.0\r\nMATCHSTATE:1:1::|3d3s:f\r\n";
+
+/// How many turns a match of these tests takes at most.
+const TURNS: u32 = 10_000;
+
+/// How a match ended.
+#[derive(Drop)]
+pub(crate) enum Ending {
+    /// It was over; so many turns started a node.
+    Over { starts: u64 },
+    /// By this fault.
+    Refused(ServeFault),
+    /// It wasn't over after `TURNS` turns.
+    Never,
+}
+
+/// A server of a new cluster over these disks; none where a node or a log refuses.
+pub(crate) fn server<D: Disk + Drop, L: Links + Drop>(
+    rt: &impl Abort,
+    alloc: Global,
+    disks: Vec<D>,
+    links: L,
+    outages: Outages,
+) -> Result<Option<Server<D, L>>, Fail> {
+    let config = two_hands(rt, alloc)?;
+    assert!(rt; disks.len() == config.nodes());
+    let Ok(cluster) = Cluster::new(alloc, config, disks) else {
+        return Ok(None);
+    };
+    match Server::new(alloc, cluster, links, outages) {
+        Ok(server) => Ok(Some(server)),
+        Err(_) => Ok(None),
+    }
+}
+
+/// Lets a server take turns until all is over or a fault comes. A turn that found no memory is taken again.
+pub(crate) fn serve<D: Disk + Drop, L: Links + Drop>(server: &mut Server<D, L>) -> Ending {
+    let mut starts = 0u64;
+    for _ in 0..TURNS {
+        match server.turn() {
+            Ok(Turn::Over) => return Ending::Over { starts },
+            Ok(Turn::Started(_)) => starts = starts.saturating_add(1),
+            Ok(_) | Err(ServeFault::Node(NodeFault::OutOfMemory)) => {}
+            Err(fault) => return Ending::Refused(fault),
+        }
+    }
+    Ending::Never
+}
+
+/// How many calls of the disks failed.
+fn failures<D: Disk + Drop, L: Links + Drop>(server: &Server<D, L>) -> u64 {
+    let cluster = server.cluster();
+    let mut failures = 0u64;
+    for node in 0..cluster.node_count() {
+        failures = failures.saturating_add(cluster.node(node).failures());
+    }
+    failures
+}
+
+/// What came of a match over links in memory.
+#[derive(Drop)]
+pub(crate) struct Course {
+    pub(crate) ending: Ending,
+    /// How many calls of disks failed.
+    pub(crate) failures: u64,
+    /// What the one call of a link that failed was to reach; none where none did.
+    pub(crate) failed: Option<Reached>,
+    /// The lines of seats, each behind the digits of its node and its seat and with a line feed.
+    pub(crate) told: Vec<u8>,
+    /// The logs of the three nodes, one behind the other.
+    pub(crate) logs: Vec<u8>,
+}
+
+/// The lines that seats were told.
+fn told(alloc: Global, links: &MemoryLinks) -> Result<Vec<u8>, Fail> {
+    let mut all = Vec::new(alloc);
+    for told in links.told().iter() {
+        all.push(b'0' + told.node.min(9))?;
+        all.push(b' ')?;
+        all.push(b'0' + told.seat.min(9))?;
+        all.push(b' ')?;
+        all.extend_from_slice(&told.line)?;
+        all.push(b'\n')?;
+    }
+    Ok(all)
+}
+
+/// The logs of three nodes, one behind the other.
+fn logs(alloc: Global, links: &MemoryLinks) -> Result<Vec<u8>, Fail> {
+    let mut all = Vec::new(alloc);
+    for node in 0..3 {
+        all.extend_from_slice(links.log(node))?;
+    }
+    Ok(all)
+}
+
+/// Serves a match over these disks and links to its end; none where no server could be made.
+pub(crate) fn play<D: Disk + Drop>(
+    rt: &impl Abort,
+    alloc: Global,
+    disks: Vec<D>,
+    links: MemoryLinks,
+    outages: Outages,
+) -> Result<Option<Course>, Fail> {
+    let Some(mut server) = server(rt, alloc, disks, links, outages)? else {
+        return Ok(None);
+    };
+    let ending = serve(&mut server);
+    let links = server.links();
+    Ok(Some(Course {
+        ending,
+        failures: failures(&server),
+        failed: links.failed(),
+        told: told(alloc, links)?,
+        logs: logs(alloc, links)?,
+    }))
+}
+
+/// The disks of three nodes, of which that of this one fails in its call of this number; with 0 none does.
+pub(crate) fn disks(alloc: Global, failing: usize, call: u64) -> Result<Vec<OnceDisk>, Fail> {
+    let mut disks = Vec::new(alloc);
+    for node in 0..3 {
+        let call = if node == failing { call } else { 0 };
+        disks.push(OnceDisk::new(alloc, call))?;
+    }
+    Ok(disks)
+}
+
+/// No outages.
+pub(crate) fn no_outages(alloc: Global) -> Outages {
+    Outages::new(Vec::new(alloc))
+}
+
+/// One node is out, from so many commands on, and perhaps until so many.
+pub(crate) fn outage(
+    alloc: Global,
+    node: usize,
+    at: u64,
+    back: Option<u64>,
+) -> Result<Outages, Fail> {
+    let listed = vec![in alloc; Outage { node, at, back }]?;
+    Ok(Outages::new(listed))
+}
+
+/// Both seats' bots at each node, twice: they send all their lines, of which those that are old are refused. The call of
+/// a link of this number fails; with 0 none does.
+pub(crate) fn bots_everywhere(alloc: Global, call: u64) -> Result<MemoryLinks, Fail> {
+    let mut links = MemoryLinks::new(alloc, 3, call)?;
+    for _ in 0..2 {
+        for node in 0..3 {
+            links.call(node, 0, ALICE)?;
+            links.call(node, 1, BOB)?;
+        }
+    }
+    Ok(links)
+}
+
+/// Asserts that all three nodes have the whole log.
+pub(crate) fn assert_logged(rt: &impl Abort, course: &Course, call: u64) {
+    let each = LOG.len();
+    assert_eq!(rt; course.logs.len(), 3 * each, "call {call}");
+    for log in course.logs.chunks(each) {
+        assert_eq!(rt; log, LOG, "call {call}");
+    }
+}

@@ -1,0 +1,33 @@
+//! Tests of nodes, clusters and served matches, by their public calls alone.
+//!
+//! They stand in a crate of their own, which has nothing else: a crate with tests is proved twice, once without them and
+//! once with all of it, and what is tested here (`dealer_node`, `dealer_world`, `serving`) is so proved once.
+//!
+//! - `samples` has the matches that are played: alice and bob, limit, one hand or two.
+//! - `peer` and `node_tests`: one node of three, what it sends and shows, and its disk that fails.
+//! - `rounds`, `record_tests` and `choice_tests`: all nodes of a match, event by event, and the record of them.
+//! - `course` and `server_tests`: a match that is served over links in memory, whose calls fail in turn, and over disks
+//!   whose calls do; `tcp_tests`: the same match over sockets and files.
+//!
+//! Each call with a long contract is made in one small function that says nothing of its own, so that what the prover
+//! knows there isn't carried through all tests; and each of these is written for any disk, so that it is proved once.
+#![tactic(auto)]
+
+#[cfg(test)]
+mod choice_tests;
+#[cfg(test)]
+mod course;
+#[cfg(test)]
+mod node_tests;
+#[cfg(test)]
+mod peer;
+#[cfg(test)]
+mod record_tests;
+#[cfg(test)]
+mod rounds;
+#[cfg(test)]
+mod samples;
+#[cfg(test)]
+mod server_tests;
+#[cfg(test)]
+mod tcp_tests;

@@ -1,0 +1,135 @@
+use crate::peer::{Peer, assert_sent, assert_shown};
+use crate::samples::{ACCEPT, ACCEPTED, PREPARE, PROMISE};
+use dealer_node::{NodeFault, Out, Reader};
+use promise_store::StoreFault;
+use std::alloc::Global;
+use std::process::Abort;
+use std::test::Fail;
+
+/// The header of the match's log.
+const HEADER: &[u8] = b"# name/game/hands m1 l2.game 1\n";
+
+/// What the log gets of a fold by the first player.
+const FOLDED: &[u8] = b"STATE:0:f:TdAs|8hTc:5|-5:alice|bob\nSCORE:5|-5:alice|bob\n";
+
+/// The deal of node 0, chosen at slot 0.
+const DEALT: &[u8] =
+    b"\x00\x00\x00\x15\x01\x06\x00\x00\x00\x00\x01\x00\x00\x00\x00\x09\x21\x33\x1a\x20\x00\x18\x06\x1c\x2e";
+
+/// A fold of the first player, chosen at slot 1.
+const FOLD: &[u8] =
+    b"\x00\x00\x00\x12\x01\x06\x00\x00\x00\x01\x02\x00\x00\x00\x00\x00\x00\x00\x00\x00\x00\x00";
+
+/// A node that starts logs the header, and its first tick asks the others for promises.
+#[test]
+fn a_tick_asks_for_promises(rt: HostRuntime) -> Result<(), Fail> {
+    let alloc = rt.alloc();
+    let mut peer = Peer::created(&rt, alloc, 0)?;
+    let mut out = Out::new(alloc);
+    assert!(rt; peer.tick(&mut out) == Err(NodeFault::Down));
+    assert!(rt; peer.start(&mut out).is_ok());
+    assert!(rt; peer.node.running());
+    assert_eq!(rt; peer.node.front(), 0);
+    assert_shown(&rt, &out, &[(Reader::Log, HEADER)]);
+    assert_sent(&rt, &out, &[]);
+    let mut out = Out::new(alloc);
+    assert!(rt; peer.tick(&mut out).is_ok());
+    assert_sent(&rt, &out, &[(1, PREPARE), (2, PREPARE)]);
+    Ok(())
+}
+
+/// Node 0 on a new store, started, whose first tick asked for promises.
+fn preparing(rt: &impl Abort, alloc: Global) -> Result<Peer, Fail> {
+    let mut peer = Peer::created(rt, alloc, 0)?;
+    let mut out = Out::new(alloc);
+    assert!(rt; peer.start(&mut out).is_ok());
+    assert!(rt; peer.tick(&mut out).is_ok());
+    Ok(peer)
+}
+
+/// With the promise of one of the two others node 0 leads, and proposes its own deal at slot 0; once.
+#[test]
+fn promises_of_a_quorum_make_a_proposal(rt: HostRuntime) -> Result<(), Fail> {
+    let alloc = rt.alloc();
+    let mut peer = preparing(&rt, alloc)?;
+    let mut out = Out::new(alloc);
+    assert!(rt; peer.hear_2(PROMISE, &mut out).is_ok());
+    let due = [(1, ACCEPT), (2, ACCEPT), (1, ACCEPTED), (2, ACCEPTED)];
+    assert_sent(&rt, &out, &due);
+    let mut out = Out::new(alloc);
+    assert!(rt; peer.hear_1(PROMISE, &mut out).is_ok());
+    assert_sent(&rt, &out, &[]);
+    Ok(())
+}
+
+/// A node that hears that a deal and a fold were chosen logs the hand.
+#[test]
+fn the_header_and_the_log_of_a_fold_are_shown(rt: HostRuntime) -> Result<(), Fail> {
+    let alloc = rt.alloc();
+    let mut peer = Peer::created(&rt, alloc, 0)?;
+    let mut out = Out::new(alloc);
+    assert!(rt; peer.start(&mut out).is_ok());
+    assert!(rt; peer.hear_1(DEALT, &mut out).is_ok());
+    assert!(rt; peer.hear_1(FOLD, &mut out).is_ok());
+    assert_shown(&rt, &out, &[(Reader::Log, HEADER), (Reader::Log, FOLDED)]);
+    assert_eq!(rt; peer.node.front(), 2);
+    Ok(())
+}
+
+/// A seat is connected from when it has named the version until it is dropped, and the others stay as they are.
+#[test]
+fn a_seat_is_connected_by_its_version(rt: HostRuntime) -> Result<(), Fail> {
+    let alloc = rt.alloc();
+    let mut peer = Peer::created(&rt, alloc, 0)?;
+    let mut out = Out::new(alloc);
+    assert!(rt; peer.connect_bob() == Err(NodeFault::Down));
+    assert!(rt; peer.start(&mut out).is_ok());
+    assert!(rt; peer.connect_bob().is_ok());
+    assert!(rt; peer.connected() == (false, false));
+    assert!(rt; peer.hear_bob(b"VERSION:2.0.0\r\n", &mut out).is_ok());
+    assert!(rt; peer.connected() == (true, false));
+    assert!(rt; peer.drop_bob().is_ok());
+    assert!(rt; peer.connected() == (false, false));
+    Ok(())
+}
+
+/// Starts a node, and once more where the disk failed.
+fn start(rt: &impl Abort, alloc: Global, peer: &mut Peer) {
+    let mut out = Out::new(alloc);
+    if peer.start(&mut out).is_err() {
+        assert!(rt; peer.start(&mut out).is_ok());
+    }
+}
+
+/// A tick of a node over a disk whose call of this number fails: whether that was a call of the tick. Then the node is
+/// down, with 91 and 63; started again, it ticks.
+fn fails_in_tick(rt: &impl Abort, alloc: Global, call: u64) -> Result<bool, Fail> {
+    let mut peer = Peer::created(rt, alloc, call)?;
+    start(rt, alloc, &mut peer);
+    let mut out = Out::new(alloc);
+    let answer = peer.tick(&mut out);
+    if answer.is_ok() {
+        return Ok(false);
+    }
+    assert!(rt; answer == Err(NodeFault::Store(StoreFault::Disk)));
+    assert_sent(rt, &out, &[]);
+    assert!(rt; !peer.node.running());
+    assert_eq!(rt; peer.node.failures(), 1);
+    start(rt, alloc, &mut peer);
+    assert!(rt; peer.tick(&mut out).is_ok());
+    Ok(true)
+}
+
+/// A promise is one append, which takes four calls of the disk: where one of them fails, the node is down.
+#[test]
+fn a_failing_disk_takes_the_node_down(rt: HostRuntime) -> Result<(), Fail> {
+    let alloc = rt.alloc();
+    let mut failed = 0u32;
+    for call in 1..30u64 {
+        if fails_in_tick(&rt, alloc, call)? {
+            failed = failed.saturating_add(1);
+        }
+    }
+    assert_eq!(rt; failed, 4);
+    Ok(())
+}

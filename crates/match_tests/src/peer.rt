@@ -1,0 +1,103 @@
+//! A node of three in a match of one hand, over a disk in memory.
+
+ghost use Rattle.std.specs.Prelude.{◌≡◌};
+ghost use Rattle.dealer_node.specs.Seeing.{post_in};
+
+use crate::samples::one_hand;
+use dealer_node::{Node, NodeFault, Out, Reader};
+use promise_store::OnceDisk;
+use std::alloc::Global;
+use std::process::Abort;
+use std::test::Fail;
+
+/// Node 0 of three.
+#[derive(Drop)]
+pub(crate) struct Peer {
+    pub(crate) node: Node<OnceDisk>,
+    ghost nodes: { (post_in node).nodes ≡ 3 },
+    ghost players: { (post_in node).setting.game.players ≡ 2 },
+}
+
+impl Peer {
+    /// A node that is down, over an empty disk whose call of this number fails; with 0 none does.
+    fn new(rt: &impl Abort, alloc: Global, call: u64) -> Result<Peer, Fail> {
+        let config = one_hand(rt, alloc, 3)?;
+        assert!(rt; config.nodes() == 3);
+        assert!(rt; config.game().players() == 2);
+        let node = Node::new(alloc, &config, 0, OnceDisk::new(alloc, call))?;
+        Ok(Peer { node })
+    }
+
+    /// The same with a new store, which is made once more where the disk failed.
+    pub(crate) fn created(rt: &impl Abort, alloc: Global, call: u64) -> Result<Peer, Fail> {
+        let mut peer = Peer::new(rt, alloc, call)?;
+        if peer.create(rt).is_err() {
+            assert!(rt; peer.create(rt).is_ok());
+        }
+        Ok(peer)
+    }
+
+    /// Makes a new store.
+    fn create(&mut self, rt: &impl Abort) -> Result<(), NodeFault> {
+        assert!(rt; !self.node.running());
+        self.node.create()
+    }
+
+    /// Starts the node.
+    pub(crate) fn start(&mut self, out: &mut Out) -> Result<(), NodeFault> {
+        self.node.start(out)
+    }
+
+    /// Gives the node a tick.
+    pub(crate) fn tick(&mut self, out: &mut Out) -> Result<(), NodeFault> {
+        self.node.on_tick(out)
+    }
+
+    /// Gives the node the bytes of a frame of node 1.
+    pub(crate) fn hear_1(&mut self, bytes: &[u8], out: &mut Out) -> Result<(), NodeFault> {
+        self.node.on_frame(1, bytes, out)
+    }
+
+    /// Gives the node the bytes of a frame of node 2.
+    pub(crate) fn hear_2(&mut self, bytes: &[u8], out: &mut Out) -> Result<(), NodeFault> {
+        self.node.on_frame(2, bytes, out)
+    }
+
+    /// Connects bob's seat, 1.
+    pub(crate) fn connect_bob(&mut self) -> Result<(), NodeFault> {
+        self.node.connect(1)
+    }
+
+    /// Drops bob's seat.
+    pub(crate) fn drop_bob(&mut self) -> Result<(), NodeFault> {
+        self.node.drop_seat(1)
+    }
+
+    /// Gives the node bytes of bob's seat.
+    pub(crate) fn hear_bob(&mut self, bytes: &[u8], out: &mut Out) -> Result<(), NodeFault> {
+        self.node.on_line(1, bytes, out)
+    }
+
+    /// Whether bob's seat is connected, and whether alice's is.
+    pub(crate) fn connected(&self) -> (bool, bool) {
+        (self.node.connected(1), self.node.connected(0))
+    }
+}
+
+/// Asserts that these frames were sent, each to its node, and no others.
+pub(crate) fn assert_sent(rt: &impl Abort, out: &Out, due: &[(u8, &[u8])]) {
+    let mut sent = out.frames();
+    for (to, bytes) in due.iter() {
+        assert!(rt; sent.next() == Some((*to, *bytes)));
+    }
+    assert!(rt; sent.next().is_none());
+}
+
+/// Asserts that these texts were shown, each to its reader, and no others.
+pub(crate) fn assert_shown(rt: &impl Abort, out: &Out, due: &[(Reader, &[u8])]) {
+    let mut shown = out.shown();
+    for (reader, text) in due.iter() {
+        assert!(rt; shown.next() == Some((*reader, *text)));
+    }
+    assert!(rt; shown.next().is_none());
+}

@@ -1,0 +1,92 @@
+//! The matches that are played, of alice and bob, limit; and the frames of their first round.
+
+use card_core::Deal;
+use dealer_kind::{Config, Source};
+use match_log::{Name, SeatNames};
+use matchstate::read_deal;
+use std::alloc::Global;
+use std::process::Abort;
+use std::test::Fail;
+
+/// Two players, limit.
+const L2: &[u8] = b"GAMEDEF
+limit
+numPlayers = 2
+numRounds = 4
+blind = 10 5
+raiseSize = 10 10 20 20
+firstPlayer = 2 1 1 1
+maxRaises = 3 4 4 4
+numSuits = 4
+numRanks = 13
+numHoleCards = 2
+numBoardCards = 0 3 1 1
+END GAMEDEF
+";
+
+/// What the nodes of a match of one hand would deal, in the order of nodes.
+const DEALS: [&[u8]; 5] = [
+    b"TdAs|8hTc/2c8c3h/9c/Kh",
+    b"2d2h|3d3s/4c5c6c/7c/8d",
+    b"AhAd|KdKs/QcJc9d/5d/6s",
+    b"2c3c|4c5c/6c7c8c/9c/Tc",
+    b"AcKc|QcJc/Tc9c8c/7c/6c",
+];
+
+/// Node 0 asks for a promise of (1, 0) at slot 0.
+pub(crate) const PREPARE: &[u8] = b"\x00\x00\x00\x0b\x01\x01\x00\x00\x00\x01\x00\x00\x00\x00\x00";
+
+/// A node's promise of it, with nothing to tell.
+pub(crate) const PROMISE: &[u8] =
+    b"\x00\x00\x00\x0c\x01\x02\x00\x00\x00\x01\x00\x00\x00\x00\x00\x00";
+
+/// The deal of node 0, proposed in (1, 0) at slot 0.
+pub(crate) const ACCEPT: &[u8] =
+    b"\x00\x00\x00\x1a\x01\x04\x00\x00\x00\x01\x00\x00\x00\x00\x00\x01\x00\x00\x00\x00\x09\x21\x33\x1a\x20\x00\x18\x06\x1c\x2e";
+
+/// The same, accepted.
+pub(crate) const ACCEPTED: &[u8] =
+    b"\x00\x00\x00\x1a\x01\x05\x00\x00\x00\x01\x00\x00\x00\x00\x00\x01\x00\x00\x00\x00\x09\x21\x33\x1a\x20\x00\x18\x06\x1c\x2e";
+
+/// The deal of this number, counted from 0.
+pub(crate) fn deal(rt: &impl Abort, number: usize) -> Deal {
+    let text = DEALS
+        .get(number)
+        .copied()
+        .expect(rt, "a deal of this number");
+    read_deal(text, 2).expect(rt, "a deal")
+}
+
+/// A match of so many hands, whose nodes have these deals.
+fn config(
+    rt: &impl Abort,
+    alloc: Global,
+    hands: u32,
+    sources: Vec<Source>,
+) -> Result<Config, Fail> {
+    let game = game_def::read(L2).expect(rt, "a game");
+    let name = Name::new(b"m1").expect(rt, "a name");
+    let word = b"l2.game".to_vec(alloc)?;
+    let names = SeatNames::read(b"alice|bob", 2).expect(rt, "names");
+    Ok(Config::new(game, name, word, names, hands, sources).expect(rt, "a config"))
+}
+
+/// A match of one hand by so many nodes, each of which has a deal of its own.
+pub(crate) fn one_hand(rt: &impl Abort, alloc: Global, nodes: usize) -> Result<Config, Fail> {
+    let mut sources = Vec::new(alloc);
+    for node in 0..nodes {
+        let deals = vec![in alloc; deal(rt, node)]?;
+        sources.push(Source::Listed(deals))?;
+    }
+    config(rt, alloc, 1, sources)
+}
+
+/// A match of two hands by three nodes, all of which have the same two deals.
+pub(crate) fn two_hands(rt: &impl Abort, alloc: Global) -> Result<Config, Fail> {
+    let mut sources = Vec::new(alloc);
+    for _ in 0..3 {
+        let deals = vec![in alloc; deal(rt, 0), deal(rt, 1)]?;
+        sources.push(Source::Listed(deals))?;
+    }
+    config(rt, alloc, 2, sources)
+}
