@@ -388,6 +388,9 @@ class Compared:
             seconds, each = run.floor(tools, sync)
             run.done()
             ours.append(run.commands / run.seconds)
+            if run.seconds > 2 * RUN_TAKES:
+                # The disk has become slower than it was: the runs that follow are shorter.
+                hands = max(FEWEST, int(hands * RUN_TAKES / run.seconds))
             floors.append(run.commands / seconds)
             syncs.append(each)
             beyond.append((run.seconds - seconds) / run.commands * 1e6)
@@ -396,7 +399,7 @@ class Compared:
         self.ratio = statistics.median(ours) / statistics.median(floors)
         self.beyond = statistics.median(beyond)
         slowed = "" if sync is None else f", each sync made to take {sync * 1e3:.1f} ms or more"
-        print(f"{nodes} nodes, {run.commands:,} commands, stores in {place}{slowed}, {runs} runs each:")
+        print(f"{nodes} nodes, {run.commands:,} commands at last, stores in {place}{slowed}, {runs} runs each:")
         print(f"  serve {spread(ours)} commands a second, the floor {spread(floors)}: {self.ratio:.2f} of it")
         print(f"  a write and its sync take {self.sync * 1e3:.3f} ms; beyond the floor a command takes {spread(beyond)} microseconds")
         print(f"  the longest time from an act to a line that came of it: {spread(longest, 1)} ms", flush=True)
