@@ -4,7 +4,8 @@
 //! takes a line of a script, without its line feed: what it says happens, and what comes of that is printed, of each event
 //! first the frames, numbered in order of sending, then lines of seats and log lines in their order, then faults. A line
 //! that says nothing, or names what there isn't, is answered by `E 110 BadScript`. `flush` delivers the frame of least
-//! number that was never delivered, as often as it says and while there is one.
+//! number that was never delivered, as often as it says and while there is one. The test `answers_a_script_of_nodes`,
+//! in a crate above, gives it a script.
 //!
 //! An `AllocError` is the only fault: memory was refused. Then `Playing` may have taken an event whose text was not given
 //! out, so a run of a script ends there. The promise of a cluster holds of it all the same.

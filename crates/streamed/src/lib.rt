@@ -6,8 +6,9 @@
 //! whose text is what standard error gets. A program that runs a script of its own takes the same steps: `read_piece` up
 //! to `MOST_READS` times, and `send` for each answer; a `Stop` tells why it went no further.
 //!
-//! `laws` says that a script has one output. What tests there are of it stand in the crate of the program, beside those
-//! of its other commands. Faults: the variants of `Ending`, and in what `hand` writes those of `betting` and 110.
+//! `laws` says that a script has one output. Its tests stand in a crate above, beside those of the other commands: there
+//! `answers_a_script` runs `hand_run`, and `says_yes_of_a_log` `check_run`. Faults: the variants of `Ending`, and in what
+//! `hand` writes those of `betting` and 110.
 #![tactic(auto)]
 
 mod dealing;
