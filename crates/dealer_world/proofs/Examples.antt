@@ -11,7 +11,9 @@ use Rattle.protocol_model.specs.Moves.{Shown}
 use Rattle.protocol_model.specs.Quorums.{count, AreChosen}
 use Rattle.protocol_model.specs.Laws.{NeverGoesBack}
 use Rattle.dealer_world.specs.declared.rows.Entry.{Entry}
-use Rattle.dealer_world.specs.Rows.{cut, start_of, AreEnds}
+use Rattle.dealer_world.specs.Rows.{Row, cut, start_of, AreEnds}
+use Rattle.dealer_world.specs.declared.shared_rows.Numbered.{Numbered}
+use Rattle.dealer_world.specs.SharedRows.{text_of, rows_by, AreNumbered}
 use Rattle.dealer_world.specs.Records.{Frame, Arrived, Delivered, Came, Connected, Dropped, Arrival, Piece, Record, no_record, Line, lines_of, logs_of, start_count, last_start, said_by, said}
 use Rattle.dealer_world.specs.Unforged.{IsAmong, IsUnforged}
 use Rattle.dealer_world.specs.Hearing.{heard_by, WasHeard}
@@ -315,6 +317,28 @@ byte_too_many (least, last) = let is : 2 ≡ 3 = last in omega arith
 
 ends_before_it_begins : AreEnds 0 (ends_at 8 2 ∷ ends_at 7 1 ∷ []) 1 → ⊥
 ends_before_it_begins (first, (second, last)) = let is : 2 ≤ 1 = second in omega arith
+
+-- ---- rows that share texts
+
+abbrev numbered : ℕ → ℕ → Numbered ℕ
+numbered mark text = record { mark = mark; text = text }
+
+abbrev two_texts : List (Row ℕ)
+two_texts = (record { mark = 0; text = 5 ∷ 6 ∷ [] }) ∷ (record { mark = 0; text = 4 ∷ [] }) ∷ []
+
+-- three rows, the first and the last with one text
+rows_share : rows_by two_texts (numbered 8 0 ∷ numbered 9 1 ∷ numbered 7 0 ∷ []) ≡ (record { mark = 8; text = 5 ∷ 6 ∷ [] }) ∷ (record { mark = 9; text = 4 ∷ [] }) ∷ (record { mark = 7; text = 5 ∷ 6 ∷ [] }) ∷ []
+rows_share = refl
+
+no_third_text : text_of two_texts 2 ≡ []
+no_third_text = refl
+
+numbers_of_texts : AreNumbered 2 (numbered 8 0 ∷ numbered 9 1 ∷ [])
+numbers_of_texts = (omega arith, (omega arith, tt))
+
+-- a row whose text isn't there
+number_of_no_text : AreNumbered 2 (numbered 8 2 ∷ []) → ⊥
+number_of_no_text (below, rest) = let is : 2 < 2 = below in omega arith
 
 -- ---- events
 

@@ -3,6 +3,7 @@ mod Finding
 mod Each
 mod Saying
 mod Cutting
+mod Sharing
 mod Pieces
 mod Counting
 mod Heard

@@ -1,5 +1,5 @@
 -- Why nodes of a cluster don't start: memory or a disk fails.
-use Rattle.std.proofs.Common.{◌≡◌, ◌<◌, ◌+◌, ℕ, suc, inl, inr, Bool, true, false, List, [], ◌∷◌, map, length, get_or, set, Result, Ok, Err, IsTrue, IfErr, refl, ap, sym, ◌∙◌, subst, arith}
+use Rattle.std.proofs.Common.{◌≡◌, ◌<◌, ◌+◌, ℕ, suc, inl, inr, Bool, true, false, List, [], ◌∷◌, map, length, get_or, set, Result, Ok, Err, IsTrue, IfErr, ap, sym, ◌∙◌, subst, arith}
 use Rattle.std.proofs.lemmas.List.{length-map}
 use Rattle.promise_store.specs.declared.disk.Disk.{Ghosts}
 use Rattle.promise_store.specs.declared.fault.StoreFault.TheVariants.{Disk}
@@ -22,7 +22,7 @@ use Rattle.dealer_node.specs.Seeing.{post_in, IsSeen, begun_of}
 use Rattle.dealer_node.specs.Taking.{Answered}
 use Rattle.dealer_world.specs.declared.event.Event.{Event}
 use Rattle.dealer_world.specs.declared.event.Event.TheVariants as event
-use Rattle.dealer_world.specs.Events.{node_of, call_of}
+use Rattle.dealer_world.specs.Events.{node_of}
 use Rattle.dealer_world.specs.Stepping.{View, Stepped}
 use Rattle.dealer_world.specs.Ruling.{AreSeen}
 use Rattle.dealer_world.specs.Beginning.{IsWant, IsCreatedAt, IsReopenedAt, AreEach, HaveStores}

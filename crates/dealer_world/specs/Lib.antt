@@ -1,4 +1,5 @@
 pub mod Rows
+pub mod SharedRows
 pub mod Records
 pub mod KeptFrames
 pub mod KeptArrivals

@@ -1,7 +1,7 @@
 ghost use Rattle.std.specs.Prelude.{◌≡◌, ◌+◌, ◌≤◌, ◌++◌, ◌∷◌, [], length, slice_get, Some, OnOk, IfSome, IsNone, ◌↔◌};
 ghost use Rattle.dealer_world.specs.KeptArrivals.{arrival_of};
 
-use crate::rows::Rows;
+use crate::shared_rows::SharedRows;
 use std::alloc::{AllocError, Global};
 use std::marker::Model;
 
@@ -33,10 +33,10 @@ pub struct Arrival<'a> {
     pub sent_before: usize,
 }
 
-/// All that reached running nodes from outside, in order, in one buffer.
+/// All that reached running nodes from outside, in order, in one buffer. Bytes that reach several nodes are kept once.
 #[derive(Drop)]
 pub struct Arrivals {
-    rows: Rows<Came>,
+    rows: SharedRows<Came>,
 }
 
 impl Model for Arrivals {
@@ -53,7 +53,7 @@ impl Arrivals {
         ensures { result.arrivals ≡ [] }
     {
         Arrivals {
-            rows: Rows::new(alloc),
+            rows: SharedRows::new(alloc),
         }
     }
 

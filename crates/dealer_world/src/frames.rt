@@ -1,6 +1,6 @@
 ghost use Rattle.std.specs.Prelude.{◌≡◌, ◌+◌, ◌≤◌, ◌++◌, ◌∷◌, [], length, slice_get, Some, OnOk, IfSome, IsNone, ◌↔◌};
 
-use crate::rows::Rows;
+use crate::shared_rows::SharedRows;
 use std::alloc::{AllocError, Global};
 use std::marker::Model;
 
@@ -19,10 +19,10 @@ pub struct Frame<'a> {
     pub bytes: &'a [u8],
 }
 
-/// Frames in order of sending, in one buffer.
+/// Frames in order of sending, in one buffer. Bytes that go to several nodes are kept once.
 #[derive(Drop)]
 pub struct Frames {
-    rows: Rows<Way>,
+    rows: SharedRows<Way>,
 }
 
 impl Model for Frames {
@@ -39,7 +39,7 @@ impl Frames {
         ensures { result.frames ≡ [] }
     {
         Frames {
-            rows: Rows::new(alloc),
+            rows: SharedRows::new(alloc),
         }
     }
 

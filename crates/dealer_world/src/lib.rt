@@ -23,6 +23,7 @@ mod frames;
 pub mod laws;
 mod recording;
 mod rows;
+mod shared_rows;
 mod shown;
 mod starts;
 mod stopped;

@@ -12,7 +12,7 @@ use Rattle.dealer_world.specs.Events.{node_of}
 use Rattle.dealer_world.proofs.Stopping.{goes_on_inside}
 use Rattle.dealer_node.specs.Seeing.{begun_of}
 use Rattle.std.specs.Prelude.{map}
-use Rattle.std.proofs.Common.{◌≡◌, ℕ, List, length, true, Err, IsTrue, sym, subst, rules}
+use Rattle.std.proofs.Common.{◌≡◌, ℕ, length, true, Err, IsTrue, sym, subst, rules}
 use Rattle.dealer_world.proofs.cluster.Cluster.open.Goals as goal
 
 pub down-cluster-requires-clause-posted : goal.down-cluster-requires-clause-posted

@@ -1,4 +1,4 @@
-use Rattle.std.proofs.Common.{◌≡◌, ℕ, ◌+◌, ◌-◌, ◌<◌, ◌≤◌, ◌++◌, ◌∷◌, [], List, length, get_or, set, sym, subst, vec_len, vec_capacity, arith}
+use Rattle.std.proofs.Common.{◌≡◌, ◌+◌, ◌-◌, ◌<◌, ◌≤◌, List, length, get_or, set, sym, subst, vec_len, vec_capacity, arith}
 use Rattle.dealer_world.specs.declared.begun.Begun.{Begun}
 use Rattle.dealer_world.specs.KeptStarts.{Kept, AreCounted}
 use Rattle.dealer_world.proofs.Counting.{count_at_most, one_more}
