@@ -12,6 +12,7 @@ mod Starting
 mod OneList
 mod Opening
 mod Dealt
+mod Logging
 mod Reading
 mod Ruling
 mod Keeping

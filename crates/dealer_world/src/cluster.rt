@@ -1,4 +1,4 @@
-ghost use Rattle.std.specs.Prelude.{◌≡◌, ◌<◌, ℕ, List, length, map, IsTrue, get_or, ◌∷◌, ◌⊎◌, Result, ◌↔◌, Err, OnOk, IfOk, IfErr, IfSome, IsNone, Some, slice_get, ◌≤◌, ◌-◌, ◌^◌, min, true, false};
+ghost use Rattle.std.specs.Prelude.{◌≡◌, ◌<◌, ◌++◌, ℕ, List, length, map, IsTrue, get_or, ◌∷◌, ◌⊎◌, Result, ◌↔◌, Err, OnOk, IfOk, IfErr, IfSome, IsNone, Some, slice_get, ◌≤◌, ◌-◌, ◌^◌, min, true, false};
 ghost use Rattle.dealer_world.specs.KeptShown.{piece_by};
 ghost use Rattle.dealer_world.specs.KeptArrivals.{arrival_of};
 ghost use Rattle.dealer_world.specs.Recordings.{start_by};
@@ -6,7 +6,7 @@ ghost use Rattle.std.specs.List.{All};
 ghost use Rattle.dealer_node.specs.Outs.{nothing_told};
 ghost use Rattle.dealer_node.specs.Seeing.{post_in, runs, IsSeen, begun_of};
 ghost use Rattle.node_rules.specs.Standings.{Standing};
-ghost use Rattle.dealer_world.specs.Records.{no_record};
+ghost use Rattle.dealer_world.specs.Records.{no_record, log_of};
 ghost use Rattle.dealer_world.specs.Headline.{Era};
 ghost use Rattle.dealer_world.specs.Beginning.{AreImages, AreImagesDuring, AreStarted, StartsAll, HaveStores, AreEach, IsWant};
 ghost use Rattle.protocol_model.specs.Stores.{Store, empty_store};
@@ -320,6 +320,14 @@ impl<D: Disk + Drop> Cluster<D> {
         ensures none { IsNone result ↔ (length (view_of self.now).all.shown ≤ number) }
     {
         self.recording.piece(number)
+    }
+
+    /// Puts the log of a start behind what stands in a text: all that the node logged since it began, also by a call of
+    /// it that failed later. By an `Err`, want of memory, a part of it may stand there.
+    pub fn put_log(&self, of: Begun, log: &mut Vec<u8>) -> Result<(), AllocError>
+        ensures { OnOk result (log.new.items ≡ log.old.items ++ log_of (view_of self.now).all.shown of.node of.start) }
+    {
+        self.recording.put_log(of, log)
     }
 
     /// How many arrivals there are: frames, bytes of seats, connections and drops that reached running nodes.

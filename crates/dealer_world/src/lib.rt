@@ -11,7 +11,7 @@
 //!
 //! The record is read by numbers, without memory: `frame`, all that was sent; `arrival`, what reached running nodes;
 //! `piece`, all lines and log lines in the order in which they were shown; `starts`, each of which began a log; and
-//! `last`, what the last call made.
+//! `last`, what the last call made. `put_log` joins the log of a start; it alone asks for memory.
 #![tactic(auto)]
 
 mod arrivals;

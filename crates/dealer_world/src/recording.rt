@@ -1,12 +1,12 @@
 //! The record of a cluster as it is kept.
 
-ghost use Rattle.std.specs.Prelude.{◌≡◌, ◌+◌, ◌≤◌, ◌++◌, [], length, map, ◌-◌, ◌^◌, min, true, if◌then◌else◌, OnOk, IfSome, IsNone, Some, ◌↔◌, slice_get};
+ghost use Rattle.std.specs.Prelude.{◌≡◌, ◌+◌, ◌≤◌, ◌++◌, [], length, map, ◌-◌, ◌^◌, min, true, if◌then◌else◌, OnOk, OnErr, IfSome, IsNone, Some, ◌↔◌, slice_get};
 ghost use Rattle.dealer_node.specs.Texts.{byte_total};
 ghost use Rattle.dealer_node.specs.Outs.{nothing_told};
-ghost use Rattle.dealer_world.specs.Records.{no_record, last_start};
+ghost use Rattle.dealer_world.specs.Records.{no_record, last_start, logged_by, log_of};
 ghost use Rattle.dealer_world.specs.Views.{grown, placed_at, piece_of, starts_after};
 ghost use Rattle.dealer_world.specs.Events.{node_of, bytes_in, brought_by};
-ghost use Rattle.dealer_world.specs.KeptShown.{piece_by};
+ghost use Rattle.dealer_world.specs.KeptShown.{piece_by, reader_by};
 ghost use Rattle.dealer_world.specs.Recordings.{frame_by, text_by, made_by, start_by};
 
 use crate::arrivals::{Arrivals, What};
@@ -79,6 +79,61 @@ fn put_pieces(pieces: &mut Shown, at: Begun, shown: Reading<'_, Reader>)
     for (reader, text) in shown {
         pieces.push_reserved(at.node, at.start, reader, text);
     }
+}
+
+/// Puts what a node showed within a start behind the log of a start, where it is of that log; by an `Err` nothing
+/// changes.
+fn put_logged(
+    log: &mut Vec<u8>,
+    of: Begun,
+    at: Begun,
+    reader: Reader,
+    text: &[u8],
+) -> Result<(), AllocError>
+    ensures added { OnOk result (log.new.items ≡ log.old.items ++ logged_by (reader_by reader) (piece_by at.node at.start reader text.now) of.node of.start) }
+    ensures same { OnErr result (log.new.items ≡ log.old.items) }
+{
+    match reader {
+        Reader::Seat(_) => Ok(()),
+        Reader::Log => {
+            if at.node == of.node && at.start == of.start {
+                log.extend_from_slice(text)
+            } else {
+                Ok(())
+            }
+        }
+    }
+}
+
+/// Puts the log of a start behind what stands there, as far as these pieces have it; by an `Err` a part of it.
+fn put_kept(log: &mut Vec<u8>, of: Begun, pieces: &Shown) -> Result<(), AllocError>
+    ensures { OnOk result (log.new.items ≡ log.old.items ++ log_of pieces.now.pieces of.node of.start) }
+{
+    for number in 0..pieces.len() {
+        if let Some(piece) = pieces.get(number) {
+            let at = Begun {
+                node: piece.node,
+                start: piece.start,
+            };
+            put_logged(log, of, at, piece.reader, piece.text)?;
+        }
+    }
+    Ok(())
+}
+
+/// The same of what a node showed within a start.
+fn put_told(
+    log: &mut Vec<u8>,
+    of: Begun,
+    at: Begun,
+    shown: Reading<'_, Reader>,
+) -> Result<(), AllocError>
+    ensures { OnOk result (log.new.items ≡ log.old.items ++ log_of (map (piece_of at.node at.start) (map text_by shown.entry)) of.node of.start) }
+{
+    for (reader, text) in shown {
+        put_logged(log, of, at, reader, text)?;
+    }
+    Ok(())
 }
 
 /// Puts down that a start of a node begins, where it does, into room that was reserved for it, and tells the number of
@@ -317,6 +372,17 @@ impl Recording {
             reader,
             text,
         })
+    }
+
+    /// Puts the log of a start behind what stands in a text; by an `Err` a part of it may stand there.
+    pub(crate) fn put_log(&self, of: Begun, log: &mut Vec<u8>) -> Result<(), AllocError>
+        ensures { OnOk result (log.new.items ≡ log.old.items ++ log_of self.now.all.shown of.node of.start) }
+    {
+        put_kept(log, of, &self.pieces)?;
+        match self.last_of {
+            None => Ok(()),
+            Some(at) => put_told(log, of, at, self.last.shown()),
+        }
     }
 
     /// What reached running nodes.

@@ -1,0 +1,49 @@
+-- The log of a start, piece by piece.
+use Rattle.std.proofs.Common.{◌≡◌, ℕ, zero, suc, ◌+◌, Some, Result, Ok, Err, OnOk, List, [], ◌∷◌, ◌++◌, reverse, take, slice_get, ap, sym, ◌∙◌, append_assoc, arith}
+use Rattle.std.proofs.lemmas.List.{reverse-append, append-nil}
+use Rattle.dealer_world.specs.Records.{Piece, logged_by, log_in, log_of}
+
+-- what came later stands behind
+log_in_append : (later before : List Piece) (node start : ℕ) → log_in (later ++ before) node start ≡ log_in before node start ++ log_in later node start
+log_in_append [] before node start = sym (append-nil (log_in before node start))
+log_in_append (latest ∷ later) before node start =
+    ap (λ log. log ++ logged_by latest.reader latest node start) (log_in_append later before node start)
+    ∙ append_assoc (log_in before node start) (log_in later node start) (logged_by latest.reader latest node start)
+
+log_of_append : (first more : List Piece) (node start : ℕ) → log_of (first ++ more) node start ≡ log_of first node start ++ log_of more node start
+log_of_append first more node start =
+    ap (λ pieces. log_in pieces node start) (reverse-append first more) ∙ log_in_append (reverse more) (reverse first) node start
+
+-- a log that has these pieces, and then those behind them
+pub joined : (first more : List Piece) (node start : ℕ) (old now after : List ℕ) → now ≡ old ++ log_of first node start → after ≡ now ++ log_of more node start
+    → after ≡ old ++ log_of (first ++ more) node start
+joined first more node start old now after is added =
+    added
+    ∙ (ap (λ log. log ++ log_of more node start) is
+    ∙ (append_assoc old (log_of first node start) (log_of more node start) ∙ ap (λ log. old ++ log) (sym (log_of_append first more node start))))
+
+-- what stands there, and then the log of a piece and of those behind it
+pub moved_on : (piece : Piece) (more : List Piece) (node start : ℕ) (now after : List ℕ) → after ≡ now ++ logged_by piece.reader piece node start
+    → after ++ log_of more node start ≡ now ++ log_of (piece ∷ more) node start
+moved_on piece more node start now after added =
+    ap (λ log. log ++ log_of more node start) added
+    ∙ (append_assoc now (logged_by piece.reader piece node start) (log_of more node start)
+    ∙ ap (λ log. now ++ log) (sym (log_of_append (piece ∷ []) more node start)))
+
+one_more : (pieces : List Piece) (number : ℕ) (piece : Piece) → slice_get pieces number ≡ Some piece → take (suc number) pieces ≡ take number pieces ++ piece ∷ []
+one_more [] number piece at = absurd cc
+one_more (first ∷ more) zero piece at = cc
+one_more (first ∷ more) (suc number) piece at = ap (λ pieces. first ∷ pieces) (one_more more number piece at)
+
+-- a log that has the pieces below a number has that piece too
+pub next_piece : (pieces : List Piece) (number : ℕ) (piece : Piece) (node start : ℕ) (old now after : List ℕ) → slice_get pieces number ≡ Some piece
+    → now ≡ old ++ log_of (take number pieces) node start → after ≡ now ++ logged_by piece.reader piece node start
+    → after ≡ old ++ log_of (take (number + 1) pieces) node start
+next_piece pieces number piece node start old now after at is added =
+    let next : suc number ≡ number + 1 = omega arith in
+    let more : take number pieces ++ piece ∷ [] ≡ take (number + 1) pieces = sym (one_more pieces number piece at) ∙ ap (λ n. take n pieces) next in
+    joined (take number pieces) (piece ∷ []) node start old now after is added ∙ ap (λ ps. old ++ log_of ps node start) more
+
+pub more_on_ok : {A E : Type 0} (result : Result A E) (P Q : Type 0) → (P → Q) → OnOk result P → OnOk result Q
+more_on_ok (Ok value) P Q gives is = gives is
+more_on_ok (Err fault) P Q gives is = is
