@@ -1,5 +1,5 @@
 -- The pieces in which a seat's bytes are read.
-use Rattle.std.specs.Prelude.{ℕ, ◌+◌, ◌==◌, Bool, List, length, min}
+use Rattle.std.specs.Prelude.{ℕ, ◌+◌, ◌==◌, ◌||◌, Bool, List, length, min, nat_le, is_some, position}
 use Rattle.std.specs.List.{position_or_len}
 
 abbrev pub is_line_feed : ℕ → Bool
@@ -12,3 +12,7 @@ piece_len bytes = min (1 + position_or_len is_line_feed bytes) (length bytes)
 -- how much of the next piece a buffer of so many bytes takes
 abbrev pub part_len : ℕ → List ℕ → ℕ
 part_len room bytes = min (piece_len bytes) room
+
+-- a whole piece came: a line with its line feed, or as many bytes as a piece may have
+abbrev pub is_whole : List ℕ → Bool
+is_whole bytes = nat_le 4097 (length bytes) || is_some (position is_line_feed bytes)

@@ -1,7 +1,7 @@
-ghost use Rattle.std.specs.Prelude.{◌≡◌, ◌≤◌, length, take, drop, vec_len};
-ghost use Rattle.match_links.specs.Pieces.{part_len};
+ghost use Rattle.std.specs.Prelude.{◌≡◌, ◌≤◌, ◌+◌, [], length, take, drop, vec_len, IfOk, OnErr};
+ghost use Rattle.match_links.specs.Pieces.{part_len, is_whole};
 
-use crate::piece::piece_len;
+use crate::piece::{first_line_feed, piece_len};
 use std::alloc::{AllocError, Global};
 use std::io;
 use std::io::Read;
@@ -17,19 +17,27 @@ pub(crate) struct Input {
 
 impl Input {
     /// Nothing came. All the room that it takes is made now.
-    pub(crate) fn new(alloc: Global) -> Result<Input, AllocError> {
+    pub(crate) fn new(alloc: Global) -> Result<Input, AllocError>
+        ensures { IfOk result (λ input. input.bytes.items ≡ []) }
+    {
         Ok(Input {
             bytes: Vec::with_capacity(alloc, PIECE)?,
         })
     }
 
     /// Whether a whole piece came: a line with its line feed, or as many bytes as a piece may have.
-    pub(crate) fn is_whole(&self) -> bool {
-        self.bytes.len() >= PIECE || self.bytes.contains(&b'\n')
+    pub(crate) fn is_whole(&self) -> bool
+        ensures { result ≡ is_whole self.now.bytes.items }
+    {
+        self.bytes.len() >= PIECE || first_line_feed(&self.bytes).is_some()
     }
 
-    /// Waits for more bytes, and says how many came: none at the end.
-    pub(crate) fn fill<R: Read>(&mut self, from: &mut R) -> io::Result<usize> {
+    /// Waits for more bytes, and says how many came: none at the end. They stand behind those that came before.
+    pub(crate) fn fill<R: Read>(&mut self, from: &mut R) -> io::Result<usize>
+        ensures count { IfOk result (λ count. length self.new.bytes.items ≡ length self.old.bytes.items + count) }
+        ensures kept { take (length self.old.bytes.items) self.new.bytes.items ≡ self.old.bytes.items }
+        ensures failed { OnErr result (self.new.bytes.items ≡ self.old.bytes.items) }
+    {
         let mut buffer = [0u8; PIECE];
         let room = PIECE.saturating_sub(self.bytes.len());
         let count = from.read(&mut buffer[..room])?;

@@ -15,6 +15,7 @@
 //! link is done for. `PortFault` says which port can't be had. `TcpLinks::failed` tells which port or log failed last.
 #![tactic(auto)]
 
+mod callers;
 mod input;
 mod links;
 mod memory_links;

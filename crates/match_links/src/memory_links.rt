@@ -1,11 +1,10 @@
 //! Links in memory, of whose calls one may fail.
 
-ghost use Rattle.std.specs.Prelude.{◌≡◌, ◌+◌, ◌++◌, ◌==◌, [], ℕ, ◌≤◌, if◌then◌else◌, ◌∷◌, length, take, drop, map, get_or, vec_len, IfOk, OnOk, OnErr};
+ghost use Rattle.std.specs.Prelude.{◌≡◌, ◌++◌, ◌==◌, [], ℕ, if◌then◌else◌, ◌∷◌, map, get_or, IfOk, OnOk, OnErr};
 ghost use Rattle.match_links.specs.Memory.{told_by, AreTold, told_prop, AreLogged, logged_prop};
 ghost use Rattle.match_links.specs.Passages.{lines_in, log_of, Told as WasTold};
-ghost use Rattle.match_links.specs.Pieces.{part_len};
 
-use crate::input::give;
+use crate::callers::Callers;
 use crate::links::{LinkFault, Links};
 use crate::passages::Passages;
 use std::alloc::{AllocError, Global};
@@ -15,40 +14,6 @@ const ROOM: usize = 8192;
 
 /// The most nodes that a match has.
 const NODES: usize = 5;
-
-/// A connection of a seat to a node, and what it sends before it ends.
-#[derive(Debug, Drop)]
-struct Caller {
-    node: u8,
-    seat: u8,
-    bytes: Vec<u8>,
-    /// How many bytes were read.
-    read: usize,
-    state: State,
-    ghost within: { read ≤ vec_len bytes },
-}
-
-impl Caller {
-    /// Reads the next piece of what it sends, as much of it as fits into the buffer, and says how long that is.
-    fn read(&mut self, piece: &mut [u8]) -> usize
-        ensures count { result ≡ part_len (length piece.old) (drop self.old.read self.old.bytes.items) }
-        ensures piece { take result piece.new ≡ take result (drop self.old.read self.old.bytes.items) }
-        ensures read { self.new.read ≡ self.old.read + result }
-        ensures same { self.new.bytes ≡ self.old.bytes }
-        ensures within { result ≤ length piece.new }
-    {
-        let count = give(&self.bytes[self.read..], piece);
-        self.read += count;
-        count
-    }
-}
-
-#[derive(Clone, Copy, Debug, PartialEq, Eq)]
-enum State {
-    Waiting,
-    Open,
-    Closed,
-}
 
 /// What a call of a link reaches.
 #[derive(Clone, Copy, Debug, PartialEq, Eq)]
@@ -78,7 +43,7 @@ pub struct Told {
 #[derive(Drop)]
 pub struct MemoryLinks {
     alloc: Global,
-    callers: Vec<Caller>,
+    callers: Callers,
     told: Vec<Told>,
     logs: Vec<Vec<u8>>,
     /// The last frame, and the nodes whose connection it is in.
@@ -157,56 +122,6 @@ fn add_to_one(logs: &mut Vec<Vec<u8>>, node: usize, text: &[u8]) -> Result<(), L
     }
 }
 
-/// Opens the first connection of a seat to a node that waits and sends something; fails where there is none.
-fn open_one(callers: &mut [Caller], node: u8, seat: u8) -> Result<(), LinkFault> {
-    for caller in callers {
-        if caller.node == node
-            && caller.seat == seat
-            && caller.state == State::Waiting
-            && !caller.bytes.is_empty()
-        {
-            caller.state = State::Open;
-            return Ok(());
-        }
-    }
-    Err(LinkFault::Failed)
-}
-
-/// Reads the next piece from a seat's connection to a node; fails where it has none.
-fn read_from(
-    callers: &mut [Caller],
-    node: u8,
-    seat: u8,
-    piece: &mut [u8],
-) -> Result<usize, LinkFault>
-    ensures { IfOk result (λ count. count ≤ length piece.new) }
-{
-    for caller in callers {
-        if caller.node == node && caller.seat == seat && caller.state == State::Open {
-            return Ok(caller.read(piece));
-        }
-    }
-    Err(LinkFault::Failed)
-}
-
-/// Closes a seat's connection to a node.
-fn close_seat(callers: &mut [Caller], node: u8, seat: u8) {
-    for caller in callers {
-        if caller.node == node && caller.seat == seat && caller.state == State::Open {
-            caller.state = State::Closed;
-        }
-    }
-}
-
-/// Closes all connections to a node.
-fn close_node(callers: &mut [Caller], node: u8) {
-    for caller in callers {
-        if caller.node == node && caller.state == State::Open {
-            caller.state = State::Closed;
-        }
-    }
-}
-
 impl MemoryLinks {
     ghost use Rattle.match_links.specs.MemoryPassed.{passed_of};
 
@@ -216,7 +131,7 @@ impl MemoryLinks {
     {
         Ok(MemoryLinks {
             alloc,
-            callers: Vec::new(alloc),
+            callers: Callers::new(alloc),
             told: Vec::new(alloc),
             logs: empty_logs(alloc, nodes)?,
             wire: Vec::with_capacity(alloc, ROOM)?,
@@ -232,15 +147,7 @@ impl MemoryLinks {
     pub fn call(&mut self, node: u8, seat: u8, bytes: &[u8]) -> Result<(), AllocError>
         ensures { passed_of self.new ≡ passed_of self.old }
     {
-        let caller = Caller {
-            node,
-            seat,
-            bytes: Vec::from_slice(self.alloc, bytes)?,
-            read: 0,
-            state: State::Waiting,
-        };
-        self.callers.push(caller)?;
-        Ok(())
+        self.callers.add(self.alloc, node, seat, bytes)
     }
 
     /// All lines that seats got, in order.
@@ -283,13 +190,6 @@ impl MemoryLinks {
         }
     }
 
-    /// Whether a seat has a connection to a node.
-    fn is_open(&self, node: u8, seat: u8) -> bool {
-        self.callers.iter().any(|caller| caller.node == node
-            && caller.seat == seat
-            && caller.state == State::Open)
-    }
-
     /// Whether this call passes.
     fn pass(&mut self, reached: Reached) -> Result<(), LinkFault>
         ensures { self.new.passed ≡ self.old.passed }
@@ -317,13 +217,13 @@ impl Links for MemoryLinks {
         if self.is_closed(node) {
             return Err(LinkFault::Failed);
         }
-        open_one(&mut self.callers, node, seat)
+        self.callers.open_next(node, seat)
     }
 
     #[tactic(auto, using(crate::proofs::Passed::lines_when_came, crate::proofs::Passed::log_when_came))]
     fn read(&mut self, node: u8, seat: u8, piece: &mut [u8]) -> Result<usize, LinkFault> {
         self.pass(Reached::Seat)?;
-        let count = read_from(&mut self.callers, node, seat, piece)?;
+        let count = self.callers.read(node, seat, piece)?;
         self.passed.came(node, seat, &piece[..count]);
         Ok(count)
     }
@@ -331,7 +231,7 @@ impl Links for MemoryLinks {
     #[tactic(auto, using(crate::proofs::Passed::lines_when_told, crate::proofs::Passed::log_when_told))]
     fn write(&mut self, node: u8, seat: u8, line: &[u8]) -> Result<(), LinkFault> {
         self.pass(Reached::Seat)?;
-        if !self.is_open(node, seat) {
+        if !self.callers.is_open(node, seat) {
             return Err(LinkFault::Failed);
         }
         tell_one(self.alloc, &mut self.told, node, seat, line)?;
@@ -340,7 +240,7 @@ impl Links for MemoryLinks {
     }
 
     fn hang_up(&mut self, node: u8, seat: u8) {
-        close_seat(&mut self.callers, node, seat);
+        self.callers.close_seat(node, seat);
     }
 
     fn send(&mut self, from: u8, to: u8, frame: &[u8]) -> Result<(), LinkFault> {
@@ -386,6 +286,6 @@ impl Links for MemoryLinks {
 
     fn close(&mut self, node: u8) {
         self.set_closed(node, true);
-        close_node(&mut self.callers, node);
+        self.callers.close_node(node);
     }
 }

@@ -12,7 +12,8 @@ pub(crate) fn piece_len(bytes: &[u8]) -> usize
     }
 }
 
-fn first_line_feed(bytes: &[u8]) -> Option<usize>
+/// Where the first line feed is.
+pub(crate) fn first_line_feed(bytes: &[u8]) -> Option<usize>
     ensures value { result ≡ position is_line_feed bytes.now }
     ensures within { IfSome result (λ at. at < length bytes.now) }
 {
