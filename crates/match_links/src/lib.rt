@@ -7,6 +7,8 @@
 //! that is awaited, and `read` for each piece that it sends; `send` and `receive` for a frame between two nodes; `write`
 //! and `add_to_log` for what a node shows; `hang_up` for a seat that is dropped, and `close` for a node that stops.
 //!
+//! Both kinds serve a whole match in tests of `match_tests`: `a_match_outlives_a_node`, and the same over sockets.
+//!
 //! Nothing is promised of what a link gives: what is promised of a match holds whatever its links answer. What passed is
 //! kept, in order, for clauses alone (`specs/Passages.antt`): the pieces that came, the lines that seats were told, and
 //! what logs were given. It takes no memory.
