@@ -1,3 +1,5 @@
+ghost use Rattle.std.specs.Prelude.{◌≡◌, ◌<◌};
+
 use crate::{Chosen, Learner};
 use betting::Action;
 use paxos_wire::Ballot;
@@ -27,22 +29,76 @@ fn ballot(round: u32, node: u8) -> Ballot {
     Ballot { round, node }
 }
 
+// Each call of a learner stands in one function here: what a contract says is read anew wherever its call stands.
+
+/// What a node's answer comes to.
+fn answered(
+    learner: &mut Learner,
+    from: u8,
+    ballot: Ballot,
+    slot: u32,
+    command: Command,
+) -> Result<Result<Option<Chosen>, SlotFault>, Fail>
+    requires { from < learner.old.learned.nodes }
+    ensures { learner.new.learned.nodes ≡ learner.old.learned.nodes }
+{
+    Ok(learner.on_accepted(from, ballot, slot, command)?)
+}
+
+/// Counts a node's answer, which completes just what is told here.
+fn counts(
+    rt: &impl Abort,
+    learner: &mut Learner,
+    from: u8,
+    ballot: Ballot,
+    slot: u32,
+    command: Command,
+    told: Option<Chosen>,
+) -> Result<(), Fail>
+    requires { from < learner.old.learned.nodes }
+    ensures { learner.new.learned.nodes ≡ learner.old.learned.nodes }
+{
+    let answer = answered(learner, from, ballot, slot, command)?;
+    assert!(rt; answer.ok() == Some(told));
+    Ok(())
+}
+
+/// What another node's word comes to.
+fn believed(
+    learner: &mut Learner,
+    slot: u32,
+    command: Command,
+) -> Result<Result<(), SlotFault>, Fail>
+    ensures { learner.new.learned.nodes ≡ learner.old.learned.nodes }
+{
+    Ok(learner.on_chosen(slot, command)?)
+}
+
+/// The first slot that isn't known.
+fn front(learner: &Learner) -> u32 {
+    learner.log().front()
+}
+
+/// Whether the command is known at the slot.
+fn knows(learner: &Learner, slot: u32, command: &Command) -> bool {
+    learner.log().get(slot) == Some(command)
+}
+
 /// One answer three times is of one node.
 #[test]
 fn nodes_are_counted(rt: HostRuntime) -> Result<(), Fail> {
     let mut learner = Learner::new(rt.alloc(), 3)?;
     let own = ballot(1, 0);
-    assert_eq!(rt; learner.on_accepted(1, own, 0, CALL)?.ok(), Some(None));
-    assert_eq!(rt; learner.on_accepted(1, own, 0, CALL)?.ok(), Some(None));
-    assert_eq!(rt; learner.on_accepted(1, own, 0, CALL)?.ok(), Some(None));
-    assert_eq!(rt; learner.log().front(), 0);
-    let chosen = learner.on_accepted(2, ballot(1, 0), 0, CALL)?;
+    counts(&rt, &mut learner, 1, own, 0, CALL, None)?;
+    counts(&rt, &mut learner, 1, own, 0, CALL, None)?;
+    counts(&rt, &mut learner, 1, own, 0, CALL, None)?;
+    assert!(rt; front(&learner) == 0);
     let told = Chosen {
         slot: 0,
         command: CALL,
     };
-    assert_eq!(rt; chosen.ok(), Some(Some(told)));
-    assert_eq!(rt; learner.log().front(), 1);
+    counts(&rt, &mut learner, 2, ballot(1, 0), 0, CALL, Some(told))?;
+    assert!(rt; front(&learner) == 1);
     Ok(())
 }
 
@@ -51,19 +107,18 @@ fn nodes_are_counted(rt: HostRuntime) -> Result<(), Fail> {
 fn splits_choose_nothing(rt: HostRuntime) -> Result<(), Fail> {
     let mut learner = Learner::new(rt.alloc(), 5)?;
     let own = ballot(1, 0);
-    assert_eq!(rt; learner.on_accepted(0, own, 0, CALL)?.ok(), Some(None));
-    assert_eq!(rt; learner.on_accepted(1, own, 0, CALL)?.ok(), Some(None));
-    assert_eq!(rt; learner.on_accepted(2, own, 0, FOLD)?.ok(), Some(None));
-    assert_eq!(rt; learner.on_accepted(3, own, 0, FOLD)?.ok(), Some(None));
-    assert_eq!(rt; learner.on_accepted(4, own, 0, RAISE)?.ok(), Some(None));
+    counts(&rt, &mut learner, 0, own, 0, CALL, None)?;
+    counts(&rt, &mut learner, 1, own, 0, CALL, None)?;
+    counts(&rt, &mut learner, 2, own, 0, FOLD, None)?;
+    counts(&rt, &mut learner, 3, own, 0, FOLD, None)?;
+    counts(&rt, &mut learner, 4, own, 0, RAISE, None)?;
     let second = ballot(2, 0);
-    assert_eq!(rt; learner.on_accepted(0, own, 1, CALL)?.ok(), Some(None));
-    assert_eq!(rt; learner.on_accepted(1, own, 1, CALL)?.ok(), Some(None));
-    assert_eq!(rt; learner.on_accepted(2, second, 1, CALL)?.ok(), Some(None));
-    assert_eq!(rt; learner.on_accepted(3, second, 1, CALL)?.ok(), Some(None));
-    let third = ballot(2, 1);
-    assert_eq!(rt; learner.on_accepted(4, third, 1, CALL)?.ok(), Some(None));
-    assert_eq!(rt; learner.log().front(), 0);
+    counts(&rt, &mut learner, 0, own, 1, CALL, None)?;
+    counts(&rt, &mut learner, 1, own, 1, CALL, None)?;
+    counts(&rt, &mut learner, 2, second, 1, CALL, None)?;
+    counts(&rt, &mut learner, 3, second, 1, CALL, None)?;
+    counts(&rt, &mut learner, 4, ballot(2, 1), 1, CALL, None)?;
+    assert!(rt; front(&learner) == 0);
     Ok(())
 }
 
@@ -72,22 +127,19 @@ fn splits_choose_nothing(rt: HostRuntime) -> Result<(), Fail> {
 fn the_window_moves(rt: HostRuntime) -> Result<(), Fail> {
     let mut learner = Learner::new(rt.alloc(), 3)?;
     let own = ballot(4, 2);
-    assert_eq!(rt; learner.on_accepted(0, own, 64, CALL)?.ok(), Some(None));
-    assert_eq!(rt; learner.on_accepted(0, own, 0, CALL)?.ok(), Some(None));
-    assert!(rt; learner.on_chosen(0, FOLD)?.is_ok());
-    assert_eq!(rt; learner.log().front(), 1);
-    assert_eq!(rt; learner.on_accepted(1, own, 64, CALL)?.ok(), Some(None));
+    counts(&rt, &mut learner, 0, own, 64, CALL, None)?;
+    counts(&rt, &mut learner, 0, own, 0, CALL, None)?;
+    assert!(rt; believed(&mut learner, 0, FOLD)?.is_ok());
+    assert!(rt; front(&learner) == 1);
+    counts(&rt, &mut learner, 1, own, 64, CALL, None)?;
     let told = Chosen {
         slot: 64,
         command: CALL,
     };
-    assert_eq!(rt;
-        learner.on_accepted(0, own, 64, CALL)?.ok(),
-        Some(Some(told))
-    );
-    assert_eq!(rt; learner.on_accepted(2, own, 64, CALL)?.ok(), Some(None));
-    assert!(rt; learner.log().get(64) == Some(&CALL));
-    assert_eq!(rt; learner.log().front(), 1);
+    counts(&rt, &mut learner, 0, own, 64, CALL, Some(told))?;
+    counts(&rt, &mut learner, 2, own, 64, CALL, None)?;
+    assert!(rt; knows(&learner, 64, &CALL));
+    assert!(rt; front(&learner) == 1);
     Ok(())
 }
 
@@ -96,17 +148,13 @@ fn the_window_moves(rt: HostRuntime) -> Result<(), Fail> {
 fn another_command_is_refused(rt: HostRuntime) -> Result<(), Fail> {
     let mut learner = Learner::new(rt.alloc(), 3)?;
     learner.reserve(4)?;
-    assert!(rt; learner.on_chosen(2, FOLD)?.is_ok());
-    assert_eq!(rt;
-        learner.on_chosen(2, CALL)?.err(),
-        Some(SlotFault::Conflict)
-    );
-    assert!(rt; learner.on_accepted(0, ballot(1, 1), 2, CALL)?.is_ok());
-    let refused = learner.on_accepted(1, ballot(1, 1), 2, CALL)?;
-    assert_eq!(rt; refused.err(), Some(SlotFault::Conflict));
-    let again = learner.on_accepted(1, ballot(1, 1), 2, CALL)?;
-    assert_eq!(rt; again.err(), Some(SlotFault::Conflict));
-    assert!(rt; learner.log().get(2) == Some(&FOLD));
+    let own = ballot(1, 1);
+    assert!(rt; believed(&mut learner, 2, FOLD)?.is_ok());
+    assert!(rt; believed(&mut learner, 2, CALL)?.err() == Some(SlotFault::Conflict));
+    assert!(rt; answered(&mut learner, 0, own, 2, CALL)?.is_ok());
+    assert!(rt; answered(&mut learner, 1, own, 2, CALL)?.err() == Some(SlotFault::Conflict));
+    assert!(rt; answered(&mut learner, 1, own, 2, CALL)?.err() == Some(SlotFault::Conflict));
+    assert!(rt; knows(&learner, 2, &FOLD));
     Ok(())
 }
 
@@ -121,11 +169,11 @@ fn calls_with_room(rt: HostRuntime) -> Result<(), Fail> {
     {
         panic!(rt; "nothing is known there");
     }
-    assert!(rt; learner.on_accepted(2, ballot(1, 0), 0, CALL)?.is_ok());
+    assert!(rt; answered(&mut learner, 2, ballot(1, 0), 0, CALL)?.is_ok());
     learner.reserve(1)?;
     if learner.on_chosen_reserved(1, FOLD).is_err() {
         panic!(rt; "nothing is known there");
     }
-    assert_eq!(rt; learner.log().front(), 2);
+    assert!(rt; front(&learner) == 2);
     Ok(())
 }

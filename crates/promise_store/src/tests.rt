@@ -38,10 +38,61 @@ fn disk_with(alloc: Global, bytes: &[u8], fuses: &[u64]) -> Result<MemoryDisk, F
     Ok(disk)
 }
 
+// Each call of a store stands in one function here: what a contract says is read anew wherever its call stands.
+
+/// A new store of node 0 of 3 on the disk; or why there is none, and the disk.
+fn create<D: Disk>(alloc: Global, disk: D) -> Result<Store<D>, (D, StoreFault)> {
+    Store::create(alloc, disk, 0, 3)
+}
+
+/// The store of node 0 of 3 that the disk has; or why there is none, and the disk.
+fn open<D: Disk>(alloc: Global, disk: D) -> Result<Store<D>, (D, StoreFault)> {
+    Store::open(alloc, disk, 0, 3)
+}
+
+/// A new store on a disk that doesn't fail.
+fn created<D: Disk>(rt: &impl Abort, alloc: Global, disk: D) -> Store<D> {
+    match create(alloc, disk) {
+        Ok(store) => store,
+        Err(_) => panic!(rt; "create"),
+    }
+}
+
+/// The store of a disk that doesn't fail.
+fn opened<D: Disk>(rt: &impl Abort, alloc: Global, disk: D) -> Store<D> {
+    match open(alloc, disk) {
+        Ok(store) => store,
+        Err(_) => panic!(rt; "open"),
+    }
+}
+
+/// Stores the promise of the first ballot.
+fn promise<D: Disk>(store: &mut Store<D>) -> Result<(), StoreFault> {
+    store.promise(FIRST)
+}
+
+/// Stores that the deal was accepted in the first ballot at slot 0.
+fn accept<D: Disk>(rt: &impl Abort, store: &mut Store<D>) -> Result<(), StoreFault> {
+    store.accept(FIRST, 0, &deal(rt))
+}
+
+/// What was accepted at a slot.
+fn entry<D: Disk>(
+    store: &mut Store<D>,
+    slot: u32,
+) -> Result<Option<(Ballot, Command)>, StoreFault> {
+    store.entry(slot)
+}
+
+/// Whether the store has promised the first ballot, and has the deal accepted in it at slot 0.
+fn has_both<D: Disk>(rt: &impl Abort, store: &mut Store<D>) -> Result<bool, Fail> {
+    let found = entry(store, 0)?;
+    Ok(store.held().promised() == FIRST && found == Some((FIRST, deal(rt))))
+}
+
 /// What opening a file as node 0 of 3 answers: the fault's number, or 0.
 fn answer(alloc: Global, bytes: &[u8]) -> Result<u8, Fail> {
-    let disk = disk_with(alloc, bytes, &[])?;
-    match Store::open(alloc, disk, 0, 3) {
+    match open(alloc, disk_with(alloc, bytes, &[])?) {
         Ok(_) => Ok(0),
         Err((_, fault)) => Ok(fault.code()),
     }
@@ -56,25 +107,18 @@ fn next(seed: &mut u64) -> u64 {
 #[test]
 fn journal_byte_by_byte(rt: HostRuntime) -> Result<(), Fail> {
     let alloc = rt.alloc();
-    let disk = MemoryDisk::new(alloc, &[])?;
-    let Ok(mut store) = Store::create(alloc, disk, 0, 3) else {
-        panic!(rt; "create");
-    };
-    store.promise(FIRST)?;
-    store.accept(FIRST, 0, &deal(&rt))?;
-    assert_eq!(rt; store.held().promised(), FIRST);
+    let mut store = created(&rt, alloc, MemoryDisk::new(alloc, &[])?);
+    promise(&mut store)?;
+    accept(&rt, &mut store)?;
     let placed = store.held().find(0).ok_or("no entry")?;
     assert_eq!(rt; placed.place, 20);
     assert_eq!(rt; placed.length, 25);
-    assert_eq!(rt; store.entry(0)?, Some((FIRST, deal(&rt))));
-    assert_eq!(rt; store.entry(1)?, None);
+    assert!(rt; has_both(&rt, &mut store)?);
+    assert!(rt; entry(&mut store, 1)?.is_none());
     let disk = store.close();
     assert_eq!(rt; disk.bytes(), JOURNAL.as_slice());
-    let Ok(mut store) = Store::open(alloc, disk, 0, 3) else {
-        panic!(rt; "open");
-    };
-    assert_eq!(rt; store.held().promised(), FIRST);
-    assert_eq!(rt; store.entry(0)?, Some((FIRST, deal(&rt))));
+    let mut store = opened(&rt, alloc, disk);
+    assert!(rt; has_both(&rt, &mut store)?);
     Ok(())
 }
 
@@ -95,10 +139,8 @@ fn the_four_calls_of_an_append(rt: HostRuntime) -> Result<(), Fail> {
     let alloc = rt.alloc();
     let disk = MemoryDisk::new(alloc, &[])?;
     assert!(rt; disk.calls().is_empty());
-    let Ok(mut store) = Store::create(alloc, disk, 0, 3) else {
-        panic!(rt; "create");
-    };
-    store.promise(FIRST)?;
+    let mut store = created(&rt, alloc, disk);
+    promise(&mut store)?;
     let disk = store.close();
     let expected = [
         "wrote 0 [72, 68, 74, 49, 0, 3, 0, 0, 0] true",
@@ -124,24 +166,22 @@ fn left_of_a_promise(
     pick: u64,
 ) -> Result<Option<bool>, Fail> {
     let disk = MemoryDisk::new(alloc, &[calls])?;
-    let Ok(store) = Store::create(alloc, disk, 0, 3) else {
+    let Ok(store) = create(alloc, disk) else {
         return Ok(None);
     };
-    let Ok(mut store) = Store::open(alloc, store.close(), 0, 3) else {
+    let Ok(mut store) = open(alloc, store.close()) else {
         return Ok(None);
     };
     assert!(rt; !store.is_closed());
-    if store.promise(FIRST).is_err() {
+    if promise(&mut store).is_err() {
         assert!(rt; store.is_closed());
         assert!(rt; store.failures() > 0);
-        assert_eq!(rt; store.promise(FIRST), Err(StoreFault::Closed));
-        assert_eq!(rt; store.entry(0), Err(StoreFault::Closed));
+        assert!(rt; promise(&mut store) == Err(StoreFault::Closed));
+        assert!(rt; entry(&mut store, 0) == Err(StoreFault::Closed));
     }
     let mut disk = store.close();
     disk.stop(pick);
-    let Ok(store) = Store::open(alloc, disk, 0, 3) else {
-        panic!(rt; "open behind the stop");
-    };
+    let store = opened(rt, alloc, disk);
     Ok(Some(store.held().promised() == FIRST))
 }
 
@@ -176,27 +216,18 @@ fn stops_in_a_promise(rt: HostRuntime) -> Result<(), Fail> {
 fn stops_before_the_last_sync(rt: HostRuntime) -> Result<(), Fail> {
     let alloc = rt.alloc();
     for pick in 0..3u64 {
-        let disk = MemoryDisk::new(alloc, &[9])?;
-        let Ok(mut store) = Store::create(alloc, disk, 0, 3) else {
-            panic!(rt; "create");
-        };
-        store.promise(FIRST)?;
-        assert_eq!(rt; store.accept(FIRST, 0, &deal(&rt)), Err(StoreFault::Disk));
+        let mut store = created(&rt, alloc, MemoryDisk::new(alloc, &[9])?);
+        promise(&mut store)?;
+        assert!(rt; accept(&rt, &mut store) == Err(StoreFault::Disk));
         let mut disk = store.close();
         disk.stop(pick);
-        let Ok(mut store) = Store::open(alloc, disk, 0, 3) else {
-            panic!(rt; "open");
-        };
+        let mut store = opened(&rt, alloc, disk);
         assert_eq!(rt; store.held().promised(), FIRST);
-        let entry = store.entry(0)?;
-        assert_eq!(rt;
-            entry,
-            if pick == 0 {
-                None
-            } else {
-                Some((FIRST, deal(&rt)))
-            }
-        );
+        if pick == 0 {
+            assert!(rt; entry(&mut store, 0)?.is_none());
+        } else {
+            assert!(rt; has_both(&rt, &mut store)?);
+        }
     }
     Ok(())
 }
@@ -226,20 +257,16 @@ fn each_stop_takes_the_next_fuse(rt: HostRuntime) -> Result<(), Fail> {
 #[test]
 fn a_refused_growth_is_a_failure(rt: HostRuntime) -> Result<(), Fail> {
     let alloc = rt.alloc();
-    let Ok(mut store) = Store::create(alloc, MemoryDisk::new(alloc, &[])?, 0, 3) else {
-        panic!(rt; "create");
-    };
-    store.promise(FIRST)?;
+    let mut store = created(&rt, alloc, MemoryDisk::new(alloc, &[])?);
+    promise(&mut store)?;
     let mut disk = store.close();
     let before = disk.bytes().to_vec(alloc)?;
     assert_eq!(rt; disk.write_at(usize::MAX / 2 + 1, &[1]), Err(DiskFault));
     assert_eq!(rt; disk.failures(), 1);
     assert_eq!(rt; disk.bytes(), before.as_slice());
-    let Ok(mut store) = Store::open(alloc, disk, 0, 3) else {
-        panic!(rt; "open");
-    };
+    let mut store = opened(&rt, alloc, disk);
     assert!(rt; !store.is_closed());
-    store.accept(FIRST, 0, &deal(&rt))?;
+    accept(&rt, &mut store)?;
     let disk = store.close();
     assert_eq!(rt; disk.bytes(), JOURNAL.as_slice());
     assert_eq!(rt; disk.failures(), 1);
@@ -271,19 +298,15 @@ fn malformed_journals(rt: HostRuntime) -> Result<(), Fail> {
     assert_eq!(rt; answer(alloc, &too_long)?, 62);
     let mut shut = JOURNAL;
     shut[17] = 2;
-    let Ok(mut store) = Store::open(alloc, disk_with(alloc, &shut, &[])?, 0, 3) else {
-        panic!(rt; "open");
-    };
+    let mut store = opened(&rt, alloc, disk_with(alloc, &shut, &[])?);
     assert_eq!(rt; store.held().promised(), FIRST);
-    assert_eq!(rt; store.entry(0)?, None);
+    assert!(rt; entry(&mut store, 0)?.is_none());
     Ok(())
 }
 
 /// A journal of twenty records: promises of rounds 1 to 10, and accepts in them at slots 0 to 9.
 fn twenty(rt: &impl Abort, alloc: Global) -> Result<MemoryDisk, Fail> {
-    let Ok(mut store) = Store::create(alloc, MemoryDisk::new(alloc, &[])?, 0, 3) else {
-        panic!(rt; "create");
-    };
+    let mut store = created(rt, alloc, MemoryDisk::new(alloc, &[])?);
     for slot in 0..10u32 {
         let ballot = Ballot {
             round: slot + 1,
@@ -360,6 +383,30 @@ fn changed_journals(rt: HostRuntime) -> Result<(), Fail> {
     Ok(())
 }
 
+/// A new store on a disk of whose calls one fails at most: where that one is met, it is counted and all is done again.
+fn created_at_last<D: Disk>(rt: &impl Abort, alloc: Global, disk: D, faults: &mut u32) -> Store<D> {
+    match create(alloc, disk) {
+        Ok(store) => store,
+        Err((disk, fault)) => {
+            assert!(rt; fault == StoreFault::Disk);
+            *faults = faults.saturating_add(1);
+            created(rt, alloc, disk)
+        }
+    }
+}
+
+/// The store of such a disk.
+fn opened_at_last<D: Disk>(rt: &impl Abort, alloc: Global, disk: D, faults: &mut u32) -> Store<D> {
+    match open(alloc, disk) {
+        Ok(store) => store,
+        Err((disk, fault)) => {
+            assert!(rt; fault == StoreFault::Disk);
+            *faults = faults.saturating_add(1);
+            opened(rt, alloc, disk)
+        }
+    }
+}
+
 /// Each call of create, an append and open fails alone; what then is opened is what was asked for, or what was before.
 #[test]
 fn each_call_fails_once(rt: HostRuntime) -> Result<(), Fail> {
@@ -368,48 +415,18 @@ fn each_call_fails_once(rt: HostRuntime) -> Result<(), Fail> {
     for call in 0..13u64 {
         let disk = OnceDisk::new(alloc, call);
         assert!(rt; disk.bytes().is_empty());
-        let disk = match Store::create(alloc, disk, 0, 3) {
-            Ok(store) => store.close(),
-            Err((disk, fault)) => {
-                assert_eq!(rt; fault, StoreFault::Disk);
-                faults = faults.saturating_add(1);
-                match Store::create(alloc, disk, 0, 3) {
-                    Ok(store) => store.close(),
-                    Err(_) => panic!(rt; "create again"),
-                }
-            }
-        };
-        let mut store = match Store::open(alloc, disk, 0, 3) {
-            Ok(store) => store,
-            Err((disk, fault)) => {
-                assert_eq!(rt; fault, StoreFault::Disk);
-                faults = faults.saturating_add(1);
-                match Store::open(alloc, disk, 0, 3) {
-                    Ok(store) => store,
-                    Err(_) => panic!(rt; "open again"),
-                }
-            }
-        };
-        let stored = store.accept(FIRST, 0, &deal(&rt));
+        let disk = created_at_last(&rt, alloc, disk, &mut faults).close();
+        let mut store = opened_at_last(&rt, alloc, disk, &mut faults);
+        let is_stored = accept(&rt, &mut store).is_ok();
         let mut disk = store.close();
-        if stored.is_err() {
+        if !is_stored {
             faults = faults.saturating_add(1);
             disk.stop(0);
         }
-        let mut store = match Store::open(alloc, disk, 0, 3) {
-            Ok(store) => store,
-            Err((disk, fault)) => {
-                assert_eq!(rt; fault, StoreFault::Disk);
-                faults = faults.saturating_add(1);
-                match Store::open(alloc, disk, 0, 3) {
-                    Ok(store) => store,
-                    Err(_) => panic!(rt; "open at last"),
-                }
-            }
-        };
-        let entry = store.entry(0);
-        if call == 0 || stored.is_ok() && entry.is_ok() {
-            assert_eq!(rt; entry, Ok(Some((FIRST, deal(&rt)))));
+        let mut store = opened_at_last(&rt, alloc, disk, &mut faults);
+        let found = entry(&mut store, 0);
+        if call == 0 || is_stored && found.is_ok() {
+            assert!(rt; found == Ok(Some((FIRST, deal(&rt)))));
         }
     }
     assert_eq!(rt; faults, 12);
@@ -426,22 +443,17 @@ fn a_file_is_opened_cut_short_at_each_byte(rt: HostRuntime) -> Result<(), Fail> 
         .create(true)
         .truncate(true)
         .open(&rt, path)?;
-    let Ok(mut store) = Store::create(alloc, FileDisk::new(file), 0, 3) else {
-        panic!(rt; "create");
-    };
-    store.promise(FIRST)?;
-    store.accept(FIRST, 0, &deal(&rt))?;
-    let Ok(mut store) = Store::open(alloc, store.close(), 0, 3) else {
-        panic!(rt; "open");
-    };
-    assert_eq!(rt; store.held().promised(), FIRST);
-    assert_eq!(rt; store.entry(0)?, Some((FIRST, deal(&rt))));
+    let mut store = created(&rt, alloc, FileDisk::new(file));
+    promise(&mut store)?;
+    accept(&rt, &mut store)?;
+    let mut store = opened(&rt, alloc, store.close());
+    assert!(rt; has_both(&rt, &mut store)?);
     assert_eq!(rt; fs::read(&rt, path)?.as_slice(), JOURNAL.as_slice());
     for cut in 0..46u64 {
         let len = 45 - cut;
         let file = File::options().read(true).write(true).open(&rt, path)?;
         file.set_len(len)?;
-        let code = match Store::open(alloc, FileDisk::new(file), 0, 3) {
+        let code = match open(alloc, FileDisk::new(file)) {
             Ok(_) => 0,
             Err((_, fault)) => fault.code(),
         };
