@@ -1,8 +1,8 @@
 //! What `init` does: the empty stores of a match's nodes, one file for each.
 
 use match_file::MatchFile;
+use match_runs::{store_path, unmade};
 use promise_store::{FileDisk, Store};
-use std::alloc::AllocError;
 use std::fs::File;
 use std::{fs, io};
 use streamed::Ending;
@@ -50,13 +50,8 @@ fn read(rt: &HostRuntime, path: &str) -> Result<Vec<u8>, Ending> {
     }
 }
 
-/// The name of a node's store file.
-pub(crate) fn store_path(rt: &HostRuntime, folder: &str, node: u8) -> Result<String, AllocError> {
-    format!(in rt.alloc(); "{folder}/node{node}.journal")
-}
-
 fn refuse_present(rt: &HostRuntime, folder: &str, node: u8) -> Result<(), Ending> {
-    match fs::symlink_metadata(rt, store_path(rt, folder, node)?.as_str()) {
+    match fs::symlink_metadata(rt, store_path(rt.alloc(), folder, node)?.as_str()) {
         Ok(_) => Err(Ending::StoreExists),
         Err(error) if error.kind() == io::ErrorKind::OutOfMemory => Err(Ending::OutOfMemory),
         Err(_) => Ok(()),
@@ -65,7 +60,7 @@ fn refuse_present(rt: &HostRuntime, folder: &str, node: u8) -> Result<(), Ending
 
 /// Makes a node's store in a file of its own, which must not be there.
 fn make_store(rt: &HostRuntime, folder: &str, node: u8, nodes: u8) -> Result<(), Ending> {
-    let path = store_path(rt, folder, node)?;
+    let path = store_path(rt.alloc(), folder, node)?;
     let file = match File::options()
         .read(true)
         .write(true)
@@ -78,15 +73,6 @@ fn make_store(rt: &HostRuntime, folder: &str, node: u8, nodes: u8) -> Result<(),
     match Store::create(rt.alloc(), FileDisk::new(file), node, nodes) {
         Ok(_) => Ok(()),
         Err((_, fault)) => Err(Ending::Store(fault)),
-    }
-}
-
-/// The ending where a store file can't be made.
-fn unmade(error: &io::Error) -> Ending {
-    match error.kind() {
-        io::ErrorKind::AlreadyExists => Ending::StoreExists,
-        io::ErrorKind::OutOfMemory => Ending::OutOfMemory,
-        _ => Ending::Store(promise_store::StoreFault::Disk),
     }
 }
 

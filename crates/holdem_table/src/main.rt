@@ -3,25 +3,19 @@
 #![tactic(auto)]
 
 mod arguments;
-mod conclusion;
 mod help;
 mod init;
 mod late_file;
-mod note;
-mod play_run;
-mod scripted;
 mod serve;
-mod serve_run;
 
 use crate::arguments::{CheckArguments, HandArguments, Task, command, requested};
-use crate::conclusion::Conclusion;
 use crate::init::init;
 use crate::late_file::LateFile;
-use crate::play_run::play_run;
 use crate::serve::serve;
 use clap::error::ErrorKind;
 use clap::{ArgMatches, Error};
 use match_file::{MatchFault, MatchFile};
+use match_runs::{Conclusion, play_run};
 use std::process::ExitCode;
 use std::{fs, io};
 pub use streamed::{Ending, GameWord, WrongWords, check_run, hand_run};
@@ -158,12 +152,3 @@ fn check(rt: &HostRuntime, arguments: CheckArguments<'_>) -> Ending {
         Err(error) => Ending::unread(&error),
     }
 }
-
-#[cfg(test)]
-mod check_tests;
-#[cfg(test)]
-mod hand_tests;
-#[cfg(test)]
-mod play_tests;
-#[cfg(test)]
-mod test_streams;

@@ -1,18 +1,16 @@
 //! `serve`: deals a match over TCP, from the files that a match file names.
 
 ghost use Rattle.std.specs.Prelude.{◌≡◌, ◌≤◌, IfOk, length};
-ghost use Rattle.holdem_table.specs.Conclusion.{IsOfServe};
+ghost use Rattle.match_runs.specs.Conclusion.{IsOfServe};
 
-use crate::conclusion::{Conclusion, Unserved};
-use crate::init::store_path;
-use crate::note::{Note, tell};
-use crate::serve_run::serve_run;
-use arrayvec::ArrayVec;
 use dealer_kind::Config;
 use dealer_node::NodeFault;
 use dealer_world::Cluster;
 use match_file::{MatchFile, Service};
 use match_links::{Failed, PortFault, TcpLinks};
+use match_runs::{
+    Conclusion, Note, SeatPorts, Unserved, log_path, serve_run, store_path, tell, tell_ports,
+};
 use promise_store::{FileDisk, Store, StoreFault};
 use serving::{Outages, ServeFault, Server};
 use std::alloc::AllocError;
@@ -46,13 +44,22 @@ fn serve_match(rt: &HostRuntime, path: &str) -> Result<(), Unserved> {
     let config = file.config(rt.alloc(), Some(&game))?;
     let service = file.service(rt.alloc(), config.nodes())?;
     let (stores, logs) = (service.stores, service.logs);
-    let mut server = begin(rt, config, service)?;
-    match serve_run(rt.alloc(), &mut server, &mut rt.stderr()) {
+    let ports = seat_ports(&config, service.port);
+    let mut server = begin(rt, config, service, ports)?;
+    match serve_run(rt.alloc(), &mut server, ports, &mut rt.stderr()) {
         Ok(()) => Ok(()),
         Err(fault) => {
             note_failed(rt, &server, stores, logs, fault)?;
             Err(Unserved::Fault(fault))
         }
+    }
+}
+
+/// Where the seats of a match are awaited whose first port this is.
+fn seat_ports(config: &Config, first: u16) -> SeatPorts {
+    SeatPorts {
+        first,
+        players: config.game().players() as u8,
     }
 }
 
@@ -83,12 +90,12 @@ fn note_failed(
 ) -> Result<(), Unserved> {
     match (fault, server.links().failed()) {
         (ServeFault::Node(NodeFault::Store(_)), _) => {
-            let path = store_path(rt, stores, server.last_node())?;
+            let path = store_path(rt.alloc(), stores, server.last_node())?;
             note(rt, &Note::File(path.as_str()));
         }
         (ServeFault::LinkFailed, Some(Failed::Port(port))) => note(rt, &Note::Port(port)),
         (ServeFault::LogFailed, Some(Failed::Log(node))) => {
-            let path = log_path(rt, logs, node)?;
+            let path = log_path(rt.alloc(), logs, node)?;
             note(rt, &Note::File(path.as_str()));
         }
         _ => {}
@@ -106,13 +113,14 @@ fn begin<'a>(
     rt: &'a HostRuntime,
     config: Config,
     service: Service<'_>,
+    ports: SeatPorts,
 ) -> Result<TcpServer<'a>, Unserved>
     requires { service.port ≤ 65000 }
 {
     let nodes = config.nodes();
     config.limits();
     let mut links = bind(rt, service.port, nodes, config.game().players())?;
-    note_ports(rt, &config, &links);
+    tell_ports(rt.alloc(), &config, ports, &mut rt.stderr());
     let disks = open_stores(rt, service.stores, nodes)?;
     let cluster = match Cluster::open(rt.alloc(), config, disks) {
         Ok(cluster) => cluster,
@@ -150,22 +158,6 @@ fn bind(rt: &HostRuntime, port: u16, nodes: usize, players: usize) -> Result<Tcp
     }
 }
 
-/// Tells each seat's ports, node by node.
-fn note_ports(rt: &HostRuntime, config: &Config, links: &TcpLinks<'_>) {
-    for (seat, name) in config.names().as_slice().iter().enumerate() {
-        let mut ports: ArrayVec<u16, 5> = ArrayVec::new();
-        for node in 0..config.nodes() as u8 {
-            let _ = ports.try_push(links.seat_port(node, seat as u8));
-        }
-        let told = Note::Ports {
-            seat,
-            name: *name,
-            ports: ports.as_slice(),
-        };
-        note(rt, &told);
-    }
-}
-
 /// Opens the stores of so many nodes, and looks whether they are stores.
 fn open_stores(rt: &HostRuntime, folder: &str, nodes: usize) -> Result<Vec<FileDisk>, Unserved>
     requires { nodes ≤ 5 }
@@ -173,7 +165,7 @@ fn open_stores(rt: &HostRuntime, folder: &str, nodes: usize) -> Result<Vec<FileD
 {
     let mut disks = Vec::with_capacity(rt.alloc(), nodes)?;
     for node in 0..nodes {
-        let path = store_path(rt, folder, node as u8)?;
+        let path = store_path(rt.alloc(), folder, node as u8)?;
         let disk = open_store(rt, path.as_str(), node as u8, nodes as u8)?;
         if disks.push(disk).is_err() {
             return Err(Unserved::from(AllocError));
@@ -208,20 +200,15 @@ fn open_logs(
     requires { nodes ≤ 5 }
 {
     for node in 0..nodes {
-        let path = log_path(rt, folder, node as u8)?;
+        let path = log_path(rt.alloc(), folder, node as u8)?;
         look_at_log(rt, path.as_str())?;
     }
     for node in 0..nodes {
-        let path = log_path(rt, folder, node as u8)?;
+        let path = log_path(rt.alloc(), folder, node as u8)?;
         let log = open_log(rt, path.as_str())?;
         links.add_log(log)?;
     }
     Ok(())
-}
-
-/// The name of a node's log.
-fn log_path(rt: &HostRuntime, folder: &str, node: u8) -> Result<String, AllocError> {
-    format!(in rt.alloc(); "{folder}/node{node}.log")
 }
 
 /// Whether a log that is there can be opened.

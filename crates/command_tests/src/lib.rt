@@ -1,0 +1,16 @@
+//! Tests of the commands `hand`, `check`, `play` and `serve` over readers, writers, links and disks of these tests.
+//!
+//! They go through the public calls of `streamed` and `match_runs` alone. A crate that has tests is proved once by itself
+//! and once with them; this one has nothing but tests, so they are proved once, beside the program and not before it.
+#![tactic(auto)]
+
+#[cfg(test)]
+mod check_tests;
+#[cfg(test)]
+mod hand_tests;
+#[cfg(test)]
+mod play_tests;
+#[cfg(test)]
+mod serve_tests;
+#[cfg(test)]
+mod test_streams;

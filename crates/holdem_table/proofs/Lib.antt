@@ -1,4 +1,0 @@
-mod ServingExamples
-pub mod Noting
-pub mod ServedTurns
-pub mod Scripting

@@ -1,6 +1,0 @@
-pub mod Played
-pub mod Scripted
-pub mod PlayOutcome
-pub mod Conclusion
-pub mod Notes
-pub mod Serving

@@ -1,0 +1,185 @@
+-- The notes and conclusions of `serve`, written out.
+use Rattle.std.proofs.Common.{◌≡◌, ℕ, zero, suc, List, [], ◌∷◌, ◌++◌, inl, inr, refl, sym, subst, arith}
+use Rattle.std.specs.Prelude.{codes, Option, Some, None, Ok, Err}
+use Rattle.std.specs.Fmt.{digits}
+use Rattle.std.specs.List.{flat_map}
+use Rattle.seat_session.specs.declared.session_fault.SessionFault.TheVariants.{NotCurrent, Illegal}
+use Rattle.betting.specs.declared.fault.ActFault.TheVariants.{FoldNotFacing}
+use Rattle.dealer_node.specs.declared.fault.NodeFault.TheVariants as fault
+use Rattle.promise_store.specs.declared.fault.StoreFault.TheVariants.{BadHeader, Disk}
+use Rattle.protocol_model.specs.Dealers.{Reader, Seat, Log}
+use Rattle.dealer_world.specs.Records.{Piece}
+use Rattle.serving.specs.declared.serve_fault.ServeFault.TheVariants as serve
+use Rattle.serving.specs.declared.turn.Turn.TheVariants.{Over}
+use Rattle.match_runs.specs.declared.note.About.TheVariants.{Seated, Gone, Faulty}
+use Rattle.match_runs.specs.declared.note.Note.TheVariants as note
+use Rattle.match_runs.specs.declared.conclusion.Conclusion.TheVariants.{Ended, Served}
+use Rattle.streamed.specs.declared.ending.Ending.TheVariants.{Done, Match, Unreadable, StreamFailed}
+use Rattle.match_file.specs.declared.match_fault.MatchFault.TheVariants.{OutOfMemory}
+use Rattle.match_runs.specs.declared.seat_ports.SeatPorts.{SeatPorts}
+use Rattle.match_runs.specs.declared.unserved.Unserved.TheVariants as unserved
+use Rattle.match_runs.specs.NodeFiles.{store_name, log_name}
+use Rattle.match_runs.specs.Notes.{note_text, note_line, IsNoted, port_at, ports_notes, awaited_notes, failure_notes}
+use Rattle.match_links.specs.Passages.{Told, Logged}
+use Rattle.serving.specs.Giving.{given_as}
+use Rattle.match_runs.specs.Passing.{IsPart, pieces_between, put_by, told_by}
+use Rattle.match_runs.specs.Score.{IsLastLine, IsLastLog, HasNoLogFrom}
+use Rattle.match_runs.specs.Conclusion.{status_of, conclusion_text, conclusion_of, IsOfServe}
+use Rattle.match_runs.specs.Serving.{last_turn}
+
+alice_is_awaited : note_text (note.Awaiting 0 (codes "alice") 1 2002) ≡ codes "awaiting seat 0 (alice) at node 1, port 2002"
+unfolding digits
+alice_is_awaited = refl
+
+alice_is_seated : note_text (note.Seat 0 (codes "alice") (Seated 1)) ≡ codes "seat 0 (alice) at node 1: seated"
+unfolding digits
+alice_is_seated = refl
+
+bob_is_gone : note_text (note.Seat 1 (codes "bob") (Gone 0)) ≡ codes "seat 1 (bob) at node 0: gone"
+unfolding digits
+bob_is_gone = refl
+
+another_line_came : note_text (note.Seat 0 (codes "alice") (Faulty 1 NotCurrent)) ≡ codes "seat 0 (alice) at node 1: 83 NotCurrent"
+unfolding digits
+another_line_came = refl
+
+a_fold_was_refused : note_text (note.Seat 1 (codes "bob") (Faulty 0 (Illegal FoldNotFacing))) ≡ codes "seat 1 (bob) at node 0: 85 Illegal 21 FoldNotFacing"
+unfolding digits
+a_fold_was_refused = refl
+
+a_node_is_lost : note_line (note.Stopped 0) ≡ codes "node 0: stopped" ++ 10 ∷ []
+unfolding digits
+a_node_is_lost = refl
+
+a_store_failed : note_text (note.Failed 0 (fault.Store Disk)) ≡ codes "node 0: 91 Store 63 Disk"
+unfolding digits
+a_store_failed = refl
+
+a_note_may_be_cut : IsNoted (codes "node 0: stopped") (Some (codes "a")) (Some (codes "anode"))
+a_note_may_be_cut = (codes "node", codes " 0: stopped", refl, refl)
+
+a_served_match_ends_well : status_of (Ended Done) ≡ 0
+a_served_match_ends_well = refl
+
+a_missing_store_is_a_wrong_call : status_of (Ended Unreadable) ≡ 2
+a_missing_store_is_a_wrong_call = refl
+
+a_failed_link_is_a_fault : status_of (Served serve.LinkFailed) ≡ 1
+a_failed_link_is_a_fault = refl
+
+another_nodes_store : conclusion_text (Served (serve.Node (fault.Store BadHeader))) ≡ codes "91 Store 61 BadHeader"
+another_nodes_store = refl
+
+want_of_memory_is_the_servers_fault : IsOfServe (Ended (Match OutOfMemory)) → ⊥
+want_of_memory_is_the_servers_fault is = is refl
+
+serving_fails_in_no_stream : IsOfServe (Ended StreamFailed) → ⊥
+serving_fails_in_no_stream is = is
+
+the_end_is_told_by_the_last_turn : last_turn (Ok tt) ≡ Ok Over
+the_end_is_told_by_the_last_turn = refl
+
+no_fault_is_swallowed : last_turn (Err serve.LogFailed) ≡ Err serve.LogFailed
+no_fault_is_swallowed = refl
+
+-- two players, from port 7000 on
+abbrev two_seats : SeatPorts
+two_seats = record { first = 7000; players = 2 }
+
+ports_go_node_by_node : port_at two_seats 1 0 ≡ 7002
+ports_go_node_by_node = refl
+
+the_last_seat_of_the_last_node : port_at two_seats 2 1 ≡ 7005
+the_last_seat_of_the_last_node = refl
+
+ports_of_alice_at_three_nodes : note_text (note.Ports 0 (codes "alice") two_seats 3) ≡ codes "seat 0 (alice): ports 7000 7002 7004"
+unfolding digits
+ports_of_alice_at_three_nodes = refl
+
+each_seat_has_its_own_name : ports_notes two_seats 3 0 (codes "alice" ∷ codes "bob" ∷ []) ≡ note.Ports 0 (codes "alice") two_seats 3 ∷ note.Ports 1 (codes "bob") two_seats 3 ∷ []
+each_seat_has_its_own_name = refl
+
+bob_is_awaited_at_his_own_port : awaited_notes (codes "alice" ∷ codes "bob" ∷ []) two_seats (Some (1, 2)) ≡ note.Awaiting 1 (codes "bob") 2 7005 ∷ []
+bob_is_awaited_at_his_own_port = refl
+
+a_third_seat_isnt_awaited : awaited_notes (codes "alice" ∷ codes "bob" ∷ []) two_seats (Some (2, 0)) ≡ []
+a_third_seat_isnt_awaited = refl
+
+nobody_is_awaited : awaited_notes (codes "alice" ∷ codes "bob" ∷ []) two_seats None ≡ []
+nobody_is_awaited = refl
+
+the_store_of_node_1 : store_name (codes "stores") 1 ≡ codes "stores/node1.journal"
+unfolding digits
+the_store_of_node_1 = refl
+
+the_log_of_node_0 : log_name (codes "logs") 0 ≡ codes "logs/node0.log"
+unfolding digits
+the_log_of_node_0 = refl
+
+-- what a log gets last of a match: the line of its last hand, and the score
+abbrev last_text : List ℕ
+last_text = codes "STATE" ++ 10 ∷ codes "S" ++ 10 ∷ []
+
+the_score_is_its_last_line : IsLastLine last_text (codes "S")
+the_score_is_its_last_line = record { before = codes "STATE" ++ 10 ∷ []; parts = refl; begins = inr (codes "STATE", refl); unbroken = ((λ e. omega (arith, e)), tt) }
+
+abbrev log_of_node_0 : Piece
+log_of_node_0 = record { node = 0; start = 0; reader = Log; text = last_text }
+
+abbrev line_of_bob : Piece
+line_of_bob = record { node = 0; start = 0; reader = Seat 1; text = codes "MATCHSTATE" }
+
+abbrev no_log : Option Piece → Type 0
+no_log None = Unit {0}
+no_log (Some piece) = piece.reader ≡ Log → ⊥
+
+abbrev is_there : Option Piece → Type 0
+is_there None = Unit {0}
+is_there (Some piece) = ⊥
+
+abbrev of_seat : Reader → Type 0
+of_seat (Seat seat) = Unit {0}
+of_seat Log = ⊥
+
+no_log_behind : HasNoLogFrom (line_of_bob ∷ log_of_node_0 ∷ line_of_bob ∷ []) 2
+no_log_behind zero piece first counted found log = omega (arith, first)
+no_log_behind (suc zero) piece first counted found log = omega (arith, first)
+no_log_behind (suc (suc zero)) piece first counted found log = subst no_log found (λ is. subst of_seat is tt) log
+no_log_behind (suc (suc (suc n))) piece first counted found log = subst is_there found tt
+
+the_last_log_is_found_before_a_seats_line : IsLastLog (line_of_bob ∷ log_of_node_0 ∷ line_of_bob ∷ []) last_text
+the_last_log_is_found_before_a_seats_line = record { number = 1; piece = log_of_node_0; found = refl; of_log = refl; of_text = refl; last = no_log_behind }
+
+a_store_that_failed_is_told : failure_notes 2 (Some (fault.Store Disk)) ≡ note.Failed 2 (fault.Store Disk) ∷ []
+a_store_that_failed_is_told = refl
+
+a_lost_frame_is_no_failure : failure_notes 2 (Some fault.Down) ≡ []
+a_lost_frame_is_no_failure = refl
+
+a_missing_file_is_no_want_of_memory : conclusion_of unserved.Unreadable ≡ Ended Unreadable
+a_missing_file_is_no_want_of_memory = refl
+
+want_of_memory_ends_a_server : conclusion_of (unserved.Match OutOfMemory) ≡ Served (serve.Node fault.OutOfMemory)
+want_of_memory_ends_a_server = refl
+
+a_line_may_be_left_out : IsPart {X = ℕ} (2 ∷ 3 ∷ []) (1 ∷ 2 ∷ 3 ∷ [])
+a_line_may_be_left_out = inl (inr (3 ∷ [], refl, inr ([], refl, refl)))
+
+abbrev is_empty : List ℕ → Type 0
+is_empty [] = Unit {0}
+is_empty (x ∷ xs) = ⊥
+
+no_line_is_made_up : IsPart {X = ℕ} (7 ∷ []) [] → ⊥
+no_line_is_made_up is = subst is_empty (sym is) tt
+
+abbrev all_shown : List Piece
+all_shown = line_of_bob ∷ log_of_node_0 ∷ line_of_bob ∷ []
+
+the_second_piece_came_between : pieces_between all_shown 1 2 ≡ log_of_node_0 ∷ []
+the_second_piece_came_between = refl
+
+it_goes_to_the_log_of_its_node : flat_map (λ piece. put_by (given_as piece)) (pieces_between all_shown 1 3) ≡ Logged 0 last_text ∷ []
+it_goes_to_the_log_of_its_node = refl
+
+seats_are_told_the_others : flat_map (λ piece. told_by (given_as piece)) all_shown ≡ Told 0 1 (codes "MATCHSTATE") ∷ Told 0 1 (codes "MATCHSTATE") ∷ []
+seats_are_told_the_others = refl

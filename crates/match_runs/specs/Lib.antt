@@ -1,0 +1,9 @@
+pub mod Played
+pub mod Scripted
+pub mod PlayOutcome
+pub mod NodeFiles
+pub mod Conclusion
+pub mod Notes
+pub mod Score
+pub mod Passing
+pub mod Serving

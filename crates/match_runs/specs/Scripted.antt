@@ -1,0 +1,32 @@
+-- How far a script of `play` was read and answered.
+use Rattle.std.specs.Prelude.{◌≡◌, ℕ, List, ◌++◌, Option}
+use Rattle.std.specs.Io.KnownBytes.{Appends}
+use Rattle.promise_store.specs.contracts.memory_disk.MemoryDiskDisk.TheImpl.{ghosts as in_memory}
+use Rattle.dealer_kind.specs.Plans.{Plan}
+use Rattle.dealer_world.specs.Promise.{IsPromised}
+use Rattle.playing.specs.Playing.{Plays}
+use Rattle.playing.specs.PlayingInside.{scene_of}
+use Rattle.streamed.specs.Script.{AreLines}
+use Rattle.match_runs.specs.Played.{Played}
+use Rattle.match_runs.specs.declared.scripted.Scripted.{Scripted}
+
+-- so much of a script was read, its whole lines are answered, and what has come of the next one is kept
+pub record Reaches (plan : Plan) (start : Option (List ℕ)) (seen : List ℕ) (scripted : Scripted) (now : Option (List ℕ)) : Type 0 where
+  pub lines : List (List ℕ)
+  pub output : List ℕ
+  pub are_lines : AreLines seen lines scripted.line.items
+  pub plays : Plays plan lines output (scene_of scripted.playing)
+  pub promised : IsPromised in_memory (scene_of scripted.playing).cluster
+  pub written : Appends start now output
+
+-- what was written is a beginning of what is to be written for a beginning of the script
+pub record BeginsPlay (plan : Plan) (start : Option (List ℕ)) (read : List ℕ) (now : Option (List ℕ)) : Type 0 where
+  pub front : List ℕ
+  pub behind : List ℕ
+  pub front_read : read ≡ front ++ behind
+  pub output : List ℕ
+  pub played : Played plan front output
+  pub shown : List ℕ
+  pub missing : List ℕ
+  pub front_shown : output ≡ shown ++ missing
+  pub written : Appends start now shown

@@ -1,0 +1,65 @@
+-- What `serve` makes of its server, and what it tells of it.
+use Rattle.std.specs.Prelude.{◌≡◌, ◌⊎◌, ℕ, ◌+◌, ◌-◌, ◌^◌, List, ◌++◌, map, Option, Result, Ok, Err}
+use Rattle.std.specs.Io.KnownBytes.{Keeps}
+use Rattle.promise_store.specs.declared.disk.Disk.{Ghosts}
+use Rattle.dealer_node.specs.Nodes.{Node}
+use Rattle.dealer_node.specs.declared.fault.NodeFault.TheVariants.{Spent}
+use Rattle.dealer_world.specs.Stepping.{View}
+use Rattle.serving.specs.Dues.{IsAwaited}
+use Rattle.serving.specs.Served.{Served}
+use Rattle.serving.specs.Turned.{Turned}
+use Rattle.serving.specs.declared.turn.Turn.{Turn}
+use Rattle.serving.specs.declared.turn.Turn.TheVariants.{Over}
+use Rattle.serving.specs.declared.serve_fault.ServeFault.{ServeFault}
+use Rattle.serving.specs.declared.serve_fault.ServeFault.TheVariants.{Node as OfNode}
+use Rattle.match_runs.specs.Notes.{AreNoted, note_line, names_in, awaited_notes, turn_notes, failure_notes}
+use Rattle.match_runs.specs.Score.{TellsScore}
+use Rattle.match_runs.specs.declared.seat_ports.SeatPorts.{SeatPorts}
+
+-- what the last turn answered, by how serving ended
+abbrev pub last_turn : Result (Unit {0}) ServeFault → Result Turn ServeFault
+last_turn (Ok done) = Ok Over
+last_turn (Err fault) = Err fault
+
+-- behind the last turn the score is told, and of a refused one nothing
+abbrev pub TellsLast : {N : Type 0} → Result (Unit {0}) ServeFault → View N → Option (List ℕ) → Option (List ℕ) → Type 0
+TellsLast (Ok done) view held held_after = TellsScore view.all.shown held held_after
+TellsLast (Err fault) view held held_after = Keeps held held_after
+
+module _ {D : Type 0} (g : Ghosts D) (ports : SeatPorts) where
+  -- the notes of a turn: who is awaited, if anybody is; what the turn did; and that the store failed of the node that was called
+  pub record TellsTurn (old : Served (Node D)) (turn : Turn) (new : Served (Node D)) (held held_after : Option (List ℕ)) : Type 0 where
+    pub awaited : Option (ℕ × ℕ)
+    pub is_awaited : IsAwaited g old awaited
+    pub noted : AreNoted (map note_line (awaited_notes (names_in old.view) ports awaited ++ turn_notes (names_in new.view) new.called new.view.last.faults turn ++ failure_notes new.called new.refused)) held held_after
+
+  -- so many turns after one another, each of which was answered Ok and told
+  pub data Turns (first : Served (Node D)) (start : Option (List ℕ)) : ℕ → Served (Node D) → Option (List ℕ) → Type 0 where
+    none : Turns first start 0 first start
+    more : (count : ℕ) (turn : Turn) (between last : Served (Node D)) (held held_after : Option (List ℕ)) → Turns first start count between held
+        → Turned g between (Ok turn) last → TellsTurn between turn last held held_after → Turns first start (count + 1) last held_after
+
+  -- the notes of the last turn: who is awaited, if anybody is; and how it ended
+  pub record TellsEnd (old : Served (Node D)) (answer : Result (Unit {0}) ServeFault) (new : Served (Node D)) (held held_after : Option (List ℕ)) : Type 0 where
+    pub awaited : Option (ℕ × ℕ)
+    pub is_awaited : IsAwaited g old awaited
+    pub between : Option (List ℕ)
+    pub first : AreNoted (map note_line (awaited_notes (names_in old.view) ports awaited)) held between
+    pub last : TellsLast answer new.view between held_after
+
+  -- turns were made until one said that all is over, or was refused
+  pub record Ends (old : Served (Node D)) (answer : Result (Unit {0}) ServeFault) (new : Served (Node D)) (start held_after : Option (List ℕ)) : Type 0 where
+    pub count : ℕ
+    pub before : Served (Node D)
+    pub held : Option (List ℕ)
+    pub turns : Turns old start count before held
+    pub ended : Turned g before (last_turn answer) new
+    pub told : TellsEnd before answer new held held_after
+
+  -- 2 ^ 64 - 1 turns were made, and all is not over
+  pub record TurnsOut (old : Served (Node D)) (answer : Result (Unit {0}) ServeFault) (new : Served (Node D)) (start held_after : Option (List ℕ)) : Type 0 where
+    pub turns : Turns old start (2 ^ 64 - 1) new held_after
+    pub refused : answer ≡ Err (OfNode Spent)
+
+  abbrev pub IsServed : Served (Node D) → Result (Unit {0}) ServeFault → Served (Node D) → Option (List ℕ) → Option (List ℕ) → Type 0
+  IsServed old answer new start held_after = Ends old answer new start held_after ⊎ TurnsOut old answer new start held_after

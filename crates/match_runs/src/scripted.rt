@@ -1,0 +1,89 @@
+ghost use Rattle.std.specs.Prelude.{◌≡◌, ℕ, List, [], ◌∷◌, ◌++◌, IfOk, OnOk, OnErr, Option as Maybe, ◌⊎◌};
+ghost use Rattle.std.specs.Io.KnownBytes.{Keeps};
+ghost use Rattle.dealer_kind.specs.Plans.{Plan};
+ghost use Rattle.match_runs.specs.Scripted.{Reaches, BeginsPlay};
+
+use dealer_kind::Config;
+use playing::Playing;
+use std::alloc::{AllocError, Global};
+use std::io::Write;
+use streamed::{Stop, send};
+
+/// A script of `play` on its way: the cluster as the lines so far have made it, what has come of the next line, and
+/// room for an answer.
+#[derive(Drop)]
+pub(crate) struct Scripted {
+    pub(crate) playing: Playing,
+    pub(crate) line: Vec<u8>,
+    pub(crate) answer: Vec<u8>,
+}
+
+/// Keeps a further byte of a line.
+fn keep(line: &mut Vec<u8>, byte: u8) -> Result<(), AllocError>
+    ensures { OnOk result (line.new.items ≡ line.old.items ++ byte ∷ []) }
+{
+    line.push(byte)?;
+    Ok(())
+}
+
+impl Scripted {
+    /// A script before its first byte. The headers of a new cluster's logs are written.
+    pub(crate) fn begin<W: Write>(
+        alloc: Global,
+        config: Config,
+        writer: &mut W,
+    ) -> Result<Scripted, Stop>
+        ensures ok { IfOk result (λ made. Reaches config (W.contents writer.old) [] made (W.contents writer.new)) }
+        ensures err { OnErr result (Keeps (W.contents writer.old) (W.contents writer.new) ⊎ BeginsPlay config (W.contents writer.old) [] (W.contents writer.new)) }
+    {
+        let mut answer = Vec::new(alloc);
+        let playing = Playing::new(alloc, config, &mut answer)?;
+        send(writer, &answer)?;
+        Ok(Scripted {
+            playing,
+            line: Vec::new(alloc),
+            answer,
+        })
+    }
+
+    /// Takes the next piece of the script, and writes the answer to each line that it ends.
+    pub(crate) fn take_piece<W: Write>(&mut self, piece: &[u8], writer: &mut W) -> Result<(), Stop>
+        ensures ok { OnOk result ((plan : Plan) (start : Maybe (List ℕ)) (seen : List ℕ) →
+            Reaches plan start seen self.old (W.contents writer.old) → Reaches plan start (seen ++ piece.now) self.new (W.contents writer.new)) }
+        ensures err { OnErr result ((plan : Plan) (start : Maybe (List ℕ)) (seen : List ℕ) →
+            Reaches plan start seen self.old (W.contents writer.old) → BeginsPlay plan start (seen ++ piece.now) (W.contents writer.new)) }
+    {
+        for byte in piece {
+            self.take_byte(*byte, writer)?;
+        }
+        Ok(())
+    }
+
+    /// Takes the next byte.
+    fn take_byte<W: Write>(&mut self, byte: u8, writer: &mut W) -> Result<(), Stop>
+        ensures ok { OnOk result ((plan : Plan) (start : Maybe (List ℕ)) (seen : List ℕ) →
+            Reaches plan start seen self.old (W.contents writer.old) → Reaches plan start (seen ++ byte ∷ []) self.new (W.contents writer.new)) }
+        ensures err { OnErr result ((plan : Plan) (start : Maybe (List ℕ)) (seen : List ℕ) →
+            Reaches plan start seen self.old (W.contents writer.old) → BeginsPlay plan start (seen ++ byte ∷ []) (W.contents writer.new)) }
+    {
+        if byte == b'\n' {
+            self.end_line(writer)
+        } else {
+            keep(&mut self.line, byte)?;
+            Ok(())
+        }
+    }
+
+    /// Takes a line feed: writes the answer to the line that it ends.
+    fn end_line<W: Write>(&mut self, writer: &mut W) -> Result<(), Stop>
+        ensures ok { OnOk result ((plan : Plan) (start : Maybe (List ℕ)) (seen : List ℕ) →
+            Reaches plan start seen self.old (W.contents writer.old) → Reaches plan start (seen ++ 10 ∷ []) self.new (W.contents writer.new)) }
+        ensures err { OnErr result ((plan : Plan) (start : Maybe (List ℕ)) (seen : List ℕ) →
+            Reaches plan start seen self.old (W.contents writer.old) → BeginsPlay plan start (seen ++ 10 ∷ []) (W.contents writer.new)) }
+    {
+        self.answer.clear();
+        self.playing.answer(&self.line, &mut self.answer)?;
+        self.line.clear();
+        send(writer, &self.answer)
+    }
+}

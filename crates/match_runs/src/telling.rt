@@ -1,0 +1,186 @@
+//! What the notes of `serve` tell of a turn, and of the match's end.
+
+ghost use Rattle.std.specs.Prelude.{◌≡◌, ◌+◌, ◌<◌, ◌≤◌, ◌∷◌, ◌++◌, [], IfSome, IsNone, List, ℕ, drop, length, map, take};
+ghost use Rattle.dealer_world.specs.Viewing.{view_of};
+ghost use Rattle.streamed.specs.Script.{HasNoFeed};
+ghost use Rattle.match_runs.specs.Notes.{AreNoted, note_line, names_in, ports_notes, awaited_notes, seat_notes, fault_notes, turn_notes, failure_notes};
+ghost use Rattle.match_runs.specs.Score.{IsLastLine, EndsInFeed, IsLastLog, HasNoLog, TellsScore};
+
+use crate::note::{About, Note, tell};
+use crate::seat_ports::SeatPorts;
+use dealer_kind::Config;
+use dealer_node::{NodeFault, Reader, SeatFault};
+use dealer_world::Cluster;
+use promise_store::Disk;
+use serving::Turn;
+use std::alloc::Global;
+use std::io::Write;
+
+/// Tells each seat's ports, node by node.
+pub fn tell_ports<W: Write>(alloc: Global, config: &Config, ports: SeatPorts, notes: &mut W)
+    ensures { AreNoted (map note_line (ports_notes ports (length config.now.sources) 0 config.now.setting.names)) (W.contents notes.old) (W.contents notes.new) }
+{
+    for (seat, name) in config.names().as_slice().iter().enumerate() {
+        let told = Note::Ports {
+            seat: seat as u8,
+            name: *name,
+            ports,
+            nodes: config.nodes() as u8,
+        };
+        tell(alloc, notes, &told);
+    }
+}
+
+/// Tells at which node and port a seat is awaited, where one is; nothing of a number that no seat has.
+pub(crate) fn tell_awaited<D: Disk + Drop, W: Write>(
+    alloc: Global,
+    cluster: &Cluster<D>,
+    ports: SeatPorts,
+    awaited: Option<(u8, u8)>,
+    notes: &mut W,
+)
+    ensures { AreNoted (map note_line (awaited_notes (names_in (view_of cluster.now)) ports awaited)) (W.contents notes.old) (W.contents notes.new) }
+{
+    if let Some((seat, node)) = awaited {
+        let names = cluster.config().names().as_slice();
+        if let Some(name) = names.get(seat as usize) {
+            let told = Note::Awaiting {
+                seat: seat as usize,
+                name: *name,
+                node,
+                port: ports.port(node, seat),
+            };
+            tell(alloc, notes, &told);
+        }
+    }
+}
+
+/// Tells what a turn did that called this node last: a seat seated or gone, a node stopped or started, and of a line
+/// the faults that were found in it.
+pub(crate) fn tell_turn<D: Disk + Drop, W: Write>(
+    alloc: Global,
+    cluster: &Cluster<D>,
+    node: u8,
+    turn: Turn,
+    notes: &mut W,
+)
+    ensures { AreNoted (map note_line (turn_notes (names_in (view_of cluster.now)) node (view_of cluster.now).last.faults turn)) (W.contents notes.old) (W.contents notes.new) }
+{
+    let config = cluster.config();
+    match turn {
+        Turn::Seated { seat, node } => {
+            tell_seat(alloc, config, seat as usize, About::Seated(node), notes)
+        }
+        Turn::Gone(seat) => tell_seat(alloc, config, seat as usize, About::Gone(node), notes),
+        Turn::Stopped(node) => tell(alloc, notes, &Note::Stopped(node)),
+        Turn::Started(node) => tell(alloc, notes, &Note::Started(node)),
+        Turn::Read(_) => tell_faults(alloc, config, node, cluster.last().faults(), notes),
+        Turn::Delivered(_) | Turn::Ticked(_) | Turn::Over => {}
+    }
+}
+
+/// Tells that the store of the node failed that was called last, if that is why it was refused.
+pub(crate) fn tell_failure<W: Write>(
+    alloc: Global,
+    node: u8,
+    refused: Option<NodeFault>,
+    notes: &mut W,
+)
+    ensures { AreNoted (map note_line (failure_notes node refused)) (W.contents notes.old) (W.contents notes.new) }
+{
+    if let Some(fault) = refused {
+        if let NodeFault::Store(_) = fault {
+            tell(alloc, notes, &Note::Failed { node, fault });
+        }
+    }
+}
+
+/// Tells something of a seat; nothing of a number that no seat has.
+fn tell_seat<W: Write>(alloc: Global, config: &Config, seat: usize, about: About, notes: &mut W)
+    ensures { AreNoted (map note_line (seat_notes config.now.setting.names seat about)) (W.contents notes.old) (W.contents notes.new) }
+{
+    if let Some(name) = config.names().as_slice().get(seat) {
+        let name = *name;
+        tell(alloc, notes, &Note::Seat { seat, name, about });
+    }
+}
+
+/// Tells what is wrong with what seats sent to a node.
+fn tell_faults<W: Write>(
+    alloc: Global,
+    config: &Config,
+    node: u8,
+    faults: &[SeatFault],
+    notes: &mut W,
+)
+    ensures { AreNoted (map note_line (fault_notes config.now.setting.names node faults.now)) (W.contents notes.old) (W.contents notes.new) }
+{
+    for found in faults {
+        let fault = found.fault;
+        tell_seat(
+            alloc,
+            config,
+            found.seat,
+            About::Faulty { node, fault },
+            notes,
+        );
+    }
+}
+
+/// Tells the score: the last line of what a log got last. Nothing is told where no log got a line.
+pub(crate) fn tell_score<D: Disk + Drop, W: Write>(
+    alloc: Global,
+    cluster: &Cluster<D>,
+    notes: &mut W,
+)
+    ensures { TellsScore (view_of cluster.now).all.shown (W.contents notes.old) (W.contents notes.new) }
+{
+    if let Some(text) = last_log(cluster) {
+        if let Some(line) = last_line(text) {
+            tell(alloc, notes, &Note::Score(line));
+        }
+    }
+}
+
+/// What a log got last, of all nodes; none where no log got anything.
+fn last_log<D: Disk + Drop>(cluster: &Cluster<D>) -> Option<&[u8]>
+    ensures found { IfSome result (λ text. IsLastLog (view_of cluster.now).all.shown text.now) }
+    ensures missing { IsNone result → HasNoLog (view_of cluster.now).all.shown }
+{
+    for number in (0..cluster.piece_count()).rev() {
+        if let Some(piece) = cluster.piece(number) {
+            if let Reader::Log = piece.reader {
+                return Some(piece.text);
+            }
+        }
+    }
+    None
+}
+
+/// The last line of a text that ends in a line feed, without that; none of another text.
+fn last_line(text: &[u8]) -> Option<&[u8]>
+    ensures found { IfSome result (λ line. IsLastLine text.now line.now) }
+    ensures missing { IsNone result → EndsInFeed text.now → ⊥ }
+{
+    let (end, body) = text.split_last()?;
+    if *end != b'\n' {
+        return None;
+    }
+    match last_feed(body) {
+        Some(place) => Some(&body[place + 1..]),
+        None => Some(body),
+    }
+}
+
+/// Where the last line feed stands.
+fn last_feed(bytes: &[u8]) -> Option<usize>
+    ensures found { IfSome result (λ place. (place < length bytes.now) × (bytes.now ≡ take place bytes.now ++ 10 ∷ drop (place + 1) bytes.now) × HasNoFeed (drop (place + 1) bytes.now)) }
+    ensures missing { IsNone result → HasNoFeed bytes.now }
+{
+    for place in (0..bytes.len()).rev() {
+        if bytes[place] == b'\n' {
+            return Some(place);
+        }
+    }
+    None
+}
