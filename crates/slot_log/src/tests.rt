@@ -1,6 +1,7 @@
 use super::*;
 use betting::{ActFault, Action};
 use card_core::{Card, Deal};
+use std::alloc::AllocError;
 use std::process::Abort;
 use std::test::Fail;
 
@@ -90,23 +91,57 @@ fn act(hand: u32, index: u16, action: Action) -> Command {
     }
 }
 
+// Calls with long contracts stand in one function each: a contract is read anew wherever its call stands.
+
+/// What a command does.
+fn applied(table: &mut Table, command: &Command) -> Result<Effect, AllocError> {
+    table.apply(command)
+}
+
+/// Whether it would do something, and why not.
+fn reason(table: &Table, command: &Command) -> (bool, Option<Reason>) {
+    (table.fits(command), table.reason(command))
+}
+
+/// How many hands were dealt and how many are finished, whether one runs, and whether the match is over.
+fn course(table: &Table) -> (u32, u32, bool, bool) {
+    (
+        table.dealt(),
+        table.finished(),
+        table.running(),
+        table.over(),
+    )
+}
+
+/// The deal of a hand.
+fn dealt(table: &Table, hand: u32) -> Option<Deal> {
+    table.deal(hand).copied()
+}
+
+/// Makes a command known at a slot.
+fn put(
+    log: &mut SlotLog,
+    slot: u32,
+    command: Command,
+) -> Result<Result<(), SlotFault>, AllocError> {
+    log.put(slot, command)
+}
+
 #[test]
 fn a_match_of_two_hands(rt: HostRuntime) -> Result<(), Fail> {
     let game = game_def::read(L2).expect(&rt, "a game");
     let mut table = Table::new(rt.alloc(), game, 2);
-    assert_eq!(rt; table.game().players(), 2);
-    assert_eq!(rt; table.hands(), 2);
+    assert!(rt; table.game().players() == 2);
+    assert!(rt; table.hands() == 2);
     table.reserve(1)?;
     let [first, second] = [first_deal(&rt), second_deal(&rt)];
     let deal = Command::Deal {
         hand: 0,
         deal: first,
     };
-    assert!(rt; table.fits(&deal));
-    assert_eq!(rt; table.apply_reserved(&deal), Effect::Dealt);
-    assert!(rt; table.running());
-    assert_eq!(rt; table.dealt(), 1);
-    assert_eq!(rt; table.finished(), 0);
+    assert!(rt; reason(&table, &deal) == (true, None));
+    assert!(rt; table.apply_reserved(&deal) == Effect::Dealt);
+    assert!(rt; course(&table) == (1, 0, true, false));
     // betting `rrrc/cc/cc/cc`
     let actions = [
         Action::Raise(20),
@@ -127,25 +162,23 @@ fn a_match_of_two_hands(rt: HostRuntime) -> Result<(), Fail> {
         } else {
             Effect::HandOver
         };
-        assert_eq!(rt; table.apply(&command)?, effect, "at {index}");
+        assert!(rt; applied(&mut table, &command)? == effect, "at {index}");
     }
-    assert!(rt; !table.running());
-    assert_eq!(rt; table.finished(), 1);
-    assert!(rt; !table.over());
+    assert!(rt; course(&table) == (1, 1, false, false));
     let deal = Command::Deal {
         hand: 1,
         deal: second,
     };
-    assert_eq!(rt; table.apply(&deal)?, Effect::Dealt);
-    assert_eq!(rt; table.apply(&act(1, 0, Action::Fold))?, Effect::MatchOver);
-    assert!(rt; table.over());
+    assert!(rt; applied(&mut table, &deal)? == Effect::Dealt);
+    assert!(rt; applied(&mut table, &act(1, 0, Action::Fold))? == Effect::MatchOver);
+    assert!(rt; course(&table) == (2, 2, false, true));
     // every finished hand is kept
-    assert_eq!(rt; table.deal(0).copied(), Some(first));
-    assert_eq!(rt; table.deal(1).copied(), Some(second));
-    assert!(rt; table.deal(2).is_none());
+    assert!(rt; dealt(&table, 0) == Some(first));
+    assert!(rt; dealt(&table, 1) == Some(second));
+    assert!(rt; dealt(&table, 2).is_none());
     let play = table.play(0).ok_or("the first hand")?;
     assert!(rt; play.finished());
-    assert_eq!(rt; play.actions(), actions.as_slice());
+    assert!(rt; play.actions() == actions.as_slice());
     assert!(rt; table.play(2).is_none());
     Ok(())
 }
@@ -189,20 +222,17 @@ fn a_command_that_does_not_fit_does_nothing(rt: HostRuntime) -> Result<(), Fail>
         (deal_of_the_next_hand, Effect::None(Reason::MatchDone)),
     ];
     for (command, effect) in steps {
-        let reason = match effect {
+        let why = match effect {
             Effect::None(reason) => Some(reason),
             _ => None,
         };
-        assert_eq!(rt; table.reason(&command), reason);
-        assert_eq!(rt; table.fits(&command), reason.is_none());
-        assert_eq!(rt; command.is_same(&deal), command == deal);
-        assert_eq!(rt; table.apply(&command)?, effect);
+        assert!(rt; reason(&table, &command) == (why.is_none(), why));
+        assert!(rt; command.is_same(&deal) == (command == deal));
+        assert!(rt; applied(&mut table, &command)? == effect);
     }
     let play = table.play(0).ok_or("the hand")?;
-    assert_eq!(rt;
-        play.actions(),
-        [Action::Call, Action::Raise(20), Action::Fold].as_slice()
-    );
+    let actions = [Action::Call, Action::Raise(20), Action::Fold];
+    assert!(rt; play.actions() == actions.as_slice());
     Ok(())
 }
 
@@ -215,26 +245,24 @@ fn refused_memory_changes_nothing(rt: HostRuntime) {
             hand,
             deal: deal_in_turn(&rt, hand),
         };
-        if table.apply(&deal).is_err() {
-            assert!(rt; !table.running());
-            assert_eq!(rt; table.dealt(), hand);
-            assert_eq!(rt; table.finished(), hand);
-            assert!(rt; table.apply(&deal).is_ok(), "the second time");
+        if applied(&mut table, &deal).is_err() {
+            assert!(rt; course(&table) == (hand, hand, false, false));
+            assert!(rt; applied(&mut table, &deal).is_ok(), "the second time");
         }
-        assert!(rt; table.running());
-        assert!(rt; table.apply(&act(hand, 0, Action::Fold)).is_ok());
+        assert!(rt; course(&table).2);
+        assert!(rt; applied(&mut table, &act(hand, 0, Action::Fold)).is_ok());
     }
-    assert!(rt; table.over());
+    assert!(rt; course(&table).3);
     for hand in 0..10 {
-        assert_eq!(rt; table.deal(hand).copied(), Some(deal_in_turn(&rt, hand)));
+        assert!(rt; dealt(&table, hand) == Some(deal_in_turn(&rt, hand)));
         assert!(rt; table.play(hand).is_some_and(|play| play.finished()));
     }
 }
 
 /// The front, and what is known at the slots from 0 to 5, by the index of each act.
 fn assert_known(rt: &impl Abort, log: &SlotLog, front: u32, known: [bool; 6]) {
-    assert_eq!(rt; log.front(), front);
-    assert_eq!(rt; log.commands().len() as u32, front);
+    assert!(rt; log.front() == front);
+    assert!(rt; log.commands().len() as u32 == front);
     for slot in 0..6u16 {
         match log.get(u32::from(slot)) {
             Some(command) => assert!(rt;
@@ -249,15 +277,15 @@ fn assert_known(rt: &impl Abort, log: &SlotLog, front: u32, known: [bool; 6]) {
 fn slots_are_known_one_by_one(rt: HostRuntime) -> Result<(), Fail> {
     let mut log = SlotLog::new(rt.alloc());
     assert_known(&rt, &log, 0, [false; 6]);
-    assert_eq!(rt; log.put(3, act(0, 3, Action::Call))?, Ok(()));
-    assert_eq!(rt; log.put(1, act(0, 1, Action::Call))?, Ok(()));
+    assert!(rt; put(&mut log, 3, act(0, 3, Action::Call))?.is_ok());
+    assert!(rt; put(&mut log, 1, act(0, 1, Action::Call))?.is_ok());
     assert_known(&rt, &log, 0, [false, true, false, true, false, false]);
-    assert_eq!(rt; log.run_with(0), 2);
-    assert_eq!(rt; log.run_with(2), 0);
-    assert_eq!(rt; log.put(0, act(0, 0, Action::Call))?, Ok(()));
+    assert!(rt; log.run_with(0) == 2);
+    assert!(rt; log.run_with(2) == 0);
+    assert!(rt; put(&mut log, 0, act(0, 0, Action::Call))?.is_ok());
     assert_known(&rt, &log, 2, [true, true, false, true, false, false]);
     log.reserve(1)?;
-    assert_eq!(rt; log.put_reserved(2, act(0, 2, Action::Call)), Ok(()));
+    assert!(rt; log.put_reserved(2, act(0, 2, Action::Call)).is_ok());
     assert_known(&rt, &log, 4, [true, true, true, true, false, false]);
     Ok(())
 }
@@ -265,20 +293,16 @@ fn slots_are_known_one_by_one(rt: HostRuntime) -> Result<(), Fail> {
 #[test]
 fn what_is_known_stays(rt: HostRuntime) -> Result<(), Fail> {
     let mut log = SlotLog::new(rt.alloc());
-    assert_eq!(rt; log.put(0, act(0, 0, Action::Call))?, Ok(()));
-    assert_eq!(rt; log.put(2, act(0, 2, Action::Call))?, Ok(()));
+    assert!(rt; put(&mut log, 0, act(0, 0, Action::Call))?.is_ok());
+    assert!(rt; put(&mut log, 2, act(0, 2, Action::Call))?.is_ok());
     for slot in [0, 2] {
-        assert_eq!(rt; log.put(slot, act(0, slot as u16, Action::Call))?, Ok(()));
-        assert_eq!(rt;
-            log.put(slot, act(0, slot as u16, Action::Fold))?,
-            Err(SlotFault::Conflict)
-        );
+        assert!(rt; put(&mut log, slot, act(0, slot as u16, Action::Call))?.is_ok());
+        let other = put(&mut log, slot, act(0, slot as u16, Action::Fold))?;
+        assert!(rt; other == Err(SlotFault::Conflict));
     }
-    assert_eq!(rt;
-        log.put(4_000_000, act(0, 0, Action::Call))?,
-        Err(SlotFault::SlotsSpent)
-    );
-    assert_eq!(rt; log.put(3_999_999, act(0, 0, Action::Call))?, Ok(()));
+    let beyond = put(&mut log, 4_000_000, act(0, 0, Action::Call))?;
+    assert!(rt; beyond == Err(SlotFault::SlotsSpent));
+    assert!(rt; put(&mut log, 3_999_999, act(0, 0, Action::Call))?.is_ok());
     assert_known(&rt, &log, 1, [true, false, true, false, false, false]);
     Ok(())
 }
@@ -288,10 +312,10 @@ fn refused_memory_leaves_what_is_known(rt: HostRuntime) {
     let mut log = SlotLog::new(rt.alloc());
     for slot in [5, 4, 3, 2, 1, 0] {
         let front = log.front();
-        if log.put(slot, act(0, slot as u16, Action::Call)).is_err() {
-            assert_eq!(rt; log.front(), front);
+        if put(&mut log, slot, act(0, slot as u16, Action::Call)).is_err() {
+            assert!(rt; log.front() == front);
             assert!(rt; log.get(slot).is_none());
-            let again = log.put(slot, act(0, slot as u16, Action::Call));
+            let again = put(&mut log, slot, act(0, slot as u16, Action::Call));
             assert!(rt; again == Ok(Ok(())), "the second time");
         }
     }
