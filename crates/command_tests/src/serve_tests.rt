@@ -112,7 +112,7 @@ fn a_served_match_is_told_in_notes(rt: HostRuntime) -> Result<(), Fail> {
 #[test]
 fn a_store_that_fails_once_is_told(rt: HostRuntime) -> Result<(), Fail> {
     let alloc = rt.alloc();
-    let mut told = 0;
+    let mut told = 0u32;
     for call in 1..40u64 {
         let server = server(&rt, alloc, call, links(alloc, 0)?, Vec::new(alloc))?;
         if let Some(mut server) = server {
@@ -124,7 +124,7 @@ fn a_store_that_fails_once_is_told(rt: HostRuntime) -> Result<(), Fail> {
                 has(&notes, REPAIR) == has(&notes, b"91 Store"),
                 "call {call}"
             );
-            told += u32::from(has(&notes, REPAIR));
+            told = told.saturating_add(u32::from(has(&notes, REPAIR)));
         }
     }
     assert!(rt; told > 5);
@@ -134,7 +134,7 @@ fn a_store_that_fails_once_is_told(rt: HostRuntime) -> Result<(), Fail> {
 #[test]
 fn a_log_that_fails_ends_serve(rt: HostRuntime) -> Result<(), Fail> {
     let alloc = rt.alloc();
-    let mut told = 0;
+    let mut told = 0u32;
     for call in 1..60u64 {
         let server = server(&rt, alloc, 0, links(alloc, call)?, Vec::new(alloc))?;
         if let Some(mut server) = server {
@@ -143,7 +143,7 @@ fn a_log_that_fails_ends_serve(rt: HostRuntime) -> Result<(), Fail> {
             if server.links().failed() == Some(Reached::Log) {
                 assert!(rt; served == Err(ServeFault::LogFailed), "call {call}");
                 assert!(rt; !has(&notes, b"SCORE"), "call {call}");
-                told += 1;
+                told = told.saturating_add(1);
             }
         }
     }

@@ -155,9 +155,9 @@ at the end the score. Nothing is printed on standard output.
 Exit status:
   0  the match is over
   1  a port can't be bound or a node not be reached (105), a log can't be
-     opened, emptied or written (106), a store is refused, or failed and was no
-     better when its node was started again (91), a node can't go on (93, 94,
-     95), or memory was refused (92)
+     opened, emptied or written (106), a store is refused, or failed and was
+     no better when its node was started again (91), a node can't go on (93,
+     94, 95), or memory was refused (92)
   2  the command line is wrong, MATCH is refused (100, 101, 102), or MATCH,
      its game or a store can't be read (104)
 The last line of standard error says which; where a port or a file is at
