@@ -67,6 +67,11 @@ pub trait Links {
     fn open(&mut self, node: u8) -> Result<(), LinkFault>
         ensures { passed self.new ≡ passed self.old };
 
+    /// Takes leave of the seats of a node behind their last lines: each may read to the end what it was told, and what it
+    /// still sends is dropped.
+    fn part(&mut self, node: u8)
+        ensures { passed self.new ≡ passed self.old };
+
     /// Closes the seats' ports of a node, and the connections to it.
     fn close(&mut self, node: u8)
         ensures { passed self.new ≡ passed self.old };

@@ -284,6 +284,10 @@ impl Links for MemoryLinks {
         Ok(())
     }
 
+    fn part(&mut self, node: u8) {
+        self.callers.close_node(node);
+    }
+
     fn close(&mut self, node: u8) {
         self.set_closed(node, true);
         self.callers.close_node(node);

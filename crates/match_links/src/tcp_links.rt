@@ -9,11 +9,16 @@ use std::alloc::{AllocError, Global};
 use std::fs::File;
 use std::io;
 use std::io::{Read, Write};
-use std::net::{Ipv4Addr, TcpListener, TcpStream};
+use std::net::{Ipv4Addr, Shutdown, TcpListener, TcpStream};
 use std::time::Duration;
 
-/// How many seconds a seat's connection may take for a line.
+/// How many seconds a seat's connection may take for a line, or to end behind its last one.
 const PATIENCE: u64 = 2;
+
+/// How many pieces of what a seat sends behind its last line are dropped, of so many bytes at most.
+const LAST_PIECES: usize = 256;
+
+const DROPPED: usize = 4096;
 
 /// How long the lines are for which there is room from the start.
 const LINE: usize = 8192;
@@ -229,6 +234,20 @@ fn join(rt: &HostRuntime, port: u16, door: &TcpListener) -> io::Result<Pair> {
     Err(io::Error::from(io::ErrorKind::Other))
 }
 
+/// Ends a connection behind the last line: the seat reads that the lines are over, and ends its side. What it sent
+/// meanwhile is dropped, since a socket that is closed over bytes that nobody read takes back what it hasn't sent yet.
+fn take_leave(stream: &mut TcpStream) -> io::Result<()> {
+    stream.shutdown(Shutdown::Write)?;
+    stream.set_read_timeout(Some(Duration::from_secs(PATIENCE)))?;
+    let mut dropped = [0; DROPPED];
+    for _ in 0..LAST_PIECES {
+        if stream.read(&mut dropped)? == 0 {
+            return Ok(());
+        }
+    }
+    Ok(())
+}
+
 /// Prepares a seat's connection, and waits for the first bytes of it. It says whether there are any: none where the
 /// connection ended before.
 fn greet(stream: &mut TcpStream, input: &mut Input) -> io::Result<bool> {
@@ -386,6 +405,16 @@ impl Links for TcpLinks<'_> {
             self.open_port(node, seat)?;
         }
         Ok(())
+    }
+
+    fn part(&mut self, node: u8) {
+        for seat in 0..self.players as u8 {
+            let place = self.place(node, seat);
+            if let Some(Some(caller)) = self.callers.get_mut(place) {
+                // A seat whose connection has failed has nothing more to read.
+                let _ = take_leave(&mut caller.stream);
+            }
+        }
     }
 
     fn close(&mut self, node: u8) {

@@ -56,12 +56,13 @@ pub(crate) fn take<D: Disk + Drop, L: Links + Drop>(
     }
 }
 
-/// Closes all connections of seats.
+/// Takes leave of all seats, and closes their connections and ports.
 pub(crate) fn close_all<D: Disk + Drop, L: Links + Drop>(links: &mut L, cluster: &Cluster<D>)
     ensures { L.passed links.new ≡ L.passed links.old }
 {
     cluster.config().limits();
     for node in 0..cluster.node_count() as u8 {
+        links.part(node);
         links.close(node);
     }
 }
