@@ -12,14 +12,22 @@ use std::process::Abort;
 use std::test::Fail;
 
 /// The header of a log of the match.
-pub(crate) const HEADER: &[u8] = b"# name/game/hands m1 l2.game 2\n";
+const HEADER: &[u8] = b"# name/game/hands m1 l2.game 2\n";
 
 /// The log of the match where bob folds the first hand and alice the second.
-pub(crate) const LOG: &[u8] = b"# name/game/hands m1 l2.game 2
+const LOG: &[u8] = b"# name/game/hands m1 l2.game 2
 STATE:0:f:TdAs|8hTc:5|-5:alice|bob
 STATE:1:f:2d2h|3d3s:5|-5:bob|alice
 SCORE:0|0:alice|bob
 ";
+
+/// The logs where node 0 is lost after the first deal: of node 0 the header alone.
+pub(crate) fn without_node_0(alloc: Global) -> Result<Vec<u8>, Fail> {
+    let mut logs = HEADER.to_vec(alloc)?;
+    logs.extend_from_slice(LOG)?;
+    logs.extend_from_slice(LOG)?;
+    Ok(logs)
+}
 
 /// What a bot sends first.
 pub(crate) const VERSION: &[u8] = b"VERSION:2.0.0\r\n";

@@ -1,30 +1,64 @@
-//! A match of one hand, played on a cluster one event at a time.
+//! A match of one hand, played on a cluster one step at a time, and what is seen of it then.
 
+use crate::samples;
 use crate::samples::{deal, one_hand};
 use dealer_node::NodeFault;
-use dealer_world::{Cluster, Event, What};
+use dealer_world::{Begun, Cluster, Event, What};
 use promise_store::{Disk, OnceDisk};
-use std::alloc::Global;
+use std::alloc::{AllocError, Global};
 use std::process::Abort;
 use std::test::Fail;
 
-/// A new cluster of so many nodes over disks in memory that never fail.
-pub(crate) fn fresh(
-    rt: &impl Abort,
-    alloc: Global,
-    nodes: usize,
-) -> Result<Cluster<OnceDisk>, Fail> {
-    let config = one_hand(rt, alloc, nodes)?;
-    let mut disks = Vec::new(alloc);
-    for _ in 0..nodes {
-        disks.push(OnceDisk::new(alloc, 0))?;
-    }
-    assert!(rt; disks.len() == config.nodes());
-    Ok(Cluster::new(alloc, config, disks)?)
+/// What is done with a cluster. Nodes and frames are counted from 0.
+#[derive(Clone, Copy)]
+pub(crate) enum Step<'a> {
+    /// The node ticks.
+    Tick(u8),
+    /// The frame of this number is delivered.
+    Deliver(usize),
+    /// A round of a leader and others who together are a majority: its tick, then all Prepares, all Promises, all
+    /// Accepts and all Accepteds between it and the others.
+    Round(u8, &'a [u8]),
+    /// A tick of node 0 and the first round of it with node 1, given at once.
+    FirstRound,
+    /// The node stops.
+    Stop(u8),
 }
 
+/// A frame, and what of it is told: whence, whereto, its bytes.
+#[derive(Drop)]
+pub(crate) struct Letter {
+    pub(crate) from: u8,
+    pub(crate) to: u8,
+    pub(crate) bytes: Vec<u8>,
+    /// How many frames had been sent before it came; of one that was sent 0.
+    pub(crate) sent_before: usize,
+}
+
+/// What is seen of a cluster.
+#[derive(Drop)]
+pub(crate) struct Seen {
+    /// The front of each node, and whose deal it has on its table for the hand.
+    pub(crate) nodes: Vec<(u32, Option<usize>)>,
+    /// All frames that were sent.
+    pub(crate) sent: Vec<Letter>,
+    /// All frames that reached a running node.
+    pub(crate) arrived: Vec<Letter>,
+    /// The log of node 1's first start and of its second, if there was one, each behind the word `log: `.
+    pub(crate) logs: [Vec<u8>; 2],
+}
+
+/// The kinds of the frames of a round, as the byte behind a frame's length and version tells them.
+const PREPARE: u8 = 1;
+
+const PROMISE: u8 = 2;
+
+const ACCEPT: u8 = 4;
+
+const ACCEPTED: u8 = 5;
+
 /// Gives a node a tick.
-pub(crate) fn tick<D: Disk + Drop>(
+fn tick<D: Disk + Drop>(
     rt: &impl Abort,
     cluster: &mut Cluster<D>,
     node: u8,
@@ -33,8 +67,18 @@ pub(crate) fn tick<D: Disk + Drop>(
     cluster.step(&Event::Tick { node })
 }
 
+/// Stops a node.
+fn stop<D: Disk + Drop>(
+    rt: &impl Abort,
+    cluster: &mut Cluster<D>,
+    node: u8,
+) -> Result<(), NodeFault> {
+    assert!(rt; (node as usize) < cluster.node_count());
+    cluster.step(&Event::Stop { node, pick: 0 })
+}
+
 /// Delivers the frame of this number, counted from 0 in the order of sending.
-pub(crate) fn deliver<D: Disk + Drop>(
+fn deliver<D: Disk + Drop>(
     rt: &impl Abort,
     alloc: Global,
     cluster: &mut Cluster<D>,
@@ -49,15 +93,6 @@ pub(crate) fn deliver<D: Disk + Drop>(
     cluster.step(&Event::Frame { from, to, bytes })
 }
 
-/// The kinds of the frames of a round, as the byte behind a frame's length and version tells them.
-const PREPARE: u8 = 1;
-
-const PROMISE: u8 = 2;
-
-const ACCEPT: u8 = 4;
-
-const ACCEPTED: u8 = 5;
-
 /// The number of the newest frame of a kind from a node to another; none where there is none.
 fn newest<D: Disk + Drop>(cluster: &Cluster<D>, from: u8, to: u8, kind: u8) -> Option<usize> {
     let mut found = None;
@@ -70,7 +105,7 @@ fn newest<D: Disk + Drop>(cluster: &Cluster<D>, from: u8, to: u8, kind: u8) -> O
     found
 }
 
-/// Delivers the newest frame of a kind from a node to another, where there is one; how many were.
+/// Delivers the newest frame of a kind from a node to another.
 fn pass<D: Disk + Drop>(
     rt: &impl Abort,
     alloc: Global,
@@ -78,27 +113,20 @@ fn pass<D: Disk + Drop>(
     from: u8,
     to: u8,
     kind: u8,
-) -> Result<u32, NodeFault> {
-    match newest(cluster, from, to, kind) {
-        None => Ok(0),
-        Some(number) => {
-            deliver(rt, alloc, cluster, number)?;
-            Ok(1)
-        }
-    }
+) -> Result<(), NodeFault> {
+    let number = newest(cluster, from, to, kind).expect(rt, "a frame of the round");
+    deliver(rt, alloc, cluster, number)
 }
 
-/// A round of a leader and others who together are a majority: its tick, then all Prepares, all Promises, all Accepts
-/// and all Accepteds between it and the others. How many frames were delivered.
-pub(crate) fn round<D: Disk + Drop>(
+/// A round of a leader and others.
+fn round<D: Disk + Drop>(
     rt: &impl Abort,
     alloc: Global,
     cluster: &mut Cluster<D>,
     leader: u8,
     others: &[u8],
-) -> Result<u32, NodeFault> {
+) -> Result<(), NodeFault> {
     tick(rt, cluster, leader)?;
-    let mut delivered = 0u32;
     for kind in [PREPARE, PROMISE, ACCEPT, ACCEPTED] {
         let leads = kind == PREPARE || kind == ACCEPT;
         for other in others.iter() {
@@ -107,70 +135,23 @@ pub(crate) fn round<D: Disk + Drop>(
             } else {
                 (*other, leader)
             };
-            let passed = pass(rt, alloc, cluster, from, to, kind)?;
-            delivered = delivered.saturating_add(passed);
+            pass(rt, alloc, cluster, from, to, kind)?;
         }
     }
-    Ok(delivered)
+    Ok(())
 }
 
-/// Stops a node.
-pub(crate) fn stop<D: Disk + Drop>(
-    rt: &impl Abort,
-    cluster: &mut Cluster<D>,
-    node: u8,
-    pick: u64,
-) -> Result<(), NodeFault> {
-    assert!(rt; (node as usize) < cluster.node_count());
-    cluster.step(&Event::Stop { node, pick })
-}
-
-/// The front of a node.
-pub(crate) fn front<D: Disk + Drop>(rt: &impl Abort, cluster: &Cluster<D>, node: usize) -> u32 {
-    assert!(rt; node < cluster.node_count());
-    cluster.node(node).front()
-}
-
-/// Whose deal a node has on its table for the hand; none where it has none.
-pub(crate) fn dealt_by<D: Disk + Drop>(
-    rt: &impl Abort,
-    cluster: &Cluster<D>,
-    node: usize,
-) -> Option<usize> {
-    assert!(rt; node < cluster.node_count());
-    let dealt = cluster.node(node).table().deal(0)?;
-    (0..5).find(|owner| dealt.is_same(&deal(rt, *owner)))
-}
-
-/// Asserts that the frame of this number goes this way and has these bytes.
-pub(crate) fn assert_sent<D: Disk + Drop>(
-    rt: &impl Abort,
-    cluster: &Cluster<D>,
-    number: usize,
-    from: u8,
-    to: u8,
-    bytes: &[u8],
-) {
-    let frame = cluster.frame(number).expect(rt, "a frame that was sent");
-    assert_eq!(rt; frame.from, from, "the sender of frame {number}");
-    assert_eq!(rt; frame.to, to, "the receiver of frame {number}");
-    assert_eq!(rt; frame.bytes, bytes, "the bytes of frame {number}");
-}
-
-/// Gives a tick of node 0 and its round with node 1 at once: the frames are a Prepare, a Promise, an Accept and an
-/// Accepted.
-pub(crate) fn run_round<D: Disk + Drop>(
+/// Gives a tick of node 0 and the frames of its first round with node 1 at once.
+fn run_first_round<D: Disk + Drop>(
     rt: &impl Abort,
     alloc: Global,
     cluster: &mut Cluster<D>,
-    frames: [&[u8]; 4],
-) -> Result<(), Fail> {
+) -> Result<(), NodeFault> {
     assert!(rt; cluster.node_count() == 3);
-    let [prepare, promise, accept, accepted] = frames;
-    let prepare = prepare.to_vec(alloc)?;
-    let promise = promise.to_vec(alloc)?;
-    let accept = accept.to_vec(alloc)?;
-    let accepted = accepted.to_vec(alloc)?;
+    let prepare = samples::PREPARE.to_vec(alloc)?;
+    let promise = samples::PROMISE.to_vec(alloc)?;
+    let accept = samples::ACCEPT.to_vec(alloc)?;
+    let accepted = samples::ACCEPTED.to_vec(alloc)?;
     let events = [
         Event::Tick { node: 0 },
         Event::Frame {
@@ -198,21 +179,181 @@ pub(crate) fn run_round<D: Disk + Drop>(
     Ok(())
 }
 
-/// Asserts that the arrival of this number is a frame that goes this way, with these bytes, and came when so many had
-/// been sent.
-pub(crate) fn assert_arrived<D: Disk + Drop>(
+/// Does a step.
+fn take<D: Disk + Drop>(
+    rt: &impl Abort,
+    alloc: Global,
+    cluster: &mut Cluster<D>,
+    step: Step<'_>,
+) -> Result<(), NodeFault> {
+    match step {
+        Step::Tick(node) => tick(rt, cluster, node),
+        Step::Deliver(number) => deliver(rt, alloc, cluster, number),
+        Step::Round(leader, others) => round(rt, alloc, cluster, leader, others),
+        Step::FirstRound => run_first_round(rt, alloc, cluster),
+        Step::Stop(node) => stop(rt, cluster, node),
+    }
+}
+
+/// The front of a node, and whose deal it has on its table for the hand; none where it has none.
+fn node_seen<D: Disk + Drop>(
     rt: &impl Abort,
     cluster: &Cluster<D>,
+    node: usize,
+) -> (u32, Option<usize>) {
+    assert!(rt; node < cluster.node_count());
+    let front = cluster.node(node).front();
+    let owner = match cluster.node(node).table().deal(0) {
+        None => None,
+        Some(dealt) => (0..5).find(|owner| dealt.is_same(&deal(rt, *owner))),
+    };
+    (front, owner)
+}
+
+/// What is told of a frame.
+fn letter_of(
+    alloc: Global,
+    way: (u8, u8),
+    bytes: &[u8],
+    sent_before: usize,
+) -> Result<Letter, AllocError> {
+    let bytes = bytes.to_vec(alloc)?;
+    Ok(Letter {
+        from: way.0,
+        to: way.1,
+        bytes,
+        sent_before,
+    })
+}
+
+/// All frames that were sent.
+fn sent<D: Disk + Drop>(alloc: Global, cluster: &Cluster<D>) -> Result<Vec<Letter>, AllocError> {
+    let mut all = Vec::new(alloc);
+    for number in 0..cluster.frame_count() {
+        if let Some(frame) = cluster.frame(number) {
+            all.push(letter_of(alloc, (frame.from, frame.to), frame.bytes, 0)?)?;
+        }
+    }
+    Ok(all)
+}
+
+/// All frames that reached a running node.
+fn arrived<D: Disk + Drop>(alloc: Global, cluster: &Cluster<D>) -> Result<Vec<Letter>, AllocError> {
+    let mut all = Vec::new(alloc);
+    for number in 0..cluster.arrival_count() {
+        if let Some(arrival) = cluster.arrival(number) {
+            if let What::Frame { from, to } = arrival.what {
+                let came = letter_of(alloc, (from, to), arrival.bytes, arrival.sent_before)?;
+                all.push(came)?;
+            }
+        }
+    }
+    Ok(all)
+}
+
+/// The log of a start of node 1, counted from 0, behind a word.
+fn log_of<D: Disk + Drop>(
+    alloc: Global,
+    cluster: &Cluster<D>,
+    start: usize,
+) -> Result<Vec<u8>, AllocError> {
+    let mut log = b"log: ".to_vec(alloc)?;
+    cluster.put_log(Begun { node: 1, start }, &mut log)?;
+    Ok(log)
+}
+
+/// The front of each node, and whose deal it has.
+fn nodes_seen<D: Disk + Drop>(
+    rt: &impl Abort,
+    alloc: Global,
+    cluster: &Cluster<D>,
+) -> Result<Vec<(u32, Option<usize>)>, AllocError> {
+    let mut nodes = Vec::new(alloc);
+    for node in 0..cluster.node_count() {
+        nodes.push(node_seen(rt, cluster, node))?;
+    }
+    Ok(nodes)
+}
+
+/// What is seen of a cluster.
+fn look<D: Disk + Drop>(
+    rt: &impl Abort,
+    alloc: Global,
+    cluster: &Cluster<D>,
+) -> Result<Seen, AllocError> {
+    let nodes = nodes_seen(rt, alloc, cluster)?;
+    let sent = sent(alloc, cluster)?;
+    let arrived = arrived(alloc, cluster)?;
+    let logs = [log_of(alloc, cluster, 0)?, log_of(alloc, cluster, 1)?];
+    Ok(Seen {
+        nodes,
+        sent,
+        arrived,
+        logs,
+    })
+}
+
+/// A new cluster over these disks.
+fn cluster_over<D: Disk + Drop>(
+    rt: &impl Abort,
+    alloc: Global,
+    disks: Vec<D>,
+) -> Result<Cluster<D>, Fail> {
+    let config = one_hand(rt, alloc, disks.len())?;
+    assert!(rt; disks.len() == config.nodes());
+    Ok(Cluster::new(alloc, config, disks)?)
+}
+
+/// Does these steps, one after another; none of them is refused.
+fn take_all<D: Disk + Drop>(
+    rt: &impl Abort,
+    alloc: Global,
+    cluster: &mut Cluster<D>,
+    steps: &[Step<'_>],
+) -> Result<(), NodeFault> {
+    for step in steps.iter() {
+        take(rt, alloc, cluster, *step)?;
+    }
+    Ok(())
+}
+
+/// What is seen of a new cluster over these disks after these steps.
+fn seen_after<D: Disk + Drop>(
+    rt: &impl Abort,
+    alloc: Global,
+    disks: Vec<D>,
+    steps: &[Step<'_>],
+) -> Result<Seen, Fail> {
+    let mut cluster = cluster_over(rt, alloc, disks)?;
+    take_all(rt, alloc, &mut cluster, steps)?;
+    Ok(look(rt, alloc, &cluster)?)
+}
+
+/// What is seen of a new cluster of so many nodes over disks in memory that never fail, after these steps.
+pub(crate) fn played(
+    rt: &impl Abort,
+    alloc: Global,
+    nodes: usize,
+    steps: &[Step<'_>],
+) -> Result<Seen, Fail> {
+    let mut disks = Vec::new(alloc);
+    for _ in 0..nodes {
+        disks.push(OnceDisk::new(alloc, 0))?;
+    }
+    seen_after(rt, alloc, disks, steps)
+}
+
+/// Asserts that the frame of this number goes this way, has these bytes, and came, if it did, when so many had been sent.
+pub(crate) fn assert_letter(
+    rt: &impl Abort,
+    letters: &[Letter],
     number: usize,
     way: (u8, u8),
     bytes: &[u8],
     sent_before: usize,
 ) {
-    let arrival = cluster.arrival(number).expect(rt, "an arrival");
-    match arrival.what {
-        What::Frame { from, to } => assert!(rt; (from, to) == way, "arrival {number}"),
-        What::Line { .. } | What::Connect { .. } | What::Drop { .. } => assert!(rt; false),
-    }
-    assert_eq!(rt; arrival.bytes, bytes, "the bytes of arrival {number}");
-    assert_eq!(rt; arrival.sent_before, sent_before, "arrival {number}");
+    let letter = letters.get(number).expect(rt, "a frame of this number");
+    assert!(rt; (letter.from, letter.to) == way, "frame {number}");
+    assert_eq!(rt; letter.bytes.as_slice(), bytes, "frame {number}");
+    assert_eq!(rt; letter.sent_before, sent_before, "frame {number}");
 }

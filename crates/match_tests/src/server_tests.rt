@@ -1,6 +1,6 @@
 use crate::course::{
-    ALICE, BOB, Course, Ending, HEADER, LOG, VERSION, assert_logged, bots_everywhere, disks,
-    no_outages, outage, play,
+    ALICE, BOB, Course, Ending, VERSION, assert_logged, bots_everywhere, disks, no_outages, outage,
+    play, without_node_0,
 };
 use dealer_node::NodeFault;
 use match_links::{MemoryLinks, Reached};
@@ -80,10 +80,7 @@ fn a_match_outlives_a_node(rt: HostRuntime) -> Result<(), Fail> {
     let course = played(&rt, alloc, (0, 0), links, outages)?.expect(&rt, "a server");
     assert!(rt; matches!(course.ending, Ending::Over { starts: 0 }));
     assert_eq!(rt; course.told.as_slice(), TOLD);
-    let mut logs = HEADER.to_vec(alloc)?;
-    logs.extend_from_slice(LOG)?;
-    logs.extend_from_slice(LOG)?;
-    assert_eq!(rt; course.logs.as_slice(), logs.as_slice());
+    assert_eq!(rt; course.logs.as_slice(), without_node_0(alloc)?.as_slice());
     Ok(())
 }
 

@@ -1,4 +1,4 @@
-use crate::course::{ALICE, BOB, Ending, HEADER, LOG, VERSION, disks, outage, serve, server};
+use crate::course::{ALICE, BOB, Ending, VERSION, disks, outage, serve, server, without_node_0};
 use match_links::TcpLinks;
 use serving::Turn;
 use std::alloc::Global;
@@ -44,12 +44,16 @@ fn add_logs(rt: &HostRuntime, links: &mut TcpLinks<'_>, port: u16) -> Result<(),
     Ok(())
 }
 
-/// The log of a node, which is taken away.
-fn take_log(rt: &HostRuntime, port: u16, node: u8) -> Result<Vec<u8>, Fail> {
-    let path = log_path(rt, port, node)?;
-    let log = fs::read(rt, path.as_str())?;
-    fs::remove_file(rt, path.as_str())?;
-    Ok(log)
+/// The logs of three nodes, one behind the other; their files are taken away.
+fn take_logs(rt: &HostRuntime, port: u16) -> Result<Vec<u8>, Fail> {
+    let mut all = Vec::new(rt.alloc());
+    for node in 0..3u8 {
+        let path = log_path(rt, port, node)?;
+        let log = fs::read(rt, path.as_str())?;
+        all.extend_from_slice(&log)?;
+        fs::remove_file(rt, path.as_str())?;
+    }
+    Ok(all)
 }
 
 /// A client that calls a port and sends all its lines.
@@ -57,6 +61,22 @@ fn call(rt: &HostRuntime, port: u16, text: &[u8]) -> Result<TcpStream, Fail> {
     let mut stream = TcpStream::connect(rt, (Ipv4Addr::LOCALHOST, port))?;
     stream.write_all(text)?;
     Ok(stream)
+}
+
+/// Both seats' clients at node 0, then bob's and alice's at node 1.
+fn clients(rt: &HostRuntime, links: &TcpLinks<'_>) -> Result<Vec<TcpStream>, Fail> {
+    let mut clients = Vec::new(rt.alloc());
+    for (node, seat, text) in [(0, 0, VERSION), (0, 1, VERSION), (1, 1, BOB), (1, 0, ALICE)] {
+        clients.push(call(rt, links.seat_port(node, seat), text)?)?;
+    }
+    Ok(clients)
+}
+
+/// All that a client gets, up to the end of its connection.
+fn heard(alloc: Global, client: &mut TcpStream) -> Result<Vec<u8>, Fail> {
+    let mut lines = Vec::new(alloc);
+    client.read_to_end(&mut lines)?;
+    Ok(lines)
 }
 
 /// Serves the match in which node 0 is lost over these links.
@@ -75,17 +95,11 @@ fn a_match_outlives_a_node_over_sockets(rt: HostRuntime) -> Result<(), Fail> {
     let mut links = links(&rt).expect(&rt, "free ports");
     let port = links.seat_port(0, 0);
     add_logs(&rt, &mut links, port)?;
-    let _alice = call(&rt, links.seat_port(0, 0), VERSION)?;
-    let _bob = call(&rt, links.seat_port(0, 1), VERSION)?;
-    let mut bob = call(&rt, links.seat_port(1, 1), BOB)?;
-    let _alice = call(&rt, links.seat_port(1, 0), ALICE)?;
+    let mut clients = clients(&rt, &links)?;
     serve_over(&rt, rt.alloc(), links)?;
-    for (node, due) in [(0, HEADER), (1, LOG), (2, LOG)] {
-        let log = take_log(&rt, port, node)?;
-        assert_eq!(rt; log.as_slice(), due, "node {node}");
-    }
-    let mut lines = Vec::new(rt.alloc());
-    bob.read_to_end(&mut lines)?;
-    assert_eq!(rt; lines.as_slice(), TOLD);
+    let logs = take_logs(&rt, port)?;
+    assert_eq!(rt; logs.as_slice(), without_node_0(rt.alloc())?.as_slice());
+    let bob = clients.get_mut(2).expect(&rt, "bob's client at node 1");
+    assert_eq!(rt; heard(rt.alloc(), bob)?.as_slice(), TOLD);
     Ok(())
 }
