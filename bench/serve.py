@@ -29,7 +29,7 @@ from serving import FAST, Match
 # What a sync takes at least in the runs by which `serve` is compared with the floor, in seconds.
 SYNC = 300e-6
 # About how long a run beside its floor is to take, in seconds, and the fewest and the most hands of it.
-RUN_TAKES, FEWEST, MOST = 2.0, 20, 1000
+RUN_TAKES, FEWEST, MOST = 2.0, 80, 1000
 # How many commands a hand has, where nobody raises or folds: a deal and eight calls.
 OF_A_HAND = 9
 LOSSES = 100
