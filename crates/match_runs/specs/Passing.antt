@@ -33,8 +33,8 @@ pieces_between pieces from to = drop from (take to pieces)
 abbrev pub IsWithin : {N : Type 0} → Served N → Type 0
 IsWithin served = served.shown ≤ length served.view.all.shown
 
--- what was put into logs between two moments is what the record showed them meanwhile, all of it and in order; and what seats were told
--- are lines that the record showed them meanwhile, in order
+-- what was put into logs between two moments is what the record has for them from the first piece that wasn't given yet up to the last
+-- one that was, all of it and in order; and what seats were told are lines of these pieces, in order, of which some may be left out
 pub record HandsOn {N : Type 0} (old new : Served N) : Type 0 where
   pub passing : List Passage
   pub passed : new.passed ≡ old.passed ++ passing
