@@ -6,8 +6,9 @@
 //! the sender (`PrepareAnswer`, `AcceptAnswer`). `reserve` makes room for slots, so that `on_accept_reserved` takes no
 //! memory. `close` hands the disk back.
 //!
-//! The test `what_was_accepted_is_told` walks this way. Faults are those of the store, 63, 64 and 92: after 63 and 64 the
-//! disk is to be opened again, which finds what was stored before the call, with or without what the call was to store.
+//! The test `what_was_accepted_is_told` of `part_tests` walks this way. Faults are those of the store, 63, 64 and 92:
+//! after 63 and 64 the disk is to be opened again, which finds what was stored before the call, with or without what
+//! the call was to store.
 #![tactic(auto)]
 
 mod acceptor;
@@ -17,6 +18,3 @@ mod telling;
 
 pub use acceptor::Acceptor;
 pub use answers::{AcceptAnswer, PrepareAnswer};
-
-#[cfg(test)]
-mod tests;

@@ -8,8 +8,8 @@
 //! until `finished`; `act` takes his action, or tells what is wrong with it and changes nothing. Who knows that an
 //! action is allowed, as after `fault`, takes it by `take`. It takes no memory.
 //!
-//! The test `a_short_all_in_opens_the_betting_again` plays a hand of three players so. Faults: `ActFault`, 20 to
-//! 26, the first in the order that `specs/Legal.antt` states.
+//! The test `a_short_all_in_opens_the_betting_again` of `rule_tests` plays a hand of three players so. Faults:
+//! `ActFault`, 20 to 26, the first in the order that `specs/Legal.antt` states.
 #![tactic(auto)]
 
 mod action;
@@ -22,6 +22,3 @@ mod totals;
 pub use action::Action;
 pub use fault::ActFault;
 pub use play::Play;
-
-#[cfg(test)]
-mod tests;

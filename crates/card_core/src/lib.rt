@@ -5,8 +5,8 @@
 //! order and five for the board, and `hole`, `board`, `cards` and `players` give them back; whether two deals are
 //! one says `is_same`. What a deal is stands in `specs/Deal.antt`; `limits` has how large it may be.
 //!
-//! The test `a_deal_lies_at_its_places` takes a deal from letters to its places. Faults: `DealFault`, 1 another
-//! number of cards, 2 a card twice; nothing is made then.
+//! The test `a_deal_lies_at_its_places` of `rule_tests` takes a deal from letters to its places. Faults: `DealFault`, 1
+//! another number of cards, 2 a card twice; nothing is made then.
 #![tactic(auto)]
 
 mod card;
@@ -17,6 +17,3 @@ pub mod limits;
 pub use card::Card;
 pub use deal::{Deal, are_distinct};
 pub use fault::DealFault;
-
-#[cfg(test)]
-mod tests;

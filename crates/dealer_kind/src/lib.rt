@@ -4,10 +4,10 @@
 //! here these are the sequential dealer of `slot_log`, the lines of `matchstate`, the logs of `match_log` and what
 //! `seat_session` hears (`specs/Kind.antt`). `laws` says that they agree with what sessions answer.
 //!
-//! `Config::new` takes a match and its nodes, within their limits, and its readers give them back; a node's
-//! `Source` gives the node's own deal of each hand by `Source::deal`. The test
-//! `a_match_has_three_or_five_nodes_with_deals_for_each_hand` makes a config. There are no faults of its own: what
-//! isn't within its limits is none.
+//! `Config::new` takes a match and its nodes, within their limits, and its readers give them back; a node's `Source`
+//! gives the node's own deal of each hand by `Source::deal`. The test
+//! `a_match_has_three_or_five_nodes_with_deals_for_each_hand` of `rule_tests` makes a config. There are no faults of
+//! its own: what isn't within its limits is none.
 #![tactic(auto)]
 
 mod config;
@@ -16,6 +16,3 @@ mod source;
 
 pub use config::Config;
 pub use source::Source;
-
-#[cfg(test)]
-mod tests;

@@ -7,8 +7,8 @@
 //! from 0. What holds of every game is the contract of `GameDef::limits`, and how large its numbers may be stands in
 //! `limits`. What a game file is stands in `specs/GameFile.antt`.
 //!
-//! The tests `limit_games` and `nolimit_games` read files and look at each key. Faults: `GameFault`, with its line
-//! from 1 and a `FaultKind` from 10 to 19.
+//! The tests `limit_games` and `nolimit_games` of `rule_tests` read files and look at each key. Faults: `GameFault`,
+//! with its line from 1 and a `FaultKind` from 10 to 19.
 #![tactic(auto)]
 
 mod body;
@@ -30,6 +30,3 @@ pub use fault::GameFault;
 pub use fault_kind::FaultKind;
 pub use game::GameDef;
 pub use reading::read;
-
-#[cfg(test)]
-mod tests;

@@ -3,9 +3,9 @@
 //! Values are compared, and read by category and ranks; nothing of players, pots or betting is known here.
 //!
 //! `best_of_seven` answers the value of the best five of seven different cards, `value_of_five` that of five; a
-//! `HandValue` above another wins. `best_of_all_fives` does the same as `best_of_seven` by looking at all fives, and
-//! is there to compare with. No call fails or takes memory. The test `best_of_seven_cards` shows it; the ranking
-//! stands in `specs/Five.antt` and `specs/Best.antt`.
+//! `HandValue` above another wins. `best_of_all_fives` does the same as `best_of_seven` by looking at all fives, and is
+//! there to compare with. No call fails or takes memory. The test `best_of_seven_cards` of `rule_tests` shows it; the
+//! ranking stands in `specs/Five.antt` and `specs/Best.antt`.
 #![tactic(auto)]
 
 mod all_fives;
@@ -15,8 +15,6 @@ mod hand_value;
 mod laws;
 mod profile;
 mod rank_set;
-#[cfg(test)]
-mod tests;
 
 pub use all_fives::best_of_all_fives;
 pub use by_counts::best_of_seven;

@@ -5,8 +5,8 @@
 //! looks at its keys in the order in which they are listed and answers the first fault; keys that it doesn't look at
 //! are passed over, right or wrong. Nothing here opens a file.
 //!
-//! The tests `a_match_is_what_its_files_say` and `what_is_served_is_what_the_file_says` walk this way. Faults:
-//! `MatchFault`, 100 to 102, 104 and 92, the first in the order that `specs/Refusals.antt` states.
+//! The tests `a_match_is_what_its_files_say` and `what_is_served_is_what_the_file_says` of `rule_tests` walk this way.
+//! Faults: `MatchFault`, 100 to 102, 104 and 92, the first in the order that `specs/Refusals.antt` states.
 #![tactic(auto)]
 
 mod config;
@@ -25,6 +25,3 @@ pub use match_fault::MatchFault;
 pub use match_file::MatchFile;
 pub use outage::Outage;
 pub use service::Service;
-
-#[cfg(test)]
-mod tests;

@@ -7,8 +7,8 @@
 //! `reserved` in their name take no memory where there is room for the most that they append, a constant beside
 //! each. A reader calls `check` with all bytes of a log; it takes no memory.
 //!
-//! The test `a_match_of_two_hands` writes a log, `whole_logs_are_right` checks some. Faults: `LogFault`, with its
-//! line from 1 and a `LogFaultKind` from 45 to 49; what they mean stands in `specs/Check.antt`.
+//! The test `a_match_of_two_hands` of `rule_tests` writes a log, `whole_logs_are_right` checks some. Faults:
+//! `LogFault`, with its line from 1 and a `LogFaultKind` from 45 to 49; what they mean stands in `specs/Check.antt`.
 #![tactic(auto)]
 
 mod checked;
@@ -44,6 +44,3 @@ pub use name::Name;
 pub use score_lines::{MOST_SCORE_LINE, score_line, score_line_reserved};
 pub use seat_names::SeatNames;
 pub use state_lines::{MOST_STATE_LINE, state_line, state_line_reserved};
-
-#[cfg(test)]
-mod tests;

@@ -8,9 +8,9 @@
 //! Calls with `reserved` in their name take no memory where there is room for the most that they append, a constant
 //! beside each; no other call but those that answer a `Result` of `AllocError` takes any.
 //!
-//! The test `all_seats_share_one_betting_text` writes the lines of a table, `lines_read_as_they_are_written` and
-//! `answers_read_as_views_and_actions` read. Faults: `LineFault`, 40 to 44, the first in the order that
-//! `specs/Line.antt` and `specs/Answer.antt` state.
+//! The test `all_seats_share_one_betting_text` of `rule_tests` writes the lines of a table,
+//! `lines_read_as_they_are_written` and `answers_read_as_views_and_actions` read. Faults: `LineFault`, 40 to 44, the
+//! first in the order that `specs/Line.antt` and `specs/Answer.antt` state.
 #![tactic(auto)]
 
 mod action_text;
@@ -47,6 +47,3 @@ pub use line_fault::LineFault;
 pub use number::{put_number, read_number};
 pub use seating::{position_of, seat_view};
 pub use view::View;
-
-#[cfg(test)]
-mod tests;

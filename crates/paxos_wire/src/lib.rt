@@ -6,9 +6,9 @@
 //! numbers. Ballots, slots and commands of a record are written and read by calls of their own. Calls with
 //! `reserved` in their name take no memory; `frame_len` and `command_len` say how much room they want.
 //!
-//! The test `frames_read_and_write_alike` goes from messages to frames and back, `a_stream_in_pieces` through a
-//! feed. Faults: `FrameFault`, 50 to 54, the first in the order that `specs/Faults.antt` states; a stream at fault
-//! tells its fault from then on. `docs/FORMATS.md` has all bytes in a table.
+//! The test `frames_read_and_write_alike` of `rule_tests` goes from messages to frames and back, `a_stream_in_pieces`
+//! through a feed. Faults: `FrameFault`, 50 to 54, the first in the order that `specs/Faults.antt` states; a stream at
+//! fault tells its fault from then on. `docs/FORMATS.md` has all bytes in a table.
 #![tactic(auto)]
 
 mod ballot;
@@ -48,6 +48,3 @@ pub use records::{
     write_command_reserved,
 };
 pub use stream::read_stream;
-
-#[cfg(test)]
-mod tests;

@@ -5,7 +5,7 @@
 //! `put_seat_fault` and `put_fault` append a whole line to a text, or nothing where memory is refused. Nothing here
 //! knows a node.
 //!
-//! The test `each_word_says_its_order` reads a line of each word, `what_comes_is_printed` prints.
+//! The test `each_word_says_its_order` of `rule_tests` reads a line of each word, `what_comes_is_printed` prints.
 #![tactic(auto)]
 
 mod bad_script;
@@ -22,6 +22,3 @@ pub use order::Order;
 pub use reading::read;
 pub use shown::{put_fault, put_frame, put_log_line, put_seat_fault, put_seat_line};
 pub use word::Word;
-
-#[cfg(test)]
-mod tests;

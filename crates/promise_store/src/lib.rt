@@ -8,9 +8,9 @@
 //! what wasn't synced. `laws` has what bytes of a journal mean, and what is stored in words of the protocol;
 //! `docs/FORMATS.md` has the journal byte by byte.
 //!
-//! The test `journal_byte_by_byte` walks this way, `stops_in_a_promise` stops the disk at each of its calls. Faults:
-//! `StoreFault`, 60 to 62 of `open`, 63 where a call of the disk failed, 64 from then on, until the disk is opened
-//! again, and 92.
+//! The test `journal_byte_by_byte` of `part_tests` walks this way, `stops_in_a_promise` stops the disk at each of its
+//! calls. Faults: `StoreFault`, 60 to 62 of `open`, 63 where a call of the disk failed, 64 from then on, until the disk
+//! is opened again, and 92.
 #![tactic(auto)]
 
 mod appending;
@@ -39,6 +39,3 @@ pub use memory_disk::MemoryDisk;
 pub use once_disk::OnceDisk;
 pub use placed::Placed;
 pub use store::Store;
-
-#[cfg(test)]
-mod tests;

@@ -6,8 +6,8 @@
 //! `is_leading`; `propose` then gives what is to be proposed at a slot. `on_refuse` and `turn_idle` give the ballot
 //! up. It takes no memory, and neither stores nor sends anything.
 //!
-//! The test `a_window_of_64_slots` walks this way. Faults: `BallotsSpent`, 70, where there is no further round;
-//! `ProposeFault`, 71, for a slot outside the 64; nothing has changed then.
+//! The test `a_window_of_64_slots` of `part_tests` walks this way. Faults: `BallotsSpent`, 70, where there is no
+//! further round; `ProposeFault`, 71, for a slot outside the 64; nothing has changed then.
 #![tactic(auto)]
 
 mod accept;
@@ -21,6 +21,3 @@ pub use accept::Accept;
 pub use fault::{BallotsSpent, ProposeFault};
 pub use prepare::Prepare;
 pub use proposer::Proposer;
-
-#[cfg(test)]
-mod tests;

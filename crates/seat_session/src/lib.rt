@@ -7,8 +7,8 @@
 //! `line_feeds` bounds how often to ask. After `reserve`, `feed_reserved` takes no memory. `laws` has what holds of
 //! every session, however its bytes are cut.
 //!
-//! The tests `first_lines` and `acts` walk this way. Faults: `SessionFault`, 80 to 85, the first in the order that
-//! `specs/Saying.antt` states; 80 and 81 close the session, which then answers them from then on.
+//! The tests `first_lines` and `acts` of `rule_tests` walk this way. Faults: `SessionFault`, 80 to 85, the first in the
+//! order that `specs/Saying.antt` states; 80 and 81 close the session, which then answers them from then on.
 #![tactic(auto)]
 
 mod feeds;
@@ -26,6 +26,3 @@ pub use feeds::line_feeds;
 pub use said::Said;
 pub use session::Session;
 pub use session_fault::SessionFault;
-
-#[cfg(test)]
-mod tests;

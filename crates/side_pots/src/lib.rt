@@ -4,17 +4,15 @@
 //! for are one pot, and each pot goes to the best hands among those players. `laws` has what holds of the payoffs
 //! of every hand.
 //!
-//! There is one call, `settle`, with one entry for each position: what was put in, who folded, and what each hand
-//! is worth by `hand_rank`; the test `one_pot_and_two_pots` shows it. It can't fail, and takes no memory: a caller
-//! owes that some unfolded player has put in the most. The rule of pots stands in `specs/Pots.antt`.
+//! There is one call, `settle`, with one entry for each position: what was put in, who folded, and what each hand is
+//! worth by `hand_rank`; the test `one_pot_and_two_pots` of `rule_tests` shows it. It can't fail, and takes no memory:
+//! a caller owes that some unfolded player has put in the most. The rule of pots stands in `specs/Pots.antt`.
 #![tactic(auto)]
 
 mod amounts;
 pub mod laws;
 mod settlement;
 mod shares;
-#[cfg(test)]
-mod tests;
 mod winners;
 
 pub use settlement::settle;

@@ -8,8 +8,9 @@
 //! is. `SlotLog` begins empty: `put` makes a command known at its slot, and `commands` are those below `front`, the
 //! first slot that isn't known. Calls with `reserved` in their name take no memory, once `reserve` made the room.
 //!
-//! The test `a_match_of_two_hands` plays a match, `slots_are_known_one_by_one` fills a log. A command that doesn't
-//! fit is no fault, and the effect says its `Reason`; faults are `SlotFault`, 30 and 31, which change nothing.
+//! The test `a_match_of_two_hands` of `rule_tests` plays a match, `slots_are_known_one_by_one` fills a log. A command
+//! that doesn't fit is no fault, and the effect says its `Reason`; faults are `SlotFault`, 30 and 31, which change
+//! nothing.
 #![tactic(auto)]
 
 mod command;
@@ -29,6 +30,3 @@ pub use reason::Reason;
 pub use slot_fault::SlotFault;
 pub use slots::SlotLog;
 pub use table::Table;
-
-#[cfg(test)]
-mod tests;

@@ -1,8 +1,8 @@
 ghost use Rattle.std.specs.Prelude.{◌<◌};
 
-use crate::settle;
 use card_core::Card;
 use hand_rank::{HandValue, value_of_five};
+use side_pots::settle;
 
 /// A pair and the cards six, five and four: the higher the rank of the pair, the better the hand.
 fn pair_of(rank: u8) -> HandValue

@@ -1,4 +1,4 @@
-use crate::{
+use play_script::{
     BadScript, Bounds, Order, put_fault, put_frame, put_log_line, put_seat_fault, put_seat_line,
     read,
 };

@@ -1,22 +1,8 @@
-use super::*;
+use crate::samples::{L2, N3, game};
+use betting::*;
 use game_def::GameDef;
 use std::process::Abort;
 use std::test::Fail;
-
-/// Three players, no-limit, with unequal stacks.
-const N3: &[u8] = b"GAMEDEF
-nolimit
-numPlayers = 3
-numRounds = 4
-stack = 1000 150 5000
-blind = 50 100 0
-firstPlayer = 3 1 1 1
-numSuits = 4
-numRanks = 13
-numHoleCards = 2
-numBoardCards = 0 3 1 1
-END GAMEDEF
-";
 
 /// Two players, limit, with stacks of 25.
 const LIMIT: &[u8] = b"GAMEDEF
@@ -24,22 +10,6 @@ limit
 numPlayers = 2
 numRounds = 4
 stack = 25 25
-blind = 10 5
-raiseSize = 10 10 20 20
-firstPlayer = 2 1 1 1
-maxRaises = 3 4 4 4
-numSuits = 4
-numRanks = 13
-numHoleCards = 2
-numBoardCards = 0 3 1 1
-END GAMEDEF
-";
-
-/// Two players, limit, with deep stacks.
-const L2: &[u8] = b"GAMEDEF
-limit
-numPlayers = 2
-numRounds = 4
 blind = 10 5
 raiseSize = 10 10 20 20
 firstPlayer = 2 1 1 1
@@ -79,10 +49,6 @@ numHoleCards = 2
 numBoardCards = 0 3 1 1
 END GAMEDEF
 ";
-
-fn game(rt: &impl Abort, text: &[u8]) -> GameDef {
-    game_def::read(text).expect(rt, "a game")
-}
 
 fn take_all(rt: &impl Abort, play: &mut Play, actions: &[Action]) {
     for action in actions {

@@ -1,41 +1,35 @@
-use crate::{Said, Session, SessionFault, line_feeds};
+use crate::samples::{L2, game};
 use betting::{ActFault, Action};
 use matchstate::{LineFault, read_deal};
+use seat_session::{Said, Session, SessionFault, line_feeds};
 use slot_log::{Command, Table};
-use std::alloc::Global;
+use std::alloc::{AllocError, Global};
 use std::process::Abort;
 use std::test::Fail;
 
-/// Two players, limit.
-const L2: &[u8] = b"GAMEDEF
-limit
-numPlayers = 2
-numRounds = 4
-blind = 10 5
-raiseSize = 10 10 20 20
-firstPlayer = 2 1 1 1
-maxRaises = 3 4 4 4
-numSuits = 4
-numRanks = 13
-numHoleCards = 2
-numBoardCards = 0 3 1 1
-END GAMEDEF
-";
-
 type Answer = Result<Said, SessionFault>;
+
+// Calls with long contracts, and comparisons of answers, stand in one function each: a contract is read anew wherever its
+// call stands.
+
+/// Takes a command.
+fn apply(table: &mut Table, command: &Command) -> Result<(), AllocError> {
+    table.apply(command)?;
+    Ok(())
+}
 
 /// A match of one hand after these actions in it.
 fn table_after(rt: &impl Abort, alloc: Global, actions: &[Action]) -> Result<Table, Fail> {
-    let game = game_def::read(L2).expect(rt, "a game");
+    let game = game(rt, L2);
     let mut table = Table::new(alloc, game, 1);
     let deal = read_deal(b"TdAs|8hTc/2c8c3h/9c/Kh", 2).expect(rt, "a deal");
     let dealing = Command::Deal { hand: 0, deal };
-    if table.apply(&dealing).is_err() {
-        table.apply(&dealing)?;
+    if apply(&mut table, &dealing).is_err() {
+        apply(&mut table, &dealing)?;
     }
     for (index, action) in actions.iter().enumerate() {
         assert!(rt; index < 256);
-        table.apply(&act(index as u16, *action))?;
+        apply(&mut table, &act(index as u16, *action))?;
     }
     Ok(table)
 }
@@ -53,6 +47,16 @@ fn ask(rt: &impl Abort, session: &mut Session, table: &Table) -> Option<Answer> 
     session.next(table)
 }
 
+/// Sees that a session answers this.
+fn answers(rt: &impl Abort, session: &mut Session, table: &Table, wanted: Option<Answer>) {
+    assert!(rt; ask(rt, session, table) == wanted);
+}
+
+/// Gives a session a piece.
+fn feed(session: &mut Session, piece: &[u8]) -> Result<(), AllocError> {
+    session.feed(piece)
+}
+
 /// What a session answers to these bytes, which come at once and then, to another session, one at a time:
 /// both answer the same, and to the last byte.
 fn answer_to(
@@ -64,44 +68,58 @@ fn answer_to(
     bytes: &[u8],
 ) -> Result<Answer, Fail> {
     let mut whole = Session::new(alloc, seat);
-    whole.feed(greeting)?;
+    feed(&mut whole, greeting)?;
     let greeted = ask(rt, &mut whole, table).is_some();
-    whole.feed(bytes)?;
+    feed(&mut whole, bytes)?;
     let answer = ask(rt, &mut whole, table);
     let mut bytewise = Session::new(alloc, seat);
-    bytewise.feed(greeting)?;
-    assert_eq!(rt; ask(rt, &mut bytewise, table).is_some(), greeted);
+    feed(&mut bytewise, greeting)?;
+    assert!(rt; ask(rt, &mut bytewise, table).is_some() == greeted);
     for byte in bytes {
         assert!(rt; ask(rt, &mut bytewise, table).is_none());
-        bytewise.feed(&[*byte])?;
+        feed(&mut bytewise, &[*byte])?;
     }
-    assert_eq!(rt; ask(rt, &mut bytewise, table), answer);
+    answers(rt, &mut bytewise, table, answer);
     Ok(answer.ok_or("no answer")?)
 }
 
-/// The fault that a session has for these bytes, once it is ready.
-fn fault_told(
+/// Sees that these bytes are this act, of a session that is ready.
+fn acts_by(
     rt: &impl Abort,
     alloc: Global,
     table: &Table,
     seat: usize,
     bytes: &[u8],
-) -> Result<SessionFault, Fail> {
-    match answer_to(rt, alloc, table, seat, GREETING, bytes)? {
-        Ok(_) => panic!(rt; "no fault, at {bytes:?}"),
-        Err(fault) => Ok(fault),
-    }
+    wanted: Command,
+) -> Result<(), Fail> {
+    let answer = answer_to(rt, alloc, table, seat, GREETING, bytes)?;
+    assert!(rt; answer == Ok(Said::Act(wanted)), "at {bytes:?}");
+    Ok(())
+}
+
+/// Sees that a session that is ready has this fault for these bytes.
+fn refuses(
+    rt: &impl Abort,
+    alloc: Global,
+    table: &Table,
+    seat: usize,
+    bytes: &[u8],
+    wanted: SessionFault,
+) -> Result<(), Fail> {
+    let answer = answer_to(rt, alloc, table, seat, GREETING, bytes)?;
+    assert!(rt; answer == Err(wanted), "at {bytes:?}");
+    Ok(())
 }
 
 /// Whether a session is ready after this first line; else it is closed.
 fn is_greeted(rt: &impl Abort, alloc: Global, table: &Table, line: &[u8]) -> Result<bool, Fail> {
     match answer_to(rt, alloc, table, 1, b"", line)? {
         Ok(said) => {
-            assert_eq!(rt; said, Said::Ready, "at {line:?}");
+            assert!(rt; said == Said::Ready, "at {line:?}");
             Ok(true)
         }
         Err(fault) => {
-            assert_eq!(rt; fault, SessionFault::BadVersion, "at {line:?}");
+            assert!(rt; fault == SessionFault::BadVersion, "at {line:?}");
             Ok(false)
         }
     }
@@ -123,25 +141,28 @@ fn first_lines(rt: HostRuntime) -> Result<(), Fail> {
         (&b"\n"[..], false),
     ] {
         let greeted = is_greeted(&rt, rt.alloc(), &table, line)?;
-        assert_eq!(rt; greeted, ready, "at {line:?}");
+        assert!(rt; greeted == ready, "at {line:?}");
     }
     Ok(())
 }
 
 #[test]
 fn acts(rt: HostRuntime) -> Result<(), Fail> {
-    let table = table_after(&rt, rt.alloc(), &[])?;
-    let line = b"MATCHSTATE:1:0::|8hTc:c\r\n";
-    let answer = answer_to(&rt, rt.alloc(), &table, 1, GREETING, line)?;
-    assert_eq!(rt; answer, Ok(Said::Act(act(0, Action::Call))));
+    let alloc = rt.alloc();
+    let table = table_after(&rt, alloc, &[])?;
+    acts_by(
+        &rt,
+        alloc,
+        &table,
+        1,
+        b"MATCHSTATE:1:0::|8hTc:c\r\n",
+        act(0, Action::Call),
+    )?;
     let line = b"# call\n;\r\nMATCHSTATE:1:0::|8hTc:c\n";
-    let answer = answer_to(&rt, rt.alloc(), &table, 1, GREETING, line)?;
-    assert_eq!(rt; answer, Ok(Said::Act(act(0, Action::Call))));
-    let table = table_after(&rt, rt.alloc(), &[Action::Call])?;
+    acts_by(&rt, alloc, &table, 1, line, act(0, Action::Call))?;
+    let table = table_after(&rt, alloc, &[Action::Call])?;
     let line = b"MATCHSTATE:0:0:c:TdAs|:c\r\n";
-    let answer = answer_to(&rt, rt.alloc(), &table, 0, GREETING, line)?;
-    assert_eq!(rt; answer, Ok(Said::Act(act(1, Action::Call))));
-    Ok(())
+    acts_by(&rt, alloc, &table, 0, line, act(1, Action::Call))
 }
 
 const ACTIONS: [Action; 3] = [Action::Raise(20), Action::Raise(30), Action::Raise(40)];
@@ -160,8 +181,7 @@ fn faults(rt: HostRuntime) -> Result<(), Fail> {
         (1, &b"MATCHSTATE:0:0::TdAs|:c\r\n"[..], not_current),
         (0, &b"MATCHSTATE:0:0::TdAs|:c\r\n"[..], no_turn),
     ] {
-        let told = fault_told(&rt, rt.alloc(), &dealt, seat, line)?;
-        assert_eq!(rt; told, fault, "at {line:?}");
+        refuses(&rt, rt.alloc(), &dealt, seat, line, fault)?;
     }
     let no_fold = SessionFault::Illegal(ActFault::FoldNotFacing);
     let called = table_after(&rt, rt.alloc(), &[Action::Call])?;
@@ -169,28 +189,25 @@ fn faults(rt: HostRuntime) -> Result<(), Fail> {
         (1, &b"MATCHSTATE:1:0::|8hTc:c\n"[..], not_current),
         (0, &b"MATCHSTATE:0:0:c:TdAs|:f\r\n"[..], no_fold),
     ] {
-        let told = fault_told(&rt, rt.alloc(), &called, seat, line)?;
-        assert_eq!(rt; told, fault, "at {line:?}");
+        refuses(&rt, rt.alloc(), &called, seat, line, fault)?;
     }
     Ok(())
 }
 
 #[test]
 fn faults_at_other_tables(rt: HostRuntime) -> Result<(), Fail> {
-    let game = game_def::read(L2).expect(&rt, "a game");
-    let undealt = Table::new(rt.alloc(), game, 1);
+    let alloc = rt.alloc();
+    let game = game(&rt, L2);
+    let undealt = Table::new(alloc, game, 1);
     let line = b"MATCHSTATE:1:0::|8hTc:c\n";
-    let told = fault_told(&rt, rt.alloc(), &undealt, 1, line)?;
-    assert_eq!(rt; told, SessionFault::NotCurrent);
-    let raised = table_after(&rt, rt.alloc(), &ACTIONS)?;
+    refuses(&rt, alloc, &undealt, 1, line, SessionFault::NotCurrent)?;
+    let raised = table_after(&rt, alloc, &ACTIONS)?;
     let line = b"MATCHSTATE:0:0:rrr:TdAs|:r\r\n";
-    let told = fault_told(&rt, rt.alloc(), &raised, 0, line)?;
-    assert_eq!(rt; told, SessionFault::Illegal(ActFault::TooManyRaises));
-    let folded = table_after(&rt, rt.alloc(), &[Action::Fold])?;
+    let no_raise = SessionFault::Illegal(ActFault::TooManyRaises);
+    refuses(&rt, alloc, &raised, 0, line, no_raise)?;
+    let folded = table_after(&rt, alloc, &[Action::Fold])?;
     let line = b"MATCHSTATE:1:0:f:|8hTc:c\r\n";
-    let told = fault_told(&rt, rt.alloc(), &folded, 1, line)?;
-    assert_eq!(rt; told, SessionFault::NotYourTurn);
-    Ok(())
+    refuses(&rt, alloc, &folded, 1, line, SessionFault::NotYourTurn)
 }
 
 #[test]
@@ -200,30 +217,38 @@ fn closed_sessions(rt: HostRuntime) -> Result<(), Fail> {
     session.reserve(4097)?;
     session.feed_reserved(b"#");
     session.feed_reserved(&[b'x'; 4095]);
-    assert_eq!(rt; ask(&rt, &mut session, &table), None);
-    session.feed(b"\nVERSION:2.0.0\n")?;
-    assert_eq!(rt; ask(&rt, &mut session, &table), Some(Ok(Said::Ready)));
-    session.feed(b"#")?;
-    session.feed(&[b'x'; 4096])?;
-    assert_eq!(rt;
-        ask(&rt, &mut session, &table),
-        Some(Err(SessionFault::LineTooLong))
+    answers(&rt, &mut session, &table, None);
+    feed(&mut session, b"\nVERSION:2.0.0\n")?;
+    answers(&rt, &mut session, &table, Some(Ok(Said::Ready)));
+    feed(&mut session, b"#")?;
+    feed(&mut session, &[b'x'; 4096])?;
+    answers(
+        &rt,
+        &mut session,
+        &table,
+        Some(Err(SessionFault::LineTooLong)),
     );
     assert!(rt; session.is_closed());
-    session.feed(b"\nVERSION:2.0.0\n")?;
-    assert_eq!(rt;
-        ask(&rt, &mut session, &table),
-        Some(Err(SessionFault::LineTooLong))
+    feed(&mut session, b"\nVERSION:2.0.0\n")?;
+    answers(
+        &rt,
+        &mut session,
+        &table,
+        Some(Err(SessionFault::LineTooLong)),
     );
     let mut refused = Session::new(rt.alloc(), 1);
-    refused.feed(b"VERSION:1.0.0\nVERSION:2.0.0\n")?;
-    assert_eq!(rt;
-        ask(&rt, &mut refused, &table),
-        Some(Err(SessionFault::BadVersion))
+    feed(&mut refused, b"VERSION:1.0.0\nVERSION:2.0.0\n")?;
+    answers(
+        &rt,
+        &mut refused,
+        &table,
+        Some(Err(SessionFault::BadVersion)),
     );
-    assert_eq!(rt;
-        ask(&rt, &mut refused, &table),
-        Some(Err(SessionFault::BadVersion))
+    answers(
+        &rt,
+        &mut refused,
+        &table,
+        Some(Err(SessionFault::BadVersion)),
     );
     Ok(())
 }
@@ -232,13 +257,13 @@ fn closed_sessions(rt: HostRuntime) -> Result<(), Fail> {
 fn each_answer_takes_a_line_feed(rt: HostRuntime) -> Result<(), Fail> {
     let table = table_after(&rt, rt.alloc(), &[])?;
     let piece = b"VERSION:2.0.0\r\n# one\nHELLO\nMATCH";
-    assert_eq!(rt; line_feeds(piece), 3);
+    assert!(rt; line_feeds(piece) == 3);
     let mut session = Session::new(rt.alloc(), 1);
-    session.feed(piece)?;
+    feed(&mut session, piece)?;
     for waiting in [3, 2, 0] {
-        assert_eq!(rt; session.line_feeds(), waiting);
+        assert!(rt; session.line_feeds() == waiting);
         let answered = ask(&rt, &mut session, &table).is_some();
-        assert_eq!(rt; answered, waiting > 0);
+        assert!(rt; answered == (waiting > 0));
     }
     Ok(())
 }
@@ -252,17 +277,17 @@ fn refused_memory_changes_nothing(rt: HostRuntime) -> Result<(), Fail> {
         &b".0.0\nMATCHSTATE:1:0::|"[..],
         &b"8hTc:c\n"[..],
     ] {
-        if session.feed(piece).is_err() {
-            assert!(rt; session.feed(piece).is_ok(), "the second time");
+        if feed(&mut session, piece).is_err() {
+            assert!(rt; feed(&mut session, piece).is_ok(), "the second time");
         }
     }
     if session.reserve(5000).is_err() {
         assert!(rt; session.reserve(5000).is_ok(), "the second time");
     }
     let called = Ok(Said::Act(act(0, Action::Call)));
-    assert_eq!(rt; ask(&rt, &mut session, &table), Some(Ok(Said::Ready)));
-    assert_eq!(rt; ask(&rt, &mut session, &table), Some(called));
-    assert_eq!(rt; ask(&rt, &mut session, &table), None);
+    answers(&rt, &mut session, &table, Some(Ok(Said::Ready)));
+    answers(&rt, &mut session, &table, Some(called));
+    answers(&rt, &mut session, &table, None);
     Ok(())
 }
 

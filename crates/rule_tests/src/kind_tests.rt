@@ -1,14 +1,11 @@
-use crate::{Config, Source};
+use crate::samples::{L2, game};
 use card_core::{Card, Deal};
+use dealer_kind::{Config, Source};
 use game_def::GameDef;
 use match_log::{Name, SeatNames};
 use std::alloc::Global;
 use std::process::Abort;
 use std::test::Fail;
-
-/// Two players, limit.
-const L2: &[u8] =
-    b"GAMEDEF\nlimit\nnumPlayers = 2\nnumRounds = 4\nblind = 10 5\nraiseSize = 10 10 20 20\nfirstPlayer = 2 1 1 1\nmaxRaises = 3 4 4 4\nnumSuits = 4\nnumRanks = 13\nnumHoleCards = 2\nnumBoardCards = 0 3 1 1\nEND GAMEDEF\n";
 
 /// `TdAs|8hTc/2c8c3h/9c/Kh`.
 fn ten_ace(rt: &impl Abort) -> Deal {
@@ -26,10 +23,6 @@ fn ten_ace(rt: &impl Abort) -> Deal {
     Deal::new(2, &cards).expect(rt, "nine cards for two players")
 }
 
-fn game(rt: &impl Abort) -> GameDef {
-    game_def::read(L2).expect(rt, "a game")
-}
-
 fn listed(alloc: Global, deal: Deal) -> Result<Source, Fail> {
     Ok(Source::Listed(vec![in alloc; deal]?))
 }
@@ -44,7 +37,7 @@ fn config(
     let name = Name::new(b"m").expect(rt, "a name");
     let names = SeatNames::read(b"alice|bob", 2).expect(rt, "names");
     let word = b"l2.game".to_vec(alloc)?;
-    Ok(Config::new(game(rt), name, word, names, hands, sources))
+    Ok(Config::new(game(rt, L2), name, word, names, hands, sources))
 }
 
 #[test]

@@ -1,6 +1,6 @@
 use Rattle.std.proofs.Common.{rules}
 use Rattle.std.specs.List.{IsDistinct}
-use Rattle.hand_rank.proofs.tests.best_of_seven_cards.Goals as goal
+use Rattle.rule_tests.proofs.rank_tests.best_of_seven_cards.Goals as goal
 
 pub best-three_pairs-requires-clause-distinct : goal.best-three_pairs-requires-clause-distinct
 unfolding IsDistinct

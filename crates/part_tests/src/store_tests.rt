@@ -1,7 +1,7 @@
 ghost use Rattle.paxos_wire.specs.Fits.{IsInRange};
 
-use super::*;
 use paxos_wire::{Ballot, read_command};
+use promise_store::*;
 use slot_log::Command;
 use std::alloc::Global;
 use std::fs;

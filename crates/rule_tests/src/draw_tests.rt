@@ -1,5 +1,5 @@
-use crate::draw;
 use card_core::Deal;
+use deck_draw::draw;
 
 /// Whether a text has a deal's cards in order; bars and slashes only part them.
 fn is_written(text: &str, deal: &Deal) -> bool {

@@ -1,7 +1,7 @@
 ghost use Rattle.std.specs.Prelude.{◌≡◌, ◌<◌};
 
-use crate::{Chosen, Learner};
 use betting::Action;
+use learner::{Chosen, Learner};
 use paxos_wire::Ballot;
 use slot_log::{Command, SlotFault};
 use std::process::Abort;

@@ -1,22 +1,8 @@
-use crate::{Key, MatchFault, MatchFile, Outage};
+use crate::samples::L2;
+use match_file::{Key, MatchFault, MatchFile, Outage};
 use std::alloc::{AllocError, Global};
 use std::process::Abort;
 use std::test::Fail;
-
-const L2: &[u8] = b"GAMEDEF
-limit
-numPlayers = 2
-numRounds = 4
-blind = 10 5
-raiseSize = 10 10 20 20
-firstPlayer = 2 1 1 1
-maxRaises = 3 4 4 4
-numSuits = 4
-numRanks = 13
-numHoleCards = 2
-numBoardCards = 0 3 1 1
-END GAMEDEF
-";
 
 /// A game whose second stack is no more than the greatest blind, in line 5.
 const LOW_STACK: &[u8] = b"GAMEDEF

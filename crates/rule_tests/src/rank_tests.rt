@@ -1,22 +1,19 @@
 ghost use Rattle.std.specs.Prelude.{◌<◌, nat_eq};
 ghost use Rattle.std.specs.List.{All, IsDistinct};
 
-use crate::{HandValue, best_of_all_fives, best_of_seven, value_of_five};
+use crate::samples::card;
 use card_core::Card;
+use hand_rank::{HandValue, best_of_all_fives, best_of_seven, value_of_five};
 use std::process::Abort;
-
-fn card(rt: &impl Abort, text: [u8; 2]) -> Card {
-    Card::from_text(text).expect(rt, "a card")
-}
 
 fn value(rt: &impl Abort, cards: [[u8; 2]; 5]) -> HandValue {
     let [a, b, c, d, e] = cards;
     value_of_five(&[
-        card(rt, a),
-        card(rt, b),
-        card(rt, c),
-        card(rt, d),
-        card(rt, e),
+        card(rt, &a),
+        card(rt, &b),
+        card(rt, &c),
+        card(rt, &d),
+        card(rt, &e),
     ])
 }
 

@@ -1,54 +1,18 @@
-use crate::{
+use crate::samples::{L2, N2, game};
+use betting::Action;
+use game_def::GameDef;
+use matchstate::{
     BettingText, LineFault, MOST_BETTING, MOST_LINE, betting_text, betting_text_reserved,
     position_of, read, read_action, read_answer, read_betting, read_deal, read_shown, seat_line,
     seat_line_reserved, seat_view, write, write_reserved,
 };
-use betting::Action;
-use game_def::GameDef;
 use slot_log::{Command, Effect, Table};
 use std::process::Abort;
 use std::test::Fail;
 
-const L2: &[u8] = b"GAMEDEF
-limit
-numPlayers = 2
-numRounds = 4
-blind = 10 5
-raiseSize = 10 10 20 20
-firstPlayer = 2 1 1 1
-maxRaises = 3 4 4 4
-numSuits = 4
-numRanks = 13
-numHoleCards = 2
-numBoardCards = 0 3 1 1
-END GAMEDEF
-";
-
-const N2: &[u8] = b"GAMEDEF
-nolimit
-numPlayers = 2
-numRounds = 4
-stack = 20000 20000
-blind = 100 50
-firstPlayer = 2 1 1 1
-numSuits = 4
-numRanks = 13
-numHoleCards = 2
-numBoardCards = 0 3 1 1
-END GAMEDEF
-";
-
-fn game(rt: &impl Abort) -> GameDef {
-    game_def::read(L2).expect(rt, "a game")
-}
-
-fn no_limit_game(rt: &impl Abort) -> GameDef {
-    game_def::read(N2).expect(rt, "a game")
-}
-
 #[test]
 fn a_seat_sees_its_own_cards(rt: HostRuntime) -> Result<(), Fail> {
-    let game = game(&rt);
+    let game = game(&rt, L2);
     let mut table = Table::new(rt.alloc(), game, 1);
     let deal = read_deal(b"TdAs|8hTc/2c8c3h/9c/Kh", 2).expect(&rt, "a deal");
     assert_eq!(rt;
@@ -64,7 +28,7 @@ fn a_seat_sees_its_own_cards(rt: HostRuntime) -> Result<(), Fail> {
 
 #[test]
 fn all_seats_share_one_betting_text(rt: HostRuntime) -> Result<(), Fail> {
-    let game = game(&rt);
+    let game = game(&rt, L2);
     let mut table = Table::new(rt.alloc(), game, 1);
     let deal = read_deal(b"TdAs|8hTc/2c8c3h/9c/Kh", 2).expect(&rt, "a deal");
     table.apply(&Command::Deal { hand: 0, deal })?;
@@ -92,7 +56,7 @@ fn all_seats_share_one_betting_text(rt: HostRuntime) -> Result<(), Fail> {
 
 #[test]
 fn room_is_made_once_for_a_line(rt: HostRuntime) -> Result<(), Fail> {
-    let game = game(&rt);
+    let game = game(&rt, L2);
     let view = read(b"MATCHSTATE:0:0:rrrc/:TdAs|/2c8c3h", &game)
         .ok()
         .expect(&rt, "a line");
@@ -111,7 +75,7 @@ fn room_is_made_once_for_a_line(rt: HostRuntime) -> Result<(), Fail> {
 
 #[test]
 fn lines_read_as_they_are_written(rt: HostRuntime) -> Result<(), Fail> {
-    let game = game(&rt);
+    let game = game(&rt, L2);
     for text in [
         &b"MATCHSTATE:0:0:rrrc/:TdAs|/2c8c3h"[..],
         &b"MATCHSTATE:1:0:f:|8hTc"[..],
@@ -127,7 +91,7 @@ fn lines_read_as_they_are_written(rt: HostRuntime) -> Result<(), Fail> {
 
 #[test]
 fn other_texts_are_no_lines(rt: HostRuntime) {
-    let game = game(&rt);
+    let game = game(&rt, L2);
     for (text, fault) in [
         (&b"HELLO:1:2:3:4"[..], LineFault::NotMatchstate),
         (&b"HELLO"[..], LineFault::NotMatchstate),
@@ -153,7 +117,7 @@ fn other_texts_are_no_lines(rt: HostRuntime) {
 
 #[test]
 fn amounts_have_no_leading_zeros(rt: HostRuntime) {
-    let game = no_limit_game(&rt);
+    let game = game(&rt, N2);
     for text in [
         &b"MATCHSTATE:0:0:r0200:TdAs|"[..],
         &b"MATCHSTATE:0:0:r0:TdAs|"[..],
@@ -165,7 +129,7 @@ fn amounts_have_no_leading_zeros(rt: HostRuntime) {
 
 #[test]
 fn betting_reads_and_prints(rt: HostRuntime) -> Result<(), Fail> {
-    let game = game(&rt);
+    let game = game(&rt, L2);
     let play = read_betting(b"rrrc/cc/", &game).expect(&rt, "a play");
     assert_eq!(rt; play.actions().len(), 6);
     assert!(rt; play.actions().first() == Some(&Action::Raise(20)));
@@ -192,7 +156,7 @@ fn a_text_shows_a_deal_up_to_the_flop(rt: HostRuntime) {
 
 #[test]
 fn answers_read_as_views_and_actions(rt: HostRuntime) {
-    let game = game(&rt);
+    let game = game(&rt, L2);
     for (text, position, action) in [
         (&b"MATCHSTATE:1:0::|8hTc:c"[..], 1, Action::Call),
         (&b"MATCHSTATE:1:0::|8hTc:r"[..], 1, Action::Raise(20)),
@@ -208,7 +172,7 @@ fn answers_read_as_views_and_actions(rt: HostRuntime) {
 
 #[test]
 fn other_texts_are_no_answers(rt: HostRuntime) {
-    let game = game(&rt);
+    let game = game(&rt, L2);
     for (text, fault) in [
         (&b"HELLO"[..], LineFault::NotMatchstate),
         (&b"MATCHSTATE:1:0::|8hTc"[..], LineFault::NotMatchstate),
@@ -226,7 +190,7 @@ fn other_texts_are_no_answers(rt: HostRuntime) {
 
 #[test]
 fn raises_of_a_no_limit_game_have_an_amount(rt: HostRuntime) {
-    let game = no_limit_game(&rt);
+    let game = game(&rt, N2);
     for (text, amount) in [
         (&b"MATCHSTATE:1:0::|8hTc:r0"[..], 0),
         (&b"MATCHSTATE:1:0::|8hTc:r200"[..], 200),
@@ -246,7 +210,7 @@ fn raises_of_a_no_limit_game_have_an_amount(rt: HostRuntime) {
 
 #[test]
 fn a_view_shows_its_cards(rt: HostRuntime) {
-    let game = game(&rt);
+    let game = game(&rt, L2);
     let deal = read_deal(b"TdAs|8hTc/2c8c3h/9c/Kh", 2).expect(&rt, "a deal");
     let view = read(b"MATCHSTATE:0:0:rrrc/:TdAs|/2c8c3h", &game)
         .ok()
@@ -264,7 +228,7 @@ fn a_view_shows_its_cards(rt: HostRuntime) {
 
 #[test]
 fn views_differ_in_what_they_show(rt: HostRuntime) {
-    let game = game(&rt);
+    let game = game(&rt, L2);
     let view = read(b"MATCHSTATE:0:0:rrrc/:TdAs|/2c8c3h", &game)
         .ok()
         .expect(&rt, "a line");

@@ -1,32 +1,17 @@
 ghost use Rattle.std.specs.Prelude.{◌≤◌};
 
-use crate::{
+use crate::samples::{L2, L3, N2, N3, game};
+use card_core::Deal;
+use game_def::GameDef;
+use match_log::{
     LogFault, LogFaultKind, Name, SeatNames, check, further_lines, header, is_game_word,
     score_line, state_line,
 };
-use card_core::Deal;
-use game_def::GameDef;
 use matchstate::{read_betting, read_deal};
 use slot_log::{Command, Table};
 use std::alloc::Global;
 use std::process::Abort;
 use std::test::Fail;
-
-const L2: &[u8] =
-    b"GAMEDEF\nlimit\nnumPlayers = 2\nnumRounds = 4\nblind = 10 5\nraiseSize = 10 10 20 20\nfirstPlayer = 2 1 1 1\nmaxRaises = 3 4 4 4\nnumSuits = 4\nnumRanks = 13\nnumHoleCards = 2\nnumBoardCards = 0 3 1 1\nEND GAMEDEF\n";
-
-const N2: &[u8] =
-    b"GAMEDEF\nnolimit\nnumPlayers = 2\nnumRounds = 4\nstack = 20000 20000\nblind = 100 50\nfirstPlayer = 2 1 1 1\nnumSuits = 4\nnumRanks = 13\nnumHoleCards = 2\nnumBoardCards = 0 3 1 1\nEND GAMEDEF\n";
-
-const L3: &[u8] =
-    b"GAMEDEF\nlimit\nnumPlayers = 3\nnumRounds = 4\nblind = 5 10 0\nraiseSize = 10 10 20 20\nfirstPlayer = 3 1 1 1\nmaxRaises = 3 4 4 4\nnumSuits = 4\nnumRanks = 13\nnumHoleCards = 2\nnumBoardCards = 0 3 1 1\nEND GAMEDEF\n";
-
-const N3: &[u8] =
-    b"GAMEDEF\nnolimit\nnumPlayers = 3\nnumRounds = 4\nstack = 1000 150 5000\nblind = 50 100 0\nfirstPlayer = 3 1 1 1\nnumSuits = 4\nnumRanks = 13\nnumHoleCards = 2\nnumBoardCards = 0 3 1 1\nEND GAMEDEF\n";
-
-fn game(rt: &impl Abort, text: &[u8]) -> GameDef {
-    game_def::read(text).expect(rt, "a game")
-}
 
 fn seats(rt: &impl Abort, text: &[u8], players: usize) -> SeatNames
     requires least { 2 ≤ players }

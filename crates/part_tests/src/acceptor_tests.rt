@@ -1,6 +1,6 @@
 ghost use Rattle.std.specs.Prelude.{◌≤◌};
 
-use crate::{AcceptAnswer, Acceptor, PrepareAnswer};
+use acceptor::{AcceptAnswer, Acceptor, PrepareAnswer};
 use betting::Action;
 use paxos_wire::{Ballot, Entries, Entry};
 use promise_store::{Disk, MemoryDisk, OnceDisk, Store, StoreFault};

@@ -1,9 +1,9 @@
-use crate::{
+use betting::Action;
+use paxos_wire::{
     Ballot, Entries, Entry, Feed, FrameFault, Message, ballot_bytes, command_bytes, decode, encode,
     encode_reserved, frame_len, read_ballot, read_command, read_slot, read_stream, slot_bytes,
     write_ballot, write_ballot_reserved, write_command, write_command_reserved,
 };
-use betting::Action;
 use slot_log::Command;
 use std::alloc::Global;
 use std::process::Abort;

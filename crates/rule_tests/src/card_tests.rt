@@ -1,10 +1,7 @@
-use crate::{Card, Deal, DealFault, are_distinct};
+use crate::samples::card;
+use card_core::{Card, Deal, DealFault, are_distinct};
 use std::process::Abort;
 use std::test::Fail;
-
-fn card(rt: &impl Abort, text: &[u8; 2]) -> Card {
-    Card::from_text(*text).expect(rt, "a card")
-}
 
 /// `TdAs|8hTc/2c8c3h/9c/Kh`.
 fn heads_up(rt: &impl Abort) -> [Card; 9] {

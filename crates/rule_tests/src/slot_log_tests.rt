@@ -1,29 +1,10 @@
-use super::*;
+use crate::samples::{L2, card, game};
 use betting::{ActFault, Action};
 use card_core::{Card, Deal};
+use slot_log::*;
 use std::alloc::AllocError;
 use std::process::Abort;
 use std::test::Fail;
-
-/// Two players, limit.
-const L2: &[u8] = b"GAMEDEF
-limit
-numPlayers = 2
-numRounds = 4
-blind = 10 5
-raiseSize = 10 10 20 20
-firstPlayer = 2 1 1 1
-maxRaises = 3 4 4 4
-numSuits = 4
-numRanks = 13
-numHoleCards = 2
-numBoardCards = 0 3 1 1
-END GAMEDEF
-";
-
-fn card(rt: &impl Abort, text: &[u8; 2]) -> Card {
-    Card::from_text(*text).expect(rt, "a card")
-}
 
 /// `TdAs|8hTc/2c8c3h/9c/Kh`.
 fn first_deal(rt: &impl Abort) -> Deal {
@@ -129,7 +110,7 @@ fn put(
 
 #[test]
 fn a_match_of_two_hands(rt: HostRuntime) -> Result<(), Fail> {
-    let game = game_def::read(L2).expect(&rt, "a game");
+    let game = game(&rt, L2);
     let mut table = Table::new(rt.alloc(), game, 2);
     assert!(rt; table.game().players() == 2);
     assert!(rt; table.hands() == 2);
@@ -185,7 +166,7 @@ fn a_match_of_two_hands(rt: HostRuntime) -> Result<(), Fail> {
 
 #[test]
 fn a_command_that_does_not_fit_does_nothing(rt: HostRuntime) -> Result<(), Fail> {
-    let game = game_def::read(L2).expect(&rt, "a game");
+    let game = game(&rt, L2);
     let mut table = Table::new(rt.alloc(), game, 1);
     let [deal, deal_of_the_next_hand, deal_for_three] = [
         Command::Deal {
@@ -238,7 +219,7 @@ fn a_command_that_does_not_fit_does_nothing(rt: HostRuntime) -> Result<(), Fail>
 
 #[test]
 fn refused_memory_changes_nothing(rt: HostRuntime) {
-    let game = game_def::read(L2).expect(&rt, "a game");
+    let game = game(&rt, L2);
     let mut table = Table::new(rt.alloc(), game, 10);
     for hand in 0..10 {
         let deal = Command::Deal {

@@ -1,64 +1,7 @@
-use super::*;
+use crate::samples::{L2, L3, N2, N3};
+use game_def::*;
 use std::alloc::{AllocError, Global};
 use std::test::*;
-
-const L2: &[u8] = b"GAMEDEF
-limit
-numPlayers = 2
-numRounds = 4
-blind = 10 5
-raiseSize = 10 10 20 20
-firstPlayer = 2 1 1 1
-maxRaises = 3 4 4 4
-numSuits = 4
-numRanks = 13
-numHoleCards = 2
-numBoardCards = 0 3 1 1
-END GAMEDEF
-";
-
-const N2: &[u8] = b"GAMEDEF
-nolimit
-numPlayers = 2
-numRounds = 4
-stack = 20000 20000
-blind = 100 50
-firstPlayer = 2 1 1 1
-numSuits = 4
-numRanks = 13
-numHoleCards = 2
-numBoardCards = 0 3 1 1
-END GAMEDEF
-";
-
-const L3: &[u8] = b"GAMEDEF
-limit
-numPlayers = 3
-numRounds = 4
-blind = 5 10 0
-raiseSize = 10 10 20 20
-firstPlayer = 3 1 1 1
-maxRaises = 3 4 4 4
-numSuits = 4
-numRanks = 13
-numHoleCards = 2
-numBoardCards = 0 3 1 1
-END GAMEDEF
-";
-
-const N3: &[u8] = b"GAMEDEF
-nolimit
-numPlayers = 3
-numRounds = 4
-stack = 1000 150 5000
-blind = 50 100 0
-firstPlayer = 3 1 1 1
-numSuits = 4
-numRanks = 13
-numHoleCards = 2
-numBoardCards = 0 3 1 1
-END GAMEDEF
-";
 
 /// L2 in capitals, with tabs, CR, blank lines and comments, and without any `=`.
 const L2_LOUD: &[u8] = b"# heads-up

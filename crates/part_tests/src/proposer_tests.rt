@@ -1,6 +1,6 @@
-use crate::{Accept, BallotsSpent, Prepare, ProposeFault, Proposer};
 use betting::Action;
 use paxos_wire::{Ballot, Entries, Entry};
+use proposer::{Accept, BallotsSpent, Prepare, ProposeFault, Proposer};
 use slot_log::Command;
 use std::process::Abort;
 use std::test::Fail;

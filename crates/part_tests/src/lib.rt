@@ -1,0 +1,15 @@
+//! Tests of the parts of a node (`proposer`, `acceptor`, `learner`) and of the journal on its disk (`promise_store`), by
+//! their public calls alone, a module a crate.
+//!
+//! They stand in a crate of their own, which has nothing else: a crate with tests is proved twice, once without them and
+//! once with all of it, and each crate that is tested here is so proved once.
+#![tactic(auto)]
+
+#[cfg(test)]
+mod acceptor_tests;
+#[cfg(test)]
+mod learner_tests;
+#[cfg(test)]
+mod proposer_tests;
+#[cfg(test)]
+mod store_tests;

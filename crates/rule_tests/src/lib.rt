@@ -1,0 +1,40 @@
+//! Tests of cards, games, lines, logs and frames, by the public calls of their crates alone: from `card_core` to
+//! `match_file` and `play_script`, a module a crate, and `samples` with the games and cards that they share.
+//!
+//! They stand in a crate of their own, which has nothing else: a crate with tests is proved twice, once without them and
+//! once with all of it, and each crate that is tested here is so proved once.
+//!
+//! Each call with a long contract is made in one small function that says nothing of its own, so that what the prover
+//! knows there isn't carried through all tests.
+#![tactic(auto)]
+
+#[cfg(test)]
+mod betting_tests;
+#[cfg(test)]
+mod card_tests;
+#[cfg(test)]
+mod draw_tests;
+#[cfg(test)]
+mod game_def_tests;
+#[cfg(test)]
+mod kind_tests;
+#[cfg(test)]
+mod line_tests;
+#[cfg(test)]
+mod match_file_tests;
+#[cfg(test)]
+mod match_log_tests;
+#[cfg(test)]
+mod pot_tests;
+#[cfg(test)]
+mod rank_tests;
+#[cfg(test)]
+mod samples;
+#[cfg(test)]
+mod script_tests;
+#[cfg(test)]
+mod session_tests;
+#[cfg(test)]
+mod slot_log_tests;
+#[cfg(test)]
+mod wire_tests;
