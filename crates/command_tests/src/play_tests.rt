@@ -360,7 +360,7 @@ fn answers_random_scripts(rt: &impl Abort, alloc: Global, seeds: Range<u64>) -> 
     Ok(())
 }
 
-// A thousand in two halves, since a test has a minute.
+/// A thousand in two halves, since a test has a minute.
 #[test]
 fn random_scripts_are_answered(rt: HostRuntime) -> Result<(), Fail> {
     answers_random_scripts(&rt, rt.alloc(), 0..500)

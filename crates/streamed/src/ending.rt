@@ -10,8 +10,8 @@ use promise_store::StoreFault;
 use std::alloc::AllocError;
 use std::{fmt, io};
 
-/// How a run of the program ends: its exit status, and what standard error gets. All commands end in one of
-/// these ways.
+/// How a run of the program ends: its exit status, and what standard error gets. All commands but `serve` end in
+/// one of these ways.
 #[derive(Clone, Copy, Debug)]
 pub enum Ending {
     /// All was done; of `check`: the log is that of a match of the game which is over. Status 0.

@@ -1,4 +1,4 @@
-//! The commands `hand` and `check` over a reader and a writer, and how a run of any command ends.
+//! The commands `hand` and `check` over a reader and a writer, and how a run of any command but `serve` ends.
 //!
 //! `hand_run` runs one dealer over a script: each line is read as soon as it is whole, taken by a `slot_log::Table`, and
 //! answered before the next one is awaited; a `GameWord` asks for the match's log too. `check_run` reads all of a log and
