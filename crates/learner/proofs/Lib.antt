@@ -1,6 +1,7 @@
 pub mod Same
 pub mod Counting
 pub mod Cells
+pub mod Rooms
 pub mod Kept
 pub mod Known
 pub mod Places

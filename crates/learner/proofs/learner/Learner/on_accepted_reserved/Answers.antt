@@ -1,7 +1,8 @@
 use Rattle.std.proofs.Common.{◌≡◌, ◌%◌, ap, arith}
 use Rattle.learner.specs.Learning.{Learning}
-use Rattle.learner.specs.Cells.{spares, room_by}
-use Rattle.learner.proofs.Cells.{least_most, room_at}
+use Rattle.learner.specs.Cells.{room_by}
+use Rattle.learner.proofs.Cells.{room_at}
+use Rattle.learner.proofs.Rooms.{room_within}
 use Rattle.learner.proofs.learner.Learner.on_accepted_reserved.Goals as goal
 
 pub hear-requires-clause-cell_room : goal.hear-requires-clause-cell_room
@@ -12,6 +13,5 @@ hear-requires-clause-cell_room c =
 
 pub hear-requires-clause-log_room : goal.hear-requires-clause-log_room
 hear-requires-clause-log_room c =
-    let was : room_by c.self.inside.log.room c.self.inside.cells.items ≡ c.args.self.now.room = ap (λ (x : Learning). x.room) c.self.view_is in
-    let most = least_most c.self.inside.log.room (spares c.self.inside.cells.items) in
-    omega (arith, was, most, c.requires.room)
+    let most = room_within c.self.inside c.args.self.now c.self.view_is in
+    omega (arith, most, c.requires.room)
