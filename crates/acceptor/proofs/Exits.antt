@@ -42,21 +42,6 @@ module _ {D : Type 0} (g : Ghosts D) where
   reads_nothing : (a : D) → OnlyReads g a a
   reads_nothing a = record { seen = refl; begun = refl; images = λ image left. left; during = λ t image left. inl left; counts = omega arith }
 
-  -- nothing was read yet
-  pub read_nothing : {T : Type 0} (answer : model.Store → T) (store : Store D) (given : T)
-      → ((held : model.Store) → given ≡ answer held) → Read g answer store store (Ok given)
-  read_nothing answer store given is = record {
-    ok = λ head held keeps honest. (is held, keeps);
-    reads = reads_nothing (disk_of store);
-    held = refl;
-    failed = λ e. absurd (cc);
-    memory = λ e. absurd (cc);
-    only = λ head held keeps honest. tt;
-    closed = λ e. absurd (cc);
-    stays = refl;
-    faults = tt;
-  }
-
   -- what the store's index shows
   pub read_seen : {T : Type 0} (answer : model.Store → T) (store : Store D) (given : T)
       → ((head : List ℕ) (held : model.Store) → Keeps g head held store → IsTrue g.is_honest → given ≡ answer held) → Read g answer store store (Ok given)
@@ -71,6 +56,11 @@ module _ {D : Type 0} (g : Ghosts D) where
     stays = refl;
     faults = tt;
   }
+
+  -- nothing was read yet
+  pub read_nothing : {T : Type 0} (answer : model.Store → T) (store : Store D) (given : T)
+      → ((held : model.Store) → given ≡ answer held) → Read g answer store store (Ok given)
+  read_nothing answer store given is = read_seen answer store given (λ head held keeps honest. is held)
 
   -- one more was read
   pub read_on : {T U V : Type 0} (first : model.Store → T) (then : model.Store → U) (answer : model.Store → V) (before between after : Store D) (x : T) (y : U) (z : V)

@@ -109,9 +109,6 @@ told_count store first (suc n) =
     let one = at_most_one (first + n) (store.votes (first + n)) in
     omega (arith, length-append (told_from store first n) (told_at (first + n) (store.votes (first + n))))
 
-pub told_fits : (store : Store) (first n : ℕ) → length (told_from store first n) ≤ n
-told_fits = told_count
-
 all_append : {A : Type 0} (P : A → Type 0) (xs ys : List A) → AllByRecursion P xs → AllByRecursion P ys → AllByRecursion P (xs ++ ys)
 all_append P [] ys h k = k
 all_append P (x ∷ xs) ys h k = (h.0, all_append P xs ys h.1 k)

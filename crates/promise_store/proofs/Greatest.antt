@@ -18,6 +18,7 @@ use Rattle.promise_store.specs.Journals.{gated}
 use Rattle.promise_store.specs.Holding.{Holding, nothing_held, greater, with_record, held_from, holding, store_of, stored}
 use Rattle.promise_store.specs.Laws.{ballot_of_record, IsGreatest, IsLastOfGreatest}
 use Rattle.promise_store.proofs.Holding.{store_with}
+use Rattle.promise_store.proofs.Entries.{some_is}
 use Rattle.promise_store.proofs.Backing.{vote_of, below_cases, promise_raised, promise_kept, most_most}
 
 -- the model's store with these records more
@@ -84,13 +85,6 @@ at_slot votes slot new = let test : (slot == slot) ≡ true = grind (arith, nat_
 
 off_slot : (votes : ℕ → Option Vote) (slot other : ℕ) (new : Option Vote) → (other ≡ slot → ⊥) → put votes slot new other ≡ votes other
 off_slot votes slot other new apart = let test : (other == slot) ≡ false = grind (arith, nat_tests, apart) in rw test refl
-
-some_is : {A : Type 0} (a b : A) → Some a ≡ Some b → a ≡ b
-some_is {A} a b same = ap of same
-  where
-    of : Option A → A
-    of (Some x) = x
-    of None = a
 
 abbrev is_vote : Record → Bool
 is_vote (Promised ballot) = false

@@ -88,16 +88,17 @@ no_reading tail count (p ∷ ps) enough no_gate no_record opens =
       ap (λ (l : List ℕ). take count l) split ∙ take_front front more.1 count fits ∙ ap (λ (l : List ℕ). 1 ∷ l) (append_assoc (record_text p) (more.0 ∷ []) (take (count - length front) more.1)),
     )
 
--- a part of a window
-pub part : (window file : List ℕ) (start filled at : ℕ) → start ≤ at → at ≤ start + filled → take filled window ≡ take filled (drop start file)
+-- a part of a window that shows what the file gave, as reads left it
+pub part : (window file : List ℕ) {seen : List ℕ} (start filled at : ℕ) → start ≤ at → at ≤ start + filled → take filled window ≡ take filled (drop start seen) → seen ≡ file
     → take (filled - (at - start)) (drop (at - start) window) ≡ take (start + filled - at) (drop at file)
-part window file start filled at low high same =
+part window file start filled at low high shows same =
     let k = at - start in
     let m = filled - k in
     let all : filled ≡ k + m = omega (arith, low, high) in
     let place : start + k ≡ at = omega (arith, low) in
     let count : m ≡ start + filled - at = omega (arith, low, high) in
-    sym (drop-take k m window) ∙ ap (λ (n : ℕ). drop k (take n window)) (sym all) ∙ ap (λ (l : List ℕ). drop k l) same ∙ ap (λ (n : ℕ). drop k (take n (drop start file))) all
+    sym (drop-take k m window) ∙ ap (λ (n : ℕ). drop k (take n window)) (sym all) ∙ ap (λ (l : List ℕ). drop k l) (shows ∙ ap (λ (l : List ℕ). take filled (drop start l)) same)
+    ∙ ap (λ (n : ℕ). drop k (take n (drop start file))) all
     ∙ drop-take k m (drop start file) ∙ ap (λ (l : List ℕ). take m l) (drop-drop k start file) ∙ (λ i. take (count i) (drop (place i) file))
 
 -- a reading that has come so far

@@ -18,8 +18,7 @@ returns-in-Broken-clause-broken g c honest was =
     let i = c.records.invariant in
     let s = c.in-Ok.ensures.shows in
     let count = shown.0 + shown.1 - at in
-    let same : take shown.1 c.show.new.window ≡ take shown.1 (drop shown.0 file) = c.in-Ok.ensures.window honest ∙ ap (λ (l : List ℕ). take shown.1 (drop shown.0 l)) i.reads.seen in
-    let window : take (shown.1 - (at - shown.0)) (drop (at - shown.0) c.show.new.window) ≡ take count (drop at file) = part c.show.new.window file shown.0 shown.1 at s.0 s.1 same in
+    let window : take (shown.1 - (at - shown.0)) (drop (at - shown.0) c.show.new.window) ≡ take count (drop at file) = part c.show.new.window file shown.0 shown.1 at s.0 s.1 (c.in-Ok.ensures.window honest) i.reads.seen in
     let enough : IsEnough (drop at file) count = elim s.4 [ inl many ↦ inl many | inr all ↦ inr (omega (arith, all, length-drop at file, c.requires.len honest)) ] in
     reading_broken (drop 8 file) (drop at file) i.so_far.records i.so_far.each (i.so_far.text honest) count enough
     (subst (λ (l : List ℕ). IsStep l Broken) window c.in-Broken.ensures)
@@ -32,8 +31,7 @@ returns-in-Shut-clause-shut g c honest =
     let i = c.records.invariant in
     let s = c.in-Ok.ensures.shows in
     let count = shown.0 + shown.1 - at in
-    let same : take shown.1 c.show.new.window ≡ take shown.1 (drop shown.0 file) = c.in-Ok.ensures.window honest ∙ ap (λ (l : List ℕ). take shown.1 (drop shown.0 l)) i.reads.seen in
-    let window : take (shown.1 - (at - shown.0)) (drop (at - shown.0) c.show.new.window) ≡ take count (drop at file) = part c.show.new.window file shown.0 shown.1 at s.0 s.1 same in
+    let window : take (shown.1 - (at - shown.0)) (drop (at - shown.0) c.show.new.window) ≡ take count (drop at file) = part c.show.new.window file shown.0 shown.1 at s.0 s.1 (c.in-Ok.ensures.window honest) i.reads.seen in
     shut_further (drop at file) count (subst (λ (l : List ℕ). IsStep l Shut) window c.in-Shut.ensures)
 
 pub records-preserved : goal.records-preserved
@@ -61,8 +59,7 @@ records-preserved g c =
         records = i.so_far.records ++ r ∷ [];
         each = each_push i.so_far.records r i.so_far.each found.0.2;
         text = λ honest.
-            let same : take shown.1 c.show.new.window ≡ take shown.1 (drop shown.0 file) = c.in-Ok.ensures.window honest ∙ ap (λ (l : List ℕ). take shown.1 (drop shown.0 l)) i.reads.seen in
-            let window : bytes ≡ take count (drop at file) = part c.show.new.window file shown.0 shown.1 at s.0 s.1 same in
+            let window : bytes ≡ take count (drop at file) = part c.show.new.window file shown.0 shown.1 at s.0 s.1 (c.in-Ok.ensures.window honest) i.reads.seen in
             reading_more (drop 8 file) (drop at file) i.so_far.records i.so_far.each (i.so_far.text honest) count r size (subst (λ (l : List ℕ). IsStep l (Found r size)) window found)
             ∙ ap (λ (l : List ℕ). gated (i.so_far.records ++ r ∷ []) ++ l) (drop-drop (size + 3) at file);
         place = omega (arith, i.so_far.place, found.1, length_gated_push i.so_far.records r);
