@@ -1,7 +1,8 @@
 -- A table keeps its invariant where a hand begins.
-use Rattle.std.proofs.Common.{◌≡◌, ℕ, ◌+◌, ◌<◌, ◌≤◌, Bool, true, false, not, cond, List, [], ◌∷◌, ◌++◌, map, reverse, length, Option, Some, None, refl, sym, ap, ◌∙◌, subst, arith, IfNone}
+use Rattle.std.proofs.Common.{◌≡◌, ℕ, ◌+◌, ◌<◌, ◌≤◌, true, false, not, cond, List, [], ◌∷◌, ◌++◌, map, reverse, length, Option, Some, None, refl, sym, ap, ◌∙◌, subst, arith, IfNone}
 use Rattle.std.specs.List.{AllByRecursion}
 use Rattle.std.specs.Option.{option_to_list}
+use Rattle.std.proofs.lemmas.Bool.{not-false}
 use Rattle.std.proofs.lemmas.List.{length-append}
 use Rattle.game_def.specs.Game.{Game}
 use Rattle.betting.specs.declared.action.Action.{Action}
@@ -20,10 +21,6 @@ use Rattle.slot_log.proofs.Fitting.{fits_from_none}
 AllByRecursion-push : {X : Type 0} (P : X → Type 0) (xs : List X) (x : X) → AllByRecursion P xs → P x → AllByRecursion P (xs ++ x ∷ [])
 AllByRecursion-push P [] x all here = (here, tt)
 AllByRecursion-push P (y ∷ xs) x all here = (all.0, AllByRecursion-push P xs x all.1 here)
-
-from_not : (b : Bool) → not b ≡ false → b ≡ true
-from_not true e = refl
-from_not false e = cc
 
 -- a table with a newest hand
 kept_with : (u : Inside) (hand : PlayedHand) → u.newest ≡ Some hand → 1 ≤ u.count → u.count ≤ 10000 → length u.earlier.items + 1 ≤ u.count → AllByRecursion (IsOf u.game) u.earlier.items → IsOf u.game hand → AllByRecursion (λ h. is_finished u.game (hand_of h) ≡ true) u.earlier.items → IsKept u
@@ -55,7 +52,7 @@ module _ (t u : Inside) (hand : PlayedHand) (kept : IsKept t) (game : u.game ≡
   kept_next last some items none_runs goes_on =
       let dealt = some_dealt t last some in
       let stopped : not (is_finished t.game (hand_of last)) ≡ false = rw dealt at none_runs in
-      let over : is_finished t.game (hand_of last) ≡ true = from_not (is_finished t.game (hand_of last)) stopped in
+      let over : is_finished t.game (hand_of last) ≡ true = not-false (is_finished t.game (hand_of last)) stopped in
       let counted = ap (finished_count t.game) dealt ∙ finished_with t.game (hand_of last) (reverse (map hand_of t.earlier.items)) in
       let before = finished_before t.game t.earlier.items kept.finished in
       let one : ◌≡◌ {A = ℕ} (cond (is_finished t.game (hand_of last)) 1 0) 1 = rw over refl in

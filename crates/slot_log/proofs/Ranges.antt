@@ -1,6 +1,7 @@
 -- The hands that commands make, and the ranges of a command that fits them.
-use Rattle.std.proofs.Common.{◌≡◌, ℕ, zero, suc, ◌≤◌, Bool, true, false, not, List, [], ◌∷◌, ◌++◌, length, reverse, get_or, Option, Some, None, refl, sym, ap, ◌∙◌, arith}
+use Rattle.std.proofs.Common.{◌≡◌, ℕ, zero, suc, ◌≤◌, true, false, List, [], ◌∷◌, ◌++◌, length, reverse, get_or, Option, Some, None, refl, sym, ap, ◌∙◌, arith}
 use Rattle.std.specs.List.{AllByRecursion, slice_get}
+use Rattle.std.proofs.lemmas.Bool.{not-false}
 use Rattle.std.proofs.lemmas.List.{length-reverse}
 use Rattle.game_def.specs.Game.{Game, IsGame, stack_of, most_chips}
 use Rattle.betting.specs.declared.action.Action.{Action}
@@ -24,13 +25,9 @@ fits_without_reason law game count hands command = (none_from_fits law game coun
 
 -- ---- the hands that commands make
 
-from_not : (b : Bool) → not b ≡ false → b ≡ true
-from_not true e = refl
-from_not false e = cc
-
 all_finished : (game : Game) (hands : List Hand) → AreEarlierFinished game hands → is_running game hands ≡ false → AllByRecursion (λ hand. is_finished game hand ≡ true) hands
 all_finished game [] earlier none_runs = tt
-all_finished game (newest ∷ hands) earlier none_runs = (from_not (is_finished game newest) none_runs, earlier)
+all_finished game (newest ∷ hands) earlier none_runs = (not-false (is_finished game newest) none_runs, earlier)
 
 after_fitting : (game : Game) (count : ℕ) (hands : List Hand) (command : Command) → AreHands game count hands → Fits game count hands command → AreHands game count (with_command hands command)
 after_fitting game count hands (Deal hand deal) are fits =

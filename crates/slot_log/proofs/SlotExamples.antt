@@ -1,6 +1,6 @@
 -- Worked logs of slots that pin their definitions; each computes. In front stand the commands of slots 0 and 1,
 -- beyond those of slots 3 and 4; nothing is known at slot 2.
-use Rattle.std.proofs.Common.{◌≡◌, ℕ, ◌+◌, ◌<◌, ◌≤◌, List, [], ◌∷◌, Some, None, refl, arith, codes}
+use Rattle.std.proofs.Common.{◌≡◌, ℕ, ◌<◌, ◌≤◌, List, [], ◌∷◌, Some, None, refl, arith, codes}
 use Rattle.betting.specs.declared.action.Action.TheVariants.{Call}
 use Rattle.slot_log.specs.declared.command.Command.{Command}
 use Rattle.slot_log.specs.declared.command.Command.TheVariants.{Act}
