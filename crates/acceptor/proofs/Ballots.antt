@@ -1,19 +1,14 @@
 -- The tests of ballots, and what they tell.
-use Rattle.std.proofs.Common.{◌≡◌, inl, inr, Bool, true, false, refl, sym, ap, arith, ◌==◌, if◌then◌else◌}
-use Rattle.std.specs.Prelude.{nat_lt, ◌↔◌}
-use Rattle.std.proofs.lemmas.Bool.{ltb-true, ltb-false, lt-ltb, le-ltb, eqb-true, eqb-false, eq-eqb}
+use Rattle.std.proofs.Common.{◌≡◌, inl, inr, Bool, true, false, refl, sym, ◌∙◌, ap, arith, ◌==◌, if◌then◌else◌}
+use Rattle.std.specs.Prelude.{◌↔◌}
+use Rattle.std.proofs.lemmas.Bool.{lt-ltb, le-ltb, eqb-true, eqb-false, eq-eqb}
 use Rattle.paxos_wire.specs.declared.ballot.Ballot.{Ballot}
 use Rattle.protocol_model.specs.Ballots.{Below, AtMost}
 use Rattle.paxos_wire.specs.Order.{is_below, is_same_ballot}
-
-below_by : (a b : Ballot) (x y z : Bool) → nat_lt a.round b.round ≡ x → (a.round == b.round) ≡ y → nat_lt a.node b.node ≡ z → (if x then true else if y then z else false) ≡ true → Below a b
-below_by a b true y z ex ey ez h = inl (ltb-true a.round b.round ex)
-below_by a b false true true ex ey ez h = inr (eqb-true a.round b.round ey, ltb-true a.node b.node ez)
-below_by a b false true false ex ey ez h = absurd (cc)
-below_by a b false false z ex ey ez h = absurd (cc)
+use Rattle.promise_store.proofs.Backing.{below_cases}
 
 pub is_below_means : (a b : Ballot) → is_below a b ≡ true → Below a b
-is_below_means a b h = below_by a b _ _ _ refl refl refl h
+is_below_means a b h = elim (below_cases a b) [ inl below ↦ below.1 | inr most ↦ let e : true ≡ false = sym h ∙ most.0 in absurd (cc) ]
 
 pub is_below_if : (a b : Ballot) → Below a b → is_below a b ≡ true
 is_below_if a b (inl lower) = rw (lt-ltb a.round b.round lower) refl
@@ -29,15 +24,9 @@ false_by a b isnt false e = refl
 pub is_below_not : (a b : Ballot) → ¬ Below a b → is_below a b ≡ false
 is_below_not a b isnt = false_by a b isnt (is_below a b) refl
 
-at_most_by : (a b : Ballot) (x y z : Bool) → nat_lt a.round b.round ≡ x → (a.round == b.round) ≡ y → nat_lt a.node b.node ≡ z → (if x then true else if y then z else false) ≡ false → AtMost b a
-at_most_by a b true y z ex ey ez h = absurd (cc)
-at_most_by a b false true true ex ey ez h = absurd (cc)
-at_most_by a b false true false ex ey ez h = let e = eqb-true a.round b.round ey in let l = ltb-false a.node b.node ez in inr (sym e, l)
-at_most_by a b false false z ex ey ez h = let l = ltb-false a.round b.round ex in let e = eqb-false a.round b.round ey in inl (grind arith)
-
 -- what isn't below is at least
 pub at_most_if_not : (a b : Ballot) → is_below a b ≡ false → AtMost b a
-at_most_if_not a b h = at_most_by a b _ _ _ refl refl refl h
+at_most_if_not a b h = elim (below_cases a b) [ inl below ↦ let e : true ≡ false = sym below.0 ∙ h in absurd (cc) | inr most ↦ most.1 ]
 
 pub not_below : (a b : Ballot) → AtMost a b → ¬ Below b a
 not_below a b (inl lower) (inl other) = omega arith
@@ -51,9 +40,6 @@ at_most_below a b (inr same) = let l = same.1 in inr (same.0, omega arith)
 
 pub at_most_itself : (a : Ballot) → AtMost a a
 at_most_itself a = inr (refl, omega arith)
-
-pub at_most_trans : (a b c : Ballot) → AtMost a b → AtMost b c → AtMost a c
-at_most_trans a b c h k = grind arith
 
 same_by : (a b : Ballot) (x y : Bool) → (a.round == b.round) ≡ x → (a.node == b.node) ≡ y → (if x then y else false) ≡ true → a ≡ b
 same_by a b true true ex ey h = λ i. record { round = eqb-true a.round b.round ex i; node = eqb-true a.node b.node ey i }
