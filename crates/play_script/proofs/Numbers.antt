@@ -7,12 +7,10 @@ use Rattle.std.specs.Str.{all_ascii_digits, IsUtf8}
 use Rattle.std.specs.Str.Parse.{digits_value, ParsesUnsigned, AllDigits}
 use Rattle.std.proofs.lemmas.Fmt.{IsAscii-from_digits}
 use Rattle.std.proofs.lemmas.Str.{IsUtf8-from_ascii}
-use Rattle.std.proofs.lemmas.Str.Parse.{IsNumeralModel, numerals_by_value, tells_all_ascii_digits, parse_digits, parse_gives, digit_from_value}
+use Rattle.std.proofs.lemmas.Str.Parse.{parse_digits, parse_gives, digit_from_value}
 use Rattle.matchstate.specs.Free.{IsFreeOf}
+use Rattle.matchstate.proofs.Words.{decimals_are_numerals}
 use Rattle.play_script.specs.Orders.{IsNumber}
-
-own : IsNumeralModel (λ ds. all_ascii_digits ds ≡ true) (digits_value 10)
-own = numerals_by_value (λ ds. all_ascii_digits ds ≡ true) tells_all_ascii_digits
 
 listed : (bs : List ℕ) → all_ascii_digits bs ≡ list_all is_ascii_digit bs
 listed [] = refl
@@ -23,16 +21,16 @@ digits_listed bs digits = listed bs ∙ digits
 
 pub number_found : {E : Type 0} (bs : List ℕ) (r : Result ℕ E) (n : ℕ) → ParsesUnsigned 64 10 bs r → r ≡ Ok n → list_all is_ascii_digit bs ≡ true → 1 ≤ length bs → IsNumber bs n
 number_found {E} bs r n parsed is digits some =
-    let told = parse_digits own 64 bs r parsed (digits_listed bs digits) in
+    let told = parse_digits decimals_are_numerals 64 bs r parsed (digits_listed bs digits) in
     let here = subst (λ (s : Result ℕ E). OkIff s ((0 < length bs) × (digits_value 10 bs < 2 ^ 64)) (digits_value 10 bs)) is told in
     record { digits = digits_listed bs digits; some = some; value = sym here.1; fits = subst (λ (v : ℕ). v < 2 ^ 64) (sym here.1) here.0.1 }
 
 pub number_absent : {E : Type 0} (bs : List ℕ) (r : Result ℕ E) → ParsesUnsigned 64 10 bs r → ((n : ℕ) → ¬ (r ≡ Ok n)) → (n : ℕ) → ¬ (IsNumber bs n)
 number_absent bs r parsed none =
-    λ n is. none n (parse_gives own 64 bs r parsed is.digits is.some (subst (λ (v : ℕ). v < 2 ^ 64) (sym is.value) is.fits) ∙ ap Ok is.value)
+    λ n is. none n (parse_gives decimals_are_numerals 64 bs r parsed is.digits is.some (subst (λ (v : ℕ). v < 2 ^ 64) (sym is.value) is.fits) ∙ ap Ok is.value)
 
 pub digits_are_text : (bs : List ℕ) → list_all is_ascii_digit bs ≡ true → IsUtf8 bs
-digits_are_text bs digits = IsUtf8-from_ascii bs (IsAscii-from_digits bs (own.to bs (digits_listed bs digits)))
+digits_are_text bs digits = IsUtf8-from_ascii bs (IsAscii-from_digits bs (decimals_are_numerals.to bs (digits_listed bs digits)))
 
 -- no space stands among digits
 free_of_space : (bs : List ℕ) → AllDigits 10 bs → IsFreeOf 32 bs
@@ -43,4 +41,4 @@ free_of_space (b ∷ bs) digits =
     (apart, free_of_space bs digits.1)
 
 pub number_free : (bs : List ℕ) (n : ℕ) → IsNumber bs n → IsFreeOf 32 bs
-number_free bs n is = free_of_space bs (own.to bs is.digits)
+number_free bs n is = free_of_space bs (decimals_are_numerals.to bs is.digits)
