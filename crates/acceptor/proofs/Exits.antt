@@ -57,11 +57,6 @@ module _ {D : Type 0} (g : Ghosts D) where
     faults = tt;
   }
 
-  -- nothing was read yet
-  pub read_nothing : {T : Type 0} (answer : model.Store → T) (store : Store D) (given : T)
-      → ((held : model.Store) → given ≡ answer held) → Read g answer store store (Ok given)
-  read_nothing answer store given is = read_seen answer store given (λ head held keeps honest. is held)
-
   -- one more was read
   pub read_on : {T U V : Type 0} (first : model.Store → T) (then : model.Store → U) (answer : model.Store → V) (before between after : Store D) (x : T) (y : U) (z : V)
       → Read g first before between (Ok x) → Read g then between after (Ok y) → ((held : model.Store) → x ≡ first held → y ≡ then held → z ≡ answer held)
