@@ -35,7 +35,7 @@ pub(crate) fn send_promise(
         slot,
         entries: *entries,
     };
-    let _ = frame_len(&message);
+    let _len = frame_len(&message);
     send(frames, to, &message);
 }
 
@@ -61,7 +61,7 @@ pub(crate) fn send_refusal(
         slot,
         promised,
     };
-    let _ = frame_len(&message);
+    let _len = frame_len(&message);
     send(frames, to, &message);
 }
 

@@ -25,7 +25,7 @@ pub(crate) fn ask(frames: &mut Texts<u8>, to: u8, slot: u32)
     ensures grows { Grows frames.old frames.new 1 46 }
 {
     let message = Message::Ask { slot };
-    let _ = frame_len(&message);
+    let _len = frame_len(&message);
     send(frames, to, &message);
 }
 
@@ -59,7 +59,7 @@ fn tell_slot(frames: &mut Texts<u8>, to: u8, log: &SlotLog, slot: u32)
                 slot,
                 command: *command,
             };
-            let _ = frame_len(&message);
+            let _len = frame_len(&message);
             send(frames, to, &message);
         }
     }

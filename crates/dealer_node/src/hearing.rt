@@ -56,7 +56,7 @@ fn forward(frames: &mut Texts<u8>, post: &Post, promised: Ballot, act: &Command)
 {
     if is_others(post, promised) {
         let message = Message::Forward { command: *act };
-        let _ = frame_len(&message);
+        let _len = frame_len(&message);
         send(frames, promised.node, &message);
     }
 }

@@ -40,7 +40,7 @@ pub(crate) fn send_to_others(frames: &mut Texts<u8>, nodes: u8, number: u8, mess
     ensures len { length frames.new.texts ≤ length frames.old.texts + nodes }
     ensures size { byte_total frames.new.texts ≤ byte_total frames.old.texts + 46 * nodes }
 {
-    let _ = frame_len(message);
+    let _len = frame_len(message);
     for to in 0..nodes {
         if to != number {
             send(frames, to, message);

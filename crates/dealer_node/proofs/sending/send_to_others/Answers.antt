@@ -20,20 +20,20 @@ loop-to-init c = record {
 
 pub send-requires-clause-bytes : goal.send-requires-clause-bytes
 send-requires-clause-bytes c =
-    let short = c.frame_len.ensures.single c.requires.single in
-    omega (arith, short, c.frame_len.ensures.value, c.requires.bytes)
+    let short = c.frame_len-len.ensures.single c.requires.single in
+    omega (arith, short, c.frame_len-len.ensures.value, c.requires.bytes)
 
 pub loop-to-preserved : goal.loop-to-preserved
 loop-to-preserved c =
-    let short = c.frame_len.ensures.single c.requires.single in
+    let short = c.frame_len-len.ensures.single c.requires.single in
     elim c.if-to-number.branch [
       | then-to-number w ↦ record {
         texts = sent_on c.args.frames.now.texts c.loop-to.frames.texts c.if-to-number.frames.texts c.loop-to.to c.args.number c.args.message.now c.loop-to.invariant.texts (ap (λ (f : Written ℕ). f.texts) w.frames-is ∙ w.send.ensures.texts) w.if-to-number.true;
         fits = to_one_more c.loop-to.to c.args.number c.args.message.now c.loop-to.invariant.fits w.send.ensures.message w.if-to-number.true;
         text_room = omega (arith, ap (λ (f : Written ℕ). f.text_room) w.frames-is);
-        byte_room = omega (arith, short, c.frame_len.ensures.value, ap (λ (f : Written ℕ). f.byte_room) w.frames-is);
+        byte_room = omega (arith, short, c.frame_len-len.ensures.value, ap (λ (f : Written ℕ). f.byte_room) w.frames-is);
         len = omega (arith, ap (λ (f : Written ℕ). length f.texts) w.frames-is);
-        size = omega (arith, short, c.frame_len.ensures.value, ap (λ (f : Written ℕ). byte_total f.texts) w.frames-is);
+        size = omega (arith, short, c.frame_len-len.ensures.value, ap (λ (f : Written ℕ). byte_total f.texts) w.frames-is);
       }
       | else-to-number w ↦ record {
         texts = kept_on c.args.frames.now.texts c.loop-to.frames.texts c.if-to-number.frames.texts c.loop-to.to c.args.number c.args.message.now c.loop-to.invariant.texts (ap (λ (f : Written ℕ). f.texts) w.frames-is) w.if-to-number.false;
