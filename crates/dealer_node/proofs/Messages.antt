@@ -32,7 +32,7 @@ both_messages first next a b = λ frame there. both_said first next a b frame th
 
 -- ---- to all nodes but one
 
-one_more : (other node : ℕ) (message : Message) → to_first (other + 1) node message ≡ to_first other node message ++ (if other == node then [] else one other message)
+pub one_more : (other node : ℕ) (message : Message) → to_first (other + 1) node message ≡ to_first other node message ++ (if other == node then [] else one other message)
 unfolding to_first
 one_more other node message = rw add-one refl
 

@@ -1,5 +1,5 @@
 -- Frames to all nodes but one.
-use Rattle.std.proofs.Common.{◌≡◌, ℕ, ◌+◌, Bool, true, false, List, [], ◌∷◌, ◌++◌, refl, ap, sym, ◌∙◌, append_assoc, add-one, eq-eqb}
+use Rattle.std.proofs.Common.{◌≡◌, ℕ, ◌+◌, Bool, true, false, List, [], ◌∷◌, ◌++◌, refl, ap, sym, ◌∙◌, append_assoc, eq-eqb}
 use Rattle.std.specs.Prelude.{map, ◌==◌, if◌then◌else◌}
 use Rattle.std.proofs.lemmas.Bool.{ne_eqb}
 use Rattle.std.proofs.lemmas.List.{map-append, append-nil}
@@ -7,14 +7,11 @@ use Rattle.paxos_wire.specs.declared.message.Message.{Message}
 use Rattle.node_rules.specs.Sending.{Frame, one, to_first}
 use Rattle.dealer_node.specs.Texts.{Marked}
 use Rattle.dealer_node.specs.Turned.{posted}
+use Rattle.dealer_node.proofs.Messages.{one_more}
 
 pub to_none : (node : ℕ) (message : Message) → map posted (to_first 0 node message) ≡ []
 unfolding to_first
 to_none node message = refl
-
-one_more : (other node : ℕ) (message : Message) → to_first (other + 1) node message ≡ to_first other node message ++ (if other == node then [] else one other message)
-unfolding to_first
-one_more other node message = rw add-one refl
 
 -- the next node gets one
 pub sent_on : (old texts new : List (Marked ℕ)) (other node : ℕ) (message : Message) → texts ≡ old ++ map posted (to_first other node message) → new ≡ texts ++ map posted (one other message)

@@ -38,9 +38,20 @@ no_text_bytes made nothing = ap (λ (t : Told). byte_total t.shown) nothing
 no_faults : (made : Made) → told_by made ≡ nothing_told → vec_len made.faults ≡ 0
 no_faults made nothing = let none : length made.faults.items ≡ 0 = ap (λ (t : Told). length t.faults) nothing in omega (arith, none, made.faults.ok.0)
 
+-- what so many votes and frames make at most, with what is learned of them
+abbrev need_of : Running → ℕ → ℕ → Need
+need_of running votes frames = record {
+  frames = frames;
+  frame_bytes = 46 * frames;
+  texts = 11 * (ahead_of running + votes);
+  text_bytes = 45716 * (ahead_of running + votes);
+  faults = 0;
+}
+
 module _ {D : Type 0} where
-  pub close_left : (up : Up D) (made : Made) → told_by made ≡ nothing_told → HasCallRoom up made (close_need up.running) 1 → HasLeft up.running made (close_need up.running) 1 10
-  close_left up made nothing room = record {
+  call_left : (up : Up D) (made : Made) (votes frames : ℕ) → told_by made ≡ nothing_told → HasCallRoom up made (need_of up.running votes frames) votes
+      → HasLeft up.running made (need_of up.running votes frames) votes frames
+  call_left up made votes frames nothing room = record {
     learn = record {
       learner = room.learner;
       table = room.table;
@@ -48,7 +59,7 @@ module _ {D : Type 0} where
       bytes = omega (arith, room.shown.text_bytes);
     };
     texts = room.shown.frames;
-    bytes = omega (arith, room.shown.frame_bytes);
+    bytes = room.shown.frame_bytes;
     frames_made = omega (arith, no_frames made nothing);
     bytes_made = omega (arith, no_bytes made nothing);
     texts_shown = omega (arith, no_texts made nothing);
@@ -56,22 +67,11 @@ module _ {D : Type 0} where
     faults_told = omega (arith, no_faults made nothing);
   }
 
+  pub close_left : (up : Up D) (made : Made) → told_by made ≡ nothing_told → HasCallRoom up made (close_need up.running) 1 → HasLeft up.running made (close_need up.running) 1 10
+  close_left up made nothing room = call_left up made 1 10 nothing room
+
   pub frame_left : (up : Up D) (made : Made) → told_by made ≡ nothing_told → HasCallRoom up made (frame_need up.running) 2 → HasLeft up.running made (frame_need up.running) 2 75
-  frame_left up made nothing room = record {
-    learn = record {
-      learner = room.learner;
-      table = room.table;
-      texts = omega (arith, room.shown.texts);
-      bytes = omega (arith, room.shown.text_bytes);
-    };
-    texts = room.shown.frames;
-    bytes = omega (arith, room.shown.frame_bytes);
-    frames_made = omega (arith, no_frames made nothing);
-    bytes_made = omega (arith, no_bytes made nothing);
-    texts_shown = omega (arith, no_texts made nothing);
-    bytes_shown = omega (arith, no_text_bytes made nothing);
-    faults_told = omega (arith, no_faults made nothing);
-  }
+  frame_left up made nothing room = call_left up made 2 75 nothing room
 
   -- once the piece was heard
   pub line_left : (up after : Up D) (earlier later : Made) (limit : ℕ) → told_by earlier ≡ nothing_told → HasCallRoom up earlier (line_need up.running limit) 1
