@@ -143,6 +143,28 @@ begin_frame x s m bs r one sent other ballots =
     (got_knows x.given (dealer_in x) x.place (applied s) s (first_in x) m (highest s.seen bs) other
     (sees_more (first_in x).has m (first_in x).store.promise s.seen bs ballots (r.of.runs r.up).knows.seen) (r.of.runs r.up).knows)
 
+-- an answer to a Prepare came, and the campaign is what it makes of it
+begin_answer : (x : Scope) (s : Standing) (m : Message) (bs : List Ballot) (campaign : Option Campaign) → Runs x s → x.messages ≡ m ∷ [] → In m x.world.ever → ballots_in m ≡ bs
+    → (IsProposer x.place.nodes x.place.node (first_in x) (front_of s) s.campaign → IsProposer x.place.nodes x.place.node (with_got (first_in x) m) (front_of s) campaign)
+    → Path x [] (hearing_of s (first_in x)) (applied s) (still (record s { seen = highest s.seen bs; campaign = campaign }))
+begin_answer x s m bs campaign r one sent ballots proposer =
+    begin_with x s (record s { seen = highest s.seen bs; campaign = campaign }) m r one sent refl r.up (r.of.runs r.up).unbegun refl
+    (record {
+      up = k.up;
+      store = k.store;
+      within = k.within;
+      proposer = proposer k.proposer;
+      learner = got_learner x.place.nodes (first_in x).has (first_in x).known m s k.learner;
+      pending = got_pending (dealer_in x) x.place.node (first_in x) m (applied s) s.pending k.pending;
+      places = k.places;
+      shown = k.shown;
+      seen = sees_more (first_in x).has m (first_in x).store.promise s.seen bs ballots k.seen;
+      proposals = got_proposed x.place.nodes x.place.node (applied s) (front_of s) (own_value x.place s) (first_in x).store (first_in x).has (first_in x).sent m k.proposals;
+    })
+  where
+    k : Knows (dealer_in x) x.place (applied s) s (first_in x)
+    k = (r.of.runs r.up).knows
+
 -- ---- a promise is got and counted
 
 some_is : (a b : Campaign) → ◌≡◌ {A = Option Campaign} (Some a) (Some b) → a ≡ b
@@ -197,25 +219,8 @@ pub begin_promise : (x : Scope) (s : Standing) (from : ℕ) (ballot : Ballot) (f
     → Path x [] (hearing_of s (first_in x)) (applied s)
     (still (record s { seen = highest s.seen bs; campaign = counting_from x.place.nodes s.campaign from ballot first told }))
 begin_promise x s from ballot first told bs r one sent ballots =
-    begin_with x s (record s { seen = highest s.seen bs; campaign = counting_from x.place.nodes s.campaign from ballot first told }) m r one sent refl r.up (r.of.runs r.up).unbegun refl
-    (record {
-      up = k.up;
-      store = k.store;
-      within = k.within;
-      proposer = promise_proposer x.given x.place.nodes x.place.node (first_in x) (front_of s) s.campaign from ballot first told k.proposer;
-      learner = got_learner x.place.nodes (first_in x).has (first_in x).known m s k.learner;
-      pending = got_pending (dealer_in x) x.place.node (first_in x) m (applied s) s.pending k.pending;
-      places = k.places;
-      shown = k.shown;
-      seen = sees_more (first_in x).has m (first_in x).store.promise s.seen bs ballots k.seen;
-      proposals = got_proposed x.place.nodes x.place.node (applied s) (front_of s) (own_value x.place s) (first_in x).store (first_in x).has (first_in x).sent m k.proposals;
-    })
-  where
-    m : Message
-    m = Promise from ballot first told
-
-    k : Knows (dealer_in x) x.place (applied s) s (first_in x)
-    k = (r.of.runs r.up).knows
+    begin_answer x s (Promise from ballot first told) bs (counting_from x.place.nodes s.campaign from ballot first told) r one sent ballots
+    (promise_proposer x.given x.place.nodes x.place.node (first_in x) (front_of s) s.campaign from ballot first told)
 
 -- ---- a refusal is got, and a ballot that is outbid is given up
 
@@ -264,25 +269,8 @@ pub begin_refusal : (x : Scope) (s : Standing) (from : ℕ) (refused : Ballot) (
     → ballots_in (Refuse from refused slot promised) ≡ bs
     → Path x [] (hearing_of s (first_in x)) (applied s) (still (record s { seen = highest s.seen bs; campaign = refused_from s.campaign promised }))
 begin_refusal x s from refused slot promised bs r one sent ballots =
-    begin_with x s (record s { seen = highest s.seen bs; campaign = refused_from s.campaign promised }) m r one sent refl r.up (r.of.runs r.up).unbegun refl
-    (record {
-      up = k.up;
-      store = k.store;
-      within = k.within;
-      proposer = refused_proposer x.given x.place.nodes x.place.node (first_in x) (front_of s) s.campaign from refused slot promised k.proposer;
-      learner = got_learner x.place.nodes (first_in x).has (first_in x).known m s k.learner;
-      pending = got_pending (dealer_in x) x.place.node (first_in x) m (applied s) s.pending k.pending;
-      places = k.places;
-      shown = k.shown;
-      seen = sees_more (first_in x).has m (first_in x).store.promise s.seen bs ballots k.seen;
-      proposals = got_proposed x.place.nodes x.place.node (applied s) (front_of s) (own_value x.place s) (first_in x).store (first_in x).has (first_in x).sent m k.proposals;
-    })
-  where
-    m : Message
-    m = Refuse from refused slot promised
-
-    k : Knows (dealer_in x) x.place (applied s) s (first_in x)
-    k = (r.of.runs r.up).knows
+    begin_answer x s (Refuse from refused slot promised) bs (refused_from s.campaign promised) r one sent ballots
+    (refused_proposer x.given x.place.nodes x.place.node (first_in x) (front_of s) s.campaign from refused slot promised)
 
 -- ---- stages one after another
 

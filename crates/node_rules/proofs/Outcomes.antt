@@ -28,7 +28,6 @@ use Rattle.learner.specs.Learning.{Learned, is_open, is_other, knowing, answer_t
 use Rattle.learner.specs.Counted.{IsOpen}
 use Rattle.seat_session.specs.Session.{Standing as Talk}
 use Rattle.seat_session.specs.declared.said.Said.{Said as Saying}
-use Rattle.seat_session.specs.declared.said.Said.TheVariants.{Ready, Act}
 use Rattle.seat_session.specs.declared.session_fault.SessionFault.{SessionFault}
 use Rattle.node_rules.specs.Standings.{Place, Standing, front_of, with_stored, idle, applied}
 use Rattle.node_rules.specs.Sending.{one, to_others}
@@ -49,6 +48,7 @@ use Rattle.node_rules.proofs.Paths.{Hearing, Scope, first_in, Path, Goes, never}
 use Rattle.node_rules.proofs.Beginning.{Runs, hearing_of, begin}
 use Rattle.node_rules.proofs.Framing.{stood, taken}
 use Rattle.node_rules.proofs.Ticking.{tick}
+use Rattle.node_rules.proofs.Sitting.{same_learned}
 use Rattle.node_rules.proofs.Hearing.{piece_sits}
 use Rattle.node_rules.proofs.Settled.{turn_is, Closes, gives_up, rests, makes, closes, behind_ok, asked_same}
 use Rattle.node_rules.proofs.Chaining.{scope_of, runs_in, ok_is}
@@ -368,15 +368,10 @@ tick_same place s u e = by_tests (is_over place s) (is_spent s) e
     by_tests false true h = absurd (cc)
     by_tests false false h = ap (λ (t : Turn). t.after.learned) (sym (turn_is _ u h))
 
-answer_same : (place : Place) (seat : ℕ) (said : Result Saying SessionFault) (s : Standing) → (answering place seat said s).after.learned ≡ s.learned
-answer_same place seat (Ok Ready) s = refl
-answer_same place seat (Ok (Act act)) s = refl
-answer_same place seat (Err fault) s = refl
-
 answers_same : (place : Place) (seat : ℕ) (answers : List (Result Saying SessionFault)) (t : Turn) → (answering_all place seat answers t).after.learned ≡ t.after.learned
 unfolding answering_all
 answers_same place seat [] t = refl
-answers_same place seat (said ∷ more_said) t = answers_same place seat more_said (joined t (answering place seat said t.after)) ∙ answer_same place seat said t.after
+answers_same place seat (said ∷ more_said) t = answers_same place seat more_said (joined t (answering place seat said t.after)) ∙ same_learned place seat said t.after
 
 piece_same : (place : Place) (seat : ℕ) (bytes : List ℕ) (talk : Option Talk) (s : Standing) (heard : Turn) → HearsPiece place seat bytes talk s heard → heard.after.learned ≡ s.learned
 piece_same place seat bytes None s heard h = ap (λ (t : Turn). t.after.learned) h

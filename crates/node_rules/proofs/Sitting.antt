@@ -170,7 +170,7 @@ answer x came heard t seat bytes cur new (Err fault) p seated here rest answers 
     (λ ends. subst (Shows x came p.node p.sent (applied t.after) (log_of x.place.setting (applied t.after))) (sym (append-nil t.shown)) (showing_so_far x came heard (applied t.after) t p ends))
 
 -- an answer changes nothing that is known, and no session
-same_learned : (place : Place) (seat : ℕ) (said : Result Saying SessionFault) (s : Standing) → (answering place seat said s).after.learned ≡ s.learned
+pub same_learned : (place : Place) (seat : ℕ) (said : Result Saying SessionFault) (s : Standing) → (answering place seat said s).after.learned ≡ s.learned
 same_learned place seat (Ok Ready) s = refl
 same_learned place seat (Ok (Act act)) s = refl
 same_learned place seat (Err fault) s = refl
