@@ -24,29 +24,9 @@ use Rattle.dealer_node.specs.Turned.{posted, printed}
 use Rattle.dealer_node.specs.Fitting.{AreMessages}
 use Rattle.dealer_node.specs.Scenes.{IsTableOf, IsScene}
 use Rattle.dealer_node.specs.Running.{IsRunning, IsTaken, GoesOn, CanLearn, Learns}
+use Rattle.node_rules.proofs.Passing.{all_applied, passed_all}
 use Rattle.dealer_node.proofs.Messages.{no_messages, both_messages}
 use Rattle.dealer_node.proofs.Telling.{told_with, frames_more, shown_more, told_more}
-
--- ---- all that was passed is applied
-
-all_applied : (setting : Setting) (talks : List (Option Talk)) (commands : List Command) (scene : Scene)
-    → (taking_all setting talks commands scene).applied ≡ reverse commands ++ scene.applied
-unfolding taking_all
-all_applied setting talks [] scene = refl
-all_applied setting talks (command ∷ later) scene =
-    all_applied setting talks later (taking setting talks command scene)
-    ∙ (sym (append_assoc (reverse later) (command ∷ []) scene.applied) ∙ ap (λ (l : List Command). l ++ scene.applied) (sym (reverse-append (command ∷ []) later)))
-
-drop_front : {A : Type 0} (xs ys : List A) → drop (length ys) (ys ++ xs) ≡ xs
-drop_front xs [] = refl
-drop_front xs (y ∷ ys) = drop_front xs ys
-
--- the commands that the front has passed, behind those before it, are all
-passed_all : (old new : Log) (later : List Command) → new.below ≡ later ++ old.below → reverse (passed old new) ++ old.below ≡ new.below
-passed_all old new later e =
-    let turned : reverse new.below ≡ reverse old.below ++ reverse later = ap (λ (l : List Command). reverse l) e ∙ reverse-append later old.below in
-    let rest : passed old new ≡ reverse later = ap (λ (l : List Command). drop (front old) l) turned ∙ (ap (λ k. drop k (reverse old.below ++ reverse later)) (sym (length-reverse old.below)) ∙ drop_front (reverse later) (reverse old.below)) in
-    ap (λ (l : List Command). reverse l ++ old.below) rest ∙ (ap (λ (l : List Command). l ++ old.below) (reverse-reverse later) ∙ sym e)
 
 -- ---- the turn of what was learned
 

@@ -10,6 +10,7 @@ mod Paths
 mod Steps
 mod Promising
 mod Showing
+pub mod Passing
 mod Settling
 mod Learning
 mod Voting

@@ -1,7 +1,7 @@
 -- Applying what the front has passed, on the path of a call.
 use Rattle.std.proofs.Common.{◌≡◌, ℕ, zero, suc, ◌<◌, ◌≤◌, Bool, true, false, if◌then◌else◌, List, [], ◌∷◌, ◌++◌, Option, Some, None, refl, sym, ap, subst, ◌∙◌, arith, length, drop, reverse, append_assoc}
 use Rattle.std.specs.Prelude.{slice_get, nat_lt}
-use Rattle.std.proofs.lemmas.List.{append-nil, reverse-append, reverse-reverse, length-reverse}
+use Rattle.std.proofs.lemmas.List.{append-nil, length-reverse}
 use Rattle.std.proofs.lemmas.Bool.{ltb-false}
 use Rattle.slot_log.specs.Slots.{Log, front, find, known_at}
 use Rattle.slot_log.specs.declared.command.Command.{Command}
@@ -22,6 +22,7 @@ use Rattle.node_rules.specs.Called.{AreShown, log_after}
 use Rattle.node_rules.proofs.Showing.{Shows, show_news, adds_nothing}
 use Rattle.node_rules.specs.Proposing.{own_value}
 use Rattle.node_rules.proofs.Proposed.{taken_proposed}
+use Rattle.node_rules.proofs.Passing.{all_applied, passed_all}
 use Rattle.node_rules.proofs.Paths.{Hearing, Scope, dealer_in, first_in, Path, never}
 
 -- ---- the node shows
@@ -197,25 +198,6 @@ loop x came heard t learned (c ∷ cs) scene p e =
     let l : length scene.applied < front learned.log = (let h = d.0 in let k = length-reverse learned.log.below in omega arith) in
     loop x came heard t learned cs (taking x.place.setting t.after.sessions c scene)
     (take x came heard t learned scene c p (below_front learned.log (length scene.applied) l ∙ d.1) l) d.2
-
-all_applied : (setting : Setting) (talks : List (Option Talk)) (cs : List Command) (scene : Scene)
-    → (taking_all setting talks cs scene).applied ≡ reverse cs ++ scene.applied
-unfolding taking_all
-all_applied setting talks [] scene = refl
-all_applied setting talks (c ∷ cs) scene =
-    all_applied setting talks cs (taking setting talks c scene)
-    ∙ (sym (append_assoc (reverse cs) (c ∷ []) scene.applied) ∙ ap (λ (l : List Command). l ++ scene.applied) (sym (reverse-append (c ∷ []) cs)))
-
-drop_front : {A : Type 0} (xs ys : List A) → drop (length ys) (ys ++ xs) ≡ xs
-drop_front xs [] = refl
-drop_front xs (y ∷ ys) = drop_front xs ys
-
--- the commands that the front has passed, behind those before it, are all
-passed_all : (old new : Log) (later : List Command) → new.below ≡ later ++ old.below → reverse (passed old new) ++ old.below ≡ new.below
-passed_all old new later e =
-    let turned : reverse new.below ≡ reverse old.below ++ reverse later = ap reverse e ∙ reverse-append later old.below in
-    let rest : passed old new ≡ reverse later = ap (drop (front old)) turned ∙ (ap (λ k. drop k (reverse old.below ++ reverse later)) (sym (length-reverse old.below)) ∙ drop_front (reverse later) (reverse old.below)) in
-    ap (λ (l : List Command). reverse l ++ old.below) rest ∙ (ap (λ (l : List Command). l ++ old.below) (reverse-reverse later) ∙ sym e)
 
 -- once this is known, with nothing of it shown, it is applied
 pub settle : (x : Scope) (came : List Arrival) (heard : Hearing) (t : Turn) (learned : Learned) (later : List Command)
