@@ -1,19 +1,17 @@
 -- What was learned is applied.
-use Rattle.std.proofs.Common.{◌≡◌, ℕ, ◌+◌, true≢false, List, [], ◌∷◌, ◌++◌, refl, ap, sym, ◌∙◌, subst, arith, length, drop, reverse, append_assoc}
-use Rattle.std.specs.Prelude.{map, Option, Result, Ok, Err, IsOk, IsErr}
-use Rattle.std.proofs.lemmas.List.{append-nil, reverse-append, reverse-reverse, length-reverse}
-use Rattle.slot_log.specs.Slots.{Log, front}
+use Rattle.std.proofs.Common.{◌≡◌, ℕ, ◌+◌, true≢false, List, ◌++◌, refl, ap, sym, ◌∙◌, subst, arith, drop, reverse}
+use Rattle.std.specs.Prelude.{map, Result, Ok, Err, IsOk, IsErr}
+use Rattle.std.proofs.lemmas.List.{append-nil}
+use Rattle.slot_log.specs.Slots.{front}
 use Rattle.slot_log.specs.declared.command.Command.{Command}
 use Rattle.slot_log.specs.declared.slot_fault.SlotFault.{SlotFault}
-use Rattle.seat_session.specs.Session.{Standing as Talk}
 use Rattle.learner.specs.Learning.{Learned, Learning}
-use Rattle.dealer_kind.specs.Kind.{Setting}
 use Rattle.protocol_model.specs.Stores.{Store}
 use Rattle.node_rules.specs.Standings.{Place, Standing, with_stored}
 use Rattle.node_rules.specs.Turns.{Turn, Conflict, sending, joined}
 use Rattle.node_rules.specs.Sending.{Frame}
 use Rattle.node_rules.specs.Learning.{learning}
-use Rattle.node_rules.specs.Applying.{Scene, taking, taking_all, passed, scene_of, applying}
+use Rattle.node_rules.specs.Applying.{Scene, taking_all, passed, scene_of, applying}
 use Rattle.dealer_node.specs.declared.reader.Reader.{Reader}
 use Rattle.dealer_node.specs.declared.made.Made.{Made}
 use Rattle.dealer_node.specs.declared.running.Running.{Running}

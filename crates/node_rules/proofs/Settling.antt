@@ -11,7 +11,6 @@ use Rattle.protocol_model.specs.Arrivals.{Arrival}
 use Rattle.protocol_model.specs.Moves.{Shown, Chain}
 use Rattle.proposer.specs.declared.campaign.Campaign.{Campaign}
 use Rattle.learner.specs.Learning.{Learned}
-use Rattle.seat_session.specs.Session.{Standing as Talk}
 use Rattle.dealer_kind.specs.Kind.{Setting, fits, hands_after, log_of}
 use Rattle.node_rules.specs.Standings.{applied}
 use Rattle.node_rules.specs.Showing.{Piece, news}
