@@ -1,4 +1,4 @@
-use Rattle.std.proofs.Common.{arith}
+use Rattle.std.proofs.Common.{arith, rules}
 use Rattle.matchstate.proofs.line.numbers_of.Goals as goal
 
 pub returns-in_err-position-clause-only : goal.returns-in_err-position-clause-only
@@ -10,3 +10,6 @@ returns-in_err-position-clause-only c =
     let got = c.read_number.ensures.only position (omega arith) numbers.position_text in
     let was = c.in_err-position.was in
     cc
+
+pub returns-then-hand-lt-HANDS-clause-found : goal.returns-then-hand-lt-HANDS-clause-found
+returns-then-hand-lt-HANDS-clause-found c = search rules

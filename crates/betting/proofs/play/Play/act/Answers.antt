@@ -1,4 +1,4 @@
-use Rattle.std.proofs.Common.{◌≡◌, ◌∙◌, Some, None, Option, refl, sym}
+use Rattle.std.proofs.Common.{◌≡◌, ◌∙◌, Some, None, Option, refl, sym, rules}
 use Rattle.betting.specs.Betting.{history}
 use Rattle.betting.specs.declared.fault.ActFault.{ActFault}
 use Rattle.betting.proofs.Legal.{can_act-none, none-can_act}
@@ -15,3 +15,6 @@ returns-clause-allowed c = (λ _. none-can_act c.args.self.now.game (history c.a
 
 pub take-requires : goal.take-requires
 take-requires c = none-can_act c.args.self.now.game (history c.args.self.now) c.args.action (sym c.fault.ensures ∙ c.in_default.is)
+
+pub returns-in-Some-clause-after : goal.returns-in-Some-clause-after
+returns-in-Some-clause-after c = search rules

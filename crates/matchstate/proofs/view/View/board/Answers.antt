@@ -11,3 +11,6 @@ loop-place-preserved c =
     let within : place < length c.gather_board-cards.result.0 = search rules in
     let next = board_next c.loop-place.board c.gather_board-cards.result.0 place c.index-cards-place.result (omega arith) inv.1 within inv.2 inv.3 in
     (omega arith, search rules, next.0, next.1)
+
+pub loop-place-init : goal.loop-place-init
+loop-place-init c = search rules

@@ -1,4 +1,5 @@
-use Rattle.std.proofs.Common.{◌∙◌, ap, subst, refl, drop, List, ℕ}
+use Rattle.std.proofs.lemmas.Grind.{common_steps, elements}
+use Rattle.std.proofs.Common.{◌∙◌, ap, subst, refl, drop, List, ℕ, arith}
 use Rattle.paxos_wire.specs.Incoming.{Incoming}
 use Rattle.paxos_wire.specs.Stream.{IsFaulty}
 use Rattle.paxos_wire.proofs.StreamLaws.{not_partial}
@@ -25,3 +26,9 @@ returns-in-Some-Err-default-clause-fault c =
     let waiting = c.split_at.ensures.back ∙ ap (drop c.self.inside.taken) c.deref.ensures.value ∙ ap (λ (f : Incoming). f.waiting) c.self.view_is in
     let faulty = rw c.in-Some-Err-default.field-0-0-is at c.in-Some-Err-default.ensures.fault in
     (subst (λ (b : List ℕ). IsFaulty b c.in-Some-Err-default.fault) waiting faulty, c.self.view_is)
+
+pub returns-in-Some-Ok-default-clause-found : goal.returns-in-Some-Ok-default-clause-found
+returns-in-Some-Ok-default-clause-found c = grind (arith, common_steps)
+
+pub returns-in-Some-Ok-default-clause-only : goal.returns-in-Some-Ok-default-clause-only
+returns-in-Some-Ok-default-clause-only c = grind (arith, elements)

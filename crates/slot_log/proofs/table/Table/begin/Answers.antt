@@ -1,4 +1,4 @@
-use Rattle.std.proofs.Common.{◌≡◌, ◌<◌, [], ◌∷◌, ◌++◌, sym, ap, subst, refl, ◌∙◌, false}
+use Rattle.std.proofs.Common.{◌≡◌, ◌<◌, [], ◌∷◌, ◌++◌, sym, ap, subst, refl, ◌∙◌, false, rules}
 use Rattle.slot_log.specs.Hand.{Match}
 use Rattle.slot_log.specs.Dealer.{is_running, finished_count}
 use Rattle.slot_log.specs.declared.table.Table.TheInside.{Inside}
@@ -23,3 +23,6 @@ invariant_of-self-2 c =
           (sym c.take.ensures.value ∙ w.in_default.is)
           (ap (λ (i : Inside). i.earlier.items) is ∙ c.reserve.ensures.items)
     ]
+
+pub returns-in_err-reserve-clause-full : goal.returns-in_err-reserve-clause-full
+returns-in_err-reserve-clause-full c = search rules

@@ -1,4 +1,5 @@
-use Rattle.std.proofs.Common.{◌≡◌, ◌≢◌, ℕ, zero, suc, ◌<◌, ◌≤◌, List, [], ◌∷◌, ◌++◌, map, length, get_or, Option, Some, None, refl, sym, ap, ◌∙◌, MatchOption, IfSome}
+use Rattle.std.proofs.lemmas.Grind.{elements}
+use Rattle.std.proofs.Common.{◌≡◌, ◌≢◌, ℕ, zero, suc, ◌<◌, ◌≤◌, List, [], ◌∷◌, ◌++◌, map, length, get_or, Option, Some, None, refl, sym, ap, ◌∙◌, MatchOption, IfSome, arith}
 use Rattle.std.specs.Borrow.{Bor}
 use Rattle.std.specs.List.{HoldsAt, slice_get}
 use Rattle.std.specs.Option.{option_map, option_to_list}
@@ -38,3 +39,6 @@ returns-else-place-len-clause-value c =
     ∙ before_last (map hand_of t.earlier.items) (option_map hand_of t.newest) c.args.hand other
     ∙ slice_get-map hand_of t.earlier.items c.args.hand in
     found ∙ ap (λ xs. option_map hand_of (slice_get xs c.args.hand)) items ∙ sym at ∙ ap (λ (m : Match). hand_at m.hands c.args.hand) c.self.view_is
+
+pub returns-then-place-len-clause-value : goal.returns-then-place-len-clause-value
+returns-then-place-len-clause-value c = grind (arith, elements)

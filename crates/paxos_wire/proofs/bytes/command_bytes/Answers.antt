@@ -1,0 +1,5 @@
+use Rattle.std.proofs.Common.{rules}
+use Rattle.paxos_wire.proofs.bytes.command_bytes.Goals as goal
+
+pub returns-in-Act-clause-text : goal.returns-in-Act-clause-text
+returns-in-Act-clause-text c = search rules

@@ -1,0 +1,5 @@
+use Rattle.std.proofs.Common.{rules}
+use Rattle.paxos_wire.proofs.lengths.command_len.Goals as goal
+
+pub returns-in-Act-clause-value : goal.returns-in-Act-clause-value
+returns-in-Act-clause-value c = search rules
