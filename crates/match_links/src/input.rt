@@ -1,13 +1,11 @@
 ghost use Rattle.std.specs.Prelude.{◌≡◌, ◌≤◌, ◌+◌, [], length, take, drop, vec_len, IfOk, OnErr};
 ghost use Rattle.match_links.specs.Pieces.{part_len, is_whole};
 
+use crate::limits::PIECE;
 use crate::piece::{first_line_feed, piece_len};
 use std::alloc::{AllocError, Global};
 use std::io;
 use std::io::Read;
-
-/// The most bytes of a piece: a line that is too long by one.
-pub(crate) const PIECE: usize = 4097;
 
 /// What came of a connection and isn't read yet.
 #[derive(Debug, Drop)]

@@ -20,6 +20,7 @@
 
 mod callers;
 mod input;
+pub mod limits;
 mod links;
 mod memory_links;
 mod passages;

@@ -5,15 +5,13 @@ ghost use Rattle.match_links.specs.Memory.{told_by, AreTold, told_prop, AreLogge
 ghost use Rattle.match_links.specs.Passages.{lines_in, log_of, Told as WasTold};
 
 use crate::callers::Callers;
+use crate::limits::NODES;
 use crate::links::{LinkFault, Links};
 use crate::passages::Passages;
 use std::alloc::{AllocError, Global};
 
 /// How many bytes of a log, and of a frame, there is room for from the start.
 const ROOM: usize = 8192;
-
-/// The most nodes that a match has.
-const NODES: usize = 5;
 
 /// What a call of a link reaches.
 #[derive(Clone, Copy, Debug, PartialEq, Eq)]
