@@ -17,6 +17,7 @@ mod checking;
 mod desk;
 mod due;
 mod known;
+mod limits;
 mod outages;
 mod place;
 mod places;

@@ -4,14 +4,12 @@ ghost use Rattle.serving.specs.declared.place.Place.TheVariants.{Seated};
 
 use crate::place::Place;
 use arrayvec::ArrayVec;
-
-/// The most seats that a table has.
-const SEATS: usize = 10;
+use card_core::limits::PLAYERS;
 
 /// Where each seat is; seats and nodes are counted from 0.
 #[derive(Debug, Drop)]
 pub(crate) struct Places {
-    all: ArrayVec<Place, SEATS>,
+    all: ArrayVec<Place, PLAYERS>,
 }
 
 impl Places {

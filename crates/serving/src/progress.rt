@@ -11,8 +11,9 @@ use crate::known::{Known, Repair};
 use crate::outages::Outages;
 use crate::place::Place;
 use crate::places::Places;
-use crate::seeing::{NODES, lowest_front, sights};
+use crate::seeing::{lowest_front, sights};
 use dealer_world::Cluster;
+use match_links::limits::NODES;
 use promise_store::Disk;
 
 /// What a server knows beside its cluster and its links: how far it is with all.

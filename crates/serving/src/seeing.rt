@@ -11,11 +11,9 @@ use crate::outages::Outages;
 use arrayvec::ArrayVec;
 use dealer_node::Node;
 use dealer_world::Cluster;
+use match_links::limits::NODES;
 use promise_store::Disk;
 use slot_log::Table;
-
-/// The most nodes that a match has.
-pub(crate) const NODES: usize = 5;
 
 /// The nodes of a cluster, in order; which of them are to be out is said for so many commands.
 pub(crate) fn sights<D: Disk + Drop>(

@@ -16,12 +16,10 @@ use crate::serve_fault::ServeFault;
 use crate::waiting::Waiting;
 use dealer_node::NodeFault;
 use dealer_world::{Cluster, Event};
+use match_links::limits::PIECE;
 use match_links::{LinkFault, Links};
 use promise_store::Disk;
 use std::alloc::Global;
-
-/// The most bytes that are read of a seat at once: a line that is too long by one.
-const PIECE: usize = 4097;
 
 /// Takes what is due from the links, and says which event it gives to the cluster; none where all is over. A seat that
 /// is awaited or read from may turn out to be gone: then it is dropped.

@@ -1,0 +1,8 @@
+//! The limits of links are those of a match: links know nothing of matches, and have numbers of their own.
+
+use match_links::limits::{NODES, PIECE};
+use matchstate::MOST_LINE;
+
+const _: () = prove!(NODES == paxos_wire::limits::NODES as usize);
+
+const _: () = prove!(PIECE == MOST_LINE + 1);
