@@ -43,7 +43,7 @@ pub(crate) fn checked<D: Disk + Drop>(
     ensures waiting { IfOk result (λ found. ForSome found (λ waiting. IsWaiting (view_of cluster.now) waiting)) }
     ensures fault { IfErr result (λ fault. (fault ≡ LinkFailed) × IsOutside (view_of cluster.now).config due) }
 {
-    let _due = due;
+    let _ = due;
     if is_for(cluster, &event) {
         Ok(Some(Waiting { event, number: 0 }))
     } else {
