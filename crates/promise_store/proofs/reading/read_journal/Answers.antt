@@ -1,3 +1,4 @@
+use Rattle.std.proofs.lemmas.Grind.{common_steps}
 use Rattle.std.proofs.Common.{◌≡◌, ◌∙◌, ◌<◌, List, ℕ, length, length-append, take, sym, ap, subst, arith, rules}
 use Rattle.std.specs.Prelude.{IsTrue}
 use Rattle.promise_store.specs.Journals.{header, gated, IsJournal}
@@ -36,3 +37,6 @@ returns-clause-refused g c honest =
     let long : length head < length file = omega (arith, c.if-len-le-HEADER.false, c.in-Ok-len.ensures.len honest, ap length c.in-Ok.ensures.seen) in
     refused_by c.read_records.result head file (front_head head file front long) c.read_records.ensures.only
     (λ bad records journal. c.read_records.ensures.broken honest bad records (opens_apart head (g.D.Disk.seen c.read.new.self) records (subst (λ (l : List ℕ). IsJournal head l records) (sym same) journal)))
+
+pub returns-then-len-eq0-clause-refused : goal.returns-then-len-eq0-clause-refused
+returns-then-len-eq0-clause-refused g c = grind (arith, common_steps)

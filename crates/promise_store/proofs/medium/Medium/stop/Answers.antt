@@ -1,4 +1,5 @@
-use Rattle.std.proofs.Common.{◌≡◌, ◌∷◌, ℕ, List, sym, subst, rules}
+use Rattle.std.proofs.lemmas.Grind.{common_steps}
+use Rattle.std.proofs.Common.{◌≡◌, ◌∷◌, ℕ, List, sym, subst, rules, arith}
 use Rattle.promise_store.specs.Calls.{Event, stopped, events, contents, IsImage}
 use Rattle.promise_store.proofs.Calls.{stop_leaves, only_stopped}
 use Rattle.promise_store.proofs.medium.Medium.stop.Goals as goal
@@ -14,3 +15,6 @@ returns-clause-crash c =
     let calls = c.args.self.now.calls.items in
     let step : events c.note.new.calls.items ≡ stopped c.args.pick ∷ events calls = search rules in
     subst (λ (l : List Event). (image : List ℕ) → IsImage (contents l) image → IsImage (contents (events calls)) image) (sym step) (only_stopped (events calls) c.args.pick)
+
+pub invariant_of-self-2 : goal.invariant_of-self-2
+invariant_of-self-2 c = grind (arith, common_steps)

@@ -39,3 +39,6 @@ returns-clause-crash c =
     let more : noted ≡ calls ++ Wrote c.args.at c.in-Ok.copy c.args.passes ∷ [] = search rules in
     let same : c.in-Ok.copy.items ≡ c.args.bytes.now = search rules in
     write_noted calls noted c.args.at c.in-Ok.copy c.args.bytes.now c.args.passes more same
+
+pub returns-clause-nothing : goal.returns-clause-nothing
+returns-clause-nothing c = search rules

@@ -1,4 +1,4 @@
-use Rattle.std.proofs.Common.{◌∙◌, sym, ap, subst, Some}
+use Rattle.std.proofs.Common.{◌∙◌, sym, ap, subst, Some, rules}
 use Rattle.paxos_wire.specs.Fits.{IsSlot}
 use Rattle.promise_store.specs.Shown.{vote_pair}
 use Rattle.promise_store.proofs.Entries.{indexed}
@@ -27,3 +27,6 @@ returns-in-Ok-clause-range g c =
       ballot = c.in-Ok.ensures.range.0;
       command = c.in-Ok.ensures.range.1;
     }
+
+pub returns-in_default-clause-failed : goal.returns-in_default-clause-failed
+returns-in_default-clause-failed g c = search rules

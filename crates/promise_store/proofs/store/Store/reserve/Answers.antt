@@ -1,4 +1,4 @@
-use Rattle.std.proofs.Common.{refl}
+use Rattle.std.proofs.Common.{refl, rules}
 use Rattle.promise_store.proofs.store.Store.reserve.Goals as goal
 
 pub returns-clause-same : goal.returns-clause-same
@@ -13,3 +13,6 @@ returns-clause-same g c = record {
     indexes = λ honest. c.reserve.ensures.same _ (keeps.indexes honest);
   };
 }
+
+pub returns-clause-room : goal.returns-clause-room
+returns-clause-room g c = search rules

@@ -1,0 +1,5 @@
+use Rattle.std.proofs.Common.{rules}
+use Rattle.promise_store.proofs.held.Held.promised.Goals as goal
+
+pub returns : goal.returns
+returns c = search rules

@@ -1,0 +1,5 @@
+use Rattle.std.proofs.Common.{rules}
+use Rattle.promise_store.proofs.memory_disk.MemoryDisk.calls.Goals as goal
+
+pub returns : goal.returns
+returns c = search rules
