@@ -26,7 +26,7 @@ pub(crate) fn payoffs(game: &GameDef, play: &Play, deal: &Deal) -> ArrayVec<i64,
 {
     game.limits();
     laws::somebody_has_the_greatest_amount();
-    let _ = play.actions();
+    let _actions = play.actions();
     let amounts = amounts(game, play);
     let folds = folds(game, play);
     let values = values(deal);

@@ -29,7 +29,7 @@ pub settle-requires-clause-greatest : goal.settle-requires-clause-greatest
 settle-requires-clause-greatest c =
     let game = c.args.game.now in
     let past = c.args.play.now.past in
-    let legal : Legal game past = subst (λ g. Legal g past) c.requires.same_game c.actions.ensures.legal in
+    let legal : Legal game past = subst (λ g. Legal g past) c.requires.same_game c.actions-actions.ensures.legal in
     let most : All (λ amount. amount ≤ max_spent game (turns game past)) c.amounts-amounts.result.items =
     subst (λ g. All (λ amount. amount ≤ max_spent game (turns g past)) c.amounts-amounts.result.items) c.requires.same_game c.amounts-amounts.ensures.greatest in
     somebody_has_most_as game past c.amounts-amounts.result.items c.as_slice.result.now c.as_slice-2.result.now c.somebody_has_the_greatest_amount.ensures c.limits.ensures legal
