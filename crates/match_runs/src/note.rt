@@ -121,9 +121,12 @@ fn put_note(out: &mut Vec<u8>, note: &Note<'_>) -> Result<(), AllocError>
         Note::Stopped(node) => put_node(out, *node, "stopped"),
         Note::Started(node) => put_node(out, *node, "started"),
         Note::Failed { node, fault } => put_fault(out, *node, fault),
-        Note::Port(port) => put(out, format!(in *out.allocator(); "port {port}")?.as_bytes()),
-        Note::File(path) => put(out, path.as_bytes()),
-        Note::Score(line) => put(out, line),
+        Note::Port(port) => {
+            let text = format!(in *out.allocator(); "port {port}")?;
+            out.extend_from_slice(text.as_bytes())
+        }
+        Note::File(path) => out.extend_from_slice(path.as_bytes()),
+        Note::Score(line) => out.extend_from_slice(line),
     }
 }
 
@@ -149,12 +152,6 @@ fn put_place(out: &mut Vec<u8>, node: u8, port: u32) -> Result<(), AllocError>
 {
     let text = format!(in *out.allocator(); " at node {node}, port {port}")?;
     out.extend_from_slice(text.as_bytes())
-}
-
-fn put(out: &mut Vec<u8>, text: &[u8]) -> Result<(), AllocError>
-    ensures { OnOk result (out.new.items ≡ out.old.items ++ text.now) }
-{
-    out.extend_from_slice(text)
 }
 
 /// Appends what is told of a seat.
