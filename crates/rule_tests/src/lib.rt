@@ -4,8 +4,8 @@
 //! They stand in a crate of their own, which has nothing else: a crate with tests is proved twice, once without them and
 //! once with all of it, and each crate that is tested here is so proved once.
 //!
-//! Each call with a long contract is made in one small function that says nothing of its own, so that what the prover
-//! knows there isn't carried through all tests.
+//! Where a test makes many calls with long contracts, as in `session_tests`, each call is made in one small function that
+//! says nothing of its own, so that what the prover knows there isn't carried through all tests.
 #![tactic(auto)]
 
 #[cfg(test)]
