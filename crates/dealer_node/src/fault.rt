@@ -1,4 +1,4 @@
-ghost use Rattle.std.specs.Prelude.{◌≡◌, Some};
+ghost use Rattle.std.specs.Prelude.{◌≡◌, ◌↔◌, Some, Err, IsTrue};
 ghost use Rattle.dealer_node.specs.FaultText.{code_of, fault_text};
 ghost use Rattle.dealer_node.specs.declared.fault.NodeFault.TheVariants.{OutOfMemory};
 
@@ -41,6 +41,13 @@ impl NodeFault {
             NodeFault::Conflict => 95,
         }
     }
+}
+
+/// Whether a call of a node was refused by want of memory, 92.
+pub fn is_out_of_memory(answer: Result<(), NodeFault>) -> bool
+    ensures { IsTrue result ↔ (answer ≡ Err OutOfMemory) }
+{
+    matches!(answer, Err(NodeFault::OutOfMemory))
 }
 
 impl From<AllocError> for NodeFault {

@@ -54,7 +54,7 @@ mod up;
 mod values;
 mod voting;
 
-pub use fault::NodeFault;
+pub use fault::{NodeFault, is_out_of_memory};
 pub use node::Node;
 pub use out::Out;
 pub use reader::Reader;

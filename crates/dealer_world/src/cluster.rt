@@ -1,4 +1,4 @@
-ghost use Rattle.std.specs.Prelude.{◌≡◌, ◌<◌, ◌++◌, ℕ, List, length, map, IsTrue, get_or, ◌∷◌, ◌⊎◌, Result, ◌↔◌, Err, OnOk, IfOk, IfErr, IfSome, IsNone, Some, slice_get, ◌≤◌, ◌-◌, ◌^◌, min, true, false};
+ghost use Rattle.std.specs.Prelude.{◌≡◌, ◌<◌, ◌++◌, ℕ, List, length, map, IsTrue, get_or, ◌∷◌, ◌⊎◌, Result, ◌↔◌, OnOk, IfOk, IfErr, IfSome, IsNone, Some, slice_get, ◌≤◌, ◌-◌, ◌^◌, min, true, false};
 ghost use Rattle.dealer_world.specs.KeptShown.{piece_by};
 ghost use Rattle.dealer_world.specs.KeptArrivals.{arrival_of};
 ghost use Rattle.dealer_world.specs.Recordings.{start_by};
@@ -32,7 +32,7 @@ use crate::shown::Piece;
 use crate::stopped::Stopped;
 use dealer_kind::Config;
 use dealer_node::laws::{images_are_seen, moments_pass, seen_as_one};
-use dealer_node::{Node, NodeFault, Out};
+use dealer_node::{Node, NodeFault, Out, is_out_of_memory};
 use promise_store::Disk;
 use std::alloc::{AllocError, Global};
 
@@ -56,13 +56,6 @@ fn give<D: Disk + Drop>(node: &mut Node<D>, event: &Event, made: &mut Out) -> Re
         }
         Event::Start { .. } => node.start(made),
     }
-}
-
-/// Whether it is want of memory.
-fn is_out_of_memory(answer: Result<(), NodeFault>) -> bool
-    ensures { IsTrue result ↔ (answer ≡ Err NodeFault.OutOfMemory) }
-{
-    matches!(answer, Err(NodeFault::OutOfMemory))
 }
 
 /// Whether a start of a node begins by an event that was answered so.

@@ -1,4 +1,4 @@
-ghost use Rattle.std.specs.Prelude.{◌≡◌, ◌≤◌, ◌<◌, ◌-◌, ◌^◌, ◌++◌, ℕ, List, length, MatchOption, IfOk, OnOk, IfErr, IsTrue, ◌↔◌, Err, codes};
+ghost use Rattle.std.specs.Prelude.{◌≡◌, ◌≤◌, ◌<◌, ◌-◌, ◌^◌, ◌++◌, ℕ, List, length, MatchOption, IfOk, OnOk, IfErr, codes};
 ghost use Rattle.std.specs.List.{flat_map};
 ghost use Rattle.play_script.specs.Shown.{whole_line, bad_script_text};
 ghost use Rattle.promise_store.specs.contracts.memory_disk.MemoryDiskDisk.TheImpl.{ghosts as in_memory};
@@ -10,7 +10,7 @@ ghost use Rattle.playing.specs.Playing.{Happens, Delivery, FlushesUpTo, Arrives,
 use crate::marks::Marks;
 use crate::showing::{put_event, put_piece};
 use dealer_kind::Config;
-use dealer_node::NodeFault;
+use dealer_node::is_out_of_memory;
 use dealer_world::{Cluster, Event};
 use play_script::{BadScript, Bounds, Order, read};
 use promise_store::MemoryDisk;
@@ -38,13 +38,6 @@ fn new_disks(alloc: Global, nodes: usize) -> Result<Vec<MemoryDisk>, AllocError>
         disks.push(MemoryDisk::new(alloc, &[])?)?;
     }
     Ok(disks)
-}
-
-/// Whether it is want of memory.
-fn is_out_of_memory(answer: Result<(), NodeFault>) -> bool
-    ensures { IsTrue result ↔ (answer ≡ Err NodeFault.OutOfMemory) }
-{
-    matches!(answer, Err(NodeFault::OutOfMemory))
 }
 
 impl Playing {

@@ -1,6 +1,5 @@
-ghost use Rattle.std.specs.Prelude.{◌≡◌, ◌↔◌, ◌≤◌, ◌++◌, [], length, map, slice_get, None, IsTrue, Err, IfOk, IfErr, OnOk, OnErr};
+ghost use Rattle.std.specs.Prelude.{◌≡◌, ◌≤◌, ◌++◌, [], length, map, slice_get, None, Err, IfOk, IfErr, OnOk, OnErr};
 ghost use Rattle.std.specs.Option.{ForSome};
-ghost use Rattle.dealer_node.specs.declared.fault.NodeFault.TheVariants.{OutOfMemory};
 ghost use Rattle.dealer_world.specs.Viewing.{view_of};
 ghost use Rattle.dealer_world.specs.Promise.{IsPromised, HasNoForged};
 ghost use Rattle.dealer_node.specs.Seeing.{begun_of};
@@ -21,7 +20,7 @@ use crate::serve_fault::ServeFault;
 use crate::taking::{close_all, empty_logs, take};
 use crate::turn::Turn;
 use crate::waiting::Waiting;
-use dealer_node::NodeFault;
+use dealer_node::{NodeFault, is_out_of_memory};
 use dealer_world::{Cluster, Event};
 use match_links::Links;
 use promise_store::Disk;
@@ -64,13 +63,6 @@ fn fault_of(answer: Result<(), NodeFault>) -> Option<NodeFault>
         Ok(()) => None,
         Err(fault) => Some(fault),
     }
-}
-
-/// Whether it is want of memory.
-fn is_out_of_memory(answer: Result<(), NodeFault>) -> bool
-    ensures { IsTrue result ↔ (answer ≡ Err OutOfMemory) }
-{
-    matches!(answer, Err(NodeFault::OutOfMemory))
 }
 
 impl<D: Disk + Drop, L: Links + Drop> Server<D, L> {
