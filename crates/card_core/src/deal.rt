@@ -127,8 +127,8 @@ pub fn are_distinct(cards: &[Card]) -> bool
     }
 }
 
-/// Whether a card has this number.
-fn has_number(cards: &[Card], number: u8) -> bool
+/// Whether one of these cards, of which there may be any number, or none, has this number.
+pub fn has_number(cards: &[Card], number: u8) -> bool
     ensures { result ≡ list_any (λ card. nat_eq number card) cards.now }
 {
     cards.iter().any(|card| card.number() == number)

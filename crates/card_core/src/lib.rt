@@ -15,5 +15,5 @@ mod fault;
 pub mod limits;
 
 pub use card::Card;
-pub use deal::{Deal, are_distinct};
+pub use deal::{Deal, are_distinct, has_number};
 pub use fault::DealFault;

@@ -1,7 +1,7 @@
 ghost use Rattle.std.specs.Prelude.{◌≡◌, ℕ, ◌<◌, ◌≤◌, take, length, true, false, nat_eq};
 ghost use Rattle.std.specs.List.{IsDistinct, list_any};
 
-use card_core::Card;
+use card_core::{Card, has_number};
 
 /// Puts unused cards at the places from one on up to an end, in rising order: those in front stay.
 pub(crate) fn fill_up(cards: &mut [Card], count: usize, end: usize)
@@ -33,11 +33,4 @@ fn unused_number(cards: &[Card], least: u8) -> u8
         }
     }
     unreachable!()
-}
-
-/// Whether a card has this number.
-fn has_number(cards: &[Card], number: u8) -> bool
-    ensures { result ≡ list_any (λ card. nat_eq number card) cards.now }
-{
-    cards.iter().any(|card| card.number() == number)
 }
