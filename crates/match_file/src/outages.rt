@@ -3,7 +3,7 @@ ghost use Rattle.std.specs.List.{All};
 ghost use Rattle.dealer_kind.specs.Plans.{HasNodes};
 ghost use Rattle.toml.specs.Data.{get};
 ghost use Rattle.toml.specs.View.{view};
-ghost use Rattle.match_file.specs.Outages.{is_out as keeps_out, is_node_out as is_one_out, out_at as nodes_out, LeaveMost};
+ghost use Rattle.match_file.specs.Outages.{is_node_out as is_one_out, out_at as nodes_out, LeaveMost};
 ghost use Rattle.match_file.specs.Matches.{entry_at, ListsOutages, SaysOutages};
 ghost use Rattle.match_file.specs.Said.{IsAbsent, EachSays, SaysOutage, SaysBack};
 ghost use Rattle.match_file.specs.Refusals.{IsToldOf};
@@ -127,17 +127,5 @@ fn out_at(outages: &[Outage], count: u64, nodes: usize) -> usize
 fn is_node_out(outages: &[Outage], count: u64, node: usize) -> bool
     ensures { result ≡ is_one_out outages.now count node }
 {
-    outages.iter().any(|outage| is_out(outage, count, node))
-}
-
-/// Whether an outage keeps a node out when so many commands are applied.
-fn is_out(outage: &Outage, count: u64, node: usize) -> bool
-    ensures { result ≡ keeps_out count node outage.now }
-{
-    outage.node == node
-        && outage.at <= count
-        && match outage.back {
-            Some(back) => count < back,
-            None => true,
-        }
+    outages.iter().any(|outage| outage.keeps_out(node, count))
 }

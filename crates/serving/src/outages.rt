@@ -1,5 +1,5 @@
 ghost use Rattle.std.specs.Prelude.{◌≡◌};
-ghost use Rattle.match_file.specs.Outages.{is_out as keeps_out, is_node_out};
+ghost use Rattle.match_file.specs.Outages.{is_node_out};
 
 use match_file::Outage;
 
@@ -25,18 +25,6 @@ impl Outages {
     {
         self.listed
             .iter()
-            .any(|outage| keeps_out(outage, node, count))
+            .any(|outage| outage.keeps_out(node, count))
     }
-}
-
-/// Whether an outage keeps a node out when so many commands are applied.
-fn keeps_out(outage: &Outage, node: usize, count: u64) -> bool
-    ensures { result ≡ keeps_out count node outage.now }
-{
-    outage.node == node
-        && outage.at <= count
-        && match outage.back {
-            Some(back) => count < back,
-            None => true,
-        }
 }
