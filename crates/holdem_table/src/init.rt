@@ -1,5 +1,6 @@
 //! What `init` does: the empty stores of a match's nodes, one file for each.
 
+use crate::whole_file::read_file;
 use match_file::MatchFile;
 use match_runs::{store_path, unmade};
 use promise_store::{FileDisk, Store};
@@ -21,7 +22,7 @@ pub(crate) fn init(rt: &HostRuntime, path: &str) -> Ending {
 }
 
 fn make_stores(rt: &HostRuntime, path: &str) -> Result<(), Ending> {
-    let text = read(rt, path)?;
+    let text = read_file(rt, path)?;
     let file = MatchFile::read(rt.alloc(), &text)?;
     let nodes = count_nodes(rt, &file)?;
     let folder = file.stores()?;
@@ -36,18 +37,9 @@ fn make_stores(rt: &HostRuntime, path: &str) -> Result<(), Ending> {
 
 /// How many nodes a match has whose match file and game file are right.
 fn count_nodes(rt: &HostRuntime, file: &MatchFile) -> Result<u8, Ending> {
-    let config = match fs::read(rt, file.game()?) {
-        Ok(game) => file.config(rt.alloc(), Some(&game))?,
-        Err(error) => return Err(Ending::unread(&error)),
-    };
+    let game = read_file(rt, file.game()?)?;
+    let config = file.config(rt.alloc(), Some(&game))?;
     Ok(config.nodes() as u8)
-}
-
-fn read(rt: &HostRuntime, path: &str) -> Result<Vec<u8>, Ending> {
-    match fs::read(rt, path) {
-        Ok(text) => Ok(text),
-        Err(error) => Err(Ending::unread(&error)),
-    }
 }
 
 fn refuse_present(rt: &HostRuntime, folder: &str, node: u8) -> Result<(), Ending> {

@@ -7,17 +7,19 @@ mod help;
 mod init;
 mod late_file;
 mod serve;
+mod whole_file;
 
 use crate::arguments::{CheckArguments, HandArguments, Task, command, requested};
 use crate::init::init;
 use crate::late_file::LateFile;
 use crate::serve::serve;
+use crate::whole_file::read_file;
 use clap::error::ErrorKind;
 use clap::{ArgMatches, Error};
 use match_file::{MatchFault, MatchFile};
 use match_runs::{Conclusion, play_run};
+use std::io;
 use std::process::ExitCode;
-use std::{fs, io};
 pub use streamed::{Ending, GameWord, WrongWords, check_run, hand_run};
 
 fn main(rt: HostRuntime) -> ExitCode {
@@ -91,7 +93,7 @@ fn show(rt: &HostRuntime, error: &Error) -> Ending {
 
 /// Runs `hand` over standard input and output.
 fn hand(rt: &HostRuntime, arguments: HandArguments<'_>) -> Ending {
-    match fs::read(rt, arguments.game) {
+    match read_file(rt, arguments.game) {
         Ok(game) => hand_run(
             rt.alloc(),
             &game,
@@ -100,15 +102,15 @@ fn hand(rt: &HostRuntime, arguments: HandArguments<'_>) -> Ending {
             &mut rt.reader(),
             &mut io::writer(rt),
         ),
-        Err(error) => Ending::unread(&error),
+        Err(ending) => ending,
     }
 }
 
 /// Runs `play` over standard input and output.
 fn play(rt: &HostRuntime, path: &str) -> Ending {
-    let file = match fs::read(rt, path) {
+    let file = match read_file(rt, path) {
         Ok(file) => file,
-        Err(error) => return Ending::unread(&error),
+        Err(ending) => return ending,
     };
     match read_game(rt, &file) {
         Ok(game) => play_run(
@@ -133,22 +135,22 @@ fn read_game(rt: &HostRuntime, file: &[u8]) -> Result<Option<Vec<u8>>, Ending> {
     let Ok(name) = file.game() else {
         return Ok(None);
     };
-    match fs::read(rt, name) {
+    match read_file(rt, name) {
         Ok(game) => Ok(Some(game)),
-        Err(error) if error.kind() == io::ErrorKind::OutOfMemory => Err(Ending::OutOfMemory),
+        Err(Ending::OutOfMemory) => Err(Ending::OutOfMemory),
         Err(_) => Ok(None),
     }
 }
 
 /// Runs `check` over a log file and standard output. The log is opened once the game is read.
 fn check(rt: &HostRuntime, arguments: CheckArguments<'_>) -> Ending {
-    match fs::read(rt, arguments.game) {
+    match read_file(rt, arguments.game) {
         Ok(game) => check_run(
             rt.alloc(),
             &game,
             &mut LateFile::new(rt, arguments.log),
             &mut io::writer(rt),
         ),
-        Err(error) => Ending::unread(&error),
+        Err(ending) => ending,
     }
 }
