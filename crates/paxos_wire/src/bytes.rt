@@ -62,9 +62,9 @@ pub fn command_bytes(command: &Command) -> ArrayVec<u8, MOST_COMMAND>
     bytes
 }
 
-/// Puts bytes behind the last one.
-fn push_all(out: &mut ArrayVec<u8, MOST_COMMAND>, bytes: &[u8])
-    requires { array_vec_len out.old + length bytes.now ≤ MOST_COMMAND }
+/// Puts bytes behind the last one of a list of at most `MOST`, where there is room for them.
+pub fn push_all<const MOST: usize>(out: &mut ArrayVec<u8, MOST>, bytes: &[u8])
+    requires { array_vec_len out.old + length bytes.now ≤ MOST }
     ensures items { out.new.items ≡ out.old.items ++ bytes.now }
     ensures len { array_vec_len out.new ≡ array_vec_len out.old + length bytes.now }
 {

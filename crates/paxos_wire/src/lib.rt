@@ -33,7 +33,7 @@ mod stream;
 mod writing;
 
 pub use ballot::Ballot;
-pub use bytes::{ballot_bytes, command_bytes, slot_bytes};
+pub use bytes::{ballot_bytes, command_bytes, push_all, slot_bytes};
 pub use decoding::decode;
 pub use encoding::{encode, encode_reserved};
 pub use entries::Entries;

@@ -1,25 +1,15 @@
 //! The bytes of records.
 
-ghost use Rattle.std.specs.Prelude.{◌≡◌, ◌∷◌, ◌++◌, [], ◌+◌, ◌≤◌, IfSome, Some, length};
+ghost use Rattle.std.specs.Prelude.{◌≡◌, ◌∷◌, ◌++◌, [], ◌≤◌, IfSome, Some};
 ghost use Rattle.arrayvec.specs.ArrayVec.{array_vec_len};
 ghost use Rattle.promise_store.specs.Records.{IsRecord, IsStorable, payload, record_text};
 ghost use Rattle.promise_store.specs.declared.records.Record.{Record};
 
 use crate::records::{MOST_PAYLOAD, MOST_RECORD, Record};
 use arrayvec::ArrayVec;
-use paxos_wire::{ballot_bytes, command_bytes, read_ballot, read_command, read_slot, slot_bytes};
-
-/// Puts bytes behind the last one.
-fn push_all(out: &mut ArrayVec<u8, MOST_RECORD>, bytes: &[u8])
-    requires { array_vec_len out.old + length bytes.now ≤ MOST_RECORD }
-    ensures items { out.new.items ≡ out.old.items ++ bytes.now }
-    ensures len { array_vec_len out.new ≡ array_vec_len out.old + length bytes.now }
-{
-    match out.try_extend_from_slice(bytes) {
-        Ok(()) => (),
-        Err(_) => unreachable!(),
-    }
-}
+use paxos_wire::{
+    ballot_bytes, command_bytes, push_all, read_ballot, read_command, read_slot, slot_bytes,
+};
 
 /// A record's payload.
 fn payload_bytes(addition: &Record) -> ArrayVec<u8, MOST_RECORD>
