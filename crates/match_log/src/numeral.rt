@@ -1,11 +1,11 @@
 ghost use Rattle.std.specs.Prelude.{◌≡◌, ℕ, ◌≤◌, ◌<◌, ◌↔◌, ◌%◌, List, IsTrue, length, true};
-ghost use Rattle.std.specs.List.{AllByRecursion, list_all};
+ghost use Rattle.std.specs.List.{AllByRecursion};
 ghost use Rattle.std.specs.Char.{is_ascii_digit};
 ghost use Rattle.std.specs.Str.Parse.{digits_value};
 ghost use Rattle.match_log.specs.Numeral.{IsDecimal, IsWhole};
 ghost use Rattle.match_log.specs.Lines.{with_bars};
 
-use matchstate::cut;
+use matchstate::{are_digits, cut};
 
 /// Whether a text is a decimal, however long.
 pub(crate) fn is_decimal(bytes: &[u8]) -> bool
@@ -18,13 +18,6 @@ pub(crate) fn is_decimal(bytes: &[u8]) -> bool
         return false;
     }
     are_digits(bytes)
-}
-
-/// Whether each byte is a digit.
-fn are_digits(bytes: &[u8]) -> bool
-    ensures { result ≡ list_all is_ascii_digit bytes.now }
-{
-    bytes.iter().all(|byte| byte.is_ascii_digit())
 }
 
 /// Whether a text is a whole number, however long.

@@ -4,7 +4,9 @@
 //! A dealer makes the hand's `BettingText` once after each command (`newest`) and appends `seat_line` for each seat.
 //! What a seat sees is a `View`, by `seat_view`; `write` appends its line, `read` reads a line back, and `read_answer`
 //! a player's answer, both against the game alone. `read_betting`, `read_action`, `read_deal` and `read_shown` read
-//! parts of lines, `cut` parts a text at a byte, and `put`, `put_number`, `put_cards` and `betting_text` append parts.
+//! parts of lines, `cut` parts a text at a byte, `are_digits` says whether it has digits alone, and `put`, `put_number`,
+//! `put_cards` and `betting_text` append parts.
+//!
 //! Calls with `reserved` in their name take no memory where there is room for the most that they append, a constant
 //! beside each; no other call but those that answer a `Result` of `AllocError` takes any.
 //!
@@ -44,6 +46,6 @@ pub use cutting::cut;
 pub use deal_text::{read_deal, read_shown};
 pub use line::{MOST_LINE, read, seat_line, seat_line_reserved, write, write_reserved};
 pub use line_fault::LineFault;
-pub use number::{put_number, read_number};
+pub use number::{are_digits, put_number, read_number};
 pub use seating::{position_of, seat_view};
 pub use view::View;

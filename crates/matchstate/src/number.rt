@@ -1,4 +1,6 @@
 ghost use Rattle.std.specs.Prelude.{◌≡◌, ℕ, ◌^◌, ◌<◌, Some, IfSome, decimal, ◌+◌, ◌*◌, ◌≤◌, ◌++◌, length, vec_len, vec_capacity};
+ghost use Rattle.std.specs.List.{list_all};
+ghost use Rattle.std.specs.Char.{is_ascii_digit};
 
 use crate::bytes::put;
 use itoa::Buffer;
@@ -29,4 +31,11 @@ pub fn read_number(bytes: &[u8]) -> Option<u32>
     } else {
         None
     }
+}
+
+/// Whether each of these bytes, of which there may be none, is a decimal digit.
+pub fn are_digits(bytes: &[u8]) -> bool
+    ensures { result ≡ list_all is_ascii_digit bytes.now }
+{
+    bytes.iter().all(|byte| byte.is_ascii_digit())
 }

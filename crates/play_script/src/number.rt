@@ -1,7 +1,7 @@
 ghost use Rattle.std.specs.Prelude.{◌≡◌, ◌<◌, ℕ, true, MatchOption};
-ghost use Rattle.std.specs.Char.{is_ascii_digit};
-ghost use Rattle.std.specs.List.{list_all};
 ghost use Rattle.play_script.specs.Orders.{IsNumber, Names};
+
+use matchstate::are_digits;
 
 /// The number that digits write, below 2 ^ 64.
 pub(crate) fn number(bytes: &[u8]) -> Option<u64>
@@ -17,13 +17,6 @@ pub(crate) fn number(bytes: &[u8]) -> Option<u64>
         },
         Err(_) => None,
     }
-}
-
-/// Whether each byte is a digit.
-fn are_digits(bytes: &[u8]) -> bool
-    ensures { result ≡ list_all is_ascii_digit bytes.now }
-{
-    bytes.iter().all(|byte| byte.is_ascii_digit())
 }
 
 /// The number of one of so many things.
