@@ -29,6 +29,7 @@ mod frames;
 mod hearing;
 pub mod laws;
 mod learning;
+mod limits;
 mod lines;
 mod made;
 mod memory;

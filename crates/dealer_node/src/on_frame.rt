@@ -14,6 +14,9 @@ ghost use Rattle.dealer_node.specs.Handling.{IsWithin, AnswersUp};
 ghost use Rattle.dealer_node.specs.Calling.{frame_need};
 
 use crate::fault::NodeFault;
+use crate::limits::{
+    FRAME_BYTES_OF_A_MESSAGE, FRAMES_OF_A_MESSAGE, TEXT_BYTES_OF_A_COMMAND, TEXTS_OF_A_COMMAND,
+};
 use crate::made::{Made, Need};
 use crate::post::Post;
 use crate::running::Running;
@@ -36,10 +39,10 @@ fn frame_need(running: &Running) -> Need
 {
     let applied = running.most_applied(2);
     Need {
-        frames: 75,
-        frame_bytes: 3450,
-        texts: 11 * applied,
-        text_bytes: 45_716 * applied,
+        frames: FRAMES_OF_A_MESSAGE,
+        frame_bytes: FRAME_BYTES_OF_A_MESSAGE,
+        texts: TEXTS_OF_A_COMMAND * applied,
+        text_bytes: TEXT_BYTES_OF_A_COMMAND * applied,
         faults: 0,
     }
 }

@@ -14,10 +14,13 @@ ghost use Rattle.dealer_node.specs.Handling.{IsWithin, AnswersUp};
 ghost use Rattle.dealer_node.specs.Calling.{line_need};
 
 use crate::fault::NodeFault;
+use crate::limits::{FRAMES_OF_A_CLOSE, TEXT_BYTES_OF_A_COMMAND, TEXTS_OF_A_COMMAND};
 use crate::made::{Made, Need};
 use crate::post::Post;
 use crate::running::Running;
 use crate::up::Up;
+use matchstate::MOST_LINE;
+use paxos_wire::limits::MOST_SINGLE_FRAME;
 use promise_store::Disk;
 use std::alloc::Global;
 
@@ -26,13 +29,13 @@ fn line_need(running: &Running, limit: usize) -> Option<Need>
     ensures { IfSome result (λ need. need ≡ line_need running.now limit) }
 {
     let applied = running.most_applied(1);
-    let frames = limit.checked_add(10)?;
-    let frame_bytes = frames.checked_mul(46)?;
+    let frames = limit.checked_add(FRAMES_OF_A_CLOSE)?;
+    let frame_bytes = frames.checked_mul(MOST_SINGLE_FRAME)?;
     Some(Need {
         frames,
         frame_bytes,
-        texts: 1 + 11 * applied,
-        text_bytes: 4096 + 45_716 * applied,
+        texts: 1 + TEXTS_OF_A_COMMAND * applied,
+        text_bytes: MOST_LINE + TEXT_BYTES_OF_A_COMMAND * applied,
         faults: limit,
     })
 }

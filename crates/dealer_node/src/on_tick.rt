@@ -13,6 +13,9 @@ ghost use Rattle.dealer_node.specs.Handling.{IsWithin, AnswersUp};
 ghost use Rattle.dealer_node.specs.Calling.{close_need};
 
 use crate::fault::NodeFault;
+use crate::limits::{
+    FRAME_BYTES_OF_A_CLOSE, FRAMES_OF_A_CLOSE, TEXT_BYTES_OF_A_COMMAND, TEXTS_OF_A_COMMAND,
+};
 use crate::made::{Made, Need};
 use crate::post::Post;
 use crate::running::Running;
@@ -27,10 +30,10 @@ pub(crate) fn close_need(running: &Running) -> Need
 {
     let applied = running.most_applied(1);
     Need {
-        frames: 10,
-        frame_bytes: 460,
-        texts: 11 * applied,
-        text_bytes: 45_716 * applied,
+        frames: FRAMES_OF_A_CLOSE,
+        frame_bytes: FRAME_BYTES_OF_A_CLOSE,
+        texts: TEXTS_OF_A_COMMAND * applied,
+        text_bytes: TEXT_BYTES_OF_A_COMMAND * applied,
         faults: 0,
     }
 }

@@ -21,6 +21,7 @@ ghost use Rattle.dealer_node.specs.Starting.{Starts, StaysDown, GoesOver};
 ghost use Rattle.dealer_node.specs.Taking.{IsOfStart};
 
 use crate::fault::NodeFault;
+use crate::limits::{FRAME_BYTES_TO_ALL, FRAMES_TO_ALL};
 use crate::lines::show_header;
 use crate::made::{Made, Need};
 use crate::post::Post;
@@ -28,16 +29,17 @@ use crate::running::Running;
 use crate::sending::send_to_others;
 use crate::up::Up;
 use acceptor::Acceptor;
+use match_log::MOST_HEADER;
 use paxos_wire::{Ballot, Message};
 use promise_store::{Disk, Store, StoreFault};
 use std::alloc::{AllocError, Global};
 
 /// What a start makes at most: an Ask to each other node, and the header of the log.
 pub(crate) const START: Need = Need {
-    frames: 5,
-    frame_bytes: 230,
+    frames: FRAMES_TO_ALL,
+    frame_bytes: FRAME_BYTES_TO_ALL,
     texts: 1,
-    text_bytes: 263,
+    text_bytes: MOST_HEADER,
     faults: 0,
 };
 
