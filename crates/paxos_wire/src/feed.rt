@@ -10,6 +10,7 @@ use crate::fault::FrameFault;
 use crate::limits::{LEAST_LENGTH, LENGTH_BYTES, MOST_LENGTH};
 use crate::message::Message;
 use byteorder::{BigEndian, ByteOrder};
+use slot_log::remove_front;
 use std::alloc::{AllocError, Global};
 use std::marker::Model;
 
@@ -35,18 +36,6 @@ impl Model for Feed {
     ghost view = { λ f. record { waiting = drop f.taken f.bytes.items; room = vec_capacity f.bytes - (vec_len f.bytes - f.taken) } };
 
     ghost invariant = { IsKept };
-}
-
-/// Removes so many bytes from the front.
-fn remove_front(bytes: &mut Vec<u8>, count: usize)
-    requires { count ≤ vec_len bytes.old }
-    ensures items { bytes.new.items ≡ drop count bytes.old.items }
-    ensures len { vec_len bytes.new + count ≡ vec_len bytes.old }
-    ensures capacity { vec_capacity bytes.new ≡ vec_capacity bytes.old }
-{
-    let rest = bytes.len() - count;
-    bytes.rotate_left(count);
-    bytes.truncate(rest);
 }
 
 /// How many bytes in front count as taken once `count` more are: past the most that one frame can need,

@@ -1,4 +1,4 @@
-ghost use Rattle.std.specs.Prelude.{◌≡◌, ◌≢◌, ◌+◌, ◌<◌, ◌≤◌, ℕ, List, [], ◌∷◌, ◌++◌, length, drop, MatchOption, OnOk, OnErr, IsTrue, true, false, vec_len, vec_capacity};
+ghost use Rattle.std.specs.Prelude.{◌≡◌, ◌≢◌, ◌+◌, ◌<◌, ◌≤◌, ℕ, List, [], ◌∷◌, ◌++◌, length, MatchOption, OnOk, OnErr, IsTrue, true, false};
 ghost use Rattle.seat_session.specs.Feeds.{line_feeds};
 ghost use Rattle.seat_session.specs.Lines.{HasNoFeed, Breaks, BeginsWith, text_of};
 ghost use Rattle.seat_session.specs.Skipped.{Skips, is_skipped};
@@ -7,6 +7,7 @@ ghost use Rattle.seat_session.specs.Front.{IsFrontOf};
 use crate::feeds::line_feeds;
 use crate::front::Front;
 use matchstate::MOST_LINE;
+use slot_log::remove_front;
 use std::alloc::{AllocError, Global};
 use std::marker::Model;
 
@@ -67,7 +68,7 @@ impl LineBuffer {
         ensures err { OnErr result (self.new ≡ self.old) }
         ensures full { OnErr result (self.old.room < more) }
     {
-        drop_front(&mut self.bytes, self.taken);
+        remove_front(&mut self.bytes, self.taken);
         self.taken = 0;
         self.bytes.reserve(more)
     }
@@ -78,7 +79,7 @@ impl LineBuffer {
         ensures waiting { self.new.waiting ≡ self.old.waiting ++ piece.now }
         ensures room { self.old.room ≤ self.new.room + length piece.now }
     {
-        drop_front(&mut self.bytes, self.taken);
+        remove_front(&mut self.bytes, self.taken);
         self.taken = 0;
         self.bytes.extend_from_slice(piece).unwrap();
     }
@@ -158,18 +159,6 @@ fn is_skipped(text: &[u8]) -> bool
     ensures { result ≡ is_skipped text.now }
 {
     matches!(text, [b'#' | b';', ..])
-}
-
-/// Drops the first `count` bytes, and moves the others to the front of the memory.
-fn drop_front(bytes: &mut Vec<u8>, count: usize)
-    requires { count ≤ vec_len bytes.old }
-    ensures items { bytes.new.items ≡ drop count bytes.old.items }
-    ensures len { vec_len bytes.new + count ≡ vec_len bytes.old }
-    ensures capacity { vec_capacity bytes.new ≡ vec_capacity bytes.old }
-{
-    let left = bytes.len() - count;
-    bytes.rotate_left(count);
-    bytes.truncate(left);
 }
 
 /// The place of the first line feed.

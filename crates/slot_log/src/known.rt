@@ -1,9 +1,10 @@
-ghost use Rattle.std.specs.Prelude.{◌≡◌, ◌≢◌, ◌+◌, ◌-◌, ◌^◌, ◌<◌, ◌≤◌, length, drop, insert, vec_len, vec_capacity, reverse};
+ghost use Rattle.std.specs.Prelude.{◌≡◌, ◌≢◌, ◌+◌, ◌-◌, ◌^◌, ◌<◌, ◌≤◌, length, insert, vec_len, vec_capacity, reverse};
 ghost use Rattle.std.specs.Option.{option_copied};
 ghost use Rattle.slot_log.specs.SlotsInside.{run_of};
 ghost use Rattle.slot_log.specs.Slots.{Log, find, known_by, with_known, settled};
 
 use crate::command::Command;
+use crate::removal::remove_front;
 
 /// A command that is known at a slot.
 #[derive(Clone, Copy, Debug, Drop)]
@@ -80,16 +81,4 @@ pub(crate) fn settle(below: &mut Vec<Command>, beyond: &mut Vec<Known>)
         run += 1;
     }
     remove_front(beyond, run);
-}
-
-/// Removes so many from the front.
-fn remove_front(known: &mut Vec<Known>, count: usize)
-    requires { count ≤ vec_len known.old }
-    ensures items { known.new.items ≡ drop count known.old.items }
-    ensures len { vec_len known.new + count ≡ vec_len known.old }
-    ensures capacity { vec_capacity known.new ≡ vec_capacity known.old }
-{
-    let rest = known.len() - count;
-    known.rotate_left(count);
-    known.truncate(rest);
 }
