@@ -1,7 +1,7 @@
 ghost use Rattle.std.specs.Prelude.{◌≡◌, ◌+◌, ◌≤◌, ◌<◌, ◌++◌, ◌∷◌, [], length, slice_get, Some, OnOk, OnErr, IfSome, IfNone, ◌↔◌, IsNone};
-ghost use Rattle.std.specs.Prelude.{vec_len, vec_capacity};
 ghost use Rattle.dealer_world.specs.Rows.{start_of};
 
+use matchstate::put;
 use std::alloc::{AllocError, Global};
 use std::marker::Model;
 
@@ -81,7 +81,7 @@ impl<T: Copy + Drop> Rows<T> {
         ensures row_room { self.old.row_room ≤ self.new.row_room + 1 }
         ensures byte_room { self.old.byte_room ≤ self.new.byte_room + length text.now }
     {
-        extend_reserved(&mut self.bytes, text);
+        put(&mut self.bytes, text);
         self.entries.push_reserved(Entry {
             mark,
             end: self.bytes.len(),
@@ -98,14 +98,4 @@ fn start<T: Copy + Drop>(entries: &[Entry<T>], number: usize) -> usize
         Some(before) => entries[before].end,
         None => 0,
     }
-}
-
-/// Puts bytes behind those that are there, into room that was reserved for them.
-fn extend_reserved(bytes: &mut Vec<u8>, more: &[u8])
-    requires { vec_len bytes.old + length more.now ≤ vec_capacity bytes.old }
-    ensures items { bytes.new.items ≡ bytes.old.items ++ more.now }
-    ensures capacity { vec_capacity bytes.old ≤ vec_capacity bytes.new }
-    ensures len { vec_len bytes.new ≡ vec_len bytes.old + length more.now }
-{
-    bytes.extend_from_slice(more).unwrap();
 }
