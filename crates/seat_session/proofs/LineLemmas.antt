@@ -1,8 +1,7 @@
 -- Lists of bytes with and without line feeds.
 use Rattle.std.proofs.Common.{◌≡◌, ◌≢◌, ℕ, zero, suc, ◌+◌, ◌<◌, ◌≤◌, List, [], ◌∷◌, ◌++◌, length, take, drop, get_or, refl, sym, ◌∙◌, ap, arith, length-take}
-use Rattle.std.specs.List.{All}
-use Rattle.std.proofs.lemmas.List.{drop_more, take-append-drop, drop_at, append_assoc, length-append, get_or_at, get_or_append_left}
-use Rattle.std.proofs.lemmas.List.Elements.{recursion_from_All, All-from_recursion}
+use Rattle.std.proofs.lemmas.List.{take-append-drop, drop_at, append_assoc, length-append, get_or_at, get_or_append_left}
+use Rattle.std.proofs.lemmas.List.Elements.{All-from_recursion}
 use Rattle.std.proofs.lemmas.Bool.Decides.{nat_tests}
 use Rattle.seat_session.specs.Lines.{HasNoFeed, Breaks, BeginsWith, IsOverlong, text_of}
 
@@ -44,15 +43,6 @@ pub text_of-other : (text : List ℕ) (last : ℕ) → last ≢ 13 → text_of (
 text_of-other [] last other = grind (arith, nat_tests)
 text_of-other (x ∷ []) last other = grind (arith, nat_tests)
 text_of-other (x ∷ y ∷ more) last other = ap (λ (l : List ℕ). x ∷ l) (text_of-other (y ∷ more) last other)
-
--- the bytes before and behind a place with a line feed
-pub breaks_at : (bytes : List ℕ) (place : ℕ) → place < length bytes → All (λ byte. byte ≢ 10) (take place bytes) → get_or bytes place 0 ≡ 10
-    → (line rest : List ℕ) × Breaks bytes line rest × (length line ≡ place)
-breaks_at bytes place inside clear found =
-    let behind : drop place bytes ≡ 10 ∷ drop (place + 1) bytes = rw (drop_more bytes place 0 inside, found) refl in
-    let joined : bytes ≡ take place bytes ++ 10 ∷ drop (place + 1) bytes = sym (take-append-drop place bytes) ∙ ap (λ (l : List ℕ). take place bytes ++ l) behind in
-    let one_line = recursion_from_All (λ byte. byte ≢ 10) (take place bytes) clear in
-    (take place bytes, drop (place + 1) bytes, record { joined = joined; one_line = one_line }, simp length-take (omega arith))
 
 -- what is left behind the line feed at the end of a line
 pub drop_line : (stream line rest : List ℕ) (place : ℕ) → Breaks stream line rest → length line ≡ place → drop (place + 1) stream ≡ rest

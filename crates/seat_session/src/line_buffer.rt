@@ -6,7 +6,7 @@ ghost use Rattle.seat_session.specs.Front.{IsFrontOf};
 
 use crate::feeds::line_feeds;
 use crate::front::Front;
-use matchstate::MOST_LINE;
+use matchstate::{MOST_LINE, cut};
 use slot_log::remove_front;
 use std::alloc::{AllocError, Global};
 use std::marker::Model;
@@ -166,12 +166,10 @@ fn first_feed(bytes: &[u8]) -> Option<usize>
     ensures { MatchOption result (HasNoFeed bytes.now) (λ place.
         (line rest : List ℕ) × Breaks bytes.now line rest × (length line ≡ place)) }
 {
-    for (place, byte) in bytes.iter().enumerate() {
-        if *byte == b'\n' {
-            return Some(place);
-        }
+    match cut(bytes, b'\n') {
+        Some(parts) => Some(parts.0.len()),
+        None => None,
     }
-    None
 }
 
 /// The line without a carriage return at its end.
