@@ -1,11 +1,20 @@
 //! One file as a store sees it: what a read gives, and what a crash may leave.
 
 ghost use Rattle.std.specs.Prelude.{◌≡◌, ◌⊎◌, ◌+◌, ◌^◌, ◌<◌, ◌≤◌, ℕ, Bool, List, length, take, drop, IsTrue, IfOk, OnOk};
-ghost use Rattle.promise_store.specs.Disks.{Holds, Torn, TornFrom, Within, Only, Elapses, Counts};
+ghost use Rattle.promise_store.specs.Disks.{Holds, Torn, TornFrom, Within, Only, Elapses, Counts, Rose};
 
 /// A call of a disk failed. What a failed write left in its range is known only after a sync.
 #[derive(Clone, Copy, Debug, PartialEq, Eq)]
 pub struct DiskFault;
+
+/// The fault of a call, which is counted.
+pub(crate) fn count_failure(failures: &mut u64) -> DiskFault
+    ensures rose { Rose failures.old failures.new }
+    ensures more { failures.old ≤ failures.new }
+{
+    *failures = failures.saturating_add(1);
+    DiskFault
+}
 
 /// One file. Any call may fail, and a crash may come between any two calls and inside each.
 ///

@@ -1,10 +1,9 @@
 //! A file of the operating system. No contract can say what it holds, so it isn't honest, and has no images.
 
-ghost use Rattle.std.specs.Prelude.{◌≡◌, ◌≤◌, [], false};
+ghost use Rattle.std.specs.Prelude.{◌≡◌, [], false};
 ghost use Rattle.promise_store.specs.NoDisk.{none_left, never_honest, never_left};
-ghost use Rattle.promise_store.specs.Disks.{Rose};
 
-use crate::disk::{Disk, DiskFault};
+use crate::disk::{Disk, DiskFault, count_failure};
 use std::fs::File;
 use std::os::unix::fs::FileExt;
 
@@ -18,14 +17,6 @@ pub struct FileDisk {
     failures: u64,
     /// A sync failed.
     unsure: bool,
-}
-
-fn count_failure(failures: &mut u64) -> DiskFault
-    ensures rose { Rose failures.old failures.new }
-    ensures more { failures.old ≤ failures.new }
-{
-    *failures = failures.saturating_add(1);
-    DiskFault
 }
 
 impl FileDisk {

@@ -1,11 +1,11 @@
 //! A file in memory, which keeps a record of its calls; each call is told whether it is to fail.
 
 ghost use Rattle.std.specs.Prelude.{◌≡◌, ◌∷◌, ◌++◌, [], ◌+◌, ◌<◌, ◌≤◌, ◌%◌, ◌/◌, ◌^◌, List, ℕ, length, take, drop, map, ◌↔◌, if◌then◌else◌, IsTrue, IfOk, IsOk, IsErr, OnOk, OnErr, true, false};
-ghost use Rattle.promise_store.specs.Disks.{Holds, TornFrom, Within, Only, Elapses, Counts, Rose};
+ghost use Rattle.promise_store.specs.Disks.{Holds, TornFrom, Within, Only, Elapses, Counts};
 ghost use Rattle.promise_store.specs.Calls.{event_of, events, landed, replayed, picked, write_of, IsTied};
 
 use crate::call::Call;
-use crate::disk::DiskFault;
+use crate::disk::{DiskFault, count_failure};
 use std::alloc::{AllocError, Global};
 
 /// A file in memory. A write of no bytes does nothing, also behind the end.
@@ -26,14 +26,6 @@ pub struct Medium {
     begun: usize,
     failures: u64,
     ghost tied: { IsTied bytes.items base.items based unsynced begun calls.items },
-}
-
-fn fail(failures: &mut u64) -> DiskFault
-    ensures rose { Rose failures.old failures.new }
-    ensures more { failures.old ≤ failures.new }
-{
-    *failures = failures.saturating_add(1);
-    DiskFault
 }
 
 /// Makes of a write what its digit says: 0 the old bytes, with zeros past the old end; 1 the new bytes; else ones. An
@@ -170,7 +162,7 @@ impl Medium {
         ensures failed { Counts result (count_of self.old) (count_of self.new) }
     {
         if !passes {
-            return Err(fail(&mut self.failures));
+            return Err(count_failure(&mut self.failures));
         }
         Ok(self.bytes.len())
     }
@@ -186,7 +178,7 @@ impl Medium {
     {
         let len = self.bytes.len();
         if !passes || at > len || buffer.len() > len - at {
-            return Err(fail(&mut self.failures));
+            return Err(count_failure(&mut self.failures));
         }
         buffer.copy_from_slice(&self.bytes[at..at + buffer.len()]);
         Ok(())
@@ -206,15 +198,15 @@ impl Medium {
             return if passes {
                 Ok(())
             } else {
-                Err(fail(&mut self.failures))
+                Err(count_failure(&mut self.failures))
             };
         }
         let Ok(copy) = bytes.to_vec(self.alloc) else {
-            return Err(fail(&mut self.failures));
+            return Err(count_failure(&mut self.failures));
         };
         // The room for the call comes first, so that nothing fails behind the write.
         if self.calls.reserve(1).is_err() || write(&mut self.bytes, passes, at, bytes).is_err() {
-            return Err(fail(&mut self.failures));
+            return Err(count_failure(&mut self.failures));
         }
         self.calls.push_reserved(Call::Wrote {
             at,
@@ -222,7 +214,7 @@ impl Medium {
             done: passes,
         });
         if !passes {
-            return Err(fail(&mut self.failures));
+            return Err(count_failure(&mut self.failures));
         }
         Ok(())
     }
@@ -237,10 +229,10 @@ impl Medium {
         ensures failed { Counts result (count_of self.old) (count_of self.new) }
     {
         if !passes {
-            return Err(fail(&mut self.failures));
+            return Err(count_failure(&mut self.failures));
         }
         if note(&mut self.calls, Call::Synced).is_err() {
-            return Err(fail(&mut self.failures));
+            return Err(count_failure(&mut self.failures));
         }
         self.unsynced = self.calls.len();
         Ok(())

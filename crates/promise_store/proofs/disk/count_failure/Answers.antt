@@ -1,5 +1,5 @@
 use Rattle.std.proofs.Common.{rules}
-use Rattle.promise_store.proofs.file_disk.count_failure.Goals as goal
+use Rattle.promise_store.proofs.disk.count_failure.Goals as goal
 
 pub returns-clause-rose : goal.returns-clause-rose
 returns-clause-rose c = search rules
