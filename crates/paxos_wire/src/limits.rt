@@ -28,8 +28,9 @@ pub const BALLOT_BYTES: usize = 5;
 /// The bytes of a slot.
 pub const SLOT_BYTES: usize = 4;
 
-/// The most bytes of a command: those of a deal for ten players.
-pub const MOST_COMMAND: usize = 31;
+/// The most bytes of a command: those of a deal for ten players, which has six bytes of its kind, its hand and the count
+/// of its cards before them.
+pub const MOST_COMMAND: usize = 6 + card_core::limits::CARDS;
 
 /// The least that a frame's length may say: the version byte and the kind.
 pub const LEAST_LENGTH: usize = 2;
@@ -42,8 +43,20 @@ pub const LENGTH_BYTES: usize = 4;
 
 /// The most bytes of the frame of one command, its length's four among them: those of an Accept, or an Accepted,
 /// of a deal for ten players.
-pub const MOST_SINGLE_FRAME: usize = 46;
+pub const MOST_SINGLE_FRAME: usize = LENGTH_BYTES
+    + LEAST_LENGTH
+    + BALLOT_BYTES
+    + SLOT_BYTES
+    + MOST_COMMAND;
+
+/// The most bytes of an entry of a Promise.
+const MOST_ENTRY: usize = SLOT_BYTES + BALLOT_BYTES + MOST_COMMAND;
 
 /// The most bytes of a frame, its length's four among them: those of a Promise that tells of such a deal at each of
-/// its slots.
-pub const MOST_FRAME: usize = 2576;
+/// its slots, behind the byte that counts them.
+pub const MOST_FRAME: usize = LENGTH_BYTES
+    + LEAST_LENGTH
+    + BALLOT_BYTES
+    + SLOT_BYTES
+    + 1
+    + WINDOW * MOST_ENTRY;
