@@ -11,25 +11,13 @@ use crate::bytes::{ballot_bytes, command_bytes, slot_bytes};
 use crate::entry::Entry;
 use slot_log::Command;
 
-/// Puts bytes behind the last one.
-fn put(out: &mut Vec<u8>, bytes: &[u8])
-    requires { vec_len out.old + length bytes.now ≤ vec_capacity out.old }
-    ensures items { out.new.items ≡ out.old.items ++ bytes.now }
-    ensures capacity { vec_capacity out.old ≤ vec_capacity out.new }
-{
-    match out.extend_from_slice(bytes) {
-        Ok(()) => (),
-        Err(_) => unreachable!(),
-    }
-}
-
 /// Puts a number of four bytes behind the last one.
 pub(crate) fn put_number(out: &mut Vec<u8>, number: u32)
     requires { vec_len out.old + 4 ≤ vec_capacity out.old }
     ensures items { out.new.items ≡ out.old.items ++ big_bytes 4 number }
     ensures capacity { vec_capacity out.old ≤ vec_capacity out.new }
 {
-    put(out, &slot_bytes(number));
+    out.extend_from_slice(&slot_bytes(number)).unwrap();
 }
 
 /// Puts a ballot behind the last byte.
@@ -38,7 +26,7 @@ pub(crate) fn put_ballot(out: &mut Vec<u8>, ballot: Ballot)
     ensures items { out.new.items ≡ out.old.items ++ ballot_text ballot }
     ensures capacity { vec_capacity out.old ≤ vec_capacity out.new }
 {
-    put(out, &ballot_bytes(ballot));
+    out.extend_from_slice(&ballot_bytes(ballot)).unwrap();
 }
 
 /// Puts a command behind the last byte.
@@ -48,7 +36,7 @@ pub(crate) fn put_command(out: &mut Vec<u8>, command: &Command)
     ensures capacity { vec_capacity out.old ≤ vec_capacity out.new }
     ensures dealt { IsDealt command.now }
 {
-    put(out, &command_bytes(command));
+    out.extend_from_slice(&command_bytes(command)).unwrap();
 }
 
 /// Puts an entry behind the last byte.
