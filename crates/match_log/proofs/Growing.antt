@@ -1,8 +1,9 @@
 -- What each command adds to the log, and so that it only grows.
-use Rattle.std.proofs.Common.{◌≡◌, ℕ, suc, ◌≤◌, List, [], ◌∷◌, ◌++◌, length, sym, ◌∙◌, ap, refl, append_assoc, arith, Bool, true, false, not, cond}
+use Rattle.std.proofs.Common.{◌≡◌, ℕ, suc, ◌≤◌, List, [], ◌∷◌, ◌++◌, length, sym, ◌∙◌, ap, refl, append_assoc, arith, true, false, not, cond}
 use Rattle.std.specs.Prelude.{Option, Some, None, is_none, nat_le}
 use Rattle.std.specs.List.{flat_map}
 use Rattle.std.specs.Option.{option_to_list}
+use Rattle.std.proofs.lemmas.Bool.{not-false}
 use Rattle.std.proofs.lemmas.Bool.Decides.{nat_tests}
 use Rattle.std.proofs.lemmas.List.{append-nil}
 use Rattle.std.proofs.lemmas.List.Sums.{sum_by-cons}
@@ -21,10 +22,6 @@ use Rattle.matchstate.proofs.Seats.{newest_at}
 use Rattle.slot_log.proofs.Allowed.{past_test}
 
 -- ---- how many hands are finished
-
-not_false : (b : Bool) → not b ≡ false → b ≡ true
-not_false true e = refl
-not_false false e = cc
 
 finished_more : (game : Game) (newest : Hand) (earlier : List Hand) → is_finished game newest ≡ true → finished_count game (newest ∷ earlier) ≡ suc (finished_count game earlier)
 finished_more game newest earlier ended =
@@ -45,7 +42,7 @@ EarlierOver game (newest ∷ earlier) = finished_count game earlier ≡ length e
 all_over : (game : Game) (hands : List Hand) → EarlierOver game hands → is_running game hands ≡ false → finished_count game hands ≡ length hands
 all_over game [] over none = refl
 all_over game (newest ∷ earlier) over none =
-    let more = finished_more game newest earlier (not_false (is_finished game newest) none) in
+    let more = finished_more game newest earlier (not-false (is_finished game newest) none) in
     omega arith
 
 -- ---- why a command fits

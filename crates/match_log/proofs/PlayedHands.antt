@@ -1,6 +1,7 @@
 -- The hands of a list of commands that ends the match are played by the rules to their end.
 use Rattle.std.proofs.Common.{◌≡◌, ◌≢◌, ℕ, ◌+◌, ◌*◌, ◌<◌, ◌≤◌, Bool, true, false, not, cond, eqb, leb, List, [], ◌∷◌, length, Option, Some, None, refl, ap, subst, arith}
 use Rattle.std.specs.List.{AllByRecursion}
+use Rattle.std.proofs.lemmas.Bool.{not-false}
 use Rattle.std.proofs.lemmas.Bool.Decides.{nat_tests}
 use Rattle.std.proofs.lemmas.List.Sums.{sum_by-cons}
 use Rattle.game_def.specs.Game.{Game}
@@ -36,10 +37,6 @@ record IsCourse (game : Game) (count : ℕ) (hands : List Hand) : Type 0 where
   in_order : AreInOrder game hands
   few : length hands ≤ count
 
-stopped : (b : Bool) → not b ≡ false → b ≡ true
-stopped true e = refl
-stopped false e = cc
-
 -- no hand runs where there is no reason against a deal
 deal_begins : (game : Game) (count number : ℕ) (deal : List ℕ) (hands : List Hand) → reason_of game count hands (Deal number deal) ≡ None → (finished_count game hands < count) × (is_running game hands ≡ false) × (length deal ≡ 2 * game.players + 5)
 deal_begins game count number deal hands none =
@@ -67,7 +64,7 @@ none_to_act game count number index action none = let first = past_test (leb cou
 all_played : (game : Game) (hands : List Hand) → AreInOrder game hands → is_running game hands ≡ false → AllByRecursion (IsPlayed game) hands
 all_played game [] in_order none_runs = tt
 all_played game (newest ∷ earlier) in_order none_runs =
-    (record { dealt = in_order.0.dealt; legal = in_order.0.legal; finished = stopped (is_finished game newest) none_runs }, in_order.1)
+    (record { dealt = in_order.0.dealt; legal = in_order.0.legal; finished = not-false (is_finished game newest) none_runs }, in_order.1)
 
 command_fits : AllowedWithoutFault → (game : Game) (count : ℕ) (hands : List Hand) (command : Command) → DealsFairly command → reason_of game count hands command ≡ None → IsCourse game count hands → IsCourse game count (with_command hands command)
 command_fits law game count hands (Deal number deal) fair none course =

@@ -2,6 +2,7 @@
 use Rattle.std.proofs.Common.{◌≡◌, ℕ, zero, suc, ◌+◌, ◌-◌, ◌<◌, ◌≤◌, Bool, true, false, not, cond, eqb, List, [], ◌∷◌, ◌++◌, map, length, take, drop, Option, Some, None, refl, sym, ap, ◌∙◌, subst, arith, ◌⊎◌, inl}
 use Rattle.std.specs.List.{slice_get, concat, range_with_len}
 use Rattle.std.specs.Option.{option_map, unwrap_or}
+use Rattle.std.proofs.lemmas.Bool.{not-false}
 use Rattle.std.proofs.lemmas.Bool.Decides.{nat_tests}
 use Rattle.std.proofs.lemmas.List.{append-nil, length-drop, take_all, take-take, drop-take, drop-drop, take-append-drop}
 use Rattle.std.proofs.lemmas.List.Sums.{sum_by-cons}
@@ -14,6 +15,7 @@ use Rattle.slot_log.specs.declared.reason.Reason.{Reason}
 use Rattle.slot_log.specs.declared.reason.Reason.TheVariants.{MatchDone, HandRunning, WrongHand}
 use Rattle.slot_log.specs.declared.command.Command.{Command}
 use Rattle.slot_log.specs.declared.command.Command.TheVariants.{Deal, Act}
+use Rattle.slot_log.proofs.Allowed.{past_test}
 use Rattle.matchstate.specs.Cards.{boards_of, holes_seen}
 use Rattle.matchstate.specs.View.{View, view_of, sees, rounds_seen, position_of, seat_view}
 use Rattle.matchstate.specs.Line.{line_text}
@@ -81,19 +83,11 @@ module _ (Seen : ℕ → Place → Type 0) (game : Game) (count : ℕ) where
   Tidy [] = Unit {0}
   Tidy (h ∷ hs) = finished_count game hs ≡ length hs
 
-  past_test : {A : Type 0} (b : Bool) (reason : A) (rest : Option A) → cond b (Some reason) rest ≡ None → (b ≡ false) × (rest ≡ None)
-  past_test true reason rest e = cc
-  past_test false reason rest e = (refl, e)
-
-  from_not : (b : Bool) → not b ≡ false → b ≡ true
-  from_not true e = refl
-  from_not false e = cc
-
   all_finished : (hs : List Hand) → Tidy hs → is_running game hs ≡ false → finished_count game hs ≡ length hs
   unfolding Tidy
   all_finished [] tidy stopped = refl
   all_finished (h ∷ hs) tidy stopped =
-      let over : is_finished game h ≡ true = from_not (is_finished game h) stopped in
+      let over : is_finished game h ≡ true = not-false (is_finished game h) stopped in
       let one : ◌≡◌ {A = ℕ} (cond (is_finished game h) 1 0) 1 = rw over refl in
       omega (arith, sum_by-cons (λ x. cond (is_finished game x) 1 0) h hs)
 

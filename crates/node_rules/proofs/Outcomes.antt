@@ -1,7 +1,7 @@
 -- What came of a quorum's votes, from call to call.
 use Rattle.std.proofs.Common.{◌≡◌, ℕ, ◌<◌, ◌+◌, inl, inr, Bool, true, false, not, if◌then◌else◌, List, [], ◌∷◌, Option, Some, None, Result, Ok, Err, refl, sym, ap, subst, ◌∙◌, eq-eqb}
 use Rattle.std.specs.Prelude.{is_none, IsOk, IsSome}
-use Rattle.std.proofs.lemmas.Bool.{lt-ltb, le-ltb}
+use Rattle.std.proofs.lemmas.Bool.{lt-ltb, le-ltb, not-false}
 use Rattle.paxos_wire.specs.declared.limits.TheConstants.{WINDOW, SLOTS}
 use Rattle.paxos_wire.specs.declared.ballot.Ballot.{Ballot}
 use Rattle.paxos_wire.specs.declared.fault.FrameFault.{FrameFault}
@@ -461,11 +461,7 @@ known_so : (g : Given) (l : Learned) (slot : ℕ) (command : Command) (held : Op
     → known_at (if is_none held then with_command l.log slot command else l.log) slot ≡ Some command
 known_so g l slot command None log is_slot e same =
     (g.one_more l.log slot command log is_slot e).1 slot ∙ ap (λ (b : Bool). if b then Some command else known_at l.log slot) (eq-eqb slot slot refl)
-known_so g l slot command (Some other) log is_slot e same = e ∙ ap (λ (c : Command). Some c) ((g.same other command).0 (not_false (is_same other command) same))
-  where
-    not_false : (b : Bool) → not b ≡ false → b ≡ true
-    not_false true h = refl
-    not_false false h = absurd (cc)
+known_so g l slot command (Some other) log is_slot e same = e ∙ ap (λ (c : Command). Some c) ((g.same other command).0 (not-false (is_same other command) same))
 
 never_ok : (r : Result (Unit {0}) SlotFault) → r ≡ Err KnownOther → IsOk r → ⊥
 never_ok (Ok a) e h = cc

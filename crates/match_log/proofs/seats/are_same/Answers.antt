@@ -1,14 +1,8 @@
-use Rattle.std.proofs.Common.{◌≡◌, ℕ, ◌<◌, ◌∷◌, ◌++◌, [], Bool, true, false, not, List, take, get_or, length, sym, ap, ◌∙◌, arith}
+use Rattle.std.proofs.Common.{◌≡◌, ℕ, ◌<◌, ◌∷◌, ◌++◌, [], List, take, get_or, length, sym, ap, ◌∙◌, arith}
+use Rattle.std.proofs.lemmas.Bool.{not-false}
 use Rattle.std.proofs.lemmas.List.{get_or_default, take_more}
 use Rattle.std.proofs.lemmas.Slice.Eq.{bytes_eq-Decides}
 use Rattle.match_log.proofs.seats.are_same.Goals as goal
-
-not_not : (b : Bool) → not b ≡ false → b ≡ true
-not_not true e = e'
-  where
-    e' : true ≡ true
-    e' = cc
-not_not false e = cc
 
 pub loop-place-preserved : goal.loop-place-preserved
 loop-place-preserved c =
@@ -18,7 +12,7 @@ loop-place-preserved c =
     let within : place < length names = c.loop-place-test.true in
     let within_others : place < length others = omega (arith, c.requires) in
     let told = bytes_eq-Decides c.as_bytes.result.now c.as_bytes-in-loop-place.result.now in
-    let same : c.as_bytes.result.now ≡ c.as_bytes-in-loop-place.result.now = told.0 (not_not _ (sym c.ne.ensures ∙ c.if-ne.false)) in
+    let same : c.as_bytes.result.now ≡ c.as_bytes-in-loop-place.result.now = told.0 (not-false _ (sym c.ne.ensures ∙ c.if-ne.false)) in
     let left : c.as_bytes.result.now ≡ get_or names place [] = c.as_bytes.ensures.value ∙ (c.index-names-place.is ∙ get_or_default names place c.index-names-place.result [] within) in
     let right : c.as_bytes-in-loop-place.result.now ≡ get_or others place [] =
     c.as_bytes-in-loop-place.ensures.value ∙ (c.index-others-place.is ∙ get_or_default others place c.index-others-place.result [] within_others) in
