@@ -1,6 +1,6 @@
 -- What comes of an event, of a delivery and of a new cluster, as it is printed.
-use Rattle.std.proofs.Common.{◌≡◌, ◌≢◌, ℕ, ◌+◌, ◌-◌, ◌≤◌, ◌<◌, Bool, true, false, List, [], ◌∷◌, ◌++◌, length, take, replicate, ap, subst, sym, ◌∙◌, refl, arith, length-append, length-set, Result, Ok, Err}
-use Rattle.std.specs.Prelude.{slice_get, slice_set, Some, OnOk}
+use Rattle.std.proofs.Common.{◌≡◌, ◌≢◌, ℕ, ◌+◌, ◌-◌, ◌≤◌, ◌<◌, Bool, true, false, List, [], ◌∷◌, ◌++◌, length, take, replicate, ap, subst, sym, ◌∙◌, refl, arith, length-append, length-set, Result, Err}
+use Rattle.std.specs.Prelude.{slice_get, slice_set, Some}
 use Rattle.std.specs.List.{flat_map}
 use Rattle.std.proofs.lemmas.Grind.{flat_map-append}
 use Rattle.std.proofs.lemmas.List.{append-nil, take_more, length-replicate}
@@ -19,10 +19,6 @@ use Rattle.playing.specs.Playing.{Scene, Happens, delivering, header_text}
 use Rattle.playing.specs.PlayingInside.{marks_of}
 use Rattle.playing.proofs.Marking.{marked_all, marked_more}
 use Rattle.playing.proofs.Gaining.{frames_gained}
-
-pub on_ok_map : {A E : Type 0} (r : Result A E) (P Q : Type 0) → (P → Q) → OnOk r P → OnOk r Q
-on_ok_map (Ok a) P Q f p = f p
-on_ok_map (Err e) P Q f p = tt
 
 -- a cluster with marks, as a scene
 abbrev pub marked : View (Node MemoryDisk) → List Bool → Scene

@@ -1,6 +1,6 @@
 -- What a command that is taken does to a match, and the answer to it.
 use Rattle.std.proofs.Common.{◌≡◌, ℕ, List, ◌∷◌, sym, ◌∙◌, ap, subst, refl, ◌++◌, ◌≤◌, [], Bool, true, false, cond}
-use Rattle.std.specs.Prelude.{Option, Some, None, IsSome, IsNone, IfNone, Result, Ok, Err, OnOk, OnErr}
+use Rattle.std.specs.Prelude.{Option, Some, None, IsSome, IsNone, IfNone}
 use Rattle.std.proofs.lemmas.List.{append-nil}
 use Rattle.game_def.specs.Game.{Game}
 use Rattle.slot_log.specs.Hand.{Hand, Match}
@@ -19,14 +19,6 @@ use Rattle.streamed.specs.Running.{Stands}
 use Rattle.streamed.specs.declared.dealing.Dealing.{Dealing}
 use Rattle.streamed.specs.declared.script_line.ScriptLine.{ScriptLine}
 use Rattle.streamed.specs.declared.script_line.ScriptLine.TheVariants.{Names, Told}
-
-pub on_ok_map : {A E : Type 0} (r : Result A E) (P Q : Type 0) → (P → Q) → OnOk r P → OnOk r Q
-on_ok_map (Ok a) P Q f p = f p
-on_ok_map (Err e) P Q f p = tt
-
-pub on_err_map : {A E : Type 0} (r : Result A E) (P Q : Type 0) → (P → Q) → OnErr r P → OnErr r Q
-on_err_map (Ok a) P Q f p = tt
-on_err_map (Err e) P Q f p = f p
 
 -- once the seats are named nothing more is asked of the commands
 some_told : (names : Option (List (List ℕ))) (P : Type 0) → IsSome names → IfNone names P

@@ -1,8 +1,8 @@
 use Rattle.std.proofs.Common.{◌≡◌, [], ◌∷◌, ◌++◌, ◌∙◌, ap, subst, sym, List, ℕ}
+use Rattle.std.proofs.lemmas.Result.{on_ok_weaker, on_err_weaker}
 use Rattle.playing.specs.Playing.{Answers}
 use Rattle.playing.specs.PlayingInside.{scene_of}
 use Rattle.streamed.proofs.Streams.{on_err}
-use Rattle.streamed.proofs.Taking.{on_ok_map, on_err_map}
 use Rattle.match_runs.proofs.Scripting.{plays_so_far, play_line_answered, play_line_begun}
 use Rattle.match_runs.proofs.scripted.Scripted.end_line.Goals as goal
 
@@ -18,7 +18,7 @@ returns-clause-ok g c =
     let after = scene_of c.answer.new.self in
     let by_line = subst (λ (l : List ℕ). Answers (scene_of r.playing) l done.0 after) c.deref.ensures.value done.2 in
     let answers = subst (λ (t : List ℕ). Answers (scene_of r.playing) r.line.items t after) (sym text_is) by_line in
-    on_ok_map c.send.result _ _ (λ sent plan start seen reaches. play_line_answered plan start _ _ seen shown r _ answers c.answer.ensures.promised c.clear-2.ensures.items sent reaches) c.send.ensures.ok
+    on_ok_weaker c.send.result (λ sent plan start seen reaches. play_line_answered plan start _ _ seen shown r _ answers c.answer.ensures.promised c.clear-2.ensures.items sent reaches) c.send.ensures.ok
 
 pub returns-clause-err : goal.returns-clause-err
 returns-clause-err g c =
@@ -29,5 +29,5 @@ returns-clause-err g c =
     let after = scene_of c.answer.new.self in
     let by_line = subst (λ (l : List ℕ). Answers (scene_of r.playing) l done.0 after) c.deref.ensures.value done.2 in
     let answers = subst (λ (t : List ℕ). Answers (scene_of r.playing) r.line.items t after) (sym text_is) by_line in
-    on_err_map c.send.result _ _
+    on_err_weaker c.send.result
     (λ sent plan start seen reaches. play_line_begun plan start _ _ seen shown sent.0 sent.1 r after answers c.answer.ensures.promised sent.2 sent.3 reaches) c.send.ensures.err

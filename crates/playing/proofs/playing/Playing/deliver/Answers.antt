@@ -1,11 +1,12 @@
 use Rattle.std.proofs.Common.{◌≡◌, [], ◌∷◌, ℕ, List, ap, subst, rules}
 use Rattle.std.specs.Prelude.{slice_get, Some}
+use Rattle.std.proofs.lemmas.Result.{on_ok_weaker}
 use Rattle.dealer_world.specs.Records.{Frame, Delivered}
 use Rattle.dealer_world.specs.declared.event.Event.TheVariants as event
 use Rattle.dealer_world.specs.Viewing.{view_of}
 use Rattle.playing.specs.Playing.{Scene, Happens}
 use Rattle.playing.specs.PlayingInside.{scene_of}
-use Rattle.playing.proofs.Happening.{on_ok_map, delivering_is}
+use Rattle.playing.proofs.Happening.{delivering_is}
 use Rattle.playing.proofs.playing.Playing.deliver.Goals as goal
 
 pub returns : goal.returns
@@ -18,7 +19,7 @@ returns c =
     let e = event.Frame c.in-Some.frame.from c.in-Some.frame.to c.in_ok-to_vec.field-0 in
     let bytes : c.in_ok-to_vec.field-0.items ≡ c.in-Some.frame.bytes.now = search rules in
     let marked_one = delivering_is (view_of here.cluster) here.marks c.deliver.new.self number old here.within c.in_ok-mark_all.ensures.all c.deliver.ensures c.in_ok-mark_all.ensures.same in
-    on_ok_map c.happen.result _ _
+    on_ok_weaker c.happen.result
     (λ happens. (
       happens.0,
       happens.1,

@@ -1,4 +1,5 @@
 use Rattle.std.proofs.Common.{◌≡◌, ◌≤◌, ◌∙◌, ℕ, Err, ap, rules, arith, length}
+use Rattle.std.proofs.lemmas.Result.{on_ok_weaker}
 use Rattle.promise_store.specs.contracts.memory_disk.MemoryDiskDisk.TheImpl.{ghosts as in_memory}
 use Rattle.dealer_node.specs.Outs.{Told}
 use Rattle.dealer_node.specs.declared.fault.NodeFault.TheVariants.{OutOfMemory}
@@ -6,7 +7,7 @@ use Rattle.dealer_world.specs.Events.{node_of}
 use Rattle.dealer_world.specs.Viewing.{view_of}
 use Rattle.playing.specs.Showing.{event_text}
 use Rattle.playing.proofs.Gaining.{frames_gained, frames_stay}
-use Rattle.playing.proofs.Happening.{on_ok_map, happened}
+use Rattle.playing.proofs.Happening.{happened}
 use Rattle.playing.proofs.playing.Playing.happen.Goals as goal
 
 pub put_event-requires : goal.put_event-requires
@@ -26,7 +27,7 @@ returns c =
     let text = event_text c.node-node.result first made answer in
     let printed = ap (λ (n : ℕ). event_text n first made answer) c.node-node.ensures ∙ ap (λ (k : ℕ). event_text (node_of e) k made answer) c.in_ok-first.ensures.count
     ∙ ap (λ (t : Told). event_text (node_of e) (length old.all.sent) t answer) c.last.ensures in
-    on_ok_map c.put_event.result _ _
+    on_ok_weaker c.put_event.result
     (λ shown. (text, shown, happened old (view_of c.step-answer.new.self) c.args.self.now.marks e answer text ample c.step-answer.ensures.stepped c.args.self.now.within printed))
     c.put_event.ensures
 

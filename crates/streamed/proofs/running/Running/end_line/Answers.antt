@@ -1,7 +1,7 @@
 use Rattle.std.proofs.Common.{[], ◌∷◌, ◌++◌, ◌∙◌, ap}
+use Rattle.std.proofs.lemmas.Result.{on_ok_weaker, on_err_weaker}
 use Rattle.streamed.specs.Answer.{answer}
 use Rattle.streamed.proofs.Streams.{on_err}
-use Rattle.streamed.proofs.Taking.{on_ok_map, on_err_map}
 use Rattle.streamed.proofs.Progress.{LineEnds, begins_so_far, line_answered, line_begun}
 use Rattle.streamed.proofs.running.Running.end_line.Goals as goal
 
@@ -16,7 +16,7 @@ returns-clause-ok g c =
       answered = λ game count log before stands. c.deref-2.ensures.value ∙ c.in_ok-take.ensures.answered game count log before stands
           ∙ ap (λ z. z ++ answer game count log before c.read-said.result) c.clear-2.ensures.items;
     } in
-    on_ok_map c.send.result _ _
+    on_ok_weaker c.send.result
     (λ sent game count log start seen shows. line_answered game count log start _ _ seen c.deref-2.result.now c.args.self.now c.read-said.result _ ends c.clear.ensures sent shows)
     c.send.ensures.ok
 
@@ -28,6 +28,6 @@ returns-clause-err g c =
       answered = λ game count log before stands. c.deref-2.ensures.value ∙ c.in_ok-take.ensures.answered game count log before stands
           ∙ ap (λ z. z ++ answer game count log before c.read-said.result) c.clear-2.ensures.items;
     } in
-    on_err_map c.send.result _ _
+    on_err_weaker c.send.result
     (λ sent game count log start seen shows. line_begun game count log start _ _ seen c.deref-2.result.now sent.0 sent.1 c.args.self.now c.read-said.result c.take.new.self ends sent.2 sent.3 shows)
     c.send.ensures.err
