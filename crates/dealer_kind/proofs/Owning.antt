@@ -1,5 +1,6 @@
 -- Whose commands are whose.
 use Rattle.std.proofs.Common.{◌≡◌, ℕ, inl, inr, Bool, true, false, ◌||◌, List, Option, Some, None, refl, ap, sym, ◌∙◌}
+use Rattle.std.proofs.lemmas.Bool.{or_left, or_right}
 use Rattle.slot_log.specs.declared.command.Command.{Command}
 use Rattle.slot_log.specs.declared.command.Command.TheVariants.{Deal, Act}
 use Rattle.protocol_model.specs.Messages.{Message}
@@ -23,19 +24,11 @@ origins setting own n ever came (Deal hand deal) deals (inr said) = absurd (line
 origins setting own n ever came (Act hand index action) deals (inl owned) = absurd (deals owned.0 (Act hand index action) owned.2)
 origins setting own n ever came (Act hand index action) deals (inr said) = said
 
-or_first : (a b : Bool) → a ≡ true → (a || b) ≡ true
-or_first true b is = refl
-or_first false b is = cc
-
-or_second : (a b : Bool) → b ≡ true → (a || b) ≡ true
-or_second true b is = refl
-or_second false b is = is
-
 pub first_owns : (setting : Setting) (own other : ℕ → Command → Bool) → OwnsMore (dealer_of setting own) (either own other)
-first_owns setting own other node command is = or_first (own node command) (other node command) is
+first_owns setting own other node command is = or_left (own node command) (other node command) is
 
 pub second_owns : (setting : Setting) (own other : ℕ → Command → Bool) → OwnsMore (dealer_of setting other) (either own other)
-second_owns setting own other node command is = or_second (own node command) (other node command) is
+second_owns setting own other node command is = or_right (own node command) (other node command) is
 
 either_deals : (own other : ℕ → Command → Bool) (node : ℕ) (command : Command) (P : Type 0) (a : Bool) → own node command ≡ a
     → (own node command ≡ true → P) → (other node command ≡ true → P) → (a || other node command) ≡ true → P

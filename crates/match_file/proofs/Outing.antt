@@ -1,6 +1,6 @@
 -- The counts at which the most nodes are out: those where an outage begins.
 use Rattle.std.proofs.Common.{◌≡◌, ℕ, zero, suc, ◌*◌, ◌<◌, ◌≤◌, ◌⊎◌, inl, inr, Bool, true, false, cond, ◌&&◌, ◌||◌, nat_le, eqb, List, [], ◌∷◌, length, get_or, Option, Some, None, refl, subst, arith}
-use Rattle.std.proofs.lemmas.Bool.{false≢true}
+use Rattle.std.proofs.lemmas.Bool.{or_left, or_right, or_cases}
 use Rattle.std.proofs.lemmas.Bool.Decides.{nat_tests}
 use Rattle.std.proofs.lemmas.Grind.{common_steps}
 use Rattle.std.specs.List.{All, AllByRecursion}
@@ -57,23 +57,11 @@ still : (n node a count m : ℕ) (back : Option ℕ) → (a ≤ count → a ≤ 
 still n node a count m None begins below out = grind (arith, nat_tests, common_steps)
 still n node a count m (Some back) begins below out = grind (arith, nat_tests, common_steps)
 
-or_left : (a b : Bool) → a ≡ true → (a || b) ≡ true
-or_left true b h = refl
-or_left false b h = absurd (false≢true h)
-
-or_right : (a b : Bool) → b ≡ true → (a || b) ≡ true
-or_right true b h = refl
-or_right false b h = h
-
-or_split : (a b : Bool) → (a || b) ≡ true → (a ≡ true) ⊎ (b ≡ true)
-or_split true b h = inl refl
-or_split false b h = inr h
-
 -- who is out at a count is out where the latest outage begins
 still_out : (outages : List Outage) (count m node : ℕ) → AllByRecursion (λ p. p.at ≤ count → p.at ≤ m) outages → m ≤ count → is_node_out outages count node ≡ true → is_node_out outages m node ≡ true
 still_out [] count m node all below out = out
 still_out (p ∷ ps) count m node all below out =
-    elim (or_split (is_out count node p) (is_node_out ps count node) out) [
+    elim (or_cases (is_out count node p) (is_node_out ps count node) out) [
       | inl here ↦ or_left (is_out m node p) (is_node_out ps m node) (still p.node node p.at count m p.back all.0 below here)
       | inr more ↦ or_right (is_out m node p) (is_node_out ps m node) (still_out ps count m node all.1 below more)
     ]

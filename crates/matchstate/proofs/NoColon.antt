@@ -1,9 +1,9 @@
 -- No colon stands in the fields of a line.
-use Rattle.std.proofs.Common.{◌≡◌, ◌≢◌, ℕ, zero, suc, ◌-◌, ◌^◌, ◌<◌, Bool, true, false, ◌&&◌, eqb, List, [], ◌∷◌, ◌++◌, replicate, Option, Some, None, decimal, refl, sym, ap, ◌∙◌, subst, arith}
+use Rattle.std.proofs.Common.{◌≡◌, ◌≢◌, ℕ, zero, suc, ◌-◌, ◌^◌, ◌<◌, true, false, eqb, List, [], ◌∷◌, ◌++◌, replicate, Option, Some, None, decimal, refl, sym, ap, ◌∙◌, subst, arith}
 use Rattle.std.specs.Char.{is_ascii_digit}
 use Rattle.std.specs.Str.{all_ascii_digits}
 use Rattle.std.specs.List.{concat, join_by}
-use Rattle.std.proofs.lemmas.Bool.{agree_below_at, false≢true}
+use Rattle.std.proofs.lemmas.Bool.{agree_below_at, false≢true, and_parts}
 use Rattle.std.proofs.lemmas.Fmt.{digits_decimal}
 use Rattle.game_def.specs.Game.{Game, IsGame}
 use Rattle.card_core.specs.Card.{rank_of, suit_of, rank_letter, suit_letter}
@@ -28,12 +28,8 @@ joins (x ∷ xs) ys field others = (field.0, joins xs ys field.1 others)
 no_colon_in_digits : (digits : List ℕ) → all_ascii_digits digits ≡ true → IsField digits
 no_colon_in_digits [] all = tt
 no_colon_in_digits (digit ∷ digits) all =
-    let parts = both (is_ascii_digit digit) (all_ascii_digits digits) all in
+    let parts = and_parts (is_ascii_digit digit) (all_ascii_digits digits) all in
     (λ colon. false≢true (ap is_ascii_digit (sym colon) ∙ parts.0), no_colon_in_digits digits parts.1)
-  where
-    both : (a b : Bool) → (a && b) ≡ true → (a ≡ true) × (b ≡ true)
-    both true b e = (refl, e)
-    both false b e = cc
 
 pub no_colon_in_decimal : (number : ℕ) → number < 2 ^ 64 → IsField (decimal number)
 no_colon_in_decimal number small = no_colon_in_digits (decimal number) (digits_decimal decimals_are_numerals number small)

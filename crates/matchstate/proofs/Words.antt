@@ -1,9 +1,10 @@
 -- An action's text is a letter and digits, so what stands behind it can be told.
-use Rattle.std.proofs.Common.{◌≡◌, ℕ, zero, suc, ◌+◌, ◌-◌, ◌^◌, ◌<◌, ◌≤◌, Bool, true, false, ◌&&◌, List, [], ◌∷◌, ◌++◌, length, take, drop, replicate, Option, Some, None, refl, sym, ap, ◌∙◌, arith, decimal, inl}
+use Rattle.std.proofs.Common.{◌≡◌, ℕ, zero, suc, ◌+◌, ◌-◌, ◌^◌, ◌<◌, ◌≤◌, true, false, List, [], ◌∷◌, ◌++◌, length, take, drop, replicate, Option, Some, None, refl, sym, ap, ◌∙◌, arith, decimal, inl}
 use Rattle.std.specs.Char.{is_ascii_digit}
 use Rattle.std.specs.Str.{all_ascii_digits}
 use Rattle.std.specs.List.{prefix_len, AllByRecursion, slice_index}
 use Rattle.std.specs.Str.Parse.{digits_value}
+use Rattle.std.proofs.lemmas.Bool.{and_parts}
 use Rattle.std.proofs.lemmas.Str.Parse.{IsNumeralModel, numerals_by_value, tells_all_ascii_digits}
 use Rattle.std.proofs.lemmas.Fmt.{digits_decimal}
 use Rattle.std.proofs.lemmas.List.{take_at, drop_at}
@@ -26,14 +27,10 @@ digits_end : (digits behind : List ℕ) → all_ascii_digits digits ≡ true →
 digits_end [] [] all none = refl
 digits_end [] (byte ∷ behind) all none = let e : is_ascii_digit byte ≡ false = none in rw e refl
 digits_end (digit ∷ digits) behind all none =
-    let parts = both (is_ascii_digit digit) (all_ascii_digits digits) all in
+    let parts = and_parts (is_ascii_digit digit) (all_ascii_digits digits) all in
     let first : is_ascii_digit digit ≡ true = parts.0 in
     let rest = digits_end digits behind parts.1 none in
     rw first (omega arith)
-  where
-    both : (a b : Bool) → (a && b) ≡ true → (a ≡ true) × (b ≡ true)
-    both true b e = (refl, e)
-    both false b e = cc
 
 word_ends : (word behind : List ℕ) → IsWord word → NoDigitFirst behind → 1 + prefix_len is_ascii_digit (drop 1 (word ++ behind)) ≡ length word
 unfolding IsWord

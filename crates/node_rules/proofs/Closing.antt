@@ -2,7 +2,7 @@
 use Rattle.std.proofs.Common.{◌≡◌, ℕ, ◌<◌, ◌≤◌, ◌+◌, ◌⊎◌, inl, inr, Bool, true, false, not, if◌then◌else◌, ◌&&◌, List, [], ◌∷◌, ◌++◌, Option, Some, None, Result, Ok, Err, refl, sym, ap, subst, ◌∙◌, arith}
 use Rattle.std.specs.Prelude.{nat_lt, nat_le}
 use Rattle.std.specs.Option.{option_map}
-use Rattle.std.proofs.lemmas.Bool.{ltb-true, ltb-false, leb-true}
+use Rattle.std.proofs.lemmas.Bool.{ltb-true, ltb-false, leb-true, and_parts}
 use Rattle.std.proofs.lemmas.List.{append-nil}
 use Rattle.paxos_wire.specs.declared.limits.TheConstants.{SLOTS, WINDOW}
 use Rattle.paxos_wire.specs.declared.ballot.Ballot.{Ballot}
@@ -105,10 +105,6 @@ rest x came heard t p none =
     go_on x came heard (applied t.after) (record t { after = idle t.after })
     (with_campaign x came heard (applied t.after) t None p
     (idle_proposer x.place.nodes x.place.node p.node (front_of t.after) t.after.campaign none p.knows.proposer))
-
-and_right : (a b : Bool) → (a && b) ≡ true → b ≡ true
-and_right true b h = h
-and_right false b h = absurd (cc)
 
 -- ---- a proposal
 
@@ -459,7 +455,7 @@ close_by : (x : Scope) (came : List Arrival) (heard : Hearing) (t : Turn) (ends 
     → Goes x came heard (behind t (if b then Ok (still (idle t.after))
     else closing_by x.place (proposal_at x.place t.after) (record t.after { campaign = marked_from t.after.campaign (proposal_at x.place t.after) })))
 close_by x came heard t ends p true e = rest x came heard t p (λ b f st near left.
-    let l = leb-true SLOTS (front_of t.after) (and_right (leads x.place.nodes t.after.campaign) (nat_le SLOTS (front_of t.after)) e) in omega arith)
+    let l = leb-true SLOTS (front_of t.after) (and_parts (leads x.place.nodes t.after.campaign) (nat_le SLOTS (front_of t.after)) e).1 in omega arith)
 close_by x came heard t ends p false e = closes_by x came heard t ends p (proposal_at x.place t.after) refl
 
 -- at the end of a call a node that leads proposes at its front

@@ -1,7 +1,7 @@
 -- Ticks.
 use Rattle.std.proofs.Common.{◌≡◌, ℕ, zero, suc, ◌+◌, ◌-◌, ◌^◌, ◌<◌, ◌≤◌, ◌⊎◌, inl, inr, ◌==◌, ◌||◌, ◌&&◌, Bool, true, false, true≢false, not, if◌then◌else◌, List, Option, Some, None, Result, Ok, Err, refl, sym, ap, subst, ◌∙◌, arith, eqb-true, eq-eqb, replicate}
 use Rattle.std.specs.Prelude.{nat_le, slice_set}
-use Rattle.std.proofs.lemmas.Bool.{leb-true, leb-false}
+use Rattle.std.proofs.lemmas.Bool.{leb-true, leb-false, or_cases}
 use Rattle.std.proofs.lemmas.List.{append-nil}
 use Rattle.paxos_wire.specs.declared.limits.TheConstants.{SLOTS, NODES}
 use Rattle.paxos_wire.specs.declared.ballot.Ballot.{Ballot}
@@ -74,10 +74,6 @@ greatest_is node s round stored sees most = let l = least in let g = greatest in
 
 -- ---- no round or no slot is left
 
-or_true : (a b : Bool) → (a || b) ≡ true → (a ≡ true) ⊎ (b ≡ true)
-or_true true b h = inl refl
-or_true false b h = inr h
-
 or_by : (a b : Bool) → (a ≡ true) ⊎ (b ≡ true) → (a || b) ≡ true
 or_by true b h = refl
 or_by false b (inl h) = absurd (true≢false (sym h))
@@ -91,7 +87,7 @@ le_at a b e = by_test (nat_le a b) refl
     by_test false h = absurd (let l = leb-false a b h in omega (arith, l, e))
 
 spent_is : (s : Standing) (round : ℕ) → IsLog s.learned.log → (greatest_seen s).round ≡ round → is_spent s ≡ true → IsSpent round (front_of s)
-spent_is s round log same h = elim (or_true ((greatest_seen s).round == 2 ^ 32 - 1) (nat_le SLOTS (front_of s)) h) [
+spent_is s round log same h = elim (or_cases ((greatest_seen s).round == 2 ^ 32 - 1) (nat_le SLOTS (front_of s)) h) [
   | inl e ↦ inl (sym same ∙ eqb-true (greatest_seen s).round (2 ^ 32 - 1) e)
   | inr e ↦ inr (let a = leb-true SLOTS (front_of s) e in let b = log.below in omega (arith, a, b))
 ]

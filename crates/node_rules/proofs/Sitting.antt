@@ -2,7 +2,7 @@
 use Rattle.std.proofs.Common.{◌≡◌, ℕ, ◌<◌, ◌≤◌, inl, inr, Bool, true, false, not, if◌then◌else◌, ◌==◌, ◌&&◌, List, [], ◌∷◌, ◌++◌, Option, Some, None, Result, Ok, Err, refl, sym, ap, subst, ◌∙◌, length}
 use Rattle.std.specs.Prelude.{nat_lt, is_none}
 use Rattle.std.proofs.lemmas.List.{append-nil}
-use Rattle.std.proofs.lemmas.Bool.{ltb-true, eqb-false, not-true}
+use Rattle.std.proofs.lemmas.Bool.{ltb-true, eqb-false, not-true, and_parts}
 use Rattle.game_def.specs.Game.{Game}
 use Rattle.paxos_wire.specs.declared.ballot.Ballot.{Ballot}
 use Rattle.paxos_wire.specs.declared.message.Message.TheVariants as frame
@@ -103,18 +103,14 @@ showing_so_far x came heard upto t p ends = record { shown = p.shown; last = p.n
 
 -- ---- an act
 
-and_both : (a b : Bool) → (a && b) ≡ true → (a ≡ true) × (b ≡ true)
-and_both true b h = (refl, h)
-and_both false b h = absurd (cc)
-
 forward_by : (x : Scope) (came : List Arrival) (heard : Hearing) (upto : List Command) (t : Turn) (act : Command) (b : Bool) → is_others x.place t.after.store.promise ≡ b
     → (p : Path x came heard upto t) → In (Said x.place.node act) p.node.sent
     → Path x came heard upto (joined t (sending (if b then one t.after.store.promise.node (frame.Forward act) else []) t.after))
 forward_by x came heard upto t act false e p said = go_on x came heard upto t p
 forward_by x came heard upto t act true e p said =
     let promise : Ballot = t.after.store.promise in
-    let a = and_both (nat_lt 0 promise.round) (nat_lt promise.node x.place.nodes && not (promise.node == x.place.node)) e in
-    let b = and_both (nat_lt promise.node x.place.nodes) (not (promise.node == x.place.node)) a.1 in
+    let a = and_parts (nat_lt 0 promise.round) (nat_lt promise.node x.place.nodes && not (promise.node == x.place.node)) e in
+    let b = and_parts (nat_lt promise.node x.place.nodes) (not (promise.node == x.place.node)) a.1 in
     send_one x came heard upto t (Forward x.place.node act) promise.node (frame.Forward act) p tt (λ q. tt) (forwards act p.knows.up said refl refl) refl tt refl
     (ltb-true promise.node x.place.nodes b.0) (eqb-false promise.node x.place.node (not-true (promise.node == x.place.node) b.1))
 

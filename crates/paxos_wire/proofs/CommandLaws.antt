@@ -1,7 +1,7 @@
 -- Ballots, actions, deals and commands: what is read is what is written, and what is written is read again.
 use Rattle.std.proofs.Common.{◌≡◌, ℕ, zero, suc, ◌+◌, ◌*◌, ◌%◌, ◌^◌, ◌<◌, ◌≤◌, true, false, cond, ◌&&◌, ltb, leb, eqb, List, [], ◌∷◌, ◌++◌, length, take, drop, Some, None, refl, sym, ap, subst, ◌∙◌, append_assoc, arith, inl, inr, length-append, length-take}
 use Rattle.std.specs.List.{AllByRecursion}
-use Rattle.std.proofs.lemmas.Bool.{ltb-false, le-ltb, ltb-true, lt-ltb, leb-true, le-leb, eqb-true, eq-eqb, and_from}
+use Rattle.std.proofs.lemmas.Bool.{ltb-false, le-ltb, ltb-true, lt-ltb, leb-true, le-leb, eqb-true, eq-eqb, and_from, and_parts}
 use Rattle.std.proofs.lemmas.List.{take-append-drop, take_at, drop_at}
 use Rattle.card_core.specs.Deal.{player_count}
 use Rattle.betting.specs.declared.action.Action.{Action}
@@ -17,7 +17,7 @@ use Rattle.paxos_wire.specs.Spelling.{ballot_text, action_text, deal_text, comma
 use Rattle.paxos_wire.specs.Reading.{◌>>=◌, when, byte_at, number_at, below_at, ballot_at, action_of, action_at, are_cards, are_distinct, is_count, deal_of, bytes_at, deal_at, dealt_at, acted_at, command_at}
 use Rattle.paxos_wire.proofs.Steps.{IsBytes, IsBytes-drop, bind_some, when_some, then_some, else_some, either, some_is, Takes, both}
 use Rattle.paxos_wire.proofs.Numbers.{byte_text, byte_takes, wide2, wide4, number_takes, number_again, below_takes, below_again}
-use Rattle.paxos_wire.proofs.Distinct.{and_true, is_distinct, are_distinct-from}
+use Rattle.paxos_wire.proofs.Distinct.{is_distinct, are_distinct-from}
 use Rattle.paxos_wire.proofs.Counts.{of_players}
 
 -- ---- ballots
@@ -29,7 +29,7 @@ ballot_takes bytes x fits e =
     let b = bind_some (byte_at a.0.1) (λ node. when (ltb 0 a.0.0 && ltb node.0 NODES) (record { round = a.0.0; node = node.0 }, node.1)) x a.2 in
     let made : Ballot × List ℕ = (record { round = a.0.0; node = b.0.0 }, b.0.1) in
     let g = when_some (ltb 0 a.0.0 && ltb b.0.0 NODES) made x b.2 in
-    let tests = and_true (ltb 0 a.0.0) (ltb b.0.0 NODES) g.0 in
+    let tests = and_parts (ltb 0 a.0.0) (ltb b.0.0 NODES) g.0 in
     let t0 = number_takes 4 wide4 bytes a.0 fits a.1 in
     let t1 = byte_takes a.0.1 b.0 t0.rest b.1 in
     let first : 0 < a.0.0 = ltb-true _ _ tests.0 in
@@ -83,7 +83,7 @@ action_again (Raise amount) rest fits = rw (number_again 4 amount rest (omega ar
 
 pub each_card : (cards : List ℕ) → are_cards cards ≡ true → AllByRecursion (λ card. card < 52) cards
 each_card [] h = tt
-each_card (card ∷ cards) h = let tests = and_true (ltb card 52) (are_cards cards) h in (ltb-true _ _ tests.0, each_card cards tests.1)
+each_card (card ∷ cards) h = let tests = and_parts (ltb card 52) (are_cards cards) h in (ltb-true _ _ tests.0, each_card cards tests.1)
 
 pub cards_pass : (cards : List ℕ) → AllByRecursion (λ card. card < 52) cards → are_cards cards ≡ true
 cards_pass [] h = refl
@@ -117,7 +117,7 @@ deal_takes bytes x fits e =
     let parts : a.0.1 ≡ b.0.0 ++ b.0.1 = sym (take-append-drop a.0.0 a.0.1) ∙ ap (λ (p : List ℕ × List ℕ). p.0 ++ p.1) pieces in
     let rest : IsBytes b.0.1 = subst (λ (p : List ℕ × List ℕ). IsBytes p.1) pieces (IsBytes-drop a.0.0 a.0.1 t0.rest) in
     let g = when_some (are_cards b.0.0 && are_distinct b.0.0) b.0.0 c.0 c.1 in
-    let tests = and_true (are_cards b.0.0) (are_distinct b.0.0) g.0 in
+    let tests = and_parts (are_cards b.0.0) (are_distinct b.0.0) g.0 in
     let count : is_count (length b.0.0) ≡ true = ap is_count len ∙ counted.0 in
     let made : Takes deal_text AreDealt bytes (b.0.0, b.0.1) = record {
       parts = both bytes (byte_text a.0.0) a.0.1 b.0.0 b.0.1 t0.parts parts ∙ ap (λ (n : ℕ). n ∷ (b.0.0 ++ b.0.1)) (sym len);

@@ -1,20 +1,9 @@
 -- The test of distinct cards is that they are distinct.
-use Rattle.std.proofs.Common.{◌≡◌, ℕ, Bool, true, false, not, ◌&&◌, ◌||◌, nat_eq, List, [], ◌∷◌, Some, None, refl}
+use Rattle.std.proofs.Common.{◌≡◌, ℕ, Bool, true, false, not, ◌&&◌, nat_eq, List, [], ◌∷◌, Some, None, refl}
 use Rattle.std.specs.List.{list_any, IsDistinct}
+use Rattle.std.proofs.lemmas.Bool.{and_parts, not-true}
 use Rattle.paxos_wire.specs.Reading.{are_cards, are_distinct, deal_of}
 use Rattle.card_core.proofs.Distinct.{any_from_none, none_from_any}
-
-pub or_false : (a b : Bool) → (a || b) ≡ false → (a ≡ false) × (b ≡ false)
-or_false true b h = absurd cc
-or_false false b h = (refl, h)
-
-pub and_true : (a b : Bool) → (a && b) ≡ true → (a ≡ true) × (b ≡ true)
-and_true true b h = (refl, h)
-and_true false b h = absurd cc
-
-pub not_true : (a : Bool) → not a ≡ true → a ≡ false
-not_true true h = absurd cc
-not_true false h = refl
 
 not_passed : (a : Bool) → ¬ (a ≡ true) → a ≡ false
 not_passed true h = absurd (h refl)
@@ -33,8 +22,8 @@ pub is_distinct : (xs : List ℕ) → are_distinct xs ≡ true → IsDistinct na
 unfolding IsDistinct
 is_distinct [] h = tt
 is_distinct (x ∷ xs) h =
-    let both = and_true (not (list_any (λ y. nat_eq x y) xs)) (are_distinct xs) h in
-    (none_from_any (λ y. nat_eq x y) xs (not_true (list_any (λ y. nat_eq x y) xs) both.0), is_distinct xs both.1)
+    let both = and_parts (not (list_any (λ y. nat_eq x y) xs)) (are_distinct xs) h in
+    (none_from_any (λ y. nat_eq x y) xs (not-true (list_any (λ y. nat_eq x y) xs) both.0), is_distinct xs both.1)
 
 -- the deal of distinct cards of the pack, and of nothing else
 pub deal_is : (xs : List ℕ) → are_cards xs ≡ true → IsDistinct nat_eq xs → deal_of xs ≡ Some xs

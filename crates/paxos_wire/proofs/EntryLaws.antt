@@ -1,7 +1,7 @@
 -- Entries of a Promise: what is read is what is written, and what is written is read again.
 use Rattle.std.proofs.Common.{◌≡◌, ℕ, zero, suc, ◌+◌, ◌<◌, ◌≤◌, ◌&&◌, ltb, leb, List, [], ◌∷◌, ◌++◌, length, map, Some, refl, sym, ap, subst, ◌∙◌, append_assoc, arith}
 use Rattle.std.specs.List.{flat_map, AllByRecursion}
-use Rattle.std.proofs.lemmas.Bool.{ltb-true, lt-ltb, leb-true, le-leb}
+use Rattle.std.proofs.lemmas.Bool.{ltb-true, lt-ltb, leb-true, le-leb, and_parts}
 use Rattle.std.proofs.lemmas.List.Concat.{flat_map-cons}
 use Rattle.paxos_wire.specs.declared.limits.TheConstants.{SLOTS}
 use Rattle.paxos_wire.specs.declared.entry.Entry.{Entry}
@@ -11,7 +11,6 @@ use Rattle.paxos_wire.specs.Spelling.{ballot_text, slot_text, command_text, entr
 use Rattle.paxos_wire.specs.Reading.{◌>>=◌, when, below_at, ballot_at, command_at, entry_at, entry_within, entries_at}
 use Rattle.paxos_wire.proofs.Steps.{IsBytes, bind_some, when_some, some_is, Takes, both}
 use Rattle.paxos_wire.proofs.Numbers.{wide4, below_takes, below_again}
-use Rattle.paxos_wire.proofs.Distinct.{and_true}
 use Rattle.paxos_wire.proofs.CommandLaws.{ballot_takes, ballot_again, command_takes, command_again}
 
 -- an entry in range whose deal is dealt
@@ -54,7 +53,7 @@ within_takes from limit bytes x fits e =
     let a = bind_some (entry_at bytes) (λ entry. when (leb from entry.0.slot && ltb entry.0.slot limit) entry) x e in
     let t = entry_takes bytes a.0 fits a.1 in
     let g = when_some (leb from a.0.0.slot && ltb a.0.0.slot limit) a.0 x a.2 in
-    let tests = and_true (leb from a.0.0.slot) (ltb a.0.0.slot limit) g.0 in
+    let tests = and_parts (leb from a.0.0.slot) (ltb a.0.0.slot limit) g.0 in
     subst (λ (y : Entry × List ℕ). Takes entry_text (IsWithin from limit) bytes y) g.1 (record { parts = t.parts; rest = t.rest; fits = record { whole = t.fits; least = leb-true _ _ tests.0; below = ltb-true _ _ tests.1 } })
 
 pub within_again : (from limit : ℕ) (e : Entry) (rest : List ℕ) → IsWithin from limit e → entry_within from limit (entry_text e ++ rest) ≡ Some (e, rest)

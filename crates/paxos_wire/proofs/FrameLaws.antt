@@ -1,7 +1,7 @@
 -- Frames: what is read is what is written, and what is written is read again.
 use Rattle.std.proofs.Common.{◌≡◌, ℕ, suc, ◌+◌, ◌*◌, ◌≤◌, true, false, not, cond, ltb, leb, eqb, List, [], ◌∷◌, ◌++◌, length, map, slice_index, drop, Option, Some, None, Ok, Err, refl, sym, ap, ◌∙◌, arith, length-append}
 use Rattle.std.specs.List.{flat_map, AllByRecursion}
-use Rattle.std.proofs.lemmas.Bool.{ltb-false, le-ltb, leb-true, eqb-true, eq-eqb, not-false}
+use Rattle.std.proofs.lemmas.Bool.{ltb-false, le-ltb, leb-true, eqb-true, eq-eqb, not-false, and_parts}
 use Rattle.std.proofs.lemmas.List.Concat.{flat_map-cons}
 use Rattle.slot_log.specs.declared.command.Command.{Command}
 use Rattle.slot_log.specs.declared.command.Command.TheVariants.{Deal, Act}
@@ -21,7 +21,6 @@ use Rattle.paxos_wire.specs.Reading.{body_of}
 use Rattle.paxos_wire.specs.Faults.{length_field, is_kind, header_fault, fault_of, behind, reading}
 use Rattle.paxos_wire.proofs.Steps.{IsBytes}
 use Rattle.paxos_wire.proofs.Numbers.{wide4}
-use Rattle.paxos_wire.proofs.Distinct.{and_true}
 use Rattle.paxos_wire.proofs.MessageLaws.{body_is, body_again}
 use Rattle.slot_log.proofs.Allowed.{past_test}
 
@@ -150,7 +149,7 @@ headed_is (a ∷ b ∷ c ∷ []) m fits h e = absurd (omega (arith, h.long))
 headed_is (a ∷ b ∷ c ∷ d ∷ []) m fits h e = absurd (omega (arith, h.least, h.whole))
 headed_is (a ∷ b ∷ c ∷ d ∷ v ∷ []) m fits h e = absurd (omega (arith, h.least, h.whole))
 headed_is (a ∷ b ∷ c ∷ d ∷ v ∷ k ∷ bytes) m fits h e =
-    let kinds = and_true (leb 1 k) (leb k 8) h.kind_passes in
+    let kinds = and_parts (leb 1 k) (leb k 8) h.kind_passes in
     let is = body_is k bytes m (leb-true _ _ kinds.0) (leb-true _ _ kinds.1) (λ i. fits (suc (suc (suc (suc (suc (suc i))))))) e in
     let behind_length : v ∷ k ∷ bytes ≡ payload m = cc (h.version, is.kind_is, is.text) in
     let len : length_field (a ∷ b ∷ c ∷ d ∷ v ∷ k ∷ bytes) ≡ length (payload m) = omega (arith, h.whole, ap length behind_length) in
