@@ -11,7 +11,7 @@ use Rattle.protocol_model.specs.Nodes.{Node}
 use Rattle.protocol_model.specs.Moves.{Output, Move, gets, connects, drops, closes, hears, notes, begins, promises, proposes, accepts, repeats, refuses, learns, believes, tells, asks, forwards, shows, stops, starts}
 use Rattle.protocol_model.specs.Worlds.{World, start, more as further, IsAfter, Reached}
 use Rattle.node_rules.specs.Given.{Given}
-use Rattle.node_rules.proofs.Sets.{in_later, in_split}
+use Rattle.protocol_model.proofs.Sets.{in_later, in_split}
 use Rattle.node_rules.proofs.Sourcing.{had_was_sent}
 use Rattle.node_rules.proofs.Voting.{voted_is}
 

@@ -40,7 +40,7 @@ use Rattle.node_rules.specs.Called as ways
 use Rattle.node_rules.specs.Given.{Given}
 use Rattle.node_rules.specs.Sound.{Stands}
 use Rattle.node_rules.specs.LawsBacking.{SentIsBacked, BackedStaysSo}
-use Rattle.node_rules.proofs.Sets.{in_first}
+use Rattle.protocol_model.proofs.Sets.{in_first}
 use Rattle.node_rules.proofs.Ordering.{self, below_if, at_most_if_not, higher_is}
 use Rattle.node_rules.proofs.Ticking.{above}
 use Rattle.node_rules.proofs.Chaining.{ok_is, ok_not, turns_are_chains}

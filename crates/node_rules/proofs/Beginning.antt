@@ -25,7 +25,7 @@ use Rattle.node_rules.specs.Rules.{highest}
 use Rattle.node_rules.specs.Seen.{ballots_in}
 use Rattle.node_rules.specs.Being.{Campaigns, IsProposer, AreSessions, Knows, IsOf}
 use Rattle.node_rules.specs.Called.{AreShown, events_of, Taken}
-use Rattle.node_rules.proofs.Sets.{in_split}
+use Rattle.protocol_model.proofs.Sets.{in_split}
 use Rattle.node_rules.proofs.Carrying.{nothing_carried, nothing_lost}
 use Rattle.node_rules.proofs.Telling.{nothing_shown}
 use Rattle.node_rules.proofs.Ordering.{below_if, at_most_if_not, not_below, sees_more}

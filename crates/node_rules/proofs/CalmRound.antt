@@ -25,7 +25,7 @@ use Rattle.node_rules.specs.Calls as call
 use Rattle.node_rules.specs.Rules.{asking, on_message, on_read, IsTurnBy, IsTurn}
 use Rattle.node_rules.specs.Calm.{Rise, without, Event, Ticks, delivers, round}
 use Rattle.node_rules.specs.CalmRound.{place_in, node_of, call_of, Sent, sent_by, IsOnItsWay, AreReadBack, GoOn, HasMovedOn}
-use Rattle.node_rules.proofs.Sets.{in_first, in_later}
+use Rattle.protocol_model.proofs.Sets.{in_first, in_later}
 use Rattle.node_rules.proofs.Voting.{voted_is}
 use Rattle.node_rules.proofs.Settled.{three_nodes, asked_same, marked_at}
 use Rattle.node_rules.proofs.Electing.{covered}

@@ -23,7 +23,7 @@ use Rattle.node_rules.specs.Being.{Knows}
 use Rattle.node_rules.specs.Calm.{Calm, ballot_after}
 use Rattle.node_rules.specs.CalmRound.{place_in, AreOf, CalmRoundMoves}
 use Rattle.node_rules.specs.Given.{Given}
-use Rattle.node_rules.proofs.Sets.{in_later}
+use Rattle.protocol_model.proofs.Sets.{in_later}
 use Rattle.node_rules.proofs.Sourcing.{had_was_sent}
 use Rattle.node_rules.proofs.Ordering.{not_below}
 use Rattle.node_rules.proofs.Promising.{tells}

@@ -10,7 +10,7 @@ use Rattle.protocol_model.specs.Frames.{carried}
 use Rattle.dealer_kind.specs.Plans.{HasNodes}
 use Rattle.node_rules.specs.Sending.{Frame, one, to_first}
 use Rattle.node_rules.specs.Called.{IsNote, IsForAll, IsSaidTo, IsSaid, Carry, CarryAll}
-use Rattle.node_rules.proofs.Sets.{in_later, in_first, in_split}
+use Rattle.protocol_model.proofs.Sets.{in_later, in_first, in_split}
 
 pub nothing_carried : (n i : ℕ) → Carry n i [] []
 nothing_carried n i = record {

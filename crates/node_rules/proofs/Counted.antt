@@ -38,7 +38,7 @@ use Rattle.node_rules.specs.Outcomes.{IsAnswered}
 use Rattle.node_rules.specs.LawsAnswers.{asks_if, AnswersPrepare, AnswersAccept, acts_in, forwards}
 use Rattle.node_rules.specs.LawsAnswers as answers
 use Rattle.node_rules.specs.LawsVotes.{OwnVotesAreInTime, RefusedBallotsEnd}
-use Rattle.node_rules.proofs.Sets.{in_split}
+use Rattle.protocol_model.proofs.Sets.{in_split}
 use Rattle.node_rules.proofs.Carrying.{in_to}
 use Rattle.node_rules.proofs.Paths.{Hearing, Scope, Path}
 use Rattle.node_rules.proofs.Chaining.{ok_is, ok_not}

@@ -20,7 +20,7 @@ use Rattle.node_rules.specs.Seats.{waiting, pending_act}
 use Rattle.node_rules.specs.Rules.{ballots_of, seeing, taking, asking, on_read}
 use Rattle.node_rules.specs.Being.{IsPending}
 use Rattle.node_rules.specs.Called.{said_in, IsSent}
-use Rattle.node_rules.proofs.Sets.{in_later}
+use Rattle.protocol_model.proofs.Sets.{in_later}
 use Rattle.node_rules.proofs.Paths.{Hearing, Scope, dealer_in, first_in, Path, Goes, has_in}
 use Rattle.node_rules.proofs.Steps.{go_on}
 use Rattle.node_rules.proofs.Proposed.{waiting_value}

@@ -39,7 +39,7 @@ use Rattle.node_rules.specs.Proposing.{higher, greatest_seen, is_over, is_spent,
 use Rattle.node_rules.specs.Rules.{ballots_of, seeing, taking, asking, on_read}
 use Rattle.node_rules.specs.Being.{Campaigns}
 use Rattle.node_rules.specs.Called.{said_in, IsSent}
-use Rattle.node_rules.proofs.Sets.{in_split}
+use Rattle.protocol_model.proofs.Sets.{in_split}
 use Rattle.node_rules.proofs.Ordering.{self, higher_is, below_if, at_most_if_not}
 use Rattle.node_rules.proofs.Keeping.{with_got}
 use Rattle.node_rules.proofs.Paths.{Hearing, Scope, dealer_in, first_in, Path, Goes, has_in, never, regroup}

@@ -1,4 +1,3 @@
-mod Sets
 mod Carrying
 mod Telling
 mod Ordering

@@ -15,7 +15,7 @@ use Rattle.node_rules.specs.Standings.{Place, Standing, applied}
 use Rattle.node_rules.specs.Turns.{Turn, Refusal, Down, Spent, BadFrame, Conflict, joined, behind, and_then}
 use Rattle.node_rules.specs.Being.{IsPlace, Knows}
 use Rattle.node_rules.specs.Called.{Carry, CarryAll, AreShown, log_after}
-use Rattle.node_rules.proofs.Sets.{in_first}
+use Rattle.protocol_model.proofs.Sets.{in_first}
 use Rattle.node_rules.specs.Given.{Given}
 
 -- a call of a node: the world that it finds, how often the node was started then, what it had got since, its log so far, the messages that came

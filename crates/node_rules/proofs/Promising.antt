@@ -23,7 +23,7 @@ use Rattle.node_rules.specs.Showing.{Piece}
 use Rattle.node_rules.specs.Turns.{Turn, joined, behind}
 use Rattle.node_rules.specs.Accepting.{told_at, told_from, told_by, refusing, promising, preparing}
 use Rattle.node_rules.specs.Called.{AreShown, log_after}
-use Rattle.node_rules.proofs.Sets.{in_later, in_first, in_split}
+use Rattle.protocol_model.proofs.Sets.{in_later, in_first, in_split}
 use Rattle.node_rules.proofs.Carrying.{joined_carry, joined_all, one_carry, one_all}
 use Rattle.node_rules.proofs.Ordering.{trans, of_below, not_below, below_if, sees_up}
 use Rattle.node_rules.proofs.Keeping.{sent_pending, stored_pending, prepared_before, proposed_before}

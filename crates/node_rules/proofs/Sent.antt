@@ -5,7 +5,7 @@ use Rattle.protocol_model.specs.Messages.{Message}
 use Rattle.protocol_model.specs.Dealers.{Dealer}
 use Rattle.protocol_model.specs.Nodes.{Node}
 use Rattle.protocol_model.specs.Moves.{Output, Move, gets, connects, drops, closes, hears, notes, begins, promises, proposes, accepts, repeats, refuses, learns, believes, tells, asks, forwards, shows, stops, starts, Chain, none, more}
-use Rattle.node_rules.proofs.Sets.{in_later, in_first, in_split}
+use Rattle.protocol_model.proofs.Sets.{in_later, in_first, in_split}
 
 -- ---- what a chain of moves sent
 

@@ -8,7 +8,7 @@ use Rattle.protocol_model.specs.Moves as move
 use Rattle.protocol_model.specs.Moves.{Output, Move}
 use Rattle.protocol_model.specs.Worlds as world
 use Rattle.protocol_model.specs.Worlds.{World, IsAfter, Run, Reached, new_world}
-use Rattle.node_rules.proofs.Sets.{in_later}
+use Rattle.protocol_model.proofs.Sets.{in_later}
 
 -- a move that gets nothing
 keeps : (old new changed : Node) (ever : List Message) → new ≡ changed → changed.has ≡ old.has → (m : Message) → In m new.has → In m old.has ⊎ In m ever

@@ -14,7 +14,7 @@ use Rattle.node_rules.specs.Showing.{Piece}
 use Rattle.node_rules.specs.Turns.{Turn, sending, joined}
 use Rattle.node_rules.specs.Seen.{ballots_in}
 use Rattle.node_rules.specs.Called.{Carry, CarryAll, AreShown, log_after}
-use Rattle.node_rules.proofs.Sets.{in_first}
+use Rattle.protocol_model.proofs.Sets.{in_first}
 use Rattle.node_rules.proofs.Carrying.{joined_carry, joined_all, IsForOne, one_carry, one_all}
 use Rattle.node_rules.proofs.Ordering.{sees_own}
 use Rattle.node_rules.proofs.Keeping.{with_got, IsNoAnswer, got_knows, IsQuiet, sent_knows}

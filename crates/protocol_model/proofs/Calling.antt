@@ -5,7 +5,7 @@ use Rattle.protocol_model.specs.Sets.{In}
 use Rattle.protocol_model.specs.Dealers.{Reader, Seat, Log}
 use Rattle.protocol_model.specs.Moves.{Shown, Output, both}
 use Rattle.protocol_model.specs.Calls.{IsToSeat, line_to, lines_in}
-use Rattle.protocol_model.proofs.Sets.{in_split, in_later}
+use Rattle.protocol_model.proofs.Sets.{in_split, in_later, in_first}
 
 lines_joined : (later earlier : List Shown) → lines_in (later ++ earlier) ≡ lines_in earlier ++ lines_in later
 lines_joined [] earlier = sym (append-nil (lines_in earlier))
@@ -14,11 +14,6 @@ lines_joined (latest ∷ later) earlier =
 
 pub joined : (earlier later : Output) → lines_in (both later earlier).shown ≡ lines_in earlier.shown ++ lines_in later.shown
 joined earlier later = lines_joined later.shown earlier.shown
-
-in_first : (xs ys : List Shown) (x : Shown) → In x xs → In x (xs ++ ys)
-in_first [] ys x here = absurd here
-in_first (y ∷ xs) ys x (inl e) = inl e
-in_first (y ∷ xs) ys x (inr here) = inr (in_first xs ys x here)
 
 to_line : (reader : Reader) (shown line : Shown) → shown.reader ≡ reader → In line (line_to reader shown) → (line ≡ shown) × IsToSeat line
 to_line (Seat seat) shown line is (inl e) = (e, (seat, ap (λ (s : Shown). s.reader) e ∙ is))

@@ -1,4 +1,4 @@
-mod Sets
+pub mod Sets
 mod Ballots
 mod Quorums
 mod Facts
