@@ -13,6 +13,7 @@ use Rattle.protocol_model.specs.Sets.{In}
 use Rattle.protocol_model.specs.Ballots.{Below}
 use Rattle.protocol_model.specs.Messages.{Vote}
 use Rattle.protocol_model.specs.Stores.{Store, empty_store}
+use Rattle.protocol_model.proofs.Sets.{in_first, in_later, in_split}
 use Rattle.dealer_kind.specs.Plans.{Plan}
 use Rattle.node_rules.specs.Standings.{Place, Standing, place_of, stopped, front_of}
 use Rattle.node_rules.specs.Sending.{Frame as Outgoing}
@@ -113,20 +114,6 @@ takes_one_more plan first (x ∷ ys) between last y (mid, one, rest) takes = (mi
 abbrev AllIn : List ℕ → List calm.Event → Type 0
 AllIn members ys = (y : calm.Event) → In y ys → In (of_round.node_of y) members
 
-in_append : {A : Type 0} (xs ys : List A) (x : A) → In x (xs ++ ys) → In x xs ⊎ In x ys
-in_append [] ys x h = inr h
-in_append (z ∷ xs) ys x (inl e) = inl (inl e)
-in_append (z ∷ xs) ys x (inr h) = elim (in_append xs ys x h) [ inl l ↦ inl (inr l) | inr r ↦ inr r ]
-
-in_front_of : {A : Type 0} (xs ys : List A) (x : A) → In x xs → In x (xs ++ ys)
-in_front_of [] ys x h = absurd h
-in_front_of (z ∷ xs) ys x (inl e) = inl e
-in_front_of (z ∷ xs) ys x (inr h) = inr (in_front_of xs ys x h)
-
-in_behind : {A : Type 0} (xs ys : List A) (x : A) → In x ys → In x (xs ++ ys)
-in_behind [] ys x h = h
-in_behind (z ∷ xs) ys x h = inr (in_behind xs ys x h)
-
 from_map : (f : ℕ → calm.Event) (to : ℕ → ℕ) (js : List ℕ) (members : List ℕ) → ((j : ℕ) → of_round.node_of (f j) ≡ to j) → ((j : ℕ) → In j js → In (to j) members)
     → (y : calm.Event) → In y (map f js) → In (of_round.node_of y) members
 from_map f to [] members at inside y h = absurd h
@@ -144,11 +131,11 @@ without_in i (m ∷ ms) k h = without_step i m ms k (m == i) (λ t. without_in i
 
 round_in : (standings : ℕ → Standing) (i : ℕ) (members : List ℕ) (command : Command) → In i members → (y : calm.Event) → In y (round standings i members command) → In (of_round.node_of y) members
 round_in standings i members command member y (inl e) = subst (λ (k : ℕ). In k members) (sym (ap of_round.node_of e)) member
-round_in standings i members command member y (inr h) = elim (in_append (map asks others) _ y h) [
+round_in standings i members command member y (inr h) = elim (in_split (map asks others) _ y h) [
   | inl a ↦ from_map asks (λ j. j) others members (λ j. refl) (λ j k. without_in i members j k) y a
-  | inr h ↦ elim (in_append (map promises others) _ y h) [
+  | inr h ↦ elim (in_split (map promises others) _ y h) [
     | inl a ↦ from_map promises (λ j. i) others members (λ j. refl) (λ j k. member) y a
-    | inr h ↦ elim (in_append (map proposes others) _ y h) [
+    | inr h ↦ elim (in_split (map proposes others) _ y h) [
       | inl a ↦ from_map proposes (λ j. j) others members (λ j. refl) (λ j k. without_in i members j k) y a
       | inr a ↦ from_map accepts (λ j. i) others members (λ j. refl) (λ j k. member) y a
     ]
@@ -350,9 +337,9 @@ module _ {D : Type 0} (g : Ghosts D) where
   }
   grown_by n members first end all_events ys count low (more before between e answer events last ran stepped ample whole) are all =
       let s = split before e ys (subst (λ (l : List Event). AreEvents l ys) whole are) in
-      let b = grown_by n members first between before s.front count low ran s.are (λ y h. all y (subst (λ (l : List calm.Event). In y l) (sym s.whole) (in_front_of s.front (s.last ∷ []) y h))) in
+      let b = grown_by n members first between before s.front count low ran s.are (λ y h. all y (subst (λ (l : List calm.Event). In y l) (sym s.whole) (in_first s.front (s.last ∷ []) y h))) in
       let member : In (node_of e) members = subst (λ (k : ℕ). In k members) (sym (same_node e s.last s.is))
-      (all s.last (subst (λ (l : List calm.Event). In s.last l) (sym s.whole) (in_behind s.front (s.last ∷ []) s.last (inl refl)))) in
+      (all s.last (subst (λ (l : List calm.Event). In s.last l) (sym s.whole) (in_later s.front (s.last ∷ []) s.last (inl refl)))) in
       let less : node_of e < length between.nodes = subst (λ (m : ℕ). node_of e < m) (sym (b.count ∙ count)) (low (node_of e) member) in
       record {
         count = ap (λ (l : List (Node D)). length l) stepped.others ∙ (length-set between.nodes (node_of e) stepped.after ∙ b.count);
@@ -371,10 +358,10 @@ module _ {D : Type 0} (g : Ghosts D) where
   }
   ran_on n members plan standings first end all_events ys count low (more before between e answer events last ran stepped ample whole) are all posted seen honest up sound =
       let s = split before e ys (subst (λ (l : List Event). AreEvents l ys) whole are) in
-      let front_in : AllIn members s.front = (λ y h. all y (subst (λ (l : List calm.Event). In y l) (sym s.whole) (in_front_of s.front (s.last ∷ []) y h))) in
+      let front_in : AllIn members s.front = (λ y h. all y (subst (λ (l : List calm.Event). In y l) (sym s.whole) (in_first s.front (s.last ∷ []) y h))) in
       let b = grown_by n members first between before s.front count low ran s.are front_in in
       let member : In (node_of e) members = subst (λ (k : ℕ). In k members) (sym (same_node e s.last s.is))
-      (all s.last (subst (λ (l : List calm.Event). In s.last l) (sym s.whole) (in_behind s.front (s.last ∷ []) s.last (inl refl)))) in
+      (all s.last (subst (λ (l : List calm.Event). In s.last l) (sym s.whole) (in_later s.front (s.last ∷ []) s.last (inl refl)))) in
       let less : node_of e < length between.nodes = subst (λ (m : ℕ). node_of e < m) (sym (b.count ∙ count)) (low (node_of e) member) in
       let still : HaveNotFailed g first between members =
       (λ k d h. let x = b.counts k d in let y = step_counts between last e answer stepped less k d in let z = sound k d h in let zz = z.0 in let zw = z.1 in (omega (arith, x, y, zz), omega (arith, y, zw))) in
@@ -430,7 +417,7 @@ module _ {D : Type 0} (g : Ghosts D) where
       let calm_then = calm_same (place_of plan i) standings (standing_at plan state) i members command same calm_now in
       let split_then : round (standing_at plan state) i members command ≡ first ++ rest = sym (round_same standings (standing_at plan state) i members command calm_now.member same) ∙ whole in
       let inside : AllIn members first =
-      (λ y h. round_in (standing_at plan state) i members command calm_now.member y (subst (λ (l : List calm.Event). In y l) (sym split_then) (in_front_of first rest y h))) in
+      (λ y h. round_in (standing_at plan state) i members command calm_now.member y (subst (λ (l : List calm.Event). In y l) (sym split_then) (in_first first rest y h))) in
       let m = ran_on n members plan ruled.standings old new events first count low ran are inside each ruled.seen honest up sound in
       let moved = law plan.setting n before plan.sources state (state_of m.after new) i members command first rest ruled.runs unforged calm_then split_then m.takes in
       let within : i < length new.nodes = subst (λ (k : ℕ). i < k) (sym (m.count ∙ count)) (low i calm_now.member) in

@@ -29,7 +29,7 @@ use Rattle.dealer_world.specs.Views.{placed_at, grown}
 use Rattle.dealer_world.specs.Runs.{AreWritten, arrived_at, Keeps}
 use Rattle.dealer_world.specs.RuleRuns.{State, plan_of}
 use Rattle.dealer_world.specs.CalmRun.{standing_at, IsUntroubled, TakesEvent, TakesEvents, IsNextTaken, RoundsMoveOn}
-use Rattle.dealer_world.proofs.Lists.{in_front, in_later, in_split}
+use Rattle.protocol_model.proofs.Sets.{in_first, in_later, in_split}
 use Rattle.dealer_world.proofs.Saying.{placed_after}
 use Rattle.dealer_world.proofs.Keeping.{Laws, Kept, own_of, IsNode, is_place, each_here, run_keeps}
 
@@ -189,7 +189,7 @@ further plan IsSo event events st sent old new on (way, goes) t =
               | inl new_one ↦ in_later old.now.sent s.made.frames (record { from = x.from; to = x.to; bytes = bytes_of x.message })
                   (sent_recorded s.node s.ruled.frames s.made.frames s.ruled.written x
                   (subst (λ (l : List Outgoing). In x (sent_by s.node l)) (sym frames) (subst (λ (n : ℕ). In x (sent_by n g.0.frames)) (sym t.node) new_one)))
-              | inr before ↦ in_front old.now.sent s.made.frames (record { from = x.from; to = x.to; bytes = bytes_of x.message }) (on.known x before)
+              | inr before ↦ in_first old.now.sent s.made.frames (record { from = x.from; to = x.to; bytes = bytes_of x.message }) (on.known x before)
             ]);
         unforged = subst (λ (now : Record). IsUnforged now.sent now.delivered) (sym s.grows) (unforged_after old.now s.node s.arrived s.made on.unforged on.placed among);
         placed = subst (λ (now : Record). ArePlaced now.sent now.delivered) (sym s.grows) (placed_after old.now.sent s.made.frames old.now.delivered s.arrived on.placed);

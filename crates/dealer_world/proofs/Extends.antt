@@ -16,7 +16,7 @@ use Rattle.dealer_world.specs.Headline.{Era, said_in}
 use Rattle.dealer_world.specs.Calls.{Made, Called, Calls, IsSound, IsOwn, frames_in, log_after, AreTold}
 use Rattle.dealer_world.specs.Views.{placed_at, starts_after, grown}
 use Rattle.dealer_world.specs.Behind.{Behind, EachNode, AreHeard, ArePieces, IsHeardNow}
-use Rattle.dealer_world.proofs.Lists.{in_front, in_later, in_split}
+use Rattle.protocol_model.proofs.Sets.{in_first, in_later, in_split}
 use Rattle.dealer_world.proofs.Saying.{said_append, in_said, unforged_before, came_was_sent}
 use Rattle.dealer_world.proofs.Pieces.{newest_first, log_own, log_other, log_before_it, pieces_more, begun_after, headers_after, count_own, count_after_other}
 use Rattle.dealer_world.proofs.Heard.{IsAt, hears, was_heard_on, others_at}
@@ -90,10 +90,10 @@ split_said : (said_before sent_said more_said ever out : List Message) (message 
     → (In message (said_before ++ sent_said) → In message ever) → (In message more_said → In message out)
     → In message (said_before ++ (sent_said ++ more_said)) → In message (out ++ ever)
 split_said said_before sent_said more_said ever out message old new h = elim (in_split said_before (sent_said ++ more_said) message h) [
-  | inl first ↦ in_later out ever message (old (in_front said_before sent_said message first))
+  | inl first ↦ in_later out ever message (old (in_first said_before sent_said message first))
   | inr rest ↦ elim (in_split sent_said more_said message rest) [
     | inl sent ↦ in_later out ever message (old (in_later said_before sent_said message sent))
-    | inr more ↦ in_front out ever message (new more)
+    | inr more ↦ in_first out ever message (new more)
   ]
 ]
 
@@ -103,8 +103,8 @@ join_said : (said_before sent_said more_said ever out : List Message) (message :
 join_said said_before sent_said more_said ever out message old new h = elim (in_split out ever message h) [
   | inl now ↦ in_later said_before (sent_said ++ more_said) message (in_later sent_said more_said message (new now))
   | inr was ↦ elim (in_split said_before sent_said message (old was)) [
-    | inl first ↦ in_front said_before (sent_said ++ more_said) message first
-    | inr sent ↦ in_later said_before (sent_said ++ more_said) message (in_front sent_said more_said message sent)
+    | inl first ↦ in_first said_before (sent_said ++ more_said) message first
+    | inr sent ↦ in_later said_before (sent_said ++ more_said) message (in_first sent_said more_said message sent)
   ]
 ]
 
@@ -209,7 +209,7 @@ extends IsOf dealer i nodes old new arrived made now before reach within at call
           (b.accepted sender ballot slot command) (called.accepted sender ballot slot command) (subst (In (Accepted sender ballot slot command)) after.ever h));
       accepts = λ ballot slot command h. subst (In (Accepted ballot.node ballot slot command)) (sym (said_append now.sent made.frames))
           (elim (in_split (said now.sent) (said made.frames) (Accept ballot slot command) (subst (In (Accept ballot slot command)) (said_append now.sent made.frames) h)) [
-            | inl was ↦ in_front (said now.sent) (said made.frames) (Accepted ballot.node ballot slot command) (b.accepts ballot slot command was)
+            | inl was ↦ in_first (said now.sent) (said made.frames) (Accepted ballot.node ballot slot command) (b.accepts ballot slot command was)
             | inr is_new ↦ in_later (said now.sent) (said made.frames) (Accepted ballot.node ballot slot command) (called.accepts ballot slot command is_new)
           ]);
       own = λ frame h. subst (λ m. IsOwn m frame) (sym (length-set nodes i new)) (elim (in_split now.sent made.frames frame h) [

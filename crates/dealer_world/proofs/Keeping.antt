@@ -39,7 +39,7 @@ use Rattle.dealer_world.specs.Behind.{Behind, EachNode}
 use Rattle.dealer_world.specs.Openings.{BehindEras, LeftInside}
 use Rattle.dealer_world.specs.Runs.{Ruled, Keeps, IsSeated, arrived_at, arrived_by, IsOfRule}
 use Rattle.dealer_world.specs.RuleRuns.{State, IsCreated, EndsAs, at_rest, in_a_call, AreReopened, plan_of, RunsTo, fresh, step, opened, RunsShowOneList, IsBacked, RunsAreBacked}
-use Rattle.dealer_world.proofs.Lists.{in_later}
+use Rattle.protocol_model.proofs.Sets.{in_later}
 use Rattle.dealer_world.proofs.Saying.{in_said, unforged_before, placed_after, came_was_sent}
 use Rattle.dealer_world.proofs.Heard.{IsAt}
 use Rattle.dealer_world.proofs.Extends.{Reaches, extends, each_at, frame_at, sound_of}

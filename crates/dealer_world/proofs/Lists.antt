@@ -1,21 +1,8 @@
--- Membership, and lists the other way round.
-use Rattle.std.proofs.Common.{◌≡◌, ◌⊎◌, inl, inr, List, [], ◌∷◌, ◌++◌, map, reverse, refl, ap, sym, ◌∙◌, subst}
+-- Lists the other way round.
+use Rattle.std.proofs.Common.{◌≡◌, inl, inr, List, [], ◌∷◌, ◌++◌, map, reverse, refl, ap, sym, ◌∙◌, subst}
 use Rattle.std.proofs.lemmas.List.{reverse-append, reverse-reverse, map-append}
 use Rattle.protocol_model.specs.Sets.{In}
-
-pub in_front : {A : Type 0} (xs ys : List A) (x : A) → In x xs → In x (xs ++ ys)
-in_front [] ys x h = elim h [ ]
-in_front (z ∷ xs) ys x (inl e) = inl e
-in_front (z ∷ xs) ys x (inr h) = inr (in_front xs ys x h)
-
-pub in_later : {A : Type 0} (xs ys : List A) (x : A) → In x ys → In x (xs ++ ys)
-in_later [] ys x h = h
-in_later (z ∷ xs) ys x h = inr (in_later xs ys x h)
-
-pub in_split : {A : Type 0} (xs ys : List A) (x : A) → In x (xs ++ ys) → In x xs ⊎ In x ys
-in_split [] ys x h = inr h
-in_split (z ∷ xs) ys x (inl e) = inl (inl e)
-in_split (z ∷ xs) ys x (inr h) = elim (in_split xs ys x h) [ inl l ↦ inl (inr l) | inr r ↦ inr r ]
+use Rattle.protocol_model.proofs.Sets.{in_first, in_later}
 
 pub reverse_step : {A : Type 0} (x : A) (xs : List A) → reverse (x ∷ xs) ≡ reverse xs ++ x ∷ []
 reverse_step x xs = reverse-append (x ∷ []) xs
@@ -28,7 +15,7 @@ reverse_map f (x ∷ xs) =
 pub in_reverse : {A : Type 0} (xs : List A) (x : A) → In x xs → In x (reverse xs)
 in_reverse [] x h = elim h [ ]
 in_reverse (y ∷ xs) x (inl e) = subst (In x) (sym (reverse_step y xs)) (in_later (reverse xs) (y ∷ []) x (inl e))
-in_reverse (y ∷ xs) x (inr h) = subst (In x) (sym (reverse_step y xs)) (in_front (reverse xs) (y ∷ []) x (in_reverse xs x h))
+in_reverse (y ∷ xs) x (inr h) = subst (In x) (sym (reverse_step y xs)) (in_first (reverse xs) (y ∷ []) x (in_reverse xs x h))
 
 pub in_reversed : {A : Type 0} (xs : List A) (x : A) → In x (reverse xs) → In x xs
 in_reversed xs x h = subst (In x) (reverse-reverse xs) (in_reverse (reverse xs) x h)

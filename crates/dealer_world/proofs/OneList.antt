@@ -18,7 +18,8 @@ use Rattle.dealer_kind.specs.Owning.{OwnsDeals, IsDealtOrSaid}
 use Rattle.dealer_world.specs.Records.{Record, Piece, Line, Written, Start, logged_by, log_in, log_of, line_by, lines_of, logs_of}
 use Rattle.dealer_world.specs.Headline.{Era, said_in, owned_in, dealer_in, text_by, AreTexts, IsLineOf, IsLogOf, IsOfOneList, InEach, HasOrigin, OneList}
 use Rattle.dealer_world.specs.Behind.{Behind, IsPiece, ArePieces, HaveHeaders, AreEras, no_era, one_more}
-use Rattle.dealer_world.proofs.Lists.{in_front, in_later, in_split, in_reverse}
+use Rattle.protocol_model.proofs.Sets.{in_first, in_later, in_split}
+use Rattle.dealer_world.proofs.Lists.{in_reverse}
 
 -- ---- what was shown, with its starts counted from 0
 
@@ -195,7 +196,7 @@ of_one_list dealer commands all base latest are headers of forward = record {
 
 forward_first : (xs ys : List Shown) → NeverGoesBack (xs ++ ys) → NeverGoesBack xs
 forward_first [] ys forward = tt
-forward_first (x ∷ xs) ys (first, forward) = ((λ shown there. first shown (in_front xs ys shown there)), forward_first xs ys forward)
+forward_first (x ∷ xs) ys (first, forward) = ((λ shown there. first shown (in_first xs ys shown there)), forward_first xs ys forward)
 
 forward_rest : (xs ys : List Shown) → NeverGoesBack (xs ++ ys) → NeverGoesBack ys
 forward_rest [] ys forward = forward
@@ -209,7 +210,7 @@ eras_of_one_list dealer commands shown eras (no_era _ _ empty no_eras) of forwar
 eras_of_one_list dealer commands shown eras (one_more base latest older _ era before _ all is are headers rest) of forward =
     let now : NeverGoesBack (latest ++ older) = subst NeverGoesBack all forward in
     subst (InEach (λ e. IsOfOneList dealer commands e.record_of)) (sym is) (
-      of_one_list dealer commands era.record_of base latest are headers (λ text there. of text (subst (In text) (sym all) (in_front latest older text there))) (forward_first latest older now),
+      of_one_list dealer commands era.record_of base latest are headers (λ text there. of text (subst (In text) (sym all) (in_first latest older text there))) (forward_first latest older now),
       eras_of_one_list dealer commands older before rest (λ text there. of text (subst (In text) (sym all) (in_later latest older text there))) (forward_rest latest older now),
     )
 
@@ -262,7 +263,7 @@ one_list_of IsOf setting nodes era before one_dealer dealt owns b =
       fitting = one.fitting;
       shown = (
         of_one_list (dealer_in setting (era ∷ before)) one.commands era.record_of b.base b.latest b.pieces b.headers
-            (λ text there. one.shown text (subst (In text) (sym b.shown) (in_front b.latest b.older text there))) (forward_first b.latest b.older forward),
+            (λ text there. one.shown text (subst (In text) (sym b.shown) (in_first b.latest b.older text there))) (forward_first b.latest b.older forward),
         eras_of_one_list (dealer_in setting (era ∷ before)) one.commands b.older before b.eras
             (λ text there. one.shown text (subst (In text) (sym b.shown) (in_later b.latest b.older text there))) (forward_rest b.latest b.older forward),
       );

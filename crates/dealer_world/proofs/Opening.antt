@@ -20,7 +20,7 @@ use Rattle.dealer_world.specs.Calls.{nothing_made}
 use Rattle.dealer_world.specs.Views.{placed_at, grown}
 use Rattle.dealer_world.specs.Behind.{Behind, EachNode, AreEras, ArePieces, no_era, one_more, AreHeard}
 use Rattle.dealer_world.specs.Openings.{BehindEras, LeftInside}
-use Rattle.dealer_world.proofs.Lists.{in_later, in_split}
+use Rattle.protocol_model.proofs.Sets.{in_later, in_split}
 use Rattle.dealer_world.proofs.Extends.{Reaches}
 use Rattle.dealer_world.proofs.Heard.{IsAt, hears, was_heard_on}
 

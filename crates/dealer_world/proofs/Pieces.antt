@@ -10,7 +10,8 @@ use Rattle.dealer_world.specs.Headline.{text_by}
 use Rattle.dealer_world.specs.Calls.{Text, Made, AreTold, added_by, log_after, log_before, read_by, HasHeader}
 use Rattle.dealer_world.specs.Views.{piece_of, starts_after, grown}
 use Rattle.dealer_world.specs.Behind.{ArePieces, AreBegun, HaveHeaders}
-use Rattle.dealer_world.proofs.Lists.{in_front, in_later, in_split, reverse_map, in_reversed}
+use Rattle.protocol_model.proofs.Sets.{in_first, in_later, in_split}
+use Rattle.dealer_world.proofs.Lists.{reverse_map, in_reversed}
 
 both_own : (i k : ℕ) → ((i == i) && (k == k)) ≡ true
 both_own i k = ap (λ b. b && (k == k)) (eq-eqb i i refl) ∙ eq-eqb k k refl
@@ -167,7 +168,7 @@ headers_after now i arrived made header headers = by_began made.began refl
         → (piece : Piece) × In piece (now.shown ++ map (piece_of i k) made.texts) × (piece.reader ≡ Log) × (piece.node ≡ begun.node) × (piece.start ≡ begun.start)
     old k begun there =
         let found = headers begun there in
-        (found.0, in_front now.shown (map (piece_of i k) made.texts) found.0 found.1, found.2, found.3, found.4)
+        (found.0, in_first now.shown (map (piece_of i k) made.texts) found.0 found.1, found.2, found.3, found.4)
 
     by_began : (began : Bool) → made.began ≡ began → (begun : Start) → In begun (starts_after now.starts i began)
         → (piece : Piece) × In piece (now.shown ++ map (piece_of i (last_start (starts_after now.starts i began) i)) made.texts)

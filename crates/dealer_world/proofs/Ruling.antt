@@ -31,7 +31,8 @@ use Rattle.node_rules.specs.Sound.{Stands, CallsAreSound, LinesAreRefusedDown}
 use Rattle.dealer_world.specs.Records.{Frame, Arrived, said, said_by, messages_of}
 use Rattle.dealer_world.specs.Calls.{Made, nothing_made, AreTold, added_by, log_after, read_by, BringsAll, frames_in, log_before, IsSound, HasHeader, Called}
 use Rattle.dealer_world.specs.Runs.{AreWritten, text_by_rule, arrived_by, arrived_at, begins_by, Keeps, IsSeated, Ruled, IsOfRule}
-use Rattle.dealer_world.proofs.Lists.{in_front, in_later, in_split, reverse_step, reverse_map}
+use Rattle.protocol_model.proofs.Sets.{in_first, in_later, in_split}
+use Rattle.dealer_world.proofs.Lists.{reverse_step, reverse_map}
 use Rattle.dealer_world.proofs.Starting.{starts_in, is_start, chain_counts}
 
 -- ---- frames
@@ -52,7 +53,7 @@ said_is : (i : ℕ) (outgoing : List Outgoing) (frames : List Frame) (message : 
 said_is i [] frames message written (to, (sent, there, is, says)) = elim there [ ]
 said_is i (first ∷ more) [] message written found = absurd written
 said_is i (first ∷ more) (frame ∷ frames) message (from, to, text, read, rest) (other, (sent, inl same, is, says)) =
-    in_front (said_by frame) (said frames) message (subst (In message) (sym (said_as i first frame from read)) (subst (λ (o : Outgoing). In message (carried i o.message)) same says))
+    in_first (said_by frame) (said frames) message (subst (In message) (sym (said_as i first frame from read)) (subst (λ (o : Outgoing). In message (carried i o.message)) same says))
 said_is i (first ∷ more) (frame ∷ frames) message (from, to, text, read, rest) (other, (sent, inr there, is, says)) =
     in_later (said_by frame) (said frames) message (said_is i more frames message rest (other, (sent, there, is, says)))
 

@@ -8,7 +8,7 @@ use Rattle.dealer_world.specs.Records.{Frame, Arrived, Delivered, Came, Connecte
 use Rattle.dealer_world.specs.Unforged.{IsAmong, IsUnforged, ArePlaced}
 use Rattle.dealer_world.specs.Calls.{frames_in}
 use Rattle.dealer_world.specs.Views.{placed_at}
-use Rattle.dealer_world.proofs.Lists.{in_front, in_later, in_split}
+use Rattle.protocol_model.proofs.Sets.{in_first, in_later, in_split}
 
 pub said_append : (xs ys : List Frame) → said (xs ++ ys) ≡ said xs ++ said ys
 said_append [] ys = refl
@@ -16,14 +16,14 @@ said_append (x ∷ xs) ys = ap (λ ms. said_by x ++ ms) (said_append xs ys) ∙ 
 
 pub in_said : (frame : Frame) (frames : List Frame) (message : Message) → In frame frames → In message (said_by frame) → In message (said frames)
 in_said frame [] message there h = elim there [ ]
-in_said frame (x ∷ xs) message (inl e) h = in_front (said_by x) (said xs) message (subst (λ f. In message (said_by f)) e h)
+in_said frame (x ∷ xs) message (inl e) h = in_first (said_by x) (said xs) message (subst (λ f. In message (said_by f)) e h)
 in_said frame (x ∷ xs) message (inr later) h = in_later (said_by x) (said xs) message (in_said frame xs message later h)
 
 -- where the record after is unforged, so is the record before
 pub unforged_before : (sent more : List Frame) (delivered newer : List Arrival) → ArePlaced sent delivered
     → IsUnforged (sent ++ more) (delivered ++ newer) → IsUnforged sent delivered
 unforged_before sent more delivered newer placed unforged arrival h =
-    subst (λ frames. IsAmong frames arrival.what) (take-append-le arrival.sent_before sent more (placed arrival h)) (unforged arrival (in_front delivered newer arrival h))
+    subst (λ frames. IsAmong frames arrival.what) (take-append-le arrival.sent_before sent more (placed arrival h)) (unforged arrival (in_first delivered newer arrival h))
 
 -- what is placed now came with all that had been sent
 in_placed : (count : ℕ) (arrived : List Arrived) (arrival : Arrival) → In arrival (map (placed_at count) arrived) → arrival.sent_before ≡ count
