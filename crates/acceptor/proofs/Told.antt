@@ -8,23 +8,10 @@ use Rattle.paxos_wire.specs.declared.entry.Entry.{Entry}
 use Rattle.slot_log.specs.declared.command.Command.{Command}
 use Rattle.paxos_wire.specs.Fits.{IsInRange, IsEntry, AreEntries, Rise}
 use Rattle.protocol_model.specs.Sets.{In}
+use Rattle.protocol_model.proofs.Sets.{in_first, in_later, in_split}
 use Rattle.protocol_model.specs.Messages.{Vote, entry_of, vote_of}
 use Rattle.protocol_model.specs.Stores.{Store, Tells}
 use Rattle.acceptor.specs.Answers.{told_at, told_pair, told_from, told_of, command_found}
-
-in_front : {A : Type 0} (x : A) (xs ys : List A) → In x xs → In x (xs ++ ys)
-in_front x [] ys m = absurd m
-in_front x (y ∷ xs) ys (inl same) = inl same
-in_front x (y ∷ xs) ys (inr m) = inr (in_front x xs ys m)
-
-behind : {A : Type 0} (x : A) (xs ys : List A) → In x ys → In x (xs ++ ys)
-behind x [] ys m = m
-behind x (y ∷ xs) ys m = inr (behind x xs ys m)
-
-either_part : {A : Type 0} (x : A) (xs ys : List A) → In x (xs ++ ys) → In x xs ⊎ In x ys
-either_part x [] ys m = inr m
-either_part x (y ∷ xs) ys (inl same) = inl (inl same)
-either_part x (y ∷ xs) ys (inr m) = elim (either_part x xs ys m) [ inl l ↦ inl (inr l) | inr r ↦ inr r ]
 
 here : (slot : ℕ) (vote : Vote) (o : Option Vote) → o ≡ Some vote → In (entry_of slot vote) (told_at slot o)
 here slot vote None e = absurd (cc)
@@ -33,9 +20,9 @@ here slot vote (Some other) e = let same : other ≡ vote = cc in inl (ap (entry
 told_has : (store : Store) (first n k : ℕ) (vote : Vote) → k < n → store.votes (first + k) ≡ Some vote → In (entry_of (first + k) vote) (told_from store first n)
 told_has store first zero k vote below e = absurd (omega arith)
 told_has store first (suc n) k vote below e = elim cases [
-  | inl lower ↦ in_front _ (told_from store first n) _ (told_has store first n k vote lower e)
+  | inl lower ↦ in_first (told_from store first n) _ _ (told_has store first n k vote lower e)
   | inr last ↦
-      behind _ (told_from store first n) _
+      in_later (told_from store first n) _ _
       (subst (λ (m : ℕ). In (entry_of (first + k) vote) (told_at (first + m) (store.votes (first + m)))) last (here (first + k) vote (store.votes (first + k)) e))
 ]
   where
@@ -57,7 +44,7 @@ one_told store slot entry (Some vote) e (inr none) = absurd none
 
 told_only : (store : Store) (first n : ℕ) (entry : Entry) → In entry (told_from store first n) → IsTold store first n entry
 told_only store first zero entry m = absurd m
-told_only store first (suc n) entry m = elim (either_part entry (told_from store first n) _ m) [
+told_only store first (suc n) entry m = elim (in_split (told_from store first n) _ entry m) [
   | inl older ↦ let t = told_only store first n entry older in let l = t.least in let h = t.most in record { least = l; most = omega arith; vote = t.vote }
   | inr last ↦
       let one = one_told store (first + n) entry (store.votes (first + n)) refl last in
