@@ -7,7 +7,7 @@ use Rattle.dealer_kind.specs.Plans.{HasNodes}
 use Rattle.protocol_model.specs.Sets.{In}
 use Rattle.node_rules.specs.Sending.{Frame, one, to_first}
 use Rattle.dealer_node.specs.Working.{TellsNoStore}
-use Rattle.dealer_node.proofs.Worked.{in_first, in_next}
+use Rattle.protocol_model.proofs.Sets.{in_first, in_later}
 
 pub more_than_one : (nodes : ℕ) → HasNodes nodes → 2 ≤ nodes
 more_than_one nodes (inl e) = omega arith
@@ -17,9 +17,9 @@ more_than_one nodes (inr e) = omega arith
 one_of_two : (k node : ℕ) (message : Message) (a b : Bool) → (suc k == node) ≡ a → (k == node) ≡ b
     → (sent : Frame) × In sent ((to_first k node message ++ (if b then [] else one k message)) ++ (if a then [] else one (suc k) message)) × (sent.message ≡ message)
 one_of_two k node message false b e f =
-    (record { to = suc k; message = message }, in_next _ (to_first k node message ++ (if b then [] else one k message)) (one (suc k) message) (inl refl), refl)
+    (record { to = suc k; message = message }, in_later (to_first k node message ++ (if b then [] else one k message)) (one (suc k) message) _ (inl refl), refl)
 one_of_two k node message true false e f =
-    (record { to = k; message = message }, in_first _ (to_first k node message ++ one k message) [] (in_next _ (to_first k node message) (one k message) (inl refl)), refl)
+    (record { to = k; message = message }, in_first (to_first k node message ++ one k message) [] _ (in_later (to_first k node message) (one k message) _ (inl refl)), refl)
 one_of_two k node message true true e f =
     let last : suc k ≡ node = eqb-true (suc k) node e in
     let before : k ≡ node = eqb-true k node f in

@@ -54,7 +54,8 @@ use Rattle.dealer_node.specs.Working.{head_of, disk_under, ComesTo, IsDone, IsUp
 use Rattle.dealer_node.proofs.Telling.{told_with, frames_more}
 use Rattle.dealer_node.proofs.Learned.{stored_too}
 use Rattle.dealer_node.proofs.Still.{told_to_none, of_refusal}
-use Rattle.dealer_node.proofs.Worked.{in_first, nothing_more, memory_took, then_works, works_from}
+use Rattle.protocol_model.proofs.Sets.{in_first}
+use Rattle.dealer_node.proofs.Worked.{nothing_more, memory_took, then_works, works_from}
 
 -- ---- what is told
 
@@ -185,7 +186,7 @@ learning_keeps place (Err why) learned s first turn rule = let never : Err (Conf
 
 -- what a first turn sends is sent, whatever comes behind it
 sends_by : (first next turn : Turn) (sent : Frame) → behind first (Ok next) ≡ Ok turn → In sent first.frames → In sent turn.frames
-sends_by first next turn sent rule at = subst (λ (t : Turn). In sent t.frames) (same_turn (joined first next) turn (behind first (Ok next)) refl rule) (in_first sent first.frames next.frames at)
+sends_by first next turn sent rule at = subst (λ (t : Turn). In sent t.frames) (same_turn (joined first next) turn (behind first (Ok next)) refl rule) (in_first first.frames next.frames sent at)
 
 behind_sends : (first turn : Turn) (next : Result Turn Refusal) (sent : Frame) → behind first next ≡ Ok turn → In sent first.frames → In sent turn.frames
 behind_sends first turn (Ok next) sent rule at = sends_by first next turn sent rule at

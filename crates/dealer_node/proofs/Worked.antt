@@ -1,5 +1,5 @@
 -- What a part of a call makes of what runs.
-use Rattle.std.proofs.Common.{◌≡◌, ℕ, ◌≤◌, ◌+◌, inl, inr, Bool, true, false, List, [], ◌∷◌, ◌++◌, Result, Ok, Err, refl, sym, ap, subst, ◌∙◌, append_assoc}
+use Rattle.std.proofs.Common.{◌≡◌, ℕ, ◌≤◌, ◌+◌, inl, inr, Bool, true, false, List, ◌++◌, Result, Ok, Err, refl, sym, ap, subst, ◌∙◌, append_assoc}
 use Rattle.std.proofs.lemmas.List.{append-nil}
 use Rattle.std.specs.Prelude.{◌⊎◌, Option, Some, None, map}
 use Rattle.promise_store.specs.declared.disk.Disk.{Ghosts}
@@ -8,7 +8,7 @@ use Rattle.promise_store.specs.Disks.{During}
 use Rattle.promise_store.specs.Holding.{StandsFor}
 use Rattle.promise_store.specs.Keeping.{Keeps, Leaves, LeavesDuring}
 use Rattle.acceptor.specs.Stored.{store_of}
-use Rattle.protocol_model.specs.Sets.{In}
+use Rattle.protocol_model.proofs.Sets.{in_first, in_later, in_split}
 use Rattle.protocol_model.specs.Stores.{Store}
 use Rattle.node_rules.specs.Standings.{Place, Standing, idle}
 use Rattle.node_rules.specs.Sending.{Frame}
@@ -30,22 +30,8 @@ nothing_more told s = same_told _ _ _ _ _ _ (sym (append-nil told.frames)) (sym 
 
 -- ---- frames
 
-pub in_either : {A : Type 0} (x : A) (xs ys : List A) → In x (xs ++ ys) → In x xs ⊎ In x ys
-in_either x [] ys at = inr at
-in_either x (y ∷ xs) ys (inl e) = inl (inl e)
-in_either x (y ∷ xs) ys (inr at) = elim (in_either x xs ys at) [ inl a ↦ inl (inr a) | inr b ↦ inr b ]
-
-pub in_first : {A : Type 0} (x : A) (xs ys : List A) → In x xs → In x (xs ++ ys)
-in_first x [] ys at = absurd at
-in_first x (y ∷ xs) ys (inl e) = inl e
-in_first x (y ∷ xs) ys (inr at) = inr (in_first x xs ys at)
-
-pub in_next : {A : Type 0} (x : A) (xs ys : List A) → In x ys → In x (xs ++ ys)
-in_next x [] ys at = at
-in_next x (y ∷ xs) ys at = inr (in_next x xs ys at)
-
 pub both_are : (first next : List Frame) → AreMessages first → AreMessages next → AreMessages (first ++ next)
-both_are first next a b one at = elim (in_either one first next at) [ inl i ↦ a one i | inr j ↦ b one j ]
+both_are first next a b one at = elim (in_split first next one at) [ inl i ↦ a one i | inr j ↦ b one j ]
 
 -- ---- moments
 
@@ -145,7 +131,7 @@ module _ {D : Type 0} (g : Ghosts D) where
     fits = both_are first.turn.frames second.turn.frames first.fits second.fits;
     moments = left_during (head_of post) _ _ _ s.store first.turn.after.store second.turn.after.store (appends_once s first.turn.after (next first.turn.after) second.turn once second.rule) first.moments second.moments;
     untouched = λ still.
-        second.untouched (λ sent at. still sent (in_next sent first.turn.frames second.turn.frames at)) ∙ first.untouched (λ sent at. still sent (in_first sent first.turn.frames second.turn.frames at));
+        second.untouched (λ sent at. still sent (in_later first.turn.frames second.turn.frames sent at)) ∙ first.untouched (λ sent at. still sent (in_first first.turn.frames second.turn.frames sent at));
   }
 
   then_failed : (post : Post) (s : Standing) (next : Standing → Result Turn Refusal) (outcome : Result Turn Refusal) (a b c : Up D) (earlier middle : Told)
