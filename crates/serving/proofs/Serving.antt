@@ -1,7 +1,8 @@
 -- What one event leaves of what waits, and that no frame is forged by those that were sent.
-use Rattle.std.proofs.Common.{◌≡◌, ◌⊎◌, ℕ, zero, suc, Bool, true, false, List, [], ◌∷◌, ◌++◌, map, length, take, slice_get, Some, Result, Err, inl, inr, subst, sym}
+use Rattle.std.proofs.Common.{◌≡◌, ℕ, zero, suc, Bool, true, false, List, [], ◌∷◌, ◌++◌, map, length, take, slice_get, Some, Result, Err, inl, inr, subst, sym}
 use Rattle.promise_store.specs.declared.disk.Disk.{Ghosts}
 use Rattle.protocol_model.specs.Sets.{In}
+use Rattle.protocol_model.proofs.Sets.{in_split}
 use Rattle.dealer_kind.specs.Plans.{Plan}
 use Rattle.dealer_node.specs.Nodes.{Node}
 use Rattle.dealer_node.specs.Outs.{Told}
@@ -35,11 +36,6 @@ still_waiting g old new e answer w none stepped (of_match, is_sent) = (
 )
 
 -- ---- lists
-
-in_both : {A : Type 0} (x : A) (xs ys : List A) → In x (xs ++ ys) → In x xs ⊎ In x ys
-in_both x [] ys here = inr here
-in_both x (y ∷ xs) ys (inl is) = inl (inl is)
-in_both x (y ∷ xs) ys (inr more) = elim (in_both x xs ys more) [ inl before ↦ inl (inr before) | inr after ↦ inr after ]
 
 in_first : {A : Type 0} (x : A) (n : ℕ) (xs ys : List A) → In x (take n xs) → In x (take n (xs ++ ys))
 in_first x zero xs ys here = absurd here
@@ -97,7 +93,7 @@ gains_unforged e number up told old new answer (nothing a is same last) is_sent 
 gains_unforged e number up told old new answer (call a ample grows last) is_sent unforged =
     let made = made_by (node_of e) told (begins_by_event up e answer) in
     let each : IsUnforged (old.all.sent ++ made.frames) (old.all.delivered ++ map (placed_at (length old.all.sent)) (arrived_by_event up e)) =
-    λ arrival here. elim (in_both arrival old.all.delivered (map (placed_at (length old.all.sent)) (arrived_by_event up e)) here) [
+    λ arrival here. elim (in_split old.all.delivered (map (placed_at (length old.all.sent)) (arrived_by_event up e)) arrival here) [
       | inl before ↦ among_more arrival.sent_before old.all.sent made.frames arrival.what (unforged arrival before)
       | inr now ↦ arrived_now up e number old.all.sent made.frames arrival is_sent now
     ] in
