@@ -14,6 +14,7 @@ use Rattle.protocol_model.specs.Ballots.{Below}
 use Rattle.protocol_model.specs.Messages.{Vote}
 use Rattle.protocol_model.specs.Stores.{Store, empty_store}
 use Rattle.protocol_model.proofs.Sets.{in_first, in_later, in_split}
+use Rattle.node_rules.proofs.Members.{above_all}
 use Rattle.dealer_kind.specs.Plans.{Plan}
 use Rattle.node_rules.specs.Standings.{Place, Standing, place_of, stopped, front_of}
 use Rattle.node_rules.specs.Sending.{Frame as Outgoing}
@@ -24,7 +25,7 @@ use Rattle.node_rules.specs.Called.{Ends, took, refused, failed, unchanged}
 use Rattle.node_rules.specs.Accepting.{told_by}
 use Rattle.node_rules.specs.Proposing.{is_over, own_value}
 use Rattle.paxos_wire.specs.declared.limits.TheConstants.{SLOTS}
-use Rattle.node_rules.specs.Calm.{Rise, without, IsHeld, IsGreatestHeld, IsOwn, Calm, Ticks, Delivers, delivers, ballot_after, round}
+use Rattle.node_rules.specs.Calm.{without, IsHeld, IsGreatestHeld, IsOwn, Calm, Ticks, Delivers, delivers, ballot_after, round}
 use Rattle.node_rules.specs.Calm as calm
 use Rattle.node_rules.specs.CalmRound as of_round
 use Rattle.node_rules.specs.CalmRound.{HasMovedOn}
@@ -224,11 +225,6 @@ no_events [] [] e are = refl
 no_events [] (y ∷ ys) e are = absurd are
 no_events (x ∷ events) ys e are = absurd (cc)
 
-below_all : (from n : ℕ) (members : List ℕ) (k : ℕ) → Rise from n members → In k members → k < n
-below_all from n [] k rise h = absurd h
-below_all from n (m ∷ ms) k rise (inl e) = let l = rise.1 in omega (arith, e)
-below_all from n (m ∷ ms) k rise (inr h) = below_all (m + 1) n ms k rise.2 h
-
 -- ---- one event
 
 is_seated : (players : ℕ) (e : Event) (y : calm.Event) (found : Store) → IsEvent e y → IsSeated players (call_of found e)
@@ -408,7 +404,7 @@ module _ {D : Type 0} (g : Ghosts D) where
       let plan : Plan = old.config in
       let n : ℕ = length old.config.sources in
       let state : State = state_of ruled.standings old in
-      let low : (k : ℕ) → In k members → k < n = (λ k h. below_all 0 n members k calm_now.quorum.rise h) in
+      let low : (k : ℕ) → In k members → k < n = (λ k h. (above_all 0 n members k calm_now.quorum.rise h).1) in
       let same : (k : ℕ) → In k members → standings k ≡ standing_at plan state k =
       (λ k h. let within : k < length old.nodes = subst (λ (m : ℕ). k < m) (sym count) (low k h) in
       node_there old.nodes k within (λ d.

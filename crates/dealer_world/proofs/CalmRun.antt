@@ -19,7 +19,7 @@ use Rattle.node_rules.specs.Turns.{Turn, Refusal}
 use Rattle.node_rules.specs.Calls.{Call}
 use Rattle.node_rules.specs.Rules.{IsTurn}
 use Rattle.node_rules.specs.Called.{Ends, took, refused, failed, unchanged}
-use Rattle.node_rules.specs.Calm.{Rise, Event, Ticks, Delivers}
+use Rattle.node_rules.specs.Calm.{Event, Ticks, Delivers}
 use Rattle.node_rules.specs.CalmRound.{node_of, call_of, Sent, sent_by, IsOnItsWay, AreReadBack, GoOn, HasMovedOn, AreOf, CalmRoundMoves}
 use Rattle.dealer_world.specs.Records.{Frame, Record, Arrived, Arrival, log_of, last_start}
 use Rattle.dealer_world.specs.Unforged.{IsAmong, IsUnforged, ArePlaced}
@@ -30,6 +30,7 @@ use Rattle.dealer_world.specs.Runs.{AreWritten, arrived_at, Keeps}
 use Rattle.dealer_world.specs.RuleRuns.{State, plan_of}
 use Rattle.dealer_world.specs.CalmRun.{standing_at, IsUntroubled, TakesEvent, TakesEvents, IsNextTaken, RoundsMoveOn}
 use Rattle.protocol_model.proofs.Sets.{in_first, in_later, in_split}
+use Rattle.node_rules.proofs.Members.{above_all}
 use Rattle.dealer_world.proofs.Saying.{placed_after}
 use Rattle.dealer_world.proofs.Keeping.{Laws, Kept, own_of, IsNode, is_place, each_here, run_keeps}
 
@@ -221,11 +222,6 @@ walk plan IsSo (event ∷ first) rest st sent old new on go (between, one, more)
 
 -- ---- the law
 
-below_all : (from n : ℕ) (members : List ℕ) (k : ℕ) → Rise from n members → In k members → k < n
-below_all from n [] k rise h = absurd h
-below_all from n (m ∷ ms) k rise (inl e) = let l = rise.1 in omega (arith, e)
-below_all from n (m ∷ ms) k rise (inr h) = below_all (m + 1) n ms k rise.2 h
-
 members_of : (laws : Laws) (setting : Setting) (n : ℕ) (before : List Era) (sources : List Source) (old : State) (members : List ℕ) → (was : Kept setting n before sources old) → IsUnforged old.now.sent old.now.delivered
     → ((k : ℕ) → In k members → k < length sources) → (world : World) × AreOf (own_of setting sources before) setting (length sources) (λ k. deals_from setting.game.players (slice_get sources k)) world (standing_at (plan_of setting sources) old) members
 members_of laws setting n before sources old members was unforged low =
@@ -244,7 +240,7 @@ pub rounds_move_on : Laws → CalmRoundMoves → RoundsMoveOn
 rounds_move_on laws calm_moves setting n before sources old new i members command first rest run unforged calm e takes =
     let was = run_keeps laws setting n before sources old run in
     let plan : Plan = plan_of setting sources in
-    let are = members_of laws setting n before sources old members was unforged (λ k h. below_all 0 (length sources) members k calm.quorum.rise h) in
+    let are = members_of laws setting n before sources old members was unforged (λ k h. (above_all 0 (length sources) members k calm.quorum.rise h).1) in
     let go = calm_moves (own_of setting sources before) setting (length sources) (λ k. deals_from setting.game.players (slice_get sources k)) are.0 (standing_at plan old) i members command are.1 calm in
     walk plan (HasMovedOn i (front_of (standing_at plan old i)) command) first rest (standing_at plan old) [] old new
     (record { standings = refl; known = λ s h. absurd h; unforged = unforged; placed = was.placed })

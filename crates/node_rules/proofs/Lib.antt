@@ -28,7 +28,7 @@ mod AtRest
 mod Chaining
 mod Sounding
 mod Agreeing
-mod Members
+pub mod Members
 mod CalmPromises
 mod Electing
 mod Counting
