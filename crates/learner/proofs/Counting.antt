@@ -1,5 +1,5 @@
 -- Who is counted for a command, and what a quorum of them shows.
-use Rattle.std.proofs.Common.{ℕ, zero, suc, ◌≡◌, ◌<◌, ◌≤◌, ◌+◌, ◌⊎◌, inl, inr, Bool, true, false, not, List, [], ◌∷◌, refl, sym, ◌∙◌, ap, subst, arith, ◌==◌, if◌then◌else◌, length, get_or, set, replicate, get_or-set_same, get_or-set_other}
+use Rattle.std.proofs.Common.{ℕ, zero, suc, ◌≡◌, ◌<◌, ◌⊎◌, inl, inr, Bool, true, false, not, List, [], ◌∷◌, refl, sym, ◌∙◌, ap, subst, arith, ◌==◌, if◌then◌else◌, length, get_or, set, replicate, get_or-set_same, get_or-set_other}
 use Rattle.std.specs.Prelude.{◌↔◌}
 use Rattle.std.proofs.lemmas.Bool.{ltb-true, ltb-false, eqb-true, eq-eqb}
 use Rattle.std.proofs.lemmas.Bool.Decides.{eqb_tells}
@@ -8,24 +8,14 @@ use Rattle.paxos_wire.specs.declared.ballot.Ballot.{Ballot}
 use Rattle.slot_log.specs.declared.command.Command.{Command}
 use Rattle.protocol_model.specs.Sets.{In}
 use Rattle.protocol_model.specs.Messages.{Message, Accepted}
-use Rattle.protocol_model.specs.Quorums.{count, IsChosenIn}
+use Rattle.protocol_model.specs.Quorums.{IsChosenIn}
+use Rattle.protocol_model.proofs.Quorums.{count_within}
 use Rattle.learner.specs.declared.tally.Tally.{Tally}
 use Rattle.learner.specs.Same.{is_same}
 use Rattle.learner.specs.Tallies.{has, no_nodes, is_quorum, is_of, nodes_for, is_completed}
 use Rattle.learner.specs.Learning.{Learned, tallies_at, answers_at, completes}
 use Rattle.learner.specs.Counted.{IsOpen, CountsFrom, CountsAll}
 use Rattle.learner.proofs.Same.{same, if_equal}
-
-within_step : (p q : ℕ → Bool) (n : ℕ) (x y : Bool) → (x ≡ true → y ≡ true) → count p n ≤ count q n → (if x then 1 + count p n else count p n) ≤ (if y then 1 + count q n else count q n)
-within_step p q n true true h k = omega arith
-within_step p q n true false h k = let e = h refl in absurd (cc)
-within_step p q n false true h k = omega arith
-within_step p q n false false h k = k
-
--- a set counts no more than one that it is part of
-pub count_within : (p q : ℕ → Bool) (n : ℕ) → ((k : ℕ) → k < n → p k ≡ true → q k ≡ true) → count p n ≤ count q n
-count_within p q zero h = omega arith
-count_within p q (suc n) h = within_step p q n (p n) (q n) (h n (omega arith)) (count_within p q n (λ k is. h k (omega arith)))
 
 -- ---- which tally is of a command in a ballot
 

@@ -49,7 +49,8 @@ use Rattle.node_rules.proofs.Electing.{covered}
 use Rattle.node_rules.proofs.Counting.{Counts, counts_vote}
 use Rattle.node_rules.proofs.Ticking.{few_nodes}
 use Rattle.node_rules.proofs.CalmPromises.{IsCounted, new_counted, quorum_is, counts_more, Agree, greatest_value, own_is_value}
-use Rattle.node_rules.proofs.Members.{is_in, in_is, is_in_in, not_in, count_less, count_list, AreDistinct, rise_distinct}
+use Rattle.node_rules.proofs.Members.{is_in, in_is, is_in_in, not_in, count_list, AreDistinct, rise_distinct}
+use Rattle.protocol_model.proofs.Quorums.{count_within}
 
 -- ---- tests
 
@@ -528,7 +529,7 @@ too_few r rest voters s p j distinct less = passes_over s.learned j (ballot_in r
         r.given.completed (m ∷ p.more) s.learned j (ballot_in r) (slot_in r) r.command (r.given.more p.more s.learned m p.counts.counts_from) (inl refl) (open_if s.learned.log (slot_in r) ahead) done in
         let chosen_n : IsChosenIn r.n (Accepted j (ballot_in r) (slot_in r) r.command ∷ p.more) (ballot_in r) (slot_in r) r.command =
         subst (λ (k : ℕ). IsChosenIn k (Accepted j (ballot_in r) (slot_in r) r.command ∷ p.more) (ballot_in r) (slot_in r) r.command) p.nodes chosen in
-        let l = count_less chosen_n.0 (is_in (j ∷ voters)) r.n (λ k below is. in_is (j ∷ voters) k (more_only r voters s p j k (slot_in r) r.command (chosen_n.2 k below is)).1) in
+        let l = count_within chosen_n.0 (is_in (j ∷ voters)) r.n (λ k below is. in_is (j ∷ voters) k (more_only r voters s p j k (slot_in r) r.command (chosen_n.2 k below is)).1) in
         let e = count_list r.n (j ∷ voters) distinct in
         let q = chosen_n.1 in omega (arith, l, e, q)
 

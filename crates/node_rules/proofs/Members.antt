@@ -92,17 +92,6 @@ count_list n (m ∷ ms) d = count_more m n (is_in ms) d.0 (not_in ms m d.1) ∙ 
     suc_of : (k : ℕ) → 1 + k ≡ suc k
     suc_of k = omega arith
 
--- a smaller set has no more
-pub count_less : (p q : ℕ → Bool) (n : ℕ) → ((k : ℕ) → k < n → p k ≡ true → q k ≡ true) → count p n ≤ count q n
-count_less p q zero inside = omega arith
-count_less p q (suc n) inside = by_last (p n) (q n) (inside n (omega arith)) (count_less p q n (λ k l. inside k (omega arith)))
-  where
-    by_last : (a b : Bool) → (a ≡ true → b ≡ true) → count p n ≤ count q n → (if a then 1 + count p n else count p n) ≤ (if b then 1 + count q n else count q n)
-    by_last true true f l = omega arith
-    by_last true false f l = absurd (let h = f refl in let clash : false ≡ true = h in cc)
-    by_last false true f l = omega arith
-    by_last false false f l = l
-
 -- ---- numbers that rise
 
 pub above_all : (from n : ℕ) (ms : List ℕ) (k : ℕ) → Rise from n ms → In k ms → (from ≤ k) × (k < n)

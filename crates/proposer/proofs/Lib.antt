@@ -1,4 +1,3 @@
-pub mod Counting
 pub mod Greatest
 pub mod Safe
 pub mod Kept

@@ -16,7 +16,7 @@ use Rattle.proposer.specs.declared.fault.ProposeFault.TheVariants.{OutOfWindow}
 use Rattle.proposer.specs.Campaigns.{promise_by, has_promised, has_quorum, is_covered, is_proposed, greatest_told, value_of, accept_of, proposal_by}
 use Rattle.proposer.specs.Counted.{CountsFrom, CountsAll, MarksSent, HasQuorum, Tells, IsGreatest}
 use Rattle.proposer.specs.Laws.{IsSafe}
-use Rattle.proposer.proofs.Counting.{count_within}
+use Rattle.protocol_model.proofs.Quorums.{count_within}
 use Rattle.proposer.proofs.Greatest.{greatest_decides}
 
 -- ---- promises had

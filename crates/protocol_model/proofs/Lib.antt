@@ -1,6 +1,6 @@
 pub mod Sets
 mod Ballots
-mod Quorums
+pub mod Quorums
 mod Facts
 mod Choice
 mod Stores

@@ -1,11 +1,22 @@
--- Two quorums share a node, and what quorums said stays said.
-use Rattle.std.proofs.Common.{◌≡◌, ℕ, zero, suc, ◌+◌, ◌<◌, Bool, true, false, cond, List, [], ◌∷◌, length, refl, arith}
+-- Nodes counted one by one. Two quorums share a node, and what quorums said stays said.
+use Rattle.std.proofs.Common.{◌≡◌, ℕ, zero, suc, ◌+◌, ◌<◌, ◌≤◌, Bool, true, false, cond, if◌then◌else◌, List, [], ◌∷◌, length, refl, arith}
 use Rattle.paxos_wire.specs.declared.ballot.Ballot.{Ballot}
 use Rattle.slot_log.specs.declared.command.Command.{Command}
 use Rattle.paxos_wire.specs.declared.entry.Entry.{Entry}
 use Rattle.protocol_model.specs.Messages.{Message}
 use Rattle.protocol_model.specs.Quorums.{count, IsQuorum, IsChosenIn, IsChosen, AreChosen, HasPromises, IsGreatestTold}
 use Rattle.protocol_model.proofs.Sets.{Within}
+
+within_step : (p q : ℕ → Bool) (n : ℕ) (x y : Bool) → (x ≡ true → y ≡ true) → count p n ≤ count q n → (if x then 1 + count p n else count p n) ≤ (if y then 1 + count q n else count q n)
+within_step p q n true true h k = omega arith
+within_step p q n true false h k = let e = h refl in absurd (cc)
+within_step p q n false true h k = omega arith
+within_step p q n false false h k = k
+
+-- a set counts no more than one that it is part of
+pub count_within : (p q : ℕ → Bool) (n : ℕ) → ((k : ℕ) → k < n → p k ≡ true → q k ≡ true) → count p n ≤ count q n
+count_within p q zero h = omega arith
+count_within p q (suc n) h = within_step p q n (p n) (q n) (h n (omega arith)) (count_within p q n (λ k is. h k (omega arith)))
 
 -- sets that count more than n together share one of the first n
 abbrev Shares : ℕ → (ℕ → Bool) → (ℕ → Bool) → Type 0
