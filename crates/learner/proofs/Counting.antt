@@ -1,5 +1,5 @@
 -- Who is counted for a command, and what a quorum of them shows.
-use Rattle.std.proofs.Common.{ℕ, zero, suc, ◌≡◌, ◌<◌, ◌⊎◌, inl, inr, Bool, true, false, not, List, [], ◌∷◌, refl, sym, ◌∙◌, ap, subst, arith, ◌==◌, if◌then◌else◌, length, get_or, set, replicate, get_or-set_same, get_or-set_other}
+use Rattle.std.proofs.Common.{ℕ, ◌≡◌, ◌<◌, ◌⊎◌, inl, inr, Bool, true, false, true≢false, not, List, [], ◌∷◌, refl, sym, ◌∙◌, ap, subst, arith, ◌==◌, if◌then◌else◌, length, get_or, set, get_or-set_same, get_or-set_other}
 use Rattle.std.specs.Prelude.{◌↔◌}
 use Rattle.std.proofs.lemmas.Bool.{ltb-true, ltb-false, eqb-true, eq-eqb}
 use Rattle.std.proofs.lemmas.Bool.Decides.{eqb_tells}
@@ -7,6 +7,7 @@ use Rattle.paxos_wire.specs.declared.limits.TheConstants.{NODES}
 use Rattle.paxos_wire.specs.declared.ballot.Ballot.{Ballot}
 use Rattle.slot_log.specs.declared.command.Command.{Command}
 use Rattle.protocol_model.specs.Sets.{In}
+use Rattle.protocol_model.proofs.Sets.{none_marked}
 use Rattle.protocol_model.specs.Messages.{Message, Accepted}
 use Rattle.protocol_model.specs.Quorums.{IsChosenIn}
 use Rattle.protocol_model.proofs.Quorums.{count_within}
@@ -41,13 +42,8 @@ last_test b c t r er en es = rw (eq-eqb t.ballot.round b.round er, eq-eqb t.ball
 
 -- ---- who is counted
 
-none_marked : (k place : ℕ) → get_or (replicate k false) place false ≡ true → ⊥
-none_marked zero place h = cc
-none_marked (suc k) zero h = cc
-none_marked (suc k) (suc place) h = none_marked k place h
-
 pub nobody : (node : ℕ) → has no_nodes node ≡ true → ⊥
-nobody node h = none_marked NODES node h
+nobody node h = true≢false (sym h ∙ none_marked NODES node)
 
 -- a tally in which the node is counted for the command in the ballot
 pub record IsTallied (b : Ballot) (c : Command) (ts : List Tally) (node : ℕ) : Type 0 where

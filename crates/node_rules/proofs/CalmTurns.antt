@@ -1,5 +1,5 @@
 -- The turns of a calm round.
-use Rattle.std.proofs.Common.{◌≡◌, ℕ, zero, suc, ◌<◌, ◌≤◌, ◌+◌, ◌*◌, ◌-◌, ◌⊎◌, inl, inr, Bool, true, false, not, ◌&&◌, if◌then◌else◌, List, [], ◌∷◌, ◌++◌, Option, Some, None, Result, Ok, Err, refl, sym, ap, subst, ◌∙◌, arith, length, replicate, get_or}
+use Rattle.std.proofs.Common.{◌≡◌, ℕ, ◌<◌, ◌≤◌, ◌+◌, ◌*◌, ◌-◌, ◌⊎◌, inl, inr, Bool, true, false, not, ◌&&◌, if◌then◌else◌, List, [], ◌∷◌, ◌++◌, Option, Some, None, Result, Ok, Err, refl, sym, ap, subst, ◌∙◌, arith, length, replicate, get_or}
 use Rattle.std.specs.Prelude.{nat_lt, nat_le, is_none, IsOk}
 use Rattle.std.proofs.lemmas.Bool.{lt-ltb, le-ltb, ltb-true, ltb-false, leb-true}
 use Rattle.std.proofs.lemmas.List.{length-append}
@@ -51,6 +51,7 @@ use Rattle.node_rules.proofs.Ticking.{few_nodes}
 use Rattle.node_rules.proofs.CalmPromises.{IsCounted, new_counted, quorum_is, counts_more, Agree, greatest_value, own_is_value}
 use Rattle.node_rules.proofs.Members.{is_in, in_is, is_in_in, not_in, count_list, AreDistinct, rise_distinct}
 use Rattle.protocol_model.proofs.Quorums.{count_within}
+use Rattle.protocol_model.proofs.Sets.{none_marked}
 
 -- ---- tests
 
@@ -319,11 +320,6 @@ promise_turn r rest counted s p j distinct less still_less =
 
 abbrev pub made_in : Round → Made
 made_in r = record { ballot = ballot_in r; slot = slot_in r; command = r.command }
-
-none_marked : (k m : ℕ) → get_or (replicate k false) m false ≡ false
-none_marked zero m = refl
-none_marked (suc k) zero = refl
-none_marked (suc k) (suc m) = none_marked k m
 
 -- what a campaign that has all members' promises proposes
 pub proposes_it : (r : Round) → IsRest r → (counted : List ℕ) (k : Campaign) (own : Option Command) → AreDistinct r.n counted → IsCounted (ballot_in r) (slot_in r) (stores_in r) counted k

@@ -1,5 +1,5 @@
 -- What is counted came, and what is marked was sent, from the beginning of a ballot on.
-use Rattle.std.proofs.Common.{ℕ, ◌≡◌, ◌≢◌, ◌<◌, ◌-◌, ◌⊎◌, inl, inr, Bool, true, false, not, zero, suc, List, [], ◌∷◌, Option, Some, None, Ok, refl, sym, ◌∙◌, ap, subst, arith, ◌==◌, if◌then◌else◌, length, get_or, set, replicate, length-set, get_or-set_same, get_or-set_other}
+use Rattle.std.proofs.Common.{ℕ, ◌≡◌, ◌≢◌, ◌<◌, ◌-◌, ◌⊎◌, inl, inr, Bool, true, false, true≢false, not, zero, suc, List, [], ◌∷◌, Option, Some, None, Ok, refl, sym, ◌∙◌, ap, subst, arith, ◌==◌, if◌then◌else◌, length, get_or, set, length-set, get_or-set_same, get_or-set_other}
 use Rattle.std.proofs.lemmas.Bool.{eqb-true}
 use Rattle.std.proofs.lemmas.Bool.Decides.{eqb_tells}
 use Rattle.paxos_wire.specs.declared.limits.TheConstants.{WINDOW}
@@ -7,6 +7,7 @@ use Rattle.paxos_wire.specs.declared.ballot.Ballot.{Ballot}
 use Rattle.paxos_wire.specs.declared.entry.Entry.{Entry}
 use Rattle.slot_log.specs.declared.command.Command.{Command}
 use Rattle.protocol_model.specs.Sets.{In}
+use Rattle.protocol_model.proofs.Sets.{none_marked}
 use Rattle.protocol_model.specs.Messages.{Message, Promise, Covers, Accept as accept}
 use Rattle.proposer.specs.declared.campaign.Campaign.{Campaign}
 use Rattle.proposer.specs.declared.accept.Accept.{Accept}
@@ -63,17 +64,12 @@ promise_counts n has c from ballot first told h counts = promise_if n has c from
 
 -- ---- marks
 
-none_marked : (k place : ℕ) → get_or (replicate k false) place false ≡ true → ⊥
-none_marked zero place h = cc
-none_marked (suc k) zero h = cc
-none_marked (suc k) (suc place) h = none_marked k place h
-
 pub begin_marks : (sent : List Message) (ballot : Ballot) (first : ℕ)
     → ((slot : ℕ) (command : Command) → In (accept ballot slot command) sent → ⊥) → MarksSent sent (new_campaign ballot first)
 begin_marks sent ballot first none = record {
   places = refl;
   all = λ slot command m. absurd (none slot command m);
-  only = λ slot covers is. absurd (none_marked WINDOW (slot - first) is);
+  only = λ slot covers is. absurd (true≢false (sym is ∙ none_marked WINDOW (slot - first)));
 }
 
 made_is : (c : Campaign) (slot : ℕ) (value : Option Command) (made : Accept) → accept_of c slot value ≡ Some made → (made.ballot ≡ c.ballot) × (made.slot ≡ slot)

@@ -1,5 +1,5 @@
 -- Lists as sets, and maps.
-use Rattle.std.proofs.Common.{◌≡◌, ◌≢◌, ℕ, ◌⊎◌, inl, inr, ◌==◌, Bool, cond, true, false, eqb-true, List, [], ◌∷◌, ◌++◌, refl, ap, eq-eqb, ne_eqb}
+use Rattle.std.proofs.Common.{◌≡◌, ◌≢◌, ℕ, zero, suc, ◌⊎◌, inl, inr, ◌==◌, Bool, cond, true, false, eqb-true, get_or, replicate, List, [], ◌∷◌, ◌++◌, refl, ap, eq-eqb, ne_eqb}
 use Rattle.protocol_model.specs.Sets.{In, put}
 
 -- all that stands in the first stands in the second
@@ -19,6 +19,12 @@ pub in_split : {A : Type 0} (xs ys : List A) (x : A) → In x (xs ++ ys) → In 
 in_split [] ys x h = inr h
 in_split (z ∷ xs) ys x (inl e) = inl (inl e)
 in_split (z ∷ xs) ys x (inr h) = elim (in_split xs ys x h) [ inl l ↦ inl (inr l) | inr r ↦ inr r ]
+
+-- of marks that are all false none is set
+pub none_marked : (k place : ℕ) → get_or (replicate k false) place false ≡ false
+none_marked zero place = refl
+none_marked (suc k) zero = refl
+none_marked (suc k) (suc place) = none_marked k place
 
 pub put_same : {A : Type 0} (map : ℕ → A) (k : ℕ) (x : A) → put map k x k ≡ x
 put_same map k x = ap (λ b. cond b x (map k)) (eq-eqb k k refl)
