@@ -5,7 +5,7 @@ use Rattle.std.proofs.lemmas.Bool.{lt-ltb, le-ltb, eqb-true, eqb-false, eq-eqb}
 use Rattle.paxos_wire.specs.declared.ballot.Ballot.{Ballot}
 use Rattle.protocol_model.specs.Ballots.{Below, AtMost}
 use Rattle.paxos_wire.specs.Order.{is_below, is_same_ballot}
-use Rattle.promise_store.proofs.Backing.{below_cases}
+use Rattle.protocol_model.proofs.Ballots.{below_cases}
 
 pub is_below_means : (a b : Ballot) → is_below a b ≡ true → Below a b
 is_below_means a b h = elim (below_cases a b) [ inl below ↦ below.1 | inr most ↦ let e : true ≡ false = sym h ∙ most.0 in absurd (cc) ]

@@ -12,7 +12,7 @@ use Rattle.protocol_model.specs.Backing.{IsWithinPromise}
 use Rattle.acceptor.specs.Answers.{has_voted, command_in, prepared, accepted}
 use Rattle.paxos_wire.specs.Order.{is_below, is_same_ballot}
 use Rattle.acceptor.specs.Laws.{IsPromised, IsNotPromised, IsAccepted, IsNotAccepted}
-use Rattle.promise_store.proofs.Backing.{most_most}
+use Rattle.protocol_model.proofs.Ballots.{at_most_trans}
 use Rattle.acceptor.proofs.Ballots.{is_below_means, is_below_if, is_below_not, at_most_if_not, not_below, at_most_below, at_most_itself, is_same_means, is_same_if, differ}
 
 abbrev new_vote : Ballot → Command → Vote
@@ -109,7 +109,7 @@ stands_by b slot c store other v false true ex ey within e = (v, e, inl refl)
 stands_by b slot c store other v false false ex ey within e = elim (eqb_tells other slot) [
   | inl same ↦
       let at : store.votes slot ≡ Some v = sym (ap store.votes same.1) ∙ e in
-      let most = most_most v.ballot store.promise b (within slot v at) (at_most_if_not b store.promise ex) in
+      let most = at_most_trans v.ballot store.promise b (within slot v at) (at_most_if_not b store.promise ex) in
       (new_vote b c, rw same.0 refl, inr (differ v.ballot b most (unvoted (store.votes slot) v b at ey)))
   | inr ne ↦ (v, rw ne.0 e, inl refl)
 ]
@@ -119,13 +119,13 @@ pub votes_stand : (b : Ballot) (slot : ℕ) (c : Command) (store : Store) (other
 votes_stand b slot c store other v within e = stands_by b slot c store other v _ _ refl refl within e
 
 within_prepared : (b : Ballot) (store : Store) (x : Bool) → is_below store.promise b ≡ x → IsWithinPromise store → IsWithinPromise (if x then promised store b else store)
-within_prepared b store true e within = λ slot v at. most_most v.ballot store.promise b (within slot v at) (at_most_below store.promise b (is_below_means store.promise b e))
+within_prepared b store true e within = λ slot v at. at_most_trans v.ballot store.promise b (within slot v at) (at_most_below store.promise b (is_below_means store.promise b e))
 within_prepared b store false e within = within
 
 within_put : (b : Ballot) (slot : ℕ) (c : Command) (store : Store) (other : ℕ) (v : Vote) (x : Bool) → AtMost store.promise b → IsWithinPromise store
     → (if x then Some (new_vote b c) else store.votes other) ≡ Some v → AtMost v.ballot b
 within_put b slot c store other v true most within e = let one : new_vote b c ≡ v = cc in subst (λ (u : Vote). AtMost u.ballot b) one (at_most_itself b)
-within_put b slot c store other v false most within e = most_most v.ballot store.promise b (within other v e) most
+within_put b slot c store other v false most within e = at_most_trans v.ballot store.promise b (within other v e) most
 
 within_accepted : (b : Ballot) (slot : ℕ) (c : Command) (store : Store) (x y : Bool) → is_below b store.promise ≡ x → IsWithinPromise store
     → IsWithinPromise (if x then store else if y then store else voted store slot (new_vote b c))

@@ -1,5 +1,5 @@
 -- What is stored is backed, and what was backed stays so.
-use Rattle.std.proofs.Common.{◌≡◌, ◌⊎◌, inl, inr, ℕ, refl, sym, ◌∙◌, ap, subst, true, false, Bool, arith}
+use Rattle.std.proofs.Common.{◌≡◌, ◌⊎◌, inl, inr, ℕ, refl, sym, ◌∙◌, ap, subst, true, false, arith}
 use Rattle.std.specs.Prelude.{◌==◌, if◌then◌else◌, Option, Some, None}
 use Rattle.std.proofs.lemmas.Bool.Decides.{nat_tests}
 use Rattle.std.proofs.lemmas.Bool.{cases_eq}
@@ -9,6 +9,7 @@ use Rattle.protocol_model.specs.Ballots.{Below, AtMost}
 use Rattle.protocol_model.specs.Sets.{put}
 use Rattle.protocol_model.specs.Messages.{Vote, Message, Prepare, Promise, Refuse, Accept, Accepted, Chosen, Ask, Forward, Said}
 use Rattle.protocol_model.specs.Stores.{Store}
+use Rattle.protocol_model.proofs.Ballots.{below_cases, at_most_trans}
 use Rattle.protocol_model.specs.Backing.{Backs, HasVote, HasNoOther}
 use Rattle.promise_store.specs.declared.records.Record.TheVariants.{Voted}
 use Rattle.promise_store.specs.Index.{later}
@@ -17,14 +18,6 @@ use Rattle.promise_store.specs.Holding.{greater, stored}
 
 abbrev pub vote_of : Ballot → Command → Vote
 vote_of ballot command = record { ballot = ballot; command = command }
-
--- a ballot is below another one or it isn't
-pub below_cases : (a b : Ballot) → ((is_below a b ≡ true) × Below a b) ⊎ ((is_below a b ≡ false) × AtMost b a)
-below_cases a b = by (is_below a b) refl
-  where
-    by : (test : Bool) → is_below a b ≡ test → ((is_below a b ≡ true) × Below a b) ⊎ ((is_below a b ≡ false) × AtMost b a)
-    by true is = inl (is, grind (arith, nat_tests, is))
-    by false is = inr (is, grind (arith, nat_tests, is))
 
 pub promise_raised : (store : Store) (ballot : Ballot) → AtMost ballot (greater store.promise ballot)
 promise_raised store ballot = elim (below_cases store.promise ballot) [
@@ -37,9 +30,6 @@ promise_kept store ballot = elim (below_cases store.promise ballot) [
   | inl below ↦ rw below.0 (grind (arith, below.1))
   | inr above ↦ rw above.0 (inr (refl, omega arith))
 ]
-
-pub most_most : (a b c : Ballot) → AtMost a b → AtMost b c → AtMost a c
-most_most a b c p q = grind arith
 
 below_below : (a b c : Ballot) → Below a b → Below b c → Below a c
 below_below a b c p q = grind arith
@@ -105,11 +95,11 @@ module _ (store : Store) (ballot : Ballot) (slot : ℕ) (command : Command) (no_
           (found, rw test is, same)
 
   pub still_backed : (message : Message) → Backs store message → Backs (stored store (Voted ballot slot command)) message
-  still_backed (Prepare b first) backs = most_most b store.promise _ backs (promise_kept store ballot)
-  still_backed (Promise sender b first told) backs = most_most b store.promise _ backs (promise_kept store ballot)
+  still_backed (Prepare b first) backs = at_most_trans b store.promise _ backs (promise_kept store ballot)
+  still_backed (Promise sender b first told) backs = at_most_trans b store.promise _ backs (promise_kept store ballot)
   still_backed (Refuse sender b first higher) backs = tt
-  still_backed (Accept b s proposed) backs = (most_most b store.promise _ backs.0 (promise_kept store ballot), vote_kept s (vote_of b proposed) backs.1)
-  still_backed (Accepted sender b s proposed) backs = (most_most b store.promise _ backs.0 (promise_kept store ballot), vote_kept s (vote_of b proposed) backs.1)
+  still_backed (Accept b s proposed) backs = (at_most_trans b store.promise _ backs.0 (promise_kept store ballot), vote_kept s (vote_of b proposed) backs.1)
+  still_backed (Accepted sender b s proposed) backs = (at_most_trans b store.promise _ backs.0 (promise_kept store ballot), vote_kept s (vote_of b proposed) backs.1)
   still_backed (Chosen sender s known) backs = tt
   still_backed (Ask sender first) backs = tt
   still_backed (Forward sender act) backs = tt

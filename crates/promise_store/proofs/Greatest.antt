@@ -19,7 +19,8 @@ use Rattle.promise_store.specs.Holding.{Holding, nothing_held, greater, with_rec
 use Rattle.promise_store.specs.Laws.{ballot_of_record, IsGreatest, IsLastOfGreatest}
 use Rattle.promise_store.proofs.Holding.{store_with}
 use Rattle.promise_store.proofs.Entries.{some_is}
-use Rattle.promise_store.proofs.Backing.{vote_of, below_cases, promise_raised, promise_kept, most_most}
+use Rattle.protocol_model.proofs.Ballots.{below_cases, at_most_trans}
+use Rattle.promise_store.proofs.Backing.{vote_of, promise_raised, promise_kept}
 
 -- the model's store with these records more
 abbrev stored_all : Store → List Record → Store
@@ -41,13 +42,13 @@ promise_is store (Voted ballot slot command) = refl
 promise_grows : (store : Store) (records : List Record) → AtMost store.promise (stored_all store records).promise
 promise_grows store [] = inr (refl, omega arith)
 promise_grows store (r ∷ records) =
-    most_most store.promise (stored store r).promise (stored_all (stored store r) records).promise
+    at_most_trans store.promise (stored store r).promise (stored_all (stored store r) records).promise
     (subst (λ (b : Ballot). AtMost store.promise b) (sym (promise_is store r)) (promise_kept store (ballot_of_record r))) (promise_grows (stored store r) records)
 
 most : (store : Store) (records : List Record) (r : Record) → In r records → AtMost (ballot_of_record r) (stored_all store records).promise
 most store [] r none = absurd none
 most store (x ∷ records) r (inl here) =
-    most_most (ballot_of_record r) (stored store x).promise (stored_all (stored store x) records).promise
+    at_most_trans (ballot_of_record r) (stored store x).promise (stored_all (stored store x) records).promise
     (subst (λ (b : Ballot). AtMost (ballot_of_record r) b) (sym (promise_is store x)) (subst (λ (y : Record). AtMost (ballot_of_record y) (greater store.promise (ballot_of_record x))) (sym here) (promise_raised store (ballot_of_record x))))
     (promise_grows (stored store x) records)
 most store (x ∷ records) r (inr later_on) = most (stored store x) records r later_on
@@ -208,13 +209,13 @@ slot_votes store (x ∷ records) slot vote is = from_there (slot_votes (stored s
         most = λ b c. elim_in b c;
         last = last.last;
       },
-      λ old was. let up = grows_at store x slot old was in most_most old.ballot up.0.ballot vote.ballot up.2 (least up.0 up.1),
+      λ old was. let up = grows_at store x slot old was in at_most_trans old.ballot up.0.ballot vote.ballot up.2 (least up.0 up.1),
     )
       where
         elim_in : (b : Ballot) (c : Command) → In (Voted b slot c) (x ∷ last.before) → AtMost b vote.ballot
         elim_in b c (inl here) =
             let up = raised_at store b slot c in
-            most_most b up.0.ballot vote.ballot up.2 (least up.0 (ap (λ (y : Record). (stored store y).votes slot) (sym here) ∙ up.1))
+            at_most_trans b up.0.ballot vote.ballot up.2 (least up.0 (ap (λ (y : Record). (stored store y).votes slot) (sym here) ∙ up.1))
         elim_in b c (inr there) = last.most b c there
 
     from_there : Stays (stored store x) records slot vote ⊎ Comes (stored store x) records slot vote → Stays store (x ∷ records) slot vote ⊎ Comes store (x ∷ records) slot vote
@@ -250,10 +251,10 @@ none_there head records slot ballot command none there =
 -- ---- no vote is above the promise
 
 within_next : (store : Store) (r : Record) → IsWithinPromise store → IsWithinPromise (stored store r)
-within_next store (Promised ballot) within slot vote is = most_most vote.ballot store.promise _ (within slot vote is) (promise_kept store ballot)
+within_next store (Promised ballot) within slot vote is = at_most_trans vote.ballot store.promise _ (within slot vote is) (promise_kept store ballot)
 within_next store (Voted ballot s command) within slot vote is = elim (cases_eq slot s) [
   | inl here ↦ at_place here (store.votes s) refl
-  | inr other ↦ most_most vote.ballot store.promise _ (within slot vote (sym (off_slot store.votes s slot _ other) ∙ is)) (promise_kept store ballot)
+  | inr other ↦ at_most_trans vote.ballot store.promise _ (within slot vote (sym (off_slot store.votes s slot _ other) ∙ is)) (promise_kept store ballot)
 ]
   where
     stands : slot ≡ s → Some (later (λ (v : Vote). v.ballot) (store.votes s) (vote_of ballot command)) ≡ Some vote
@@ -264,7 +265,7 @@ within_next store (Voted ballot s command) within slot vote is = elim (cases_eq 
         subst (λ (v : Vote). AtMost v.ballot (greater store.promise ballot))
         (some_is (vote_of ballot command) vote (sym (ap (λ (o : Option Vote). Some (later (λ (v : Vote). v.ballot) o (vote_of ballot command))) was) ∙ stands here)) (promise_raised store ballot)
     at_place here (Some old) was = elim (below_cases ballot old.ballot) [
-      | inl lower ↦ subst (λ (v : Vote). AtMost v.ballot (greater store.promise ballot)) (sym (ap (λ (b : Bool). if b then old else vote_of ballot command) lower.0) ∙ whole) (most_most old.ballot store.promise _ (within s old was) (promise_kept store ballot))
+      | inl lower ↦ subst (λ (v : Vote). AtMost v.ballot (greater store.promise ballot)) (sym (ap (λ (b : Bool). if b then old else vote_of ballot command) lower.0) ∙ whole) (at_most_trans old.ballot store.promise _ (within s old was) (promise_kept store ballot))
       | inr above ↦ subst (λ (v : Vote). AtMost v.ballot (greater store.promise ballot)) (sym (ap (λ (b : Bool). if b then old else vote_of ballot command) above.0) ∙ whole) (promise_raised store ballot)
     ]
       where

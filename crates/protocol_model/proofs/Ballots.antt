@@ -1,6 +1,9 @@
--- The order of ballots.
-use Rattle.std.proofs.Common.{◌≡◌, ℕ, zero, suc, ◌<◌, ◌≤◌, ◌⊎◌, inl, inr, arith}
+-- The order of ballots, and what the tests of it tell.
+use Rattle.std.proofs.Common.{◌≡◌, ℕ, zero, suc, ◌<◌, ◌≤◌, ◌⊎◌, inl, inr, Bool, true, false, ◌==◌, if◌then◌else◌, refl, sym, ◌∙◌, arith}
+use Rattle.std.proofs.lemmas.Bool.{eqb-true}
+use Rattle.std.proofs.lemmas.Bool.Decides.{nat_tests}
 use Rattle.paxos_wire.specs.declared.ballot.Ballot.{Ballot}
+use Rattle.paxos_wire.specs.Order.{is_below, is_same_ballot}
 use Rattle.protocol_model.specs.Ballots.{Below, AtMost}
 
 pub at_most_self : (a : Ballot) → AtMost a a
@@ -32,6 +35,33 @@ pub compared : (a b : Ballot) → Below a b ⊎ ((a ≡ b) ⊎ Below b a)
 compared a b =
     let cases : AtMost a b ⊎ Below b a = grind arith in
     elim cases [ inl h ↦ elim (equal_or_below a b h) [ inl e ↦ inr (inl e) | inr l ↦ inl l ] | inr h ↦ inr (inr h) ]
+
+-- ---- the tests
+
+-- a ballot is below another one or it isn't
+pub below_cases : (a b : Ballot) → ((is_below a b ≡ true) × Below a b) ⊎ ((is_below a b ≡ false) × AtMost b a)
+below_cases a b = by (is_below a b) refl
+  where
+    by : (test : Bool) → is_below a b ≡ test → ((is_below a b ≡ true) × Below a b) ⊎ ((is_below a b ≡ false) × AtMost b a)
+    by true is = inl (is, grind (arith, nat_tests, is))
+    by false is = inr (is, grind (arith, nat_tests, is))
+
+pub below_if : (a b : Ballot) → is_below a b ≡ true → Below a b
+below_if a b h = elim (below_cases a b) [ inl below ↦ below.1 | inr most ↦ let e : true ≡ false = sym h ∙ most.0 in absurd (cc) ]
+
+-- what isn't below is at least
+pub at_most_if_not : (a b : Ballot) → is_below a b ≡ false → AtMost b a
+at_most_if_not a b h = elim (below_cases a b) [ inl below ↦ let e : true ≡ false = sym below.0 ∙ h in absurd (cc) | inr most ↦ most.1 ]
+
+same_by : (a b : Ballot) (x y : Bool) → (a.round == b.round) ≡ x → (a.node == b.node) ≡ y → (if x then y else false) ≡ true → a ≡ b
+same_by a b true true ex ey h = λ i. record { round = eqb-true a.round b.round ex i; node = eqb-true a.node b.node ey i }
+same_by a b true false ex ey h = absurd (cc)
+same_by a b false y ex ey h = absurd (cc)
+
+pub same_if : (a b : Ballot) → is_same_ballot a b ≡ true → a ≡ b
+same_if a b h = same_by a b _ _ refl refl h
+
+-- ---- induction
 
 -- what follows from all lower ballots holds of each ballot
 by_node : (P : Ballot → Type 0) → ((b : Ballot) → ((a : Ballot) → Below a b → P a) → P b) → (r : ℕ) → ((a : Ballot) → a.round < r → P a)

@@ -1,5 +1,5 @@
 pub mod Sets
-mod Ballots
+pub mod Ballots
 pub mod Quorums
 mod Facts
 mod Choice
