@@ -18,7 +18,7 @@ use Rattle.acceptor.specs.declared.answers.PrepareAnswer.TheVariants.{Promise}
 use Rattle.acceptor.specs.declared.answers.AcceptAnswer.TheVariants.{Accepted}
 use Rattle.acceptor.specs.Answers.{told_at, told_pair, told_from, told_of, command_found, stored_command, has_voted, command_in, answer_to_prepare, prepared, answer_to_accept, accepted}
 use Rattle.paxos_wire.specs.Order.{is_below, is_same_ballot}
-use Rattle.acceptor.proofs.Ballots.{is_below_means, at_most_if_not}
+use Rattle.protocol_model.proofs.Ballots.{below_if, at_most_if_not}
 
 -- ---- answers of calls
 
@@ -85,7 +85,7 @@ pub prepared_is : PromisesMove → (held : Store) (b p : Ballot) → p ≡ held.
 prepared_is moves held b p same below =
     let e : is_below held.promise b ≡ true = ap (λ (x : Ballot). is_below x b) (sym same) ∙ below in
     let raised : prepared b held ≡ promised held b = rw e refl in
-    raised ∙ sym (moves held b (is_below_means held.promise b e))
+    raised ∙ sym (moves held b (below_if held.promise b e))
 
 pub promise_is : (held : Store) (b p : Ballot) (slot : ℕ) (told : List Entry) → p ≡ held.promise → is_below p b ≡ true → told ≡ told_of held slot
     → Promise b slot told ≡ answer_to_prepare b slot held

@@ -12,8 +12,8 @@ use Rattle.protocol_model.specs.Backing.{IsWithinPromise}
 use Rattle.acceptor.specs.Answers.{has_voted, command_in, prepared, accepted}
 use Rattle.paxos_wire.specs.Order.{is_below, is_same_ballot}
 use Rattle.acceptor.specs.Laws.{IsPromised, IsNotPromised, IsAccepted, IsNotAccepted}
-use Rattle.protocol_model.proofs.Ballots.{at_most_trans}
-use Rattle.acceptor.proofs.Ballots.{is_below_means, is_below_if, is_below_not, at_most_if_not, not_below, at_most_below, at_most_itself, is_same_means, is_same_if, differ}
+use Rattle.protocol_model.proofs.Ballots.{at_most_trans, at_most_self, at_most_of_below, not_below, below_if, at_most_if_not, same_if}
+use Rattle.acceptor.proofs.Ballots.{is_below_if, is_below_not, is_same_if, differ}
 
 abbrev new_vote : Ballot → Command → Vote
 new_vote b c = record { ballot = b; command = c }
@@ -41,7 +41,7 @@ module _ (b : Ballot) (slot : ℕ) (c : Command) (store : Store) where
 
   stored_some : (v : Vote) (x : Bool) → store.votes slot ≡ Some v → is_same_ballot v.ballot b ≡ x
       → (let s : Store = if x then store else voted store slot (new_vote b c) in s.votes slot) ≡ Some (new_vote b (if x then v.command else c))
-  stored_some v true e same = e ∙ ap (λ (k : Ballot). Some (new_vote k v.command)) (is_same_means v.ballot b same)
+  stored_some v true e same = e ∙ ap (λ (k : Ballot). Some (new_vote k v.command)) (same_if v.ballot b same)
   stored_some v false e same = there
 
   stored_by : (o : Option Vote) → store.votes slot ≡ o → (stored_with o).votes slot ≡ Some (new_vote b (command_in o b c))
@@ -73,8 +73,8 @@ module _ (b : Ballot) (slot : ℕ) (c : Command) (store : Store) where
 
 prepares_by : (node : ℕ) (has : List Message) (b : Ballot) (slot : ℕ) (store : Store) (x : Bool) → is_below store.promise b ≡ x → (In (Prepare b slot) has) ⊎ (b.node ≡ node)
     → ((if x then promised store b else store) ≡ store) ⊎ StoreMove node has store (if x then promised store b else store)
-prepares_by node has b slot store true e (inl had) = inr (promise b slot had (is_below_means store.promise b e) refl)
-prepares_by node has b slot store true e (inr own) = inr (own_promise b own (is_below_means store.promise b e) refl)
+prepares_by node has b slot store true e (inl had) = inr (promise b slot had (below_if store.promise b e) refl)
+prepares_by node has b slot store true e (inr own) = inr (own_promise b own (below_if store.promise b e) refl)
 prepares_by node has b slot store false e h = inl refl
 
 pub prepares_are_moves : (node : ℕ) (has : List Message) (b : Ballot) (slot : ℕ) (store : Store) → (In (Prepare b slot) has) ⊎ (b.node ≡ node)
@@ -119,12 +119,12 @@ pub votes_stand : (b : Ballot) (slot : ℕ) (c : Command) (store : Store) (other
 votes_stand b slot c store other v within e = stands_by b slot c store other v _ _ refl refl within e
 
 within_prepared : (b : Ballot) (store : Store) (x : Bool) → is_below store.promise b ≡ x → IsWithinPromise store → IsWithinPromise (if x then promised store b else store)
-within_prepared b store true e within = λ slot v at. at_most_trans v.ballot store.promise b (within slot v at) (at_most_below store.promise b (is_below_means store.promise b e))
+within_prepared b store true e within = λ slot v at. at_most_trans v.ballot store.promise b (within slot v at) (at_most_of_below store.promise b (below_if store.promise b e))
 within_prepared b store false e within = within
 
 within_put : (b : Ballot) (slot : ℕ) (c : Command) (store : Store) (other : ℕ) (v : Vote) (x : Bool) → AtMost store.promise b → IsWithinPromise store
     → (if x then Some (new_vote b c) else store.votes other) ≡ Some v → AtMost v.ballot b
-within_put b slot c store other v true most within e = let one : new_vote b c ≡ v = cc in subst (λ (u : Vote). AtMost u.ballot b) one (at_most_itself b)
+within_put b slot c store other v true most within e = let one : new_vote b c ≡ v = cc in subst (λ (u : Vote). AtMost u.ballot b) one (at_most_self b)
 within_put b slot c store other v false most within e = at_most_trans v.ballot store.promise b (within other v e) most
 
 within_accepted : (b : Ballot) (slot : ℕ) (c : Command) (store : Store) (x y : Bool) → is_below b store.promise ≡ x → IsWithinPromise store
