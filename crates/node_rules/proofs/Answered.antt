@@ -36,7 +36,7 @@ use Rattle.node_rules.specs.Given.{Given}
 use Rattle.node_rules.specs.Sound.{Stands}
 use Rattle.node_rules.specs.LawsAnswers.{IsOfClose, Sends, asks_if, AnswersPrepare, promises, AnswersAccept, accepts, AreChosenFrames, IsAnswered, act_in, acts_in, forwards, Hears, IsHeard, SendsUp, SendsDown, SendsBy, FramesAnswer}
 use Rattle.node_rules.specs.LawsAnswers as answers
-use Rattle.node_rules.proofs.Ordering.{below_if, at_most_if_not}
+use Rattle.protocol_model.proofs.Ballots.{below_if, at_most_if_not}
 use Rattle.node_rules.proofs.Promising.{tells}
 use Rattle.node_rules.proofs.Settling.{below_front}
 use Rattle.node_rules.proofs.Chaining.{ok_is, ok_not}

@@ -41,7 +41,8 @@ use Rattle.node_rules.specs.Given.{Given}
 use Rattle.node_rules.specs.Sound.{Stands}
 use Rattle.node_rules.specs.LawsBacking.{SentIsBacked, BackedStaysSo}
 use Rattle.protocol_model.proofs.Sets.{in_first}
-use Rattle.node_rules.proofs.Ordering.{self, below_if, at_most_if_not, higher_is}
+use Rattle.protocol_model.proofs.Ballots.{at_most_self, below_if, at_most_if_not}
+use Rattle.node_rules.proofs.Ordering.{higher_is}
 use Rattle.node_rules.proofs.Ticking.{above}
 use Rattle.node_rules.proofs.Chaining.{ok_is, ok_not, turns_are_chains}
 use Rattle.node_rules.proofs.Sounding.{harmless_by, harmless_still}
@@ -107,7 +108,7 @@ closed_keeps b place s c within (rests campaign e) m h = subst (λ (st : Store).
 closed_keeps b place s c within (proposes made campaign learned led mine at promise none left_over counts log e) m h =
     let vote : Vote = record { ballot = made.ballot; command = made.command } in
     subst (λ (st : Store). Backs st m) (sym (ap (λ (t : Turn). t.after.store) e))
-    (b.vote s.store made.slot vote m within (subst (AtMost s.store.promise) promise (self s.store.promise)) (λ found ef same. absurd (none found ef same)) h)
+    (b.vote s.store made.slot vote m within (subst (AtMost s.store.promise) promise (at_most_self s.store.promise)) (λ found ef same. absurd (none found ef same)) h)
 
 closed_begun : (place : Place) (s : Standing) (c : Turn) → s.begun ≡ s.store → Closed place s c → c.after.begun ≡ c.after.store
 closed_begun place s c same (rests campaign e) = ap (λ (t : Turn). t.after.begun) e ∙ (same ∙ sym (ap (λ (t : Turn). t.after.store) e))

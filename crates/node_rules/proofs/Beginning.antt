@@ -28,7 +28,8 @@ use Rattle.node_rules.specs.Called.{AreShown, events_of, Taken}
 use Rattle.protocol_model.proofs.Sets.{in_split}
 use Rattle.node_rules.proofs.Carrying.{nothing_carried, nothing_lost}
 use Rattle.node_rules.proofs.Telling.{nothing_shown}
-use Rattle.node_rules.proofs.Ordering.{below_if, at_most_if_not, not_below, sees_more}
+use Rattle.protocol_model.proofs.Ballots.{below_if, at_most_if_not, not_below}
+use Rattle.node_rules.proofs.Ordering.{sees_more}
 use Rattle.node_rules.specs.Given.{Given}
 use Rattle.node_rules.proofs.Keeping.{with_got, IsNoAnswer, stood_before, got_knows, got_learner, got_pending}
 use Rattle.node_rules.proofs.Paths.{Hearing, Scope, dealer_in, first_in, Path, Goes, has_in}

@@ -40,7 +40,7 @@ use Rattle.node_rules.specs.Rules.{seeing, taking, asking, on_message}
 use Rattle.node_rules.specs.Calm.{IsLeastQuorum, ballot_after, IsGreatestHeld, IsOwn}
 use Rattle.node_rules.specs.CalmRound.{place_in}
 use Rattle.node_rules.specs.Given.{Given}
-use Rattle.node_rules.proofs.Ordering.{self, not_below, below_if, at_most_if_not}
+use Rattle.protocol_model.proofs.Ballots.{at_most_self, not_below, below_if, at_most_if_not}
 use Rattle.node_rules.proofs.Closing.{none_of_ballot, stored_new}
 use Rattle.node_rules.proofs.Halting.{unled_by}
 use Rattle.node_rules.proofs.Settled.{one_counted, three_nodes, PassesOver, passes_over, counted_is, proposal_is, turn_made, Fresh, made_turn, unmarked, marked_none, asked_same}
@@ -66,7 +66,7 @@ not_below_self : (b : Ballot) → is_below b b ≡ false
 not_below_self b = by_test (is_below b b) refl
   where
     by_test : (t : Bool) → is_below b b ≡ t → is_below b b ≡ false
-    by_test true e = absurd (not_below b b (self b) (below_if b b e))
+    by_test true e = absurd (not_below b b (at_most_self b) (below_if b b e))
     by_test false e = e
 
 -- ---- a vote of a new ballot completes nothing by itself

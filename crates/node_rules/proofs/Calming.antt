@@ -25,7 +25,7 @@ use Rattle.node_rules.specs.CalmRound.{place_in, AreOf, CalmRoundMoves}
 use Rattle.node_rules.specs.Given.{Given}
 use Rattle.protocol_model.proofs.Sets.{in_later}
 use Rattle.node_rules.proofs.Sourcing.{had_was_sent}
-use Rattle.node_rules.proofs.Ordering.{not_below}
+use Rattle.protocol_model.proofs.Ballots.{not_below}
 use Rattle.node_rules.proofs.Promising.{tells}
 use Rattle.node_rules.proofs.Agreeing.{votes_agree}
 use Rattle.node_rules.proofs.Members.{above_all}

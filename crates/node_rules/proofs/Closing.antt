@@ -39,7 +39,8 @@ use Rattle.node_rules.specs.Proposing.{own_deal, fitting, own_value, proposing, 
 use Rattle.node_rules.specs.Being.{Campaigns, IsCampaign, Stands, IsProposer, IsPending}
 use Rattle.node_rules.specs.Called.{AreShown, log_after}
 use Rattle.node_rules.proofs.Carrying.{joined_carry, joined_all, proposal_carry, proposal_all}
-use Rattle.node_rules.proofs.Ordering.{self, same_if, sees_own, sees_up}
+use Rattle.protocol_model.proofs.Ballots.{at_most_self, same_if}
+use Rattle.node_rules.proofs.Ordering.{sees_own, sees_up}
 use Rattle.node_rules.proofs.Keeping.{with_got, got_learner, got_pending, sent_pending, stored_pending}
 use Rattle.node_rules.specs.Given.{Given}
 use Rattle.node_rules.proofs.Paths.{Hearing, Scope, dealer_in, Path, Goes, regroup, never}
@@ -192,7 +193,7 @@ pub propose : (x : Scope) (came : List Arrival) (heard : Hearing) (t : Turn) (en
     (Accepted x.place.node made.ballot made.slot made.command)
 propose x came heard t ends p c made is =
     get_own x came heard (applied t.after) _ vote path tt (inl refl)
-    (λ b h. elim h [ inl e ↦ subst (λ (y : Ballot). AtMost y made.ballot) (sym e) (self made.ballot) | inr none ↦ absurd none ])
+    (λ b h. elim h [ inl e ↦ subst (λ (y : Ballot). AtMost y made.ballot) (sym e) (at_most_self made.ballot) | inr none ↦ absurd none ])
   where
     i : ℕ
     i = x.place.node
@@ -222,7 +223,7 @@ propose x came heard t ends p c made is =
     promised = camp.promised ∙ sym safe.ballot
 
     up : AtMost p.node.store.promise made.ballot
-    up = subst (AtMost p.node.store.promise) promised (self p.node.store.promise)
+    up = subst (AtMost p.node.store.promise) promised (at_most_self p.node.store.promise)
 
     sent : Node
     sent = with_sent p.node (accept ∷ [])
@@ -275,7 +276,7 @@ propose x came heard t ends p c made is =
         places = p.knows.places;
         shown = p.knows.shown;
         seen = sees_own p.node.has accept made.ballot t.after.seen
-            (λ b h. elim h [ inl e ↦ subst (λ (y : Ballot). AtMost y made.ballot) (sym e) (self made.ballot) | inr none ↦ absurd none ])
+            (λ b h. elim h [ inl e ↦ subst (λ (y : Ballot). AtMost y made.ballot) (sym e) (at_most_self made.ballot) | inr none ↦ absurd none ])
             (sees_up p.node.has p.node.store.promise made.ballot t.after.seen up p.knows.seen);
         proposals = made_proposed n i (applied t.after) own p.node.store p.node.has p.node.sent made.ballot made.slot made.command promised safe.slot mine
             (λ other h. x.given.once n p.node.sent c (front_of t.after) own made other camp.marks is.made_so h)
@@ -313,7 +314,7 @@ propose x came heard t ends p c made is =
 
         proposed_now : (b : Ballot) (s : ℕ) (k : Command) → In (Accept b s k) (vote ∷ accept ∷ p.node.sent) → AtMost b made.ballot
         proposed_now b s k (inl e) = absurd (cc)
-        proposed_now b s k (inr (inl e)) = let same : b ≡ made.ballot = cc in subst (λ (y : Ballot). AtMost y made.ballot) (sym same) (self made.ballot)
+        proposed_now b s k (inr (inl e)) = let same : b ≡ made.ballot = cc in subst (λ (y : Ballot). AtMost y made.ballot) (sym same) (at_most_self made.ballot)
         proposed_now b s k (inr (inr h)) = subst (AtMost b) promised (p.knows.proposer.proposed b s k h)
 
         stands_on : (b : Ballot) (f : ℕ) → Stands last b f → front_of t.after < f + WINDOW → front_of t.after < SLOTS

@@ -20,7 +20,7 @@ use Rattle.node_rules.specs.Turns.{Turn}
 use Rattle.node_rules.specs.Learning.{learning}
 use Rattle.node_rules.specs.Given.{Given}
 use Rattle.node_rules.specs.Being.{IsLearner}
-use Rattle.node_rules.proofs.Ordering.{same_ballot}
+use Rattle.protocol_model.proofs.Ballots.{same_ballot}
 use Rattle.node_rules.proofs.Learning.{open_if}
 use Rattle.node_rules.proofs.Settled.{turn_is}
 

@@ -40,7 +40,8 @@ use Rattle.node_rules.specs.Rules.{ballots_of, seeing, taking, asking, on_read}
 use Rattle.node_rules.specs.Being.{Campaigns}
 use Rattle.node_rules.specs.Called.{said_in, IsSent}
 use Rattle.protocol_model.proofs.Sets.{in_split}
-use Rattle.node_rules.proofs.Ordering.{self, higher_is, below_if, at_most_if_not}
+use Rattle.protocol_model.proofs.Ballots.{at_most_self, below_if, at_most_if_not}
+use Rattle.node_rules.proofs.Ordering.{higher_is}
 use Rattle.node_rules.proofs.Keeping.{with_got}
 use Rattle.node_rules.proofs.Paths.{Hearing, Scope, dealer_in, first_in, Path, Goes, has_in, never, regroup}
 use Rattle.node_rules.proofs.Promising.{refuse}
@@ -158,7 +159,7 @@ halt_proposed x came heard t c made q same p is = record {
   same_store = p.unstored q;
   append = subst (λ (st : Store). Append x.place.node (accept ∷ p.node.has) p.node.store (storing st made.ballot made.slot made.command)) p.knows.store
       (vote_append x.place.node (accept ∷ p.node.has) p.node.store made.ballot made.slot made.command (is_of_ballot (p.node.store.votes made.slot) made.ballot) (inl refl)
-      (subst (AtMost p.node.store.promise) (camp.promised ∙ sym safe.ballot) (self p.node.store.promise)));
+      (subst (AtMost p.node.store.promise) (camp.promised ∙ sym safe.ballot) (at_most_self p.node.store.promise)));
   own = λ m h. elim h [ inl e ↦ ap sender_of e ∙ (ap (λ (b : Ballot). b.node) safe.ballot ∙ camp.own) | inr old ↦ p.carry.own m old ];
   unvoted = λ k b l d h. unvoted_now k b l d h;
   got = λ m h. got_now m h;

@@ -43,7 +43,7 @@ use Rattle.node_rules.specs.Called.{said_in, came_in, Comes, IsSent}
 use Rattle.node_rules.specs.Given.{Given}
 use Rattle.node_rules.specs.Sound.{Stands}
 use Rattle.node_rules.specs.Outcomes.{IsTaken, IsAnswered, FrontIsUnknown, IsAhead, ToldIsKnown, in_time, Brings, came as brought, own_vote, HasVote, VotesStayInTime, QuorumIsKnown}
-use Rattle.node_rules.proofs.Ordering.{below_if, not_below, same_if}
+use Rattle.protocol_model.proofs.Ballots.{below_if, not_below, same_if}
 use Rattle.node_rules.proofs.Paths.{Hearing, Scope, first_in, Path, Goes, never}
 use Rattle.node_rules.proofs.Beginning.{Runs, hearing_of, begin}
 use Rattle.node_rules.proofs.Framing.{stood, taken}

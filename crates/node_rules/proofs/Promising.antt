@@ -25,7 +25,8 @@ use Rattle.node_rules.specs.Accepting.{told_at, told_from, told_by, refusing, pr
 use Rattle.node_rules.specs.Called.{AreShown, log_after}
 use Rattle.protocol_model.proofs.Sets.{in_later, in_first, in_split}
 use Rattle.node_rules.proofs.Carrying.{joined_carry, joined_all, one_carry, one_all}
-use Rattle.node_rules.proofs.Ordering.{trans, of_below, not_below, below_if, sees_up}
+use Rattle.protocol_model.proofs.Ballots.{at_most_trans, at_most_of_below, not_below, below_if}
+use Rattle.node_rules.proofs.Ordering.{sees_up}
 use Rattle.node_rules.proofs.Keeping.{sent_pending, stored_pending, prepared_before, proposed_before}
 use Rattle.node_rules.proofs.Paths.{Hearing, Scope, dealer_in, Path, Goes, never}
 use Rattle.node_rules.proofs.Steps.{send_one}
@@ -79,7 +80,7 @@ refuse x came heard upto t from ballot slot p below other =
 -- ---- promising
 
 pub within_up : (store : Store) (ballot : Ballot) → AtMost store.promise ballot → IsWithinPromise store → IsWithinPromise (promised store ballot)
-within_up store ballot up within slot vote e = trans vote.ballot store.promise ballot (within slot vote e) up
+within_up store ballot up within slot vote e = at_most_trans vote.ballot store.promise ballot (within slot vote e) up
 
 promise : (x : Scope) (came : List Arrival) (heard : Hearing) (upto : List Command) (t : Turn) (from : ℕ) (ballot : Ballot) (slot : ℕ) → x.ends ≡ true
     → (p : Path x came heard upto t) → In (Prepare ballot slot) p.node.has → Below t.after.store.promise ballot → from < x.place.nodes → from ≢ x.place.node
@@ -95,12 +96,12 @@ promise x came heard upto t from ballot slot ends p had above below other = reco
   knows = record {
     up = p.knows.up;
     store = ap (λ (st : Store). promised st ballot) p.knows.store;
-    within = within_up p.node.store ballot (of_below p.node.store.promise ballot up) p.knows.within;
+    within = within_up p.node.store ballot (at_most_of_below p.node.store.promise ballot up) p.knows.within;
     proposer = record {
       is_campaign = tt;
       began = λ b f h. let old = p.knows.proposer.began b f (prepared_before p.node m b f tt h) in
-          (trans b p.node.store.promise ballot old.0 (of_below p.node.store.promise ballot up), old.1, old.2);
-      proposed = λ b s c h. trans b p.node.store.promise ballot (p.knows.proposer.proposed b s c (proposed_before p.node m b s c tt h)) (of_below p.node.store.promise ballot up);
+          (at_most_trans b p.node.store.promise ballot old.0 (at_most_of_below p.node.store.promise ballot up), old.1, old.2);
+      proposed = λ b s c h. at_most_trans b p.node.store.promise ballot (p.knows.proposer.proposed b s c (proposed_before p.node m b s c tt h)) (at_most_of_below p.node.store.promise ballot up);
       stands = λ b f st. absurd (not_below b p.node.store.promise (p.knows.proposer.began b f (prepared_before p.node m b f tt st.began)).0
           (subst (λ (c : Ballot). Below p.node.store.promise c) st.promised up));
     };
@@ -109,7 +110,7 @@ promise x came heard upto t from ballot slot ends p had above below other = reco
         (stored_pending (dealer_in x) x.place.node p.node (promised p.node.store ballot) upto t.after.pending p.knows.pending);
     places = p.knows.places;
     shown = p.knows.shown;
-    seen = sees_up p.node.has p.node.store.promise ballot t.after.seen (of_below p.node.store.promise ballot up) p.knows.seen;
+    seen = sees_up p.node.has p.node.store.promise ballot t.after.seen (at_most_of_below p.node.store.promise ballot up) p.knows.seen;
     proposals = promised_proposed x.place.nodes x.place.node upto (front_of t.after) (own_value x.place t.after) p.node.store ballot p.node.has p.node.has p.node.sent (m ∷ p.node.sent) up
         p.knows.proposer.proposed (λ b s c h. proposed_before p.node m b s c tt h) p.knows.proposals;
   };

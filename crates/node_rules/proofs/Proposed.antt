@@ -17,7 +17,7 @@ use Rattle.node_rules.specs.Standings.{Place, Standing, applied}
 use Rattle.node_rules.specs.Proposing.{own_deal, fitting, own_value}
 use Rattle.node_rules.specs.Seats.{waiting}
 use Rattle.node_rules.specs.Proposed.{IsValue, IsProposed}
-use Rattle.node_rules.proofs.Ordering.{not_below}
+use Rattle.protocol_model.proofs.Ballots.{not_below}
 
 -- ---- more messages are had
 

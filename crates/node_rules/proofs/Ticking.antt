@@ -28,7 +28,8 @@ use Rattle.node_rules.specs.Seen.{ballots_in, IsTold, Sees}
 use Rattle.node_rules.specs.Being.{Campaigns, IsPending}
 use Rattle.node_rules.specs.Called.{Carry, CarryAll, AreShown, log_after}
 use Rattle.node_rules.proofs.Carrying.{joined_carry, joined_all, others_carry, others_all, note_carry, note_all}
-use Rattle.node_rules.proofs.Ordering.{trans, self, of_below, not_below, higher_is, sees_own, sees_up}
+use Rattle.protocol_model.proofs.Ballots.{at_most_trans, at_most_self, at_most_of_below, not_below}
+use Rattle.node_rules.proofs.Ordering.{higher_is, sees_own, sees_up}
 use Rattle.node_rules.proofs.Keeping.{with_got, got_learner, got_pending, sent_pending, stored_pending}
 use Rattle.node_rules.proofs.Paths.{Hearing, Scope, dealer_in, Path, Goes, never}
 use Rattle.node_rules.proofs.Steps.{go_on}
@@ -52,8 +53,8 @@ untold : (messages : List Message) (promise seen : Ballot) (i : ℕ) (b : Ballot
     → Below b (next_ballot i (higher seen promise))
 untold messages promise seen i b sees told =
     above b (higher seen promise) i (elim (sees.all b told) [
-      | inl low ↦ trans b seen (higher seen promise) low (higher_is seen promise).0
-      | inr low ↦ trans b promise (higher seen promise) low (higher_is seen promise).1
+      | inl low ↦ at_most_trans b seen (higher seen promise) low (higher_is seen promise).0
+      | inr low ↦ at_most_trans b promise (higher seen promise) low (higher_is seen promise).1
     ])
 
 entry_ballot : (told : List Entry) (b : Ballot) → In b (map (λ (e : Entry). e.ballot) told) → (e : Entry) × In e told × (b ≡ e.ballot)
@@ -77,18 +78,18 @@ begin x came heard t ends p = record {
   knows = record {
     up = p.knows.up;
     store = ap (λ (st : Store). promised st ballot) p.knows.store;
-    within = within_up p.node.store ballot (of_below p.node.store.promise ballot up) p.knows.within;
+    within = within_up p.node.store ballot (at_most_of_below p.node.store.promise ballot up) p.knows.within;
     proposer = record {
       is_campaign = campaigns;
       began = λ b f h. began_now b f h;
-      proposed = λ b s c h. trans b p.node.store.promise ballot (p.knows.proposer.proposed b s c (proposed_then b s c h)) (of_below p.node.store.promise ballot up);
+      proposed = λ b s c h. at_most_trans b p.node.store.promise ballot (p.knows.proposer.proposed b s c (proposed_then b s c h)) (at_most_of_below p.node.store.promise ballot up);
       stands = λ b f st near left. stands_now b f st.began st.promised;
     };
     learner = got_learner x.place.nodes p.node.has p.node.known m t.after p.knows.learner;
     pending = got_pending (dealer_in x) i begun m (applied t.after) t.after.pending (sent_both t.after.pending p.knows.pending);
     places = p.knows.places;
     shown = p.knows.shown;
-    seen = sees_own p.node.has m ballot t.after.seen (λ b h. low b h) (sees_up p.node.has p.node.store.promise ballot t.after.seen (of_below p.node.store.promise ballot up) p.knows.seen);
+    seen = sees_own p.node.has m ballot t.after.seen (λ b h. low b h) (sees_up p.node.has p.node.store.promise ballot t.after.seen (at_most_of_below p.node.store.promise ballot up) p.knows.seen);
     proposals = promised_proposed x.place.nodes x.place.node (applied t.after) (front_of t.after) (own_value x.place t.after) p.node.store ballot p.node.has (m ∷ p.node.has) p.node.sent (m ∷ prepare ∷ p.node.sent) up
         p.knows.proposer.proposed (λ b s c h. proposed_then b s c h) p.knows.proposals;
   };
@@ -170,11 +171,11 @@ begin x came heard t ends p = record {
         (subst (λ (st : Store). Sees p.node.has st.promise t.after.seen) p.knows.store p.knows.seen) h
 
     low : (b : Ballot) → In b (ballots_in m) → AtMost b ballot
-    low b (inl e) = subst (λ (y : Ballot). AtMost y ballot) (sym e) (self ballot)
+    low b (inl e) = subst (λ (y : Ballot). AtMost y ballot) (sym e) (at_most_self ballot)
     low b (inr h) =
         let e = entry_ballot told b h in
         subst (λ (y : Ballot). AtMost y ballot) (sym e.2)
-        (trans e.0.ballot p.node.store.promise ballot (p.knows.within e.0.slot (vote_of e.0) (tells_it.only e.0 e.1).1) (of_below p.node.store.promise ballot up))
+        (at_most_trans e.0.ballot p.node.store.promise ballot (p.knows.within e.0.slot (vote_of e.0) (tells_it.only e.0 e.1).1) (at_most_of_below p.node.store.promise ballot up))
 
     prepared_then : (b : Ballot) (f : ℕ) → In (Prepare b f) (m ∷ prepare ∷ p.node.sent) → ((b ≡ ballot) × (f ≡ front)) ⊎ In (Prepare b f) p.node.sent
     prepared_then b f (inl e) = absurd (cc)
@@ -188,8 +189,8 @@ begin x came heard t ends p = record {
 
     began_now : (b : Ballot) (f : ℕ) → In (Prepare b f) (m ∷ prepare ∷ p.node.sent) → AtMost b ballot × (b.node ≡ x.place.node) × (f ≤ front_of t.after)
     began_now b f h = elim (prepared_then b f h) [
-      | inl new ↦ (subst (λ (y : Ballot). AtMost y ballot) (sym new.0) (self ballot), ap (λ (y : Ballot). y.node) new.0, (let e = new.1 in omega (arith, e)))
-      | inr old ↦ (let k = p.knows.proposer.began b f old in (trans b p.node.store.promise ballot k.0 (of_below p.node.store.promise ballot up), k.1, k.2))
+      | inl new ↦ (subst (λ (y : Ballot). AtMost y ballot) (sym new.0) (at_most_self ballot), ap (λ (y : Ballot). y.node) new.0, (let e = new.1 in omega (arith, e)))
+      | inr old ↦ (let k = p.knows.proposer.began b f old in (at_most_trans b p.node.store.promise ballot k.0 (at_most_of_below p.node.store.promise ballot up), k.1, k.2))
     ]
 
     stands_now : (b : Ballot) (f : ℕ) → In (Prepare b f) (m ∷ prepare ∷ p.node.sent) → ballot ≡ b
@@ -203,7 +204,7 @@ begin x came heard t ends p = record {
     no_proposal s k h = not_below ballot p.node.store.promise (p.knows.proposer.proposed ballot s k (proposed_then ballot s k h)) up
 
     no_promise : (node : ℕ) (entries : List Entry) → In (Promise node ballot front entries) p.node.has → ⊥
-    no_promise node entries h = not_below ballot ballot (self ballot) (below_it ballot (Promise node ballot front entries, h, inl refl))
+    no_promise node entries h = not_below ballot ballot (at_most_self ballot) (below_it ballot (Promise node ballot front entries, h, inl refl))
 
     campaigns : Campaigns x.place.nodes i last c
     campaigns = record {
@@ -218,7 +219,7 @@ begin x came heard t ends p = record {
       votes = λ s v e b. absurd (not_below ballot p.node.store.promise (subst (λ (y : Ballot). AtMost y p.node.store.promise) (b ∙ stays.0) (p.knows.within s v e)) up);
       unrefused = λ k r s b had above. elim had [
         | inl e ↦ absurd (cc)
-        | inr old ↦ not_below ballot b (of_below ballot b (subst (λ (y : Ballot). Below y b) stays.0 above)) (below_it b (Refuse k r s b, old, inr (inl refl)))
+        | inr old ↦ not_below ballot b (at_most_of_below ballot b (subst (λ (y : Ballot). Below y b) stays.0 above)) (below_it b (Refuse k r s b, old, inr (inl refl)))
       ];
     }
 

@@ -25,7 +25,8 @@ use Rattle.node_rules.specs.Learning.{counting_vote}
 use Rattle.node_rules.specs.Being.{IsProposer}
 use Rattle.node_rules.specs.Called.{AreShown, log_after}
 use Rattle.node_rules.proofs.Carrying.{joined_carry, joined_all, others_carry, others_all}
-use Rattle.node_rules.proofs.Ordering.{trans, self, both_ways, same_if, at_most_if_not, sees_up}
+use Rattle.protocol_model.proofs.Ballots.{at_most_trans, at_most_self, same_if, at_most_if_not}
+use Rattle.node_rules.proofs.Ordering.{both_ways, sees_up}
 use Rattle.node_rules.proofs.Keeping.{sent_pending, stored_pending, prepared_before, proposed_before}
 use Rattle.node_rules.proofs.Paths.{Hearing, Scope, dealer_in, Path, Goes, regroup, never}
 use Rattle.node_rules.proofs.Steps.{Leads, get_own}
@@ -46,8 +47,8 @@ voted_is store slot vote found k h = voted_by store slot vote found k (k == slot
 
 pub within_voted : (store : Store) (slot : ℕ) (vote : Vote) → AtMost store.promise vote.ballot → IsWithinPromise store → IsWithinPromise (voted store slot vote)
 within_voted store slot vote up within k found e = elim (voted_is store slot vote found k e) [
-  | inl new ↦ subst (λ (v : Vote). AtMost v.ballot vote.ballot) (sym new.1) (self vote.ballot)
-  | inr old ↦ trans found.ballot store.promise vote.ballot (within k found old) up
+  | inl new ↦ subst (λ (v : Vote). AtMost v.ballot vote.ballot) (sym new.1) (at_most_self vote.ballot)
+  | inr old ↦ at_most_trans found.ballot store.promise vote.ballot (within k found old) up
 ]
 
 -- a proposer that promised another node's ballot has none to stand for
@@ -58,8 +59,8 @@ gone : (n i : ℕ) (node new : Node) (front : ℕ) (m : Message) (ballot : Ballo
 gone n i node new front m ballot other up same before made c p = record {
   is_campaign = tt;
   began = λ b f h. let old = p.began b f (before b f h) in
-      (subst (AtMost b) (sym same) (trans b node.store.promise ballot old.0 up), old.1, old.2);
-  proposed = λ b s k h. subst (AtMost b) (sym same) (trans b node.store.promise ballot (p.proposed b s k (made b s k h)) up);
+      (subst (AtMost b) (sym same) (at_most_trans b node.store.promise ballot old.0 up), old.1, old.2);
+  proposed = λ b s k h. subst (AtMost b) (sym same) (at_most_trans b node.store.promise ballot (p.proposed b s k (made b s k h)) up);
   stands = λ b f st. absurd (other (ap (λ (y : Ballot). y.node) (sym same ∙ st.promised) ∙ (p.began b f (before b f st.began)).1));
 }
 
@@ -72,7 +73,7 @@ new_vote : (x : Scope) (came : List Arrival) (heard : Hearing) (upto : List Comm
     (with_stored (idle t.after) (voted t.after.store slot (record { ballot = ballot; command = command })))))
     (Accepted x.place.node ballot slot command)
 new_vote x came heard upto t ends ballot slot command p had above other =
-    get_own x came heard upto _ m path tt (inl refl) (λ b h. elim h [ inl e ↦ subst (λ (y : Ballot). AtMost y ballot) (sym e) (self ballot) | inr none ↦ absurd none ])
+    get_own x came heard upto _ m path tt (inl refl) (λ b h. elim h [ inl e ↦ subst (λ (y : Ballot). AtMost y ballot) (sym e) (at_most_self ballot) | inr none ↦ absurd none ])
   where
     i : ℕ
     i = x.place.node
@@ -141,7 +142,7 @@ old_vote : (x : Scope) (came : List Arrival) (heard : Hearing) (upto : List Comm
     (Accepted x.place.node ballot slot vote.command)
 old_vote x came heard upto t ends ballot slot vote p held same above other =
     get_own x came heard upto _ m path tt (inl refl)
-    (λ b h. elim h [ inl e ↦ subst (λ (y : Ballot). AtMost y p.node.store.promise) (sym e) (subst (λ (y : Ballot). AtMost y p.node.store.promise) promise_is (self p.node.store.promise)) | inr none ↦ absurd none ])
+    (λ b h. elim h [ inl e ↦ subst (λ (y : Ballot). AtMost y p.node.store.promise) (sym e) (subst (λ (y : Ballot). AtMost y p.node.store.promise) promise_is (at_most_self p.node.store.promise)) | inr none ↦ absurd none ])
   where
     i : ℕ
     i = x.place.node
