@@ -1,40 +1,15 @@
 -- The fold over what promises tell gives the entry of the greatest ballot.
-use Rattle.std.proofs.Common.{ℕ, ◌≡◌, ◌<◌, ◌≤◌, ◌⊎◌, inl, inr, zero, suc, Bool, true, false, List, [], ◌∷◌, Option, Some, None, refl, sym, ◌∙◌, ap, subst, arith, ◌==◌, cond}
-use Rattle.std.proofs.lemmas.Bool.{ltb-true, ltb-false, eqb-false, eqb-true}
-use Rattle.std.specs.Prelude.{nat_lt}
-use Rattle.paxos_wire.specs.declared.ballot.Ballot.{Ballot}
+use Rattle.std.proofs.Common.{ℕ, ◌≡◌, ◌<◌, ◌⊎◌, inl, inr, zero, suc, Bool, true, false, List, [], ◌∷◌, Option, Some, None, refl, sym, ◌∙◌, ap, subst, arith, ◌==◌}
+use Rattle.std.proofs.lemmas.Bool.{eqb-false, eqb-true}
 use Rattle.paxos_wire.specs.declared.entry.Entry.{Entry}
 use Rattle.protocol_model.specs.Sets.{In}
 use Rattle.protocol_model.specs.Ballots.{AtMost}
+use Rattle.protocol_model.proofs.Ballots.{at_most_trans, at_most_self, at_most_of_below, below_if, at_most_if_not}
 use Rattle.proposer.specs.declared.campaign.Campaign.{Campaign}
 use Rattle.proposer.specs.Told.{better, best_in, best_after}
 use Rattle.paxos_wire.specs.Order.{is_below}
 use Rattle.proposer.specs.Campaigns.{promise_by, greatest_told}
 use Rattle.proposer.specs.Counted.{Tells, IsGreatest}
-
-trans : (a b c : Ballot) → AtMost a b → AtMost b c → AtMost a c
-trans a b c h k = grind arith
-
-self : (a : Ballot) → AtMost a a
-self a = grind arith
-
-below_by : (r n s m : ℕ) (x y z : Bool) → nat_lt r s ≡ x → (r == s) ≡ y → nat_lt n m ≡ z → cond x true (cond y z false) ≡ true → (r < s) ⊎ ((r ≡ s) × (n ≤ m))
-below_by r n s m true y z ex ey ez h = inl (ltb-true r s ex)
-below_by r n s m false true true ex ey ez h = let l = ltb-true n m ez in inr (eqb-true r s ey, omega arith)
-below_by r n s m false true false ex ey ez h = absurd (cc)
-below_by r n s m false false z ex ey ez h = absurd (cc)
-
-not_below_by : (r n s m : ℕ) (x y z : Bool) → nat_lt r s ≡ x → (r == s) ≡ y → nat_lt n m ≡ z → cond x true (cond y z false) ≡ false → (s < r) ⊎ ((s ≡ r) × (m ≤ n))
-not_below_by r n s m true y z ex ey ez h = absurd (cc)
-not_below_by r n s m false true true ex ey ez h = absurd (cc)
-not_below_by r n s m false true false ex ey ez h = let l = ltb-false n m ez in let e = eqb-true r s ey in inr (sym e, l)
-not_below_by r n s m false false z ex ey ez h = let l = ltb-false r s ex in let e = eqb-false r s ey in inl (grind arith)
-
-at_most_if_below : (a b : Ballot) → is_below a b ≡ true → AtMost a b
-at_most_if_below a b h = below_by a.round a.node b.round b.node _ _ _ refl refl refl h
-
-at_most_if_not : (a b : Ballot) → is_below a b ≡ false → AtMost b a
-at_most_if_not a b h = not_below_by a.round a.node b.round b.node _ _ _ refl refl refl h
 
 -- the greatest of those that are so; none where none is
 abbrev IsGreatestOf : (Entry → Type 0) → Option Entry → Type 0
@@ -48,7 +23,7 @@ grow C D None (Some g) h k = (elim k.0 [ inl n ↦ absurd (cc) | inr d ↦ inr d
 grow C D (Some b) None h k = absurd (k b (inl refl))
 grow C D (Some b) (Some g) h k = (
   elim k.0 [ inl n ↦ let same : b ≡ g = cc in inl (subst C same h.0) | inr d ↦ inr d ],
-  λ e m. elim m [ inl c ↦ trans e.ballot b.ballot g.ballot (h.1 e c) (k.1 b (inl refl)) | inr d ↦ k.1 e (inr d) ],
+  λ e m. elim m [ inl c ↦ at_most_trans e.ballot b.ballot g.ballot (h.1 e c) (k.1 b (inl refl)) | inr d ↦ k.1 e (inr d) ],
 )
 
 -- of the same entries there is the same greatest
@@ -61,28 +36,28 @@ alone : (best : Option Entry) (D : Entry → Type 0) → ((e : Entry) → D e �
 alone None D none = λ e m. elim m [ inl n ↦ absurd (cc) | inr d ↦ none e d ]
 alone (Some o) D none = (
   inl refl,
-  λ e m. elim m [ inl n ↦ let same : o ≡ e = cc in subst (λ (y : Entry). AtMost y.ballot o.ballot) same (self o.ballot) | inr d ↦ absurd (none e d) ],
+  λ e m. elim m [ inl n ↦ let same : o ≡ e = cc in subst (λ (y : Entry). AtMost y.ballot o.ballot) same (at_most_self o.ballot) | inr d ↦ absurd (none e d) ],
 )
 
 better_is : (best : Option Entry) (slot : ℕ) (x : Entry) (b c : Bool) → (x.slot == slot) ≡ b → is_below (elim best [ None ↦ x.ballot | Some o ↦ o.ballot ]) x.ballot ≡ c
     → IsGreatestOf (λ e. (best ≡ Some e) ⊎ ((e ≡ x) × (e.slot ≡ slot))) (better best slot x)
 better_is None slot x true c is _ = rw is (
   inr (refl, eqb-true x.slot slot is),
-  λ e m. elim m [ inl n ↦ absurd (cc) | inr d ↦ subst (λ (y : Entry). AtMost y.ballot x.ballot) (sym d.0) (self x.ballot) ],
+  λ e m. elim m [ inl n ↦ absurd (cc) | inr d ↦ subst (λ (y : Entry). AtMost y.ballot x.ballot) (sym d.0) (at_most_self x.ballot) ],
 )
 better_is None slot x false c is _ = rw is (alone None (λ e. (e ≡ x) × (e.slot ≡ slot)) (λ e d. eqb-false x.slot slot is (ap (λ (y : Entry). y.slot) (sym d.0) ∙ d.1)))
 better_is (Some o) slot x false c is _ = rw is (alone (Some o) (λ e. (e ≡ x) × (e.slot ≡ slot)) (λ e d. eqb-false x.slot slot is (ap (λ (y : Entry). y.slot) (sym d.0) ∙ d.1)))
 better_is (Some o) slot x true true is below = rw (is, below) (
   inr (refl, eqb-true x.slot slot is),
   λ e m. elim m [
-    | inl n ↦ let same : o ≡ e = cc in subst (λ (y : Entry). AtMost y.ballot x.ballot) same (at_most_if_below o.ballot x.ballot below)
-    | inr d ↦ subst (λ (y : Entry). AtMost y.ballot x.ballot) (sym d.0) (self x.ballot)
+    | inl n ↦ let same : o ≡ e = cc in subst (λ (y : Entry). AtMost y.ballot x.ballot) same (at_most_of_below o.ballot x.ballot (below_if o.ballot x.ballot below))
+    | inr d ↦ subst (λ (y : Entry). AtMost y.ballot x.ballot) (sym d.0) (at_most_self x.ballot)
   ],
 )
 better_is (Some o) slot x true false is below = rw (is, below) (
   inl refl,
   λ e m. elim m [
-    | inl n ↦ let same : o ≡ e = cc in subst (λ (y : Entry). AtMost y.ballot o.ballot) same (self o.ballot)
+    | inl n ↦ let same : o ≡ e = cc in subst (λ (y : Entry). AtMost y.ballot o.ballot) same (at_most_self o.ballot)
     | inr d ↦ subst (λ (y : Entry). AtMost y.ballot o.ballot) (sym d.0) (at_most_if_not o.ballot x.ballot below)
   ],
 )

@@ -8,6 +8,7 @@ use Rattle.paxos_wire.specs.declared.entry.Entry.{Entry}
 use Rattle.slot_log.specs.declared.command.Command.{Command}
 use Rattle.protocol_model.specs.Sets.{In}
 use Rattle.protocol_model.proofs.Sets.{none_marked}
+use Rattle.protocol_model.proofs.Ballots.{same_if}
 use Rattle.protocol_model.specs.Messages.{Message, Promise, Covers, Accept as accept}
 use Rattle.proposer.specs.declared.campaign.Campaign.{Campaign}
 use Rattle.proposer.specs.declared.accept.Accept.{Accept}
@@ -34,14 +35,6 @@ counted_from has c from told h counts node other e = by_case (eqb_tells node fro
         subst (λ k. In (Promise k c.ballot c.first other) has) (sym same.1) (subst (λ (t : List Entry). In (Promise from c.ballot c.first t) has) one h)
     by_case (inr ne) = counts node other (sym (get_or-set_other c.promises from node (Some told) None ne.1) ∙ e)
 
-same_by : (a b : Ballot) (x y : Bool) → (a.round == b.round) ≡ x → (a.node == b.node) ≡ y → (if x then y else false) ≡ true → a ≡ b
-same_by a b true true ex ey h = λ i. record { round = eqb-true a.round b.round ex i; node = eqb-true a.node b.node ey i }
-same_by a b true false ex ey h = absurd (cc)
-same_by a b false y ex ey h = absurd (cc)
-
-pub same_ballot : (a b : Ballot) → is_same_ballot a b ≡ true → a ≡ b
-same_ballot a b h = same_by a b _ _ refl refl h
-
 counted_by : (lead ballot slot had : Bool) → (if lead then false else if not ballot then false else if not slot then false else not had) ≡ true → (ballot ≡ true) × (slot ≡ true)
 counted_by true ballot slot had h = absurd (cc)
 counted_by false false slot had h = absurd (cc)
@@ -56,7 +49,7 @@ promise_if n has c from ballot first told h counts true e =
     let is = counted_by (has_quorum n c) (is_same_ballot ballot c.ballot) (first == c.first) (has_promised c from) e in
     counted_from has c from told
     (subst (λ (k : ℕ). In (Promise from c.ballot k told) has) (eqb-true first c.first is.1)
-    (subst (λ (b : Ballot). In (Promise from b first told) has) (same_ballot ballot c.ballot is.0) h)) counts
+    (subst (λ (b : Ballot). In (Promise from b first told) has) (same_if ballot c.ballot is.0) h)) counts
 
 pub promise_counts : (n : ℕ) (has : List Message) (c : Campaign) (from : ℕ) (ballot : Ballot) (first : ℕ) (told : List Entry)
     → In (Promise from ballot first told) has → CountsFrom has c → CountsFrom has (with_promise n c from ballot first told)
