@@ -32,7 +32,8 @@ use Rattle.dealer_world.specs.Records.{Frame, Arrived, said, said_by, messages_o
 use Rattle.dealer_world.specs.Calls.{Made, nothing_made, AreTold, added_by, log_after, read_by, BringsAll, frames_in, log_before, IsSound, HasHeader, Called}
 use Rattle.dealer_world.specs.Runs.{AreWritten, text_by_rule, arrived_by, arrived_at, begins_by, Keeps, IsSeated, Ruled, IsOfRule}
 use Rattle.protocol_model.proofs.Sets.{in_first, in_later, in_split}
-use Rattle.dealer_world.proofs.Lists.{reverse_step, reverse_map}
+use Rattle.slot_log.proofs.Hands.{reverse-cons}
+use Rattle.dealer_world.proofs.Lists.{reverse_map}
 use Rattle.dealer_world.proofs.Starting.{starts_in, is_start, chain_counts}
 
 -- ---- frames
@@ -89,7 +90,7 @@ texts_behind log (first ∷ pieces) piece = ap (λ texts. text_with log first.re
 same_log : (log : List ℕ) (newest : List Piece) → rule.log_after log (reverse newest) ≡ log_after log (map text_by_rule newest)
 same_log log [] = refl
 same_log log (piece ∷ before) =
-    ap (rule.log_after log) (reverse_step piece before)
+    ap (rule.log_after log) (reverse-cons piece before)
     ∙ (logs_behind log (reverse before) piece
     ∙ (log_with_is (rule.log_after log (reverse before)) piece.reader piece.text
     ∙ ap (λ l. l ++ added_by piece.reader piece.text) (same_log log before)))
@@ -107,7 +108,7 @@ told_by_rule : (i start : ℕ) (log : List ℕ) (shown : List Shown) (newest : L
 told_by_rule i start log [] [] texts of_node of_start = tt
 told_by_rule i start log (first ∷ more) [] texts of_node of_start = absurd cc
 told_by_rule i start log shown (piece ∷ before) texts of_node of_start =
-    by_shown shown (texts ∙ (ap (λ ps. reverse (texts_of log ps)) (reverse_step piece before) ∙ (ap reverse (texts_behind log (reverse before) piece)
+    by_shown shown (texts ∙ (ap (λ ps. reverse (texts_of log ps)) (reverse-cons piece before) ∙ (ap reverse (texts_behind log (reverse before) piece)
     ∙ reverse-append (texts_of log (reverse before)) (text_with (rule.log_after log (reverse before)) piece.reader piece.text ∷ [])))) of_node of_start
     (λ more rest of of_start'. told_by_rule i start log more before rest of of_start')
   where

@@ -4,7 +4,7 @@ use Rattle.std.specs.List.{slice_get, concat, range_with_len}
 use Rattle.std.specs.Option.{option_map}
 use Rattle.std.proofs.lemmas.Bool.{cases_lt}
 use Rattle.std.proofs.lemmas.Bool.Decides.{eqb_tells}
-use Rattle.std.proofs.lemmas.List.{reverse-append, get_or_past, take-append-drop}
+use Rattle.std.proofs.lemmas.List.{get_or_past, take-append-drop}
 use Rattle.std.proofs.lemmas.List.FromFn.{get_or-map-range_with_len, length-map-range_with_len}
 use Rattle.game_def.specs.Game.{Game}
 use Rattle.betting.specs.declared.action.Action.{Action}
@@ -16,6 +16,7 @@ use Rattle.slot_log.specs.Dealer.{hands_of, hands_after, with_command, with_acti
 use Rattle.slot_log.specs.declared.reason.Reason.{Reason}
 use Rattle.slot_log.specs.declared.command.Command.{Command}
 use Rattle.slot_log.specs.declared.command.Command.TheVariants.{Deal, Act}
+use Rattle.slot_log.proofs.Hands.{got_before, reverse-cons}
 use Rattle.matchstate.specs.Cards.{boards_of}
 use Rattle.matchstate.specs.View.{View, view_of, sees, rounds_seen, position_of, seat_view}
 use Rattle.matchstate.specs.Line.{line_text}
@@ -24,11 +25,6 @@ use Rattle.matchstate.proofs.Seats.{newest_at}
 use Rattle.matchstate.proofs.Parts.{concat-append}
 
 -- ---- a view shows the deal's cards
-
-slice_get-append : {A : Type 0} (xs ys : List A) (i : ℕ) (x : A) → slice_get xs i ≡ Some x → slice_get (xs ++ ys) i ≡ Some x
-slice_get-append [] ys i x e = cc
-slice_get-append (y ∷ xs) ys zero x e = e
-slice_get-append (y ∷ xs) ys (suc i) x e = slice_get-append xs ys i x e
 
 shown_hole : (f : ℕ → Bool) (cards : ℕ → List ℕ) (players position i card : ℕ) → slice_get (get_or (map (λ p. cond (f p) (cards p) []) (range_with_len 0 players)) position []) i ≡ Some card → slice_get (cards position) i ≡ Some card
 shown_hole f cards players position i card shown =
@@ -52,7 +48,7 @@ shown_is game viewer number h (board i) card shown =
     let rounds = rounds_seen game h.past in
     let parts = concat-append (take rounds (boards_of h.deal)) (drop rounds (boards_of h.deal)) in
     let whole = ap concat (take-append-drop rounds (boards_of h.deal)) in
-    ap (λ b. slice_get b i) (sym whole ∙ parts) ∙ slice_get-append (concat (take rounds (boards_of h.deal))) (concat (drop rounds (boards_of h.deal))) i card shown
+    ap (λ b. slice_get b i) (sym whole ∙ parts) ∙ got_before (concat (take rounds (boards_of h.deal))) (concat (drop rounds (boards_of h.deal))) i card shown
 
 -- ---- hands only grow
 
@@ -78,14 +74,11 @@ replaced [] y z (suc number) h at = cc
 replaced (x ∷ xs) y z zero h at = inl at
 replaced (x ∷ xs) y z (suc number) h at = replaced xs y z number h at
 
-reverse-cons : (h : Hand) (hands : List Hand) → reverse (h ∷ hands) ≡ reverse hands ++ h ∷ []
-reverse-cons h hands = reverse-append (h ∷ []) hands
-
 Kept-deal : (hands : List Hand) (deal : List ℕ) → Kept hands (with_deal hands deal)
 unfolding Kept
 Kept-deal hands deal number h at =
     let new : Hand = record { deal = deal; past = [] } in
-    (h, ap (λ hs. slice_get hs number) (reverse-cons new hands) ∙ slice_get-append (reverse hands) (new ∷ []) number h at, refl, ([], refl))
+    (h, ap (λ hs. slice_get hs number) (reverse-cons new hands) ∙ got_before (reverse hands) (new ∷ []) number h at, refl, ([], refl))
 
 Kept-action : (hands : List Hand) (action : Action) → Kept hands (with_action hands action)
 unfolding Kept

@@ -1,5 +1,5 @@
 -- Where the path of a call begins, and what it is when it ends.
-use Rattle.std.proofs.Common.{◌≡◌, ℕ, zero, suc, inl, inr, Bool, true, false, if◌then◌else◌, List, [], ◌∷◌, ◌++◌, Option, Some, None, Result, Ok, Err, refl, sym, ap, subst, ◌∙◌, arith, length, reverse}
+use Rattle.std.proofs.Common.{◌≡◌, ℕ, inl, inr, Bool, true, false, if◌then◌else◌, List, [], ◌∷◌, ◌++◌, Option, Some, None, Result, Ok, Err, refl, sym, ap, subst, ◌∙◌, arith, length, reverse}
 use Rattle.std.specs.Prelude.{slice_get}
 use Rattle.std.proofs.lemmas.List.{reverse-append, length-reverse}
 use Rattle.std.proofs.lemmas.Option.{slice_get_within}
@@ -7,6 +7,7 @@ use Rattle.paxos_wire.specs.declared.ballot.Ballot.{Ballot}
 use Rattle.paxos_wire.specs.declared.entry.Entry.{Entry}
 use Rattle.slot_log.specs.Slots.{Log, front, known_at}
 use Rattle.slot_log.specs.declared.command.Command.{Command}
+use Rattle.slot_log.proofs.Hands.{got_before, at_end}
 use Rattle.protocol_model.specs.Sets.{In}
 use Rattle.protocol_model.specs.Ballots.{Below}
 use Rattle.protocol_model.specs.Messages.{Message, Prepare, Promise, Refuse, Accept}
@@ -40,21 +41,12 @@ use Rattle.node_rules.proofs.Proposed.{got_proposed}
 
 -- ---- the commands below the front are known
 
-got_before : {A : Type 0} (xs ys : List A) (n : ℕ) (d : A) → slice_get xs n ≡ Some d → slice_get (xs ++ ys) n ≡ Some d
-got_before [] ys n d e = absurd (cc)
-got_before (x ∷ xs) ys zero d e = e
-got_before (x ∷ xs) ys (suc n) d e = got_before xs ys n d e
-
-got_last : {A : Type 0} (xs : List A) (d : A) → slice_get (xs ++ d ∷ []) (length xs) ≡ Some d
-got_last [] d = refl
-got_last (x ∷ xs) d = got_last xs d
-
 below_known : (known : List (ℕ × Command)) (below : List Command) → ((slot : ℕ) (c : Command) → slice_get (reverse below) slot ≡ Some c → In (slot, c) known)
     → KnowsCommands known below
 below_known known [] h = tt
 below_known known (c ∷ rest) h = (
   h (length rest) c (ap (λ (l : List Command). slice_get l (length rest)) (reverse-append (c ∷ []) rest)
-      ∙ (ap (λ k. slice_get (reverse rest ++ c ∷ []) k) (sym (length-reverse rest)) ∙ got_last (reverse rest) c)),
+      ∙ (ap (λ k. slice_get (reverse rest ++ c ∷ []) k) (sym (length-reverse rest)) ∙ at_end (reverse rest) c)),
   below_known known rest (λ slot d e. h slot d (ap (λ (l : List Command). slice_get l slot) (reverse-append (c ∷ []) rest) ∙ got_before (reverse rest) (c ∷ []) slot d e)),
 )
 

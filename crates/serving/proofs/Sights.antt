@@ -1,8 +1,6 @@
 -- What is seen of a table.
-use Rattle.std.proofs.Common.{◌≡◌, ℕ, ◌+◌, List, [], ◌∷◌, ◌++◌, reverse, length, Some, None, refl, sym, ap, ◌∙◌, arith}
-use Rattle.std.specs.List.{slice_get}
+use Rattle.std.proofs.Common.{◌≡◌, ℕ, ◌+◌, List, [], ◌∷◌, length, Some, None, refl, ap, ◌∙◌, arith}
 use Rattle.std.specs.Option.{option_map}
-use Rattle.std.proofs.lemmas.List.{reverse-append, length-reverse}
 use Rattle.game_def.specs.Game.{Game}
 use Rattle.betting.specs.declared.action.Action.{Action}
 use Rattle.betting.specs.Rounds.{to_act, turns}
@@ -10,18 +8,10 @@ use Rattle.slot_log.specs.Hand.{Hand, Match}
 use Rattle.slot_log.specs.Dealer.{hand_at, is_match_over}
 use Rattle.slot_log.specs.declared.command.Command.{Command}
 use Rattle.matchstate.specs.View.{seat_of}
+use Rattle.matchstate.proofs.Seats.{newest_at}
 use Rattle.dealer_kind.specs.Kind.{Setting, hands_after}
 use Rattle.dealer_node.specs.Scenes.{IsTableOf}
 use Rattle.serving.specs.Sights.{acting_seat}
-
-last_of : {A : Type 0} (xs : List A) (y : A) → slice_get (xs ++ y ∷ []) (length xs) ≡ Some y
-last_of [] y = refl
-last_of (x ∷ xs) y = last_of xs y
-
-newest_at : (newest : Hand) (earlier : List Hand) → hand_at (newest ∷ earlier) (length earlier) ≡ Some newest
-newest_at newest earlier =
-    ap (λ hs. slice_get hs (length earlier)) (reverse-append (newest ∷ []) earlier)
-    ∙ ap (λ n. slice_get (reverse earlier ++ newest ∷ []) n) (sym (length-reverse earlier)) ∙ last_of (reverse earlier) newest
 
 -- no hand was dealt
 pub none_acts : (game : Game) (hands : List Hand) → length hands ≡ 0 → None ≡ acting_seat game hands

@@ -1,5 +1,5 @@
 -- How many of a table's hands are finished, and what stands at a number.
-use Rattle.std.proofs.Common.{◌≡◌, ℕ, ◌+◌, Bool, true, cond, List, [], ◌∷◌, ◌++◌, map, reverse, length, Option, Some, None, refl, sym, ap, ◌∙◌, arith}
+use Rattle.std.proofs.Common.{◌≡◌, ℕ, zero, suc, ◌+◌, ◌<◌, Bool, true, cond, List, [], ◌∷◌, ◌++◌, map, reverse, length, Option, Some, None, refl, sym, ap, ◌∙◌, arith}
 use Rattle.std.specs.List.{AllByRecursion, count_by, sum_by, slice_get}
 use Rattle.std.specs.Option.{option_to_list}
 use Rattle.std.proofs.lemmas.List.{append-nil, reverse-append, reverse-reverse, length-reverse, length-map}
@@ -9,6 +9,17 @@ use Rattle.slot_log.specs.Hand.{Hand}
 use Rattle.slot_log.specs.Dealer.{is_finished, finished_count}
 use Rattle.slot_log.specs.PlayedHand.{hand_of}
 use Rattle.slot_log.specs.declared.played_hand.PlayedHand.{PlayedHand}
+
+-- what stands in front stays where it is
+pub in_front : {X : Type 0} (xs ys : List X) (i : ℕ) → i < length xs → slice_get (xs ++ ys) i ≡ slice_get xs i
+in_front [] ys i below = absurd (omega (arith, below))
+in_front (x ∷ xs) ys zero below = refl
+in_front (x ∷ xs) ys (suc i) below = in_front xs ys i (omega (arith, below))
+
+pub got_before : {X : Type 0} (xs ys : List X) (i : ℕ) (x : X) → slice_get xs i ≡ Some x → slice_get (xs ++ ys) i ≡ Some x
+got_before [] ys i x e = cc
+got_before (y ∷ xs) ys zero x e = e
+got_before (y ∷ xs) ys (suc i) x e = got_before xs ys i x e
 
 -- what stands behind all others
 pub at_end : {X : Type 0} (xs : List X) (x : X) → slice_get (xs ++ x ∷ []) (length xs) ≡ Some x

@@ -10,7 +10,7 @@ use Rattle.slot_log.specs.declared.limits.TheConstants.{SLOTS}
 use Rattle.slot_log.specs.Slots.{Log, IsLog, Rise, front, known_by, find, known_at, with_known, settled, with_command}
 use Rattle.slot_log.specs.SlotsInside.{run_of}
 use Rattle.slot_log.specs.SlotLaws.{FrontIsFirstHole, SlotsEnd, OneMoreIsKnown, FrontsGoOn, CommandsAreKept, known_count}
-use Rattle.slot_log.proofs.Hands.{reverse-cons, at_end}
+use Rattle.slot_log.proofs.Hands.{reverse-cons, at_end, in_front}
 
 -- ---- places in a list
 
@@ -18,11 +18,6 @@ got : {X : Type 0} (xs : List X) (i : ℕ) → i < length xs → IsSome (slice_g
 got [] i below = absurd (omega (arith, below))
 got (x ∷ xs) zero below = refl
 got (x ∷ xs) (suc i) below = got xs i (omega (arith, below))
-
-in_front : {X : Type 0} (xs ys : List X) (i : ℕ) → i < length xs → slice_get (xs ++ ys) i ≡ slice_get xs i
-in_front [] ys i below = absurd (omega (arith, below))
-in_front (x ∷ xs) ys zero below = refl
-in_front (x ∷ xs) ys (suc i) below = in_front xs ys i (omega (arith, below))
 
 -- ---- what stands beyond
 
