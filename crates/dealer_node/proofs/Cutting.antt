@@ -1,5 +1,5 @@
 -- Cutting bytes into texts.
-use Rattle.std.proofs.Common.{◌≡◌, ℕ, ◌+◌, ◌-◌, ◌≤◌, List, [], ◌∷◌, ◌++◌, length, take, drop, refl, sym, ◌∙◌, ap, arith, length-append}
+use Rattle.std.proofs.Common.{◌≡◌, ℕ, ◌+◌, ◌-◌, ◌≤◌, List, [], ◌∷◌, ◌++◌, length, take, drop, refl, sym, ◌∙◌, ap, arith, length-append, Vec, Global, vec_len}
 use Rattle.std.proofs.lemmas.List.{length-drop, length-take, take-append-le, drop-append-le}
 use Rattle.dealer_node.specs.declared.texts.Run.{Run}
 use Rattle.dealer_node.specs.Texts.{Marked, cut, run_total, byte_total}
@@ -90,18 +90,22 @@ written runs now_runs bytes now text run old_len new_len kept is_old is_new is_r
     let grew = grown runs now_runs bytes now text run all is_runs is_bytes more in
     (grew.0 ∙ sym is_new, grew.1)
 
--- the same, of texts that are known, with their count and their bytes
-pub put : {T : Type 0} (runs now_runs : List (Run T)) (bytes now text : List ℕ) (run : Run T) (old_len new_len : ℕ) (texts : List (Marked T)) → run_total runs ≡ old_len → old_len ≡ length bytes → new_len ≡ length now
-    → now_runs ≡ runs ++ run ∷ [] → now ≡ bytes ++ text → run.len ≡ new_len - old_len → cut runs bytes ≡ texts
-    → (run_total now_runs ≡ new_len) × (cut now_runs now ≡ texts ++ (record { mark = run.mark; text = text }) ∷ [])
-    × (length (cut now_runs now) ≡ length texts + 1) × (byte_total (cut now_runs now) ≡ byte_total texts + length text)
-put {T} runs now_runs bytes now text run old_len new_len texts kept is_old is_new is_runs is_bytes len view =
-    let wrote = written runs now_runs bytes now text run old_len new_len kept is_old is_new is_runs is_bytes len in
-    let one : Marked T = record { mark = run.mark; text = text } in
-    let all : cut now_runs now ≡ texts ++ one ∷ [] = wrote.1 ∙ ap (λ t. t ++ one ∷ []) view in
-    let more = longer texts (cut now_runs now) one all in
+-- the same of bytes in a vector, and of texts that are known, with their count and their bytes
+pub put : {T : Type 0} (runs now_runs : List (Run T)) (bytes now : Vec ℕ Global) (text : List ℕ) (mark : T) (start past : ℕ) (texts : List (Marked T)) → run_total runs ≡ vec_len bytes → start ≡ vec_len bytes → past ≡ vec_len now
+    → now_runs ≡ runs ++ (record { mark = mark; len = past - start }) ∷ [] → now.items ≡ bytes.items ++ text → cut runs bytes.items ≡ texts
+    → (run_total now_runs ≡ vec_len now) × (cut now_runs now.items ≡ texts ++ (record { mark = mark; text = text }) ∷ [])
+    × (length (cut now_runs now.items) ≡ length texts + 1) × (byte_total (cut now_runs now.items) ≡ byte_total texts + length text)
+put {T} runs now_runs bytes now text mark start past texts kept is_start is_past is_runs is_bytes view =
+    let run : Run T = record { mark = mark; len = past - start } in
+    let was : vec_len bytes ≡ length bytes.items = omega (arith, bytes.ok.0) in
+    let is : vec_len now ≡ length now.items = omega (arith, now.ok.0) in
+    let len : past - start ≡ vec_len now - vec_len bytes = omega (arith, is_start, is_past) in
+    let wrote = written runs now_runs bytes.items now.items text run (vec_len bytes) (vec_len now) kept was is is_runs is_bytes len in
+    let one : Marked T = record { mark = mark; text = text } in
+    let all : cut now_runs now.items ≡ texts ++ one ∷ [] = wrote.1 ∙ ap (λ t. t ++ one ∷ []) view in
+    let more = longer texts (cut now_runs now.items) one all in
     (wrote.0, all, more.0, more.1)
 
 -- no more bytes were added than were allowed
-pub added : (old new text : List ℕ) (most old_len new_len : ℕ) → new ≡ old ++ text → old_len ≡ length old → new_len ≡ length new → new_len ≤ old_len + most → length text ≤ most
-added old new text most old_len new_len e is_old is_new few = let sum = ap length e ∙ length-append old text in omega (arith, sum)
+pub added : (old new : Vec ℕ Global) (text : List ℕ) (most : ℕ) → new.items ≡ old.items ++ text → vec_len new ≤ vec_len old + most → length text ≤ most
+added old new text most e few = let sum = ap length e ∙ length-append old.items text in omega (arith, sum, few, old.ok.0, new.ok.0)

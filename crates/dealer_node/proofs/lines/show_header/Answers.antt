@@ -1,11 +1,8 @@
-use Rattle.std.proofs.Common.{◌≡◌, ◌+◌, ◌-◌, ◌≤◌, ◌++◌, ◌∷◌, [], ℕ, List, length, map, vec_len, arith, sym, ◌∙◌, ap}
-use Rattle.dealer_node.specs.declared.texts.Run.{Run}
-use Rattle.dealer_node.specs.Texts.{Written, Marked, run_total, byte_total}
-use Rattle.dealer_node.proofs.Cutting.{put}
+use Rattle.std.proofs.Common.{◌++◌, arith, ◌∙◌, ap}
+use Rattle.dealer_node.specs.Texts.{Written}
 use Rattle.dealer_node.specs.declared.reader.Reader.{Reader}
-use Rattle.dealer_node.specs.declared.reader.Reader.TheVariants.{Seat, Log}
-use Rattle.dealer_node.specs.Turned.{printed}
-use Rattle.dealer_node.proofs.Cutting.{added}
+use Rattle.dealer_node.specs.declared.reader.Reader.TheVariants.{Log}
+use Rattle.dealer_node.proofs.Cutting.{put, added}
 use Rattle.match_log.specs.Lines.{header_line}
 use Rattle.dealer_node.proofs.Printed.{header_printed}
 use Rattle.dealer_node.proofs.lines.show_header.Goals as goal
@@ -13,47 +10,27 @@ use Rattle.dealer_node.proofs.lines.show_header.Goals as goal
 pub invariant_of-shown : goal.invariant_of-shown
 invariant_of-shown c =
     let inside = c.shown.inside in
-    let old : run_total inside.runs.items ≡ vec_len inside.bytes = c.shown.invariant in
-    let was : vec_len inside.bytes ≡ length inside.bytes.items = omega (arith, inside.bytes.ok.0) in
-    let is : vec_len c.header_reserved.new.out ≡ length c.header_reserved.new.out.items = omega (arith, c.header_reserved.new.out.ok.0) in
-    let run : Run Reader = record { mark = Log; len = c.len.result - c.len-start.result } in
-    let len : c.len.result - c.len-start.result ≡ vec_len c.header_reserved.new.out - vec_len inside.bytes = omega (arith, c.len.ensures, c.len-start.ensures) in
-    let all = put inside.runs.items c.push_reserved.new.self.items inside.bytes.items c.header_reserved.new.out.items (header_line c.as_bytes.result.now c.game_word.result.now c.hands.result) run (vec_len inside.bytes) (vec_len c.header_reserved.new.out) c.args.shown.now.texts
-    old was is c.push_reserved.ensures.items c.header_reserved.ensures.items len (ap (λ (w : Written Reader). w.texts) c.shown.view_is) in
+    let all = put inside.runs.items c.push_reserved.new.self.items inside.bytes c.header_reserved.new.out (header_line c.as_bytes.result.now c.game_word.result.now c.hands.result) Log c.len-start.result c.len.result c.args.shown.now.texts
+    c.shown.invariant (omega (arith, c.len-start.ensures)) (omega (arith, c.len.ensures)) c.push_reserved.ensures.items c.header_reserved.ensures.items (ap (λ (w : Written Reader). w.texts) c.shown.view_is) in
     all.0
 
 pub returns-clause-texts : goal.returns-clause-texts
 returns-clause-texts c =
     let inside = c.shown.inside in
-    let old : run_total inside.runs.items ≡ vec_len inside.bytes = c.shown.invariant in
-    let was : vec_len inside.bytes ≡ length inside.bytes.items = omega (arith, inside.bytes.ok.0) in
-    let is : vec_len c.header_reserved.new.out ≡ length c.header_reserved.new.out.items = omega (arith, c.header_reserved.new.out.ok.0) in
-    let run : Run Reader = record { mark = Log; len = c.len.result - c.len-start.result } in
-    let len : c.len.result - c.len-start.result ≡ vec_len c.header_reserved.new.out - vec_len inside.bytes = omega (arith, c.len.ensures, c.len-start.ensures) in
-    let all = put inside.runs.items c.push_reserved.new.self.items inside.bytes.items c.header_reserved.new.out.items (header_line c.as_bytes.result.now c.game_word.result.now c.hands.result) run (vec_len inside.bytes) (vec_len c.header_reserved.new.out) c.args.shown.now.texts
-    old was is c.push_reserved.ensures.items c.header_reserved.ensures.items len (ap (λ (w : Written Reader). w.texts) c.shown.view_is) in
+    let all = put inside.runs.items c.push_reserved.new.self.items inside.bytes c.header_reserved.new.out (header_line c.as_bytes.result.now c.game_word.result.now c.hands.result) Log c.len-start.result c.len.result c.args.shown.now.texts
+    c.shown.invariant (omega (arith, c.len-start.ensures)) (omega (arith, c.len.ensures)) c.push_reserved.ensures.items c.header_reserved.ensures.items (ap (λ (w : Written Reader). w.texts) c.shown.view_is) in
     all.1 ∙ ap (λ p. c.args.shown.now.texts ++ p) (header_printed c.args.post.now.setting c.as_bytes.result.now c.game_word.result.now c.hands.result (c.as_bytes.ensures.value ∙ c.name.ensures) c.game_word.ensures c.hands.ensures.value)
 
 pub returns-clause-len : goal.returns-clause-len
 returns-clause-len c =
     let inside = c.shown.inside in
-    let old : run_total inside.runs.items ≡ vec_len inside.bytes = c.shown.invariant in
-    let was : vec_len inside.bytes ≡ length inside.bytes.items = omega (arith, inside.bytes.ok.0) in
-    let is : vec_len c.header_reserved.new.out ≡ length c.header_reserved.new.out.items = omega (arith, c.header_reserved.new.out.ok.0) in
-    let run : Run Reader = record { mark = Log; len = c.len.result - c.len-start.result } in
-    let len : c.len.result - c.len-start.result ≡ vec_len c.header_reserved.new.out - vec_len inside.bytes = omega (arith, c.len.ensures, c.len-start.ensures) in
-    let all = put inside.runs.items c.push_reserved.new.self.items inside.bytes.items c.header_reserved.new.out.items (header_line c.as_bytes.result.now c.game_word.result.now c.hands.result) run (vec_len inside.bytes) (vec_len c.header_reserved.new.out) c.args.shown.now.texts
-    old was is c.push_reserved.ensures.items c.header_reserved.ensures.items len (ap (λ (w : Written Reader). w.texts) c.shown.view_is) in
+    let all = put inside.runs.items c.push_reserved.new.self.items inside.bytes c.header_reserved.new.out (header_line c.as_bytes.result.now c.game_word.result.now c.hands.result) Log c.len-start.result c.len.result c.args.shown.now.texts
+    c.shown.invariant (omega (arith, c.len-start.ensures)) (omega (arith, c.len.ensures)) c.push_reserved.ensures.items c.header_reserved.ensures.items (ap (λ (w : Written Reader). w.texts) c.shown.view_is) in
     omega (arith, all.2)
 
 pub returns-clause-size : goal.returns-clause-size
 returns-clause-size c =
     let inside = c.shown.inside in
-    let old : run_total inside.runs.items ≡ vec_len inside.bytes = c.shown.invariant in
-    let was : vec_len inside.bytes ≡ length inside.bytes.items = omega (arith, inside.bytes.ok.0) in
-    let is : vec_len c.header_reserved.new.out ≡ length c.header_reserved.new.out.items = omega (arith, c.header_reserved.new.out.ok.0) in
-    let run : Run Reader = record { mark = Log; len = c.len.result - c.len-start.result } in
-    let len : c.len.result - c.len-start.result ≡ vec_len c.header_reserved.new.out - vec_len inside.bytes = omega (arith, c.len.ensures, c.len-start.ensures) in
-    let all = put inside.runs.items c.push_reserved.new.self.items inside.bytes.items c.header_reserved.new.out.items (header_line c.as_bytes.result.now c.game_word.result.now c.hands.result) run (vec_len inside.bytes) (vec_len c.header_reserved.new.out) c.args.shown.now.texts
-    old was is c.push_reserved.ensures.items c.header_reserved.ensures.items len (ap (λ (w : Written Reader). w.texts) c.shown.view_is) in
-    omega (arith, all.3, added _ _ _ (263) _ _ c.header_reserved.ensures.items was is c.header_reserved.ensures.len)
+    let all = put inside.runs.items c.push_reserved.new.self.items inside.bytes c.header_reserved.new.out (header_line c.as_bytes.result.now c.game_word.result.now c.hands.result) Log c.len-start.result c.len.result c.args.shown.now.texts
+    c.shown.invariant (omega (arith, c.len-start.ensures)) (omega (arith, c.len.ensures)) c.push_reserved.ensures.items c.header_reserved.ensures.items (ap (λ (w : Written Reader). w.texts) c.shown.view_is) in
+    omega (arith, all.3, added inside.bytes c.header_reserved.new.out _ 263 c.header_reserved.ensures.items c.header_reserved.ensures.len)
