@@ -1,6 +1,7 @@
 -- The laws of legal plays.
 use Rattle.std.proofs.Common.{◌≡◌, ℕ, ◌-◌, ◌<◌, ◌≤◌, false, List, [], ◌∷◌, ◌++◌, Some, refl, sym, ap, ◌∙◌, arith, inl, inr, append_assoc, replicate}
 use Rattle.std.proofs.lemmas.Bool.{cases_eq}
+use Rattle.std.proofs.lemmas.Option.{same_Some}
 use Rattle.game_def.specs.Game.{Game, IsGame, stack_of}
 use Rattle.betting.specs.declared.action.Action.{Action}
 use Rattle.betting.specs.declared.action.Action.TheVariants.{Fold, Call, Raise}
@@ -14,9 +15,6 @@ use Rattle.betting.proofs.Advance.{round_moves, round_fits}
 use Rattle.betting.proofs.Sound.{Sound, IsNext, next_is, somebody_acts, live_parts, acts_unless_over}
 use Rattle.betting.proofs.SoundSteps.{raise_between}
 use Rattle.betting.proofs.Legal.{sound_legal, length-legal, turns-cons, can_act-none, none-can_act}
-
-some_same : {p q : ℕ} → Some p ≡ Some q → p ≡ q
-some_same e = cc
 
 pub somebody_has_the_greatest_amount : SomebodyHasTheGreatestAmount
 somebody_has_the_greatest_amount game past is_game legal = (sound_legal game is_game past legal).top
@@ -71,7 +69,7 @@ pub raises_go_up : RaisesGoUp
 unfolding CanAct
 raises_go_up game past position amount is_game legal acts can =
     let sound : Sound game (turns game past) = sound_legal game is_game past legal in
-    let same : can.0 ≡ position = some_same (sym can.1 ∙ acts) in
+    let same : can.0 ≡ position = same_Some _ _ (sym can.1 ∙ acts) in
     let between : (max_spent game (turns game past) < amount) × (amount ≤ stack_of game can.0) =
     raise_between game is_game (turns game past) can.0 amount sound.round_fits sound.full_raise can.2.0 can.2.1 can.2.2 in
     (between.0, rw (← same) between.1)

@@ -1,6 +1,7 @@
 -- The amounts that may be raised to.
 use Rattle.std.proofs.Common.{◌≡◌, ℕ, ◌≤◌, min, List, Option, Some, None, refl, sym, ◌∙◌, arith, subst}
 use Rattle.std.specs.Prelude.{IsSome, slice_index, option_map}
+use Rattle.std.proofs.lemmas.Option.{same_Some}
 use Rattle.game_def.specs.Game.{Game, stack_of, raise_size_of}
 use Rattle.betting.specs.declared.action.Action.TheVariants.{Raise}
 use Rattle.betting.specs.declared.fault.ActFault.{ActFault}
@@ -9,9 +10,6 @@ use Rattle.betting.specs.Rounds.{current_round, to_act}
 use Rattle.betting.specs.Legal.{CanAct, Allows, IsRaiseRange, limit_to, least_raise, greatest_raise, no_raise}
 use Rattle.betting.proofs.Legal.{may-none, none-may}
 
-some_same : {p q : ℕ} → Some p ≡ Some q → p ≡ q
-some_same e = cc
-
 pub no_range_over : (game : Game) (h : List Turn) → to_act game h ≡ None → (amount : ℕ) → CanAct game h (Raise amount) → ⊥
 unfolding CanAct
 no_range_over game h none amount can = let wrong : Some can.0 ≡ None = sym can.1 ∙ none in cc
@@ -19,7 +17,7 @@ no_range_over game h none amount can = let wrong : Some can.0 ≡ None = sym can
 allowed_at : (game : Game) (h : List Turn) (p amount : ℕ) → to_act game h ≡ Some p → CanAct game h (Raise amount) → Allows game h p (Raise amount)
 unfolding CanAct
 allowed_at game h p amount acts can =
-    let same : can.0 ≡ p = some_same (sym can.1 ∙ acts) in
+    let same : can.0 ≡ p = same_Some _ _ (sym can.1 ∙ acts) in
     subst (λ q. Allows game h q (Raise amount)) same can.2
 
 pub no_range_closed : (game : Game) (h : List Turn) (p : ℕ) (fault : ActFault) → to_act game h ≡ Some p → Some fault ≡ no_raise game h p → (amount : ℕ) → CanAct game h (Raise amount) → ⊥

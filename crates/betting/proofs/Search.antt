@@ -1,6 +1,7 @@
 -- The first position that passes a test, from one onwards and round.
 use Rattle.std.proofs.Common.{◌≡◌, ℕ, zero, suc, ◌+◌, ◌-◌, ◌<◌, ◌≤◌, Bool, true, false, cond, Option, Some, None, refl, sym, ap, ◌∙◌, arith, inl, inr, ◌⊎◌}
 use Rattle.std.proofs.lemmas.Bool.{cases_lt}
+use Rattle.std.proofs.lemmas.Option.{same_Some}
 use Rattle.betting.specs.Rounds.{first_from, first_cyclic}
 
 -- one position is met before another by a search from `start` onwards and round
@@ -58,9 +59,6 @@ pub record FirstFrom (P : ℕ → Bool) (start count p : ℕ) : Type 0 where
   pub most : p < start + count
   pub first : (q : ℕ) → start ≤ q → q < p → P q ≡ false
 
-some_same : {p q : ℕ} → Some p ≡ Some q → p ≡ q
-some_same e = cc
-
 pub first_from-suc : (P : ℕ → Bool) (start count : ℕ) → first_from P start (suc count) ≡ cond (P start) (Some start) (first_from P (start + 1) count)
 unfolding first_from
 first_from-suc P start count =
@@ -72,7 +70,7 @@ first_from-finds P start zero p e = absurd (cc)
 first_from-finds P start (suc count) p e =
     (elim (P start) as (λ b. P start ≡ b → cond b (Some start) (first_from P (start + 1) count) ≡ Some p → FirstFrom P start (suc count) p) [
       | true ↦ λ yes e.
-          let here : start ≡ p = some_same e in
+          let here : start ≡ p = same_Some _ _ e in
           record { passes = rw (← here) yes; least = omega arith; most = omega arith; first = λ q a b. absurd (omega arith) }
       | false ↦ λ no e.
           let rest : FirstFrom P (start + 1) count p = first_from-finds P (start + 1) count p e in
@@ -136,7 +134,7 @@ unfolding first_cyclic
 first_cyclic-finds P players start p b e =
     (elim (first_from P start (players - start)) as (λ o. first_from P start (players - start) ≡ o → elim o [ Some position ↦ Some position | None ↦ first_from P 0 start ] ≡ Some p → FirstCyclic P players start p) [
       | Some q ↦ λ is e.
-          let same : q ≡ p = some_same e in
+          let same : q ≡ p = same_Some _ _ e in
           found_above P players start p b (first_from-finds P start (players - start) p (rw same at is))
       | None ↦ λ is e. found_around P players start p b is (first_from-finds P 0 start p e)
     ]) refl e

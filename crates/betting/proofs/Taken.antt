@@ -2,6 +2,7 @@
 use Rattle.std.proofs.Common.{◌≡◌, ℕ, ◌+◌, ◌-◌, ◌*◌, ◌<◌, ◌≤◌, true, List, [], ◌∷◌, ◌++◌, length, take, set, reverse, Some, None, refl, sym, ap, ◌∙◌, arith, subst, length-take}
 use Rattle.std.proofs.lemmas.List.{reverse-append, length-reverse, take_more_set}
 use Rattle.std.proofs.Math.ListN.{length-set}
+use Rattle.std.proofs.lemmas.Option.{same_Some}
 use Rattle.game_def.specs.Game.{Game, stack_of}
 use Rattle.betting.specs.declared.action.Action.{Action}
 use Rattle.betting.specs.declared.action.Action.TheVariants.{Fold, Call, Raise}
@@ -21,9 +22,6 @@ use Rattle.betting.proofs.Slashes.{rounds_fit}
 use Rattle.betting.proofs.Tally.{tally-takes, totals-advance}
 use Rattle.betting.proofs.Kept.{kept_sound, kept_next}
 
-some_same : {p q : ℕ} → Some p ≡ Some q → p ≡ q
-some_same e = cc
-
 -- the position to act, and that it may
 pub record CanTake (d : Inside) (position : ℕ) (a : Action) : Type 0 where
   pub kept : IsKept d
@@ -34,7 +32,7 @@ pub record CanTake (d : Inside) (position : ℕ) (a : Action) : Type 0 where
 allowed_by : (game : Game) (h : List Turn) (a : Action) (position : ℕ) → to_act game h ≡ Some position → CanAct game h a → Allows game h position a
 unfolding CanAct
 allowed_by game h a position e can =
-    let same : can.0 ≡ position = some_same (sym can.1 ∙ e) in
+    let same : can.0 ≡ position = same_Some _ _ (sym can.1 ∙ e) in
     subst (λ p. Allows game h p a) same can.2
 
 pub can_take : (d : Inside) (b : Betting) → betting_of d ≡ b → IsKept d → (a : Action) (position : ℕ) → d.totals.next ≡ Some position → CanAct b.game (history b) a → CanTake d position a

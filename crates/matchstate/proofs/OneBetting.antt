@@ -5,6 +5,7 @@ use Rattle.std.specs.List.{prefix_len}
 use Rattle.std.proofs.lemmas.Bool.{cases_lt}
 use Rattle.std.proofs.lemmas.Fmt.{decimal_injective}
 use Rattle.std.proofs.lemmas.List.{append_cancel_left, length-append}
+use Rattle.std.proofs.lemmas.Option.{same_Some}
 use Rattle.game_def.specs.Game.{Game, IsGame}
 use Rattle.betting.specs.declared.action.Action.{Action}
 use Rattle.betting.specs.declared.action.Action.TheVariants.{Fold, Call, Raise}
@@ -39,13 +40,10 @@ one_limit : (game : Game) (past : List Turn) (position : ℕ) (sizes : List ℕ)
 unfolding least_raise greatest_raise
 one_limit game past position sizes limit = rw limit refl
 
-same_position : {p q : ℕ} → Some p ≡ Some q → p ≡ q
-same_position e = cc
-
 pub one_amount : (game : Game) (past : List Turn) (sizes : List ℕ) (amount other : ℕ) → game.raise_sizes ≡ Some sizes → CanAct game past (Raise amount) → CanAct game past (Raise other) → amount ≡ other
 unfolding CanAct
 one_amount game past sizes amount other limit can may =
-    let position : can.0 ≡ may.0 = same_position (sym can.1 ∙ may.1) in
+    let position : can.0 ≡ may.0 = same_Some _ _ (sym can.1 ∙ may.1) in
     let ends = one_limit game past can.0 sizes limit in
     let low : least_raise game past can.0 ≤ other = subst (λ p. least_raise game past p ≤ other) (sym position) may.2.1 in
     let high : other ≤ greatest_raise game past can.0 = subst (λ p. other ≤ greatest_raise game past p) (sym position) may.2.2 in

@@ -2,7 +2,7 @@
 use Rattle.std.proofs.Common.{◌≡◌, ℕ, inl, inr, Bool, true, false, if◌then◌else◌, List, [], ◌∷◌, ◌++◌, Option, Some, None, Result, Ok, Err, refl, sym, ap, subst, ◌∙◌, arith, length, reverse}
 use Rattle.std.specs.Prelude.{slice_get}
 use Rattle.std.proofs.lemmas.List.{reverse-append, length-reverse}
-use Rattle.std.proofs.lemmas.Option.{slice_get_within}
+use Rattle.std.proofs.lemmas.Option.{same_Some, slice_get_within}
 use Rattle.paxos_wire.specs.declared.ballot.Ballot.{Ballot}
 use Rattle.paxos_wire.specs.declared.entry.Entry.{Entry}
 use Rattle.slot_log.specs.Slots.{Log, front, known_at}
@@ -160,9 +160,6 @@ begin_answer x s m bs campaign r one sent ballots proposer =
 
 -- ---- a promise is got and counted
 
-some_is : (a b : Campaign) → ◌≡◌ {A = Option Campaign} (Some a) (Some b) → a ≡ b
-some_is a b e = cc
-
 told_promise : (a b : ℕ) (c d : Ballot) (s t : ℕ) (e f : Ballot) → Refuse a c s e ≡ Refuse b d t f → e ≡ f
 told_promise a b c d s t e f same = cc
 
@@ -201,7 +198,7 @@ promise_proposer g n i node front (Some c) from ballot first told p = record {
   proposed = p.proposed;
   stands = λ b f st near left.
       let found = p.stands b f (record { began = st.began; promised = st.promised; unrefused = λ k r s up h. st.unrefused k r s up (inr h) }) near left in
-      let same : c ≡ found.0 = some_is c found.0 found.1 in
+      let same : c ≡ found.0 = same_Some c found.0 found.1 in
       let stays = g.promise_stays n c from ballot first told in
       (with_promise n c from ballot first told, refl, stays.0 ∙ (ap (λ (y : Campaign). y.ballot) same ∙ found.2), stays.1 ∙ (ap (λ (y : Campaign). y.first) same ∙ found.3));
 }
@@ -244,7 +241,7 @@ refused_by g n i node front c from refused slot promised true e p = record {
   proposed = p.proposed;
   stands = λ b f st near left. let found = p.stands b f (stood_before node (Refuse from refused slot promised) b f st) near left in
       absurd (st.unrefused from refused slot promised (inl refl)
-      (subst (λ (y : Ballot). Below y promised) (ap (λ (y : Campaign). y.ballot) (some_is c found.0 found.1) ∙ found.2) (below_if c.ballot promised e)));
+      (subst (λ (y : Ballot). Below y promised) (ap (λ (y : Campaign). y.ballot) (same_Some c found.0 found.1) ∙ found.2) (below_if c.ballot promised e)));
 }
 
 refused_proposer : (g : Given) (n i : ℕ) (node : Node) (front : ℕ) (c : Option Campaign) (from : ℕ) (refused : Ballot) (slot : ℕ) (promised : Ballot)

@@ -4,6 +4,7 @@ use Rattle.std.specs.Prelude.{nat_lt, nat_le}
 use Rattle.std.specs.Option.{option_map}
 use Rattle.std.proofs.lemmas.Bool.{ltb-true, ltb-false, leb-true, and_parts}
 use Rattle.std.proofs.lemmas.List.{append-nil}
+use Rattle.std.proofs.lemmas.Option.{same_Some}
 use Rattle.paxos_wire.specs.declared.limits.TheConstants.{SLOTS, WINDOW}
 use Rattle.paxos_wire.specs.declared.ballot.Ballot.{Ballot}
 use Rattle.paxos_wire.specs.declared.message.Message.TheVariants as frame
@@ -87,9 +88,6 @@ value_is x s node command h pending =
 
 -- ---- giving up
 
-some_is : (a b : Campaign) → ◌≡◌ {A = Option Campaign} (Some a) (Some b) → a ≡ b
-some_is a b e = cc
-
 idle_proposer : (n i : ℕ) (node : Node) (front : ℕ) (c : Option Campaign)
     → ((b : Ballot) (f : ℕ) → Stands node b f → front < f + WINDOW → front < SLOTS → ⊥) → IsProposer n i node front c → IsProposer n i node front None
 idle_proposer n i node front c none p = record {
@@ -121,7 +119,7 @@ made_by place s made (Some c) e h = (c, record { has = e; made_so = h })
 
 pub campaigns_of : (n i : ℕ) (node : Node) (c : Option Campaign) (found : Campaign) → c ≡ Some found → IsCampaign n i node c → Campaigns n i node found
 campaigns_of n i node None found e h = absurd (cc)
-campaigns_of n i node (Some c) found e h = subst (Campaigns n i node) (some_is c found e) h
+campaigns_of n i node (Some c) found e h = subst (Campaigns n i node) (same_Some c found e) h
 
 pub may : (x : Scope) (came : List Arrival) (heard : Hearing) (t : Turn) (p : Path x came heard (applied t.after) t) (c : Campaign) (made : Made)
     → IsSafe x.place.nodes p.node.has c (front_of t.after) (own_value x.place t.after) made
@@ -326,7 +324,7 @@ propose x came heard t ends p c made is =
               unrefused = λ k r s g h. st.unrefused k r s g (inr h);
             } in
             let found = p.knows.proposer.stands b f old near left in
-            let same : c ≡ found.0 = some_is c found.0 (sym is.has ∙ found.1) in
+            let same : c ≡ found.0 = same_Some c found.0 (sym is.has ∙ found.1) in
             (with_mark c (Ok (Some made)), refl, ap (λ (y : Campaign). y.ballot) same ∙ found.2, ap (λ (y : Campaign). y.first) same ∙ found.3)
 
 -- ---- the vote that is stored is the proposal
@@ -376,7 +374,7 @@ closes_by x came heard t ends p (Err fault) e = rest x came heard t p (λ b f st
         ap (λ (c : Option Campaign). proposal_from x.place.nodes c (front_of t.after) (own_value x.place t.after)) (sym ec) ∙ h in absurd (cc)
     outside b f st near left (Some c) ec h =
         let found = p.knows.proposer.stands b f st near left in
-        let same : c ≡ found.0 = some_is c found.0 (sym ec ∙ found.1) in
+        let same : c ≡ found.0 = same_Some c found.0 (sym ec ∙ found.1) in
         let first : c.first ≡ f = ap (λ (y : Campaign). y.first) same ∙ found.3 in
         let by : proposal_by x.place.nodes c (front_of t.after) (own_value x.place t.after) ≡ Err fault =
         ap (λ (y : Option Campaign). proposal_from x.place.nodes y (front_of t.after) (own_value x.place t.after)) (sym ec) ∙ h in

@@ -2,6 +2,7 @@
 use Rattle.std.proofs.Common.{◌≡◌, ℕ, ◌<◌, ◌⊎◌, inl, inr, Bool, true, false, true≢false, if◌then◌else◌, ◌&&◌, List, [], ◌∷◌, ◌++◌, Option, Some, None, Result, Ok, Err, refl, sym, ap, subst, ◌∙◌, arith, length, reverse, append_assoc}
 use Rattle.std.specs.Prelude.{nat_lt, is_none}
 use Rattle.std.proofs.lemmas.List.{append-nil}
+use Rattle.std.proofs.lemmas.Option.{same_Some}
 use Rattle.paxos_wire.specs.declared.message.Message.{Message as Wire}
 use Rattle.paxos_wire.specs.declared.message.Message.TheVariants as frame
 use Rattle.slot_log.specs.Dealer.{hands_of}
@@ -432,16 +433,13 @@ one_row known one (c ∷ a) (d ∷ b) ka kb e =
     let same : c ≡ d = one (length a) c d ka.0 (subst (λ k. In (k, d) known) (sym size) kb.0) in
     λ i. same i ∷ rest i
 
-some_is : (c d : Command) → ◌≡◌ {A = Option Command} (Some c) (Some d) → c ≡ d
-some_is c d e = cc
-
 -- the commands that are known below the front are those applied
 pub applied_is : (own : ℕ → Command → Bool) (place : Place) (world : World) (s : Standing) (before : List Command) → Stands own place world s → s.up ≡ true
     → KnowsCommands (world.nodes place.node).known before → front_of s ≡ length before → applied s ≡ before
 applied_is own place world s before st up knows front =
     let k = (st.of.runs up).knows in
     let one : (slot : ℕ) (c d : Command) → In (slot, c) (world.nodes place.node).known → In (slot, d) (world.nodes place.node).known → c ≡ d =
-    λ slot c d hc hd. some_is c d (sym (k.learner.only slot c hc) ∙ k.learner.only slot d hd) in
+    λ slot c d hc hd. same_Some c d (sym (k.learner.only slot c hc) ∙ k.learner.only slot d hd) in
     one_row (world.nodes place.node).known one (applied s) before (commands_known s.learned.log (world.nodes place.node).known k.learner.knows) knows front
 
 pub waiting_fits : WaitingFits

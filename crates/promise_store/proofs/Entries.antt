@@ -5,6 +5,7 @@ use Rattle.std.specs.List.{AllByRecursion}
 use Rattle.std.proofs.lemmas.Bool.Decides.{nat_tests}
 use Rattle.std.proofs.lemmas.Bool.{cases_eq}
 use Rattle.std.proofs.lemmas.List.{take_at, drop_at}
+use Rattle.std.proofs.lemmas.Option.{same_Some}
 use Rattle.protocol_model.specs.Sets.{put}
 use Rattle.protocol_model.specs.Messages.{Vote}
 use Rattle.promise_store.specs.declared.records.Record.{Record}
@@ -25,13 +26,6 @@ pub record Stands (gate : ℕ) (records : List Record) (slot : ℕ) (kept : Kept
   pub is : records ≡ before ++ Voted kept.placed.ballot slot kept.command ∷ after
   pub place : kept.placed.place ≡ gate + length (gated before) + 3
   pub long : kept.placed.length ≡ length (payload (Voted kept.placed.ballot slot kept.command))
-
-pub some_is : {A : Type 0} (a b : A) → Some a ≡ Some b → a ≡ b
-some_is {A} a b same = ap of same
-  where
-    of : Option A → A
-    of (Some x) = x
-    of None = a
 
 later_is : (old : Option Kept) (new : Kept) → (later ballot_of old new ≡ new) ⊎ (old ≡ Some (later ballot_of old new))
 later_is None new = inl refl
@@ -55,7 +49,7 @@ one_record gate held (Voted ballot s command) records slot kept is = elim (cases
     is_chosen here =
         let test : (slot == s) ≡ true = grind (arith, nat_tests, here) in
         let whole : put held.entries s (Some (later ballot_of (held.entries s) (kept_at gate ballot s command))) slot ≡ Some (later ballot_of (held.entries s) (kept_at gate ballot s command)) = rw test refl in
-        some_is _ kept (sym whole ∙ is)
+        same_Some _ kept (sym whole ∙ is)
 
     at_slot : slot ≡ s → (later ballot_of (held.entries s) (kept_at gate ballot s command) ≡ kept_at gate ballot s command) ⊎ (held.entries s ≡ Some (later ballot_of (held.entries s) (kept_at gate ballot s command))) → (held.entries slot ≡ Some kept) ⊎ Stands gate (Voted ballot s command ∷ records) slot kept
     at_slot here (inr old) = inl (ap held.entries here ∙ old ∙ ap (λ (k : Kept). Some k) (is_chosen here))
@@ -135,7 +129,7 @@ module _ (head bytes : List ℕ) (records : List Record) (journal : IsJournal he
       by : (entry : Option Kept) → (holding head records).entries slot ≡ entry → (vote : Vote) × ((store_of (holding head records)).votes slot ≡ Some vote) × IsEntry bytes slot placed vote
       by None there = absurd (let e : Some placed ≡ None = sym is ∙ indexes.entries slot ∙ ap placed_of there in cc)
       by (Some kept) there =
-          let same : kept.placed ≡ placed = some_is kept.placed placed (sym (sym is ∙ indexes.entries slot ∙ ap placed_of there)) in
+          let same : kept.placed ≡ placed = same_Some kept.placed placed (sym (sym is ∙ indexes.entries slot ∙ ap placed_of there)) in
           let vote : Vote = record { ballot = kept.placed.ballot; command = kept.command } in
           (vote, ap vote_of there, subst (λ (p : Placed). IsEntry bytes slot p vote) same (stands_entry kept (kept_stands head records slot kept there)))
 

@@ -3,6 +3,7 @@ use Rattle.std.proofs.Common.{◌≡◌, ◌⊎◌, inl, inr, ℕ, ◌+◌, refl
 use Rattle.std.specs.Prelude.{◌==◌, if◌then◌else◌, Option, Some, None}
 use Rattle.std.proofs.lemmas.Bool.Decides.{nat_tests}
 use Rattle.std.proofs.lemmas.Bool.{cases_eq}
+use Rattle.std.proofs.lemmas.Option.{same_Some}
 use Rattle.paxos_wire.specs.declared.ballot.Ballot.{Ballot}
 use Rattle.slot_log.specs.declared.command.Command.{Command}
 use Rattle.protocol_model.specs.Ballots.{Below, AtMost}
@@ -18,7 +19,6 @@ use Rattle.promise_store.specs.Journals.{gated}
 use Rattle.promise_store.specs.Holding.{Holding, nothing_held, greater, with_record, held_from, holding, store_of, stored}
 use Rattle.promise_store.specs.Laws.{ballot_of_record, IsGreatest, IsLastOfGreatest}
 use Rattle.promise_store.proofs.Holding.{store_with}
-use Rattle.promise_store.proofs.Entries.{some_is}
 use Rattle.protocol_model.proofs.Ballots.{below_cases, at_most_trans}
 use Rattle.promise_store.proofs.Backing.{vote_of, promise_raised, promise_kept}
 
@@ -173,18 +173,18 @@ record_step store (Voted ballot s command) records slot vote (is, below) = elim 
 
     at_place : slot ≡ s → (old : Option Vote) → store.votes s ≡ old → Stays store (Voted ballot s command ∷ records) slot vote ⊎ Comes store (Voted ballot s command ∷ records) slot vote
     at_place here None was =
-        let same = some_is (vote_of ballot command) vote (sym (ap (λ (o : Option Vote). Some (later (λ (v : Vote). v.ballot) o (vote_of ballot command))) was) ∙ stands here) in
+        let same = same_Some (vote_of ballot command) vote (sym (ap (λ (o : Option Vote). Some (later (λ (v : Vote). v.ballot) o (vote_of ballot command))) was) ∙ stands here) in
         inr (comes here same (λ old is_old. absurd (none_some (sym was ∙ ap store.votes (sym here) ∙ is_old))))
       where
         none_some : {v : Vote} → None ≡ Some v → ⊥
         none_some {v} e = cc
     at_place here (Some old) was = elim (below_cases ballot old.ballot) [
       | inl lower ↦ inl (ap store.votes here ∙ was ∙ ap (λ (v : Vote). Some v) (kept lower.0), under lower)
-      | inr above ↦ inr (comes here (taken above.0) (λ other is_other. subst (λ (v : Vote). AtMost v.ballot ballot) (some_is old other (sym was ∙ ap store.votes (sym here) ∙ is_other)) above.1))
+      | inr above ↦ inr (comes here (taken above.0) (λ other is_other. subst (λ (v : Vote). AtMost v.ballot ballot) (same_Some old other (sym was ∙ ap store.votes (sym here) ∙ is_other)) above.1))
     ]
       where
         whole : (if is_below ballot old.ballot then old else vote_of ballot command) ≡ vote
-        whole = some_is _ vote (sym (ap (λ (o : Option Vote). Some (later (λ (v : Vote). v.ballot) o (vote_of ballot command))) was) ∙ stands here)
+        whole = same_Some _ vote (sym (ap (λ (o : Option Vote). Some (later (λ (v : Vote). v.ballot) o (vote_of ballot command))) was) ∙ stands here)
 
         kept : is_below ballot old.ballot ≡ true → old ≡ vote
         kept test = sym (ap (λ (b : Bool). if b then old else vote_of ballot command) test) ∙ whole
@@ -263,14 +263,14 @@ within_next store (Voted ballot s command) within slot vote is = elim (cases_eq 
     at_place : slot ≡ s → (old : Option Vote) → store.votes s ≡ old → AtMost vote.ballot (greater store.promise ballot)
     at_place here None was =
         subst (λ (v : Vote). AtMost v.ballot (greater store.promise ballot))
-        (some_is (vote_of ballot command) vote (sym (ap (λ (o : Option Vote). Some (later (λ (v : Vote). v.ballot) o (vote_of ballot command))) was) ∙ stands here)) (promise_raised store ballot)
+        (same_Some (vote_of ballot command) vote (sym (ap (λ (o : Option Vote). Some (later (λ (v : Vote). v.ballot) o (vote_of ballot command))) was) ∙ stands here)) (promise_raised store ballot)
     at_place here (Some old) was = elim (below_cases ballot old.ballot) [
       | inl lower ↦ subst (λ (v : Vote). AtMost v.ballot (greater store.promise ballot)) (sym (ap (λ (b : Bool). if b then old else vote_of ballot command) lower.0) ∙ whole) (at_most_trans old.ballot store.promise _ (within s old was) (promise_kept store ballot))
       | inr above ↦ subst (λ (v : Vote). AtMost v.ballot (greater store.promise ballot)) (sym (ap (λ (b : Bool). if b then old else vote_of ballot command) above.0) ∙ whole) (promise_raised store ballot)
     ]
       where
         whole : (if is_below ballot old.ballot then old else vote_of ballot command) ≡ vote
-        whole = some_is _ vote (sym (ap (λ (o : Option Vote). Some (later (λ (v : Vote). v.ballot) o (vote_of ballot command))) was) ∙ stands here)
+        whole = same_Some _ vote (sym (ap (λ (o : Option Vote). Some (later (λ (v : Vote). v.ballot) o (vote_of ballot command))) was) ∙ stands here)
 
 within_all : (store : Store) (records : List Record) → IsWithinPromise store → IsWithinPromise (stored_all store records)
 within_all store [] within = within

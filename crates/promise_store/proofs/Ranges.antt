@@ -3,6 +3,7 @@ use Rattle.std.proofs.Common.{◌≡◌, ◌⊎◌, inl, inr, ℕ, Bool, true, f
 use Rattle.std.specs.Prelude.{nat_eq, if◌then◌else◌, Option, Some, None}
 use Rattle.std.proofs.lemmas.Bool.{cases_eq}
 use Rattle.std.proofs.lemmas.Bool.Decides.{nat_tests}
+use Rattle.std.proofs.lemmas.Option.{same_Some}
 use Rattle.paxos_wire.specs.declared.ballot.Ballot.{Ballot}
 use Rattle.paxos_wire.specs.Fits.{IsBallot, IsSlot}
 use Rattle.protocol_model.specs.Ballots.{no_ballot}
@@ -10,7 +11,6 @@ use Rattle.promise_store.specs.declared.placed.Placed.{Placed}
 use Rattle.promise_store.specs.Index.{found, later}
 use Rattle.paxos_wire.specs.Order.{is_below}
 use Rattle.promise_store.specs.Ranges.{IsBallotOrNone, AreInRange}
-use Rattle.promise_store.proofs.Entries.{some_is}
 
 pub ballot_or_none : (b : Ballot) → IsBallotOrNone b → (b ≡ no_ballot) ⊎ IsBallot b
 ballot_or_none b within = elim (cases_eq b.round 0) [
@@ -23,7 +23,7 @@ found_slot slot [] p is = absurd (let e : None ≡ Some p = is in cc)
 found_slot slot (x ∷ xs) p is = here (nat_eq slot x.slot) refl is (λ later. found_slot slot xs p later)
   where
     here : (b : Bool) → nat_eq slot x.slot ≡ b → (if b then Some x else found slot xs) ≡ Some p → (found slot xs ≡ Some p → p.slot ≡ slot) → p.slot ≡ slot
-    here true same is rest = sym (ap (λ (y : Placed). y.slot) (some_is x p is)) ∙ grind (arith, nat_tests, same)
+    here true same is rest = sym (ap (λ (y : Placed). y.slot) (same_Some x p is)) ∙ grind (arith, nat_tests, same)
     here false other is rest = rest is
 
 -- an entry more, within the ranges, among others that are
@@ -33,10 +33,10 @@ module _ (old new : List Placed) (placed : Placed) (ballot : IsBallot placed.bal
 
   of_both : (k : ℕ) (b : Bool) (e p : Placed) → found k old ≡ Some e → Some p ≡ Some (if b then e else placed) → IsIn p
   of_both k true e p was is = all k p (was ∙ sym is)
-  of_both k false e p was is = subst IsIn (sym (some_is p placed is)) (ballot, slot)
+  of_both k false e p was is = subst IsIn (sym (same_Some p placed is)) (ballot, slot)
 
   of_later : (k : ℕ) (was : Option Placed) (p : Placed) → found k old ≡ was → Some p ≡ Some (later (λ e. e.ballot) was placed) → IsIn p
-  of_later k None p was is = subst IsIn (sym (some_is p placed is)) (ballot, slot)
+  of_later k None p was is = subst IsIn (sym (same_Some p placed is)) (ballot, slot)
   of_later k (Some e) p was is = of_both k (is_below placed.ballot e.ballot) e p was is
 
   at : (k : ℕ) (b : Bool) (p : Placed) → Some p ≡ (if b then Some (later (λ e. e.ballot) (found k old) placed) else found k old) → IsIn p

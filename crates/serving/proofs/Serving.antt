@@ -1,5 +1,6 @@
 -- What one event leaves of what waits, and that no frame is forged by those that were sent.
 use Rattle.std.proofs.Common.{◌≡◌, ℕ, zero, suc, Bool, true, false, List, [], ◌∷◌, ◌++◌, map, length, take, slice_get, Some, Result, Err, inl, inr, subst, sym}
+use Rattle.std.proofs.lemmas.Option.{same_Some}
 use Rattle.promise_store.specs.declared.disk.Disk.{Ghosts}
 use Rattle.protocol_model.specs.Sets.{In}
 use Rattle.protocol_model.proofs.Sets.{in_split}
@@ -48,12 +49,9 @@ in_all x [] ys here = absurd here
 in_all x (y ∷ xs) ys (inl is) = inl is
 in_all x (y ∷ xs) ys (inr more) = inr (in_all x xs ys more)
 
-some_is : {A : Type 0} (x y : A) → Some x ≡ Some y → y ≡ x
-some_is x y is = cc
-
 found : {A : Type 0} (xs : List A) (k : ℕ) (x : A) → slice_get xs k ≡ Some x → In x xs
 found [] k x is = cc
-found (y ∷ xs) zero x is = inl (some_is y x is)
+found (y ∷ xs) zero x is = inl (sym (same_Some y x is))
 found (y ∷ xs) (suc k) x is = inr (found xs k x is)
 
 -- ---- frames
