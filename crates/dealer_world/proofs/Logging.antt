@@ -1,5 +1,5 @@
 -- The log of a start, piece by piece.
-use Rattle.std.proofs.Common.{◌≡◌, ℕ, zero, suc, ◌+◌, Some, Result, Ok, Err, OnOk, List, [], ◌∷◌, ◌++◌, reverse, take, slice_get, ap, sym, ◌∙◌, append_assoc, arith}
+use Rattle.std.proofs.Common.{◌≡◌, ℕ, zero, suc, ◌+◌, Some, List, [], ◌∷◌, ◌++◌, reverse, take, slice_get, ap, sym, ◌∙◌, append_assoc, arith}
 use Rattle.std.proofs.lemmas.List.{reverse-append, append-nil}
 use Rattle.dealer_world.specs.Records.{Piece, logged_by, log_in, log_of}
 
@@ -43,7 +43,3 @@ next_piece pieces number piece node start old now after at is added =
     let next : suc number ≡ number + 1 = omega arith in
     let more : take number pieces ++ piece ∷ [] ≡ take (number + 1) pieces = sym (one_more pieces number piece at) ∙ ap (λ n. take n pieces) next in
     joined (take number pieces) (piece ∷ []) node start old now after is added ∙ ap (λ ps. old ++ log_of ps node start) more
-
-pub more_on_ok : {A E : Type 0} (result : Result A E) (P Q : Type 0) → (P → Q) → OnOk result P → OnOk result Q
-more_on_ok (Ok value) P Q gives is = gives is
-more_on_ok (Err fault) P Q gives is = is

@@ -57,15 +57,7 @@ module _ {D : Type 0} (g : Ghosts D) (honest : (disk : D) (image : List ℕ) →
       durable = durable;
     }
 
-pub on_ok : {T E : Type 0} (result : Result T E) (P Q : Type 0) → (P → Q) → OnOk result P → OnOk result Q
-on_ok (Ok x) P Q f p = f p
-on_ok (Err e) P Q f p = p
-
-pub on_ok_both : {T E : Type 0} (result : Result T E) (P Q R : Type 0) → (P → Q → R) → OnOk result P → OnOk result Q → OnOk result R
-on_ok_both (Ok x) P Q R f p q = f p q
-on_ok_both (Err e) P Q R f p q = p
-
--- the same where the first is known under a premise
+-- what follows at an Ok from two facts, the first of which is known under a premise
 pub on_ok_two : {T E : Type 0} (result : Result T E) (H P Q R : Type 0) → ((H → P) → Q → R) → (H → OnOk result P) → OnOk result Q → OnOk result R
 on_ok_two (Ok x) H P Q R f p q = f p q
 on_ok_two (Err e) H P Q R f p q = q

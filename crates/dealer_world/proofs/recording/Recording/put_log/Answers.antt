@@ -1,8 +1,9 @@
 use Rattle.std.proofs.Common.{◌≡◌, ◌∙◌, ◌++◌, Some, map, ap, sym, rules}
+use Rattle.std.proofs.lemmas.Result.{on_ok_weaker}
 use Rattle.dealer_world.specs.Records.{log_of}
 use Rattle.dealer_world.specs.Views.{piece_of}
 use Rattle.dealer_world.specs.Recordings.{Recorded, whole, text_by}
-use Rattle.dealer_world.proofs.Logging.{joined, more_on_ok}
+use Rattle.dealer_world.proofs.Logging.{joined}
 use Rattle.dealer_world.proofs.recording.Recording.put_log.Goals as goal
 
 pub returns-in-Some : goal.returns-in-Some
@@ -22,6 +23,6 @@ returns-in-Some c =
     shown
     ∙ (sym (ap (λ o. (whole r.frames.frames r.arrivals.arrivals r.starts.begun r.pieces.pieces r.last o).shown) is)
     ∙ ap (λ (k : Recorded). k.all.shown) c.self.view_is) in
-    more_on_ok c.put_told.result _ _
+    on_ok_weaker c.put_told.result
     (λ added. joined r.pieces.pieces told of.node of.start old now after kept added ∙ ap (λ pieces. old ++ log_of pieces of.node of.start) all)
     c.put_told.ensures
