@@ -1,5 +1,5 @@
 -- What is counted of the votes that came, from call to call.
-use Rattle.std.proofs.Common.{◌≡◌, ℕ, zero, suc, ◌<◌, ◌≤◌, ◌+◌, inl, inr, Bool, true, false, not, if◌then◌else◌, ◌==◌, List, [], ◌∷◌, Result, Ok, Err, refl, sym, ap, subst, ◌∙◌, arith, get_or, replicate}
+use Rattle.std.proofs.Common.{◌≡◌, ℕ, ◌<◌, ◌≤◌, ◌+◌, inl, inr, Bool, true, false, not, if◌then◌else◌, ◌==◌, List, [], ◌∷◌, Result, Ok, Err, refl, sym, ap, subst, ◌∙◌, arith}
 use Rattle.std.specs.Prelude.{nat_lt, IsOk}
 use Rattle.std.proofs.lemmas.Bool.{eqb-true, ltb-true, ltb-false}
 use Rattle.paxos_wire.specs.declared.limits.TheConstants.{WINDOW, SLOTS, NODES}
@@ -20,16 +20,12 @@ use Rattle.node_rules.specs.Turns.{Turn}
 use Rattle.node_rules.specs.Learning.{learning}
 use Rattle.node_rules.specs.Given.{Given}
 use Rattle.node_rules.specs.Being.{IsLearner}
+use Rattle.protocol_model.proofs.Sets.{none_marked}
 use Rattle.protocol_model.proofs.Ballots.{same_ballot}
 use Rattle.node_rules.proofs.Learning.{open_if}
 use Rattle.node_rules.proofs.Settled.{turn_is}
 
 -- ---- what was counted came
-
-none_has : (k node : ℕ) → get_or (replicate k false) node false ≡ false
-none_has zero node = refl
-none_has (suc k) zero = refl
-none_has (suc k) (suc node) = none_has k node
 
 -- the tally of a ballot and a command
 pub record Tallied (ballot : Ballot) (command : Command) (tallies : List Tally) (node : ℕ) : Type 0 where
@@ -61,7 +57,7 @@ tallied_by g ballot command tally tallies node true e later h =
 tallied_by g ballot command tally tallies node false e later h = more_tallied ballot command tallies node tally (later h)
 
 tallied : (g : Given) (ballot : Ballot) (command : Command) (tallies : List Tally) (node : ℕ) → has (nodes_for ballot command tallies) node ≡ true → Tallied ballot command tallies node
-tallied g ballot command [] node h = let clash : false ≡ true = sym (none_has NODES node) ∙ h in absurd (cc)
+tallied g ballot command [] node h = let clash : false ≡ true = sym (none_marked NODES node) ∙ h in absurd (cc)
 tallied g ballot command (tally ∷ tallies) node h =
     tallied_by g ballot command tally tallies node (is_of ballot command tally) refl (λ k. tallied g ballot command tallies node k) h
 

@@ -1,5 +1,5 @@
 -- A piece of a seat's bytes, connecting and dropping are paths.
-use Rattle.std.proofs.Common.{◌≡◌, ◌≢◌, ℕ, ◌<◌, ◌⊎◌, inl, inr, Bool, true, false, if◌then◌else◌, ◌==◌, cond, List, [], ◌∷◌, ◌++◌, Option, Some, None, Result, Err, refl, sym, ap, subst, ◌∙◌, arith, length, get_or, set, length-set, get_or-set_same, get_or-set_other, eq-eqb, ne_eqb}
+use Rattle.std.proofs.Common.{◌≡◌, ◌≢◌, ℕ, ◌<◌, ◌⊎◌, inl, inr, Bool, true, false, if◌then◌else◌, ◌==◌, List, [], ◌∷◌, ◌++◌, Option, Some, None, Result, Err, refl, sym, ap, subst, ◌∙◌, arith, length, get_or, set, length-set, get_or-set_same, get_or-set_other}
 use Rattle.std.specs.Option.{option_map}
 use Rattle.std.proofs.lemmas.List.{append-nil}
 use Rattle.std.proofs.lemmas.Bool.Decides.{eqb_tells}
@@ -21,17 +21,12 @@ use Rattle.node_rules.specs.Seats.{session_at, with_session, connecting, droppin
 use Rattle.node_rules.specs.Being.{IsTalk, IsSession, AreSessions}
 use Rattle.node_rules.specs.Called.{events_of}
 use Rattle.node_rules.specs.Given.{Given}
+use Rattle.protocol_model.proofs.Sets.{put_same, put_other}
 use Rattle.node_rules.proofs.Paths.{Hearing, Scope, first_in, Path, never}
 use Rattle.node_rules.proofs.Sitting.{with_heard, sit, drain, asks, no_pieces, drained, rest_drained}
 use Rattle.node_rules.proofs.Beginning.{Runs, hearing_of, begin}
 
 -- ---- sessions by seat
-
-put_same : {A : Type 0} (map : ℕ → A) (k : ℕ) (x : A) → put map k x k ≡ x
-put_same map k x = ap (λ b. cond b x (map k)) (eq-eqb k k refl)
-
-put_other : {A : Type 0} (map : ℕ → A) (k : ℕ) (x : A) (j : ℕ) → j ≢ k → put map k x j ≡ map j
-put_other map k x j ne = ap (λ b. cond b x (map j)) (ne_eqb j k ne)
 
 -- two that are the same by seat
 session_is : (game : Game) (seat other : ℕ) (v w : Option Talk) (h k : Option (List ℕ)) → seat ≡ other → v ≡ w → h ≡ k → IsSession game seat v h → IsSession game other w k
