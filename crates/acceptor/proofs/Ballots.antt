@@ -1,15 +1,11 @@
 -- The tests of ballots, and what they tell.
-use Rattle.std.proofs.Common.{◌≡◌, inl, inr, Bool, true, false, refl, ap, arith, ◌==◌, if◌then◌else◌}
+use Rattle.std.proofs.Common.{◌≡◌, inl, inr, Bool, true, false, refl, arith, ◌==◌, if◌then◌else◌}
 use Rattle.std.specs.Prelude.{◌↔◌}
-use Rattle.std.proofs.lemmas.Bool.{lt-ltb, le-ltb, eqb-false, eq-eqb}
+use Rattle.std.proofs.lemmas.Bool.{eqb-false}
 use Rattle.paxos_wire.specs.declared.ballot.Ballot.{Ballot}
 use Rattle.protocol_model.specs.Ballots.{Below, AtMost}
 use Rattle.paxos_wire.specs.Order.{is_below, is_same_ballot}
-use Rattle.protocol_model.proofs.Ballots.{below_if, same_if}
-
-pub is_below_if : (a b : Ballot) → Below a b → is_below a b ≡ true
-is_below_if a b (inl lower) = rw (lt-ltb a.round b.round lower) refl
-is_below_if a b (inr same) = let e = same.0 in rw (le-ltb a.round b.round (omega arith), eq-eqb a.round b.round e) (lt-ltb a.node b.node same.1)
+use Rattle.protocol_model.proofs.Ballots.{below_if, is_below_if, same_if, is_same_if}
 
 pub below_is_tested : (a b : Ballot) → (is_below a b ≡ true) ↔ Below a b
 below_is_tested a b = (below_if a b, is_below_if a b)
@@ -20,9 +16,6 @@ false_by a b isnt false e = refl
 
 pub is_below_not : (a b : Ballot) → ¬ Below a b → is_below a b ≡ false
 is_below_not a b isnt = false_by a b isnt (is_below a b) refl
-
-pub is_same_if : (a b : Ballot) → a ≡ b → is_same_ballot a b ≡ true
-is_same_if a b e = rw (eq-eqb a.round b.round (ap (λ (x : Ballot). x.round) e)) (eq-eqb a.node b.node (ap (λ (x : Ballot). x.node) e))
 
 pub same_is_tested : (a b : Ballot) → (is_same_ballot a b ≡ true) ↔ (a ≡ b)
 same_is_tested a b = (same_if a b, is_same_if a b)

@@ -12,8 +12,8 @@ use Rattle.protocol_model.specs.Backing.{IsWithinPromise}
 use Rattle.acceptor.specs.Answers.{has_voted, command_in, prepared, accepted}
 use Rattle.paxos_wire.specs.Order.{is_below, is_same_ballot}
 use Rattle.acceptor.specs.Laws.{IsPromised, IsNotPromised, IsAccepted, IsNotAccepted}
-use Rattle.protocol_model.proofs.Ballots.{at_most_trans, at_most_self, at_most_of_below, not_below, below_if, at_most_if_not, same_if}
-use Rattle.acceptor.proofs.Ballots.{is_below_if, is_below_not, is_same_if, differ}
+use Rattle.protocol_model.proofs.Ballots.{at_most_trans, at_most_self, at_most_of_below, not_below, below_if, is_below_if, at_most_if_not, same_if, is_same_if}
+use Rattle.acceptor.proofs.Ballots.{is_below_not, differ}
 
 abbrev new_vote : Ballot → Command → Vote
 new_vote b c = record { ballot = b; command = c }

@@ -1,5 +1,5 @@
 -- What is sent is backed, and stays so.
-use Rattle.std.proofs.Common.{◌≡◌, ℕ, ◌⊎◌, inl, inr, ◌==◌, Bool, true, false, true≢false, if◌then◌else◌, List, [], ◌∷◌, Option, Some, None, Result, Ok, Err, refl, sym, ap, subst, ◌∙◌, eq-eqb}
+use Rattle.std.proofs.Common.{◌≡◌, ℕ, ◌⊎◌, inl, inr, Bool, true, false, true≢false, if◌then◌else◌, List, [], ◌∷◌, Option, Some, None, Result, Ok, Err, refl, sym, ap, subst, ◌∙◌}
 use Rattle.paxos_wire.specs.declared.ballot.Ballot.{Ballot}
 use Rattle.paxos_wire.specs.declared.message.Message.{Message as Wire}
 use Rattle.paxos_wire.specs.declared.message.Message.TheVariants as frame
@@ -14,7 +14,7 @@ use Rattle.protocol_model.specs.Dealers.{Dealer}
 use Rattle.protocol_model.specs.Nodes.{Node}
 use Rattle.protocol_model.specs.Worlds.{World, Reached, new_world}
 use Rattle.protocol_model.specs.Laws.{IsLeft}
-use Rattle.paxos_wire.specs.Order.{is_below, is_same_ballot}
+use Rattle.paxos_wire.specs.Order.{is_below}
 use Rattle.proposer.specs.Campaigns.{next_ballot}
 use Rattle.learner.specs.Learning.{Learned, answer_to, hearing, answer_to_chosen, believing as with_chosen}
 use Rattle.seat_session.specs.Session.{Standing as Talk}
@@ -41,7 +41,7 @@ use Rattle.node_rules.specs.Given.{Given}
 use Rattle.node_rules.specs.Sound.{Stands}
 use Rattle.node_rules.specs.LawsBacking.{SentIsBacked, BackedStaysSo}
 use Rattle.protocol_model.proofs.Sets.{in_first}
-use Rattle.protocol_model.proofs.Ballots.{at_most_self, below_if, at_most_if_not}
+use Rattle.protocol_model.proofs.Ballots.{at_most_self, below_if, at_most_if_not, is_same_if}
 use Rattle.node_rules.proofs.Ordering.{higher_is}
 use Rattle.node_rules.proofs.Ticking.{above}
 use Rattle.node_rules.proofs.Chaining.{ok_is, ok_not, turns_are_chains}
@@ -139,16 +139,13 @@ keeps_by : (old new same : Store) → new ≡ same → Keeps old same → Keeps 
 keeps_by old new same e keeps m h = subst (λ (st : Store). Backs st m) (sym e) (keeps m h)
 
 -- a vote of a ballot of which there is none
-same_is : (a c : Ballot) → a ≡ c → is_same_ballot a c ≡ true
-same_is a c e = ap (λ b. if b then a.node == c.node else false) (eq-eqb a.round c.round (ap (λ (x : Ballot). x.round) e)) ∙ eq-eqb a.node c.node (ap (λ (x : Ballot). x.node) e)
-
 storing_by : (b : Backing) (store : Store) (ballot : Ballot) (slot : ℕ) (command : Command) (of : Bool) → is_of_ballot (store.votes slot) ballot ≡ of → IsWithinPromise store → AtMost store.promise ballot
     → Keeps store (if of then store else voted store slot (record { ballot = ballot; command = command }))
 storing_by b store ballot slot command true e within above m h = h
 storing_by b store ballot slot command false e within above m h =
     let vote : Vote = record { ballot = ballot; command = command } in
     b.vote store slot vote m within above
-    (λ found ef same. absurd (true≢false (sym (ap (λ (o : Option Vote). is_of_ballot o ballot) ef ∙ same_is found.ballot ballot same) ∙ e))) h
+    (λ found ef same. absurd (true≢false (sym (ap (λ (o : Option Vote). is_of_ballot o ballot) ef ∙ is_same_if found.ballot ballot same) ∙ e))) h
 
 accept_keeps : (b : Backing) (place : Place) (from : ℕ) (ballot : Ballot) (slot : ℕ) (command : Command) (s : Standing) (first : Turn) (low : Bool) → is_below ballot s.store.promise ≡ low
     → IsWithinPromise s.store → (if low then Ok (refusing from ballot slot s) else voting place ballot slot command (idle s)) ≡ Ok first → Keeps s.store first.after.store

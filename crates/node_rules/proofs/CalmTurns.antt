@@ -40,7 +40,7 @@ use Rattle.node_rules.specs.Rules.{seeing, taking, asking, on_message}
 use Rattle.node_rules.specs.Calm.{IsLeastQuorum, ballot_after, IsGreatestHeld, IsOwn}
 use Rattle.node_rules.specs.CalmRound.{place_in}
 use Rattle.node_rules.specs.Given.{Given}
-use Rattle.protocol_model.proofs.Ballots.{at_most_self, not_below, below_if, at_most_if_not}
+use Rattle.protocol_model.proofs.Ballots.{at_most_self, not_below, below_if, is_below_if}
 use Rattle.node_rules.proofs.Closing.{none_of_ballot, stored_new}
 use Rattle.node_rules.proofs.Halting.{unled_by}
 use Rattle.node_rules.proofs.Settled.{one_counted, three_nodes, PassesOver, passes_over, counted_is, proposal_is, turn_made, Fresh, made_turn, unmarked, marked_none, asked_same}
@@ -54,13 +54,6 @@ use Rattle.protocol_model.proofs.Quorums.{count_within}
 use Rattle.protocol_model.proofs.Sets.{none_marked}
 
 -- ---- tests
-
-below_of : (a b : Ballot) → Below a b → is_below a b ≡ true
-below_of a b h = by_test (is_below a b) refl
-  where
-    by_test : (t : Bool) → is_below a b ≡ t → is_below a b ≡ true
-    by_test true e = e
-    by_test false e = absurd (not_below b a (at_most_if_not a b e) h)
 
 not_below_self : (b : Ballot) → is_below b b ≡ false
 not_below_self b = by_test (is_below b b) refl
@@ -263,7 +256,7 @@ pub prepare_turn : (r : Round) → IsRest r → (j : ℕ) → In j r.members
 prepare_turn r rest j h =
     message_turn (place_at r j) r.i (prepare_in r) (r.standings j) (promised_turn r j) (still (promised_turn r j).after)
     (ap (λ (b : Bool). let x : Result Turn Refusal = Ok (if b then promised_turn r j else refusing r.i (ballot_in r) (slot_in r) (seeing (prepare_in r) (r.standings j))) in x)
-    (below_of (r.standings j).store.promise (ballot_in r) (rest.above j h)))
+    (is_below_if (r.standings j).store.promise (ballot_in r) (rest.above j h)))
     (unled_close (place_at r j) (promised_turn r j).after refl)
 
 -- ---- a Promise

@@ -1,6 +1,6 @@
 -- The order of ballots, and what the tests of it tell.
-use Rattle.std.proofs.Common.{◌≡◌, ℕ, zero, suc, ◌<◌, ◌≤◌, ◌⊎◌, inl, inr, Bool, true, false, ◌==◌, if◌then◌else◌, refl, sym, ◌∙◌, arith}
-use Rattle.std.proofs.lemmas.Bool.{eqb-true}
+use Rattle.std.proofs.Common.{◌≡◌, ℕ, zero, suc, ◌<◌, ◌≤◌, ◌⊎◌, inl, inr, Bool, true, false, ◌==◌, if◌then◌else◌, refl, sym, ap, ◌∙◌, arith}
+use Rattle.std.proofs.lemmas.Bool.{lt-ltb, le-ltb, eqb-true, eq-eqb}
 use Rattle.std.proofs.lemmas.Bool.Decides.{nat_tests}
 use Rattle.paxos_wire.specs.declared.ballot.Ballot.{Ballot}
 use Rattle.paxos_wire.specs.Order.{is_below, is_same_ballot}
@@ -49,6 +49,10 @@ below_cases a b = by (is_below a b) refl
 pub below_if : (a b : Ballot) → is_below a b ≡ true → Below a b
 below_if a b h = elim (below_cases a b) [ inl below ↦ below.1 | inr most ↦ let e : true ≡ false = sym h ∙ most.0 in absurd (cc) ]
 
+pub is_below_if : (a b : Ballot) → Below a b → is_below a b ≡ true
+is_below_if a b (inl lower) = rw (lt-ltb a.round b.round lower) refl
+is_below_if a b (inr same) = let e = same.0 in rw (le-ltb a.round b.round (omega arith), eq-eqb a.round b.round e) (lt-ltb a.node b.node same.1)
+
 -- what isn't below is at least
 pub at_most_if_not : (a b : Ballot) → is_below a b ≡ false → AtMost b a
 at_most_if_not a b h = elim (below_cases a b) [ inl below ↦ let e : true ≡ false = sym below.0 ∙ h in absurd (cc) | inr most ↦ most.1 ]
@@ -60,6 +64,9 @@ same_by a b false y ex ey h = absurd (cc)
 
 pub same_if : (a b : Ballot) → is_same_ballot a b ≡ true → a ≡ b
 same_if a b h = same_by a b _ _ refl refl h
+
+pub is_same_if : (a b : Ballot) → a ≡ b → is_same_ballot a b ≡ true
+is_same_if a b e = rw (eq-eqb a.round b.round (ap (λ (x : Ballot). x.round) e)) (eq-eqb a.node b.node (ap (λ (x : Ballot). x.node) e))
 
 -- ---- induction
 
