@@ -39,13 +39,10 @@ use Rattle.dealer_node.specs.Outs.{Told}
 use Rattle.dealer_node.specs.Posts.{Post, place_at}
 use Rattle.dealer_node.specs.Running.{IsRunning, IsTaken, CanLearn, ahead_of}
 use Rattle.dealer_node.specs.Working.{head_of, disk_under, StandsByIts, ComesTo, IsDone, IsUp, Took, Failed, Works, HasLeft}
-use Rattle.dealer_node.proofs.Worked.{OneAppends, done_behind, then_works, first_failed, works_from}
+use Rattle.dealer_node.proofs.Worked.{OneAppends, same_turn, done_behind, then_works, first_failed, works_from}
 use Rattle.dealer_node.proofs.Stored.{telling_keeps, telling_done}
 
 -- ---- either the store stays, or there is nothing to close
-
-same_turn : (a b : Turn) (r : Result Turn Refusal) → r ≡ Ok a → r ≡ Ok b → a ≡ b
-same_turn a b r d e = cc
 
 -- a node that leads nothing proposes nothing
 idle_closes : (place : Place) (s : Standing) → s.campaign ≡ None → closing place s ≡ Ok (still s)

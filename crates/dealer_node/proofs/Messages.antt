@@ -1,11 +1,12 @@
 -- Frames whose messages have a frame.
-use Rattle.std.proofs.Common.{◌≡◌, ℕ, ◌+◌, List, [], ◌∷◌, ◌++◌, refl, ap, sym, ◌∙◌, subst, inl, inr, add-one, eq-eqb, Bool, true, false}
+use Rattle.std.proofs.Common.{◌≡◌, ℕ, ◌+◌, List, [], ◌++◌, refl, ap, sym, ◌∙◌, subst, inl, inr, add-one, eq-eqb, Bool, true, false}
 use Rattle.std.specs.Prelude.{◌==◌, if◌then◌else◌, nat_lt}
 use Rattle.std.proofs.lemmas.Bool.{ne_eqb}
 use Rattle.paxos_wire.specs.Fits.{IsMessage}
 use Rattle.paxos_wire.specs.declared.message.Message.{Message}
 use Rattle.paxos_wire.specs.declared.message.Message.TheVariants.{Ask}
 use Rattle.protocol_model.specs.Sets.{In}
+use Rattle.protocol_model.proofs.Sets.{in_split}
 use Rattle.protocol_model.specs.Stores.{Store}
 use Rattle.node_rules.specs.Standings.{Place}
 use Rattle.node_rules.specs.Sending.{Frame, one, to_first, to_others}
@@ -22,13 +23,8 @@ one_said to message is frame (inr there) = absurd there
 pub one_message : (to : ℕ) (message : Message) → IsMessage message → AreMessages (one to message)
 one_message to message is = λ frame there. one_said to message is frame there
 
-both_said : (first next : List Frame) → AreMessages first → AreMessages next → (frame : Frame) → In frame (first ++ next) → IsMessage frame.message
-both_said [] next a b frame there = b frame there
-both_said (f ∷ first) next a b frame (inl e) = a frame (inl e)
-both_said (f ∷ first) next a b frame (inr there) = both_said first next (λ other k. a other (inr k)) b frame there
-
 pub both_messages : (first next : List Frame) → AreMessages first → AreMessages next → AreMessages (first ++ next)
-both_messages first next a b = λ frame there. both_said first next a b frame there
+both_messages first next a b frame there = elim (in_split first next frame there) [ inl i ↦ a frame i | inr j ↦ b frame j ]
 
 -- ---- to all nodes but one
 

@@ -1,7 +1,7 @@
 -- One seat's session among all.
 use Rattle.std.proofs.Common.{◌≡◌, ◌≢◌, ℕ, zero, suc, ◌+◌, ◌≤◌, ◌<◌, true, false, List, [], ◌∷◌, inl, inr, eqb, refl, ap, sym, ◌∙◌, subst, length, get_or, arith}
 use Rattle.std.proofs.Math.ListN.{set, get_or-map}
-use Rattle.std.proofs.lemmas.List.{map-set, set-get_or, get_or-set_same, get_or-set_other, append-nil}
+use Rattle.std.proofs.lemmas.List.{map-set, set-get_or, get_or-set_same, get_or-set_other}
 use Rattle.std.proofs.lemmas.Bool.Decides.{eqb_tells}
 use Rattle.std.specs.Prelude.{Option, Some, None, Result, map, replicate, IfSome, ◌⊎◌}
 use Rattle.paxos_wire.specs.declared.ballot.Ballot.{Ballot}
@@ -17,13 +17,13 @@ use Rattle.std.specs.Prelude.{Ok, Err}
 use Rattle.node_rules.specs.Standings.{Place, Standing, hands_at}
 use Rattle.node_rules.specs.Turns.{Turn, still, joined}
 use Rattle.node_rules.specs.Seats.{session_at, with_session, answering, answering_all, Drains, left, HearsPiece}
-use Rattle.dealer_node.specs.Outs.{Told, both_told}
-use Rattle.dealer_node.specs.Turned.{told_of, talk_of, talks}
+use Rattle.dealer_node.specs.Outs.{Told}
+use Rattle.dealer_node.specs.Turned.{talk_of, talks}
 use Rattle.dealer_node.specs.Hearing.{IsHeard, CanHear, HearsPiece as Heard}
 use Rattle.dealer_node.specs.Seated.{Seated, without_room, HasRoomAt, feeds_with, IsSeatedAt, PieceTurn}
 use Rattle.dealer_node.specs.SeatsInside.{AreOwn, room_of}
 use Rattle.dealer_node.proofs.Messages.{no_messages}
-use Rattle.dealer_node.proofs.Telling.{same_told}
+use Rattle.dealer_node.proofs.Worked.{nothing_more}
 
 abbrev Answer : Type 0
 Answer = Result Said SessionFault
@@ -41,9 +41,6 @@ all_change place seat (said ∷ more) turn =
     let next = joined turn (answering place seat said turn.after) in
     all_change place seat more next
     ∙ ap (λ (s : Standing). record s { pending = (answering_all place seat more next).after.pending }) (one_changes place seat said turn.after)
-
-nothing_more : (told : Told) (s : Standing) → told ≡ both_told told (told_of (still s))
-nothing_more told s = same_told _ _ _ _ _ _ (sym (append-nil told.frames)) (sym (append-nil told.shown)) (sym (append-nil told.faults))
 
 drains_there : (game other : Game) (hands there : List Hand) (seat : ℕ) (old : Talk) (answers : List Answer) (new : Talk) → game ≡ other → hands ≡ there → Drains game hands seat old answers new → Drains other there seat old answers new
 drains_there game other hands there seat old answers new a b d = subst (λ h. Drains other h seat old answers new) b (subst (λ g. Drains g hands seat old answers new) a d)

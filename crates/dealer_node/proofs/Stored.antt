@@ -55,7 +55,7 @@ use Rattle.dealer_node.proofs.Telling.{told_with, frames_more}
 use Rattle.dealer_node.proofs.Learned.{stored_too}
 use Rattle.dealer_node.proofs.Still.{told_to_none, of_refusal}
 use Rattle.protocol_model.proofs.Sets.{in_first}
-use Rattle.dealer_node.proofs.Worked.{nothing_more, memory_took, then_works, works_from}
+use Rattle.dealer_node.proofs.Worked.{nothing_more, same_turn, memory_took, then_works, works_from}
 
 -- ---- what is told
 
@@ -174,9 +174,6 @@ pub record KeepsStore (s after : Standing) : Type 0 where
   pub store : after.store ≡ s.store
   pub begun : after.begun ≡ s.begun
   pub campaign : after.campaign ≡ s.campaign
-
-same_turn : (a b : Turn) (r : Result Turn Refusal) → r ≡ Ok a → r ≡ Ok b → a ≡ b
-same_turn a b r d e = cc
 
 learning_keeps : {A : Type 0} (place : Place) (answer : Result A SlotFault) (learned : Learned) (s : Standing) (first turn : Turn) → behind first (learning place answer learned s) ≡ Ok turn → KeepsStore s turn.after
 learning_keeps place (Ok answer) learned s first turn rule =

@@ -1,5 +1,5 @@
 -- What a part of a call makes of what runs.
-use Rattle.std.proofs.Common.{◌≡◌, ℕ, ◌≤◌, ◌+◌, inl, inr, Bool, true, false, List, ◌++◌, Result, Ok, Err, refl, sym, ap, subst, ◌∙◌, append_assoc}
+use Rattle.std.proofs.Common.{◌≡◌, ℕ, ◌≤◌, ◌+◌, inl, inr, Bool, true, false, List, Result, Ok, Err, refl, sym, ap, subst, ◌∙◌, append_assoc}
 use Rattle.std.proofs.lemmas.List.{append-nil}
 use Rattle.std.specs.Prelude.{◌⊎◌, Option, Some, None, map}
 use Rattle.promise_store.specs.declared.disk.Disk.{Ghosts}
@@ -8,10 +8,9 @@ use Rattle.promise_store.specs.Disks.{During}
 use Rattle.promise_store.specs.Holding.{StandsFor}
 use Rattle.promise_store.specs.Keeping.{Keeps, Leaves, LeavesDuring}
 use Rattle.acceptor.specs.Stored.{store_of}
-use Rattle.protocol_model.proofs.Sets.{in_first, in_later, in_split}
+use Rattle.protocol_model.proofs.Sets.{in_first, in_later}
 use Rattle.protocol_model.specs.Stores.{Store}
 use Rattle.node_rules.specs.Standings.{Place, Standing, idle}
-use Rattle.node_rules.specs.Sending.{Frame}
 use Rattle.node_rules.specs.Turns.{Turn, Refusal, Conflict, still, joined, behind, and_then}
 use Rattle.dealer_node.specs.declared.up.Up.{Up}
 use Rattle.dealer_node.specs.declared.running.Running.{Running}
@@ -23,15 +22,11 @@ use Rattle.dealer_node.specs.Turned.{told_of, posted, printed, fault_of}
 use Rattle.dealer_node.specs.Fitting.{AreMessages}
 use Rattle.dealer_node.specs.Running.{IsRunning}
 use Rattle.dealer_node.specs.Working.{head_of, disk_under, StandsByIts, ComesTo, IsDone, IsUp, Took, Failed, Clashed, Works}
+use Rattle.dealer_node.proofs.Messages.{both_messages}
 use Rattle.dealer_node.proofs.Telling.{told_more, same_told}
 
 pub nothing_more : (told : Told) (s : Standing) → told ≡ both_told told (told_of (still s))
 nothing_more told s = same_told _ _ _ _ _ _ (sym (append-nil told.frames)) (sym (append-nil told.shown)) (sym (append-nil told.faults))
-
--- ---- frames
-
-pub both_are : (first next : List Frame) → AreMessages first → AreMessages next → AreMessages (first ++ next)
-both_are first next a b one at = elim (in_split first next one at) [ inl i ↦ a one i | inr j ↦ b one j ]
 
 -- ---- moments
 
@@ -69,7 +64,7 @@ left_by head images old middle new (inr e) leaves image at =
 abbrev pub OneAppends : Standing → Standing → Result Turn Refusal → Type 0
 OneAppends s middle next = (middle.store ≡ s.store) ⊎ ((turn : Turn) × (next ≡ Ok turn) × (turn.after.store ≡ middle.store) × (turn.after.begun ≡ middle.store))
 
-same_turn : (a b : Turn) (r : Result Turn Refusal) → r ≡ Ok a → r ≡ Ok b → a ≡ b
+pub same_turn : (a b : Turn) (r : Result Turn Refusal) → r ≡ Ok a → r ≡ Ok b → a ≡ b
 same_turn a b r d e = cc
 
 appends_once : (s middle : Standing) (next : Result Turn Refusal) (turn : Turn) → OneAppends s middle next → next ≡ Ok turn → (middle.store ≡ s.store) ⊎ (turn.after.store ≡ middle.store)
@@ -128,7 +123,7 @@ module _ {D : Type 0} (g : Ghosts D) where
     rule = ap (λ (o : Result Turn Refusal). and_then o next) first.rule ∙ ap (behind first.turn) second.rule;
     now = second.now;
     told = told_more first.turn second.turn earlier middle later first.told second.told;
-    fits = both_are first.turn.frames second.turn.frames first.fits second.fits;
+    fits = both_messages first.turn.frames second.turn.frames first.fits second.fits;
     moments = left_during (head_of post) _ _ _ s.store first.turn.after.store second.turn.after.store (appends_once s first.turn.after (next first.turn.after) second.turn once second.rule) first.moments second.moments;
     untouched = λ still.
         second.untouched (λ sent at. still sent (in_later first.turn.frames second.turn.frames sent at)) ∙ first.untouched (λ sent at. still sent (in_first first.turn.frames second.turn.frames sent at));
