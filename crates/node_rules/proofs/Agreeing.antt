@@ -12,6 +12,7 @@ use Rattle.protocol_model.specs.Moves.{Output, Move, gets, connects, drops, clos
 use Rattle.protocol_model.specs.Worlds.{World, start, more as further, IsAfter, Reached}
 use Rattle.node_rules.specs.Given.{Given}
 use Rattle.protocol_model.proofs.Sets.{in_later, in_split}
+use Rattle.node_rules.proofs.Proposed.{accept_is}
 use Rattle.node_rules.proofs.Sourcing.{had_was_sent}
 use Rattle.node_rules.proofs.Voting.{voted_is}
 
@@ -43,9 +44,6 @@ pub record IsNew (old : Node) (ballot : Ballot) (slot : ℕ) : Type 0 where
   pub first : ℕ
   pub began : In (Prepare ballot first) old.sent
   pub once : (other : Command) → In (Accept ballot slot other) old.sent → ⊥
-
-accept_is : (a b : Ballot) (s t : ℕ) (c d : Command) → ◌≡◌ {A = Message} (Accept a s c) (Accept b t d) → (a ≡ b) × (s ≡ t) × (c ≡ d)
-accept_is a b s t c d e = ((let k : a ≡ b = cc in k), (let k : s ≡ t = cc in k), (let k : c ≡ d = cc in k))
 
 -- the one that is sent by it, too
 pub record ProposedBy (old : Node) (out : Output) (ballot : Ballot) (slot : ℕ) (command : Command) : Type 0 where

@@ -34,9 +34,6 @@ use Rattle.node_rules.proofs.CalmRound.{rounds_go_on}
 
 -- ---- a ballot that its node may begin has no proposal
 
-accept_is : (a b : Ballot) (s t : ℕ) (c d : Command) → ◌≡◌ {A = Message} (Accept a s c) (Accept b t d) → (a ≡ b) × (s ≡ t) × (c ≡ d)
-accept_is a b s t c d e = ((let k : a ≡ b = cc in k), (let k : s ≡ t = cc in k), (let k : c ≡ d = cc in k))
-
 unproposed : (g : Given) (dealer : Dealer) (n i : ℕ) (world : World) (ballot : Ballot) (slot : ℕ) (c : Command) → Reached dealer n world → i < n → (world.nodes i).up ≡ true
     → ballot.node ≡ i → Below (world.nodes i).store.promise ballot → ((b : Ballot) (s : ℕ) (d : Command) → In (Accept b s d) (world.nodes i).sent → Below (world.nodes i).store.promise b → ⊥)
     → In (Accept ballot slot c) world.ever → ⊥

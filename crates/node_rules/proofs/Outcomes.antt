@@ -44,6 +44,7 @@ use Rattle.node_rules.specs.Given.{Given}
 use Rattle.node_rules.specs.Sound.{Stands}
 use Rattle.node_rules.specs.Outcomes.{IsTaken, IsAnswered, FrontIsUnknown, IsAhead, ToldIsKnown, in_time, Brings, came as brought, own_vote, HasVote, VotesStayInTime, QuorumIsKnown}
 use Rattle.protocol_model.proofs.Ballots.{below_if, not_below, same_if}
+use Rattle.node_rules.proofs.Proposed.{accept_is}
 use Rattle.node_rules.proofs.Paths.{Hearing, Scope, first_in, Path, Goes, never}
 use Rattle.node_rules.proofs.Beginning.{Runs, hearing_of, begin}
 use Rattle.node_rules.proofs.Framing.{stood, taken}
@@ -213,9 +214,6 @@ plain_stage place s called node m old new one plain grows = record {
 
 accepted_is : (voter from : ℕ) (a b : Ballot) (k l : ℕ) (c d : Command) → ◌≡◌ {A = Message} (Accepted voter a k c) (Accepted from b l d) → (voter ≡ from) × (a ≡ b) × (k ≡ l) × (c ≡ d)
 accepted_is voter from a b k l c d e = ((let y : voter ≡ from = cc in y), (let y : a ≡ b = cc in y), (let y : k ≡ l = cc in y), (let y : c ≡ d = cc in y))
-
-accept_is : (a b : Ballot) (k l : ℕ) (c d : Command) → ◌≡◌ {A = Message} (Accept a k c) (Accept b l d) → (a ≡ b) × (k ≡ l) × (c ≡ d)
-accept_is a b k l c d e = ((let y : a ≡ b = cc in y), (let y : k ≡ l = cc in y), (let y : c ≡ d = cc in y))
 
 vote_is : (v w : Vote) → ◌≡◌ {A = Option Vote} (Some v) (Some w) → v ≡ w
 vote_is v w e = cc

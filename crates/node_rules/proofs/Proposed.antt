@@ -97,7 +97,7 @@ slot_old : (store : Store) (slot k : ℕ) (vote found : Vote) (b : Bool) → (k 
 slot_old store slot k vote found true e other h = absurd (other (eqb-true k slot e))
 slot_old store slot k vote found false e other h = h
 
-accept_is : (a b : Ballot) (s t : ℕ) (c d : Command) → ◌≡◌ {A = Message} (Accept a s c) (Accept b t d) → (a ≡ b) × (s ≡ t) × (c ≡ d)
+pub accept_is : (a b : Ballot) (s t : ℕ) (c d : Command) → ◌≡◌ {A = Message} (Accept a s c) (Accept b t d) → (a ≡ b) × (s ≡ t) × (c ≡ d)
 accept_is a b s t c d e = ((let k : a ≡ b = cc in k), (let k : s ≡ t = cc in k), (let k : c ≡ d = cc in k))
 
 -- the node proposes the value at its front and votes for it
