@@ -41,9 +41,9 @@ use Rattle.node_rules.specs.Calm.{IsLeastQuorum, ballot_after, IsGreatestHeld, I
 use Rattle.node_rules.specs.CalmRound.{place_in}
 use Rattle.node_rules.specs.Given.{Given}
 use Rattle.protocol_model.proofs.Ballots.{at_most_self, not_below, below_if, is_below_if}
-use Rattle.node_rules.proofs.Closing.{none_of_ballot, stored_new}
+use Rattle.node_rules.proofs.Closing.{none_of_ballot, stored_new, unmarked}
 use Rattle.node_rules.proofs.Halting.{unled_by}
-use Rattle.node_rules.proofs.Settled.{one_counted, three_nodes, PassesOver, passes_over, counted_is, proposal_is, turn_made, Fresh, made_turn, unmarked, marked_none, asked_same}
+use Rattle.node_rules.proofs.Settled.{one_counted, three_nodes, PassesOver, passes_over, counted_is, proposal_is, turn_made, Fresh, made_turn, marked_none, asked_same}
 use Rattle.node_rules.proofs.Learning.{open_if}
 use Rattle.node_rules.proofs.Electing.{covered}
 use Rattle.node_rules.proofs.Counting.{Counts, counts_vote}

@@ -343,16 +343,16 @@ stored_new (Some v) ballot command e = ap (λ (b : Bool). if b then v.command el
 
 -- ---- the close
 
+pub unmarked : (c : Option Campaign) → marked_from c (Ok None) ≡ c
+unmarked None = refl
+unmarked (Some c) = refl
+
 closes_by : (x : Scope) (came : List Arrival) (heard : Hearing) (t : Turn) (ends : x.ends ≡ true) (p : Path x came heard (applied t.after) t) (r : Result (Option Made) ProposeFault)
     → proposal_at x.place t.after ≡ r
     → Goes x came heard (behind t (closing_by x.place r (record t.after { campaign = marked_from t.after.campaign r })))
 closes_by x came heard t ends p (Ok None) e =
     subst (λ (c : Option Campaign). Path x came heard (applied t.after) (joined t (still (record t.after { campaign = c })))) (sym (unmarked t.after.campaign))
     (go_on x came heard (applied t.after) t p)
-  where
-    unmarked : (c : Option Campaign) → marked_from c (Ok None) ≡ c
-    unmarked None = refl
-    unmarked (Some c) = refl
 closes_by x came heard t ends p (Err fault) e = rest x came heard t p (λ b f st near left. outside b f st near left t.after.campaign refl e)
   where
     covered_by : (low high : Bool) (c : Campaign) → nat_lt (front_of t.after) c.first ≡ low → nat_lt (front_of t.after) (c.first + WINDOW) ≡ high

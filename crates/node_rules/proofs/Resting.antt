@@ -35,7 +35,7 @@ use Rattle.node_rules.specs.Being.{Campaigns}
 use Rattle.node_rules.proofs.Sourcing.{had_was_sent}
 use Rattle.node_rules.proofs.Paths.{Hearing, Scope, dealer_in, Path, Goes}
 use Rattle.node_rules.proofs.Learning.{world_now, open_if}
-use Rattle.node_rules.proofs.Closing.{IsMade, made_by, campaigns_of, none_of_ballot, stored_new}
+use Rattle.node_rules.proofs.Closing.{IsMade, made_by, campaigns_of, none_of_ballot, stored_new, unmarked}
 
 -- ---- a quorum has a member that isn't this node
 
@@ -157,10 +157,6 @@ counted_still place from ballot slot command s none =
 pub record IsRest (place : Place) (s : Standing) : Type 0 where
   pub in_range : (leads place.nodes s.campaign && nat_le SLOTS (front_of s)) ≡ false
   pub nothing : proposal_at place s ≡ Ok None
-
-unmarked : (c : Option Campaign) → marked_from c (Ok None) ≡ c
-unmarked None = refl
-unmarked (Some c) = refl
 
 -- then a close changes nothing
 rest_by : (place : Place) (s : Standing) (b : Bool) (r : Result (Option Made) ProposeFault) → b ≡ false → r ≡ Ok None

@@ -39,7 +39,7 @@ use Rattle.node_rules.specs.Proposed.{IsSettled}
 use Rattle.node_rules.specs.Rules.{asking}
 use Rattle.node_rules.proofs.Paths.{Hearing, Scope, dealer_in, Path, Goes}
 use Rattle.node_rules.proofs.Learning.{open_if, world_now}
-use Rattle.node_rules.proofs.Closing.{IsMade, made_by, campaigns_of, none_of_ballot, stored_new}
+use Rattle.node_rules.proofs.Closing.{IsMade, made_by, campaigns_of, none_of_ballot, stored_new, unmarked}
 use Rattle.node_rules.proofs.Sourcing.{had_was_sent}
 
 -- ---- a node's own vote is no quorum
@@ -336,10 +336,6 @@ made_settled place s c made has room f leads_on = (
 
     f_log : (hearing s.learned place.node made.ballot made.slot made.command).log ≡ s.learned.log
     f_log = ap (λ (l : Log). l) f.over.log
-
-pub unmarked : (c : Option Campaign) → marked_from c (Ok None) ≡ c
-unmarked None = refl
-unmarked (Some c) = refl
 
 closed_by : (x : Scope) (came : List Arrival) (heard : Hearing) (t : Turn) (p : Path x came heard (applied t.after) t) (b : Bool) (r : Result (Option Made) ProposeFault) (c : Turn)
     → (leads x.place.nodes t.after.campaign && nat_le SLOTS (front_of t.after)) ≡ b → proposal_at x.place t.after ≡ r
