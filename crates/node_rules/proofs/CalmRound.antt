@@ -27,10 +27,10 @@ use Rattle.node_rules.specs.Calm.{Rise, without, Event, Ticks, delivers, round}
 use Rattle.node_rules.specs.CalmRound.{place_in, node_of, call_of, Sent, sent_by, IsOnItsWay, AreReadBack, GoOn, HasMovedOn}
 use Rattle.protocol_model.proofs.Sets.{in_first, in_later}
 use Rattle.node_rules.proofs.Voting.{voted_is}
-use Rattle.node_rules.proofs.Settled.{three_nodes, asked_same, marked_at}
+use Rattle.node_rules.proofs.Settled.{asked_same, marked_at}
 use Rattle.node_rules.proofs.Electing.{covered}
 use Rattle.node_rules.proofs.Counting.{Counts, counts_vote}
-use Rattle.node_rules.proofs.Members.{AreDistinct, above_all, rise_distinct, without_in, in_without, without_rise, without_length}
+use Rattle.node_rules.proofs.Members.{AreDistinct, above_all, rise_distinct, without_in, in_without, without_rise, without_length, three_nodes}
 use Rattle.node_rules.proofs.CalmTurns.{Round, place_at, ballot_in, slot_in, told_in, stores_in, IsRest, no_vote, begun_counted, begun_turn, tick_turn, prepare_in, promise_in, promised_turn, prepare_turn, IsPreparing, with_counted, preparing_more, promise_turn, made_in, completed_turn, completing_turn, accept_in, accepted_in, HasPromised, accepted_turn, accept_turn, IsLeading, with_heard_vote, accepted_goes, leading_more, LastTurn, last_turn, more_counted, not_refused, is_ahead, unknown, ok_if, new_over}
 
 -- ---- standings, one changed

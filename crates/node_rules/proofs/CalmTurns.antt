@@ -43,13 +43,13 @@ use Rattle.node_rules.specs.Given.{Given}
 use Rattle.protocol_model.proofs.Ballots.{at_most_self, not_below, below_if, is_below_if}
 use Rattle.node_rules.proofs.Closing.{none_of_ballot, stored_new, unmarked}
 use Rattle.node_rules.proofs.Halting.{unled_by}
-use Rattle.node_rules.proofs.Settled.{one_counted, three_nodes, PassesOver, passes_over, counted_is, proposal_is, turn_made, Fresh, made_turn, marked_none, asked_same}
+use Rattle.node_rules.proofs.Settled.{PassesOver, passes_over, counted_is, proposal_is, turn_made, Fresh, made_turn, marked_none, asked_same}
 use Rattle.node_rules.proofs.Learning.{open_if}
 use Rattle.node_rules.proofs.Electing.{covered}
 use Rattle.node_rules.proofs.Counting.{Counts, counts_vote}
 use Rattle.node_rules.proofs.Ticking.{few_nodes}
 use Rattle.node_rules.proofs.CalmPromises.{IsCounted, new_counted, quorum_is, counts_more, Agree, greatest_value, own_is_value}
-use Rattle.node_rules.proofs.Members.{is_in, in_is, is_in_in, not_in, count_list, AreDistinct, rise_distinct}
+use Rattle.node_rules.proofs.Members.{is_in, in_is, is_in_in, not_in, count_list, AreDistinct, rise_distinct, one_counted, three_nodes}
 use Rattle.protocol_model.proofs.Quorums.{count_within}
 use Rattle.protocol_model.proofs.Sets.{none_marked}
 

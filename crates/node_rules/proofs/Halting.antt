@@ -1,5 +1,5 @@
 -- Calls that stop in their append: the chain as far as the append, with nothing shown.
-use Rattle.std.proofs.Common.{◌≡◌, ◌≢◌, ℕ, zero, suc, ◌<◌, ◌≤◌, ◌+◌, ◌*◌, ◌⊎◌, inl, inr, Bool, true, false, not, if◌then◌else◌, ◌==◌, ◌&&◌, List, [], ◌∷◌, Option, Some, None, Result, Ok, Err, refl, sym, ap, subst, ◌∙◌, arith, get_or, set, replicate, get_or-set_other}
+use Rattle.std.proofs.Common.{◌≡◌, ◌≢◌, ℕ, zero, suc, ◌<◌, ◌*◌, ◌⊎◌, inl, inr, Bool, true, false, not, if◌then◌else◌, ◌==◌, ◌&&◌, List, [], ◌∷◌, Option, Some, None, Result, Ok, Err, refl, sym, ap, subst, ◌∙◌, arith, get_or, set, replicate, get_or-set_other}
 use Rattle.std.specs.Prelude.{nat_lt, nat_le, is_some}
 use Rattle.std.proofs.lemmas.Bool.{le-ltb}
 use Rattle.std.proofs.lemmas.Bool.Decides.{eqb_tells}
@@ -46,6 +46,7 @@ use Rattle.node_rules.proofs.Keeping.{with_got}
 use Rattle.node_rules.proofs.Paths.{Hearing, Scope, dealer_in, first_in, Path, Goes, has_in, never, regroup}
 use Rattle.node_rules.proofs.Promising.{refuse}
 use Rattle.node_rules.proofs.Learning.{count}
+use Rattle.node_rules.proofs.Members.{one_counted, three_nodes}
 use Rattle.node_rules.proofs.Closing.{IsMade, made_by, campaigns_of, may}
 use Rattle.node_rules.proofs.Asking.{tell_known, behind_still}
 use Rattle.node_rules.proofs.Framing.{hand_on, chosen_goes}
@@ -340,23 +341,6 @@ frame_leaves x s from (Ok w) q same r one sent =
 
 -- ---- a tick
 
-none_step : (b : Bool) (n : ℕ) → (b ≡ true → ⊥) → n ≡ 0 → (if b then 1 + n else n) ≡ 0
-none_step true n not_so e = absurd (not_so refl)
-none_step false n not_so e = e
-
-none_counted : (chosen : ℕ → Bool) (n : ℕ) → ((k : ℕ) → k < n → chosen k ≡ true → ⊥) → count_in chosen n ≡ 0
-none_counted chosen zero none = refl
-none_counted chosen (suc n) none = none_step (chosen n) (count_in chosen n) (none n (omega arith)) (none_counted chosen n (λ k l is. none k (omega arith) is))
-
-one_step : (b : Bool) (n : ℕ) → (b ≡ true → n ≡ 0) → n ≤ 1 → (if b then 1 + n else n) ≤ 1
-one_step true n zero_then l = let e = zero_then refl in omega (arith, e)
-one_step false n zero_then l = l
-
-one_counted : (chosen : ℕ → Bool) (i n : ℕ) → ((k : ℕ) → chosen k ≡ true → k ≡ i) → count_in chosen n ≤ 1
-one_counted chosen i zero single = omega arith
-one_counted chosen i (suc n) single = one_step (chosen n) (count_in chosen n)
-    (λ e. none_counted chosen n (λ k l is. let a = single k is in let b = single n e in absurd (omega (arith, a, b)))) (one_counted chosen i n single)
-
 none_at : (m k : ℕ) → get_or (replicate m (let none : Option (List Entry) = None in none)) k None ≡ None
 none_at zero k = refl
 none_at (suc m) zero = refl
@@ -376,16 +360,12 @@ alone_by : (i : ℕ) (ballot : Ballot) (first : ℕ) (told : List Entry) (b : Bo
 alone_by i ballot first told true k e = counted_at i told k e
 alone_by i ballot first told false k e = let clash : false ≡ true = sym (ap is_some (none_at NODES k)) ∙ e in absurd (cc)
 
-three_nodes : (n : ℕ) → HasNodes n → 3 ≤ n
-three_nodes n (inl e) = omega (arith, e)
-three_nodes n (inr e) = omega (arith, e)
-
 -- one node's promise is no quorum
 alone_leads_not : (n i : ℕ) (ballot : Ballot) (first : ℕ) (told : List Entry) → HasNodes n → leads n (Some (with_promise n (new_campaign ballot first) i ballot first told)) ≡ false
 alone_leads_not n i ballot first told few =
     le-ltb n (2 * count_in (has_promised (with_promise n (new_campaign ballot first) i ballot first told)) n)
     (let h = one_counted (has_promised (with_promise n (new_campaign ballot first) i ballot first told)) i n
-    (λ k e. alone_by i ballot first told (is_counted n (new_campaign ballot first) i ballot first) k e) in
+    (λ k l e. alone_by i ballot first told (is_counted n (new_campaign ballot first) i ballot first) k e) in
     let m = three_nodes n few in omega arith)
 
 tick_rests_by : (x : Scope) (s : Standing) (over spent : Bool) → x.ends ≡ false → x.had ≡ (first_in x).has → Runs x s → x.messages ≡ []

@@ -4,6 +4,7 @@ use Rattle.std.proofs.lemmas.Bool.{eqb-true, eqb-false}
 use Rattle.std.proofs.lemmas.Bool.Decides.{eqb_tells}
 use Rattle.protocol_model.specs.Sets.{In}
 use Rattle.protocol_model.specs.Quorums.{count}
+use Rattle.dealer_kind.specs.Plans.{HasNodes}
 use Rattle.node_rules.specs.Calm.{Rise, without}
 
 -- ---- sets as tests
@@ -79,6 +80,29 @@ count_more m (suc n) p low out = one_more_step m n p (n == m) refl low out (λ l
 count_none : (n : ℕ) → count (λ k. false) n ≡ 0
 count_none zero = refl
 count_none (suc n) = count_none n
+
+one_step : (b : Bool) (k : ℕ) → (b ≡ true → k ≡ 0) → k ≤ 1 → (if b then 1 + k else k) ≤ 1
+one_step true k zero_then low = let e = zero_then refl in omega (arith, e)
+one_step false k zero_then low = low
+
+none_step : (b : Bool) (k : ℕ) → (b ≡ true → ⊥) → k ≡ 0 → (if b then 1 + k else k) ≡ 0
+none_step true k not_so e = absurd (not_so refl)
+none_step false k not_so e = e
+
+none_counted : (chosen : ℕ → Bool) (n : ℕ) → ((k : ℕ) → k < n → chosen k ≡ true → ⊥) → count chosen n ≡ 0
+none_counted chosen zero none = refl
+none_counted chosen (suc n) none = none_step (chosen n) (count chosen n) (λ e. none n (omega arith) e) (none_counted chosen n (λ k low is. none k (omega arith) is))
+
+-- a set of one node at most
+pub one_counted : (chosen : ℕ → Bool) (i n : ℕ) → ((k : ℕ) → k < n → chosen k ≡ true → k ≡ i) → count chosen n ≤ 1
+one_counted chosen i zero single = omega arith
+one_counted chosen i (suc n) single = one_step (chosen n) (count chosen n)
+    (λ e. none_counted chosen n (λ k l is. let a = single k (omega arith) is in let b = single n (omega arith) e in absurd (omega (arith, a, b))))
+    (one_counted chosen i n (λ k l is. single k (omega arith) is))
+
+pub three_nodes : (n : ℕ) → HasNodes n → 3 ≤ n
+three_nodes n (inl e) = omega (arith, e)
+three_nodes n (inr e) = omega (arith, e)
 
 -- no number stands twice, and all are below n
 abbrev pub AreDistinct : ℕ → List ℕ → Type 0

@@ -1,5 +1,5 @@
 -- After its close a call leaves nothing to propose.
-use Rattle.std.proofs.Common.{◌≡◌, ℕ, zero, suc, ◌<◌, ◌≤◌, ◌+◌, ◌-◌, inl, inr, Bool, true, false, not, if◌then◌else◌, ◌&&◌, List, [], ◌∷◌, ◌++◌, Option, Some, None, Result, Ok, Err, refl, sym, ap, subst, ◌∙◌, arith, length, get_or, set, get_or-set_same, drop, reverse}
+use Rattle.std.proofs.Common.{◌≡◌, ℕ, ◌<◌, ◌≤◌, ◌+◌, ◌-◌, inl, inr, Bool, true, false, not, if◌then◌else◌, ◌&&◌, List, [], ◌∷◌, ◌++◌, Option, Some, None, Result, Ok, Err, refl, sym, ap, subst, ◌∙◌, arith, length, get_or, set, get_or-set_same, drop, reverse}
 use Rattle.std.specs.Prelude.{nat_lt, nat_le}
 use Rattle.std.proofs.lemmas.Bool.{ltb-true, ltb-false}
 use Rattle.std.proofs.lemmas.List.{append-nil, length-reverse}
@@ -14,7 +14,7 @@ use Rattle.slot_log.specs.declared.slot_fault.SlotFault.TheVariants.{Conflict as
 use Rattle.protocol_model.specs.Sets.{In}
 use Rattle.protocol_model.specs.Messages.{Vote, Message, Prepare, Accept, Accepted}
 use Rattle.protocol_model.specs.Stores.{Store, voted}
-use Rattle.protocol_model.specs.Quorums.{count as count_in, IsChosenIn}
+use Rattle.protocol_model.specs.Quorums.{IsChosenIn}
 use Rattle.protocol_model.specs.Nodes.{Node}
 use Rattle.protocol_model.specs.Arrivals.{Arrival}
 use Rattle.protocol_model.specs.Worlds.{World, Reached, IsAfter}
@@ -26,7 +26,6 @@ use Rattle.proposer.specs.Campaigns.{has_quorum, leads, is_covered, is_proposed,
 use Rattle.proposer.specs.Laws.{IsSafe}
 use Rattle.learner.specs.declared.chosen.Chosen.{Chosen as Learnt}
 use Rattle.learner.specs.Learning.{Learned, is_open, is_other, completes, answer_to, hearing, counting, knowing}
-use Rattle.dealer_kind.specs.Plans.{HasNodes}
 use Rattle.node_rules.specs.Standings.{Place, Standing, applied, front_of, with_stored, idle}
 use Rattle.node_rules.specs.Sending.{Frame, one, to_others}
 use Rattle.node_rules.specs.Turns.{Turn, Refusal, still, sending, joined, behind, and_then}
@@ -39,33 +38,11 @@ use Rattle.node_rules.specs.Proposed.{IsSettled}
 use Rattle.node_rules.specs.Rules.{asking}
 use Rattle.node_rules.proofs.Paths.{Hearing, Scope, dealer_in, Path, Goes}
 use Rattle.node_rules.proofs.Learning.{open_if, world_now}
+use Rattle.node_rules.proofs.Members.{one_counted, three_nodes}
 use Rattle.node_rules.proofs.Closing.{IsMade, made_by, campaigns_of, none_of_ballot, stored_new, unmarked}
 use Rattle.node_rules.proofs.Sourcing.{had_was_sent}
 
 -- ---- a node's own vote is no quorum
-
-one_step : (b : Bool) (k : ℕ) → (b ≡ true → k ≡ 0) → k ≤ 1 → (if b then 1 + k else k) ≤ 1
-one_step true k zero_then low = let e = zero_then refl in omega (arith, e)
-one_step false k zero_then low = low
-
-none_step : (b : Bool) (k : ℕ) → (b ≡ true → ⊥) → k ≡ 0 → (if b then 1 + k else k) ≡ 0
-none_step true k not_so e = absurd (not_so refl)
-none_step false k not_so e = e
-
-none_counted : (chosen : ℕ → Bool) (n : ℕ) → ((k : ℕ) → k < n → chosen k ≡ true → ⊥) → count_in chosen n ≡ 0
-none_counted chosen zero none = refl
-none_counted chosen (suc n) none = none_step (chosen n) (count_in chosen n) (λ e. none n (omega arith) e) (none_counted chosen n (λ k low is. none k (omega arith) is))
-
--- a set of one node at most
-pub one_counted : (chosen : ℕ → Bool) (i n : ℕ) → ((k : ℕ) → k < n → chosen k ≡ true → k ≡ i) → count_in chosen n ≤ 1
-one_counted chosen i zero single = omega arith
-one_counted chosen i (suc n) single = one_step (chosen n) (count_in chosen n)
-    (λ e. none_counted chosen n (λ k l is. let a = single k (omega arith) is in let b = single n (omega arith) e in absurd (omega (arith, a, b))))
-    (one_counted chosen i n (λ k l is. single k (omega arith) is))
-
-pub three_nodes : (n : ℕ) → HasNodes n → 3 ≤ n
-three_nodes n (inl e) = omega (arith, e)
-three_nodes n (inr e) = omega (arith, e)
 
 -- of what was proposed just now no other node's answer is there
 pub alone : (x : Scope) (came : List Arrival) (heard : Hearing) (upto : List Command) (t : Turn) (p : Path x came heard upto t) (ballot : Ballot) (first slot : ℕ) (command : Command) (messages : List Message)
