@@ -55,6 +55,9 @@ runs_in g own place world s st up ends messages = record { of = st.of; up = up; 
 pub ok_is : (t u : Turn) → ◌≡◌ {A = Result Turn Refusal} (Ok t) (Ok u) → t ≡ u
 ok_is t u e = cc
 
+pub err_is : (a b : Refusal) → ◌≡◌ {A = Result Turn Refusal} (Err a) (Err b) → a ≡ b
+err_is a b e = cc
+
 pub ok_not : (t : Turn) (r : Refusal) → ◌≡◌ {A = Result Turn Refusal} (Ok t) (Err r) → ⊥
 ok_not t r e = cc
 

@@ -38,12 +38,9 @@ use Rattle.node_rules.proofs.Closing.{close}
 use Rattle.node_rules.proofs.Hearing.{piece_sits}
 use Rattle.node_rules.proofs.Halting.{Halted, halt_same, Leaves, frame_leaves, tick_leaves, then_closes}
 use Rattle.node_rules.proofs.Starting.{nothing_taken}
-use Rattle.node_rules.proofs.Chaining.{scope_of, log_is, runs_in, ok_is, ok_not, turns_are_chains}
+use Rattle.node_rules.proofs.Chaining.{scope_of, log_is, runs_in, ok_is, ok_not, err_is, turns_are_chains}
 
 -- ---- refusals change nothing, unless another command is known
-
-err_is : (a b : Refusal) → ◌≡◌ {A = Result Turn Refusal} (Err a) (Err b) → a ≡ b
-err_is a b e = cc
 
 pub harmless_still : (place : Place) (s : Standing) (r : Refusal) → IsHarmless r → standing_after place s (Err r) ≡ s
 harmless_still place s Down h = refl
