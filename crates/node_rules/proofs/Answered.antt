@@ -41,7 +41,8 @@ use Rattle.node_rules.proofs.Promising.{tells}
 use Rattle.node_rules.proofs.Settling.{below_front}
 use Rattle.node_rules.proofs.Chaining.{ok_is, ok_not}
 use Rattle.node_rules.proofs.Resting.{Closed, rests, proposes}
-use Rattle.node_rules.proofs.Led.{tick_splits, piece_splits, asking_after, frame_turn}
+use Rattle.node_rules.proofs.Led.{tick_splits, piece_splits, frame_turn}
+use Rattle.node_rules.proofs.Settled.{asked_same}
 
 -- ---- the close
 
@@ -268,7 +269,7 @@ sends_up g own place world s (call.Frame from bytes) turn st up comes h =
     let f = frame_turn g own place world s st up from bytes turn comes h in
     let first : Turn = f.split.first in
     let c : Turn = f.split.closes.turn in
-    let after = asking_after from f.message c.after in
+    let after = asked_same from f.message c.after in
     let now : front_of turn.after ≡ front_of c.after = ap (λ (t : Turn). front_of t.after) f.whole ∙ ap front_of after in (
       f.message,
       f.read,

@@ -47,7 +47,8 @@ use Rattle.node_rules.proofs.Ticking.{above}
 use Rattle.node_rules.proofs.Chaining.{ok_is, ok_not, turns_are_chains}
 use Rattle.node_rules.proofs.Sounding.{harmless_by, harmless_still}
 use Rattle.node_rules.proofs.Resting.{Closed, rests, proposes}
-use Rattle.node_rules.proofs.Led.{tick_splits, piece_splits, asking_after, frame_turn}
+use Rattle.node_rules.proofs.Led.{tick_splits, piece_splits, frame_turn}
+use Rattle.node_rules.proofs.Settled.{asked_same}
 
 -- what the model says of backing
 pub record Backing : Type 0 where
@@ -237,7 +238,7 @@ up_keeps g b own place world s called turn st up comes h = by_call called comes 
     by_call (call.Frame from bytes) comes h =
         let f = frame_turn g own place world s st up from bytes turn comes h in
         let c = f.split.closes in
-        let same : turn.after ≡ c.turn.after = ap (λ (t : Turn). t.after) f.whole ∙ asking_after from f.message c.turn.after in
+        let same : turn.after ≡ c.turn.after = ap (λ (t : Turn). t.after) f.whole ∙ asked_same from f.message c.turn.after in
         subst (KeepsBoth s.store) (sym same) (both_of s.store c.turn.after (closed_begun place f.split.first.after c.turn f.split.path.unbegun c.closed)
         (λ m k. closed_keeps b place f.split.first.after c.turn (subst IsWithinPromise f.split.path.knows.store f.split.path.knows.within) c.closed m
         (message_keeps b place s from f.message f.split.first within f.split.is m k)))

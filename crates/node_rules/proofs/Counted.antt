@@ -45,7 +45,8 @@ use Rattle.node_rules.proofs.Chaining.{ok_is, ok_not}
 use Rattle.node_rules.proofs.Closing.{campaigns_of}
 use Rattle.node_rules.proofs.Counting.{counts_vote, had_in_time}
 use Rattle.node_rules.proofs.Resting.{Closed, rests, proposes}
-use Rattle.node_rules.proofs.Led.{tick_splits, piece_splits, asking_after, frame_turn}
+use Rattle.node_rules.proofs.Led.{tick_splits, piece_splits, frame_turn}
+use Rattle.node_rules.proofs.Settled.{asked_same}
 use Rattle.node_rules.proofs.Answered.{prepare_answer, learned_frames, chosen_frames, accept_answer, answers_frames}
 
 -- ---- frames without a proposal
@@ -266,7 +267,7 @@ own_up g own place world s Tick turn st up comes h ballot slot command said = el
 own_up g own place world s (call.Frame from bytes) turn st up comes h ballot slot command said =
     let f = frame_turn g own place world s st up from bytes turn comes h in
     let c : Turn = f.split.closes.turn in
-    subst (λ (y : Standing). OwnVote place y ballot slot command) (sym (ap (λ (t : Turn). t.after) f.whole ∙ asking_after from f.message c.after))
+    subst (λ (y : Standing). OwnVote place y ballot slot command) (sym (ap (λ (t : Turn). t.after) f.whole ∙ asked_same from f.message c.after))
     (whole_own _ _ _ f.split.first f.split.path c (asking from f.message c.after).frames f.split.closes.closed (message_frames place s from f.message f.split.first f.split.is)
     (asking_frames from f.message c.after) turn.frames (ap (λ (t : Turn). t.frames) f.whole) ballot slot command said)
 own_up g own place world s (Line seat bytes) turn st up comes (heard, hears, e) ballot slot command said =

@@ -1,21 +1,18 @@
 -- The stages of each call: its rule, its close, and last the question.
-use Rattle.std.proofs.Common.{◌≡◌, ℕ, ◌⊎◌, inl, inr, Bool, true, false, if◌then◌else◌, List, [], Result, Ok, Err, refl, ap, subst, ◌∙◌}
-use Rattle.std.specs.Prelude.{nat_lt}
+use Rattle.std.proofs.Common.{◌≡◌, ℕ, ◌⊎◌, inl, inr, Bool, true, List, [], Result, Ok, Err, refl, ap, subst, ◌∙◌}
 use Rattle.paxos_wire.specs.declared.fault.FrameFault.{FrameFault}
 use Rattle.paxos_wire.specs.declared.message.Message.{Message as Wire}
-use Rattle.paxos_wire.specs.declared.message.Message.TheVariants as frame
 use Rattle.paxos_wire.specs.Faults.{reading}
 use Rattle.slot_log.specs.declared.command.Command.{Command}
 use Rattle.protocol_model.specs.Arrivals.{Arrival}
 use Rattle.protocol_model.specs.Worlds.{World}
-use Rattle.node_rules.specs.Standings.{Place, Standing, applied, front_of}
-use Rattle.node_rules.specs.Turns.{Turn, Refusal, BadFrame, still, sending, joined, and_then}
+use Rattle.node_rules.specs.Standings.{Place, Standing, applied}
+use Rattle.node_rules.specs.Turns.{Turn, Refusal, BadFrame, still, joined, and_then}
 use Rattle.node_rules.specs.Proposing.{ticking, closing}
 use Rattle.node_rules.specs.Seats.{session_at, HearsPiece}
 use Rattle.node_rules.specs.Calls.{Call, Start, Tick, Line, Connect, Drop, Stop}
 use Rattle.node_rules.specs.Calls as call
 use Rattle.node_rules.specs.Rules.{seeing, taking, asking, on_read, IsTurnUp}
-use Rattle.node_rules.specs.Sending.{one}
 use Rattle.node_rules.specs.Called.{came_in, said_in, IsSent, Comes}
 use Rattle.node_rules.specs.Given.{Given}
 use Rattle.node_rules.specs.Sound.{Stands}
@@ -69,22 +66,6 @@ piece_splits g own place world s st up seat bytes heard comes hears =
     let x : Scope = scope g own place world s st (Line seat bytes) in
     let sits = (piece_sits x s seat bytes heard (runs_in g own place world s st up true []) refl comes hears).0 in
     record { came = sits.came; hearing = sits.heard; path = sits.path; closes = close_is x sits.came sits.heard heard sits.path }
-
--- ---- the question after the close leaves the standing
-
-above_after : (from : ℕ) (front : ℕ) (s : Standing) (b : Bool) → (if b then sending (one from (frame.Ask front)) s else still s).after ≡ s
-above_after from front s true = refl
-above_after from front s false = refl
-
-pub asking_after : (from : ℕ) (message : Wire) (s : Standing) → (asking from message s).after ≡ s
-asking_after from (frame.Prepare ballot slot) s = above_after from (front_of s) s (nat_lt (front_of s) slot)
-asking_after from (frame.Promise ballot slot told) s = refl
-asking_after from (frame.Refuse ballot slot promised) s = refl
-asking_after from (frame.Accept ballot slot command) s = above_after from (front_of s) s (nat_lt (front_of s) slot)
-asking_after from (frame.Accepted ballot slot command) s = above_after from (front_of s) s (nat_lt (front_of s) slot)
-asking_after from (frame.Chosen slot command) s = refl
-asking_after from (frame.Ask slot) s = refl
-asking_after from (frame.Forward command) s = refl
 
 -- ---- a frame's turn
 

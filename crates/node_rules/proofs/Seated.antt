@@ -45,7 +45,8 @@ use Rattle.node_rules.specs.LawsSeats.{IsLed, IsAway, asked_each, Leaves, goes_o
 use Rattle.node_rules.proofs.Beginning.{commands_known}
 use Rattle.node_rules.proofs.Chaining.{ok_is, ok_not}
 use Rattle.node_rules.proofs.Resting.{Closed}
-use Rattle.node_rules.proofs.Led.{tick_splits, piece_splits, asking_after, frame_turn}
+use Rattle.node_rules.proofs.Led.{tick_splits, piece_splits, frame_turn}
+use Rattle.node_rules.proofs.Settled.{asked_same}
 use Rattle.node_rules.proofs.Answered.{two, answers_frames}
 use Rattle.node_rules.proofs.Shown.{closed_faults, closed_pending, closed_sessions, two_shown, answers_shown, answers_pending}
 
@@ -279,7 +280,7 @@ stays_up g own place world s (call.Frame from bytes) seat turn st up comes h oth
     let f = frame_turn g own place world s st up from bytes turn comes h in
     let c : Turn = f.split.closes.turn in
     ap (λ (t : Turn). session_at t.after.sessions seat) f.whole
-    ∙ ap (λ (l : List (Option Talk)). session_at l seat) (ap (λ (y : Standing). y.sessions) (asking_after from f.message c.after)
+    ∙ ap (λ (l : List (Option Talk)). session_at l seat) (ap (λ (y : Standing). y.sessions) (asked_same from f.message c.after)
     ∙ (closed_sessions place f.split.first.after c f.split.closes.closed ∙ f.split.path.talks))
 stays_up g own place world s (Line at bytes) seat turn st up comes (heard, hears, e) other =
     let p = piece_splits g own place world s st up at bytes heard comes hears in

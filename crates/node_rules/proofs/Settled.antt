@@ -351,27 +351,20 @@ then_closed x came heard (Ok u) turn goes h =
     let b = behind_ok u (closing x.place u.after) turn h in
     subst (IsSettled x.place) (sym b.2) (closed x came heard u goes b.0 b.1)
 
-pub asked_same : (from : ℕ) (w : Wire) (s : Standing) → (asking from w s).after ≡ s
-asked_same from (frame.Prepare ballot slot) s = asks_same (nat_lt (front_of s) slot)
-  where
-    asks_same : (b : Bool) → (if b then sending (one from (frame.Ask (front_of s))) s else still s).after ≡ s
-    asks_same true = refl
-    asks_same false = refl
+-- the question after the close leaves the standing
+above_after : (from : ℕ) (front : ℕ) (s : Standing) (b : Bool) → (if b then sending (one from (frame.Ask front)) s else still s).after ≡ s
+above_after from front s true = refl
+above_after from front s false = refl
+
+pub asked_same : (from : ℕ) (message : Wire) (s : Standing) → (asking from message s).after ≡ s
+asked_same from (frame.Prepare ballot slot) s = above_after from (front_of s) s (nat_lt (front_of s) slot)
 asked_same from (frame.Promise ballot slot told) s = refl
 asked_same from (frame.Refuse ballot slot promised) s = refl
-asked_same from (frame.Accept ballot slot command) s = asks_same (nat_lt (front_of s) slot)
-  where
-    asks_same : (b : Bool) → (if b then sending (one from (frame.Ask (front_of s))) s else still s).after ≡ s
-    asks_same true = refl
-    asks_same false = refl
-asked_same from (frame.Accepted ballot slot command) s = asks_same (nat_lt (front_of s) slot)
-  where
-    asks_same : (b : Bool) → (if b then sending (one from (frame.Ask (front_of s))) s else still s).after ≡ s
-    asks_same true = refl
-    asks_same false = refl
+asked_same from (frame.Accept ballot slot command) s = above_after from (front_of s) s (nat_lt (front_of s) slot)
+asked_same from (frame.Accepted ballot slot command) s = above_after from (front_of s) s (nat_lt (front_of s) slot)
 asked_same from (frame.Chosen slot command) s = refl
 asked_same from (frame.Ask slot) s = refl
-asked_same from (frame.Forward act) s = refl
+asked_same from (frame.Forward command) s = refl
 
 -- a stage, the close, and what is asked for then
 pub asked_closed : (x : Scope) (came : List Arrival) (heard : Hearing) (from : ℕ) (w : Wire) (r : Result Turn Refusal) (turn : Turn) → Goes x came heard r

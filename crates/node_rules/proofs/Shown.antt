@@ -44,7 +44,8 @@ use Rattle.node_rules.proofs.Answering.{answer_fits, fits_if}
 use Rattle.node_rules.proofs.Starting.{none_seated}
 use Rattle.node_rules.proofs.Chaining.{ok_is, ok_not}
 use Rattle.node_rules.proofs.Resting.{Closed, rests, proposes}
-use Rattle.node_rules.proofs.Led.{tick_splits, piece_splits, asking_after, frame_turn}
+use Rattle.node_rules.proofs.Led.{tick_splits, piece_splits, frame_turn}
+use Rattle.node_rules.proofs.Settled.{asked_same}
 use Rattle.node_rules.proofs.Applied.{seat_line_is, takes_all, keeps_all, scene_over, waits_then, Applies, message_applies, passed_now}
 
 -- ---- the close shows nothing, and leaves all but what it proposes
@@ -163,7 +164,7 @@ shows_up g own place world s (call.Frame from bytes) turn st up comes h =
     let c : Turn = f.split.closes.turn in
     let a = message_applies g place s from f.message first f.split.is in
     let p = passed_now place s f.message first a in
-    let after = asking_after from f.message c.after in
+    let after = asked_same from f.message c.after in
     let same : applied turn.after ≡ reverse (reverse a.later) ++ applied s =
     ap (λ (t : Turn). applied t.after) f.whole ∙ (ap applied after ∙ (closed_applied place first.after c f.split.closes.closed ∙ p.1)) in
     let runs : turn.after.up ≡ true =
@@ -243,7 +244,7 @@ up_after g own place world s Tick turn st up comes h = elim (tick_splits g own p
 up_after g own place world s (call.Frame from bytes) turn st up comes h =
     let f = frame_turn g own place world s st up from bytes turn comes h in
     let c : Turn = f.split.closes.turn in
-    inl (ap (λ (t : Turn). t.after.up) f.whole ∙ (ap (λ (y : Standing). y.up) (asking_after from f.message c.after) ∙ (closed_up place f.split.first.after c f.split.closes.closed ∙ f.split.path.runs)))
+    inl (ap (λ (t : Turn). t.after.up) f.whole ∙ (ap (λ (y : Standing). y.up) (asked_same from f.message c.after) ∙ (closed_up place f.split.first.after c f.split.closes.closed ∙ f.split.path.runs)))
 up_after g own place world s (Line seat bytes) turn st up comes (heard, hears, e) =
     let p = piece_splits g own place world s st up seat bytes heard comes hears in
     inl (ap (λ (t : Turn). t.after.up) (ok_is turn (joined heard p.closes.turn) (e ∙ ap (λ (k : Result Turn Refusal). behind heard k) p.closes.is))
@@ -398,7 +399,7 @@ waits_up g own place world s (call.Frame from bytes) turn st up comes h =
     let first : Turn = f.split.first in
     let c : Turn = f.split.closes.turn in
     let w = message_waits g own place s from f.message first f.split.is in
-    let after : turn.after ≡ c.after = ap (λ (t : Turn). t.after) f.whole ∙ asking_after from f.message c.after in (
+    let after : turn.after ≡ c.after = ap (λ (t : Turn). t.after) f.whole ∙ asked_same from f.message c.after in (
       f.message,
       applied s,
       w.later,
