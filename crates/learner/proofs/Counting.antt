@@ -7,7 +7,7 @@ use Rattle.paxos_wire.specs.declared.limits.TheConstants.{NODES}
 use Rattle.paxos_wire.specs.declared.ballot.Ballot.{Ballot}
 use Rattle.slot_log.specs.declared.command.Command.{Command}
 use Rattle.protocol_model.specs.Sets.{In}
-use Rattle.protocol_model.proofs.Sets.{none_marked}
+use Rattle.protocol_model.proofs.Sets.{all_same}
 use Rattle.protocol_model.specs.Messages.{Message, Accepted}
 use Rattle.protocol_model.specs.Quorums.{IsChosenIn}
 use Rattle.protocol_model.proofs.Quorums.{count_within}
@@ -43,7 +43,7 @@ last_test b c t r er en es = rw (eq-eqb t.ballot.round b.round er, eq-eqb t.ball
 -- ---- who is counted
 
 pub nobody : (node : ℕ) → has no_nodes node ≡ true → ⊥
-nobody node h = true≢false (sym h ∙ none_marked NODES node)
+nobody node h = true≢false (sym h ∙ all_same false NODES node)
 
 -- a tally in which the node is counted for the command in the ballot
 pub record IsTallied (b : Ballot) (c : Command) (ts : List Tally) (node : ℕ) : Type 0 where

@@ -1,5 +1,5 @@
 -- The promises of a calm round, counted, and the value that they make.
-use Rattle.std.proofs.Common.{◌≡◌, ◌≢◌, ℕ, zero, suc, ◌<◌, ◌*◌, ◌⊎◌, inl, inr, Bool, true, false, not, ◌==◌, if◌then◌else◌, List, [], ◌∷◌, Option, Some, None, refl, sym, ap, subst, ◌∙◌, arith, length, get_or, set, replicate, get_or-set_same, get_or-set_other, length-set, eq-eqb}
+use Rattle.std.proofs.Common.{◌≡◌, ◌≢◌, ℕ, ◌<◌, ◌*◌, ◌⊎◌, inl, inr, Bool, true, false, not, ◌==◌, if◌then◌else◌, List, [], ◌∷◌, Option, Some, None, refl, sym, ap, subst, ◌∙◌, arith, length, get_or, set, replicate, get_or-set_same, get_or-set_other, length-set, eq-eqb}
 use Rattle.std.specs.Prelude.{nat_lt, is_some}
 use Rattle.std.proofs.lemmas.Bool.Decides.{eqb_tells}
 use Rattle.paxos_wire.specs.declared.limits.TheConstants.{NODES, WINDOW}
@@ -7,6 +7,7 @@ use Rattle.paxos_wire.specs.declared.ballot.Ballot.{Ballot}
 use Rattle.paxos_wire.specs.declared.entry.Entry.{Entry}
 use Rattle.slot_log.specs.declared.command.Command.{Command}
 use Rattle.protocol_model.specs.Sets.{In}
+use Rattle.protocol_model.proofs.Sets.{all_same}
 use Rattle.protocol_model.specs.Ballots.{AtMost}
 use Rattle.protocol_model.specs.Messages.{Vote, entry_of, vote_of}
 use Rattle.protocol_model.specs.Stores.{Store}
@@ -31,13 +32,8 @@ pub record IsCounted (ballot : Ballot) (first : ℕ) (stores : ℕ → Store) (c
   pub unproposed : k.proposed ≡ replicate WINDOW false
   pub promises : (m : ℕ) → promise_by k m ≡ (if is_in counted m then Some (told_by (stores m) first) else None)
 
-none_there : (k m : ℕ) → get_or (replicate k (let none : Option (List Entry) = None in none)) m None ≡ None
-none_there zero m = refl
-none_there (suc k) zero = refl
-none_there (suc k) (suc m) = none_there k m
-
 pub new_counted : (ballot : Ballot) (first : ℕ) (stores : ℕ → Store) → IsCounted ballot first stores [] (new_campaign ballot first)
-new_counted ballot first stores = record { ballot_is = refl; first_is = refl; places = refl; unproposed = refl; promises = λ m. none_there NODES m }
+new_counted ballot first stores = record { ballot_is = refl; first_is = refl; places = refl; unproposed = refl; promises = λ m. all_same {A = Option (List Entry)} None NODES m }
 
 same_self : (b : Ballot) → is_same_ballot b b ≡ true
 same_self b = λ j. if eq-eqb b.round b.round refl j then eq-eqb b.node b.node refl j else false

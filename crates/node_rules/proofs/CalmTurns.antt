@@ -51,7 +51,7 @@ use Rattle.node_rules.proofs.Ticking.{few_nodes}
 use Rattle.node_rules.proofs.CalmPromises.{IsCounted, new_counted, quorum_is, counts_more, Agree, greatest_value, own_is_value}
 use Rattle.node_rules.proofs.Members.{is_in, in_is, is_in_in, not_in, count_list, AreDistinct, rise_distinct, one_counted, three_nodes}
 use Rattle.protocol_model.proofs.Quorums.{count_within}
-use Rattle.protocol_model.proofs.Sets.{none_marked}
+use Rattle.protocol_model.proofs.Sets.{all_same}
 
 -- ---- tests
 
@@ -332,7 +332,7 @@ proposes_it r rest counted k own distinct c inside all enough own_is =
     covers = covered k.first (slot_in r) (let e = c.first_is in omega (arith, e)) (let e = c.first_is in omega (arith, e))
 
     unmarked_slot : is_proposed k (slot_in r) ≡ false
-    unmarked_slot = ap (λ (l : List Bool). get_or l (slot_in r - k.first) false) c.unproposed ∙ none_marked WINDOW (slot_in r - k.first)
+    unmarked_slot = ap (λ (l : List Bool). get_or l (slot_in r - k.first) false) c.unproposed ∙ all_same false WINDOW (slot_in r - k.first)
 
     value : value_of (greatest_told k (slot_in r) r.n) own ≡ Some r.command
     value = elim rest.value [

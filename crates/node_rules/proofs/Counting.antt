@@ -20,7 +20,7 @@ use Rattle.node_rules.specs.Turns.{Turn}
 use Rattle.node_rules.specs.Learning.{learning}
 use Rattle.node_rules.specs.Given.{Given}
 use Rattle.node_rules.specs.Being.{IsLearner}
-use Rattle.protocol_model.proofs.Sets.{none_marked}
+use Rattle.protocol_model.proofs.Sets.{all_same}
 use Rattle.protocol_model.proofs.Ballots.{same_ballot}
 use Rattle.node_rules.proofs.Learning.{open_if}
 use Rattle.node_rules.proofs.Settled.{turn_is}
@@ -57,7 +57,7 @@ tallied_by g ballot command tally tallies node true e later h =
 tallied_by g ballot command tally tallies node false e later h = more_tallied ballot command tallies node tally (later h)
 
 tallied : (g : Given) (ballot : Ballot) (command : Command) (tallies : List Tally) (node : ℕ) → has (nodes_for ballot command tallies) node ≡ true → Tallied ballot command tallies node
-tallied g ballot command [] node h = let clash : false ≡ true = sym (none_marked NODES node) ∙ h in absurd (cc)
+tallied g ballot command [] node h = let clash : false ≡ true = sym (all_same false NODES node) ∙ h in absurd (cc)
 tallied g ballot command (tally ∷ tallies) node h =
     tallied_by g ballot command tally tallies node (is_of ballot command tally) refl (λ k. tallied g ballot command tallies node k) h
 

@@ -1,5 +1,5 @@
 -- Calls that stop in their append: the chain as far as the append, with nothing shown.
-use Rattle.std.proofs.Common.{◌≡◌, ◌≢◌, ℕ, zero, suc, ◌<◌, ◌*◌, ◌⊎◌, inl, inr, Bool, true, false, not, if◌then◌else◌, ◌==◌, ◌&&◌, List, [], ◌∷◌, Option, Some, None, Result, Ok, Err, refl, sym, ap, subst, ◌∙◌, arith, get_or, set, replicate, get_or-set_other}
+use Rattle.std.proofs.Common.{◌≡◌, ◌≢◌, ℕ, ◌<◌, ◌*◌, ◌⊎◌, inl, inr, Bool, true, false, not, if◌then◌else◌, ◌==◌, ◌&&◌, List, [], ◌∷◌, Option, Some, None, Result, Ok, Err, refl, sym, ap, subst, ◌∙◌, arith, get_or, set, replicate, get_or-set_other}
 use Rattle.std.specs.Prelude.{nat_lt, nat_le, is_some}
 use Rattle.std.proofs.lemmas.Bool.{le-ltb}
 use Rattle.std.proofs.lemmas.Bool.Decides.{eqb_tells}
@@ -39,7 +39,7 @@ use Rattle.node_rules.specs.Proposing.{higher, greatest_seen, is_over, is_spent,
 use Rattle.node_rules.specs.Rules.{ballots_of, seeing, taking, asking, on_read}
 use Rattle.node_rules.specs.Being.{Campaigns}
 use Rattle.node_rules.specs.Called.{said_in, IsSent}
-use Rattle.protocol_model.proofs.Sets.{in_split}
+use Rattle.protocol_model.proofs.Sets.{in_split, all_same}
 use Rattle.protocol_model.proofs.Ballots.{at_most_self, below_if, at_most_if_not}
 use Rattle.node_rules.proofs.Ordering.{higher_is}
 use Rattle.node_rules.proofs.Keeping.{with_got}
@@ -341,24 +341,19 @@ frame_leaves x s from (Ok w) q same r one sent =
 
 -- ---- a tick
 
-none_at : (m k : ℕ) → get_or (replicate m (let none : Option (List Entry) = None in none)) k None ≡ None
-none_at zero k = refl
-none_at (suc m) zero = refl
-none_at (suc m) (suc k) = none_at m k
-
 counted_at : (i : ℕ) (told : List Entry) (k : ℕ) → is_some (get_or (set (replicate NODES None) i (Some told)) k None) ≡ true → k ≡ i
 counted_at i told k e = by_case (eqb_tells k i)
   where
     by_case : ((k == i) ≡ true) × (k ≡ i) ⊎ ((k == i) ≡ false) × (k ≢ i) → k ≡ i
     by_case (inl same) = same.1
     by_case (inr other) =
-        let none : get_or (set (replicate NODES None) i (Some told)) k None ≡ None = get_or-set_other (replicate NODES None) i k (Some told) None other.1 ∙ none_at NODES k in
+        let none : get_or (set (replicate NODES None) i (Some told)) k None ≡ None = get_or-set_other (replicate NODES None) i k (Some told) None other.1 ∙ all_same {A = Option (List Entry)} None NODES k in
         let clash : false ≡ true = sym (ap is_some none) ∙ e in absurd (cc)
 
 alone_by : (i : ℕ) (ballot : Ballot) (first : ℕ) (told : List Entry) (b : Bool) (k : ℕ)
     → has_promised (if b then record (new_campaign ballot first) { promises = set (replicate NODES None) i (Some told) } else new_campaign ballot first) k ≡ true → k ≡ i
 alone_by i ballot first told true k e = counted_at i told k e
-alone_by i ballot first told false k e = let clash : false ≡ true = sym (ap is_some (none_at NODES k)) ∙ e in absurd (cc)
+alone_by i ballot first told false k e = let clash : false ≡ true = sym (ap is_some (all_same {A = Option (List Entry)} None NODES k)) ∙ e in absurd (cc)
 
 -- one node's promise is no quorum
 alone_leads_not : (n i : ℕ) (ballot : Ballot) (first : ℕ) (told : List Entry) → HasNodes n → leads n (Some (with_promise n (new_campaign ballot first) i ballot first told)) ≡ false

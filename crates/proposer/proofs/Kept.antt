@@ -7,7 +7,7 @@ use Rattle.paxos_wire.specs.declared.ballot.Ballot.{Ballot}
 use Rattle.paxos_wire.specs.declared.entry.Entry.{Entry}
 use Rattle.slot_log.specs.declared.command.Command.{Command}
 use Rattle.protocol_model.specs.Sets.{In}
-use Rattle.protocol_model.proofs.Sets.{none_marked}
+use Rattle.protocol_model.proofs.Sets.{all_same}
 use Rattle.protocol_model.proofs.Ballots.{same_if}
 use Rattle.protocol_model.specs.Messages.{Message, Promise, Covers, Accept as accept}
 use Rattle.proposer.specs.declared.campaign.Campaign.{Campaign}
@@ -62,7 +62,7 @@ pub begin_marks : (sent : List Message) (ballot : Ballot) (first : ℕ)
 begin_marks sent ballot first none = record {
   places = refl;
   all = λ slot command m. absurd (none slot command m);
-  only = λ slot covers is. absurd (true≢false (sym is ∙ none_marked WINDOW (slot - first)));
+  only = λ slot covers is. absurd (true≢false (sym is ∙ all_same false WINDOW (slot - first)));
 }
 
 made_is : (c : Campaign) (slot : ℕ) (value : Option Command) (made : Accept) → accept_of c slot value ≡ Some made → (made.ballot ≡ c.ballot) × (made.slot ≡ slot)

@@ -20,11 +20,11 @@ in_split [] ys x h = inr h
 in_split (z ∷ xs) ys x (inl e) = inl (inl e)
 in_split (z ∷ xs) ys x (inr h) = elim (in_split xs ys x h) [ inl l ↦ inl (inr l) | inr r ↦ inr r ]
 
--- of marks that are all false none is set
-pub none_marked : (k place : ℕ) → get_or (replicate k false) place false ≡ false
-none_marked zero place = refl
-none_marked (suc k) zero = refl
-none_marked (suc k) (suc place) = none_marked k place
+-- where all are the same one thing, it is got at every place, beyond them too
+pub all_same : {A : Type 0} (x : A) (k place : ℕ) → get_or (replicate k x) place x ≡ x
+all_same x zero place = refl
+all_same x (suc k) zero = refl
+all_same x (suc k) (suc place) = all_same x k place
 
 pub put_same : {A : Type 0} (map : ℕ → A) (k : ℕ) (x : A) → put map k x k ≡ x
 put_same map k x = ap (λ b. cond b x (map k)) (eq-eqb k k refl)
