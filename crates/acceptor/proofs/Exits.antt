@@ -11,6 +11,7 @@ use Rattle.promise_store.specs.Holding.{stored, StandsFor}
 use Rattle.promise_store.specs.Settled.{OnlyReads}
 use Rattle.promise_store.specs.Keeping.{disk_of, is_closed, Keeps, Leaves, LeavesDuring}
 use Rattle.promise_store.specs.Appended.{IsAsBefore, Appended}
+use Rattle.promise_store.proofs.Storing.{reads_on}
 use Rattle.acceptor.specs.Taken.{Taken, Read}
 
 rose_from : (a b c : ℕ) → a ≤ b → Rose b c → Rose a c
@@ -29,15 +30,6 @@ module _ {D : Type 0} (g : Ghosts D) where
   the_one head old new image (inr s) = inl s
 
   -- ---- reading on
-
-  reads_on : (a b c : D) → OnlyReads g a b → OnlyReads g b c → OnlyReads g a c
-  reads_on a b c h k = record {
-    seen = k.seen ∙ h.seen;
-    begun = k.begun ∙ h.begun;
-    images = λ image left. h.images image (k.images image left);
-    during = λ t image left. elim (k.during t image left) [ inl was ↦ h.during t image was | inr now ↦ inr (h.images image now) ];
-    counts = let x = h.counts in let y = k.counts in omega arith;
-  }
 
   reads_nothing : (a : D) → OnlyReads g a a
   reads_nothing a = record { seen = refl; begun = refl; images = λ image left. left; during = λ t image left. inl left; counts = omega arith }
@@ -63,7 +55,7 @@ module _ {D : Type 0} (g : Ghosts D) where
       → Read g answer before after (Ok z)
   read_on first then answer before between after x y z h k is = record {
     ok = λ head held keeps honest. let a = h.ok head held keeps honest in let b = k.ok head held a.1 honest in (is held a.0 b.0, b.1);
-    reads = reads_on (disk_of before) (disk_of between) (disk_of after) h.reads k.reads;
+    reads = reads_on g (disk_of before) (disk_of between) (disk_of after) h.reads k.reads;
     held = k.held ∙ h.held;
     failed = λ e. absurd (cc);
     memory = λ e. absurd (cc);
@@ -81,7 +73,7 @@ module _ {D : Type 0} (g : Ghosts D) where
       → Read g first before between (Ok x) → Read g then between after (Err fault) → (is_closed before ≡ true → between ≡ before) → Read g answer before after (Err fault)
   read_failed first then answer before between after x fault h k same = record {
     ok = λ head held keeps honest. tt;
-    reads = reads_on (disk_of before) (disk_of between) (disk_of after) h.reads k.reads;
+    reads = reads_on g (disk_of before) (disk_of between) (disk_of after) h.reads k.reads;
     held = k.held ∙ h.held;
     failed = λ e. let f = k.failed (fault_is fault Disk e) in (rose_from _ _ _ h.reads.counts f.0, f.1);
     memory = λ e. k.memory (fault_is fault OutOfMemory e);

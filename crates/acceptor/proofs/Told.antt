@@ -6,6 +6,7 @@ use Rattle.paxos_wire.specs.declared.limits.TheConstants.{WINDOW}
 use Rattle.paxos_wire.specs.declared.ballot.Ballot.{Ballot}
 use Rattle.paxos_wire.specs.declared.entry.Entry.{Entry}
 use Rattle.slot_log.specs.declared.command.Command.{Command}
+use Rattle.slot_log.proofs.Inside.{all_joined}
 use Rattle.paxos_wire.specs.Fits.{IsInRange, IsEntry, AreEntries, Rise}
 use Rattle.protocol_model.specs.Sets.{In}
 use Rattle.protocol_model.proofs.Sets.{in_first, in_later, in_split}
@@ -96,10 +97,6 @@ told_count store first (suc n) =
     let one = at_most_one (first + n) (store.votes (first + n)) in
     omega (arith, length-append (told_from store first n) (told_at (first + n) (store.votes (first + n))))
 
-all_append : {A : Type 0} (P : A → Type 0) (xs ys : List A) → AllByRecursion P xs → AllByRecursion P ys → AllByRecursion P (xs ++ ys)
-all_append P [] ys h k = k
-all_append P (x ∷ xs) ys h k = (h.0, all_append P xs ys h.1 k)
-
 module _ (store : Store) (fits : (slot : ℕ) (vote : Vote) → store.votes slot ≡ Some vote → IsEntry (entry_of slot vote)) where
   one_fits : (slot : ℕ) (o : Option Vote) → store.votes slot ≡ o → AllByRecursion IsEntry (told_at slot o)
   one_fits slot None e = tt
@@ -107,7 +104,7 @@ module _ (store : Store) (fits : (slot : ℕ) (vote : Vote) → store.votes slot
 
   told_each : (first n : ℕ) → AllByRecursion IsEntry (told_from store first n)
   told_each first zero = tt
-  told_each first (suc n) = all_append IsEntry (told_from store first n) _ (told_each first n) (one_fits (first + n) (store.votes (first + n)) refl)
+  told_each first (suc n) = all_joined IsEntry (told_from store first n) _ (told_each first n) (one_fits (first + n) (store.votes (first + n)) refl)
 
 pub told_are_entries : (store : Store) (first : ℕ) → ((slot : ℕ) (vote : Vote) → store.votes slot ≡ Some vote → IsEntry (entry_of slot vote)) → AreEntries first (told_of store first)
 told_are_entries store first fits = record { most = told_count store first WINDOW; each = told_each store fits first WINDOW; rise = told_rise store first WINDOW }
@@ -131,7 +128,7 @@ pub more_fit : (first place : ℕ) (entries all : List Entry) (found : Option (B
     → AllByRecursion IsEntry all × Rise first (first + (place + 1)) all
 more_fit first place entries all found is each rise fits =
     let next : first + place + 1 ≡ first + (place + 1) = omega arith in rw is (
-      all_append IsEntry entries _ each (pair_fits (first + place) found fits),
+      all_joined IsEntry entries _ each (pair_fits (first + place) found fits),
       subst (λ (m : ℕ). Rise first m (entries ++ told_pair (first + place) found)) next
           (rise_append first (first + place) (first + place + 1) entries (told_pair (first + place) found) (omega arith) (omega arith) rise (pair_rises (first + place) found)),
     )
