@@ -11,6 +11,7 @@ use Rattle.dealer_world.specs.Headline.{Era, InSome}
 use Rattle.dealer_world.specs.Calls.{Brings, BringsAll}
 use Rattle.dealer_world.specs.Behind.{AreHeard}
 use Rattle.dealer_world.specs.Views.{placed_at}
+use Rattle.dealer_world.proofs.Lists.{cons_not_nil}
 
 heard_on : (heard : Option (List ℕ)) (delivered more : List Arrival) (node seat : ℕ)
     → heard_from heard (delivered ++ more) node seat ≡ heard_from (heard_from heard delivered node seat) more node seat
@@ -225,9 +226,6 @@ hears_by i (Came node seat bytes) count out came delivered before at brings now 
         (tells_closed ((i == node) && (place == seat)) (model.heard_in (first ∷ came) i place) (heard_by (delivered ++ placed_at count (Came node seat bytes) ∷ []) i place) (on.own place (now place))))
         on.heard
 
-some_not_none : {A : Type 0} (x : A) (xs : List A) → (x ∷ xs) ≢ []
-some_not_none x xs e = cc
-
 -- what a call brings
 pub hears : (i : ℕ) (began : Bool) (arrived : List Arrived) (count : ℕ) (out came : List model.Arrival) (delivered : List Arrival) (before : List Era)
     → ((what : Arrived) → In what arrived → IsAt i what)
@@ -261,7 +259,7 @@ hears i false [] count out came delivered before at brings now heard =
     × ((j seat : ℕ) → j ≢ i → (model.heard_in (all ++ came) j seat ≡ model.heard_in came j seat) × (heard_by delivered j seat ≡ heard_by delivered j seat))) (sym (no_event out brings))
     (heard, λ seat tells. tells refl, λ j seat ne. (refl, refl)))
 hears i began (what ∷ more) count out came delivered before at brings now heard =
-    let on = hears_by i what count out came delivered before (at what (inl refl)) brings.2 (now (some_not_none what more)) heard in
+    let on = hears_by i what count out came delivered before (at what (inl refl)) brings.2 (now (cons_not_nil what more)) heard in
     subst (λ (rest : List Arrived). AreHeard (out ++ came) (delivered ++ placed_at count what ∷ map (placed_at count) rest) before
     × ((seat : ℕ) → (began ≡ false → Tells (model.heard_in came i seat) (heard_by delivered i seat)) → Tells (model.heard_in (out ++ came) i seat) (heard_by (delivered ++ placed_at count what ∷ map (placed_at count) rest) i seat))
     × ((j seat : ℕ) → j ≢ i → (model.heard_in (out ++ came) j seat ≡ model.heard_in came j seat) × (heard_by (delivered ++ placed_at count what ∷ map (placed_at count) rest) j seat ≡ heard_by delivered j seat))) (sym brings.0)

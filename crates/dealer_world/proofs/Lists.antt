@@ -1,9 +1,12 @@
--- Lists the other way round.
-use Rattle.std.proofs.Common.{◌≡◌, inl, inr, List, [], ◌∷◌, ◌++◌, map, reverse, refl, ap, sym, ◌∙◌, subst}
+-- Lists with something in them, and lists the other way round.
+use Rattle.std.proofs.Common.{◌≡◌, ◌≢◌, inl, inr, List, [], ◌∷◌, ◌++◌, map, reverse, refl, ap, sym, ◌∙◌, subst}
 use Rattle.std.proofs.lemmas.List.{reverse-reverse, map-append}
 use Rattle.slot_log.proofs.Hands.{reverse-cons}
 use Rattle.protocol_model.specs.Sets.{In}
 use Rattle.protocol_model.proofs.Sets.{in_first, in_later}
+
+pub cons_not_nil : {A : Type 0} (x : A) (xs : List A) → (x ∷ xs) ≢ []
+cons_not_nil x xs e = cc
 
 pub reverse_map : {A B : Type 0} (f : A → B) (xs : List A) → reverse (map f xs) ≡ map f (reverse xs)
 reverse_map f [] = refl

@@ -11,7 +11,7 @@ use Rattle.dealer_world.specs.Calls.{Text, Made, AreTold, added_by, log_after, l
 use Rattle.dealer_world.specs.Views.{piece_of, starts_after, grown}
 use Rattle.dealer_world.specs.Behind.{ArePieces, AreBegun, HaveHeaders}
 use Rattle.protocol_model.proofs.Sets.{in_first, in_later, in_split}
-use Rattle.dealer_world.proofs.Lists.{reverse_map, in_reversed}
+use Rattle.dealer_world.proofs.Lists.{cons_not_nil, reverse_map, in_reversed}
 
 both_own : (i k : ℕ) → ((i == i) && (k == k)) ≡ true
 both_own i k = ap (λ b. b && (k == k)) (eq-eqb i i refl) ∙ eq-eqb k k refl
@@ -48,9 +48,6 @@ whole_by : (reader : Reader) (i k : ℕ) (text log : List ℕ) (before : List Pi
     → read_by reader log text ≡ text_by reader before (record { node = i; start = k; reader = reader; text = text })
 whole_by (Seat seat) i k text log before is = refl
 whole_by Log i k text log before is = ap (λ l. l ++ text) (sym is)
-
-cons_not_nil : {A : Type 0} (x : A) (xs : List A) → (x ∷ xs) ≢ []
-cons_not_nil x xs e = cc
 
 -- texts that were told are pieces behind those before
 pub pieces_more : (base : ℕ → ℕ) (i k start : ℕ) (out latest : List Shown) (texts : List Text) (before : List Piece)
