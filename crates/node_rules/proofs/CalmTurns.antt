@@ -44,7 +44,7 @@ use Rattle.protocol_model.proofs.Ballots.{at_most_self, not_below, below_if, is_
 use Rattle.node_rules.proofs.Closing.{none_of_ballot, stored_new, unmarked}
 use Rattle.node_rules.proofs.Halting.{unled_by}
 use Rattle.node_rules.proofs.Settled.{PassesOver, passes_over, counted_is, proposal_is, turn_made, Fresh, made_turn, marked_none, asked_same}
-use Rattle.node_rules.proofs.Learning.{open_if}
+use Rattle.learner.proofs.Kept.{open_means}
 use Rattle.node_rules.proofs.Electing.{covered}
 use Rattle.node_rules.proofs.Counting.{Counts, counts_vote}
 use Rattle.node_rules.proofs.Ticking.{few_nodes}
@@ -85,7 +85,7 @@ new_vote_passes g n i l came ballot slot command few nodes counts only = passes_
         let m : Message = Accepted i ballot slot command in
         alone_yet n i ballot slot command came few only
         (subst (λ (k : ℕ). IsChosenIn k (m ∷ came) ballot slot command) nodes
-        (g.completed (m ∷ came) l i ballot slot command (g.more came l m counts.counts_from) (inl refl) (open_if l.log slot ahead) done))
+        (g.completed (m ∷ came) l i ballot slot command (g.more came l m counts.counts_from) (inl refl) (open_means l.log slot ahead) done))
 
 -- ---- closes
 
@@ -515,7 +515,7 @@ too_few r rest voters s p j distinct less = passes_over s.learned j (ballot_in r
     not_done : is_open s.learned.log (slot_in r) ≡ true → completes s.learned j (ballot_in r) (slot_in r) r.command ≡ true → ⊥
     not_done ahead done =
         let chosen : IsChosenIn s.learned.nodes (Accepted j (ballot_in r) (slot_in r) r.command ∷ p.more) (ballot_in r) (slot_in r) r.command =
-        r.given.completed (m ∷ p.more) s.learned j (ballot_in r) (slot_in r) r.command (r.given.more p.more s.learned m p.counts.counts_from) (inl refl) (open_if s.learned.log (slot_in r) ahead) done in
+        r.given.completed (m ∷ p.more) s.learned j (ballot_in r) (slot_in r) r.command (r.given.more p.more s.learned m p.counts.counts_from) (inl refl) (open_means s.learned.log (slot_in r) ahead) done in
         let chosen_n : IsChosenIn r.n (Accepted j (ballot_in r) (slot_in r) r.command ∷ p.more) (ballot_in r) (slot_in r) r.command =
         subst (λ (k : ℕ). IsChosenIn k (Accepted j (ballot_in r) (slot_in r) r.command ∷ p.more) (ballot_in r) (slot_in r) r.command) p.nodes chosen in
         let l = count_within chosen_n.0 (is_in (j ∷ voters)) r.n (λ k below is. in_is (j ∷ voters) k (more_only r voters s p j k (slot_in r) r.command (chosen_n.2 k below is)).1) in

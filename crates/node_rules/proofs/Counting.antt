@@ -22,7 +22,7 @@ use Rattle.node_rules.specs.Given.{Given}
 use Rattle.node_rules.specs.Being.{IsLearner}
 use Rattle.protocol_model.proofs.Sets.{all_same}
 use Rattle.protocol_model.proofs.Ballots.{same_ballot}
-use Rattle.node_rules.proofs.Learning.{open_if}
+use Rattle.learner.proofs.Kept.{open_means}
 use Rattle.node_rules.proofs.Settled.{turn_is}
 
 -- ---- what was counted came
@@ -114,7 +114,7 @@ vote_grows g came l voter ballot slot command log low ok c = by_test (is_open l.
 
     by_test : (b : Bool) → is_open l.log slot ≡ b → GrowsBy came l (hearing l voter ballot slot command) voter ballot slot command
     by_test true e =
-        let ahead : IsOpen l.log slot = open_if l.log slot e in
+        let ahead : IsOpen l.log slot = open_means l.log slot e in
         record {
           grows = record {
             more = vote ∷ came;

@@ -1,9 +1,8 @@
 -- What is counted and known, on the path of a call.
 use Rattle.std.proofs.Common.{◌≡◌, ℕ, ◌<◌, ◌≤◌, ◌+◌, ◌⊎◌, inl, inr, Bool, true, false, not, if◌then◌else◌, ◌==◌, List, [], ◌∷◌, ◌++◌, Option, Some, None, Result, Ok, Err, refl, sym, ap, subst, ◌∙◌, arith, length}
-use Rattle.std.specs.Prelude.{nat_lt, is_none, IsOk}
-use Rattle.std.proofs.lemmas.Bool.{ltb-true, ltb-false, eqb-true, eqb-false}
+use Rattle.std.specs.Prelude.{is_none, IsOk}
+use Rattle.std.proofs.lemmas.Bool.{eqb-true, eqb-false}
 use Rattle.std.proofs.lemmas.List.{append-nil, length-append}
-use Rattle.paxos_wire.specs.declared.limits.TheConstants.{WINDOW}
 use Rattle.paxos_wire.specs.declared.ballot.Ballot.{Ballot}
 use Rattle.slot_log.specs.declared.limits.TheConstants.{SLOTS}
 use Rattle.slot_log.specs.declared.slot_fault.SlotFault.{SlotFault}
@@ -33,24 +32,10 @@ use Rattle.node_rules.specs.Learning.{learning, counting_vote}
 use Rattle.node_rules.specs.Being.{IsCampaign, IsProposer, IsLearner, IsPending}
 use Rattle.node_rules.specs.Given.{Given}
 use Rattle.node_rules.proofs.Proposed.{learned_proposed}
+use Rattle.learner.proofs.Kept.{open_means}
 use Rattle.node_rules.proofs.Keeping.{commands_more}
 use Rattle.node_rules.proofs.Paths.{Hearing, Scope, dealer_in, first_in, Path, Goes}
 use Rattle.node_rules.proofs.Settling.{settle, at_scene}
-
--- ---- tests
-
-open_by : (log : Log) (slot : ℕ) (a b c : Bool) → nat_lt slot (front log) ≡ a → nat_lt slot (front log + WINDOW) ≡ b → nat_lt slot SLOTS ≡ c
-    → (if a then false else if b then c else false) ≡ true → IsOpen log slot
-open_by log slot true b c ea eb ec h = absurd (cc)
-open_by log slot false false c ea eb ec h = absurd (cc)
-open_by log slot false true c ea eb ec h = record {
-  reached = ltb-false slot (front log) ea;
-  within = ltb-true slot (front log + WINDOW) eb;
-  is_slot = ltb-true slot SLOTS (ec ∙ h);
-}
-
-pub open_if : (log : Log) (slot : ℕ) → is_open log slot ≡ true → IsOpen log slot
-open_if log slot h = open_by log slot _ _ _ refl refl refl h
 
 -- ---- no other command is known where one was chosen
 
@@ -331,7 +316,7 @@ count_by x came heard t from ballot slot command true false other p had below eo
 count_by x came heard t from ballot slot command true false other p had below eo ed er (Ok a) ea answers new en is =
     let l = p.knows.learner in
     let g = x.given in
-    let at : IsOpen t.after.learned.log slot = open_if t.after.learned.log slot eo in
+    let at : IsOpen t.after.learned.log slot = open_means t.after.learned.log slot eo in
     let ok : IsOk (answer_to t.after.learned from ballot slot command) = subst IsOk (sym ea) refl in
     let low : from < t.after.learned.nodes = subst (λ (k : ℕ). from < k) (sym l.nodes) below in
     let m : Message = Accepted from ballot slot command in
@@ -344,13 +329,13 @@ count_by x came heard t from ballot slot command true true true p had below eo e
     let m : Message = Accepted from ballot slot command in
     let chosen : IsChosenIn x.place.nodes p.node.has ballot slot command =
     chosen_more t.after.learned.nodes x.place.nodes (m ∷ l.in_time) p.node.has ballot slot command l.nodes (in_time_had l.in_time p.node.has m had l.came)
-    (x.given.completed (m ∷ l.in_time) t.after.learned from ballot slot command (x.given.more l.in_time t.after.learned m l.counts) (inl refl) (open_if t.after.learned.log slot eo) ed) in
+    (x.given.completed (m ∷ l.in_time) t.after.learned from ballot slot command (x.given.more l.in_time t.after.learned m l.counts) (inl refl) (open_means t.after.learned.log slot eo) ed) in
     let clash : true ≡ false = sym er ∙ no_conflict x came heard (applied t.after) t p slot command (inl (ballot, chosen)) in absurd (cc)
 count_by x came heard t from ballot slot command true true false p had below eo ed er (Err f) ea answers new en is = absurd (cc)
 count_by x came heard t from ballot slot command true true false p had below eo ed er (Ok a) ea answers new en is =
     let l = p.knows.learner in
     let g = x.given in
-    let at : IsOpen t.after.learned.log slot = open_if t.after.learned.log slot eo in
+    let at : IsOpen t.after.learned.log slot = open_means t.after.learned.log slot eo in
     let ok : IsOk (answer_to t.after.learned from ballot slot command) = subst IsOk (sym ea) refl in
     let low : from < t.after.learned.nodes = subst (λ (k : ℕ). from < k) (sym l.nodes) below in
     let m : Message = Accepted from ballot slot command in
@@ -392,7 +377,7 @@ tell_by x came heard t sender slot command true false p had sent eo er (Err f) a
 tell_by x came heard t sender slot command true false p had sent eo er (Ok a) answers new en is =
     let l = p.knows.learner in
     let g = x.given in
-    apply_known x came heard t p new slot command l.in_time (ap (λ (y : Learned). y.log) is) (open_if t.after.learned.log slot eo).is_slot (ap (λ (y : Learned). y.nodes) is) (inr (sender, had)) l.came
+    apply_known x came heard t p new slot command l.in_time (ap (λ (y : Learned). y.log) is) (open_means t.after.learned.log slot eo).is_slot (ap (λ (y : Learned). y.nodes) is) (inr (sender, had)) l.came
     (subst (CountsFrom l.in_time) en (g.chosen_counts l.in_time t.after.learned slot command l.counts))
     (subst (CountsAll l.in_time) en (g.chosen_counts_all l.in_time t.after.learned slot command l.counts_all))
     (subst (KnowsChosen l.in_time) en (g.chosen_known l.in_time t.after.learned slot command l.log l.knows_chosen))

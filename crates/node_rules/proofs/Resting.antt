@@ -34,7 +34,8 @@ use Rattle.node_rules.specs.Proposing.{own_value, proposing, closing_by, proposa
 use Rattle.node_rules.specs.Being.{Campaigns}
 use Rattle.node_rules.proofs.Sourcing.{had_was_sent}
 use Rattle.node_rules.proofs.Paths.{Hearing, Scope, dealer_in, Path, Goes}
-use Rattle.node_rules.proofs.Learning.{world_now, open_if}
+use Rattle.learner.proofs.Kept.{open_means}
+use Rattle.node_rules.proofs.Learning.{world_now}
 use Rattle.node_rules.proofs.Closing.{IsMade, made_by, campaigns_of, none_of_ballot, stored_new, unmarked}
 
 -- ---- a quorum has a member that isn't this node
@@ -109,7 +110,7 @@ alone x came heard t p c made is ahead = by_test (completes t.after.learned x.pl
         let m : Message = Accepted i made.ballot made.slot made.command in
         let chosen : IsChosenIn t.after.learned.nodes (m ∷ l.in_time) made.ballot made.slot made.command =
         x.given.completed (m ∷ l.in_time) t.after.learned i made.ballot made.slot made.command (x.given.more l.in_time t.after.learned m l.counts) (inl refl)
-        (open_if t.after.learned.log made.slot ahead) e in
+        (open_means t.after.learned.log made.slot ahead) e in
         let j = other_member chosen.0 i t.after.learned.nodes (two_of t.after.learned.nodes (count chosen.0 t.after.learned.nodes) (subst HasNodes (sym l.nodes) x.is_place.few) chosen.1) in
         absurd (elim (chosen.2 j.0 j.1 j.2) [
           | inl same ↦ j.3 (accepted_by j.0 i made.ballot made.slot made.command same)

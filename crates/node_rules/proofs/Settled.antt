@@ -37,7 +37,8 @@ use Rattle.node_rules.specs.Being.{Campaigns}
 use Rattle.node_rules.specs.Proposed.{IsSettled}
 use Rattle.node_rules.specs.Rules.{asking}
 use Rattle.node_rules.proofs.Paths.{Hearing, Scope, dealer_in, Path, Goes}
-use Rattle.node_rules.proofs.Learning.{open_if, world_now}
+use Rattle.learner.proofs.Kept.{open_means}
+use Rattle.node_rules.proofs.Learning.{world_now}
 use Rattle.node_rules.proofs.Members.{one_counted, three_nodes}
 use Rattle.node_rules.proofs.Closing.{IsMade, made_by, campaigns_of, none_of_ballot, stored_new, unmarked}
 use Rattle.node_rules.proofs.Sourcing.{had_was_sent}
@@ -279,7 +280,7 @@ fresh x came heard t p c made is = record {
         (subst (λ (b : Ballot). In (Prepare b c.first) p.node.sent) (sym safe.ballot) camp.prepared) once l.came
         (subst (λ (k : ℕ). IsChosenIn k (m ∷ l.in_time) made.ballot made.slot made.command) l.nodes
         (x.given.completed (m ∷ l.in_time) t.after.learned x.place.node made.ballot made.slot made.command (x.given.more l.in_time t.after.learned m l.counts) (inl refl)
-        (open_if t.after.learned.log made.slot ahead) done))
+        (open_means t.after.learned.log made.slot ahead) done))
 
 pub made_turn : (place : Place) (s : Standing) (c : Campaign) (made : Made) → s.campaign ≡ Some c → Fresh place s c made
     → proposing place made (record s { campaign = marked_from s.campaign (Ok (Some made)) }) ≡ Ok (turn_made place s c made)
