@@ -42,6 +42,7 @@ use Rattle.node_rules.specs.LawsPending.{first_of, kept_over, handed_on, WaitsHe
 use Rattle.node_rules.proofs.Beginning.{commands_known}
 use Rattle.node_rules.proofs.Answering.{answer_fits, fits_if}
 use Rattle.node_rules.proofs.Starting.{none_seated}
+use Rattle.node_rules.proofs.Sitting.{same_hands}
 use Rattle.node_rules.proofs.Chaining.{ok_is, ok_not}
 use Rattle.node_rules.proofs.Resting.{Closed, rests, proposes}
 use Rattle.node_rules.proofs.Led.{tick_splits, piece_splits, frame_turn}
@@ -316,11 +317,6 @@ step_pending g place seat (Err fault) s bytes cur new rest answers = sym (first_
 step_pending g place seat (Ok (Act act)) s bytes cur new rest answers =
     let fit : fits place.setting (applied s) act ≡ true = fits_if g place.setting (applied s) act (answer_fits g place.setting (applied s) seat bytes cur new act rest answers) in
     waiting_by s.pending act (fits place.setting (applied s) act) ∙ ap (λ b. first_of s.pending (if b then act ∷ [] else [])) fit
-
-pub same_hands : (place : Place) (seat : ℕ) (said : Result Saying SessionFault) (s : Standing) → hands_at place (answering place seat said s).after ≡ hands_at place s
-same_hands place seat (Ok Ready) s = refl
-same_hands place seat (Ok (Act act)) s = refl
-same_hands place seat (Err fault) s = refl
 
 pub answers_pending : (g : Given) (place : Place) (seat : ℕ) (said : List (Result Saying SessionFault)) (t : Turn) (bytes : List ℕ) (cur new : Talk) → IsRestOf bytes cur
     → Drains place.setting.game (hands_at place t.after) seat cur said new → (answering_all place seat said t).after.pending ≡ first_of t.after.pending (acts_in said)

@@ -167,7 +167,7 @@ same_learned place seat (Ok Ready) s = refl
 same_learned place seat (Ok (Act act)) s = refl
 same_learned place seat (Err fault) s = refl
 
-same_hands : (place : Place) (seat : ℕ) (said : Result Saying SessionFault) (s : Standing) → hands_at place (answering place seat said s).after ≡ hands_at place s
+pub same_hands : (place : Place) (seat : ℕ) (said : Result Saying SessionFault) (s : Standing) → hands_at place (answering place seat said s).after ≡ hands_at place s
 same_hands place seat said s = ap (λ (l : Learned). hands_after place.setting l.log.below) (same_learned place seat said s)
 
 pub drain : (x : Scope) (came : List Arrival) (heard : Hearing) (t : Turn) (seat : ℕ) (bytes : List ℕ) (answers : List (Result Saying SessionFault)) (cur new : Talk) (p : Path x came heard (applied t.after) t)
