@@ -7,14 +7,13 @@ use Rattle.paxos_wire.specs.declared.limits.TheConstants.{SLOTS, NODES}
 use Rattle.paxos_wire.specs.declared.ballot.Ballot.{Ballot}
 use Rattle.paxos_wire.specs.declared.entry.Entry.{Entry}
 use Rattle.slot_log.specs.Slots.{IsLog}
-use Rattle.slot_log.specs.declared.command.Command.{Command}
 use Rattle.protocol_model.specs.Ballots.{AtMost}
 use Rattle.protocol_model.specs.Nodes.{Node}
 use Rattle.protocol_model.specs.Stores.{Store, promised}
 use Rattle.proposer.specs.declared.accept.Accept.{Accept as Made}
 use Rattle.proposer.specs.declared.fault.ProposeFault.{ProposeFault}
 use Rattle.proposer.specs.declared.fault.ProposeFault.TheVariants.{OutOfWindow}
-use Rattle.proposer.specs.Campaigns.{leads, proposal_from, next_ballot, new_campaign, has_quorum, is_counted, is_covered, is_proposed, accept_of, value_of, greatest_told}
+use Rattle.proposer.specs.Campaigns.{leads, next_ballot, new_campaign, has_quorum, is_counted, is_covered, is_proposed, accept_of, value_of, greatest_told}
 use Rattle.dealer_kind.specs.Plans.{HasNodes}
 use Rattle.node_rules.specs.Standings.{Place, Standing, front_of}
 use Rattle.node_rules.specs.Turns.{Turn, Refusal, Spent, still, joined, behind, and_then}
@@ -22,7 +21,6 @@ use Rattle.node_rules.specs.Accepting.{told_by}
 use Rattle.node_rules.specs.Proposing.{higher, greatest_seen, is_over, is_spent, prepared, beginning, ticking, own_value, closing}
 use Rattle.node_rules.specs.Seen.{Sees}
 use Rattle.node_rules.specs.Proposed.{IsSettled}
-use Rattle.proposer.specs.declared.campaign.Campaign.{Campaign}
 use Rattle.node_rules.specs.Calls.{Tick}
 use Rattle.node_rules.specs.Rules.{IsTurnBy}
 use Rattle.node_rules.specs.Given.{Given}
@@ -32,6 +30,7 @@ use Rattle.node_rules.proofs.Asking.{behind_still}
 use Rattle.node_rules.proofs.Chaining.{ok_not}
 use Rattle.node_rules.proofs.Resting.{IsRest, rest_closes}
 use Rattle.node_rules.proofs.Led.{tick_splits}
+use Rattle.node_rules.proofs.Halting.{unled_by}
 
 -- ---- the round
 
@@ -138,17 +137,12 @@ waits_by false covered done value e = refl
 waits_by true covered done value e = absurd (true≢false e)
 
 -- nor is anything left to propose between calls
-not_leading : (n : ℕ) (c : Option Campaign) (front : ℕ) (own : Option Command) → leads n c ≡ false → proposal_from n c front own ≡ Ok None
-not_leading n None front own e = refl
-not_leading n (Some c) front own e =
-    waits_by (has_quorum n c) (is_covered c.first front) (is_proposed c front) (accept_of c front (value_of (greatest_told c front n) own)) e
-
 settled_rests : (place : Place) (s : Standing) → IsSettled place s → IsRest place s
 settled_rests place s settled = by_lead (leads place.nodes s.campaign) refl
   where
     by_lead : (b : Bool) → leads place.nodes s.campaign ≡ b → IsRest place s
     by_lead true e = record { in_range = ap (λ b. b && nat_le SLOTS (front_of s)) e ∙ (settled e).0; nothing = (settled e).1 }
-    by_lead false e = record { in_range = ap (λ b. b && nat_le SLOTS (front_of s)) e; nothing = not_leading place.nodes s.campaign (front_of s) (own_value place s) e }
+    by_lead false e = record { in_range = ap (λ b. b && nat_le SLOTS (front_of s)) e; nothing = unled_by place.nodes s.campaign (front_of s) (own_value place s) e }
 
 -- a ballot that was just begun has nothing to propose
 begun_rests : (place : Place) (ballot : Ballot) (s : Standing) → HasNodes place.nodes → place.node < place.nodes → IsRest place (beginning place ballot s).after
