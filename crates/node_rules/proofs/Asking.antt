@@ -16,7 +16,7 @@ use Rattle.node_rules.specs.Being.{IsProposer, IsPending}
 use Rattle.node_rules.specs.Proposing.{own_value}
 use Rattle.node_rules.proofs.Proposed.{pending_proposed}
 use Rattle.node_rules.proofs.Paths.{Hearing, Scope, dealer_in, Path, Goes}
-use Rattle.node_rules.proofs.Steps.{send_one, go_on}
+use Rattle.node_rules.proofs.Steps.{send_one, unsent, go_on}
 
 -- turns in any grouping are one
 pub joined_assoc : (t u v : Turn) → joined (joined t u) v ≡ joined t (joined u v)
@@ -81,81 +81,37 @@ tell_known x came heard t from slot p below other = tell_all x came heard (appli
 pub with_campaign : (x : Scope) (came : List Arrival) (heard : Hearing) (upto : List Command) (t : Turn) (c : Option Campaign) → (p : Path x came heard upto t)
     → IsProposer x.place.nodes x.place.node p.node (front_of t.after) c
     → Path x came heard upto (record t { after = record t.after { campaign = c } })
-with_campaign x came heard upto t c p proposer = record {
-  sent = p.sent;
-  shown = p.shown;
-  got = p.got;
-  node = p.node;
-  chain = p.chain;
-  knows = record {
-    up = p.knows.up;
-    store = p.knows.store;
-    within = p.knows.within;
-    proposer = proposer;
-    learner = p.knows.learner;
-    pending = p.knows.pending;
-    places = p.knows.places;
-    shown = p.knows.shown;
-    seen = p.knows.seen;
-    proposals = p.knows.proposals;
-  };
-  commands = p.commands;
-  hears = p.hears;
-  talks = p.talks;
-  runs = p.runs;
-  begun = p.begun;
-  unbegun = p.unbegun;
-  starts = p.starts;
-  has = p.has;
-  carry = p.carry;
-  all = p.all;
-  pieces = p.pieces;
-  logged = p.logged;
-  unshown = p.unshown;
-  unvoted = p.unvoted;
-  unstored = p.unstored;
-  got_only = p.got_only;
-  got_all = p.got_all;
-}
+with_campaign x came heard upto t c p proposer =
+    unsent x came heard upto upto t (record t { after = record t.after { campaign = c } }) p p.node.known p.shown p.node.shown refl refl p.unbegun refl p.chain
+    (record {
+      up = p.knows.up;
+      store = p.knows.store;
+      within = p.knows.within;
+      proposer = proposer;
+      learner = p.knows.learner;
+      pending = p.knows.pending;
+      places = p.knows.places;
+      shown = p.knows.shown;
+      seen = p.knows.seen;
+      proposals = p.knows.proposals;
+    }) p.commands p.pieces p.logged p.unshown
 
 -- the act that waits changes, and nothing else
 unfoldable pub with_pending : (x : Scope) (came : List Arrival) (heard : Hearing) (upto : List Command) (t : Turn) (act : Option Command) → (p : Path x came heard upto t)
     → IsPending (dealer_in x) x.place.node p.node upto act → ((c : Command) → own_value x.place t.after ≡ Some c → own_value x.place (record t.after { pending = act }) ≡ Some c)
     → Path x came heard upto (record t { after = record t.after { pending = act } })
-with_pending x came heard upto t act p pending same = record {
-  sent = p.sent;
-  shown = p.shown;
-  got = p.got;
-  node = p.node;
-  chain = p.chain;
-  knows = record {
-    up = p.knows.up;
-    store = p.knows.store;
-    within = p.knows.within;
-    proposer = p.knows.proposer;
-    learner = p.knows.learner;
-    pending = pending;
-    places = p.knows.places;
-    shown = p.knows.shown;
-    seen = p.knows.seen;
-    proposals = pending_proposed x.place.nodes x.place.node upto (front_of t.after) (own_value x.place t.after) (own_value x.place (record t.after { pending = act })) p.node.store p.node.has p.node.sent
-        same p.knows.proposals;
-  };
-  commands = p.commands;
-  hears = p.hears;
-  talks = p.talks;
-  runs = p.runs;
-  begun = p.begun;
-  unbegun = p.unbegun;
-  starts = p.starts;
-  has = p.has;
-  carry = p.carry;
-  all = p.all;
-  pieces = p.pieces;
-  logged = p.logged;
-  unshown = p.unshown;
-  unvoted = p.unvoted;
-  unstored = p.unstored;
-  got_only = p.got_only;
-  got_all = p.got_all;
-}
+with_pending x came heard upto t act p pending same =
+    unsent x came heard upto upto t (record t { after = record t.after { pending = act } }) p p.node.known p.shown p.node.shown refl refl p.unbegun refl p.chain
+    (record {
+      up = p.knows.up;
+      store = p.knows.store;
+      within = p.knows.within;
+      proposer = p.knows.proposer;
+      learner = p.knows.learner;
+      pending = pending;
+      places = p.knows.places;
+      shown = p.knows.shown;
+      seen = p.knows.seen;
+      proposals = pending_proposed x.place.nodes x.place.node upto (front_of t.after) (own_value x.place t.after) (own_value x.place (record t.after { pending = act })) p.node.store p.node.has p.node.sent
+          same p.knows.proposals;
+    }) p.commands p.pieces p.logged p.unshown

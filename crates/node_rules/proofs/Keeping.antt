@@ -1,5 +1,5 @@
 -- What a standing says of its node stays so, as the node gets and sends messages.
-use Rattle.std.proofs.Common.{ℕ, inl, inr, List, [], ◌∷◌, Option, Some, None, sym, subst}
+use Rattle.std.proofs.Common.{ℕ, ◌≤◌, inl, inr, List, [], ◌∷◌, Option, Some, None, sym, subst, arith}
 use Rattle.paxos_wire.specs.declared.ballot.Ballot.{Ballot}
 use Rattle.slot_log.specs.declared.command.Command.{Command}
 use Rattle.protocol_model.specs.Sets.{In}
@@ -15,6 +15,40 @@ use Rattle.node_rules.specs.Being.{IsCampaign, Stands, IsProposer, IsLearner, Is
 use Rattle.node_rules.specs.Given.{Given}
 use Rattle.node_rules.specs.Proposing.{own_value}
 use Rattle.node_rules.proofs.Proposed.{got_proposed, sent_proposed}
+
+-- ---- what is known, heard or shown changes, and nothing else
+
+abbrev pub with_others : Node → List (ℕ × Command) → (ℕ → Option (List ℕ)) → ℕ → Node
+with_others node known heard shown = record node { known = known; heard = heard; shown = shown }
+
+others_campaign : (n i : ℕ) (node : Node) (known : List (ℕ × Command)) (heard : ℕ → Option (List ℕ)) (shown : ℕ) (c : Option Campaign) → IsCampaign n i node c
+    → IsCampaign n i (with_others node known heard shown) c
+others_campaign n i node known heard shown None h = tt
+others_campaign n i node known heard shown (Some c) h = record {
+  own = h.own;
+  promised = h.promised;
+  prepared = h.prepared;
+  counts = h.counts;
+  counts_all = h.counts_all;
+  marks = h.marks;
+  votes = h.votes;
+  unrefused = h.unrefused;
+}
+
+-- the front may go on
+pub others_proposer : (n i : ℕ) (node : Node) (known : List (ℕ × Command)) (heard : ℕ → Option (List ℕ)) (shown front further : ℕ) (c : Option Campaign) → front ≤ further
+    → IsProposer n i node front c → IsProposer n i (with_others node known heard shown) further c
+others_proposer n i node known heard shown front further c low p = record {
+  is_campaign = others_campaign n i node known heard shown c p.is_campaign;
+  began = λ b f h. let old = p.began b f h in (old.0, old.1, (let l = old.2 in omega arith));
+  proposed = p.proposed;
+  stands = λ b f st near left. p.stands b f (record { began = st.began; promised = st.promised; unrefused = st.unrefused }) (omega arith) (omega arith);
+}
+
+pub others_pending : (d : Dealer) (i : ℕ) (node : Node) (known : List (ℕ × Command)) (heard : ℕ → Option (List ℕ)) (shown : ℕ) (upto : List Command) (c : Option Command)
+    → IsPending d i node upto c → IsPending d i (with_others node known heard shown) upto c
+others_pending d i node known heard shown upto None h = tt
+others_pending d i node known heard shown upto (Some act) h = h
 
 -- ---- a message is got
 

@@ -1,5 +1,5 @@
 -- What is counted and known, on the path of a call.
-use Rattle.std.proofs.Common.{◌≡◌, ℕ, ◌<◌, ◌≤◌, ◌+◌, ◌⊎◌, inl, inr, Bool, true, false, not, if◌then◌else◌, ◌==◌, List, [], ◌∷◌, ◌++◌, Option, Some, None, Result, Ok, Err, refl, sym, ap, subst, ◌∙◌, arith, length}
+use Rattle.std.proofs.Common.{◌≡◌, ℕ, ◌<◌, ◌⊎◌, inl, inr, Bool, true, false, not, if◌then◌else◌, ◌==◌, List, [], ◌∷◌, ◌++◌, Option, Some, None, Result, Ok, Err, refl, sym, ap, subst, ◌∙◌, arith, length}
 use Rattle.std.specs.Prelude.{is_none, IsOk}
 use Rattle.std.proofs.lemmas.Bool.{eqb-true, eqb-false}
 use Rattle.std.proofs.lemmas.List.{append-nil, length-append}
@@ -12,28 +12,26 @@ use Rattle.slot_log.specs.declared.command.Command.{Command}
 use Rattle.protocol_model.specs.Sets.{In}
 use Rattle.protocol_model.specs.Messages.{Message, Accepted, Chosen}
 use Rattle.protocol_model.specs.Quorums.{IsChosen, IsChosenIn}
-use Rattle.protocol_model.specs.Dealers.{Dealer}
 use Rattle.protocol_model.specs.Nodes.{Node, Knows as KnowsCommands}
 use Rattle.protocol_model.specs.Arrivals.{Arrival}
 use Rattle.protocol_model.specs.Moves.{Chain, nothing, more, learns, believes}
 use Rattle.protocol_model.specs.Worlds.{World, Reached, IsAfter, new_world}
-use Rattle.proposer.specs.declared.campaign.Campaign.{Campaign}
 use Rattle.learner.specs.declared.chosen.Chosen.{Chosen as Learnt}
 use Rattle.learner.specs.Same.{is_same}
 use Rattle.learner.specs.Learning.{Learned, is_open, is_other, known_with, knowing, counting, completes, answer_to, hearing, answer_to_chosen, believing as with_chosen}
 use Rattle.learner.specs.Counted.{IsOpen, CountsFrom, CountsAll, KnowsChosen}
 use Rattle.node_rules.specs.Standings.{applied, front_of}
-use Rattle.node_rules.specs.Sending.{Frame}
 use Rattle.node_rules.specs.Showing.{Piece}
-use Rattle.node_rules.specs.Called.{Carry, CarryAll, AreShown, log_after}
+use Rattle.node_rules.specs.Called.{AreShown, log_after}
 use Rattle.node_rules.specs.Turns.{Turn, joined, behind}
 use Rattle.node_rules.specs.Applying.{scene_of, applying}
 use Rattle.node_rules.specs.Learning.{learning, counting_vote}
-use Rattle.node_rules.specs.Being.{IsCampaign, IsProposer, IsLearner, IsPending}
+use Rattle.node_rules.specs.Being.{IsLearner}
 use Rattle.node_rules.specs.Given.{Given}
 use Rattle.node_rules.proofs.Proposed.{learned_proposed}
 use Rattle.learner.proofs.Kept.{open_means}
-use Rattle.node_rules.proofs.Keeping.{commands_more}
+use Rattle.node_rules.proofs.Keeping.{others_proposer, others_pending, commands_more}
+use Rattle.node_rules.proofs.Steps.{unsent}
 use Rattle.node_rules.proofs.Paths.{Hearing, Scope, dealer_in, first_in, Path, Goes}
 use Rattle.node_rules.proofs.Settling.{settle, at_scene}
 
@@ -96,33 +94,6 @@ pair_is s t c d e = (ap (λ (p : ℕ × Command). p.0) e, ap (λ (p : ℕ × Com
 abbrev with_known : Node → List (ℕ × Command) → Node
 with_known node known = record node { known = known }
 
-known_campaign : (n i : ℕ) (node : Node) (known : List (ℕ × Command)) (c : Option Campaign) → IsCampaign n i node c → IsCampaign n i (with_known node known) c
-known_campaign n i node known None h = tt
-known_campaign n i node known (Some c) h = record {
-  own = h.own;
-  promised = h.promised;
-  prepared = h.prepared;
-  counts = h.counts;
-  counts_all = h.counts_all;
-  marks = h.marks;
-  votes = h.votes;
-  unrefused = h.unrefused;
-}
-
-known_proposer : (n i : ℕ) (node : Node) (known : List (ℕ × Command)) (at further : ℕ) (c : Option Campaign) → at ≤ further → IsProposer n i node at c
-    → IsProposer n i (with_known node known) further c
-known_proposer n i node known at further c low p = record {
-  is_campaign = known_campaign n i node known c p.is_campaign;
-  began = λ b f h. let old = p.began b f h in (old.0, old.1, (let l = old.2 in omega arith));
-  proposed = p.proposed;
-  stands = λ b f st near left. p.stands b f (record { began = st.began; promised = st.promised; unrefused = st.unrefused }) (omega arith) (omega arith);
-}
-
-known_pending : (d : Dealer) (i : ℕ) (node : Node) (known : List (ℕ × Command)) (upto : List Command) (c : Option Command) → IsPending d i node upto c
-    → IsPending d i (with_known node known) upto c
-known_pending d i node known upto None h = tt
-known_pending d i node known upto (Some c) h = h
-
 -- a learner with one command more, or the same
 abbrev Knew : Log → Log → List (ℕ × Command) → List (ℕ × Command) → ℕ → Command → Type 0
 Knew old new before known slot command = ((new ≡ old) × (known ≡ before)) ⊎ ((new ≡ with_command old slot command) × (known_at old slot ≡ None) × (known ≡ (slot, command) ∷ before))
@@ -141,43 +112,23 @@ learned : (x : Scope) (came : List Arrival) (heard : Hearing) (t : Turn) (p : Pa
     → ((commands : List Command) → KnowsCommands p.node.known commands → KnowsCommands known commands)
     → Path x came heard (applied t.after) (at_scene t new (scene_of t.after))
 learned x came heard t p new known later e learner chain wider =
-    record {
-      sent = p.sent;
-      shown = p.shown;
-      got = p.got;
-      node = with_known p.node known;
-      chain = chain;
-      knows = record {
-        up = p.knows.up;
-        store = p.knows.store;
-        within = p.knows.within;
-        proposer = known_proposer x.place.nodes x.place.node p.node known (front_of t.after) (front new.log) t.after.campaign
-            (let h = ap length e ∙ length-append later (applied t.after) in omega (arith, h)) p.knows.proposer;
-        learner = learner;
-        pending = known_pending (dealer_in x) x.place.node p.node known (applied t.after) t.after.pending p.knows.pending;
-        places = p.knows.places;
-        shown = p.knows.shown;
-        seen = p.knows.seen;
-        proposals = learned_proposed x.place.nodes x.place.node x.place t.after new later p.node.store p.node.has p.node.sent e p.knows.proposals;
-      };
-      commands = wider (applied t.after) p.commands;
-      hears = p.hears;
-      talks = p.talks;
-      runs = p.runs;
-      begun = p.begun;
-      unbegun = p.unbegun;
-      starts = p.starts;
-      has = p.has;
-      carry = subst (λ (l : List Frame). Carry x.place.nodes x.place.node l p.sent) (sym (append-nil t.frames)) p.carry;
-      all = subst (λ (l : List Frame). CarryAll x.place.nodes x.place.node l p.sent) (sym (append-nil t.frames)) p.all;
-      pieces = λ ends. subst (λ (l : List Piece). AreShown x.place.node x.start x.log l p.shown) (sym (append-nil t.shown)) (p.pieces ends);
-      logged = λ ends. ap (log_after x.log) (append-nil t.shown) ∙ p.logged ends;
-      unshown = p.unshown;
-      unvoted = p.unvoted;
-      unstored = p.unstored;
-      got_only = p.got_only;
-      got_all = p.got_all;
-    }
+    unsent x came heard (applied t.after) (applied t.after) t (at_scene t new (scene_of t.after)) p known p.shown p.node.shown refl refl p.unbegun (append-nil t.frames) chain
+    (record {
+      up = p.knows.up;
+      store = p.knows.store;
+      within = p.knows.within;
+      proposer = others_proposer x.place.nodes x.place.node p.node known p.node.heard p.node.shown (front_of t.after) (front new.log) t.after.campaign
+          (let h = ap length e ∙ length-append later (applied t.after) in omega (arith, h)) p.knows.proposer;
+      learner = learner;
+      pending = others_pending (dealer_in x) x.place.node p.node known p.node.heard p.node.shown (applied t.after) t.after.pending p.knows.pending;
+      places = p.knows.places;
+      shown = p.knows.shown;
+      seen = p.knows.seen;
+      proposals = learned_proposed x.place.nodes x.place.node x.place t.after new later p.node.store p.node.has p.node.sent e p.knows.proposals;
+    })
+    (wider (applied t.after) p.commands)
+    (λ ends. subst (λ (l : List Piece). AreShown x.place.node x.start x.log l p.shown) (sym (append-nil t.shown)) (p.pieces ends))
+    (λ ends. ap (log_after x.log) (append-nil t.shown) ∙ p.logged ends) p.unshown
 
 -- the learner's part, where its log goes on or stays
 learner_by : (g : Given) (n : ℕ) (has : List Message) (known wider : List (ℕ × Command)) (slot : ℕ) (command : Command) (old new : Learned) (in_time : List Message)

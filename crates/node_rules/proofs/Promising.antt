@@ -1,6 +1,5 @@
 -- Promises and refusals on the path of a call.
-use Rattle.std.proofs.Common.{◌≡◌, ◌≢◌, ℕ, zero, suc, ◌<◌, ◌≤◌, ◌+◌, ◌⊎◌, inl, inr, Bool, true, false, if◌then◌else◌, List, [], ◌∷◌, Option, Some, None, Ok, refl, sym, ap, subst, ◌∙◌, arith}
-use Rattle.std.proofs.lemmas.List.{append-nil}
+use Rattle.std.proofs.Common.{◌≡◌, ◌≢◌, ℕ, zero, suc, ◌<◌, ◌≤◌, ◌+◌, ◌⊎◌, inl, inr, Bool, true, false, if◌then◌else◌, List, ◌∷◌, Option, Some, None, Ok, refl, sym, ap, subst, ◌∙◌, arith}
 use Rattle.paxos_wire.specs.declared.limits.TheConstants.{WINDOW}
 use Rattle.paxos_wire.specs.declared.ballot.Ballot.{Ballot}
 use Rattle.paxos_wire.specs.declared.entry.Entry.{Entry}
@@ -13,23 +12,21 @@ use Rattle.protocol_model.specs.Messages.{Vote, entry_of, vote_of, Message, Prep
 use Rattle.protocol_model.specs.Stores.{Store, promised, Tells}
 use Rattle.protocol_model.specs.Backing.{IsWithinPromise}
 use Rattle.protocol_model.specs.Arrivals.{Arrival}
-use Rattle.protocol_model.specs.Moves.{sending as sends, with_store, with_sent, more, refuses, promises}
+use Rattle.protocol_model.specs.Moves.{with_store, refuses, promises}
 use Rattle.paxos_wire.specs.Order.{is_below}
 use Rattle.node_rules.specs.Standings.{applied, front_of}
 use Rattle.node_rules.specs.Proposing.{own_value}
 use Rattle.node_rules.proofs.Proposed.{promised_proposed}
 use Rattle.node_rules.specs.Sending.{one}
-use Rattle.node_rules.specs.Showing.{Piece}
 use Rattle.node_rules.specs.Turns.{Turn, joined, behind}
 use Rattle.node_rules.specs.Accepting.{told_at, told_from, told_by, refusing, promising, preparing}
-use Rattle.node_rules.specs.Called.{AreShown, log_after}
 use Rattle.protocol_model.proofs.Sets.{in_later, in_first, in_split}
-use Rattle.node_rules.proofs.Carrying.{joined_carry, joined_all, one_carry, one_all}
+use Rattle.node_rules.proofs.Carrying.{one_carry, one_all}
 use Rattle.protocol_model.proofs.Ballots.{at_most_trans, at_most_of_below, not_below, below_if}
 use Rattle.node_rules.proofs.Ordering.{sees_up}
 use Rattle.node_rules.proofs.Keeping.{sent_pending, stored_pending, prepared_before, proposed_before}
 use Rattle.node_rules.proofs.Paths.{Hearing, Scope, dealer_in, Path, Goes, never}
-use Rattle.node_rules.proofs.Steps.{send_one}
+use Rattle.node_rules.proofs.Steps.{say, send_one}
 
 -- ---- what a promise tells
 
@@ -85,53 +82,33 @@ within_up store ballot up within slot vote e = at_most_trans vote.ballot store.p
 promise : (x : Scope) (came : List Arrival) (heard : Hearing) (upto : List Command) (t : Turn) (from : ℕ) (ballot : Ballot) (slot : ℕ) → x.ends ≡ true
     → (p : Path x came heard upto t) → In (Prepare ballot slot) p.node.has → Below t.after.store.promise ballot → from < x.place.nodes → from ≢ x.place.node
     → Path x came heard upto (joined t (promising from ballot slot t.after))
-promise x came heard upto t from ballot slot ends p had above below other = record {
-  sent = m ∷ p.sent;
-  shown = p.shown;
-  got = p.got;
-  node = with_sent (with_store p.node (promised p.node.store ballot)) (m ∷ []);
-  chain = more _ p.node (sends m) _ _ p.chain
-      (promises ballot slot (told_by t.after.store slot) p.knows.up had up
-      (subst (λ (st : Store). Tells st slot (told_by t.after.store slot)) (sym p.knows.store) (tells t.after.store slot)) refl refl) refl;
-  knows = record {
-    up = p.knows.up;
-    store = ap (λ (st : Store). promised st ballot) p.knows.store;
-    within = within_up p.node.store ballot (at_most_of_below p.node.store.promise ballot up) p.knows.within;
-    proposer = record {
-      is_campaign = tt;
-      began = λ b f h. let old = p.knows.proposer.began b f (prepared_before p.node m b f tt h) in
-          (at_most_trans b p.node.store.promise ballot old.0 (at_most_of_below p.node.store.promise ballot up), old.1, old.2);
-      proposed = λ b s c h. at_most_trans b p.node.store.promise ballot (p.knows.proposer.proposed b s c (proposed_before p.node m b s c tt h)) (at_most_of_below p.node.store.promise ballot up);
-      stands = λ b f st. absurd (not_below b p.node.store.promise (p.knows.proposer.began b f (prepared_before p.node m b f tt st.began)).0
-          (subst (λ (c : Ballot). Below p.node.store.promise c) st.promised up));
-    };
-    learner = p.knows.learner;
-    pending = sent_pending (dealer_in x) x.place.node (with_store p.node (promised p.node.store ballot)) m upto t.after.pending
-        (stored_pending (dealer_in x) x.place.node p.node (promised p.node.store ballot) upto t.after.pending p.knows.pending);
-    places = p.knows.places;
-    shown = p.knows.shown;
-    seen = sees_up p.node.has p.node.store.promise ballot t.after.seen (at_most_of_below p.node.store.promise ballot up) p.knows.seen;
-    proposals = promised_proposed x.place.nodes x.place.node upto (front_of t.after) (own_value x.place t.after) p.node.store ballot p.node.has p.node.has p.node.sent (m ∷ p.node.sent) up
-        p.knows.proposer.proposed (λ b s c h. proposed_before p.node m b s c tt h) p.knows.proposals;
-  };
-  commands = p.commands;
-  hears = p.hears;
-  talks = p.talks;
-  runs = p.runs;
-  begun = refl;
-  unbegun = refl;
-  starts = p.starts;
-  has = p.has;
-  carry = joined_carry x.place.nodes i t.frames (one from w) p.sent (m ∷ []) p.carry (one_carry x.place.nodes i from w m refl tt refl below other);
-  all = joined_all x.place.nodes i t.frames (one from w) p.sent (m ∷ []) p.all (one_all x.place.nodes i from w m refl tt);
-  pieces = λ ends. subst (λ (l : List Piece). AreShown i x.start x.log l p.shown) (sym (append-nil t.shown)) (p.pieces ends);
-  logged = λ ends. ap (log_after x.log) (append-nil t.shown) ∙ p.logged ends;
-  unshown = p.unshown;
-  unvoted = λ q. absurd (never (sym ends ∙ q));
-  unstored = λ q. absurd (never (sym ends ∙ q));
-  got_only = λ o h. elim (p.got_only o h) [ inl a ↦ inl a | inr b ↦ inr (inr b) ];
-  got_all = p.got_all;
-}
+promise x came heard upto t from ballot slot ends p had above below other =
+    (say x came heard upto t m (one from w) (promising from ballot slot t.after).after (promised p.node.store ballot) (promised p.node.store ballot) p
+    refl refl refl refl (λ q. absurd (never (sym ends ∙ q)))
+    (promises ballot slot (told_by t.after.store slot) p.knows.up had up
+    (subst (λ (st : Store). Tells st slot (told_by t.after.store slot)) (sym p.knows.store) (tells t.after.store slot)) refl refl)
+    (record {
+      up = p.knows.up;
+      store = ap (λ (st : Store). promised st ballot) p.knows.store;
+      within = within_up p.node.store ballot (at_most_of_below p.node.store.promise ballot up) p.knows.within;
+      proposer = record {
+        is_campaign = tt;
+        began = λ b f h. let old = p.knows.proposer.began b f (prepared_before p.node m b f tt h) in
+            (at_most_trans b p.node.store.promise ballot old.0 (at_most_of_below p.node.store.promise ballot up), old.1, old.2);
+        proposed = λ b s c h. at_most_trans b p.node.store.promise ballot (p.knows.proposer.proposed b s c (proposed_before p.node m b s c tt h)) (at_most_of_below p.node.store.promise ballot up);
+        stands = λ b f st. absurd (not_below b p.node.store.promise (p.knows.proposer.began b f (prepared_before p.node m b f tt st.began)).0
+            (subst (λ (c : Ballot). Below p.node.store.promise c) st.promised up));
+      };
+      learner = p.knows.learner;
+      pending = sent_pending (dealer_in x) x.place.node (with_store p.node (promised p.node.store ballot)) m upto t.after.pending
+          (stored_pending (dealer_in x) x.place.node p.node (promised p.node.store ballot) upto t.after.pending p.knows.pending);
+      places = p.knows.places;
+      shown = p.knows.shown;
+      seen = sees_up p.node.has p.node.store.promise ballot t.after.seen (at_most_of_below p.node.store.promise ballot up) p.knows.seen;
+      proposals = promised_proposed x.place.nodes x.place.node upto (front_of t.after) (own_value x.place t.after) p.node.store ballot p.node.has p.node.has p.node.sent (m ∷ p.node.sent) up
+          p.knows.proposer.proposed (λ b s c h. proposed_before p.node m b s c tt h) p.knows.proposals;
+    })
+    (one_carry x.place.nodes i from w m refl tt refl below other) (one_all x.place.nodes i from w m refl tt)).path
   where
     i : ℕ
     i = x.place.node

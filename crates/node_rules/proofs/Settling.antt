@@ -9,19 +9,20 @@ use Rattle.protocol_model.specs.Dealers.{Dealer}
 use Rattle.protocol_model.specs.Nodes.{Node, Knows as KnowsCommands}
 use Rattle.protocol_model.specs.Arrivals.{Arrival}
 use Rattle.protocol_model.specs.Moves.{Shown, Chain}
-use Rattle.proposer.specs.declared.campaign.Campaign.{Campaign}
 use Rattle.learner.specs.Learning.{Learned}
 use Rattle.dealer_kind.specs.Kind.{Setting, fits, hands_after, log_of}
 use Rattle.node_rules.specs.Standings.{applied}
 use Rattle.node_rules.specs.Showing.{Piece, news}
 use Rattle.node_rules.specs.Turns.{Turn, joined}
 use Rattle.node_rules.specs.Applying.{Scene, kept, taking, taking_all, passed, scene_of, applying}
-use Rattle.node_rules.specs.Being.{IsCampaign, IsProposer, IsPending}
+use Rattle.node_rules.specs.Being.{IsPending, Knows}
 use Rattle.node_rules.specs.Called.{AreShown, log_after}
 use Rattle.node_rules.proofs.Showing.{Shows, show_news, adds_nothing}
 use Rattle.node_rules.specs.Proposing.{own_value}
 use Rattle.node_rules.proofs.Proposed.{taken_proposed}
 use Rattle.node_rules.proofs.Passing.{all_applied, passed_all}
+use Rattle.node_rules.proofs.Keeping.{others_proposer}
+use Rattle.node_rules.proofs.Steps.{unsent}
 use Rattle.node_rules.proofs.Paths.{Hearing, Scope, dealer_in, first_in, Path, never}
 
 -- ---- the node shows
@@ -29,26 +30,23 @@ use Rattle.node_rules.proofs.Paths.{Hearing, Scope, dealer_in, first_in, Path, n
 abbrev pub with_shown : Node → ℕ → Node
 with_shown node shown = record node { shown = shown }
 
-shown_campaign : (n i : ℕ) (node : Node) (last : ℕ) (c : Option Campaign) → IsCampaign n i node c → IsCampaign n i (with_shown node last) c
-shown_campaign n i node last None h = tt
-shown_campaign n i node last (Some c) h = record {
-  own = h.own;
-  promised = h.promised;
-  prepared = h.prepared;
-  counts = h.counts;
-  counts_all = h.counts_all;
-  marks = h.marks;
-  votes = h.votes;
-  unrefused = h.unrefused;
-}
+-- what goes on shows these pieces, where the call ends, and nothing where it stops in its append
+pub showing : (x : Scope) (came : List Arrival) (heard : Hearing) (upto further : List Command) (t u : Turn) (p : Path x came heard upto t)
+    → u.after.sessions ≡ t.after.sessions → u.after.up ≡ t.after.up → u.after.begun ≡ u.after.store → u.frames ≡ t.frames → length upto ≤ length further → KnowsCommands p.node.known further
+    → ((last : ℕ) → last ≤ length further → Knows (dealer_in x) x.place further u.after (with_shown p.node last))
+    → (x.ends ≡ true → Shows x came p.node p.sent further (log_of x.place.setting further) u.shown)
+    → Path x came heard further u
+showing x came heard upto further t u p sessions up unbegun frames later commands knows shows = by_ends x.ends refl
+  where
+    path_with : (shown : List Shown) (last : ℕ) → last ≤ length further
+        → Chain (dealer_in x) x.place.nodes x.place.node x.world.ever (first_in x) (record { sent = p.sent; shown = shown; came = came }) (with_shown p.node last)
+        → (x.ends ≡ true → AreShown x.place.node x.start x.log u.shown shown) → (x.ends ≡ true → log_after x.log u.shown ≡ log_of x.place.setting further) → (x.ends ≡ false → shown ≡ [])
+        → Path x came heard further u
+    path_with shown last low chain = unsent x came heard upto further t u p p.node.known shown last sessions up unbegun frames chain (knows last low) commands
 
-pub shown_proposer : (n i : ℕ) (node : Node) (last at : ℕ) (c : Option Campaign) → IsProposer n i node at c → IsProposer n i (with_shown node last) at c
-shown_proposer n i node last at c p = record {
-  is_campaign = shown_campaign n i node last c p.is_campaign;
-  began = p.began;
-  proposed = p.proposed;
-  stands = λ b f st. p.stands b f (record { began = st.began; promised = st.promised; unrefused = st.unrefused });
-}
+    by_ends : (ends : Bool) → x.ends ≡ ends → Path x came heard further u
+    by_ends true e = let s = shows e in path_with s.shown s.last s.low s.chain (λ y. s.are) (λ y. s.logged) (λ q. absurd (never (sym e ∙ q)))
+    by_ends false e = path_with p.shown p.node.shown (let h = p.knows.shown in omega (arith, later)) p.chain (λ y. absurd (never (sym y ∙ e))) (λ y. absurd (never (sym y ∙ e))) p.unshown
 
 -- ---- the act that waits
 
@@ -77,7 +75,10 @@ take_by : (x : Scope) (came : List Arrival) (heard : Hearing) (t : Turn) (learne
       pending = kept x.place.setting (command ∷ scene.applied) scene.pending;
       shown = scene.shown ++ (if b then news x.place.setting t.after.sessions (hands_after x.place.setting (command ∷ scene.applied)) else []);
     }))
-take_by x came heard t learned scene command b fit p at passed = by_ends x.ends refl
+take_by x came heard t learned scene command b fit p at passed =
+    showing x came heard scene.applied (command ∷ scene.applied) (at_scene t learned scene)
+    (at_scene t learned (record { applied = command ∷ scene.applied; pending = kept x.place.setting (command ∷ scene.applied) scene.pending; shown = scene.shown ++ added }))
+    p refl refl p.unbegun refl (omega arith) known knows shows
   where
     known : KnowsCommands p.node.known (command ∷ scene.applied)
     known = (p.knows.learner.knows (length scene.applied) command at, p.commands)
@@ -107,64 +108,21 @@ take_by x came heard t learned scene command b fit p at passed = by_ends x.ends 
     shows ends = subst (Shows x came p.node p.sent (command ∷ scene.applied) (log_of x.place.setting (command ∷ scene.applied)))
         (append_assoc t.shown scene.shown added) (shows_by b fit ends)
 
-    path_with : (shown : List Shown) (last : ℕ) → last ≤ suc (length scene.applied)
-        → Chain (dealer_in x) x.place.nodes x.place.node x.world.ever (first_in x) (record { sent = p.sent; shown = shown; came = came }) (with_shown p.node last)
-        → (x.ends ≡ true → AreShown x.place.node x.start x.log (t.shown ++ (scene.shown ++ added)) shown)
-        → (x.ends ≡ true → log_after x.log (t.shown ++ (scene.shown ++ added)) ≡ log_of x.place.setting (command ∷ scene.applied))
-        → (x.ends ≡ false → shown ≡ [])
-        → Path x came heard (command ∷ scene.applied)
-        (at_scene t learned (record {
-          applied = command ∷ scene.applied;
-          pending = kept x.place.setting (command ∷ scene.applied) scene.pending;
-          shown = scene.shown ++ added;
-        }))
-    path_with shown last low chain pieces logged unshown = record {
-      sent = p.sent;
-      shown = shown;
-      got = p.got;
-      node = with_shown p.node last;
-      chain = chain;
-      knows = record {
-        up = p.knows.up;
-        store = p.knows.store;
-        within = p.knows.within;
-        proposer = shown_proposer x.place.nodes x.place.node p.node last (front learned.log) t.after.campaign p.knows.proposer;
-        learner = p.knows.learner;
-        pending = pending_kept x p.node last scene.applied (command ∷ scene.applied) scene.pending p.knows.pending;
-        places = p.knows.places;
-        shown = low;
-        seen = p.knows.seen;
-        proposals = taken_proposed x.place.nodes x.place.node scene.applied command (front learned.log) (own_value x.place (record t.after { learned = learned; pending = scene.pending }))
-            (own_value x.place (record t.after { learned = learned; pending = kept x.place.setting (command ∷ scene.applied) scene.pending })) p.node.store p.node.has p.node.sent passed p.knows.proposals;
-      };
-      commands = known;
-      hears = p.hears;
-      talks = p.talks;
-      runs = p.runs;
-      begun = p.begun;
-      unbegun = p.unbegun;
-      starts = p.starts;
-      has = p.has;
-      carry = p.carry;
-      all = p.all;
-      pieces = pieces;
-      logged = logged;
-      unshown = unshown;
-      unvoted = p.unvoted;
-      unstored = p.unstored;
-      got_only = p.got_only;
-      got_all = p.got_all;
+    knows : (last : ℕ) → last ≤ length (command ∷ scene.applied)
+        → Knows (dealer_in x) x.place (command ∷ scene.applied) (record t.after { learned = learned; pending = kept x.place.setting (command ∷ scene.applied) scene.pending }) (with_shown p.node last)
+    knows last low = record {
+      up = p.knows.up;
+      store = p.knows.store;
+      within = p.knows.within;
+      proposer = others_proposer x.place.nodes x.place.node p.node p.node.known p.node.heard last (front learned.log) (front learned.log) t.after.campaign (omega arith) p.knows.proposer;
+      learner = p.knows.learner;
+      pending = pending_kept x p.node last scene.applied (command ∷ scene.applied) scene.pending p.knows.pending;
+      places = p.knows.places;
+      shown = low;
+      seen = p.knows.seen;
+      proposals = taken_proposed x.place.nodes x.place.node scene.applied command (front learned.log) (own_value x.place (record t.after { learned = learned; pending = scene.pending }))
+          (own_value x.place (record t.after { learned = learned; pending = kept x.place.setting (command ∷ scene.applied) scene.pending })) p.node.store p.node.has p.node.sent passed p.knows.proposals;
     }
-
-    by_ends : (ends : Bool) → x.ends ≡ ends
-        → Path x came heard (command ∷ scene.applied)
-        (at_scene t learned (record {
-          applied = command ∷ scene.applied;
-          pending = kept x.place.setting (command ∷ scene.applied) scene.pending;
-          shown = scene.shown ++ added;
-        }))
-    by_ends true e = let s = shows e in path_with s.shown s.last s.low s.chain (λ y. s.are) (λ y. s.logged) (λ q. absurd (never (sym e ∙ q)))
-    by_ends false e = path_with p.shown p.node.shown (let h = p.knows.shown in omega arith) p.chain (λ y. absurd (never (sym y ∙ e))) (λ y. absurd (never (sym y ∙ e))) p.unshown
 
 take : (x : Scope) (came : List Arrival) (heard : Hearing) (t : Turn) (learned : Learned) (scene : Scene) (command : Command)
     → Path x came heard scene.applied (at_scene t learned scene) → known_at learned.log (length scene.applied) ≡ Some command → length scene.applied < front learned.log

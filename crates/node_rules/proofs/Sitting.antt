@@ -1,5 +1,5 @@
 -- What comes of seats, on the path of a call.
-use Rattle.std.proofs.Common.{◌≡◌, ℕ, ◌<◌, ◌≤◌, inl, inr, Bool, true, false, not, if◌then◌else◌, ◌==◌, ◌&&◌, List, [], ◌∷◌, ◌++◌, Option, Some, None, Result, Ok, Err, refl, sym, ap, subst, ◌∙◌, length}
+use Rattle.std.proofs.Common.{◌≡◌, ℕ, ◌<◌, inl, inr, Bool, true, false, not, if◌then◌else◌, ◌==◌, ◌&&◌, List, [], ◌∷◌, ◌++◌, Option, Some, None, Result, Ok, Err, refl, sym, ap, subst, ◌∙◌, length, arith}
 use Rattle.std.specs.Prelude.{nat_lt, is_none}
 use Rattle.std.proofs.lemmas.List.{append-nil}
 use Rattle.std.proofs.lemmas.Bool.{ltb-true, eqb-false, not-true, and_parts}
@@ -10,11 +10,10 @@ use Rattle.slot_log.specs.Hand.{Hand}
 use Rattle.slot_log.specs.declared.command.Command.{Command}
 use Rattle.protocol_model.specs.Sets.{In}
 use Rattle.protocol_model.specs.Messages.{Forward, Said}
-use Rattle.protocol_model.specs.Dealers.{Dealer, HasLine}
+use Rattle.protocol_model.specs.Dealers.{HasLine}
 use Rattle.protocol_model.specs.Nodes.{Node}
 use Rattle.protocol_model.specs.Arrivals.{Arrival, Event}
-use Rattle.protocol_model.specs.Moves.{Shown, Move, Chain, taking as comes, more, notes, forwards}
-use Rattle.proposer.specs.declared.campaign.Campaign.{Campaign}
+use Rattle.protocol_model.specs.Moves.{Move, taking as comes, more, notes, forwards}
 use Rattle.learner.specs.Learning.{Learned}
 use Rattle.seat_session.specs.Session.{Standing as Talk, is_closed, Answers}
 use Rattle.seat_session.specs.Laws.{Event as Happening, asked, joined as joined_pieces, Happens, IsRestOf}
@@ -23,79 +22,41 @@ use Rattle.seat_session.specs.declared.said.Said.TheVariants.{Ready, Act}
 use Rattle.seat_session.specs.declared.session_fault.SessionFault.{SessionFault}
 use Rattle.dealer_kind.specs.Kind.{fits, says, log_of, hands_after}
 use Rattle.node_rules.specs.Standings.{Place, Standing, applied, front_of, hands_at}
-use Rattle.node_rules.specs.Sending.{Frame, one}
+use Rattle.node_rules.specs.Sending.{one}
 use Rattle.node_rules.specs.Showing.{Piece, SeatFault, seat_line}
 use Rattle.node_rules.specs.Turns.{Turn, sending, joined}
 use Rattle.node_rules.specs.Seats.{waiting, pending_act, is_others, forwarding, answering, answering_all, Drains}
-use Rattle.node_rules.specs.Being.{IsCampaign, IsPending}
-use Rattle.node_rules.specs.Called.{Carry, CarryAll, AreShown, log_after}
+use Rattle.node_rules.specs.Being.{IsPending}
 use Rattle.node_rules.specs.Given.{Given}
 use Rattle.node_rules.proofs.Carrying.{note_carry, note_all}
-use Rattle.node_rules.proofs.Paths.{Hearing, Scope, dealer_in, first_in, Path, never}
+use Rattle.node_rules.proofs.Paths.{Hearing, Scope, dealer_in, Path, never}
 use Rattle.node_rules.proofs.Proposed.{waiting_value}
-use Rattle.node_rules.proofs.Steps.{Says, send_said, send_one, go_on}
+use Rattle.node_rules.proofs.Keeping.{others_proposer, others_pending}
+use Rattle.node_rules.proofs.Steps.{Says, send_said, send_one, unsent, go_on}
 use Rattle.node_rules.proofs.Showing.{Shows, show_line}
-use Rattle.node_rules.proofs.Settling.{with_shown, shown_proposer}
+use Rattle.node_rules.proofs.Settling.{showing}
 use Rattle.node_rules.proofs.Asking.{joined_assoc, with_pending}
 use Rattle.node_rules.proofs.Answering.{answer_heard}
 
 -- ---- something is shown, and told
 
-stay_pending : (d : Dealer) (i : ℕ) (node : Node) (last : ℕ) (upto : List Command) (c : Option Command) → IsPending d i node upto c → IsPending d i (with_shown node last) upto c
-stay_pending d i node last upto None h = tt
-stay_pending d i node last upto (Some act) h = h
-
 show_path : (x : Scope) (came : List Arrival) (heard : Hearing) (upto : List Command) (t : Turn) (pieces : List Piece) (faults : List SeatFault) (p : Path x came heard upto t)
     → (x.ends ≡ true → Shows x came p.node p.sent upto (log_of x.place.setting upto) (t.shown ++ pieces))
     → Path x came heard upto (joined t (record { after = t.after; frames = []; shown = pieces; faults = faults }))
-show_path x came heard upto t pieces faults p shows = by_ends x.ends refl
-  where
-    path_with : (shown : List Shown) (last : ℕ) → last ≤ length upto
-        → Chain (dealer_in x) x.place.nodes x.place.node x.world.ever (first_in x) (record { sent = p.sent; shown = shown; came = came }) (with_shown p.node last)
-        → (x.ends ≡ true → AreShown x.place.node x.start x.log (t.shown ++ pieces) shown)
-        → (x.ends ≡ true → log_after x.log (t.shown ++ pieces) ≡ log_of x.place.setting upto)
-        → (x.ends ≡ false → shown ≡ [])
-        → Path x came heard upto (joined t (record { after = t.after; frames = []; shown = pieces; faults = faults }))
-    path_with shown last low chain are logged unshown = record {
-      sent = p.sent;
-      shown = shown;
-      got = p.got;
-      node = with_shown p.node last;
-      chain = chain;
-      knows = record {
-        up = p.knows.up;
-        store = p.knows.store;
-        within = p.knows.within;
-        proposer = shown_proposer x.place.nodes x.place.node p.node last (front_of t.after) t.after.campaign p.knows.proposer;
-        learner = p.knows.learner;
-        pending = stay_pending (dealer_in x) x.place.node p.node last upto t.after.pending p.knows.pending;
-        places = p.knows.places;
-        shown = low;
-        seen = p.knows.seen;
-        proposals = p.knows.proposals;
-      };
-      commands = p.commands;
-      hears = p.hears;
-      talks = p.talks;
-      runs = p.runs;
-      begun = p.begun;
-      unbegun = p.unbegun;
-      starts = p.starts;
-      has = p.has;
-      carry = subst (λ (l : List Frame). Carry x.place.nodes x.place.node l p.sent) (sym (append-nil t.frames)) p.carry;
-      all = subst (λ (l : List Frame). CarryAll x.place.nodes x.place.node l p.sent) (sym (append-nil t.frames)) p.all;
-      pieces = are;
-      logged = logged;
-      unshown = unshown;
-      unvoted = p.unvoted;
-      unstored = p.unstored;
-      got_only = p.got_only;
-      got_all = p.got_all;
-    }
-
-    by_ends : (ends : Bool) → x.ends ≡ ends → Path x came heard upto (joined t (record { after = t.after; frames = []; shown = pieces; faults = faults }))
-    by_ends true e = let s = shows e in path_with s.shown s.last s.low s.chain (λ y. s.are) (λ y. s.logged) (λ q. absurd (never (sym e ∙ q)))
-    by_ends false e = path_with p.shown p.node.shown p.knows.shown p.chain (λ y. absurd (never (sym y ∙ e))) (λ y. absurd (never (sym y ∙ e))) p.unshown
+show_path x came heard upto t pieces faults p =
+    showing x came heard upto upto t (joined t (record { after = t.after; frames = []; shown = pieces; faults = faults })) p refl refl p.unbegun (append-nil t.frames) (omega arith) p.commands
+    (λ last low. record {
+      up = p.knows.up;
+      store = p.knows.store;
+      within = p.knows.within;
+      proposer = others_proposer x.place.nodes x.place.node p.node p.node.known p.node.heard last (front_of t.after) (front_of t.after) t.after.campaign (omega arith) p.knows.proposer;
+      learner = p.knows.learner;
+      pending = others_pending (dealer_in x) x.place.node p.node p.node.known p.node.heard last upto t.after.pending p.knows.pending;
+      places = p.knows.places;
+      shown = low;
+      seen = p.knows.seen;
+      proposals = p.knows.proposals;
+    })
 
 showing_so_far : (x : Scope) (came : List Arrival) (heard : Hearing) (upto : List Command) (t : Turn) (p : Path x came heard upto t) → x.ends ≡ true
     → Shows x came p.node p.sent upto (log_of x.place.setting upto) t.shown
@@ -126,7 +87,7 @@ take_act : (x : Scope) (came : List Arrival) (heard : Hearing) (t : Turn) (seat 
     → seat < x.place.setting.game.players → heard.bytes seat ≡ Some bytes → IsRestOf bytes cur
     → Answers x.place.setting.game (hands_at x.place t.after) seat cur (Some (Ok (Act act))) new
     → Path x came heard (applied t.after) (joined t (sending (forwarding x.place act t.after) (pending_act x.place act t.after)))
-unfolding with_pending
+unfolding with_pending unsent
 take_act x came heard t seat bytes cur new act p seated here rest answers =
     subst (Path x came heard (applied t.after)) (joined_assoc t (sending [] after) (sending (forwarding x.place act t.after) after))
     (forward_by x came heard (applied t.after) (joined t (sending [] after)) act (is_others x.place t.after.store.promise) refl kept noted.said)
@@ -217,23 +178,6 @@ rest_drained g game hands seat bytes (said ∷ more_said) cur new (between, one,
 abbrev pub with_heard : Node → (ℕ → Option (List ℕ)) → Node
 with_heard node heard = record node { heard = heard }
 
-heard_campaign : (n i : ℕ) (node : Node) (heard : ℕ → Option (List ℕ)) (c : Option Campaign) → IsCampaign n i node c → IsCampaign n i (with_heard node heard) c
-heard_campaign n i node heard None h = tt
-heard_campaign n i node heard (Some c) h = record {
-  own = h.own;
-  promised = h.promised;
-  prepared = h.prepared;
-  counts = h.counts;
-  counts_all = h.counts_all;
-  marks = h.marks;
-  votes = h.votes;
-  unrefused = h.unrefused;
-}
-
-heard_pending : (d : Dealer) (i : ℕ) (node : Node) (heard : ℕ → Option (List ℕ)) (upto : List Command) (c : Option Command) → IsPending d i node upto c → IsPending d i (with_heard node heard) upto c
-heard_pending d i node heard upto None h = tt
-heard_pending d i node heard upto (Some act) h = h
-
 -- a seat's event: the node hears this of seats from then on, and its sessions are these
 pub sit : (x : Scope) (came : List Arrival) (heard : Hearing) (upto : List Command) (t : Turn) (p : Path x came heard upto t) (event : Event) (after : Hearing)
     → length after.talks ≡ x.place.setting.game.players
@@ -249,14 +193,9 @@ sit x came heard upto t p event after places move = record {
     up = p.knows.up;
     store = p.knows.store;
     within = p.knows.within;
-    proposer = record {
-      is_campaign = heard_campaign x.place.nodes x.place.node p.node after.bytes t.after.campaign p.knows.proposer.is_campaign;
-      began = p.knows.proposer.began;
-      proposed = p.knows.proposer.proposed;
-      stands = λ b f st near left. p.knows.proposer.stands b f (record { began = st.began; promised = st.promised; unrefused = st.unrefused }) near left;
-    };
+    proposer = others_proposer x.place.nodes x.place.node p.node p.node.known after.bytes p.node.shown (front_of t.after) (front_of t.after) t.after.campaign (omega arith) p.knows.proposer;
     learner = p.knows.learner;
-    pending = heard_pending (dealer_in x) x.place.node p.node after.bytes upto t.after.pending p.knows.pending;
+    pending = others_pending (dealer_in x) x.place.node p.node p.node.known after.bytes p.node.shown upto t.after.pending p.knows.pending;
     places = places;
     shown = p.knows.shown;
     seen = p.knows.seen;

@@ -1,6 +1,5 @@
 -- Votes for other nodes' proposals on the path of a call.
 use Rattle.std.proofs.Common.{◌≡◌, ◌≢◌, ℕ, ◌<◌, ◌⊎◌, inl, inr, Bool, true, false, if◌then◌else◌, ◌==◌, List, [], ◌∷◌, Option, Some, None, Ok, refl, sym, ap, subst, ◌∙◌}
-use Rattle.std.proofs.lemmas.List.{append-nil}
 use Rattle.std.proofs.lemmas.Bool.{eqb-true}
 use Rattle.paxos_wire.specs.declared.ballot.Ballot.{Ballot}
 use Rattle.paxos_wire.specs.declared.message.Message.{Message as Wire}
@@ -13,23 +12,21 @@ use Rattle.protocol_model.specs.Stores.{Store, voted}
 use Rattle.protocol_model.specs.Backing.{IsWithinPromise}
 use Rattle.protocol_model.specs.Nodes.{Node}
 use Rattle.protocol_model.specs.Arrivals.{Arrival}
-use Rattle.protocol_model.specs.Moves.{sending as sends, with_store, with_sent, more, accepts, repeats}
+use Rattle.protocol_model.specs.Moves.{with_store, with_sent, accepts, repeats}
 use Rattle.proposer.specs.declared.campaign.Campaign.{Campaign}
 use Rattle.paxos_wire.specs.Order.{is_below, is_same_ballot}
 use Rattle.node_rules.specs.Standings.{Place, Standing, applied, front_of, with_stored, idle}
 use Rattle.node_rules.specs.Sending.{to_others}
-use Rattle.node_rules.specs.Showing.{Piece}
 use Rattle.node_rules.specs.Turns.{Turn, sending, joined, behind}
 use Rattle.node_rules.specs.Accepting.{is_of_ballot, stored_in, refusing, voting, accepting}
 use Rattle.node_rules.specs.Learning.{counting_vote}
 use Rattle.node_rules.specs.Being.{IsProposer}
-use Rattle.node_rules.specs.Called.{AreShown, log_after}
-use Rattle.node_rules.proofs.Carrying.{joined_carry, joined_all, others_carry, others_all}
+use Rattle.node_rules.proofs.Carrying.{others_carry, others_all}
 use Rattle.protocol_model.proofs.Ballots.{at_most_trans, at_most_self, same_if, at_most_if_not}
 use Rattle.node_rules.proofs.Ordering.{both_ways, sees_up}
 use Rattle.node_rules.proofs.Keeping.{sent_pending, stored_pending, prepared_before, proposed_before}
 use Rattle.node_rules.proofs.Paths.{Hearing, Scope, dealer_in, Path, Goes, regroup, never}
-use Rattle.node_rules.proofs.Steps.{Leads, get_own}
+use Rattle.node_rules.proofs.Steps.{Leads, get_own, say}
 use Rattle.node_rules.specs.Proposing.{own_value}
 use Rattle.node_rules.proofs.Proposed.{voted_proposed, sent_proposed}
 use Rattle.node_rules.proofs.Promising.{refuse}
@@ -72,6 +69,7 @@ new_vote : (x : Scope) (came : List Arrival) (heard : Hearing) (upto : List Comm
     (joined t (sending (to_others x.place (frame.Accepted ballot slot command))
     (with_stored (idle t.after) (voted t.after.store slot (record { ballot = ballot; command = command })))))
     (Accepted x.place.node ballot slot command)
+unfolding say
 new_vote x came heard upto t ends ballot slot command p had above other =
     get_own x came heard upto _ m path tt (inl refl) (λ b h. elim h [ inl e ↦ subst (λ (y : Ballot). AtMost y ballot) (sym e) (at_most_self ballot) | inr none ↦ absurd none ])
   where
@@ -94,44 +92,23 @@ new_vote x came heard upto t ends ballot slot command p had above other =
     stored = with_store p.node (voted p.node.store slot vote)
 
     path : Path x came heard upto (joined t (sending (to_others x.place w) (with_stored (idle t.after) (voted t.after.store slot vote))))
-    path = record {
-      sent = m ∷ p.sent;
-      shown = p.shown;
-      got = p.got;
-      node = with_sent stored (m ∷ []);
-      chain = more _ p.node (sends m) _ _ p.chain (accepts ballot slot command p.knows.up had up refl refl) refl;
-      knows = record {
-        up = p.knows.up;
-        store = ap (λ (st : Store). voted st slot vote) p.knows.store;
-        within = within_voted p.node.store slot vote up p.knows.within;
-        proposer = gone x.place.nodes i p.node (with_sent stored (m ∷ [])) (front_of t.after) m ballot other up refl
-            (λ b f h. prepared_before p.node m b f tt h) (λ b s c h. proposed_before p.node m b s c tt h) t.after.campaign p.knows.proposer;
-        learner = p.knows.learner;
-        pending = sent_pending (dealer_in x) i stored m upto t.after.pending (stored_pending (dealer_in x) i p.node (voted p.node.store slot vote) upto t.after.pending p.knows.pending);
-        places = p.knows.places;
-        shown = p.knows.shown;
-        seen = sees_up p.node.has p.node.store.promise ballot t.after.seen up p.knows.seen;
-        proposals = voted_proposed x.place.nodes x.place.node upto (front_of t.after) (own_value x.place t.after) p.node.store slot vote p.node.has p.node.sent (m ∷ p.node.sent) other
-            (λ b s c h. proposed_before p.node m b s c tt h) p.knows.proposals;
-      };
-      commands = p.commands;
-      hears = p.hears;
-      talks = p.talks;
-      runs = p.runs;
-      begun = refl;
-      unbegun = refl;
-      starts = p.starts;
-      has = p.has;
-      carry = joined_carry x.place.nodes i t.frames (to_others x.place w) p.sent (m ∷ []) p.carry (others_carry x.place.nodes i w m x.is_place.few refl tt refl);
-      all = joined_all x.place.nodes i t.frames (to_others x.place w) p.sent (m ∷ []) p.all (others_all x.place.nodes i w m x.is_place.few refl);
-      pieces = λ ends. subst (λ (l : List Piece). AreShown i x.start x.log l p.shown) (sym (append-nil t.shown)) (p.pieces ends);
-      logged = λ ends. ap (log_after x.log) (append-nil t.shown) ∙ p.logged ends;
-      unshown = p.unshown;
-      unvoted = λ q. absurd (never (sym ends ∙ q));
-      unstored = λ q. absurd (never (sym ends ∙ q));
-      got_only = λ o h. elim (p.got_only o h) [ inl a ↦ inl a | inr b ↦ inr (inr b) ];
-      got_all = p.got_all;
-    }
+    path = (say x came heard upto t m (to_others x.place w) (with_stored (idle t.after) (voted t.after.store slot vote)) (voted p.node.store slot vote) (voted p.node.store slot vote) p
+        refl refl refl refl (λ q. absurd (never (sym ends ∙ q))) (accepts ballot slot command p.knows.up had up refl refl)
+        (record {
+          up = p.knows.up;
+          store = ap (λ (st : Store). voted st slot vote) p.knows.store;
+          within = within_voted p.node.store slot vote up p.knows.within;
+          proposer = gone x.place.nodes i p.node (with_sent stored (m ∷ [])) (front_of t.after) m ballot other up refl
+              (λ b f h. prepared_before p.node m b f tt h) (λ b s c h. proposed_before p.node m b s c tt h) t.after.campaign p.knows.proposer;
+          learner = p.knows.learner;
+          pending = sent_pending (dealer_in x) i stored m upto t.after.pending (stored_pending (dealer_in x) i p.node (voted p.node.store slot vote) upto t.after.pending p.knows.pending);
+          places = p.knows.places;
+          shown = p.knows.shown;
+          seen = sees_up p.node.has p.node.store.promise ballot t.after.seen up p.knows.seen;
+          proposals = voted_proposed x.place.nodes x.place.node upto (front_of t.after) (own_value x.place t.after) p.node.store slot vote p.node.has p.node.sent (m ∷ p.node.sent) other
+              (λ b s c h. proposed_before p.node m b s c tt h) p.knows.proposals;
+        })
+        (others_carry x.place.nodes i w m x.is_place.few refl tt refl) (others_all x.place.nodes i w m x.is_place.few refl)).path
 
 -- ---- a vote that is stored already is told again
 
@@ -140,6 +117,7 @@ old_vote : (x : Scope) (came : List Arrival) (heard : Hearing) (upto : List Comm
     → Leads x came heard upto
     (joined t (sending (to_others x.place (frame.Accepted ballot slot vote.command)) (with_stored (idle t.after) t.after.store)))
     (Accepted x.place.node ballot slot vote.command)
+unfolding say
 old_vote x came heard upto t ends ballot slot vote p held same above other =
     get_own x came heard upto _ m path tt (inl refl)
     (λ b h. elim h [ inl e ↦ subst (λ (y : Ballot). AtMost y p.node.store.promise) (sym e) (subst (λ (y : Ballot). AtMost y p.node.store.promise) promise_is (at_most_self p.node.store.promise)) | inr none ↦ absurd none ])
@@ -166,44 +144,23 @@ old_vote x came heard upto t ends ballot slot vote p held same above other =
     again = here ∙ ap (λ (y : Ballot). let v : Vote = record { ballot = y; command = vote.command } in Some v) same
 
     path : Path x came heard upto (joined t (sending (to_others x.place w) (with_stored (idle t.after) t.after.store)))
-    path = record {
-      sent = m ∷ p.sent;
-      shown = p.shown;
-      got = p.got;
-      node = with_sent p.node (m ∷ []);
-      chain = more _ p.node (sends m) _ _ p.chain (repeats ballot slot vote.command p.knows.up again up refl refl) refl;
-      knows = record {
-        up = p.knows.up;
-        store = p.knows.store;
-        within = p.knows.within;
-        proposer = gone x.place.nodes i p.node (with_sent p.node (m ∷ [])) (front_of t.after) m ballot other up promise_is
-            (λ b f h. prepared_before p.node m b f tt h) (λ b s c h. proposed_before p.node m b s c tt h) t.after.campaign p.knows.proposer;
-        learner = p.knows.learner;
-        pending = sent_pending (dealer_in x) i p.node m upto t.after.pending p.knows.pending;
-        places = p.knows.places;
-        shown = p.knows.shown;
-        seen = p.knows.seen;
-        proposals = sent_proposed x.place.nodes x.place.node upto (front_of t.after) (own_value x.place t.after) p.node.store p.node.has p.node.sent (m ∷ p.node.sent)
-            (λ b s c h. proposed_before p.node m b s c tt h) p.knows.proposals;
-      };
-      commands = p.commands;
-      hears = p.hears;
-      talks = p.talks;
-      runs = p.runs;
-      begun = p.begun;
-      unbegun = refl;
-      starts = p.starts;
-      has = p.has;
-      carry = joined_carry x.place.nodes i t.frames (to_others x.place w) p.sent (m ∷ []) p.carry (others_carry x.place.nodes i w m x.is_place.few refl tt refl);
-      all = joined_all x.place.nodes i t.frames (to_others x.place w) p.sent (m ∷ []) p.all (others_all x.place.nodes i w m x.is_place.few refl);
-      pieces = λ ends. subst (λ (l : List Piece). AreShown i x.start x.log l p.shown) (sym (append-nil t.shown)) (p.pieces ends);
-      logged = λ ends. ap (log_after x.log) (append-nil t.shown) ∙ p.logged ends;
-      unshown = p.unshown;
-      unvoted = λ q. absurd (never (sym ends ∙ q));
-      unstored = λ q. absurd (never (sym ends ∙ q));
-      got_only = λ o h. elim (p.got_only o h) [ inl a ↦ inl a | inr b ↦ inr (inr b) ];
-      got_all = p.got_all;
-    }
+    path = (say x came heard upto t m (to_others x.place w) (with_stored (idle t.after) t.after.store) p.node.store p.node.begun p
+        p.begun refl refl refl (λ q. absurd (never (sym ends ∙ q))) (repeats ballot slot vote.command p.knows.up again up refl refl)
+        (record {
+          up = p.knows.up;
+          store = p.knows.store;
+          within = p.knows.within;
+          proposer = gone x.place.nodes i p.node (with_sent p.node (m ∷ [])) (front_of t.after) m ballot other up promise_is
+              (λ b f h. prepared_before p.node m b f tt h) (λ b s c h. proposed_before p.node m b s c tt h) t.after.campaign p.knows.proposer;
+          learner = p.knows.learner;
+          pending = sent_pending (dealer_in x) i p.node m upto t.after.pending p.knows.pending;
+          places = p.knows.places;
+          shown = p.knows.shown;
+          seen = p.knows.seen;
+          proposals = sent_proposed x.place.nodes x.place.node upto (front_of t.after) (own_value x.place t.after) p.node.store p.node.has p.node.sent (m ∷ p.node.sent)
+              (λ b s c h. proposed_before p.node m b s c tt h) p.knows.proposals;
+        })
+        (others_carry x.place.nodes i w m x.is_place.few refl tt refl) (others_all x.place.nodes i w m x.is_place.few refl)).path
 
 -- ---- either
 
