@@ -39,7 +39,7 @@ use Rattle.node_rules.specs.LawsAnswers as answers
 use Rattle.protocol_model.proofs.Ballots.{below_if, at_most_if_not}
 use Rattle.node_rules.proofs.Promising.{tells}
 use Rattle.node_rules.proofs.Settling.{below_front}
-use Rattle.node_rules.proofs.Chaining.{ok_is, ok_not}
+use Rattle.node_rules.proofs.Results.{ok_is, ok_not}
 use Rattle.node_rules.proofs.Resting.{Closed, rests, proposes}
 use Rattle.node_rules.proofs.Led.{tick_splits, piece_splits, frame_turn}
 use Rattle.node_rules.proofs.Settled.{asked_same}

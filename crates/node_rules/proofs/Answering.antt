@@ -2,6 +2,7 @@
 use Rattle.std.proofs.Common.{◌≡◌, ℕ, ◌<◌, ◌≤◌, ◌+◌, Bool, true, false, List, [], ◌∷◌, Option, Some, None, Ok, refl, sym, ap, subst, ◌∙◌, arith, length, cond}
 use Rattle.std.specs.Prelude.{is_none}
 use Rattle.std.specs.List.{count_by}
+use Rattle.std.proofs.lemmas.Option.{same_Some}
 use Rattle.std.proofs.lemmas.List.Sums.{sum_by-cons, count_by-le-length}
 use Rattle.game_def.specs.Game.{Game}
 use Rattle.betting.specs.declared.action.Action.{Action}
@@ -26,9 +27,6 @@ use Rattle.node_rules.specs.Given.{Given}
 
 -- ---- an act that a line says fits
 
-some_view : (a b : View) → ◌≡◌ {A = Option View} (Some a) (Some b) → a ≡ b
-some_view a b e = cc
-
 acting_by : {A : Type 0} (b : Bool) (x : Option A) (y : A) → (elim b as (λ z. Option A) [ true ↦ None | false ↦ x ]) ≡ Some y → b ≡ false
 acting_by true x y e = absurd (cc)
 acting_by false x y e = refl
@@ -49,7 +47,7 @@ act_fits : (game : Game) (count : ℕ) (hands : List Hand) (seat : ℕ) (text : 
 act_fits game count [] seat text hand index action are said = let clash : ◌≡◌ {A = Option View} None (Some said.view) = said.echoes.current in absurd (cc)
 act_fits game count (newest ∷ earlier) seat text hand index action are said =
     let view : view_of game (position_of game.players (length earlier) seat) (length earlier) newest ≡ said.view =
-    some_view (view_of game (position_of game.players (length earlier) seat) (length earlier) newest) said.view said.echoes.current in
+    same_Some (view_of game (position_of game.players (length earlier) seat) (length earlier) newest) said.view said.echoes.current in
     let past : said.view.past ≡ newest.past = ap (λ (v : View). v.past) (sym view) in
     let runs : is_finished game newest ≡ false =
     goes_on game newest.past said.view.position (ap (λ (p : List Action). to_act game (turns game p)) (sym past) ∙ said.turn) in

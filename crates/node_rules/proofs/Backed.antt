@@ -44,7 +44,8 @@ use Rattle.protocol_model.proofs.Sets.{in_first}
 use Rattle.protocol_model.proofs.Ballots.{at_most_self, below_if, at_most_if_not, is_same_if}
 use Rattle.node_rules.proofs.Ordering.{higher_is}
 use Rattle.node_rules.proofs.Ticking.{above}
-use Rattle.node_rules.proofs.Chaining.{ok_is, ok_not, turns_are_chains}
+use Rattle.node_rules.proofs.Results.{ok_is, ok_not}
+use Rattle.node_rules.proofs.Chaining.{turns_are_chains}
 use Rattle.node_rules.proofs.Sounding.{harmless_by, harmless_still}
 use Rattle.node_rules.proofs.Resting.{Closed, rests, proposes}
 use Rattle.node_rules.proofs.Led.{tick_splits, piece_splits, frame_turn}

@@ -1,5 +1,5 @@
 -- The turns of calls are chains of moves.
-use Rattle.std.proofs.Common.{◌≡◌, ℕ, suc, inl, Bool, true, false, if◌then◌else◌, List, [], ◌∷◌, None, Result, Ok, Err, refl, sym, ap, subst, length}
+use Rattle.std.proofs.Common.{◌≡◌, ℕ, suc, inl, Bool, true, false, true≢false, if◌then◌else◌, List, [], ◌∷◌, None, Ok, refl, sym, ap, subst, length}
 use Rattle.paxos_wire.specs.Faults.{reading}
 use Rattle.slot_log.specs.declared.command.Command.{Command}
 use Rattle.protocol_model.specs.Sets.{In}
@@ -8,7 +8,7 @@ use Rattle.protocol_model.specs.Worlds.{World}
 use Rattle.protocol_model.specs.Messages.{Message}
 use Rattle.dealer_kind.specs.Kind.{log_of}
 use Rattle.node_rules.specs.Standings.{Place, Standing, applied, no_sessions}
-use Rattle.node_rules.specs.Turns.{Turn, Refusal, Down, still}
+use Rattle.node_rules.specs.Turns.{Turn, Down, still}
 use Rattle.node_rules.specs.Calls.{Call, Start, Tick, Line, Connect, Drop, Stop}
 use Rattle.node_rules.specs.Calls as call
 use Rattle.node_rules.specs.Rules.{starting, stopping, IsTurnUp, IsTurnDown, IsTurnBy}
@@ -17,7 +17,8 @@ use Rattle.node_rules.specs.Called.{came_in, Comes, log_before, taken_events, Ta
 use Rattle.node_rules.specs.Given.{Given}
 use Rattle.node_rules.specs.Sound.{Stands, TurnsAreChains}
 use Rattle.node_rules.specs.Proposed.{IsSettled}
-use Rattle.node_rules.proofs.Paths.{Scope, first_in, Goes, never}
+use Rattle.node_rules.proofs.Results.{ok_is, ok_not}
+use Rattle.node_rules.proofs.Paths.{Scope, first_in, Goes}
 use Rattle.node_rules.proofs.Beginning.{Runs, hearing_of, finish}
 use Rattle.node_rules.proofs.Framing.{frame_goes, tick_goes}
 use Rattle.node_rules.proofs.Settled.{then_closed}
@@ -51,15 +52,6 @@ no_log place s down = ap (λ (b : Bool). if b then log_of place.setting (applied
 pub runs_in : (g : Given) (own : ℕ → Command → Bool) (place : Place) (world : World) (s : Standing) (st : Stands own place world s) → s.up ≡ true → (ends : Bool) (messages : List Message)
     → Runs (scope_of g own place world s st ends messages) s
 runs_in g own place world s st up ends messages = record { of = st.of; up = up; log = log_is place s up; start = refl; had = refl }
-
-pub ok_is : (t u : Turn) → ◌≡◌ {A = Result Turn Refusal} (Ok t) (Ok u) → t ≡ u
-ok_is t u e = cc
-
-pub err_is : (a b : Refusal) → ◌≡◌ {A = Result Turn Refusal} (Err a) (Err b) → a ≡ b
-err_is a b e = cc
-
-pub ok_not : (t : Turn) (r : Refusal) → ◌≡◌ {A = Result Turn Refusal} (Ok t) (Err r) → ⊥
-ok_not t r e = cc
 
 -- ---- a node that runs
 
@@ -116,9 +108,6 @@ chain_up g own place world s turn Stop st up comes h =
 
 -- ---- one that is down
 
-never_ok : (t : Turn) → ◌≡◌ {A = Result Turn Refusal} (Ok t) (Err Down) → ⊥
-never_ok t e = ok_not t Down e
-
 chain_down : (g : Given) (own : ℕ → Command → Bool) (place : Place) (world : World) (s : Standing) (turn : Turn) (called : Call) (st : Stands own place world s) → s.up ≡ false
     → IsTurnDown place s called (Ok turn)
     → Taken own place world.ever (world.nodes place.node) (log_before place s) (came_in called) (taken_events place.node false called) turn.frames turn.shown turn.after
@@ -140,12 +129,12 @@ chain_down g own place world s turn (Start found) st down (found_left, h) =
     (finish x ((record { event = Started place.node; sent = length world.ever }) ∷ []) (record { bytes = λ seat. None; talks = no_sessions place }) (starting place found)
     (taken_events place.node false (Start found)) refl
     (start_goes x s found st.of down found_left refl refl refl (no_log place s down) refl)
-    (λ m k. absurd k) (nobody place) (inl refl) (λ leads_on. absurd (never (sym leads_on))))
-chain_down g own place world s turn Tick st down h = absurd (never_ok turn h)
-chain_down g own place world s turn (call.Frame from bytes) st down h = absurd (never_ok turn h)
-chain_down g own place world s turn (Line seat bytes) st down h = absurd (never_ok turn h)
-chain_down g own place world s turn (Connect seat) st down h = absurd (never_ok turn h)
-chain_down g own place world s turn (Drop seat) st down h = absurd (never_ok turn h)
+    (λ m k. absurd k) (nobody place) (inl refl) (λ leads_on. absurd (true≢false (sym leads_on))))
+chain_down g own place world s turn Tick st down h = absurd (ok_not turn Down h)
+chain_down g own place world s turn (call.Frame from bytes) st down h = absurd (ok_not turn Down h)
+chain_down g own place world s turn (Line seat bytes) st down h = absurd (ok_not turn Down h)
+chain_down g own place world s turn (Connect seat) st down h = absurd (ok_not turn Down h)
+chain_down g own place world s turn (Drop seat) st down h = absurd (ok_not turn Down h)
 chain_down g own place world s turn Stop st down h =
     subst (λ (t : Turn). Taken own place world.ever (world.nodes place.node) (log_before place s) [] ([] ∷ []) t.frames t.shown t.after) (sym (ok_is turn (still s) h))
     (nothing_all own place world.ever (world.nodes place.node) (log_before place s) ([] ∷ []) s st.of (λ y. log_is place s y) (inl refl))

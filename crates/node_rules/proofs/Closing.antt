@@ -1,5 +1,5 @@
 -- The close of a call, on its path.
-use Rattle.std.proofs.Common.{◌≡◌, ℕ, ◌<◌, ◌≤◌, ◌+◌, ◌⊎◌, inl, inr, Bool, true, false, not, if◌then◌else◌, ◌&&◌, List, [], ◌∷◌, ◌++◌, Option, Some, None, Result, Ok, Err, refl, sym, ap, subst, ◌∙◌, arith}
+use Rattle.std.proofs.Common.{◌≡◌, ℕ, ◌<◌, ◌≤◌, ◌+◌, ◌⊎◌, inl, inr, Bool, true, false, true≢false, not, if◌then◌else◌, ◌&&◌, List, [], ◌∷◌, ◌++◌, Option, Some, None, Result, Ok, Err, refl, sym, ap, subst, ◌∙◌, arith}
 use Rattle.std.specs.Prelude.{nat_lt, nat_le}
 use Rattle.std.specs.Option.{option_map}
 use Rattle.std.proofs.lemmas.Bool.{ltb-true, ltb-false, leb-true, and_parts}
@@ -44,7 +44,7 @@ use Rattle.protocol_model.proofs.Ballots.{at_most_self, same_if}
 use Rattle.node_rules.proofs.Ordering.{sees_own, sees_up}
 use Rattle.node_rules.proofs.Keeping.{with_got, got_learner, got_pending, sent_pending, stored_pending}
 use Rattle.node_rules.specs.Given.{Given}
-use Rattle.node_rules.proofs.Paths.{Hearing, Scope, dealer_in, Path, Goes, regroup, never}
+use Rattle.node_rules.proofs.Paths.{Hearing, Scope, dealer_in, Path, Goes, regroup}
 use Rattle.node_rules.proofs.Steps.{Leads, get_own, go_on}
 use Rattle.node_rules.proofs.Voting.{voted_is, within_voted}
 use Rattle.node_rules.proofs.Learning.{count}
@@ -296,8 +296,8 @@ propose x came heard t ends p c made is =
       pieces = λ ends. subst (λ (l : List Piece). AreShown i x.start x.log l p.shown) (sym (append-nil t.shown)) (p.pieces ends);
       logged = λ ends. ap (log_after x.log) (append-nil t.shown) ∙ p.logged ends;
       unshown = p.unshown;
-      unvoted = λ q. absurd (never (sym ends ∙ q));
-      unstored = λ q. absurd (never (sym ends ∙ q));
+      unvoted = λ q. absurd (true≢false (sym ends ∙ q));
+      unstored = λ q. absurd (true≢false (sym ends ∙ q));
       got_only = λ o h. elim h [ inl e ↦ inr (inr (inl e)) | inr old ↦ elim (p.got_only o old) [ inl a ↦ inl a | inr b ↦ inr (inr (inr b)) ] ];
       got_all = λ o h. inr (p.got_all o h);
     }

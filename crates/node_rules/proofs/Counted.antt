@@ -41,7 +41,7 @@ use Rattle.node_rules.specs.LawsVotes.{OwnVotesAreInTime, RefusedBallotsEnd}
 use Rattle.protocol_model.proofs.Sets.{in_split}
 use Rattle.node_rules.proofs.Carrying.{in_to}
 use Rattle.node_rules.proofs.Paths.{Hearing, Scope, Path}
-use Rattle.node_rules.proofs.Chaining.{ok_is, ok_not}
+use Rattle.node_rules.proofs.Results.{ok_is, ok_not}
 use Rattle.node_rules.proofs.Closing.{campaigns_of}
 use Rattle.node_rules.proofs.Counting.{counts_vote, had_in_time}
 use Rattle.node_rules.proofs.Resting.{Closed, rests, proposes}

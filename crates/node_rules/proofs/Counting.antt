@@ -23,7 +23,7 @@ use Rattle.node_rules.specs.Being.{IsLearner}
 use Rattle.protocol_model.proofs.Sets.{all_same}
 use Rattle.protocol_model.proofs.Ballots.{same_ballot}
 use Rattle.learner.proofs.Kept.{open_means}
-use Rattle.node_rules.proofs.Settled.{turn_is}
+use Rattle.node_rules.proofs.Results.{ok_is}
 
 -- ---- what was counted came
 
@@ -150,13 +150,13 @@ then_grows came mid new first later = record { more = later.more; counts = later
 -- where there is a turn, the vote wasn't refused
 pub learning_is : {A : Type 0} (place : Place) (answer : Result A SlotFault) (new : Learned) (s : Standing) (u : Turn) → learning place answer new s ≡ Ok u → IsOk answer × (u.after.learned ≡ new)
 learning_is place (Err e) new s u h = absurd (cc)
-learning_is place (Ok a) new s u h = (refl, ap (λ (t : Turn). t.after.learned) (sym (turn_is _ u h)))
+learning_is place (Ok a) new s u h = (refl, ap (λ (t : Turn). t.after.learned) (sym (ok_is _ u h)))
 
 -- and nothing but what is known and shown changes
 pub learning_keeps : {A : Type 0} (place : Place) (answer : Result A SlotFault) (new : Learned) (s : Standing) (u : Turn) → learning place answer new s ≡ Ok u
     → (u.after.campaign ≡ s.campaign) × (u.after.store ≡ s.store)
 learning_keeps place (Err e) new s u h = absurd (cc)
-learning_keeps place (Ok a) new s u h = (ap (λ (t : Turn). t.after.campaign) (sym (turn_is _ u h)), ap (λ (t : Turn). t.after.store) (sym (turn_is _ u h)))
+learning_keeps place (Ok a) new s u h = (ap (λ (t : Turn). t.after.campaign) (sym (ok_is _ u h)), ap (λ (t : Turn). t.after.store) (sym (ok_is _ u h)))
 
 -- ---- what is had in time, and known, of a learner that counts these
 

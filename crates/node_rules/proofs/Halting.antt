@@ -1,5 +1,5 @@
 -- Calls that stop in their append: the chain as far as the append, with nothing shown.
-use Rattle.std.proofs.Common.{◌≡◌, ◌≢◌, ℕ, ◌<◌, ◌*◌, ◌⊎◌, inl, inr, Bool, true, false, not, if◌then◌else◌, ◌==◌, ◌&&◌, List, [], ◌∷◌, Option, Some, None, Result, Ok, Err, refl, sym, ap, subst, ◌∙◌, arith, get_or, set, replicate, get_or-set_other}
+use Rattle.std.proofs.Common.{◌≡◌, ◌≢◌, ℕ, ◌<◌, ◌*◌, ◌⊎◌, inl, inr, Bool, true, false, true≢false, not, if◌then◌else◌, ◌==◌, ◌&&◌, List, [], ◌∷◌, Option, Some, None, Result, Ok, Err, refl, sym, ap, subst, ◌∙◌, arith, get_or, set, replicate, get_or-set_other}
 use Rattle.std.specs.Prelude.{nat_lt, nat_le, is_some}
 use Rattle.std.proofs.lemmas.Bool.{le-ltb}
 use Rattle.std.proofs.lemmas.Bool.Decides.{eqb_tells}
@@ -43,7 +43,7 @@ use Rattle.protocol_model.proofs.Sets.{in_split, all_same}
 use Rattle.protocol_model.proofs.Ballots.{at_most_self, below_if, at_most_if_not}
 use Rattle.node_rules.proofs.Ordering.{higher_is}
 use Rattle.node_rules.proofs.Keeping.{with_got}
-use Rattle.node_rules.proofs.Paths.{Hearing, Scope, dealer_in, first_in, Path, Goes, has_in, never, regroup}
+use Rattle.node_rules.proofs.Paths.{Hearing, Scope, dealer_in, first_in, Path, Goes, has_in, regroup}
 use Rattle.node_rules.proofs.Promising.{refuse}
 use Rattle.node_rules.proofs.Learning.{count}
 use Rattle.node_rules.proofs.Members.{one_counted, three_nodes}
@@ -123,7 +123,7 @@ unled_by n (Some c) front own e = ap (λ (b : Bool). if not b then Ok None else 
 
 close_unled_by : (x : Scope) (came : List Arrival) (s : Standing) (store : Store) (a b : Bool) (r : Result (Option Made) ProposeFault) → a ≡ false → r ≡ Ok None → s.store ≡ store → Halted x came store
     → Leaves x came (if a && b then Ok (still (idle s)) else closing_by x.place r (record s { campaign = marked_from s.campaign r }))
-close_unled_by x came s store true b r e er es h = absurd (never e)
+close_unled_by x came s store true b r e er es h = absurd (true≢false e)
 close_unled_by x came s store false b (Err f) e er es h = absurd (cc)
 close_unled_by x came s store false b (Ok (Some made)) e er es h = absurd (cc)
 close_unled_by x came s store false b (Ok None) e er es h = subst (Halted x came) (sym es) h

@@ -22,8 +22,8 @@ use Rattle.node_rules.specs.Being.{IsTalk, IsSession, AreSessions}
 use Rattle.node_rules.specs.Called.{events_of}
 use Rattle.node_rules.specs.Given.{Given}
 use Rattle.protocol_model.proofs.Sets.{put_same, put_other}
-use Rattle.node_rules.proofs.Paths.{Hearing, Scope, first_in, Path, never}
-use Rattle.node_rules.proofs.Sitting.{with_heard, sit, drain, asks, no_pieces, drained, rest_drained}
+use Rattle.node_rules.proofs.Paths.{Hearing, Scope, first_in, Path}
+use Rattle.node_rules.proofs.Sitting.{with_heard, sit, drain, asks, no_pieces, drained, drained_asked, rest_drained}
 use Rattle.node_rules.proofs.Beginning.{Runs, hearing_of, begin}
 
 -- ---- sessions by seat
@@ -157,22 +157,15 @@ no_line game hands seat Greeting waiting new h = h.partial
 no_line game hands seat InPlay waiting new h = h.partial
 no_line game hands seat (IsOver fault) waiting new h = let clash : ◌≡◌ {A = Option (Result Saying SessionFault)} None (Some (Err fault)) = h.0 in absurd (cc)
 
-drained_partial : (game : Game) (hands : List Hand) (seat : ℕ) (answers : List (Result Saying SessionFault)) (cur new : Talk) → Drains game hands seat cur answers new → is_closed new.phase ≡ false
-    → IsPartial new.waiting
-unfolding Drains
-drained_partial game hands seat [] cur new drains goes_on = no_line game hands seat cur.phase cur.waiting new drains
-drained_partial game hands seat (said ∷ more) cur new (between, one, inl last) goes_on =
-    absurd (never (sym last.0 ∙ (ap (λ (k : Talk). is_closed k.phase) (sym last.2) ∙ goes_on)))
-drained_partial game hands seat (said ∷ more) cur new (between, one, inr later) goes_on = drained_partial game hands seat more between new later.1 goes_on
-
 -- the session that stands at the end, after all that came
 goes_further : (g : Given) (game : Game) (hands : List Hand) (seat : ℕ) (before bytes : List ℕ) (cur new : Talk) (answers : List (Result Saying SessionFault)) → IsTalk game seat cur before
     → Drains game hands seat (with_piece cur bytes) answers new → is_closed new.phase ≡ false → IsTalk game seat new (before ++ bytes)
 goes_further g game hands seat before bytes cur new answers talk drains goes_on =
-    let on = g.runs_on game seat fresh talk.events cur (fed bytes ∷ asks hands answers) new talk.leads_here (drained game hands seat answers (with_piece cur bytes) new drains goes_on) in
+    let on = g.runs_on game seat fresh talk.events cur (fed bytes ∷ asks hands answers) new talk.leads_here (drained_asked g game hands seat answers (with_piece cur bytes) new drains goes_on) in
+    let d = drained game hands seat answers (with_piece cur bytes) new drains goes_on in
     record {
       goes_on = goes_on;
-      answered = drained_partial game hands seat answers (with_piece cur bytes) new drains goes_on;
+      answered = no_line game hands seat d.talk.phase d.talk.waiting new d.last;
       rest = rest_drained g game hands seat (before ++ bytes) answers (with_piece cur bytes) new drains (g.whole.fed_more before bytes cur talk.rest);
       events = talk.events ++ fed bytes ∷ asks hands answers;
       pieces = on.1 ∙ ((λ j. talk.pieces j ++ (bytes ++ no_pieces hands answers j)) ∙ ap (λ l. before ++ l) (append-nil bytes));

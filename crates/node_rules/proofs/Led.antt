@@ -22,7 +22,8 @@ use Rattle.node_rules.proofs.Asking.{behind_still}
 use Rattle.node_rules.proofs.Ticking.{tick}
 use Rattle.node_rules.proofs.Framing.{taken}
 use Rattle.node_rules.proofs.Hearing.{piece_sits}
-use Rattle.node_rules.proofs.Chaining.{scope_of, runs_in, ok_is, ok_not}
+use Rattle.node_rules.proofs.Results.{ok_is, ok_not}
+use Rattle.node_rules.proofs.Chaining.{scope_of, runs_in}
 use Rattle.node_rules.proofs.Resting.{Closes, close_is, Splits, splits}
 
 -- ---- the stages

@@ -1,4 +1,5 @@
 mod Carrying
+pub mod Results
 mod Telling
 mod Ordering
 mod Proposed

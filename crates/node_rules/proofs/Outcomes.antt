@@ -1,6 +1,7 @@
 -- What came of a quorum's votes, from call to call.
-use Rattle.std.proofs.Common.{◌≡◌, ℕ, ◌<◌, ◌+◌, inl, inr, Bool, true, false, not, if◌then◌else◌, List, [], ◌∷◌, Option, Some, None, Result, Ok, Err, refl, sym, ap, subst, ◌∙◌, eq-eqb}
+use Rattle.std.proofs.Common.{◌≡◌, ℕ, ◌<◌, ◌+◌, inl, inr, Bool, true, false, true≢false, not, if◌then◌else◌, List, [], ◌∷◌, Option, Some, None, Result, Ok, Err, refl, sym, ap, subst, ◌∙◌, eq-eqb}
 use Rattle.std.specs.Prelude.{is_none, IsOk, IsSome}
+use Rattle.std.proofs.lemmas.Option.{same_Some}
 use Rattle.std.proofs.lemmas.Bool.{lt-ltb, le-ltb, not-false}
 use Rattle.paxos_wire.specs.declared.limits.TheConstants.{WINDOW, SLOTS}
 use Rattle.paxos_wire.specs.declared.ballot.Ballot.{Ballot}
@@ -45,14 +46,15 @@ use Rattle.node_rules.specs.Sound.{Stands}
 use Rattle.node_rules.specs.Outcomes.{IsTaken, IsAnswered, FrontIsUnknown, IsAhead, ToldIsKnown, in_time, Brings, came as brought, own_vote, HasVote, VotesStayInTime, QuorumIsKnown}
 use Rattle.protocol_model.proofs.Ballots.{below_if, not_below, same_if}
 use Rattle.node_rules.proofs.Proposed.{accept_is}
-use Rattle.node_rules.proofs.Paths.{Hearing, Scope, first_in, Path, Goes, never}
+use Rattle.node_rules.proofs.Paths.{Hearing, Scope, first_in, Path, Goes}
 use Rattle.node_rules.proofs.Beginning.{Runs, hearing_of, begin}
 use Rattle.node_rules.proofs.Framing.{stood, taken}
 use Rattle.node_rules.proofs.Ticking.{tick}
 use Rattle.node_rules.proofs.Sitting.{same_learned}
 use Rattle.node_rules.proofs.Hearing.{piece_sits}
-use Rattle.node_rules.proofs.Settled.{turn_is, Closes, gives_up, rests, makes, closes, behind_ok, asked_same}
-use Rattle.node_rules.proofs.Chaining.{scope_of, runs_in, ok_is}
+use Rattle.node_rules.proofs.Settled.{Closes, gives_up, rests, makes, closes, behind_ok, asked_same}
+use Rattle.node_rules.proofs.Results.{ok_is}
+use Rattle.node_rules.proofs.Chaining.{scope_of, runs_in}
 use Rattle.node_rules.proofs.Counting.{Counts, Grows, same_grows, GrowsBy, vote_grows, belief_grows, then_grows, learning_is, learning_keeps, had_in_time, known_by_quorum}
 
 -- ---- the front
@@ -137,7 +139,7 @@ believed place from slot command s u e = by_first (learning place (answer_to_cho
     by_first (Ok v) er h =
         let is = learning_is place (answer_to_chosen s.learned.log slot command) (with_chosen s.learned slot command) s v er in (
           is.0,
-          ap (λ (t : Turn). t.after.learned) (sym (turn_is (joined v (asking_on from (front_of s) v.after)) u h))
+          ap (λ (t : Turn). t.after.learned) (sym (ok_is (joined v (asking_on from (front_of s) v.after)) u h))
               ∙ (ap (λ (y : Standing). y.learned) (asked_on_same from (front_of s) v.after) ∙ is.1),
         )
 
@@ -215,9 +217,6 @@ plain_stage place s called node m old new one plain grows = record {
 accepted_is : (voter from : ℕ) (a b : Ballot) (k l : ℕ) (c d : Command) → ◌≡◌ {A = Message} (Accepted voter a k c) (Accepted from b l d) → (voter ≡ from) × (a ≡ b) × (k ≡ l) × (c ≡ d)
 accepted_is voter from a b k l c d e = ((let y : voter ≡ from = cc in y), (let y : a ≡ b = cc in y), (let y : k ≡ l = cc in y), (let y : c ≡ d = cc in y))
 
-vote_is : (v w : Vote) → ◌≡◌ {A = Option Vote} (Some v) (Some w) → v ≡ w
-vote_is v w e = cc
-
 -- an Accepted that came
 accepted_stage : (g : Given) (place : Place) (s : Standing) (called : Call) (node : Node) (old : List Message) (from : ℕ) (ballot : Ballot) (slot : ℕ) (command : Command) (new : Learned)
     → came_in called ≡ Accepted from ballot slot command ∷ [] → GrowsBy old s.learned new from ballot slot command → Stage place s called node old new
@@ -250,7 +249,7 @@ accept_stage g place s called node old ballot slot command stored new one holds 
         → In (Accept b l proposed) (Accept ballot slot command ∷ []) → IsOpen s.learned.log l → In (Accepted v b l c) by.grows.more
     here v b l c proposed mine held (inl e) ahead =
         let is = accept_is b ballot l slot proposed command e in
-        let same : c ≡ stored = ap (λ (w : Vote). w.command) (vote_is (record { ballot = b; command = c }) (record { ballot = ballot; command = stored })
+        let same : c ≡ stored = ap (λ (w : Vote). w.command) (same_Some (record { ballot = b; command = c }) (record { ballot = ballot; command = stored })
         (sym held ∙ (ap (λ (k : ℕ). node.store.votes k) is.1 ∙ holds))) in
         let m : Accepted v b l c ≡ Accepted place.node ballot slot stored = λ j. Accepted (mine j) (is.0 j) (is.1 j) (same j) in
         subst (λ (y : Message). In y by.grows.more) (sym m) (by.has_vote (subst (IsOpen s.learned.log) is.1 ahead))
@@ -291,11 +290,11 @@ frame_stage : (g : Given) (place : Place) (s : Standing) (called : Call) (node :
     → taking place from w (seeing w s) ≡ Ok u → Stage place s called node old u.after.learned
 frame_stage g place s called node old from (frame.Prepare ballot slot) u log low mine counts one store e =
     plain_stage place s called node _ old u.after.learned one tt
-    (same_grows old s.learned u.after.learned (ap (λ (t : Turn). t.after.learned) (sym (turn_is _ u e)) ∙ prepare_same from ballot slot (seeing (frame.Prepare ballot slot) s) _) counts)
+    (same_grows old s.learned u.after.learned (ap (λ (t : Turn). t.after.learned) (sym (ok_is _ u e)) ∙ prepare_same from ballot slot (seeing (frame.Prepare ballot slot) s) _) counts)
 frame_stage g place s called node old from (frame.Promise ballot slot told) u log low mine counts one store e =
-    plain_stage place s called node _ old u.after.learned one tt (same_grows old s.learned u.after.learned (ap (λ (t : Turn). t.after.learned) (sym (turn_is _ u e))) counts)
+    plain_stage place s called node _ old u.after.learned one tt (same_grows old s.learned u.after.learned (ap (λ (t : Turn). t.after.learned) (sym (ok_is _ u e))) counts)
 frame_stage g place s called node old from (frame.Refuse ballot slot promised) u log low mine counts one store e =
-    plain_stage place s called node _ old u.after.learned one tt (same_grows old s.learned u.after.learned (ap (λ (t : Turn). t.after.learned) (sym (turn_is _ u e))) counts)
+    plain_stage place s called node _ old u.after.learned one tt (same_grows old s.learned u.after.learned (ap (λ (t : Turn). t.after.learned) (sym (ok_is _ u e))) counts)
 frame_stage g place s called node old from (frame.Accept ballot slot command) u log low mine counts one store e = by_test (is_below ballot s.store.promise) refl e
   where
     s0 : Standing
@@ -304,7 +303,7 @@ frame_stage g place s called node old from (frame.Accept ballot slot command) u 
     by_test : (b : Bool) → is_below ballot s.store.promise ≡ b → (if b then Ok (refusing from ballot slot s0) else voting place ballot slot command (idle s0)) ≡ Ok u
         → Stage place s called node old u.after.learned
     by_test true eb h =
-        refused_stage place s called node old ballot slot command u.after.learned one eb (same_grows old s.learned u.after.learned (ap (λ (t : Turn). t.after.learned) (sym (turn_is _ u h))) counts)
+        refused_stage place s called node old ballot slot command u.after.learned one eb (same_grows old s.learned u.after.learned (ap (λ (t : Turn). t.after.learned) (sym (ok_is _ u h))) counts)
     by_test false eb h =
         let v = voted_so place ballot slot command s0 u h in
         let stored : Command = stored_in (s.store.votes slot) ballot command in
@@ -323,14 +322,14 @@ frame_stage g place s called node old from (frame.Chosen slot command) u log low
     plain_stage place s called node _ old u.after.learned one tt
     (subst (Grows old) (sym is.1) (belief_grows g old s.learned slot command log counts))
 frame_stage g place s called node old from (frame.Ask slot) u log low mine counts one store e =
-    plain_stage place s called node _ old u.after.learned one tt (same_grows old s.learned u.after.learned (ap (λ (t : Turn). t.after.learned) (sym (turn_is _ u e))) counts)
+    plain_stage place s called node _ old u.after.learned one tt (same_grows old s.learned u.after.learned (ap (λ (t : Turn). t.after.learned) (sym (ok_is _ u e))) counts)
 frame_stage g place s called node old from (frame.Forward act) u log low mine counts one store e =
-    plain_stage place s called node _ old u.after.learned one tt (same_grows old s.learned u.after.learned (ap (λ (t : Turn). t.after.learned) (sym (turn_is _ u e))) counts)
+    plain_stage place s called node _ old u.after.learned one tt (same_grows old s.learned u.after.learned (ap (λ (t : Turn). t.after.learned) (sym (ok_is _ u e))) counts)
 
 -- a stage, the close, and what is asked for then
 asked_ok : (from : ℕ) (w : Wire) (r : Result Turn Refusal) (turn : Turn) → and_then r (λ closed. Ok (asking from w closed)) ≡ Ok turn → (c : Turn) × (r ≡ Ok c) × (turn.after ≡ c.after)
 asked_ok from w (Err e) turn h = absurd (cc)
-asked_ok from w (Ok c) turn h = (c, refl, ap (λ (t : Turn). t.after) (sym (turn_is (joined c (asking from w c.after)) turn h)) ∙ asked_same from w c.after)
+asked_ok from w (Ok c) turn h = (c, refl, ap (λ (t : Turn). t.after) (sym (ok_is (joined c (asking from w c.after)) turn h)) ∙ asked_same from w c.after)
 
 -- where the node leads no ballot its close stores nothing
 idle_store : (place : Place) (s : Standing) (c : Turn) → Closes place s c → s.campaign ≡ None → c.after.store ≡ s.store
@@ -362,9 +361,9 @@ tick_same : (place : Place) (s : Standing) (u : Turn) → ticking place s ≡ Ok
 tick_same place s u e = by_tests (is_over place s) (is_spent s) e
   where
     by_tests : (over spent : Bool) → (if over then Ok (still s) else if spent then Err Spent else Ok (beginning place (next_ballot place.node (greatest_seen s)) s)) ≡ Ok u → u.after.learned ≡ s.learned
-    by_tests true spent h = ap (λ (t : Turn). t.after.learned) (sym (turn_is _ u h))
+    by_tests true spent h = ap (λ (t : Turn). t.after.learned) (sym (ok_is _ u h))
     by_tests false true h = absurd (cc)
-    by_tests false false h = ap (λ (t : Turn). t.after.learned) (sym (turn_is _ u h))
+    by_tests false false h = ap (λ (t : Turn). t.after.learned) (sym (ok_is _ u h))
 
 answers_same : (place : Place) (seat : ℕ) (answers : List (Result Saying SessionFault)) (t : Turn) → (answering_all place seat answers t).after.learned ≡ t.after.learned
 unfolding answering_all
@@ -407,13 +406,13 @@ stage_of g own place world s st up (Line seat bytes) node turn old comes (heard,
     let sits = (piece_sits x s seat bytes heard (runs_in g own place world s st up true []) refl comes hears).0 in
     stage_closed x sits.came sits.heard s (Line seat bytes) node old (Ok heard) turn sits.path
     (λ u eu. quiet_stage place s (Line seat bytes) node old u.after.learned refl
-    (same_grows old s.learned u.after.learned (ap (λ (t : Turn). t.after.learned) (sym (turn_is heard u eu)) ∙ piece_same place seat bytes (session_at s.sessions seat) s heard hears) counts)) (sym h)
+    (same_grows old s.learned u.after.learned (ap (λ (t : Turn). t.after.learned) (sym (ok_is heard u eu)) ∙ piece_same place seat bytes (session_at s.sessions seat) s heard hears) counts)) (sym h)
 stage_of g own place world s st up (Connect seat) node turn old comes h runs store counts =
     quiet_stage place s (Connect seat) node old turn.after.learned refl (same_grows old s.learned turn.after.learned (ap (λ (t : Turn). t.after.learned) (ok_is turn (connecting seat s) h)) counts)
 stage_of g own place world s st up (Drop seat) node turn old comes h runs store counts =
     quiet_stage place s (Drop seat) node old turn.after.learned refl (same_grows old s.learned turn.after.learned (ap (λ (t : Turn). t.after.learned) (ok_is turn (dropping seat s) h)) counts)
 stage_of g own place world s st up Stop node turn old comes h runs store counts =
-    absurd (never (sym runs ∙ ap (λ (t : Turn). t.after.up) (ok_is turn (stopping place s) h)))
+    absurd (true≢false (sym runs ∙ ap (λ (t : Turn). t.after.up) (ok_is turn (stopping place s) h)))
 
 -- what is counted after an answered call
 abbrev stage_after : Given → (own : ℕ → Command → Bool) (place : Place) (world : World) (s : Standing) (called : Call) (turn : Turn) (answered : IsAnswered own place world s called turn) (up : s.up ≡ true)

@@ -70,9 +70,6 @@ pub record Path (x : Scope) (came : List Arrival) (heard : Hearing) (upto : List
   pub got_only : (m : Message) → In m got → In m x.messages ⊎ In m sent
   pub got_all : (m : Message) → In m x.messages → In m got
 
-pub never : true ≡ false → ⊥
-never e = cc
-
 -- ---- refusals of a call
 
 abbrev pub IsHarmless : Refusal → Type 0

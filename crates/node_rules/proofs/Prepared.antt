@@ -27,7 +27,7 @@ use Rattle.node_rules.specs.Given.{Given}
 use Rattle.node_rules.specs.LawsTick.{IsGreatestRound, IsSpent, Ticks, TicksPrepare}
 use Rattle.node_rules.proofs.Ordering.{higher_is}
 use Rattle.node_rules.proofs.Asking.{behind_still}
-use Rattle.node_rules.proofs.Chaining.{ok_not}
+use Rattle.node_rules.proofs.Results.{ok_not}
 use Rattle.node_rules.proofs.Resting.{IsRest, rest_closes}
 use Rattle.node_rules.proofs.Led.{tick_splits}
 use Rattle.node_rules.proofs.Halting.{unled_by}

@@ -1,5 +1,5 @@
 -- Promises and refusals on the path of a call.
-use Rattle.std.proofs.Common.{◌≡◌, ◌≢◌, ℕ, zero, suc, ◌<◌, ◌≤◌, ◌+◌, ◌⊎◌, inl, inr, Bool, true, false, if◌then◌else◌, List, ◌∷◌, Option, Some, None, Ok, refl, sym, ap, subst, ◌∙◌, arith}
+use Rattle.std.proofs.Common.{◌≡◌, ◌≢◌, ℕ, zero, suc, ◌<◌, ◌≤◌, ◌+◌, ◌⊎◌, inl, inr, Bool, true, false, true≢false, if◌then◌else◌, List, ◌∷◌, Option, Some, None, Ok, refl, sym, ap, subst, ◌∙◌, arith}
 use Rattle.paxos_wire.specs.declared.limits.TheConstants.{WINDOW}
 use Rattle.paxos_wire.specs.declared.ballot.Ballot.{Ballot}
 use Rattle.paxos_wire.specs.declared.entry.Entry.{Entry}
@@ -25,7 +25,7 @@ use Rattle.node_rules.proofs.Carrying.{one_carry, one_all}
 use Rattle.protocol_model.proofs.Ballots.{at_most_trans, at_most_of_below, not_below, below_if}
 use Rattle.node_rules.proofs.Ordering.{sees_up}
 use Rattle.node_rules.proofs.Keeping.{sent_pending, stored_pending, prepared_before, proposed_before}
-use Rattle.node_rules.proofs.Paths.{Hearing, Scope, dealer_in, Path, Goes, never}
+use Rattle.node_rules.proofs.Paths.{Hearing, Scope, dealer_in, Path, Goes}
 use Rattle.node_rules.proofs.Steps.{say, send_one}
 
 -- ---- what a promise tells
@@ -84,7 +84,7 @@ promise : (x : Scope) (came : List Arrival) (heard : Hearing) (upto : List Comma
     → Path x came heard upto (joined t (promising from ballot slot t.after))
 promise x came heard upto t from ballot slot ends p had above below other =
     (say x came heard upto t m (one from w) (promising from ballot slot t.after).after (promised p.node.store ballot) (promised p.node.store ballot) p
-    refl refl refl refl (λ q. absurd (never (sym ends ∙ q)))
+    refl refl refl refl (λ q. absurd (true≢false (sym ends ∙ q)))
     (promises ballot slot (told_by t.after.store slot) p.knows.up had up
     (subst (λ (st : Store). Tells st slot (told_by t.after.store slot)) (sym p.knows.store) (tells t.after.store slot)) refl refl)
     (record {

@@ -29,7 +29,8 @@ use Rattle.node_rules.specs.LawsRefused.{RefusesUp, RefusesDown, Refuses, Refusa
 use Rattle.node_rules.proofs.Paths.{Scope, first_in, Goes, IsHarmless}
 use Rattle.node_rules.proofs.Beginning.{hearing_of}
 use Rattle.node_rules.proofs.Framing.{taken}
-use Rattle.node_rules.proofs.Chaining.{runs_in, ok_not, err_is}
+use Rattle.node_rules.proofs.Results.{ok_not, err_is}
+use Rattle.node_rules.proofs.Chaining.{runs_in}
 use Rattle.node_rules.proofs.Led.{scope, tick_splits, message_splits, piece_splits}
 
 -- ---- a message is refused only where another command is known, which it isn't

@@ -43,11 +43,12 @@ use Rattle.node_rules.specs.LawsShown.{ready_lines}
 use Rattle.node_rules.specs.LawsPending.{first_of}
 use Rattle.node_rules.specs.LawsSeats.{IsLed, IsAway, asked_each, Leaves, goes_on, closes, fault_in, faults_in, TakesAnswers, PassesOver, PiecesAreHeard, OthersArePassedOver, ConnectBeginsAnew, DropEnds, IsAbout, SessionsStay, IsPiece, FaultsAreOfPieces, LivesAreWhole, AwayIsUnconnected}
 use Rattle.node_rules.proofs.Beginning.{commands_known}
-use Rattle.node_rules.proofs.Chaining.{ok_is, ok_not}
+use Rattle.node_rules.proofs.Results.{ok_is, ok_not}
 use Rattle.node_rules.proofs.Resting.{Closed}
 use Rattle.node_rules.proofs.Led.{tick_splits, piece_splits, frame_turn}
 use Rattle.node_rules.proofs.Settled.{asked_same}
 use Rattle.node_rules.proofs.Answered.{two, answers_frames}
+use Rattle.node_rules.proofs.Sitting.{drained_asked}
 use Rattle.node_rules.proofs.Shown.{closed_faults, closed_pending, closed_sessions, two_shown, answers_shown, answers_pending}
 
 -- ---- answers tell their faults, and change no session
@@ -94,15 +95,6 @@ piece_open : (old : Talk) (bytes : List ℕ) → is_closed old.phase ≡ false �
 piece_open old bytes e = ap is_closed (piece_by old.phase old.waiting bytes) ∙ e
 
 -- ---- all answers to what waits
-
--- up to none, where the session goes on
-drained_on : (game : Game) (hands : List Hand) (seat : ℕ) (said : List (Result Saying SessionFault)) (cur new : Talk) → Drains game hands seat cur said new → is_closed new.phase ≡ false
-    → Happens game seat cur (asked_each hands said ++ asked hands None ∷ []) new
-unfolding Drains
-drained_on game hands seat [] cur new drains open_then = (new, drains, refl)
-drained_on game hands seat (first ∷ more) cur new (between, one_answer, inl last) open_then =
-    absurd (true≢false (sym last.0 ∙ (ap (λ (k : Talk). is_closed k.phase) (sym last.2) ∙ open_then)))
-drained_on game hands seat (first ∷ more) cur new (between, one_answer, inr later) open_then = (between, one_answer, drained_on game hands seat more between new later.1 open_then)
 
 -- up to the first that closes
 pub record Closing (game : Game) (hands : List Hand) (seat : ℕ) (cur : Talk) (said : List (Result Saying SessionFault)) (new : Talk) : Type 0 where
@@ -156,7 +148,7 @@ leaves_by g place s after seat events bytes said talk new false e open_now happe
       talk = new;
       session = session ∙ ap (λ (b : Bool). if b then None else Some new) e;
       happened = (g.runs_on place.setting.game seat fresh events talk (fed bytes ∷ (asked_each (hands_at place s) said ++ asked (hands_at place s) None ∷ [])) new happened
-          (drained_on place.setting.game (hands_at place s) seat said (with_piece talk bytes) new drains e)).0;
+          (drained_asked g place.setting.game (hands_at place s) seat said (with_piece talk bytes) new drains e)).0;
     })
 leaves_by g place s after seat events bytes said talk new true e open_now happened drains session =
     let c = drained_closing place.setting.game (hands_at place s) seat said (with_piece talk bytes) new (piece_open talk bytes open_now) drains e in

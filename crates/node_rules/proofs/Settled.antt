@@ -36,6 +36,7 @@ use Rattle.node_rules.specs.Proposing.{own_value, proposing, closing_by, proposa
 use Rattle.node_rules.specs.Being.{Campaigns}
 use Rattle.node_rules.specs.Proposed.{IsSettled}
 use Rattle.node_rules.specs.Rules.{asking}
+use Rattle.node_rules.proofs.Results.{ok_is}
 use Rattle.node_rules.proofs.Paths.{Hearing, Scope, dealer_in, Path, Goes}
 use Rattle.learner.proofs.Kept.{open_means}
 use Rattle.node_rules.proofs.Learning.{world_now}
@@ -133,8 +134,8 @@ proposal_is n c at own made e = by_tests (has_quorum n c) (is_covered c.first at
     value : Option Command
     value = value_of (greatest_told c at n) own
 
-    ok_is : (a b : Option Made) → ◌≡◌ {A = Result (Option Made) ProposeFault} (Ok a) (Ok b) → a ≡ b
-    ok_is a b h = cc
+    found_is : (a b : Option Made) → ◌≡◌ {A = Result (Option Made) ProposeFault} (Ok a) (Ok b) → a ≡ b
+    found_is a b h = cc
 
     by_tests : (q covered done : Bool) → has_quorum n c ≡ q → is_covered c.first at ≡ covered → is_proposed c at ≡ done
         → (if not q then Ok None else if not covered then Err OutOfWindow else if done then Ok None else Ok (accept_of c at (value_of (greatest_told c at n) own))) ≡ Ok (Some made)
@@ -143,7 +144,7 @@ proposal_is n c at own made e = by_tests (has_quorum n c) (is_covered c.first at
     by_tests true false done eq ec ed h = absurd (cc)
     by_tests true true true eq ec ed h = absurd (cc)
     by_tests true true false eq ec ed h =
-        let k = accepted_is c at (value_of (greatest_told c at n) own) made (ok_is (accept_of c at (value_of (greatest_told c at n) own)) (Some made) h) in
+        let k = accepted_is c at (value_of (greatest_told c at n) own) made (found_is (accept_of c at (value_of (greatest_told c at n) own)) (Some made) h) in
         record { quorum = eq; covered = ec; unproposed = ed; command = k.0; ballot = k.1; slot = k.2 }
 
 covered_is : (first at : ℕ) → is_covered first at ≡ true → (first ≤ at) × (at < first + WINDOW)
@@ -290,9 +291,6 @@ made_turn place s c made has f =
 
 -- ---- nothing is left to propose
 
-pub turn_is : (t u : Turn) → ◌≡◌ {A = Result Turn Refusal} (Ok t) (Ok u) → t ≡ u
-turn_is t u e = cc
-
 unled : (place : Place) (s : Standing) → IsSettled place (idle s)
 unled place s leads_on = let clash : false ≡ true = leads_on in absurd (cc)
 
@@ -318,12 +316,12 @@ made_settled place s c made has room f leads_on = (
 closed_by : (x : Scope) (came : List Arrival) (heard : Hearing) (t : Turn) (p : Path x came heard (applied t.after) t) (b : Bool) (r : Result (Option Made) ProposeFault) (c : Turn)
     → (leads x.place.nodes t.after.campaign && nat_le SLOTS (front_of t.after)) ≡ b → proposal_at x.place t.after ≡ r
     → (if b then Ok (still (idle t.after)) else closing_by x.place r (record t.after { campaign = marked_from t.after.campaign r })) ≡ Ok c → IsSettled x.place c.after
-closed_by x came heard t p true r c eb er e = subst (λ (y : Turn). IsSettled x.place y.after) (turn_is (still (idle t.after)) c e) (unled x.place t.after)
+closed_by x came heard t p true r c eb er e = subst (λ (y : Turn). IsSettled x.place y.after) (ok_is (still (idle t.after)) c e) (unled x.place t.after)
 closed_by x came heard t p false (Err fault) c eb er e =
-    subst (λ (y : Turn). IsSettled x.place y.after) (turn_is (still (idle (record t.after { campaign = marked_from t.after.campaign (Err fault) }))) c e)
+    subst (λ (y : Turn). IsSettled x.place y.after) (ok_is (still (idle (record t.after { campaign = marked_from t.after.campaign (Err fault) }))) c e)
     (unled x.place (record t.after { campaign = marked_from t.after.campaign (Err fault) }))
 closed_by x came heard t p false (Ok None) c eb er e =
-    subst (λ (y : Turn). IsSettled x.place y.after) (turn_is (still (record t.after { campaign = marked_from t.after.campaign (Ok None) })) c e)
+    subst (λ (y : Turn). IsSettled x.place y.after) (ok_is (still (record t.after { campaign = marked_from t.after.campaign (Ok None) })) c e)
     (subst (λ (y : Option Campaign). IsSettled x.place (record t.after { campaign = y })) (sym (unmarked t.after.campaign))
     (λ leads_on. (and_left (leads x.place.nodes t.after.campaign) (nat_le SLOTS (front_of t.after)) leads_on eb, er)))
 closed_by x came heard t p false (Ok (Some made)) c eb er e = by_campaign (made_by x.place t.after made t.after.campaign refl er)
@@ -331,7 +329,7 @@ closed_by x came heard t p false (Ok (Some made)) c eb er e = by_campaign (made_
     by_campaign : (found : (f : Campaign) × IsMade x.place t.after f made) → IsSettled x.place c.after
     by_campaign (k, is) =
         let f = fresh x came heard t p k made is in
-        subst (λ (y : Turn). IsSettled x.place y.after) (turn_is (turn_made x.place t.after k made) c (sym (made_turn x.place t.after k made is.has f) ∙ e))
+        subst (λ (y : Turn). IsSettled x.place y.after) (ok_is (turn_made x.place t.after k made) c (sym (made_turn x.place t.after k made is.has f) ∙ e))
         (made_settled x.place t.after k made is.has eb f)
 
 -- after the close of a call nothing is left to propose
@@ -341,7 +339,7 @@ closed x came heard t p c e = closed_by x came heard t p (leads x.place.nodes t.
 -- ---- whole calls
 
 pub behind_ok : (t : Turn) (r : Result Turn Refusal) (c : Turn) → behind t r ≡ Ok c → (u : Turn) × (r ≡ Ok u) × (c.after ≡ u.after)
-behind_ok t (Ok u) c e = (u, refl, ap (λ (y : Turn). y.after) (sym (turn_is (joined t u) c e)))
+behind_ok t (Ok u) c e = (u, refl, ap (λ (y : Turn). y.after) (sym (ok_is (joined t u) c e)))
 behind_ok t (Err r) c e = absurd (cc)
 
 -- a stage, and then the close
@@ -375,7 +373,7 @@ asked_closed x came heard from w r turn goes h = by_close (and_then r (closing x
     by_close : (c : Result Turn Refusal) → and_then r (closing x.place) ≡ c → and_then c (λ closed. Ok (asking from w closed)) ≡ Ok turn → IsSettled x.place turn.after
     by_close (Err e) ec k = absurd (cc)
     by_close (Ok c) ec k =
-        subst (IsSettled x.place) (sym (asked_same from w c.after) ∙ ap (λ (y : Turn). y.after) (turn_is (joined c (asking from w c.after)) turn k))
+        subst (IsSettled x.place) (sym (asked_same from w c.after) ∙ ap (λ (y : Turn). y.after) (ok_is (joined c (asking from w c.after)) turn k))
         (then_closed x came heard r c goes ec)
 
 -- ---- what a close comes to
@@ -389,16 +387,16 @@ pub data Closes (place : Place) (s : Standing) (c : Turn) : Type 0 where
 closes_by : (x : Scope) (came : List Arrival) (heard : Hearing) (t : Turn) (p : Path x came heard (applied t.after) t) (b : Bool) (r : Result (Option Made) ProposeFault) (c : Turn)
     → proposal_at x.place t.after ≡ r
     → (if b then Ok (still (idle t.after)) else closing_by x.place r (record t.after { campaign = marked_from t.after.campaign r })) ≡ Ok c → Closes x.place t.after c
-closes_by x came heard t p true r c er e = gives_up (sym (turn_is (still (idle t.after)) c e))
-closes_by x came heard t p false (Err fault) c er e = gives_up (sym (turn_is (still (idle t.after)) c e))
+closes_by x came heard t p true r c er e = gives_up (sym (ok_is (still (idle t.after)) c e))
+closes_by x came heard t p false (Err fault) c er e = gives_up (sym (ok_is (still (idle t.after)) c e))
 closes_by x came heard t p false (Ok None) c er e =
-    rests (sym (turn_is (still (record t.after { campaign = marked_from t.after.campaign (Ok None) })) c e) ∙ ap (λ (y : Option Campaign). still (record t.after { campaign = y })) (unmarked t.after.campaign))
+    rests (sym (ok_is (still (record t.after { campaign = marked_from t.after.campaign (Ok None) })) c e) ∙ ap (λ (y : Option Campaign). still (record t.after { campaign = y })) (unmarked t.after.campaign))
 closes_by x came heard t p false (Ok (Some made)) c er e = by_campaign (made_by x.place t.after made t.after.campaign refl er)
   where
     by_campaign : (found : (f : Campaign) × IsMade x.place t.after f made) → Closes x.place t.after c
     by_campaign (k, is) =
         let f = fresh x came heard t p k made is in
-        makes k made is.has f (sym (turn_is (turn_made x.place t.after k made) c (sym (made_turn x.place t.after k made is.has f) ∙ e)))
+        makes k made is.has f (sym (ok_is (turn_made x.place t.after k made) c (sym (made_turn x.place t.after k made is.has f) ∙ e)))
 
 pub closes : (x : Scope) (came : List Arrival) (heard : Hearing) (t : Turn) (p : Path x came heard (applied t.after) t) (c : Turn) → closing x.place t.after ≡ Ok c → Closes x.place t.after c
 closes x came heard t p c e = closes_by x came heard t p (leads x.place.nodes t.after.campaign && nat_le SLOTS (front_of t.after)) (proposal_at x.place t.after) c refl e

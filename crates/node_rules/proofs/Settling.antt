@@ -1,5 +1,5 @@
 -- Applying what the front has passed, on the path of a call.
-use Rattle.std.proofs.Common.{◌≡◌, ℕ, zero, suc, ◌<◌, ◌≤◌, Bool, true, false, if◌then◌else◌, List, [], ◌∷◌, ◌++◌, Option, Some, None, refl, sym, ap, subst, ◌∙◌, arith, length, drop, reverse, append_assoc}
+use Rattle.std.proofs.Common.{◌≡◌, ℕ, zero, suc, ◌<◌, ◌≤◌, Bool, true, false, true≢false, if◌then◌else◌, List, [], ◌∷◌, ◌++◌, Option, Some, None, refl, sym, ap, subst, ◌∙◌, arith, length, drop, reverse, append_assoc}
 use Rattle.std.specs.Prelude.{slice_get, nat_lt}
 use Rattle.std.proofs.lemmas.List.{append-nil, length-reverse}
 use Rattle.std.proofs.lemmas.Bool.{ltb-false}
@@ -23,7 +23,7 @@ use Rattle.node_rules.proofs.Proposed.{taken_proposed}
 use Rattle.node_rules.proofs.Passing.{all_applied, passed_all}
 use Rattle.node_rules.proofs.Keeping.{others_proposer}
 use Rattle.node_rules.proofs.Steps.{unsent}
-use Rattle.node_rules.proofs.Paths.{Hearing, Scope, dealer_in, first_in, Path, never}
+use Rattle.node_rules.proofs.Paths.{Hearing, Scope, dealer_in, first_in, Path}
 
 -- ---- the node shows
 
@@ -45,8 +45,8 @@ showing x came heard upto further t u p sessions up unbegun frames later command
     path_with shown last low chain = unsent x came heard upto further t u p p.node.known shown last sessions up unbegun frames chain (knows last low) commands
 
     by_ends : (ends : Bool) → x.ends ≡ ends → Path x came heard further u
-    by_ends true e = let s = shows e in path_with s.shown s.last s.low s.chain (λ y. s.are) (λ y. s.logged) (λ q. absurd (never (sym e ∙ q)))
-    by_ends false e = path_with p.shown p.node.shown (let h = p.knows.shown in omega (arith, later)) p.chain (λ y. absurd (never (sym y ∙ e))) (λ y. absurd (never (sym y ∙ e))) p.unshown
+    by_ends true e = let s = shows e in path_with s.shown s.last s.low s.chain (λ y. s.are) (λ y. s.logged) (λ q. absurd (true≢false (sym e ∙ q)))
+    by_ends false e = path_with p.shown p.node.shown (let h = p.knows.shown in omega (arith, later)) p.chain (λ y. absurd (true≢false (sym y ∙ e))) (λ y. absurd (true≢false (sym y ∙ e))) p.unshown
 
 -- ---- the act that waits
 

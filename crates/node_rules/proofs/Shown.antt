@@ -43,7 +43,7 @@ use Rattle.node_rules.proofs.Beginning.{commands_known}
 use Rattle.node_rules.proofs.Answering.{answer_fits, fits_if}
 use Rattle.node_rules.proofs.Starting.{none_seated}
 use Rattle.node_rules.proofs.Sitting.{same_hands}
-use Rattle.node_rules.proofs.Chaining.{ok_is, ok_not}
+use Rattle.node_rules.proofs.Results.{ok_is, ok_not}
 use Rattle.node_rules.proofs.Resting.{Closed, rests, proposes}
 use Rattle.node_rules.proofs.Led.{tick_splits, piece_splits, frame_turn}
 use Rattle.node_rules.proofs.Settled.{asked_same}

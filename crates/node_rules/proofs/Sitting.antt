@@ -1,5 +1,5 @@
 -- What comes of seats, on the path of a call.
-use Rattle.std.proofs.Common.{◌≡◌, ℕ, ◌<◌, inl, inr, Bool, true, false, not, if◌then◌else◌, ◌==◌, ◌&&◌, List, [], ◌∷◌, ◌++◌, Option, Some, None, Result, Ok, Err, refl, sym, ap, subst, ◌∙◌, length, arith}
+use Rattle.std.proofs.Common.{◌≡◌, ℕ, ◌<◌, inl, inr, Bool, true, false, true≢false, not, if◌then◌else◌, ◌==◌, ◌&&◌, List, [], ◌∷◌, ◌++◌, Option, Some, None, Result, Ok, Err, refl, sym, ap, subst, ◌∙◌, length, arith}
 use Rattle.std.specs.Prelude.{nat_lt, is_none}
 use Rattle.std.proofs.lemmas.List.{append-nil}
 use Rattle.std.proofs.lemmas.Bool.{ltb-true, eqb-false, not-true, and_parts}
@@ -27,9 +27,10 @@ use Rattle.node_rules.specs.Showing.{Piece, SeatFault, seat_line}
 use Rattle.node_rules.specs.Turns.{Turn, sending, joined}
 use Rattle.node_rules.specs.Seats.{waiting, pending_act, is_others, forwarding, answering, answering_all, Drains}
 use Rattle.node_rules.specs.Being.{IsPending}
+use Rattle.node_rules.specs.LawsSeats.{asked_each}
 use Rattle.node_rules.specs.Given.{Given}
 use Rattle.node_rules.proofs.Carrying.{note_carry, note_all}
-use Rattle.node_rules.proofs.Paths.{Hearing, Scope, dealer_in, Path, never}
+use Rattle.node_rules.proofs.Paths.{Hearing, Scope, dealer_in, Path}
 use Rattle.node_rules.proofs.Proposed.{waiting_value}
 use Rattle.node_rules.proofs.Keeping.{others_proposer, others_pending}
 use Rattle.node_rules.proofs.Steps.{Says, send_said, send_one, unsent, go_on}
@@ -147,22 +148,35 @@ drain x came heard t seat bytes (said ∷ more_said) cur new p seated here rest 
     (subst (λ (h : List Hand). Drains x.place.setting.game h seat between more_said new) (sym (same_hands x.place seat said t.after)) later.1)
 
 -- where the session stands then
-unfoldable pub asks : List Hand → List (Result Saying SessionFault) → List Happening
-asks hands [] = asked hands None ∷ []
-asks hands (said ∷ more_said) = asked hands (Some said) ∷ asks hands more_said
+
+-- it was asked until there was no answer
+abbrev pub asks : List Hand → List (Result Saying SessionFault) → List Happening
+asks hands answers = asked_each hands answers ++ asked hands None ∷ []
 
 pub no_pieces : (hands : List Hand) (answers : List (Result Saying SessionFault)) → joined_pieces (asks hands answers) ≡ []
-unfolding asks
 no_pieces hands [] = refl
 no_pieces hands (said ∷ more_said) = no_pieces hands more_said
 
+-- one that goes on gave these answers, and had none then
+pub record Drained (game : Game) (hands : List Hand) (seat : ℕ) (cur : Talk) (answers : List (Result Saying SessionFault)) (new : Talk) : Type 0 where
+  pub talk : Talk
+  pub happened : Happens game seat cur (asked_each hands answers) talk
+  pub last : Answers game hands seat talk None new
+
 pub drained : (game : Game) (hands : List Hand) (seat : ℕ) (answers : List (Result Saying SessionFault)) (cur new : Talk) → Drains game hands seat cur answers new → is_closed new.phase ≡ false
-    → Happens game seat cur (asks hands answers) new
-unfolding Drains asks
-drained game hands seat [] cur new drains goes_on = (new, drains, refl)
+    → Drained game hands seat cur answers new
+unfolding Drains
+drained game hands seat [] cur new drains goes_on = record { talk = cur; happened = refl; last = drains }
 drained game hands seat (said ∷ more_said) cur new (between, one, inl last) goes_on =
-    absurd (never (sym last.0 ∙ (ap (λ (k : Talk). is_closed k.phase) (sym last.2) ∙ goes_on)))
-drained game hands seat (said ∷ more_said) cur new (between, one, inr later) goes_on = (between, one, drained game hands seat more_said between new later.1 goes_on)
+    absurd (true≢false (sym last.0 ∙ (ap (λ (k : Talk). is_closed k.phase) (sym last.2) ∙ goes_on)))
+drained game hands seat (said ∷ more_said) cur new (between, one, inr later) goes_on =
+    let d = drained game hands seat more_said between new later.1 goes_on in record { talk = d.talk; happened = (between, one, d.happened); last = d.last }
+
+pub drained_asked : (g : Given) (game : Game) (hands : List Hand) (seat : ℕ) (answers : List (Result Saying SessionFault)) (cur new : Talk) → Drains game hands seat cur answers new
+    → is_closed new.phase ≡ false → Happens game seat cur (asks hands answers) new
+drained_asked g game hands seat answers cur new drains goes_on =
+    let d = drained game hands seat answers cur new drains goes_on in
+    (g.runs_on game seat cur (asked_each hands answers) d.talk (asked hands None ∷ []) new d.happened (new, d.last, refl)).0
 
 pub rest_drained : (g : Given) (game : Game) (hands : List Hand) (seat : ℕ) (bytes : List ℕ) (answers : List (Result Saying SessionFault)) (cur new : Talk) → Drains game hands seat cur answers new
     → IsRestOf bytes cur → IsRestOf bytes new

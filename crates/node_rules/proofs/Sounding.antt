@@ -1,5 +1,5 @@
 -- However a call ends, it is a chain of moves.
-use Rattle.std.proofs.Common.{◌≡◌, ℕ, inl, inr, ◌⊎◌, Bool, true, false, if◌then◌else◌, ◌&&◌, List, [], ◌∷◌, Option, Some, None, Result, Ok, Err, refl, sym, ap, subst, ◌∙◌}
+use Rattle.std.proofs.Common.{◌≡◌, ℕ, inl, inr, ◌⊎◌, Bool, true, false, true≢false, if◌then◌else◌, ◌&&◌, List, [], ◌∷◌, Option, Some, None, Result, Ok, Err, refl, sym, ap, subst, ◌∙◌}
 use Rattle.std.specs.Prelude.{nat_le}
 use Rattle.paxos_wire.specs.declared.limits.TheConstants.{SLOTS}
 use Rattle.paxos_wire.specs.Faults.{reading}
@@ -31,14 +31,15 @@ use Rattle.node_rules.specs.Called.{came_in, Comes, log_before, events_of, taken
 use Rattle.node_rules.specs.Given.{Given}
 use Rattle.node_rules.specs.Sound.{Stands, AppendsAreBegun, CallsAreSound, LinesAreRefusedDown}
 use Rattle.node_rules.proofs.Telling.{nothing_shown}
-use Rattle.node_rules.proofs.Paths.{Scope, first_in, Path, Goes, IsHarmless, never}
+use Rattle.node_rules.proofs.Paths.{Scope, first_in, Path, Goes, IsHarmless}
 use Rattle.node_rules.proofs.Beginning.{hearing_of, begin}
 use Rattle.node_rules.proofs.Framing.{frame_goes, tick_goes}
 use Rattle.node_rules.proofs.Closing.{close}
 use Rattle.node_rules.proofs.Hearing.{piece_sits}
 use Rattle.node_rules.proofs.Halting.{Halted, halt_same, Leaves, frame_leaves, tick_leaves, then_closes}
 use Rattle.node_rules.proofs.Starting.{nothing_taken}
-use Rattle.node_rules.proofs.Chaining.{scope_of, log_is, runs_in, ok_is, ok_not, err_is, turns_are_chains}
+use Rattle.node_rules.proofs.Results.{ok_is, ok_not, err_is}
+use Rattle.node_rules.proofs.Chaining.{scope_of, log_is, runs_in, turns_are_chains}
 
 -- ---- refusals change nothing, unless another command is known
 
@@ -214,7 +215,7 @@ failed_called g own place world s st called begun k =
       output = record { sent = h.sent; shown = []; came = k.came };
       last = record h.last { begun = begun; up = false };
       chain = more _ h.last nothing _ _ h.chain (stops begun h.up h.append refl refl) refl;
-      of = record { up = refl; store = h.same_store ∙ st.of.store; begun = refl; runs = λ e. absurd (never (sym e)) };
+      of = record { up = refl; store = h.same_store ∙ st.of.store; begun = refl; runs = λ e. absurd (true≢false (sym e)) };
       carry = record {
         others = λ f i. absurd i;
         said = λ m i. absurd (i.1.1);
@@ -223,7 +224,7 @@ failed_called g own place world s st called begun k =
         accepts = λ b c d i. absurd (i.1.1);
       };
       shown = nothing_shown place.node h.last.starts (log_before place s);
-      logged = λ e. absurd (never (sym e));
+      logged = λ e. absurd (true≢false (sym e));
       got = h.got;
       happened = k.happened;
     }

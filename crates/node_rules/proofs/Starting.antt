@@ -1,5 +1,5 @@
 -- Starts and stops.
-use Rattle.std.proofs.Common.{◌≡◌, ℕ, zero, suc, ◌≤◌, ◌⊎◌, inl, inr, Bool, true, false, if◌then◌else◌, List, [], ◌∷◌, ◌++◌, Option, Some, None, refl, sym, ap, subst, ◌∙◌, arith, length, replicate}
+use Rattle.std.proofs.Common.{◌≡◌, ℕ, zero, suc, ◌≤◌, ◌⊎◌, inl, inr, Bool, true, false, true≢false, if◌then◌else◌, List, [], ◌∷◌, ◌++◌, Option, Some, None, refl, sym, ap, subst, ◌∙◌, arith, length, replicate}
 use Rattle.std.specs.Prelude.{nat_lt, slice_get, reverse}
 use Rattle.std.proofs.lemmas.List.{length-replicate}
 use Rattle.paxos_wire.specs.declared.limits.TheConstants.{NODES}
@@ -27,7 +27,7 @@ use Rattle.node_rules.specs.Called.{Called, Taken}
 use Rattle.node_rules.specs.Given.{Given}
 use Rattle.node_rules.proofs.Carrying.{nothing_carried, nothing_lost, others_carry, others_all}
 use Rattle.node_rules.proofs.Telling.{nothing_shown, shown_more}
-use Rattle.node_rules.proofs.Paths.{Hearing, Scope, dealer_in, first_in, Path, never}
+use Rattle.node_rules.proofs.Paths.{Hearing, Scope, dealer_in, first_in, Path}
 use Rattle.node_rules.proofs.Steps.{send, go_on}
 use Rattle.node_rules.proofs.Ticking.{few_nodes}
 
@@ -107,9 +107,9 @@ begun x s found of down left ends start had log quiet = record {
   pieces = λ y. shown_more x.place.node x.start x.log [] [] (header x.place.setting) text (nothing_shown x.place.node x.start x.log)
       (ap (λ (l : List ℕ). record { reader = ToLog; text = l }) (logs ∙ ap (λ (l : List ℕ). l ++ (header x.place.setting).text) (sym log))) refl (sym start);
   logged = λ y. ap (λ (l : List ℕ). l ++ (header x.place.setting).text) log ∙ sym logs;
-  unshown = λ q. absurd (never (sym ends ∙ q));
+  unshown = λ q. absurd (true≢false (sym ends ∙ q));
   unvoted = λ q k b l c h. absurd h;
-  unstored = λ q. absurd (never (sym ends ∙ q));
+  unstored = λ q. absurd (true≢false (sym ends ∙ q));
   got_only = λ m h. absurd h;
   got_all = λ m h. subst (λ (l : List Message). In m l) quiet h;
 }
@@ -198,10 +198,10 @@ stop_taken own place ever first log events s of up happened = record {
     output = record { sent = []; shown = []; came = [] };
     last = record first { begun = s.store; up = false };
     chain = more _ first (record { sent = []; shown = []; came = [] }) _ _ (none _ _ refl refl) (stops s.store (of.up ∙ up) (unchanged _ (sym of.store)) refl refl) refl;
-    of = record { up = refl; store = of.store; begun = refl; runs = λ e. absurd (never (sym e)) };
+    of = record { up = refl; store = of.store; begun = refl; runs = λ e. absurd (true≢false (sym e)) };
     carry = nothing_carried place.nodes place.node;
     shown = nothing_shown place.node first.starts log;
-    logged = λ e. absurd (never (sym e));
+    logged = λ e. absurd (true≢false (sym e));
     got = λ m h. inl h;
     happened = happened;
   };

@@ -1,5 +1,5 @@
 -- A ballot is begun, on the path of a call.
-use Rattle.std.proofs.Common.{◌≡◌, ℕ, ◌<◌, ◌≤◌, ◌+◌, ◌⊎◌, inl, inr, Bool, true, false, if◌then◌else◌, List, [], ◌∷◌, ◌++◌, Option, Some, Ok, Err, refl, sym, ap, subst, ◌∙◌, arith, map}
+use Rattle.std.proofs.Common.{◌≡◌, ℕ, ◌<◌, ◌≤◌, ◌+◌, ◌⊎◌, inl, inr, Bool, true, false, true≢false, if◌then◌else◌, List, [], ◌∷◌, ◌++◌, Option, Some, Ok, Err, refl, sym, ap, subst, ◌∙◌, arith, map}
 use Rattle.std.proofs.lemmas.List.{append-nil}
 use Rattle.paxos_wire.specs.declared.limits.TheConstants.{NODES}
 use Rattle.paxos_wire.specs.declared.ballot.Ballot.{Ballot}
@@ -31,7 +31,7 @@ use Rattle.node_rules.proofs.Carrying.{joined_carry, joined_all, others_carry, o
 use Rattle.protocol_model.proofs.Ballots.{at_most_trans, at_most_self, at_most_of_below, not_below}
 use Rattle.node_rules.proofs.Ordering.{higher_is, sees_own, sees_up}
 use Rattle.node_rules.proofs.Keeping.{with_got, got_learner, got_pending, sent_pending, stored_pending}
-use Rattle.node_rules.proofs.Paths.{Hearing, Scope, dealer_in, Path, Goes, never}
+use Rattle.node_rules.proofs.Paths.{Hearing, Scope, dealer_in, Path, Goes}
 use Rattle.node_rules.proofs.Steps.{go_on}
 use Rattle.node_rules.proofs.Promising.{tells, within_up}
 
@@ -112,8 +112,8 @@ begin x came heard t ends p = record {
   pieces = λ ends. subst (λ (l : List Piece). AreShown i x.start x.log l p.shown) (sym (append-nil t.shown)) (p.pieces ends);
   logged = λ ends. ap (log_after x.log) (append-nil t.shown) ∙ p.logged ends;
   unshown = p.unshown;
-  unvoted = λ q. absurd (never (sym ends ∙ q));
-  unstored = λ q. absurd (never (sym ends ∙ q));
+  unvoted = λ q. absurd (true≢false (sym ends ∙ q));
+  unstored = λ q. absurd (true≢false (sym ends ∙ q));
   got_only = λ o h. elim h [ inl e ↦ inr (inl e) | inr old ↦ elim (p.got_only o old) [ inl a ↦ inl a | inr b ↦ inr (inr (inr b)) ] ];
   got_all = λ o h. inr (p.got_all o h);
 }

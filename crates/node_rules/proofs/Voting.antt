@@ -1,5 +1,5 @@
 -- Votes for other nodes' proposals on the path of a call.
-use Rattle.std.proofs.Common.{◌≡◌, ◌≢◌, ℕ, ◌<◌, ◌⊎◌, inl, inr, Bool, true, false, if◌then◌else◌, ◌==◌, List, [], ◌∷◌, Option, Some, None, Ok, refl, sym, ap, subst, ◌∙◌}
+use Rattle.std.proofs.Common.{◌≡◌, ◌≢◌, ℕ, ◌<◌, ◌⊎◌, inl, inr, Bool, true, false, true≢false, if◌then◌else◌, ◌==◌, List, [], ◌∷◌, Option, Some, None, Ok, refl, sym, ap, subst, ◌∙◌}
 use Rattle.std.proofs.lemmas.Bool.{eqb-true}
 use Rattle.paxos_wire.specs.declared.ballot.Ballot.{Ballot}
 use Rattle.paxos_wire.specs.declared.message.Message.{Message as Wire}
@@ -25,7 +25,7 @@ use Rattle.node_rules.proofs.Carrying.{others_carry, others_all}
 use Rattle.protocol_model.proofs.Ballots.{at_most_trans, at_most_self, same_if, at_most_if_not}
 use Rattle.node_rules.proofs.Ordering.{both_ways, sees_up}
 use Rattle.node_rules.proofs.Keeping.{sent_pending, stored_pending, prepared_before, proposed_before}
-use Rattle.node_rules.proofs.Paths.{Hearing, Scope, dealer_in, Path, Goes, regroup, never}
+use Rattle.node_rules.proofs.Paths.{Hearing, Scope, dealer_in, Path, Goes, regroup}
 use Rattle.node_rules.proofs.Steps.{Leads, get_own, say}
 use Rattle.node_rules.specs.Proposing.{own_value}
 use Rattle.node_rules.proofs.Proposed.{voted_proposed, sent_proposed}
@@ -93,7 +93,7 @@ new_vote x came heard upto t ends ballot slot command p had above other =
 
     path : Path x came heard upto (joined t (sending (to_others x.place w) (with_stored (idle t.after) (voted t.after.store slot vote))))
     path = (say x came heard upto t m (to_others x.place w) (with_stored (idle t.after) (voted t.after.store slot vote)) (voted p.node.store slot vote) (voted p.node.store slot vote) p
-        refl refl refl refl (λ q. absurd (never (sym ends ∙ q))) (accepts ballot slot command p.knows.up had up refl refl)
+        refl refl refl refl (λ q. absurd (true≢false (sym ends ∙ q))) (accepts ballot slot command p.knows.up had up refl refl)
         (record {
           up = p.knows.up;
           store = ap (λ (st : Store). voted st slot vote) p.knows.store;
@@ -145,7 +145,7 @@ old_vote x came heard upto t ends ballot slot vote p held same above other =
 
     path : Path x came heard upto (joined t (sending (to_others x.place w) (with_stored (idle t.after) t.after.store)))
     path = (say x came heard upto t m (to_others x.place w) (with_stored (idle t.after) t.after.store) p.node.store p.node.begun p
-        p.begun refl refl refl (λ q. absurd (never (sym ends ∙ q))) (repeats ballot slot vote.command p.knows.up again up refl refl)
+        p.begun refl refl refl (λ q. absurd (true≢false (sym ends ∙ q))) (repeats ballot slot vote.command p.knows.up again up refl refl)
         (record {
           up = p.knows.up;
           store = p.knows.store;
