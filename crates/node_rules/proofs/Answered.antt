@@ -42,7 +42,7 @@ use Rattle.node_rules.proofs.Settling.{below_front}
 use Rattle.node_rules.proofs.Results.{ok_is, ok_not}
 use Rattle.node_rules.proofs.Resting.{Closed, rests, proposes}
 use Rattle.node_rules.proofs.Led.{tick_splits, piece_splits, frame_turn}
-use Rattle.node_rules.proofs.Settled.{asked_same}
+use Rattle.node_rules.proofs.Asked.{asked_same}
 
 -- ---- the close
 

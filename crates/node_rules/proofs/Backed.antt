@@ -49,7 +49,7 @@ use Rattle.node_rules.proofs.Chaining.{turns_are_chains}
 use Rattle.node_rules.proofs.Sounding.{harmless_by, harmless_still}
 use Rattle.node_rules.proofs.Resting.{Closed, rests, proposes}
 use Rattle.node_rules.proofs.Led.{tick_splits, piece_splits, frame_turn}
-use Rattle.node_rules.proofs.Settled.{asked_same}
+use Rattle.node_rules.proofs.Asked.{asked_same}
 
 -- what the model says of backing
 pub record Backing : Type 0 where

@@ -27,7 +27,8 @@ use Rattle.node_rules.specs.Calm.{Rise, without, Event, Ticks, delivers, round}
 use Rattle.node_rules.specs.CalmRound.{place_in, node_of, call_of, Sent, sent_by, IsOnItsWay, AreReadBack, GoOn, HasMovedOn}
 use Rattle.protocol_model.proofs.Sets.{in_first, in_later}
 use Rattle.node_rules.proofs.Voting.{voted_is}
-use Rattle.node_rules.proofs.Settled.{asked_same, marked_at}
+use Rattle.node_rules.proofs.Asked.{asked_same}
+use Rattle.node_rules.proofs.Settled.{marked_at}
 use Rattle.node_rules.proofs.Electing.{covered}
 use Rattle.node_rules.proofs.Counting.{Counts, counts_vote}
 use Rattle.node_rules.proofs.Members.{AreDistinct, above_all, rise_distinct, without_in, in_without, without_rise, without_length, three_nodes}

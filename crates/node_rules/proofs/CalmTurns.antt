@@ -43,7 +43,8 @@ use Rattle.node_rules.specs.Given.{Given}
 use Rattle.protocol_model.proofs.Ballots.{at_most_self, not_below, below_if, is_below_if}
 use Rattle.node_rules.proofs.Closing.{none_of_ballot, stored_new, unmarked}
 use Rattle.node_rules.proofs.Halting.{unled_by}
-use Rattle.node_rules.proofs.Settled.{PassesOver, passes_over, counted_is, proposal_is, turn_made, Fresh, made_turn, marked_none, asked_same}
+use Rattle.node_rules.proofs.Asked.{asked_same}
+use Rattle.node_rules.proofs.Settled.{PassesOver, passes_over, counted_is, proposal_is, turn_made, Fresh, made_turn, marked_none}
 use Rattle.learner.proofs.Kept.{open_means}
 use Rattle.node_rules.proofs.Electing.{covered}
 use Rattle.node_rules.proofs.Counting.{Counts, counts_vote}

@@ -46,7 +46,7 @@ use Rattle.node_rules.proofs.Closing.{campaigns_of}
 use Rattle.node_rules.proofs.Counting.{counts_vote, had_in_time}
 use Rattle.node_rules.proofs.Resting.{Closed, rests, proposes}
 use Rattle.node_rules.proofs.Led.{tick_splits, piece_splits, frame_turn}
-use Rattle.node_rules.proofs.Settled.{asked_same}
+use Rattle.node_rules.proofs.Asked.{asked_same}
 use Rattle.node_rules.proofs.Answered.{prepare_answer, learned_frames, chosen_frames, accept_answer, answers_frames}
 
 -- ---- frames without a proposal

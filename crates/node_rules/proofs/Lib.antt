@@ -15,6 +15,7 @@ mod Settling
 mod Learning
 mod Voting
 mod Asking
+pub mod Asked
 mod Closing
 mod Settled
 mod Ticking

@@ -34,7 +34,7 @@ use Rattle.node_rules.specs.Standings.{Place, Standing, front_of, with_stored, i
 use Rattle.node_rules.specs.Sending.{one, to_others}
 use Rattle.node_rules.specs.Turns.{Turn, Refusal, Spent, still, sending, joined, and_then}
 use Rattle.node_rules.specs.Accepting.{is_of_ballot, stored_in, storing, promising, refusing, voting}
-use Rattle.node_rules.specs.Learning.{learning, counting_vote, comes_to_window, asking_on, believing}
+use Rattle.node_rules.specs.Learning.{learning, counting_vote, asking_on, believing}
 use Rattle.node_rules.specs.Proposing.{greatest_seen, is_over, is_spent, beginning, ticking, closing}
 use Rattle.node_rules.specs.Seats.{session_at, with_session, left, connecting, dropping, answering, answering_all, HearsPiece}
 use Rattle.node_rules.specs.Calls.{Call, Start, Tick, Line, Connect, Drop, Stop}
@@ -52,7 +52,8 @@ use Rattle.node_rules.proofs.Framing.{stood, taken}
 use Rattle.node_rules.proofs.Ticking.{tick}
 use Rattle.node_rules.proofs.Sitting.{same_learned}
 use Rattle.node_rules.proofs.Hearing.{piece_sits}
-use Rattle.node_rules.proofs.Settled.{Closes, gives_up, rests, makes, closes, behind_ok, asked_same}
+use Rattle.node_rules.proofs.Asked.{asked_on, asked_same}
+use Rattle.node_rules.proofs.Settled.{Closes, gives_up, rests, makes, closes, behind_ok}
 use Rattle.node_rules.proofs.Results.{ok_is}
 use Rattle.node_rules.proofs.Chaining.{scope_of, runs_in}
 use Rattle.node_rules.proofs.Counting.{Counts, Grows, same_grows, GrowsBy, vote_grows, belief_grows, then_grows, learning_is, learning_keeps, had_in_time, known_by_quorum}
@@ -120,13 +121,6 @@ stage_closed x came heard s called node old (Ok u) turn goes stage h =
 
 -- ---- what another node tells as chosen
 
-asked_on_same : (from old : ℕ) (s : Standing) → (asking_on from old s).after ≡ s
-asked_on_same from old s = by_test (comes_to_window old (front_of s))
-  where
-    by_test : (b : Bool) → (if b then sending (one from (frame.Ask (front_of s))) s else still s).after ≡ s
-    by_test true = refl
-    by_test false = refl
-
 -- what was learned, and that nothing else was known there
 believed : (place : Place) (from slot : ℕ) (command : Command) (s : Standing) (u : Turn) → believing place from slot command s ≡ Ok u
     → IsOk (answer_to_chosen s.learned.log slot command) × (u.after.learned ≡ with_chosen s.learned slot command)
@@ -140,7 +134,7 @@ believed place from slot command s u e = by_first (learning place (answer_to_cho
         let is = learning_is place (answer_to_chosen s.learned.log slot command) (with_chosen s.learned slot command) s v er in (
           is.0,
           ap (λ (t : Turn). t.after.learned) (sym (ok_is (joined v (asking_on from (front_of s) v.after)) u h))
-              ∙ (ap (λ (y : Standing). y.learned) (asked_on_same from (front_of s) v.after) ∙ is.1),
+              ∙ (ap (λ (y : Standing). y.learned) (asked_on from (front_of s) v.after) ∙ is.1),
         )
 
 -- ---- a vote for another node's proposal

@@ -46,7 +46,7 @@ use Rattle.node_rules.proofs.Beginning.{commands_known}
 use Rattle.node_rules.proofs.Results.{ok_is, ok_not}
 use Rattle.node_rules.proofs.Resting.{Closed}
 use Rattle.node_rules.proofs.Led.{tick_splits, piece_splits, frame_turn}
-use Rattle.node_rules.proofs.Settled.{asked_same}
+use Rattle.node_rules.proofs.Asked.{asked_same}
 use Rattle.node_rules.proofs.Answered.{two, answers_frames}
 use Rattle.node_rules.proofs.Sitting.{drained_asked}
 use Rattle.node_rules.proofs.Shown.{closed_faults, closed_pending, closed_sessions, two_shown, answers_shown, answers_pending}

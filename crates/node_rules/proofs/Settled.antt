@@ -27,7 +27,7 @@ use Rattle.proposer.specs.Laws.{IsSafe}
 use Rattle.learner.specs.declared.chosen.Chosen.{Chosen as Learnt}
 use Rattle.learner.specs.Learning.{Learned, is_open, is_other, completes, answer_to, hearing, counting, knowing}
 use Rattle.node_rules.specs.Standings.{Place, Standing, applied, front_of, with_stored, idle}
-use Rattle.node_rules.specs.Sending.{Frame, one, to_others}
+use Rattle.node_rules.specs.Sending.{Frame, to_others}
 use Rattle.node_rules.specs.Turns.{Turn, Refusal, still, sending, joined, behind, and_then}
 use Rattle.node_rules.specs.Applying.{passed, taking_all, scene_of, applying}
 use Rattle.node_rules.specs.Learning.{learning, counting_vote}
@@ -41,6 +41,7 @@ use Rattle.node_rules.proofs.Paths.{Hearing, Scope, dealer_in, Path, Goes}
 use Rattle.learner.proofs.Kept.{open_means}
 use Rattle.node_rules.proofs.Learning.{world_now}
 use Rattle.node_rules.proofs.Members.{one_counted, three_nodes}
+use Rattle.node_rules.proofs.Asked.{asked_same}
 use Rattle.node_rules.proofs.Closing.{IsMade, made_by, campaigns_of, none_of_ballot, stored_new, unmarked}
 use Rattle.node_rules.proofs.Sourcing.{had_was_sent}
 
@@ -349,21 +350,6 @@ then_closed x came heard (Err e) turn goes h = absurd (cc)
 then_closed x came heard (Ok u) turn goes h =
     let b = behind_ok u (closing x.place u.after) turn h in
     subst (IsSettled x.place) (sym b.2) (closed x came heard u goes b.0 b.1)
-
--- the question after the close leaves the standing
-above_after : (from : ℕ) (front : ℕ) (s : Standing) (b : Bool) → (if b then sending (one from (frame.Ask front)) s else still s).after ≡ s
-above_after from front s true = refl
-above_after from front s false = refl
-
-pub asked_same : (from : ℕ) (message : Wire) (s : Standing) → (asking from message s).after ≡ s
-asked_same from (frame.Prepare ballot slot) s = above_after from (front_of s) s (nat_lt (front_of s) slot)
-asked_same from (frame.Promise ballot slot told) s = refl
-asked_same from (frame.Refuse ballot slot promised) s = refl
-asked_same from (frame.Accept ballot slot command) s = above_after from (front_of s) s (nat_lt (front_of s) slot)
-asked_same from (frame.Accepted ballot slot command) s = above_after from (front_of s) s (nat_lt (front_of s) slot)
-asked_same from (frame.Chosen slot command) s = refl
-asked_same from (frame.Ask slot) s = refl
-asked_same from (frame.Forward command) s = refl
 
 -- a stage, the close, and what is asked for then
 pub asked_closed : (x : Scope) (came : List Arrival) (heard : Hearing) (from : ℕ) (w : Wire) (r : Result Turn Refusal) (turn : Turn) → Goes x came heard r

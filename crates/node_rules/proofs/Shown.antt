@@ -46,7 +46,7 @@ use Rattle.node_rules.proofs.Sitting.{same_hands}
 use Rattle.node_rules.proofs.Results.{ok_is, ok_not}
 use Rattle.node_rules.proofs.Resting.{Closed, rests, proposes}
 use Rattle.node_rules.proofs.Led.{tick_splits, piece_splits, frame_turn}
-use Rattle.node_rules.proofs.Settled.{asked_same}
+use Rattle.node_rules.proofs.Asked.{asked_same}
 use Rattle.node_rules.proofs.Applied.{seat_line_is, takes_all, keeps_all, scene_over, waits_then, Applies, message_applies, passed_now}
 
 -- ---- the close shows nothing, and leaves all but what it proposes
