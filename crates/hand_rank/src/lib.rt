@@ -9,15 +9,15 @@
 #![tactic(auto)]
 
 mod all_fives;
-mod by_counts;
 mod five;
 mod hand_value;
 mod laws;
 mod profile;
 mod rank_set;
+mod seven;
 
 pub use all_fives::best_of_all_fives;
-pub use by_counts::best_of_seven;
 pub use five::value_of_five;
 pub use hand_value::HandValue;
 pub use laws::order_of_cards_is_of_no_account;
+pub use seven::best_of_seven;

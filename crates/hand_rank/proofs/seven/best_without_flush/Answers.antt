@@ -3,7 +3,7 @@ use Rattle.hand_rank.specs.Best.{IsBestOf}
 use Rattle.hand_rank.specs.Worth.{Worth}
 use Rattle.hand_rank.specs.Profile.{IsNoneAbove}
 use Rattle.hand_rank.proofs.Values.{best_straight, none_above_seven, none_above_four, none_above_three}
-use Rattle.hand_rank.proofs.by_counts.best_without_flush.Goals as goal
+use Rattle.hand_rank.proofs.seven.best_without_flush.Goals as goal
 
 pub returns-in-Some : goal.returns-in-Some
 returns-in-Some c = λ cards seven profile few.

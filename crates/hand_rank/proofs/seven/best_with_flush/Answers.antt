@@ -3,7 +3,7 @@ use Rattle.hand_rank.specs.Best.{IsBestOf}
 use Rattle.hand_rank.specs.Worth.{Worth}
 use Rattle.hand_rank.specs.Profile.{IsNoneAbove}
 use Rattle.hand_rank.proofs.Values.{best_straight_flush, best_flush_ranks, none_above_seven_with}
-use Rattle.hand_rank.proofs.by_counts.best_with_flush.Goals as goal
+use Rattle.hand_rank.proofs.seven.best_with_flush.Goals as goal
 
 pub returns-in-Some : goal.returns-in-Some
 returns-in-Some c = λ cards suit seven profile low many suited.

@@ -1,6 +1,6 @@
 use Rattle.hand_rank.specs.Profile.{IsSeven}
 use Rattle.hand_rank.proofs.Values.{found_suit, no_suit}
-use Rattle.hand_rank.proofs.by_counts.best_of_seven.Goals as goal
+use Rattle.hand_rank.proofs.seven.best_of_seven.Goals as goal
 use Rattle.std.proofs.Common.{◌∙◌, sym}
 
 pub returns-in-Some : goal.returns-in-Some

@@ -4,8 +4,8 @@ use Rattle.hand_rank.specs.declared.rank_set.RankSet.{RankSet}
 use Rattle.hand_rank.specs.Profile.{suited_count}
 use Rattle.hand_rank.specs.Ranks.{IsAtLeast}
 use Rattle.hand_rank.proofs.Profiles.{suited_more, suited_no_more}
-use Rattle.hand_rank.proofs.by_counts.suited_ranks.Goals as goal
-use Rattle.hand_rank.proofs.by_counts.suited_ranks.Goals.{then-suit, else-suit}
+use Rattle.hand_rank.proofs.seven.suited_ranks.Goals as goal
+use Rattle.hand_rank.proofs.seven.suited_ranks.Goals.{then-suit, else-suit}
 
 pub loop-card-preserved : goal.loop-card-preserved
 loop-card-preserved c =
