@@ -32,5 +32,6 @@ pub mod Growing
 pub mod LineExamples
 pub mod AlikeExamples
 pub mod OneAnswer
+pub mod Missing
 pub mod SaidExamples
 pub mod RightTexts

@@ -1,5 +1,4 @@
-use Rattle.std.proofs.Common.{◌≡◌, ℕ, ◌<◌, List, ◌∷◌, ◌++◌, length, Bool, true, false, eqb, Option, Some, None, IsSomeAnd, ap, ◌∙◌, sym, subst, arith}
-use Rattle.std.specs.Borrow.{Bor}
+use Rattle.std.proofs.Common.{◌≡◌, ℕ, ◌<◌, List, ◌∷◌, ◌++◌, length, Bool, true, false, eqb, Some, ap, ◌∙◌, sym, subst, arith}
 use Rattle.std.proofs.lemmas.Bool.Decides.{nat_tests}
 use Rattle.game_def.specs.Game.{Game}
 use Rattle.betting.specs.declared.action.Action.{Action}
@@ -9,6 +8,7 @@ use Rattle.betting.specs.Text.{text}
 use Rattle.matchstate.specs.Reading.{BeginsWith}
 use Rattle.matchstate.proofs.Texts.{text_none}
 use Rattle.matchstate.proofs.Behind.{Behind, behind_all, next_behind, behind_none, text_with}
+use Rattle.matchstate.proofs.Missing.{missing}
 use Rattle.matchstate.proofs.betting_field.read_betting.Goals as goal
 
 pub loop-rest-init : goal.loop-rest-init
@@ -30,10 +30,6 @@ some_left n empty told is = let test : eqb n 0 ≡ false = sym told ∙ is in gr
 none_left : (n : ℕ) (empty : Bool) → empty ≡ eqb n 0 → empty ≡ true → n ≡ 0
 none_left n empty told is = let test : eqb n 0 ≡ true = sym told ∙ is in grind (arith, nat_tests)
 
-missing : (behind : List ℕ) (r : Option (Bor (List ℕ))) → r ≡ None → IsSomeAnd r (λ rest. rest.now ≡ behind) → ⊥
-missing behind None is some = some
-missing behind (Some x) is some = cc
-
 pub returns-in_err-rest-clause-only : goal.returns-in_err-rest-clause-only
 returns-in_err-rest-clause-only c =
     λ whole legal is.
@@ -43,7 +39,7 @@ returns-in_err-rest-clause-only c =
     let next = next_behind c.args.game.now play.past c.loop-rest.rest.now whole (inv.3 whole legal is) legal some in
     let same : play.game ≡ c.args.game.now = inv.0 in
     let begins = subst (λ (g : Game). BeginsWith g play.past c.loop-rest.rest.now next.action next.behind) (sym same) next.begins in
-    absurd (missing next.behind c.read_turn.result c.in_err-rest.was (c.read_turn.ensures.only next.action next.behind begins next.no_digit).0)
+    absurd (missing _ c.in_err-rest.was (c.read_turn.ensures.only next.action next.behind begins next.no_digit).0)
 
 pub loop-rest-preserved : goal.loop-rest-preserved
 loop-rest-preserved c =

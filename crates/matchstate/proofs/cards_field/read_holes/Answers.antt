@@ -1,20 +1,12 @@
-use Rattle.std.proofs.Common.{◌≡◌, ℕ, ◌+◌, ◌<◌, ◌≤◌, List, [], ◌∷◌, ◌++◌, cond, map, Option, Some, None, IsSomeAnd, ap, sym, ◌∙◌, arith, length, take, drop, get_or, length-set}
-use Rattle.std.specs.Borrow.{Bor}
+use Rattle.std.proofs.Common.{◌≡◌, ℕ, ◌+◌, ◌<◌, ◌≤◌, List, [], ◌∷◌, ◌++◌, cond, map, ap, sym, ◌∙◌, arith, length, take, drop, get_or, length-set}
 use Rattle.std.specs.List.{join_by}
 use Rattle.std.proofs.lemmas.List.{drop_all, take_all}
 use Rattle.std.proofs.lemmas.List.Prefix.{end_rest}
 use Rattle.matchstate.specs.Cards.{cards_text}
 use Rattle.matchstate.specs.SeenCards.{hole_in, seen_at}
 use Rattle.matchstate.proofs.Joined.{joined, joined_is, hole_next, All-hole, count_of_holes, count_of_hole, text_more, counts_more, pack_more, same_more}
+use Rattle.matchstate.proofs.Missing.{missing}
 use Rattle.matchstate.proofs.cards_field.read_holes.Goals as goal
-
-missing : (behind : List ℕ) (r : Option (Bor (List ℕ))) → r ≡ None → IsSomeAnd r (λ rest. rest.now ≡ behind) → ⊥
-missing behind None is some = some
-missing behind (Some x) is some = cc
-
-missing_hole : (P : Option (List ℕ) → Type 0) (r : Option (Option (List ℕ))) → r ≡ None → IsSomeAnd r P → ⊥
-missing_hole P None is some = some
-missing_hole P (Some x) is some = cc
 
 pub returns-in_err-text-clause-only : goal.returns-in_err-text-clause-only
 returns-in_err-text-clause-only c =
@@ -27,7 +19,7 @@ returns-in_err-text-clause-only c =
     let below : p < length holes = omega arith in
     let next = hole_next p holes c.loop-position.rest.now behind below stands.0 in
     let later = cards_text (get_or holes p []) ++ (joined (p + 1) (drop (p + 1) holes) ++ behind) in
-    absurd (missing later c.after_separator.result c.in_err-text.was (c.after_separator.ensures.only later next))
+    absurd (missing _ c.in_err-text.was (c.after_separator.ensures.only later next))
 
 pub returns-in_err-hole-clause-only : goal.returns-in_err-hole-clause-only
 returns-in_err-hole-clause-only c =
@@ -41,7 +33,7 @@ returns-in_err-hole-clause-only c =
     let next = hole_next p holes c.loop-position.rest.now behind below stands.0 in
     let text = c.in_ok-text.ensures.only (cards_text (get_or holes p []) ++ (joined (p + 1) (drop (p + 1) holes) ++ behind)) next in
     let found = c.read_hole.ensures.only (get_or holes p []) (joined (p + 1) (drop (p + 1) holes) ++ behind) (count_of_hole want c.args.players holes counts p test) (All-hole (λ card. card < 52) holes p all) text in
-    absurd (missing_hole (λ h. (hole_in h ≡ get_or holes p []) × (drop (cond (seen_at c.args.sees.now p) 4 0) c.in_ok-text.text.now ≡ joined (p + 1) (drop (p + 1) holes) ++ behind)) c.read_hole.result c.in_err-hole.was found)
+    absurd (missing _ c.in_err-hole.was found)
 
 pub loop-position-preserved : goal.loop-position-preserved
 loop-position-preserved c =

@@ -1,15 +1,12 @@
-use Rattle.std.proofs.Common.{◌≡◌, [], ◌∷◌, ◌++◌, map, Option, Some, None, IsSomeAnd, ap, sym, ◌∙◌, arith, length, take, drop}
+use Rattle.std.proofs.Common.{◌≡◌, [], ◌∷◌, ◌++◌, map, ap, sym, ◌∙◌, arith, length, take, drop}
 use Rattle.std.specs.List.{join_by}
 use Rattle.std.specs.Option.{option_to_list}
 use Rattle.std.proofs.lemmas.List.{drop_all, length-drop}
 use Rattle.matchstate.specs.Cards.{cards_text}
 use Rattle.matchstate.specs.SeenCards.{hole_in, seen_at}
 use Rattle.matchstate.proofs.Parts.{streets_text, parts_of, field_joined, counted_joined}
+use Rattle.matchstate.proofs.Missing.{missing}
 use Rattle.matchstate.proofs.cards_field.read_seen.Goals as goal
-
-missing : {A : Type 0} (P : A → Type 0) (r : Option A) → r ≡ None → IsSomeAnd r P → ⊥
-missing P None is some = some
-missing P (Some x) is some = cc
 
 pub returns-in_err-flop-clause-only : goal.returns-in_err-flop-clause-only
 returns-in_err-flop-clause-only c =
@@ -18,7 +15,7 @@ returns-in_err-flop-clause-only c =
     let s = parts.split in
     let first = c.in_ok-holes.ensures.only holes (streets_text s.flop ++ (streets_text s.turn ++ (streets_text s.river ++ []))) counted.hole_counts parts.holes_pack parts.text_is in
     let board = c.split_at.ensures.back ∙ first.1 in
-    absurd (missing _ c.read_street.result c.in_err-flop.was (c.read_street.ensures.only s.flop (streets_text s.turn ++ (streets_text s.river ++ [])) s.flop_count parts.flop_pack board))
+    absurd (missing _ c.in_err-flop.was (c.read_street.ensures.only s.flop (streets_text s.turn ++ (streets_text s.river ++ [])) s.flop_count parts.flop_pack board))
 
 pub returns-in_err-turn-clause-only : goal.returns-in_err-turn-clause-only
 returns-in_err-turn-clause-only c =
@@ -28,7 +25,7 @@ returns-in_err-turn-clause-only c =
     let first = c.in_ok-holes.ensures.only holes (streets_text s.flop ++ (streets_text s.turn ++ (streets_text s.river ++ []))) counted.hole_counts parts.holes_pack parts.text_is in
     let flop = c.in_ok-flop.ensures.only s.flop (streets_text s.turn ++ (streets_text s.river ++ [])) s.flop_count parts.flop_pack (c.split_at.ensures.back ∙ first.1) in
     let later = c.split_at-2.ensures.back ∙ flop.1 in
-    absurd (missing _ c.read_street-2.result c.in_err-turn.was (c.read_street-2.ensures.only s.turn (streets_text s.river ++ []) s.turn_count parts.turn_pack later))
+    absurd (missing _ c.in_err-turn.was (c.read_street-2.ensures.only s.turn (streets_text s.river ++ []) s.turn_count parts.turn_pack later))
 
 pub returns-in_err-river-clause-only : goal.returns-in_err-river-clause-only
 returns-in_err-river-clause-only c =
@@ -39,7 +36,7 @@ returns-in_err-river-clause-only c =
     let flop = c.in_ok-flop.ensures.only s.flop (streets_text s.turn ++ (streets_text s.river ++ [])) s.flop_count parts.flop_pack (c.split_at.ensures.back ∙ first.1) in
     let turn = c.in_ok-turn.ensures.only s.turn (streets_text s.river ++ []) s.turn_count parts.turn_pack (c.split_at-2.ensures.back ∙ flop.1) in
     let last = c.split_at-3.ensures.back ∙ turn.1 in
-    absurd (missing _ c.read_street-3.result c.in_err-river.was (c.read_street-3.ensures.only s.river [] s.river_count parts.river_pack last))
+    absurd (missing _ c.in_err-river.was (c.read_street-3.ensures.only s.river [] s.river_count parts.river_pack last))
 
 pub returns-then-len-last-clause-only : goal.returns-then-len-last-clause-only
 returns-then-len-last-clause-only c =

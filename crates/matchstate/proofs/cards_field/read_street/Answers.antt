@@ -1,13 +1,9 @@
-use Rattle.std.proofs.Common.{◌≡◌, ℕ, ◌+◌, ◌*◌, List, [], ◌∷◌, ◌++◌, Bool, cond, true, Option, Some, None, IsSomeAnd, ap, sym, ◌∙◌, arith, length, length-append, drop}
-use Rattle.std.specs.Borrow.{Bor}
+use Rattle.std.proofs.Common.{◌≡◌, ℕ, ◌+◌, ◌*◌, List, [], ◌∷◌, ◌++◌, Bool, cond, true, ap, sym, ◌∙◌, arith, length, length-append, drop}
 use Rattle.std.proofs.lemmas.List.{drop_at}
 use Rattle.matchstate.specs.Cards.{cards_text}
 use Rattle.matchstate.proofs.CardTexts.{length_cards_text, street_begun, street_unbegun}
+use Rattle.matchstate.proofs.Missing.{missing}
 use Rattle.matchstate.proofs.cards_field.read_street.Goals as goal
-
-missing : (behind : List ℕ) (r : Option (Bor (List ℕ))) → r ≡ None → IsSomeAnd r (λ rest. rest.now ≡ behind) → ⊥
-missing behind None is some = some
-missing behind (Some x) is some = cc
 
 choice : {b : Bool} {n : ℕ} {xs : List ℕ} → b ≡ true → xs ≡ cond b (n ∷ []) [] → xs ≡ n ∷ []
 choice {b} {n} {xs} begun e = e ∙ ap (λ t. cond t (n ∷ []) []) begun
@@ -16,7 +12,7 @@ pub returns-in_err-text-clause-only : goal.returns-in_err-text-clause-only
 returns-in_err-text-clause-only g c =
     λ street behind count all is.
     let s = street_begun g.row.N street c.args.bytes.now behind (choice c.if-begun.true count) all is in
-    absurd (missing (cards_text s.cards ++ behind) c.after_byte.result c.in_err-text.was (c.after_byte.ensures.only (cards_text s.cards ++ behind) s.text_is))
+    absurd (missing _ c.in_err-text.was (c.after_byte.ensures.only (cards_text s.cards ++ behind) s.text_is))
 
 pub returns-in_err-cards-clause-only : goal.returns-in_err-cards-clause-only
 returns-in_err-cards-clause-only g c =

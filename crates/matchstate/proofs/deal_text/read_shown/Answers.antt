@@ -1,19 +1,16 @@
-use Rattle.std.proofs.Common.{◌≡◌, ◌+◌, ◌*◌, true, false, nat_eq, length, take, Option, Some, None, IsSomeAnd, ap, sym, subst, ◌∙◌, rules}
+use Rattle.std.proofs.Common.{◌≡◌, ◌+◌, ◌*◌, true, false, nat_eq, length, take, ap, sym, subst, ◌∙◌, rules}
 use Rattle.std.specs.List.{IsDistinct}
 use Rattle.matchstate.specs.Cards.{cards_field, holes_of, boards_of, all_cards}
 use Rattle.matchstate.specs.SeenCards.{holes_in, boards_in}
 use Rattle.matchstate.proofs.Shown.{shown_counted, shown_from_filled}
+use Rattle.matchstate.proofs.Missing.{missing}
 use Rattle.matchstate.proofs.deal_text.read_shown.Goals as goal
-
-missing : {A : Type 0} (P : A → Type 0) (r : Option A) → r ≡ None → IsSomeAnd r P → ⊥
-missing P None is some = some
-missing P (Some x) is some = cc
 
 pub returns-in_err-seen-clause-only : goal.returns-in_err-seen-clause-only
 returns-in_err-seen-clause-only c =
     λ deal dealt is.
     let shown = shown_counted c.args.players c.args.rounds deal c.requires.most dealt in
-    absurd (missing _ c.read_seen.result c.in_err-seen.was
+    absurd (missing _ c.in_err-seen.was
     (c.read_seen.ensures.only (holes_of c.args.players deal) (take c.args.rounds (boards_of deal)) shown.0 is))
 
 pub returns-in-Ok-clause-found : goal.returns-in-Ok-clause-found

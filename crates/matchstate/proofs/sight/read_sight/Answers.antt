@@ -1,15 +1,12 @@
-use Rattle.std.proofs.Common.{◌≡◌, ℕ, ◌<◌, ◌≤◌, true, false, nat_eq, Option, Some, None, IsSomeAnd, sym, ap, ◌∙◌, subst}
+use Rattle.std.proofs.Common.{◌≡◌, ℕ, ◌<◌, ◌≤◌, true, false, nat_eq, sym, ap, ◌∙◌, subst}
 use Rattle.std.specs.List.{IsDistinct}
 use Rattle.std.proofs.lemmas.Bool.{false≢true}
 use Rattle.matchstate.specs.Cards.{cards_field, all_cards, AreSeen}
 use Rattle.matchstate.specs.SeenCards.{holes_in, boards_in, seen_at, AreCounted}
 use Rattle.matchstate.specs.View.{sees, rounds_seen}
 use Rattle.matchstate.proofs.Sighted.{seen_from_counted, expected}
+use Rattle.matchstate.proofs.Missing.{missing}
 use Rattle.matchstate.proofs.sight.read_sight.Goals as goal
-
-missing : {A : Type 0} (P : A → Type 0) (r : Option A) → r ≡ None → IsSomeAnd r P → ⊥
-missing P None is some = some
-missing P (Some x) is some = cc
 
 pub returns-then-are_distinct-clause-seen : goal.returns-then-are_distinct-clause-seen
 returns-then-are_distinct-clause-seen c =
@@ -32,7 +29,7 @@ returns-in_err-seen-clause-only c =
     let positions = c.positions_in_sight-positions.result in
     let told = expected (seen_at positions) (sees play.game play.past c.args.viewer) c.players-players.result play.game.players c.round.result (rounds_seen play.game play.past) holes boards
     c.players-players.ensures.value c.round.ensures.value c.positions_in_sight-positions.ensures seen in
-    absurd (missing _ c.read_seen.result c.in_err-seen.was (c.read_seen.ensures.only holes boards told.0 is))
+    absurd (missing _ c.in_err-seen.was (c.read_seen.ensures.only holes boards told.0 is))
 
 pub returns-then-are_distinct-clause-found : goal.returns-then-are_distinct-clause-found
 returns-then-are_distinct-clause-found c =
