@@ -23,6 +23,7 @@ pub(crate) enum Key {
     NumBoardCards,
 }
 
+/// Every key, for a word to be compared with their names.
 const KEYS: [Key; 13] = [
     Key::Limit,
     Key::Nolimit,

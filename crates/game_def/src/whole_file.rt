@@ -205,6 +205,7 @@ fn playable(entries: &Entries) -> [Test; 4]
     ]
 }
 
+/// The first of the tests that fails, if one does.
 fn first_failing(tests: &[Test]) -> Option<Test>
     ensures { result ≡ find (λ one. not one.passes) tests.now }
 {
