@@ -1,4 +1,4 @@
-//! What a node that runs does at a tick.
+//! The call of a tick: what a node that runs does then.
 
 ghost use Rattle.std.specs.Prelude.{◌≡◌, false, IsTrue, IsErr};
 ghost use Rattle.node_rules.specs.Standings.{Standing};
@@ -25,7 +25,7 @@ use promise_store::Disk;
 use std::alloc::Global;
 
 /// What the close of a call makes at most, and as much what a tick does.
-pub(crate) fn close_need(running: &Running) -> Need
+fn close_need(running: &Running) -> Need
     ensures { result ≡ close_need running.now }
 {
     let applied = running.most_applied(1);

@@ -1,4 +1,4 @@
-//! What a node that runs does with a piece of a seat's bytes.
+//! The call with a piece of a seat's bytes: what a node that runs does with it.
 
 ghost use Rattle.std.specs.Prelude.{◌≡◌, ◌*◌, ◌≤◌, ◌<◌, length, IsTrue, IsErr, IfOk, IfErr, IfSome, OnOk};
 ghost use Rattle.node_rules.specs.Standings.{Standing};

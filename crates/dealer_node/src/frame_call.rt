@@ -1,4 +1,4 @@
-//! What a node that runs does with the bytes of a frame.
+//! The call with a frame: what a node that runs does with its bytes.
 
 ghost use Rattle.std.specs.Prelude.{◌≡◌, ◌<◌, IfOk, OnOk, IsTrue, IsErr};
 ghost use Rattle.paxos_wire.specs.Fits.{IsMessage};
