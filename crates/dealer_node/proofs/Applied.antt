@@ -1,8 +1,8 @@
 -- One command more is applied.
-use Rattle.std.proofs.Common.{◌≡◌, ℕ, ◌+◌, ◌<◌, Bool, true, false, List, [], ◌∷◌, ◌++◌, refl, ap, sym, ◌∙◌, subst, append_assoc, length, drop, get_or}
-use Rattle.std.specs.Prelude.{map, Option, Some, None, is_none, if◌then◌else◌}
+use Rattle.std.proofs.Common.{◌≡◌, ℕ, ◌+◌, ◌<◌, Bool, List, [], ◌∷◌, ◌++◌, refl, ap, sym, ◌∙◌, subst, append_assoc, length, drop, get_or}
+use Rattle.std.specs.Prelude.{map, Option, is_none, if◌then◌else◌}
 use Rattle.std.proofs.lemmas.List.{map-append, at_drop_more}
-use Rattle.slot_log.specs.Hand.{Hand, Match}
+use Rattle.slot_log.specs.Hand.{Match}
 use Rattle.slot_log.specs.Dealer as dealer
 use Rattle.slot_log.specs.declared.command.Command.{Command}
 use Rattle.seat_session.specs.Session.{Standing as Talk}

@@ -1,5 +1,5 @@
 -- A node that runs is seen as one standing alone.
-use Rattle.std.proofs.Common.{◌≡◌, ℕ, List, Option, Some, None, Bool, true, false, IsTrue, refl, ap, sym, ◌∙◌, subst}
+use Rattle.std.proofs.Common.{◌≡◌, ℕ, List, Option, Some, None, true, false, IsTrue, ap, sym, ◌∙◌}
 use Rattle.promise_store.specs.declared.disk.Disk.{Ghosts}
 use Rattle.promise_store.specs.Holding.{holding, store_of}
 use Rattle.promise_store.specs.declared.records.Record.{Record}
@@ -7,7 +7,7 @@ use Rattle.promise_store.specs.Journals.{IsJournal}
 use Rattle.promise_store.specs.Keeping.{Keeps}
 use Rattle.protocol_model.specs.Stores.{Store}
 use Rattle.promise_store.specs.declared.store.Store.{Store as Kept}
-use Rattle.node_rules.specs.Standings.{Standing, stopped}
+use Rattle.node_rules.specs.Standings.{Standing}
 use Rattle.dealer_node.specs.Nodes.{Node}
 use Rattle.dealer_node.specs.declared.up.Up.{Up}
 use Rattle.dealer_node.specs.Posts.{Post}

@@ -90,11 +90,16 @@ written runs now_runs bytes now text run old_len new_len kept is_old is_new is_r
     let grew = grown runs now_runs bytes now text run all is_runs is_bytes more in
     (grew.0 ∙ sym is_new, grew.1)
 
+-- runs and bytes hold one text behind these
+abbrev pub HoldsAlso : {T : Type 0} → List (Run T) → Vec ℕ Global → List (Marked T) → Marked T → Type 0
+HoldsAlso runs bytes texts one =
+    (run_total runs ≡ vec_len bytes) × (cut runs bytes.items ≡ texts ++ one ∷ [])
+    × (length (cut runs bytes.items) ≡ length texts + 1) × (byte_total (cut runs bytes.items) ≡ byte_total texts + length one.text)
+
 -- the same of bytes in a vector, and of texts that are known, with their count and their bytes
 pub put : {T : Type 0} (runs now_runs : List (Run T)) (bytes now : Vec ℕ Global) (text : List ℕ) (mark : T) (start past : ℕ) (texts : List (Marked T)) → run_total runs ≡ vec_len bytes → start ≡ vec_len bytes → past ≡ vec_len now
     → now_runs ≡ runs ++ (record { mark = mark; len = past - start }) ∷ [] → now.items ≡ bytes.items ++ text → cut runs bytes.items ≡ texts
-    → (run_total now_runs ≡ vec_len now) × (cut now_runs now.items ≡ texts ++ (record { mark = mark; text = text }) ∷ [])
-    × (length (cut now_runs now.items) ≡ length texts + 1) × (byte_total (cut now_runs now.items) ≡ byte_total texts + length text)
+    → HoldsAlso now_runs now texts (record { mark = mark; text = text })
 put {T} runs now_runs bytes now text mark start past texts kept is_start is_past is_runs is_bytes view =
     let run : Run T = record { mark = mark; len = past - start } in
     let was : vec_len bytes ≡ length bytes.items = omega (arith, bytes.ok.0) in

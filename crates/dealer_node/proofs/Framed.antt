@@ -1,25 +1,22 @@
 -- A message of another node: what it asks, the close, and a last question.
-use Rattle.std.proofs.Common.{◌≡◌, ℕ, ◌+◌, ◌*◌, ◌≤◌, inl, inr, Bool, true, false, List, [], Result, Ok, Err, refl, ap, sym, subst, ◌∙◌, arith, length, vec_len}
-use Rattle.std.specs.Prelude.{◌⊎◌, Option, Some, None, if◌then◌else◌, nat_lt, nat_le, ◌&&◌}
+use Rattle.std.proofs.Common.{◌≡◌, ℕ, ◌+◌, ◌*◌, ◌≤◌, inl, inr, Bool, true, false, Result, Ok, Err, refl, ap, sym, subst, ◌∙◌, arith, length, vec_len}
+use Rattle.std.specs.Prelude.{◌⊎◌, Option, Some, None, if◌then◌else◌, nat_le, ◌&&◌}
 use Rattle.paxos_wire.specs.declared.ballot.Ballot.{Ballot}
-use Rattle.paxos_wire.specs.declared.entry.Entry.{Entry}
 use Rattle.paxos_wire.specs.declared.message.Message.{Message}
 use Rattle.paxos_wire.specs.declared.message.Message.TheVariants as frame
 use Rattle.slot_log.specs.declared.command.Command.{Command}
 use Rattle.slot_log.specs.declared.slot_fault.SlotFault.{SlotFault}
 use Rattle.promise_store.specs.declared.disk.Disk.{Ghosts}
-use Rattle.promise_store.specs.Keeping.{Keeps}
-use Rattle.acceptor.specs.Stored.{store_of}
 use Rattle.protocol_model.specs.Stores.{Store}
 use Rattle.paxos_wire.specs.Order.{is_below}
 use Rattle.proposer.specs.declared.campaign.Campaign.{Campaign}
 use Rattle.learner.specs.Learning.{Learned, answer_to, hearing as hearing_vote, answer_to_chosen, believing as with_chosen}
 use Rattle.node_rules.specs.Standings.{Place, Standing, front_of, idle}
 use Rattle.node_rules.specs.Turns.{Turn, Refusal, Conflict, still, sending, joined, behind, and_then}
-use Rattle.node_rules.specs.Learning.{learning, asking_on, comes_to_window, asking_above, counting_vote}
-use Rattle.node_rules.specs.Accepting.{refusing, promising, preparing, voting, stored_in, storing}
+use Rattle.node_rules.specs.Learning.{learning, asking_on}
+use Rattle.node_rules.specs.Accepting.{refusing, promising, voting, stored_in, storing}
 use Rattle.node_rules.specs.Standings.{with_stored}
-use Rattle.node_rules.specs.Sending.{one, to_others}
+use Rattle.node_rules.specs.Sending.{to_others}
 use Rattle.node_rules.specs.Proposing.{closing, closing_by as closing_by_rule, proposal_at}
 use Rattle.proposer.specs.Campaigns.{leads, marked_from}
 use Rattle.proposer.specs.declared.accept.Accept.{Accept}
@@ -38,7 +35,8 @@ use Rattle.dealer_node.specs.Rooms.{Grows}
 use Rattle.dealer_node.specs.Outs.{Told}
 use Rattle.dealer_node.specs.Posts.{Post, place_at}
 use Rattle.dealer_node.specs.Running.{IsRunning, IsTaken, CanLearn, ahead_of}
-use Rattle.dealer_node.specs.Working.{head_of, disk_under, StandsByIts, ComesTo, IsDone, IsUp, Took, Failed, Works, HasLeft}
+use Rattle.dealer_node.specs.Working.{disk_under, ComesTo, IsDone, IsUp, Took, Failed, Works, HasLeft}
+use Rattle.node_rules.proofs.Asked.{asked_on, asked_same}
 use Rattle.dealer_node.proofs.Worked.{OneAppends, same_turn, done_behind, then_works, first_failed, works_from}
 use Rattle.dealer_node.proofs.Stored.{telling_keeps, telling_done}
 
@@ -87,25 +85,10 @@ learns : {A : Type 0} (place : Place) (answer : Result A SlotFault) (learned : L
 learns place (Ok answer) learned s turn rule = stays s _ turn _ refl refl refl rule
 learns place (Err why) learned s turn rule = let never : Err (Conflict s.store) ≡ Ok turn = rule in absurd (cc)
 
--- asking changes nothing
-asks_on : (from old : ℕ) (s : Standing) → (asking_on from old s).after ≡ s
-asks_on from old s = by (comes_to_window old (front_of s))
-  where
-    by : (b : Bool) → (if b then sending (one from (frame.Ask (front_of s))) s else still s).after ≡ s
-    by true = refl
-    by false = refl
-
-asks_above : (from slot : ℕ) (s : Standing) → (asking_above from slot s).after ≡ s
-asks_above from slot s = by (nat_lt (front_of s) slot)
-  where
-    by : (b : Bool) → (if b then sending (one from (frame.Ask (front_of s))) s else still s).after ≡ s
-    by true = refl
-    by false = refl
-
 believes : {A : Type 0} (place : Place) (from old : ℕ) (answer : Result A SlotFault) (learned : Learned) (s : Standing) (turn : Turn)
     → and_then (learning place answer learned s) (λ told. Ok (asking_on from old told)) ≡ Ok turn → Quiet s turn
 believes place from old (Ok answer) learned s turn rule =
-    stays s _ turn _ refl (ap (λ (x : Standing). x.store) (asks_on from old _)) (ap (λ (x : Standing). x.begun) (asks_on from old _)) rule
+    stays s _ turn _ refl (ap (λ (x : Standing). x.store) (asked_on from old _)) (ap (λ (x : Standing). x.begun) (asked_on from old _)) rule
 believes place from old (Err why) learned s turn rule = let never : Err (Conflict s.store) ≡ Ok turn = rule in absurd (cc)
 
 quiet : (place : Place) (from : ℕ) (message : Message) (s : Standing) (turn : Turn) → taking place from message s ≡ Ok turn → Quiet s turn
@@ -119,16 +102,6 @@ quiet place from (frame.Chosen slot command) s turn rule =
     believes place from (front_of s) (answer_to_chosen s.learned.log slot command) (with_chosen s.learned slot command) s turn rule
 quiet place from (frame.Ask slot) s turn rule = stays s _ turn _ refl refl refl rule
 quiet place from (frame.Forward command) s turn rule = stays s _ turn _ refl refl refl rule
-
-asks : (from : ℕ) (message : Message) (s : Standing) → (asking from message s).after ≡ s
-asks from (frame.Prepare ballot slot) s = asks_above from slot s
-asks from (frame.Promise ballot slot entries) s = refl
-asks from (frame.Refuse ballot slot promised) s = refl
-asks from (frame.Accept ballot slot command) s = asks_above from slot s
-asks from (frame.Accepted ballot slot command) s = asks_above from slot s
-asks from (frame.Chosen slot command) s = refl
-asks from (frame.Ask slot) s = refl
-asks from (frame.Forward command) s = refl
 
 -- ---- the whole
 
@@ -160,7 +133,7 @@ module _ {D : Type 0} (g : Ghosts D) where
       → Took g post s (Ok (asking from message s)) up up earlier later
   ask_took post s from message up earlier later is taken =
       let turn : Turn = asking from message s in
-      let same = asks from message s in
+      let same = asked_same from message s in
       record {
         turn = turn;
         rule = refl;
@@ -186,7 +159,7 @@ module _ {D : Type 0} (g : Ghosts D) where
       let third : Took g post both.turn.after (Ok (asking from message both.turn.after)) closed closed before later = ask_took post both.turn.after from message closed before later both.now (question both.turn.after both.now.running) in
       let all : Took g post x (on_message place from message s) seen closed told later =
       then_works g post x (λ c. Ok (asking from message c)) (and_then (taking place from message x) (closing place)) seen closed closed told before later (Ok tt) both
-      (inr (asking from message both.turn.after, refl, ap (λ (y : Standing). y.store) (asks from message both.turn.after), ap (λ (y : Standing). y.begun) (asks from message both.turn.after) ∙ both.now.unbegun)) third in
+      (inr (asking from message both.turn.after, refl, ap (λ (y : Standing). y.store) (asked_same from message both.turn.after), ap (λ (y : Standing). y.begun) (asked_same from message both.turn.after) ∙ both.now.unbegun)) third in
       works_from g post s x (on_message place from message s) seen old closed told later (Ok tt) refl disk all
 
   -- a fault of what came first is one of the whole
@@ -208,7 +181,7 @@ module _ {D : Type 0} (g : Ghosts D) where
   asking_goes s from message outcome left (inl e) = inl e
   asking_goes s from message outcome left (inr (inr rule)) = inr (inr (ap (λ (o : Result Turn Refusal). and_then o (λ c. Ok (asking from message c))) rule))
   asking_goes s from message outcome left (inr (inl (turn, rule, e))) =
-      inr (inl (joined turn (asking from message turn.after), ap (λ (o : Result Turn Refusal). and_then o (λ c. Ok (asking from message c))) rule, e ∙ sym (ap (λ (y : Standing). y.begun) (asks from message turn.after))))
+      inr (inl (joined turn (asking from message turn.after), ap (λ (o : Result Turn Refusal). and_then o (λ c. Ok (asking from message c))) rule, e ∙ sym (ap (λ (y : Standing). y.begun) (asked_same from message turn.after))))
 
   closing_by : (place : Place) (s : Standing) (outcome : Result Turn Refusal) (turn : Turn) (left : Store) → s.begun ≡ s.store → outcome ≡ Ok turn → left ≡ turn.after.begun → Quiet s turn
       → (left ≡ s.store) ⊎ ComesTo (and_then outcome (closing place)) left

@@ -1,6 +1,6 @@
 -- From what a whole call makes of what runs to what it makes of the node.
-use Rattle.std.proofs.Common.{◌≡◌, ℕ, ◌≤◌, inl, inr, Bool, true, false, List, [], Result, Ok, Err, refl, sym, ap, subst, ◌∙◌, true≢false}
-use Rattle.std.specs.Prelude.{◌⊎◌, Option, Some, None, IsErr, OnOk}
+use Rattle.std.proofs.Common.{◌≡◌, ◌≤◌, inl, inr, true, false, Result, Ok, Err, refl, sym, ap, subst, ◌∙◌, true≢false}
+use Rattle.std.specs.Prelude.{Option, Some, IsErr, OnOk}
 use Rattle.promise_store.specs.declared.disk.Disk.{Ghosts}
 use Rattle.promise_store.specs.declared.fault.StoreFault.{StoreFault}
 use Rattle.promise_store.specs.declared.fault.StoreFault.TheVariants.{Disk}
@@ -8,7 +8,7 @@ use Rattle.acceptor.specs.Taken.{IsFault}
 use Rattle.promise_store.specs.Disks.{Rose}
 use Rattle.slot_log.specs.Hand.{Match}
 use Rattle.node_rules.specs.Standings.{Standing}
-use Rattle.node_rules.specs.Turns.{Turn, Refusal, Spent, BadFrame, Conflict}
+use Rattle.node_rules.specs.Turns.{Turn, Refusal, Spent, BadFrame}
 use Rattle.node_rules.specs.Calls.{Call}
 use Rattle.node_rules.specs.Rules.{IsTurnUp}
 use Rattle.dealer_node.specs.declared.up.Up.{Up}
@@ -19,12 +19,12 @@ use Rattle.dealer_node.specs.Outs.{Told}
 use Rattle.dealer_node.specs.Posts.{Post, place_at}
 use Rattle.dealer_node.specs.Working.{disk_under, IsDone, GoesOn}
 use Rattle.dealer_node.specs.Handling.{Stays, Handles, HasNoEffect, IsOfCall, AnswersUp}
-use Rattle.dealer_node.specs.Calling.{Wants, HandlesCall}
+use Rattle.dealer_node.specs.Calling.{HandlesCall}
 use Rattle.dealer_node.specs.Nodes.{Node}
 use Rattle.dealer_node.specs.NodeInside.{node_of}
 use Rattle.dealer_node.specs.Seeing.{post_in, runs, disk_in, settled, IsSeen, begun_of, failures_of}
 use Rattle.dealer_node.specs.Taking.{MayFail, TakesDown, AnswersRightly, LeavesDisk, Takes, StaysItself}
-use Rattle.dealer_node.proofs.Settled.{noted, turn_up, up_took, up_unchanged, up_refused, up_failed, up_clashed, seen_at}
+use Rattle.dealer_node.proofs.Settled.{noted, turn_up, up_took, up_unchanged, up_refused, up_failed, up_clashed}
 
 same_post : {D : Type 0} (answer : Result (Unit {0}) NodeFault) (node : Node D) → post_in (settled answer node) ≡ post_in node
 same_post (Ok done) node = refl

@@ -1,6 +1,6 @@
 -- A piece of a seat's bytes at a node that runs.
-use Rattle.std.proofs.Common.{◌≡◌, ℕ, ◌+◌, ◌*◌, ◌≤◌, inl, inr, List, [], Result, Ok, Err, refl, sym, ap, subst, ◌∙◌, arith, length, vec_len}
-use Rattle.std.specs.Prelude.{◌⊎◌, ◌-◌, ◌^◌, ◌==◌, ◌||◌, nat_le, IsErrAnd}
+use Rattle.std.proofs.Common.{◌≡◌, ℕ, inl, List, Result, Ok, Err, refl, sym, ap, subst, ◌∙◌, arith}
+use Rattle.std.specs.Prelude.{◌-◌, ◌^◌, ◌==◌, ◌||◌, nat_le, IsErrAnd}
 use Rattle.paxos_wire.specs.declared.limits.TheConstants.{SLOTS}
 use Rattle.paxos_wire.specs.declared.ballot.Ballot.{Ballot}
 use Rattle.slot_log.specs.Slots.{front}
@@ -10,28 +10,23 @@ use Rattle.promise_store.specs.declared.disk.Disk.{Ghosts}
 use Rattle.promise_store.specs.declared.fault.StoreFault.TheVariants.{Disk}
 use Rattle.promise_store.specs.Disks.{Rose}
 use Rattle.promise_store.specs.Keeping.{LeavesDuring}
-use Rattle.protocol_model.specs.Stores.{Store}
 use Rattle.node_rules.specs.Standings.{Standing}
-use Rattle.node_rules.specs.Turns.{Turn, Refusal, and_then}
+use Rattle.node_rules.specs.Turns.{Turn, Refusal}
 use Rattle.node_rules.specs.Proposing.{closing}
-use Rattle.node_rules.specs.Rules.{IsTurnUp}
-use Rattle.node_rules.specs.Calls.{Line}
 use Rattle.dealer_node.specs.declared.up.Up.{Up}
 use Rattle.dealer_node.specs.declared.running.Running.{Running}
-use Rattle.dealer_node.specs.declared.made.Made.{Made}
-use Rattle.dealer_node.specs.declared.made.Need.{Need}
 use Rattle.dealer_node.specs.declared.fault.NodeFault.{NodeFault}
 use Rattle.dealer_node.specs.declared.fault.NodeFault.TheVariants as fault
 use Rattle.dealer_node.specs.Outs.{Told, nothing_told, both_told}
 use Rattle.dealer_node.specs.Posts.{Post, place_at}
 use Rattle.dealer_node.specs.Turned.{told_of}
 use Rattle.dealer_node.specs.Running.{TakesPiece, is_spent_at}
-use Rattle.dealer_node.specs.Working.{disk_under, head_of, StandsByIts, ComesTo, IsUp, Took, Failed, Clashed, Works, GoesOn}
-use Rattle.dealer_node.specs.Handling.{Stays, Handles, IsWithin}
+use Rattle.dealer_node.specs.Working.{disk_under, head_of, StandsByIts, IsUp, Works, GoesOn}
+use Rattle.dealer_node.specs.Handling.{Handles}
 use Rattle.dealer_node.specs.Lines.{HearsLine, WorksLine}
-use Rattle.dealer_node.specs.Calling.{Unmoved, Wants, HandlesCall}
+use Rattle.dealer_node.specs.Calling.{Unmoved, Wants}
 use Rattle.dealer_node.proofs.Worked.{memory_took, then_works}
-use Rattle.dealer_node.proofs.Remembered.{turn_of}
+use Rattle.node_rules.proofs.Results.{ok_is}
 
 pub err_is : (r : Result (Unit {0}) NodeFault) (why : NodeFault) → IsErrAnd r (λ (f : NodeFault). f ≡ why) → r ≡ Err why
 err_is (Ok done) why e = absurd e
@@ -65,7 +60,7 @@ module _ {D : Type 0} (g : Ghosts D) where
     heard = heard.heard;
     rule = heard.rule;
     works = then_works g post s (closing (place_at post)) (Ok heard.heard) a b c earlier middle later answer heard.took
-        (inl (ap (λ (t : Turn). t.after.store) (sym (turn_of heard.heard heard.took.turn heard.took.rule)) ∙ heard.store)) works;
+        (inl (ap (λ (t : Turn). t.after.store) (sym (ok_is heard.heard heard.took.turn heard.took.rule)) ∙ heard.store)) works;
   }
 
   -- ---- the whole call, from the room that was made on

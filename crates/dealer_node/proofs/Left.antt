@@ -3,9 +3,9 @@ use Rattle.std.proofs.Common.{◌≡◌, ℕ, ◌+◌, ◌*◌, ◌≤◌, arith
 use Rattle.dealer_node.specs.declared.running.Running.{Running}
 use Rattle.dealer_node.specs.declared.made.Made.{Made}
 use Rattle.dealer_node.specs.declared.made.Need.{Need}
-use Rattle.dealer_node.specs.Texts.{Written, byte_total}
+use Rattle.dealer_node.specs.Texts.{Written}
 use Rattle.dealer_node.specs.Rooms.{Grows}
-use Rattle.dealer_node.specs.Running.{CanLearn, Learns, ahead_of}
+use Rattle.dealer_node.specs.Running.{Learns}
 use Rattle.dealer_node.specs.Working.{HasLeft}
 
 -- a vote was told and counted

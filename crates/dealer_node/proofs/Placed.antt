@@ -1,5 +1,5 @@
 -- The place of a node, from its post.
-use Rattle.std.proofs.Common.{◌≡◌, ℕ, List, length, refl, ap, ◌∙◌}
+use Rattle.std.proofs.Common.{◌≡◌, ℕ, List, length, ap, ◌∙◌}
 use mathlib.Core.Path.{fun_ext}
 use Rattle.std.specs.Prelude.{Option, slice_get}
 use Rattle.dealer_kind.specs.Kind.{Setting}

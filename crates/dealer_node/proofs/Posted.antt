@@ -1,5 +1,5 @@
 -- What all nodes share, from its parts.
-use Rattle.std.proofs.Common.{◌≡◌, ℕ, List, refl, ap, ◌∙◌}
+use Rattle.std.proofs.Common.{◌≡◌, ℕ, List, ap, ◌∙◌}
 use Rattle.game_def.specs.Game.{Game}
 use Rattle.dealer_kind.specs.Kind.{Setting}
 

@@ -1,11 +1,11 @@
 -- What is written for a reader is what the rules have him shown.
-use Rattle.std.proofs.Common.{◌≡◌, ℕ, ◌<◌, ◌+◌, Bool, true, false, List, [], ◌∷◌, ◌++◌, refl, ap, sym, ◌∙◌, arith, length}
-use Rattle.std.specs.Prelude.{map, Option, Some, None, if◌then◌else◌}
+use Rattle.std.proofs.Common.{◌≡◌, ℕ, ◌<◌, Bool, true, false, List, [], ◌∷◌, refl, ap, sym, ◌∙◌, arith, length}
+use Rattle.std.specs.Prelude.{map, if◌then◌else◌}
 use Rattle.std.proofs.lemmas.List.{append-nil}
 use Rattle.game_def.specs.Game.{Game}
 use Rattle.slot_log.specs.Hand.{Hand}
 use Rattle.slot_log.specs.Dealer.{is_running}
-use Rattle.matchstate.specs.View.{View, view_of, position_of}
+use Rattle.matchstate.specs.View.{view_of, position_of}
 use Rattle.matchstate.specs.Line.{line_text, seat_text}
 use Rattle.match_log.specs.Lines.{header_line}
 use Rattle.match_log.specs.Further.{further_lines}

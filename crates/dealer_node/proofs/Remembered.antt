@@ -1,25 +1,24 @@
 -- What is done in memory alone leaves the store as it is.
-use Rattle.std.proofs.Common.{◌≡◌, ℕ, Bool, true, false, true≢false, List, [], refl, ap, sym, ◌∙◌, subst}
+use Rattle.std.proofs.Common.{◌≡◌, ℕ, Bool, true, false, List, refl, ap, sym, ◌∙◌, subst}
 use Rattle.std.specs.Prelude.{Option, Some, None, IfSome, Result, Ok, Err, OnOk, if◌then◌else◌}
 use Rattle.paxos_wire.specs.declared.ballot.Ballot.{Ballot}
 use Rattle.paxos_wire.specs.declared.entry.Entry.{Entry}
-use Rattle.slot_log.specs.declared.command.Command.{Command}
 use Rattle.slot_log.specs.declared.slot_fault.SlotFault.{SlotFault}
 use Rattle.proposer.specs.declared.campaign.Campaign.{Campaign}
 use Rattle.proposer.specs.Campaigns.{counting_from, is_counted, is_outbid, refused_from}
 use Rattle.learner.specs.Learning.{Learned}
 use Rattle.std.specs.Prelude.{slice_set}
 use Rattle.node_rules.specs.Standings.{Place, Standing, front_of}
-use Rattle.node_rules.specs.Sending.{Frame}
-use Rattle.node_rules.specs.Turns.{Turn, Refusal, still, sending, and_then, joined}
-use Rattle.node_rules.specs.Learning.{learning, asking_on, comes_to_window}
+use Rattle.node_rules.specs.Turns.{Turn, still, and_then, joined}
+use Rattle.node_rules.specs.Learning.{learning, asking_on}
 use Rattle.node_rules.specs.Applying.{applying}
 use Rattle.dealer_node.specs.declared.running.Running.{Running}
 use Rattle.dealer_node.specs.Outs.{Told}
 use Rattle.dealer_node.specs.Posts.{Post}
-use Rattle.dealer_node.specs.Running.{IsRunning, IsTaken, TakesTurn}
-use Rattle.dealer_node.specs.Working.{StandsByIts}
+use Rattle.dealer_node.specs.Running.{IsRunning}
 use Rattle.dealer_node.specs.Memory.{KeepsStore, TakesInMemory}
+use Rattle.node_rules.proofs.Results.{ok_is}
+use Rattle.node_rules.proofs.Asked.{asked_on}
 use Rattle.dealer_node.proofs.Messages.{no_messages}
 use Rattle.dealer_node.proofs.Worked.{nothing_more}
 
@@ -52,9 +51,6 @@ refused_keeps s promised = record { store = refl; begun = refl; stands = refused
 
 -- ---- what was learned
 
-pub turn_of : (first turn : Turn) → (let r : Result Turn Refusal = Ok first in r) ≡ Ok turn → first ≡ turn
-turn_of first turn e = cc
-
 same_keeps : (s after other : Standing) → after ≡ other → KeepsStore s after → KeepsStore s other
 same_keeps s after other e keeps = subst (λ (t : Standing). KeepsStore s t) e keeps
 
@@ -62,19 +58,15 @@ applied_keeps : (place : Place) (learned : Learned) (s : Standing) → KeepsStor
 applied_keeps place learned s = record { store = refl; begun = refl; stands = λ stands. stands }
 
 pub learned_keeps : {A : Type 0} (place : Place) (answer : Result A SlotFault) (learned : Learned) (s : Standing) (turn : Turn) → learning place answer learned s ≡ Ok turn → KeepsStore s turn.after
-learned_keeps place (Ok answer) learned s turn e = same_keeps s (applying place learned s).after turn.after (ap (λ (t : Turn). t.after) (turn_of (applying place learned s) turn e)) (applied_keeps place learned s)
+learned_keeps place (Ok answer) learned s turn e = same_keeps s (applying place learned s).after turn.after (ap (λ (t : Turn). t.after) (ok_is (applying place learned s) turn e)) (applied_keeps place learned s)
 learned_keeps place (Err fault) learned s turn e = absurd (cc)
-
-asked_after : (frames : List Frame) (s : Standing) (b : Bool) → (let t : Turn = if b then sending frames s else still s in t.after) ≡ s
-asked_after frames s true = refl
-asked_after frames s false = refl
 
 pub believed_keeps : {A : Type 0} (place : Place) (answer : Result A SlotFault) (learned : Learned) (s : Standing) (from : ℕ) (turn : Turn)
     → and_then (learning place answer learned s) (λ told. Ok (asking_on from (front_of s) told)) ≡ Ok turn → KeepsStore s turn.after
 believed_keeps place (Ok answer) learned s from turn e =
     let first : Standing = (applying place learned s).after in
-    let same : (asking_on from (front_of s) first).after ≡ turn.after = ap (λ (t : Turn). t.after) (turn_of (joined (applying place learned s) (asking_on from (front_of s) first)) turn e) in
-    same_keeps s first turn.after (sym (asked_after _ first (comes_to_window (front_of s) (front_of first))) ∙ same) (applied_keeps place learned s)
+    let same : (asking_on from (front_of s) first).after ≡ turn.after = ap (λ (t : Turn). t.after) (ok_is (joined (applying place learned s) (asking_on from (front_of s) first)) turn e) in
+    same_keeps s first turn.after (sym (asked_on from (front_of s) first) ∙ same) (applied_keeps place learned s)
 believed_keeps place (Err fault) learned s from turn e = absurd (cc)
 
 -- ---- nothing is sent or shown

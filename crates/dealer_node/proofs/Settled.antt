@@ -1,29 +1,28 @@
 -- From what a call makes of what runs to what it makes of the node.
 use Rattle.std.proofs.Common.{◌≡◌, ℕ, inl, inr, Bool, true, false, List, [], Result, Ok, Err, refl, sym, ap, subst, ◌∙◌}
-use Rattle.std.specs.Prelude.{◌⊎◌, Option, Some, None, IfSome, IsSome, map}
+use Rattle.std.proofs.lemmas.Option.{same_Some}
+use Rattle.std.specs.Prelude.{◌⊎◌, Option, Some, None, IfSome, IsSome}
 use Rattle.paxos_wire.specs.Spelling.{frame}
 use Rattle.paxos_wire.specs.Faults.{reading}
-use Rattle.paxos_wire.specs.declared.fault.FrameFault.{FrameFault}
 use Rattle.paxos_wire.proofs.FrameLaws.{frame_again}
 use Rattle.promise_store.specs.declared.disk.Disk.{Ghosts}
 use Rattle.promise_store.specs.declared.fault.StoreFault.TheVariants.{Disk}
-use Rattle.promise_store.specs.Disks.{Within, Elapses, During, Rose}
+use Rattle.promise_store.specs.Disks.{Within, Elapses, Rose}
 use Rattle.promise_store.specs.Keeping.{Leaves, LeavesDuring}
 use Rattle.protocol_model.specs.Sets.{In}
 use Rattle.protocol_model.specs.Stores.{Store, empty_store}
 use Rattle.slot_log.specs.Hand.{Match}
 use Rattle.node_rules.specs.Standings.{Place, Standing, stopped}
 use Rattle.node_rules.specs.Sending.{Frame}
-use Rattle.node_rules.specs.Turns.{Turn, Refusal, Down, Spent, BadFrame, Conflict, still}
+use Rattle.node_rules.specs.Turns.{Turn, Refusal, Down, Conflict, still}
 use Rattle.node_rules.specs.Calls.{Call, Stop}
 use Rattle.node_rules.specs.Rules.{IsTurn, IsTurnBy, IsTurnUp, IsTurnDown, standing_after, stopping}
-use Rattle.node_rules.specs.Called.{Ends, took, refused, failed, unchanged}
+use Rattle.node_rules.specs.Called.{took, refused, failed, unchanged}
 use Rattle.dealer_node.specs.declared.up.Up.{Up}
 use Rattle.dealer_node.specs.declared.fault.NodeFault.{NodeFault}
 use Rattle.dealer_node.specs.declared.fault.NodeFault.TheVariants as fault
-use Rattle.dealer_node.specs.Outs.{Told, both_told}
+use Rattle.dealer_node.specs.Outs.{Told}
 use Rattle.dealer_node.specs.Posts.{Post, place_at}
-use Rattle.dealer_node.specs.Turned.{told_of}
 use Rattle.dealer_node.specs.Fitting.{AreMessages}
 use Rattle.dealer_node.specs.Working.{head_of, disk_under, ComesTo, IsDone, IsUp, Took, Failed, Clashed}
 use Rattle.dealer_node.specs.declared.node.Node.TheInside.{Inside}
@@ -31,7 +30,7 @@ use Rattle.dealer_node.specs.Nodes.{Node}
 use Rattle.dealer_node.specs.NodeInside.{node_of, IsKept}
 use Rattle.dealer_node.specs.Running.{IsAt}
 use Rattle.dealer_node.specs.Scenes.{IsTableOf}
-use Rattle.dealer_node.specs.Seeing.{is_up, runs, disk_by, downed, IsSeenBy, IsSeen, IsDown, begun_by, begun_of, count_by, failures_of}
+use Rattle.dealer_node.specs.Seeing.{is_up, runs, disk_by, downed, IsSeenBy, IsSeen, begun_by, begun_of, count_by, failures_of}
 use Rattle.dealer_node.specs.Taking.{refusal_fault, MayBegin, MayFail, Takes}
 use Rattle.dealer_node.proofs.Worked.{nothing_more}
 
@@ -294,22 +293,19 @@ module _ {D : Type 0} (g : Ghosts D) where
         moments = λ t image at. elim (time.nothing_else t image at) [ inl was ↦ inl was | inr now ↦ inr (seen.by.leaves image (fewer image now)) ];
       }
 
-  same_disk : (a b : D) → Some a ≡ Some b → a ≡ b
-  same_disk a b e = cc
-
   stop_by : (post : Post) (blank : Match) (bare : Option D) (up : Option (Up D)) (disk left : D) (s : Standing) (told : Told)
       → ((one : Up D) → IsUp g post one s → Leaves g (head_of post) s.store s.store (disk_under one))
       → Within (g.images disk) (g.images left) → Elapses (g.moment disk) (g.moment left) (g.since disk) (g.since left) (g.images left)
       → disk_by up bare ≡ Some disk → IsSeen g (noted post blank bare up) s
       → Takes g Stop s (noted post blank bare up) (noted post blank (Some left) None) told told (Ok tt)
   stop_by post blank bare (Some up) disk left s told leaves fewer time found seen =
-      let same = same_disk (disk_under up) disk found in
+      let same = same_Some (disk_under up) disk found in
       let F : D → Type 0 = λ d. Within (g.images d) (g.images left) in
       let T : D → Type 0 = λ d. Elapses (g.moment d) (g.moment left) (g.since d) (g.since left) (g.images left) in
       up_stopped post blank bare up left s told seen (leaves up seen.by) (subst F (sym same) fewer) (subst T (sym same) time)
   stop_by post blank None None disk left s told leaves fewer time found seen = absurd seen.by
   stop_by post blank (Some bare) None disk left s told leaves fewer time found seen =
-      let same = same_disk bare disk found in
+      let same = same_Some bare disk found in
       let F : D → Type 0 = λ d. Within (g.images d) (g.images left) in
       let T : D → Type 0 = λ d. Elapses (g.moment d) (g.moment left) (g.since d) (g.since left) (g.images left) in
       down_stopped post blank bare left s told seen (subst F (sym same) fewer) (subst T (sym same) time)

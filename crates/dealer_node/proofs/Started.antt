@@ -13,7 +13,7 @@ use Rattle.acceptor.specs.declared.acceptor.Acceptor.{Acceptor}
 use Rattle.protocol_model.specs.Stores.{Store}
 use Rattle.slot_log.specs.Hand.{Match}
 use Rattle.node_rules.specs.Standings.{Standing, started}
-use Rattle.node_rules.specs.Turns.{Turn, still}
+use Rattle.node_rules.specs.Turns.{still}
 use Rattle.node_rules.specs.Calls.{Start}
 use Rattle.node_rules.specs.Rules.{asking_all, starting}
 use Rattle.node_rules.specs.Showing.{header}
@@ -27,7 +27,7 @@ use Rattle.dealer_node.specs.Posts.{Post, place_at}
 use Rattle.dealer_node.specs.Turned.{told_of}
 use Rattle.dealer_node.specs.Fitting.{AreMessages}
 use Rattle.dealer_node.specs.Running.{IsRunning}
-use Rattle.dealer_node.specs.Working.{head_of, disk_under}
+use Rattle.dealer_node.specs.Working.{head_of}
 use Rattle.dealer_node.specs.Starting.{Starts, StaysDown}
 use Rattle.dealer_node.specs.declared.node.Node.TheInside.{Inside}
 use Rattle.dealer_node.specs.Nodes.{Node}

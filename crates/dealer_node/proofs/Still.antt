@@ -1,6 +1,6 @@
 -- What is told to the others has a frame, since there are others.
-use Rattle.std.proofs.Common.{◌≡◌, ℕ, zero, suc, ◌+◌, ◌≤◌, Bool, true, false, List, [], ◌∷◌, ◌++◌, inl, inr, refl, sym, subst, ◌∙◌, arith, true≢false}
-use Rattle.std.specs.Prelude.{◌⊎◌, ◌==◌, if◌then◌else◌, IfSome, Option, Some, None}
+use Rattle.std.proofs.Common.{◌≡◌, ℕ, zero, suc, ◌≤◌, Bool, true, false, [], ◌++◌, inl, inr, refl, subst, arith, true≢false}
+use Rattle.std.specs.Prelude.{◌==◌, if◌then◌else◌, IfSome, Some, None}
 use Rattle.std.proofs.lemmas.Bool.{eqb-true}
 use Rattle.paxos_wire.specs.declared.message.Message.{Message}
 use Rattle.dealer_kind.specs.Plans.{HasNodes}

@@ -1,7 +1,7 @@
 -- What a node stores: promises and votes, as the rules have them.
-use Rattle.std.proofs.Common.{◌≡◌, ℕ, zero, suc, ◌+◌, ◌≤◌, ◌<◌, inl, inr, Bool, true, false, List, [], ◌∷◌, ◌++◌, Result, Ok, Err, refl, ap, sym, subst, ◌∙◌, arith, true≢false}
-use Rattle.std.proofs.lemmas.List.{append-nil}
-use Rattle.std.specs.Prelude.{◌⊎◌, Option, Some, None, IfSome, OnOk, OnErr, IfOk, IfErr, MatchResult, map, if◌then◌else◌, nat_lt, ◌==◌}
+use Rattle.std.proofs.Common.{◌≡◌, ℕ, zero, suc, ◌+◌, ◌≤◌, inl, inr, Bool, true, false, List, ◌++◌, Result, Ok, Err, refl, ap, sym, subst, ◌∙◌, arith, true≢false}
+use Rattle.std.proofs.lemmas.Option.{same_Some}
+use Rattle.std.specs.Prelude.{◌⊎◌, Option, Some, None, IfSome, MatchResult, map, if◌then◌else◌, nat_lt, ◌==◌}
 use Rattle.std.proofs.lemmas.Bool.{le-ltb, eq-eqb}
 use Rattle.paxos_wire.specs.declared.limits.TheConstants.{WINDOW}
 use Rattle.paxos_wire.specs.declared.ballot.Ballot.{Ballot}
@@ -23,18 +23,17 @@ use Rattle.paxos_wire.specs.Order.{is_below}
 use Rattle.proposer.specs.declared.accept.Accept.{Accept}
 use Rattle.proposer.specs.declared.campaign.Campaign.{Campaign}
 use Rattle.learner.specs.Learning.{Learned, answer_to, hearing as hearing_vote}
-use Rattle.acceptor.specs.declared.acceptor.Acceptor.{Acceptor}
 use Rattle.acceptor.specs.declared.answers.PrepareAnswer.{PrepareAnswer}
 use Rattle.acceptor.specs.declared.answers.PrepareAnswer.TheVariants.{Promise, Refuse}
 use Rattle.acceptor.specs.declared.answers.AcceptAnswer.{AcceptAnswer}
 use Rattle.acceptor.specs.declared.answers.AcceptAnswer.TheVariants.{Accepted, Refuse as RefuseAccept}
 use Rattle.acceptor.specs.Answers.{told_from, told_of, answer_to_prepare, refusal_of_prepare, prepared, command_in, has_voted, answer_to_accept, accepted}
 use Rattle.acceptor.specs.Stored.{store_of}
-use Rattle.acceptor.specs.Taken.{IsFault, NeedsStore, Taken}
+use Rattle.acceptor.specs.Taken.{IsFault, NeedsStore}
 use Rattle.node_rules.specs.Standings.{Place, Standing, with_stored, idle}
 use Rattle.node_rules.specs.Sending.{Frame, one, to_others}
-use Rattle.node_rules.specs.Turns.{Turn, Refusal, Conflict, still, sending, joined, behind, and_then}
-use Rattle.node_rules.specs.Learning.{learning, counting_vote}
+use Rattle.node_rules.specs.Turns.{Turn, Refusal, Conflict, still, sending, joined, behind}
+use Rattle.node_rules.specs.Learning.{learning}
 use Rattle.node_rules.specs.Accepting.{told_by, told_at, refusing, promising, preparing, stored_in, storing, is_of_ballot, voting, accepting}
 use Rattle.node_rules.specs.Accepting as rules
 use Rattle.node_rules.specs.Proposing.{proposing, closing}
@@ -42,7 +41,7 @@ use Rattle.dealer_node.specs.declared.up.Up.{Up}
 use Rattle.dealer_node.specs.declared.running.Running.{Running}
 use Rattle.dealer_node.specs.declared.fault.NodeFault.{NodeFault}
 use Rattle.dealer_node.specs.declared.fault.NodeFault.TheVariants as fault
-use Rattle.dealer_node.specs.Outs.{Told, both_told}
+use Rattle.dealer_node.specs.Outs.{Told}
 use Rattle.dealer_node.specs.Posts.{Post, place_at}
 use Rattle.dealer_node.specs.Texts.{Marked}
 use Rattle.dealer_node.specs.Turned.{posted}
@@ -253,9 +252,6 @@ stands_by : (b : Bool) (campaign : Option Campaign) (store : Store) (ballot : Ba
 stands_by true campaign store ballot slot command stands own = stands
 stands_by false campaign store ballot slot command stands own = own
 
-same_some : (a b : Command) → Some a ≡ Some b → a ≡ b
-same_some a b e = cc
-
 module _ {D : Type 0} (g : Ghosts D) where
   abbrev with_vote : Standing → Ballot → ℕ → Command → Standing
   with_vote s ballot slot command = with_stored s (storing s.store ballot slot command)
@@ -272,7 +268,7 @@ module _ {D : Type 0} (g : Ghosts D) where
   vote_took post s ballot slot command stored old new earlier later is above own accepts keeps during tells many =
       let x : Standing = with_vote s ballot slot command in
       let t = tells x (stored_too post old.running s (storing s.store ballot slot command) is.running) in
-      let same : stored ≡ stored_in (s.store.votes slot) ballot command = same_some _ _ (accepts ∙ vote_accepts ballot slot command s.store above) in
+      let same : stored ≡ stored_in (s.store.votes slot) ballot command = same_Some _ _ (accepts ∙ vote_accepts ballot slot command s.store above) in
       let kept = telling_keeps (place_at post) ballot slot stored x t.turn t.rule in
       let stores : accepted ballot slot command s.store ≡ t.turn.after.store = vote_stores ballot slot command s.store above ∙ sym kept.store in
       let promise : (storing s.store ballot slot command).promise ≡ t.turn.after.store.promise = ap (λ (st : Store). st.promise) (sym kept.store) in
@@ -302,7 +298,7 @@ module _ {D : Type 0} (g : Ghosts D) where
       → Clashed g post s (voting (place_at post) ballot slot command s) old new
   vote_clashed post s ballot slot command stored old new is above accepts leaves during clashes =
       let x : Standing = with_vote s ballot slot command in
-      let same : stored ≡ stored_in (s.store.votes slot) ballot command = same_some _ _ (accepts ∙ vote_accepts ballot slot command s.store above) in
+      let same : stored ≡ stored_in (s.store.votes slot) ballot command = same_Some _ _ (accepts ∙ vote_accepts ballot slot command s.store above) in
       let stores = vote_stores ballot slot command s.store above in
       record {
         left = x.store;

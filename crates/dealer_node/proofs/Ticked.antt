@@ -1,8 +1,8 @@
 -- A tick.
-use Rattle.std.proofs.Common.{◌≡◌, ℕ, zero, suc, ◌+◌, ◌-◌, ◌^◌, ◌≤◌, ◌<◌, inl, inr, Bool, true, false, true≢false, List, ◌++◌, Result, Ok, Err, refl, ap, sym, subst, ◌∙◌, arith}
-use Rattle.std.specs.Prelude.{◌⊎◌, Option, Some, None, if◌then◌else◌, not, ◌&&◌, ◌||◌, nat_lt, nat_le, ◌==◌, map, replicate, slice_set}
+use Rattle.std.proofs.Common.{◌≡◌, ℕ, zero, suc, ◌+◌, ◌-◌, ◌^◌, ◌≤◌, ◌<◌, inl, inr, Bool, true, false, true≢false, List, Result, Ok, Err, refl, ap, sym, subst, ◌∙◌, arith}
+use Rattle.std.specs.Prelude.{Option, Some, None, if◌then◌else◌, not, ◌&&◌, ◌||◌, nat_lt, nat_le, ◌==◌, replicate, slice_set}
 use Rattle.std.proofs.lemmas.Bool.{lt-ltb, ltb-false}
-use Rattle.paxos_wire.specs.declared.limits.TheConstants.{SLOTS, NODES, WINDOW}
+use Rattle.paxos_wire.specs.declared.limits.TheConstants.{SLOTS, NODES}
 use Rattle.paxos_wire.specs.declared.ballot.Ballot.{Ballot}
 use Rattle.paxos_wire.specs.declared.entry.Entry.{Entry}
 use Rattle.slot_log.specs.Slots.{front}
@@ -15,14 +15,14 @@ use Rattle.proposer.specs.declared.accept.Accept.{Accept}
 use Rattle.proposer.specs.declared.campaign.Campaign.{Campaign}
 use Rattle.proposer.specs.declared.fault.ProposeFault.{ProposeFault}
 use Rattle.paxos_wire.specs.Order.{is_below}
-use Rattle.proposer.specs.Campaigns.{next_ballot, new_campaign, with_promise, is_counted, has_quorum, is_covered, is_proposed, accept_of, value_of, greatest_told, with_mark}
+use Rattle.proposer.specs.Campaigns.{next_ballot, new_campaign, is_counted, has_quorum, is_covered, is_proposed, accept_of, value_of, greatest_told, with_mark}
 use Rattle.proposer.specs.declared.fault.ProposeFault.TheVariants.{OutOfWindow}
 use Rattle.acceptor.specs.declared.answers.PrepareAnswer.{PrepareAnswer}
 use Rattle.acceptor.specs.declared.answers.PrepareAnswer.TheVariants.{Promise}
 use Rattle.acceptor.specs.Answers.{answer_to_prepare, prepared as stores_prepared}
 use Rattle.acceptor.specs.Stored.{store_of}
-use Rattle.node_rules.specs.Standings.{Place, Standing, front_of, with_stored, idle}
-use Rattle.node_rules.specs.Turns.{Turn, Refusal, Spent, still, sending, joined, behind, and_then}
+use Rattle.node_rules.specs.Standings.{Place, Standing, front_of, idle}
+use Rattle.node_rules.specs.Turns.{Turn, Refusal, Spent, still, joined, behind, and_then}
 use Rattle.node_rules.specs.Accepting.{told_by}
 use Rattle.node_rules.specs.Proposing.{higher, greatest_seen, is_over, is_spent, prepared, beginning, ticking, closing, closing_by, own_value}
 use Rattle.dealer_node.specs.declared.up.Up.{Up}
@@ -30,7 +30,7 @@ use Rattle.dealer_node.specs.declared.running.Running.{Running}
 use Rattle.dealer_node.specs.Outs.{Told}
 use Rattle.dealer_node.specs.Posts.{Post, IsPost, place_at}
 use Rattle.dealer_node.specs.Running.{IsRunning, IsTaken, is_spent_at}
-use Rattle.dealer_node.specs.Working.{head_of, disk_under, ComesTo, IsDone, IsUp, Took, Failed, Works}
+use Rattle.dealer_node.specs.Working.{head_of, disk_under, IsDone, IsUp, Took, Failed, Works}
 use Rattle.dealer_node.specs.declared.fault.NodeFault.{NodeFault}
 use Rattle.paxos_wire.specs.declared.message.Message.TheVariants as frame
 use Rattle.dealer_node.proofs.Still.{more_than_one, told_to_none}

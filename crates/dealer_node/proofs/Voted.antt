@@ -1,14 +1,13 @@
 -- What a node tells of its own vote, as it stands among what a call makes.
-use Rattle.std.proofs.Common.{◌≡◌, ℕ, List, ◌++◌, Result, Ok, Err, refl, ap, sym, subst, ◌∙◌}
-use Rattle.std.specs.Prelude.{map, OnOk, OnErr}
+use Rattle.std.proofs.Common.{◌≡◌, ℕ, List, ◌++◌, Result, Ok, Err, ap, sym, subst, ◌∙◌}
+use Rattle.std.specs.Prelude.{map, OnOk}
 use Rattle.paxos_wire.specs.declared.ballot.Ballot.{Ballot}
 use Rattle.paxos_wire.specs.declared.message.Message.{Message}
 use Rattle.paxos_wire.specs.declared.message.Message.TheVariants.{Accepted}
 use Rattle.slot_log.specs.declared.command.Command.{Command}
-use Rattle.slot_log.specs.declared.slot_fault.SlotFault.{SlotFault}
-use Rattle.node_rules.specs.Standings.{Place, Standing}
+use Rattle.node_rules.specs.Standings.{Standing}
 use Rattle.node_rules.specs.Sending.{Frame, to_first, to_others}
-use Rattle.node_rules.specs.Turns.{Turn, Refusal, sending, behind, joined}
+use Rattle.node_rules.specs.Turns.{Turn, sending, behind, joined}
 use Rattle.node_rules.specs.Learning.{counting_vote}
 use Rattle.dealer_node.specs.declared.running.Running.{Running}
 use Rattle.dealer_node.specs.Texts.{Marked}
@@ -16,7 +15,7 @@ use Rattle.dealer_node.specs.Posts.{Post, place_at}
 use Rattle.dealer_node.specs.Outs.{Told}
 use Rattle.dealer_node.specs.Turned.{posted}
 use Rattle.dealer_node.specs.Fitting.{AreMessages}
-use Rattle.dealer_node.specs.Running.{IsRunning, IsTaken, TakesTurn}
+use Rattle.dealer_node.specs.Running.{IsRunning, TakesTurn}
 use Rattle.dealer_node.specs.Voting.{telling_vote}
 use Rattle.dealer_node.proofs.Telling.{told_with}
 use Rattle.dealer_node.proofs.Learned.{sent_taken, taken_behind}

@@ -1,5 +1,5 @@
 -- No more is made than was needed.
-use Rattle.std.proofs.Common.{◌≡◌, ℕ, ◌+◌, ◌*◌, ◌≤◌, arith, ap, length, vec_len}
+use Rattle.std.proofs.Common.{◌≡◌, ℕ, ◌+◌, ◌*◌, arith, ap, length, vec_len}
 use Rattle.dealer_node.specs.declared.running.Running.{Running}
 use Rattle.dealer_node.specs.declared.made.Made.{Made}
 use Rattle.dealer_node.specs.declared.made.Need.{Need}

@@ -1,7 +1,7 @@
 -- What a part of a call makes of what runs.
-use Rattle.std.proofs.Common.{◌≡◌, ℕ, ◌≤◌, ◌+◌, inl, inr, Bool, true, false, List, Result, Ok, Err, refl, sym, ap, subst, ◌∙◌, append_assoc}
+use Rattle.std.proofs.Common.{◌≡◌, ℕ, inl, inr, List, Result, Ok, Err, refl, sym, ap, subst, ◌∙◌}
 use Rattle.std.proofs.lemmas.List.{append-nil}
-use Rattle.std.specs.Prelude.{◌⊎◌, Option, Some, None, map}
+use Rattle.std.specs.Prelude.{◌⊎◌}
 use Rattle.promise_store.specs.declared.disk.Disk.{Ghosts}
 use Rattle.promise_store.specs.declared.fault.StoreFault.TheVariants.{Disk}
 use Rattle.promise_store.specs.Disks.{During}
@@ -10,15 +10,15 @@ use Rattle.promise_store.specs.Keeping.{Keeps, Leaves, LeavesDuring}
 use Rattle.acceptor.specs.Stored.{store_of}
 use Rattle.protocol_model.proofs.Sets.{in_first, in_later}
 use Rattle.protocol_model.specs.Stores.{Store}
-use Rattle.node_rules.specs.Standings.{Place, Standing, idle}
+use Rattle.node_rules.specs.Standings.{Standing}
 use Rattle.node_rules.specs.Turns.{Turn, Refusal, Conflict, still, joined, behind, and_then}
 use Rattle.dealer_node.specs.declared.up.Up.{Up}
 use Rattle.dealer_node.specs.declared.running.Running.{Running}
 use Rattle.dealer_node.specs.declared.fault.NodeFault.{NodeFault}
 use Rattle.dealer_node.specs.declared.fault.NodeFault.TheVariants as fault
 use Rattle.dealer_node.specs.Outs.{Told, both_told}
-use Rattle.dealer_node.specs.Posts.{Post, place_at}
-use Rattle.dealer_node.specs.Turned.{told_of, posted, printed, fault_of}
+use Rattle.dealer_node.specs.Posts.{Post}
+use Rattle.dealer_node.specs.Turned.{told_of}
 use Rattle.dealer_node.specs.Fitting.{AreMessages}
 use Rattle.dealer_node.specs.Running.{IsRunning}
 use Rattle.dealer_node.specs.Working.{head_of, disk_under, StandsByIts, ComesTo, IsDone, IsUp, Took, Failed, Clashed, Works}

@@ -1,5 +1,5 @@
 -- What a whole call makes of a node that runs, however it ends.
-use Rattle.std.specs.Prelude.{◌≡◌, ℕ, ◌≤◌, length, vec_len, Result, Ok, Err}
+use Rattle.std.specs.Prelude.{◌≡◌, ◌≤◌, length, vec_len, Result, Ok, Err}
 use Rattle.promise_store.specs.declared.disk.Disk.{Ghosts}
 use Rattle.promise_store.specs.declared.fault.StoreFault.TheVariants.{Disk}
 use Rattle.acceptor.specs.Taken.{IsFault}

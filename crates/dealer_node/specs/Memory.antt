@@ -1,5 +1,5 @@
 -- What a node does with a message in memory alone.
-use Rattle.std.specs.Prelude.{◌≡◌, ℕ, Result}
+use Rattle.std.specs.Prelude.{◌≡◌, Result}
 use Rattle.paxos_wire.specs.declared.message.Message.{Message}
 use Rattle.paxos_wire.specs.declared.message.Message.TheVariants as frame
 use Rattle.node_rules.specs.Standings.{Standing}

@@ -1,5 +1,5 @@
 -- How much a step of a call makes at most.
-use Rattle.std.specs.Prelude.{◌≡◌, ℕ, ◌+◌, ◌*◌, ◌≤◌, length, vec_len, vec_capacity}
+use Rattle.std.specs.Prelude.{◌≡◌, ℕ, ◌+◌, ◌≤◌, length, vec_len, vec_capacity}
 use Rattle.dealer_node.specs.declared.made.Made.{Made}
 use Rattle.dealer_node.specs.Texts.{Written, byte_total}
 

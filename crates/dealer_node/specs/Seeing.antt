@@ -1,5 +1,5 @@
 -- How a node is seen as a standing.
-use Rattle.std.specs.Prelude.{◌≡◌, ℕ, List, Option, Some, None, [], Bool, true, false, Result, Ok, Err}
+use Rattle.std.specs.Prelude.{◌≡◌, ℕ, List, Option, Some, None, [], Bool, true, false, Result, Err}
 use Rattle.promise_store.specs.declared.disk.Disk.{Ghosts}
 use Rattle.promise_store.specs.Keeping.{disk_of, Leaves}
 use Rattle.acceptor.specs.Stored.{store_of}

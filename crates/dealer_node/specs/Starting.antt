@@ -4,7 +4,7 @@ use Rattle.promise_store.specs.declared.disk.Disk.{Ghosts}
 use Rattle.promise_store.specs.declared.fault.StoreFault.TheVariants.{Disk}
 use Rattle.promise_store.specs.Keeping.{Leaves, LeavesDuring}
 use Rattle.protocol_model.specs.Stores.{Store}
-use Rattle.node_rules.specs.Standings.{Standing, started}
+use Rattle.node_rules.specs.Standings.{started}
 use Rattle.node_rules.specs.Rules.{asking_all, starting}
 use Rattle.dealer_node.specs.declared.up.Up.{Up}
 use Rattle.dealer_node.specs.declared.fault.NodeFault.{NodeFault}

@@ -1,33 +1,23 @@
 use Rattle.std.proofs.Common.{ℕ, arith, ap}
 use Rattle.dealer_node.specs.Texts.{Written}
-use Rattle.dealer_node.proofs.Cutting.{put}
+use Rattle.dealer_node.proofs.Cutting.{HoldsAlso, put}
 use Rattle.paxos_wire.specs.Spelling.{frame}
 use Rattle.dealer_node.proofs.sending.send.Goals as goal
 
-pub invariant_of-frames : goal.invariant_of-frames
-invariant_of-frames c =
+put_frame : (c : goal.After-push_reserved) → HoldsAlso c.push_reserved.new.self.items c.encode_reserved.new.out c.args.frames.now.texts (record { mark = c.args.to; text = frame c.args.message.now })
+put_frame c =
     let inside = c.frames.inside in
-    let all = put inside.runs.items c.push_reserved.new.self.items inside.bytes c.encode_reserved.new.out (frame c.args.message.now) c.args.to c.len-start.result c.len.result c.args.frames.now.texts
-    c.frames.invariant (omega (arith, c.len-start.ensures)) (omega (arith, c.len.ensures)) c.push_reserved.ensures.items c.encode_reserved.ensures.frame (ap (λ (w : Written ℕ). w.texts) c.frames.view_is) in
-    all.0
+    put inside.runs.items c.push_reserved.new.self.items inside.bytes c.encode_reserved.new.out (frame c.args.message.now) c.args.to c.len-start.result c.len.result c.args.frames.now.texts
+    c.frames.invariant (omega (arith, c.len-start.ensures)) (omega (arith, c.len.ensures)) c.push_reserved.ensures.items c.encode_reserved.ensures.frame (ap (λ (w : Written ℕ). w.texts) c.frames.view_is)
+
+pub invariant_of-frames : goal.invariant_of-frames
+invariant_of-frames c = (put_frame c).0
 
 pub returns-clause-texts : goal.returns-clause-texts
-returns-clause-texts c =
-    let inside = c.frames.inside in
-    let all = put inside.runs.items c.push_reserved.new.self.items inside.bytes c.encode_reserved.new.out (frame c.args.message.now) c.args.to c.len-start.result c.len.result c.args.frames.now.texts
-    c.frames.invariant (omega (arith, c.len-start.ensures)) (omega (arith, c.len.ensures)) c.push_reserved.ensures.items c.encode_reserved.ensures.frame (ap (λ (w : Written ℕ). w.texts) c.frames.view_is) in
-    all.1
+returns-clause-texts c = (put_frame c).1
 
 pub returns-clause-len : goal.returns-clause-len
-returns-clause-len c =
-    let inside = c.frames.inside in
-    let all = put inside.runs.items c.push_reserved.new.self.items inside.bytes c.encode_reserved.new.out (frame c.args.message.now) c.args.to c.len-start.result c.len.result c.args.frames.now.texts
-    c.frames.invariant (omega (arith, c.len-start.ensures)) (omega (arith, c.len.ensures)) c.push_reserved.ensures.items c.encode_reserved.ensures.frame (ap (λ (w : Written ℕ). w.texts) c.frames.view_is) in
-    all.2
+returns-clause-len c = (put_frame c).2
 
 pub returns-clause-size : goal.returns-clause-size
-returns-clause-size c =
-    let inside = c.frames.inside in
-    let all = put inside.runs.items c.push_reserved.new.self.items inside.bytes c.encode_reserved.new.out (frame c.args.message.now) c.args.to c.len-start.result c.len.result c.args.frames.now.texts
-    c.frames.invariant (omega (arith, c.len-start.ensures)) (omega (arith, c.len.ensures)) c.push_reserved.ensures.items c.encode_reserved.ensures.frame (ap (λ (w : Written ℕ). w.texts) c.frames.view_is) in
-    all.3
+returns-clause-size c = (put_frame c).3
