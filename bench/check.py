@@ -135,8 +135,11 @@ def compile_c(folder, name, text):
     subprocess.run([os.environ.get("CC", "cc"), "-O2", "-o", folder / name, source], check=True)
 
 
-def main():
-    hands = int(sys.argv[1]) if len(sys.argv) > 1 else 10_000
+def main(words):
+    if len(words) > 1 or not all(word.isdigit() for word in words):
+        print(__doc__.strip())
+        return 0 if words in (["-h"], ["--help"]) else 2
+    hands = int(words[0]) if words else 10_000
     with tempfile.TemporaryDirectory() as name:
         folder = Path(name)
         compile_c(folder, "runner", RUNNER)
@@ -157,4 +160,4 @@ def main():
 
 
 if __name__ == "__main__":
-    main()
+    sys.exit(main(sys.argv[1:]))

@@ -105,8 +105,11 @@ def measure(folder, writer, players, hands):
     return seconds, peak, in_c, lines
 
 
-def main():
-    hands = int(sys.argv[1]) if len(sys.argv) > 1 else 10_000
+def main(words):
+    if len(words) > 1 or not all(word.isdigit() for word in words):
+        print(__doc__.strip())
+        return 0 if words in (["-h"], ["--help"]) else 2
+    hands = int(words[0]) if words else 10_000
     with tempfile.TemporaryDirectory() as name:
         folder = Path(name)
         (folder / "writer.c").write_text(WRITER)
@@ -127,4 +130,4 @@ def main():
 
 
 if __name__ == "__main__":
-    main()
+    sys.exit(main(sys.argv[1:]))

@@ -41,8 +41,11 @@ def fastest(task, runs):
     return min(times), outputs.pop().decode().strip()
 
 
-def main():
-    runs = int(sys.argv[1]) if len(sys.argv) > 1 else 5
+def main(words):
+    if len(words) > 1 or not all(word.isdigit() for word in words):
+        print(__doc__.strip())
+        return 0 if words in (["-h"], ["--help"]) else 2
+    runs = int(words[0]) if words else 5
     times, outputs = {}, {}
     for task, piece, count, without in TASKS:
         seconds, output = fastest(task, runs)
@@ -59,4 +62,4 @@ def main():
 
 
 if __name__ == "__main__":
-    main()
+    sys.exit(main(sys.argv[1:]))

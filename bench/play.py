@@ -116,8 +116,11 @@ def measure(folder, script):
     return max(seconds - start, 1e-9), peak, frames
 
 
-def main():
-    lines = int(sys.argv[1]) if len(sys.argv) > 1 else 100_000
+def main(words):
+    if len(words) > 1 or not all(word.isdigit() for word in words):
+        print(__doc__.strip())
+        return 0 if words in (["-h"], ["--help"]) else 2
+    lines = int(words[0]) if words else 100_000
     few = lines // 10
     if few < 100 or hands_of(lines) > MOST_HANDS:
         sys.exit(f"bench/play.py: from 1,000 lines on, and no more than {MOST_HANDS:,} hands, of {HAND} lines each")
@@ -138,4 +141,4 @@ def main():
 
 
 if __name__ == "__main__":
-    main()
+    sys.exit(main(sys.argv[1:]))

@@ -103,12 +103,15 @@ def time_opening(folder, runs):
     print(f"memory: {(memory['long'] - memory['short']) / more:.1f} bytes a slot")
 
 
-def main():
-    runs = int(sys.argv[1]) if len(sys.argv) > 1 else 5
-    with tempfile.TemporaryDirectory(dir=Path(sys.argv[2] if len(sys.argv) > 2 else ".").resolve()) as folder:
+def main(words):
+    if len(words) > 2 or not all(word.isdigit() for word in words[:1]) or not all(Path(word).is_dir() for word in words[1:]):
+        print(__doc__.strip())
+        return 0 if words in (["-h"], ["--help"]) else 2
+    runs = int(words[0]) if words else 5
+    with tempfile.TemporaryDirectory(dir=Path(words[1] if len(words) > 1 else ".").resolve()) as folder:
         compare_appends(folder, runs)
         time_opening(folder, runs)
 
 
 if __name__ == "__main__":
-    main()
+    sys.exit(main(sys.argv[1:]))
