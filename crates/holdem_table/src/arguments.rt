@@ -58,6 +58,7 @@ pub(crate) fn command<'a>(alloc: Global) -> Result<Command<'a>, AllocError> {
         .subcommand(serve_command(alloc)?)
 }
 
+/// `hand GAME`, with `--hands N` and `--log`.
 fn hand_command<'a>(alloc: Global) -> Result<Command<'a>, AllocError> {
     let hands = Arg::new(alloc, "hands")
         .long("hands")
@@ -77,6 +78,7 @@ fn hand_command<'a>(alloc: Global) -> Result<Command<'a>, AllocError> {
         .arg(game_argument(alloc))
 }
 
+/// `check GAME LOG`.
 fn check_command<'a>(alloc: Global) -> Result<Command<'a>, AllocError> {
     let log = Arg::new(alloc, "log")
         .value_name("LOG")
@@ -89,6 +91,7 @@ fn check_command<'a>(alloc: Global) -> Result<Command<'a>, AllocError> {
         .arg(log)
 }
 
+/// `play MATCH`.
 fn play_command<'a>(alloc: Global) -> Result<Command<'a>, AllocError> {
     Command::new(alloc, "play")
         .about("Runs all nodes of a match over a script, and prints all they send")
@@ -96,6 +99,7 @@ fn play_command<'a>(alloc: Global) -> Result<Command<'a>, AllocError> {
         .arg(match_argument(alloc))
 }
 
+/// `init MATCH`.
 fn init_command<'a>(alloc: Global) -> Result<Command<'a>, AllocError> {
     Command::new(alloc, "init")
         .about("Makes the empty stores of a match's nodes")
@@ -103,6 +107,7 @@ fn init_command<'a>(alloc: Global) -> Result<Command<'a>, AllocError> {
         .arg(match_argument(alloc))
 }
 
+/// `serve MATCH`.
 fn serve_command<'a>(alloc: Global) -> Result<Command<'a>, AllocError> {
     Command::new(alloc, "serve")
         .about("Deals a match to its seats over TCP")
@@ -110,6 +115,7 @@ fn serve_command<'a>(alloc: Global) -> Result<Command<'a>, AllocError> {
         .arg(match_argument(alloc))
 }
 
+/// MATCH, the same of `play`, `init` and `serve`.
 fn match_argument<'a>(alloc: Global) -> Arg<'a> {
     Arg::new(alloc, "match")
         .value_name("MATCH")
@@ -117,6 +123,7 @@ fn match_argument<'a>(alloc: Global) -> Arg<'a> {
         .help("The match file")
 }
 
+/// GAME, the same of `hand` and `check`.
 fn game_argument<'a>(alloc: Global) -> Arg<'a> {
     Arg::new(alloc, "game")
         .value_name("GAME")
@@ -146,6 +153,7 @@ pub(crate) fn requested<'a>(matches: &ArgMatches<'a>) -> Result<Task<'a>, Ending
     Err(Ending::WrongWords(WrongWords::Incomplete))
 }
 
+/// GAME and LOG of `check`.
 fn check_task<'a>(matches: &ArgMatches<'a>) -> Result<Task<'a>, Ending> {
     Ok(Task::Check(CheckArguments {
         game: word(matches, "game")?,
@@ -153,6 +161,7 @@ fn check_task<'a>(matches: &ArgMatches<'a>) -> Result<Task<'a>, Ending> {
     }))
 }
 
+/// GAME of `hand`, and what is chosen. A number of hands beyond the bounds was refused before, as a wrong word.
 fn hand_task<'a>(matches: &ArgMatches<'a>) -> Result<Task<'a>, Ending> {
     let game = word(matches, "game")?;
     let hands = match matches.get_one::<u32>("hands") {
@@ -167,6 +176,7 @@ fn hand_task<'a>(matches: &ArgMatches<'a>) -> Result<Task<'a>, Ending> {
     Ok(Task::Hand(HandArguments { game, log, hands }))
 }
 
+/// The word in the place of this name. A command line that lacks one was refused before, where it was taken apart.
 fn word<'a>(matches: &ArgMatches<'a>, id: &str) -> Result<&'a str, Ending> {
     match matches.get_str(id) {
         Some(word) => Ok(word),
@@ -174,6 +184,7 @@ fn word<'a>(matches: &ArgMatches<'a>, id: &str) -> Result<&'a str, Ending> {
     }
 }
 
+/// GAME as a log's header has it: 1 to 200 printable ASCII characters without space.
 fn game_word(game: &str) -> Result<GameWord<'_>, Ending> {
     match GameWord::new(game) {
         Some(word) => Ok(word),

@@ -1,10 +1,12 @@
 //! What `--help` prints behind the arguments, in lines of at most 78 columns.
 
+/// Of the program, behind its list of commands: where more is told.
 pub(crate) const AFTER_HELP: &str = "\
 holdem_table COMMAND --help lists what a command reads and answers.
 docs/FAULTS.md says of each number that is printed what it means and what to
 do about it.";
 
+/// Of `hand`: a script's lines, the answers to them, the exit statuses, an example.
 pub(crate) const AFTER_HAND_HELP: &str = "\
 A script comes on standard input, one line after another:
   names A|B..   the first line, once: a name for each seat, in seat order. A
@@ -41,6 +43,7 @@ Example:
   printf 'names al|bo\\ndeal TdAs|8hTc/2c8c3h/9c/Kh\\nr\\nc\\n' > script
   holdem_table hand examples/l2.game < script";
 
+/// Of `check`: a log's lines, what is said of it, the exit statuses, an example.
 pub(crate) const AFTER_CHECK_HELP: &str = "\
 A log is text in lines, each ended by LF, as `hand --log` prints it behind L:
   # name/game/hands NAME GAME HANDS        the header
@@ -70,6 +73,7 @@ Example:
   sed -n 's/^L //p' played > match.log
   holdem_table check examples/l2.game match.log";
 
+/// Of `init`: the match file's keys, what is made and may be thrown away, the exit statuses, an example.
 pub(crate) const AFTER_INIT_HELP: &str = "\
 MATCH is a match file: TOML with name, game, hands, names, a node table for
 each of three or five nodes, and stores, the folder of the stores. Its paths
@@ -97,6 +101,7 @@ Example:
   mkdir stores
   holdem_table init examples/three.toml";
 
+/// Of `play`: the match file's keys, a script's lines, the answers to them, the exit statuses, an example.
 pub(crate) const AFTER_PLAY_HELP: &str = "\
 MATCH is a match file: TOML with name, game, hands, names, and a node table
 for each of three or five nodes. Its paths go from the working folder. All
@@ -137,6 +142,7 @@ Example:
   printf 'connect 0 0\\nline 0 0 VERSION:2.0.0\\ntick 0\\nflush 99\\n' > script
   holdem_table play examples/three.toml < script";
 
+/// Of `serve`: the match file's keys, ports and notes, the exit statuses, an example.
 pub(crate) const AFTER_SERVE_HELP: &str = "\
 MATCH is a match file: TOML with name, game, hands, names, a node table for
 each of three or five nodes, stores, logs, port, and perhaps outage. Its paths

@@ -21,6 +21,7 @@ pub(crate) fn init(rt: &HostRuntime, path: &str) -> Ending {
     }
 }
 
+/// The steps of it. All places are looked at before a file is made, so that no match gets half of its stores anew.
 fn make_stores(rt: &HostRuntime, path: &str) -> Result<(), Ending> {
     let text = read_file(rt, path)?;
     let file = MatchFile::read(rt.alloc(), &text)?;
@@ -42,6 +43,7 @@ fn count_nodes(rt: &HostRuntime, file: &MatchFile) -> Result<u8, Ending> {
     Ok(config.nodes() as u8)
 }
 
+/// Refuses a node whose store's place is taken, be it by a link that leads nowhere: a store is never made anew.
 fn refuse_present(rt: &HostRuntime, folder: &str, node: u8) -> Result<(), Ending> {
     match fs::symlink_metadata(rt, store_path(rt.alloc(), folder, node)?.as_str()) {
         Ok(_) => Err(Ending::StoreExists),

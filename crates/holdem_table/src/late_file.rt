@@ -11,6 +11,7 @@ pub(crate) struct LateFile<'a> {
 }
 
 impl<'a> LateFile<'a> {
+    /// A file that isn't looked at yet: whether it is there, its first read tells.
     pub(crate) fn new(rt: &'a HostRuntime, name: &'a str) -> LateFile<'a> {
         LateFile {
             rt,

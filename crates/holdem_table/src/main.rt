@@ -72,6 +72,7 @@ fn run(rt: &HostRuntime, words: &[String]) -> Conclusion {
     }
 }
 
+/// The words in their places. The `Err` is what clap says instead: help, the version, or what is wrong.
 fn matches<'a>(rt: &HostRuntime, words: &'a [String]) -> Result<ArgMatches<'a>, Error> {
     command(rt.alloc())?.try_get_matches_from(words)
 }

@@ -37,6 +37,7 @@ pub(crate) fn serve(rt: &HostRuntime, path: &str) -> Conclusion
     }
 }
 
+/// The steps of it, up to the first that fails: what is looked at comes before what is changed.
 fn serve_match(rt: &HostRuntime, path: &str) -> Result<(), Unserved> {
     let text = read(rt, path)?;
     let file = MatchFile::read(rt.alloc(), &text)?;
