@@ -16,10 +16,12 @@ use Rattle.streamed.specs.Told.{commands_of, names_of}
 use Rattle.streamed.specs.Logged.{lettered, logged}
 use Rattle.streamed.specs.Answer.{Says, Tells, refusal, reply, answer, bad_script}
 use Rattle.streamed.specs.Script.{AreLines, Script, answers}
-use Rattle.streamed.specs.Ending.{status_of, ending_text, words_text}
+use Rattle.streamed.specs.Pieces.{bytes_of}
+use Rattle.streamed.specs.Ending.{status_of, ending_text, stopped, words_text}
 use Rattle.match_log.specs.declared.fault_kind.LogFaultKind.TheVariants.{WrongValues}
 use Rattle.streamed.specs.Verdict.{verdict_text, EndsVerdict}
 use Rattle.streamed.specs.declared.ending.Ending.TheVariants.{Done, SaidNo, Refused, Unreadable, StreamFailed}
+use Rattle.streamed.specs.declared.stop.Stop.TheVariants as stop
 use Rattle.streamed.specs.declared.wrong_words.WrongWords.TheVariants.{Incomplete}
 use Rattle.streamed.specs.declared.script_line.ScriptLine.TheVariants.{Names, Told, Bad}
 
@@ -168,6 +170,15 @@ refused_is_2 = refl
 
 refused_with_its_line : ending_text (Refused (record { kind = Unsupported; line = 9 })) ≡ decimal 15 ++ codes " " ++ codes "Unsupported" ++ codes " " ++ decimal 9
 refused_with_its_line = refl
+
+refused_memory_stops_a_script : ending_text (stopped stop.OutOfMemory) ≡ codes "92 OutOfMemory"
+refused_memory_stops_a_script = refl
+
+failed_stream_stops_a_script : ending_text (stopped stop.StreamFailed) ≡ codes "107 StreamFailed"
+failed_stream_stops_a_script = refl
+
+piece_is_the_front_of_the_room : bytes_of (record { room = 7 ∷ 8 ∷ 9 ∷ []; count = 2; left = 1; within = omega arith }) ≡ 7 ∷ 8 ∷ []
+piece_is_the_front_of_the_room = refl
 
 failed_stream_has_its_number : ending_text StreamFailed ≡ codes "107 StreamFailed"
 failed_stream_has_its_number = refl

@@ -38,11 +38,6 @@ consume_twice (Some a) None c xs ys p q = absurd p
 consume_twice (Some a) (Some b) None xs ys p q = absurd q
 consume_twice (Some a) (Some b) (Some c) xs ys p q = p ∙ ap (λ z. xs ++ z) q ∙ sym (append_assoc xs ys c)
 
-pub consume_none : (a b : Option (List ℕ)) → Keeps a b → Consumes a b []
-consume_none None b p = tt
-consume_none (Some a) None p = absurd p
-consume_none (Some a) (Some b) p = sym p
-
 pub consume_here : (a : Option (List ℕ)) → Consumes a a []
 consume_here None = tt
 consume_here (Some a) = refl

@@ -5,6 +5,8 @@ use Rattle.match_file.specs.Fault.{fault_text as match_fault_text}
 use Rattle.promise_store.specs.FaultText.{fault_text as store_fault_text}
 use Rattle.streamed.specs.declared.ending.Ending.{Ending}
 use Rattle.streamed.specs.declared.ending.Ending.TheVariants.{Done, SaidNo, Refused, Match, StoreExists, Store, Unreadable, OutOfMemory, StreamFailed, WrongWords}
+use Rattle.streamed.specs.declared.stop.Stop.{Stop}
+use Rattle.streamed.specs.declared.stop.Stop.TheVariants as stop
 use Rattle.streamed.specs.declared.wrong_words.WrongWords.{WrongWords as Wrong}
 use Rattle.streamed.specs.declared.wrong_words.WrongWords.TheVariants.{NotText, GameWord, Incomplete, Told}
 
@@ -20,6 +22,11 @@ status_of Unreadable = 2
 status_of OutOfMemory = 2
 status_of StreamFailed = 2
 status_of (WrongWords words) = 2
+
+-- how a run of a script ends that stopped before the script's end
+abbrev pub stopped : Stop → Ending
+stopped stop.OutOfMemory = OutOfMemory
+stopped stop.StreamFailed = StreamFailed
 
 -- what standard error gets of a command line that is wrong, beside what its reader has told
 abbrev pub words_text : Wrong → List ℕ

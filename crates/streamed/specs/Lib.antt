@@ -9,3 +9,4 @@ pub mod Ending
 pub mod Outcome
 pub mod Verdict
 pub mod OneOutput
+pub mod Pieces

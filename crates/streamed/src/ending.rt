@@ -1,7 +1,8 @@
 ghost use Rattle.std.specs.Prelude.{◌≡◌, ◌⊎◌, Some};
-ghost use Rattle.streamed.specs.Ending.{status_of, ending_text};
+ghost use Rattle.streamed.specs.Ending.{status_of, ending_text, stopped};
 ghost use Rattle.streamed.specs.declared.ending.Ending.TheVariants.{Match, OutOfMemory, Unreadable};
 
+use crate::stop::Stop;
 use crate::wrong_words::WrongWords;
 use game_def::GameFault;
 use match_file::MatchFault;
@@ -84,6 +85,17 @@ impl From<MatchFault> for Ending {
 
     fn from(fault: MatchFault) -> Ending {
         Ending::Match(fault)
+    }
+}
+
+impl From<Stop> for Ending {
+    ghost from_gives = { λ stop ending. ending ≡ stopped stop };
+
+    fn from(stop: Stop) -> Ending {
+        match stop {
+            Stop::OutOfMemory => Ending::OutOfMemory,
+            Stop::StreamFailed => Ending::StreamFailed,
+        }
     }
 }
 

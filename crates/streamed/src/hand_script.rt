@@ -3,9 +3,10 @@ ghost use Rattle.streamed.specs.Outcome.{Ends, Answers, Stops};
 
 use crate::ending::Ending;
 use crate::game_word::GameWord;
+use crate::pieces::Pieces;
 use crate::running::Running;
 use crate::stop::Stop;
-use crate::stream::{MOST_READS, PIECE, read_piece};
+use crate::stream::MOST_READS;
 use game_def::GameDef;
 use std::alloc::Global;
 use std::io::{Read, Write};
@@ -37,8 +38,7 @@ pub fn hand_run<R: Read, W: Write>(
     match game_def::read(game) {
         Ok(game) => match run_script(alloc, game, log, hands, MOST_READS, reader, writer) {
             Ok(()) => Ending::Done,
-            Err(Stop::OutOfMemory) => Ending::OutOfMemory,
-            Err(Stop::StreamFailed) => Ending::StreamFailed,
+            Err(stop) => Ending::from(stop),
         },
         Err(fault) => Ending::Refused(fault),
     }
@@ -60,13 +60,9 @@ pub fn run_script<R: Read, W: Write>(
     ensures err { OnErr result (Stops game hands log.entry (R.remaining reader.old) (R.remaining reader.new) (W.contents writer.old) (W.contents writer.new)) }
 {
     let mut running = Running::new(alloc, game, log, hands);
-    let mut piece = [0u8; PIECE];
-    for _ in 0..most_reads {
-        match read_piece(reader, &mut piece)? {
-            Some(0) => return Ok(()),
-            Some(count) => running.take_piece(&piece[..count], writer)?,
-            None => {}
-        }
+    let mut pieces = Pieces::new(most_reads);
+    while pieces.read(reader)? {
+        running.take_piece(pieces.bytes(), writer)?;
     }
-    Err(Stop::StreamFailed)
+    Ok(())
 }

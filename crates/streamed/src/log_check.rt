@@ -3,8 +3,9 @@ ghost use Rattle.std.specs.Io.KnownBytes.{Appends, Consumes, IsAtEnd, Keeps};
 ghost use Rattle.streamed.specs.Verdict.{EndsCheck, EndsLog, EndsVerdict, verdict_text};
 
 use crate::ending::Ending;
+use crate::pieces::Pieces;
 use crate::stop::Stop;
-use crate::stream::{MOST_READS, PIECE, read_piece, send};
+use crate::stream::{MOST_READS, send};
 use game_def::GameDef;
 use match_log::LogFault;
 use std::alloc::{AllocError, Global};
@@ -56,15 +57,11 @@ pub fn read_all<R: Read>(alloc: Global, most_reads: u32, reader: &mut R) -> Resu
     ensures err { OnErr result ((bytes : List ℕ) × Consumes (R.remaining reader.old) (R.remaining reader.new) bytes) }
 {
     let mut bytes = Vec::new(alloc);
-    let mut piece = [0u8; PIECE];
-    for _ in 0..most_reads {
-        match read_piece(reader, &mut piece)? {
-            Some(0) => return Ok(bytes),
-            Some(count) => bytes.extend_from_slice(&piece[..count])?,
-            None => {}
-        }
+    let mut pieces = Pieces::new(most_reads);
+    while pieces.read(reader)? {
+        bytes.extend_from_slice(pieces.bytes())?;
     }
-    Err(Stop::StreamFailed)
+    Ok(bytes)
 }
 
 /// Writes what is said of a log.

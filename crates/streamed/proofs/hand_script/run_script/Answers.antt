@@ -1,45 +1,29 @@
-use Rattle.std.proofs.Common.{[], ◌++◌, take}
+use Rattle.std.proofs.Common.{[], ◌++◌}
+use Rattle.streamed.specs.Pieces.{bytes_of}
 use Rattle.streamed.proofs.Streams.{consume_here, consume_kept, consume_twice, on_err}
 use Rattle.streamed.proofs.Progress.{begins_here}
 use Rattle.streamed.proofs.hand_script.run_script.Goals as goal
-use Rattle.streamed.proofs.hand_script.run_script.Goals.{in-Some+in_ok-take_piece-in-Some, in-None}
 
-pub loop-init : goal.loop-init
-loop-init g c = ([], consume_here _, c.new-running.ensures _)
+pub loop-running-init : goal.loop-running-init
+loop-running-init g c = ([], consume_here _, c.new-running.ensures _)
 
-pub returns-in_err-read_piece-clause-err : goal.returns-in_err-read_piece-clause-err
-returns-in_err-read_piece-clause-err g c = on_err c.from_residual.result _ (record {
-  bytes = c.loop.invariant.0;
-  read = consume_kept _ _ _ c.loop.invariant.0 c.loop.invariant.1 c.in_err-read_piece.ensures.err;
-  begun = begins_here _ _ _ _ _ c.loop.invariant.0 c.loop.running c.loop.invariant.2;
+pub returns-in_err-read-clause-err : goal.returns-in_err-read-clause-err
+returns-in_err-read-clause-err g c = on_err c.from_residual.result _ (record {
+  bytes = c.loop-running.invariant.0;
+  read = consume_kept _ _ _ c.loop-running.invariant.0 c.loop-running.invariant.1 c.in_err-read.ensures.err;
+  begun = begins_here _ _ _ _ _ c.loop-running.invariant.0 c.loop-running.running c.loop-running.invariant.2;
 })
 
-pub returns-in_err-take_piece-in-Some-clause-err : goal.returns-in_err-take_piece-in-Some-clause-err
-returns-in_err-take_piece-in-Some-clause-err g c =
-    let got = rw c.in-Some.is at c.in_ok-read_piece.ensures.read in
-    on_err c.from_residual-in_err-take_piece-in-Some.result _ (record {
-      bytes = c.loop.invariant.0 ++ take c.in-Some.count c.read_piece.new.piece;
-      read = consume_twice _ _ _ c.loop.invariant.0 _ c.loop.invariant.1 got;
-      begun = c.in_err-take_piece-in-Some.ensures.err _ _ _ _ c.loop.invariant.0 c.loop.invariant.2;
-    })
+pub loop-running-preserved : goal.loop-running-preserved
+loop-running-preserved g c = (
+  c.loop-running.invariant.0 ++ bytes_of c.read.new.self,
+  consume_twice _ _ _ c.loop-running.invariant.0 _ c.loop-running.invariant.1 c.in_ok-read.ensures.read,
+  rw c.bytes.ensures at (c.in_ok-take_piece.ensures.ok _ _ _ _ c.loop-running.invariant.0 c.loop-running.invariant.2),
+)
 
-pub loop-preserved : goal.loop-preserved
-loop-preserved g c =
-    elim c.match-branch-2.branch [
-      | in-Some+in_ok-take_piece-in-Some w ↦
-          let got = rw w.in-Some.is at c.in_ok-read_piece.ensures.read in (
-            c.loop.invariant.0 ++ take w.in-Some.count c.read_piece.new.piece,
-            consume_twice _ _ _ c.loop.invariant.0 _ c.loop.invariant.1 got,
-            rw (w.writer-is, w.running-is) (w.in_ok-take_piece-in-Some.ensures.ok _ _ _ _ c.loop.invariant.0 c.loop.invariant.2),
-          )
-      | in-None w ↦
-          let got = rw w.in-None.is at c.in_ok-read_piece.ensures.read in
-          (c.loop.invariant.0, consume_kept _ _ _ c.loop.invariant.0 c.loop.invariant.1 got, rw (w.writer-is, w.running-is) c.loop.invariant.2)
-    ]
-
-pub returns-clause-err : goal.returns-clause-err
-returns-clause-err g c = record {
-  bytes = c.loop.invariant.0;
-  read = c.loop.invariant.1;
-  begun = begins_here _ _ _ _ _ c.loop.invariant.0 c.loop.running c.loop.invariant.2;
-}
+pub returns-in_err-take_piece-clause-err : goal.returns-in_err-take_piece-clause-err
+returns-in_err-take_piece-clause-err g c = on_err c.from_residual-in_err-take_piece.result _ (record {
+  bytes = c.loop-running.invariant.0 ++ bytes_of c.read.new.self;
+  read = consume_twice _ _ _ c.loop-running.invariant.0 _ c.loop-running.invariant.1 c.in_ok-read.ensures.read;
+  begun = rw c.bytes.ensures at (c.in_err-take_piece.ensures.err _ _ _ _ c.loop-running.invariant.0 c.loop-running.invariant.2);
+})
