@@ -1,6 +1,6 @@
 -- The node's own vote for what it proposes is counted.
 use Rattle.std.proofs.Common.{◌≡◌, ℕ, zero, suc, ◌<◌, ◌≤◌, ◌+◌, ◌-◌, inl, inr, Bool, true, false, if◌then◌else◌, List, [], ◌∷◌, ◌++◌, Option, Some, None, Result, Ok, Err, refl, sym, ap, subst, ◌∙◌, arith}
-use Rattle.std.specs.Prelude.{nat_lt, min}
+use Rattle.std.specs.Prelude.{min}
 use Rattle.std.proofs.lemmas.List.{append-nil}
 use Rattle.paxos_wire.specs.declared.limits.TheConstants.{SLOTS}
 use Rattle.paxos_wire.specs.declared.ballot.Ballot.{Ballot}
@@ -22,7 +22,7 @@ use Rattle.learner.specs.Counted.{IsOpen, CountsAll}
 use Rattle.seat_session.specs.Session.{Standing as Talk}
 use Rattle.node_rules.specs.Standings.{Place, Standing, applied, front_of}
 use Rattle.node_rules.specs.Sending.{Frame, one, to_others}
-use Rattle.node_rules.specs.Turns.{Turn, Refusal, Spent, still, sending, joined, behind}
+use Rattle.node_rules.specs.Turns.{Turn, Refusal, Spent, still, joined, behind}
 use Rattle.node_rules.specs.Learning.{comes_to_window, told_of, telling_from, next_window, telling}
 use Rattle.node_rules.specs.Accepting.{preparing}
 use Rattle.node_rules.specs.Proposing.{greatest_seen, is_over, is_spent, beginning}
@@ -46,7 +46,7 @@ use Rattle.node_rules.proofs.Closing.{campaigns_of}
 use Rattle.node_rules.proofs.Counting.{counts_vote, had_in_time}
 use Rattle.node_rules.proofs.Resting.{Closed, rests, proposes}
 use Rattle.node_rules.proofs.Led.{tick_splits, piece_splits, frame_turn}
-use Rattle.node_rules.proofs.Asked.{asked_same}
+use Rattle.node_rules.proofs.Asked.{question, asked_same}
 use Rattle.node_rules.proofs.Answered.{prepare_answer, learned_frames, chosen_frames, accept_answer, answers_frames}
 
 -- ---- frames without a proposal
@@ -98,19 +98,11 @@ by_forwards place promise (act ∷ acts) =
 
 -- ---- the rules of messages propose nothing
 
-ask_frames : (b : Bool) (from slot : ℕ) (s : Standing) → ProposesNothing (if b then sending (one from (frame.Ask slot)) s else still s).frames
-ask_frames true from slot s = by_one from (frame.Ask slot) (λ b k c e. cc)
-ask_frames false from slot s = nothing_at_all
-
 asking_frames : (from : ℕ) (message : Wire) (s : Standing) → ProposesNothing (asking from message s).frames
-asking_frames from (frame.Prepare ballot slot) s = ask_frames (nat_lt (front_of s) slot) from (front_of s) s
-asking_frames from (frame.Promise ballot slot told) s = nothing_at_all
-asking_frames from (frame.Refuse ballot slot promised) s = nothing_at_all
-asking_frames from (frame.Accept ballot slot command) s = ask_frames (nat_lt (front_of s) slot) from (front_of s) s
-asking_frames from (frame.Accepted ballot slot command) s = ask_frames (nat_lt (front_of s) slot) from (front_of s) s
-asking_frames from (frame.Chosen slot command) s = nothing_at_all
-asking_frames from (frame.Ask slot) s = nothing_at_all
-asking_frames from (frame.Forward command) s = nothing_at_all
+asking_frames from message s = elim (question from message s) [
+  | inl e ↦ subst (λ (t : Turn). ProposesNothing t.frames) (sym e) nothing_at_all
+  | inr e ↦ subst (λ (t : Turn). ProposesNothing t.frames) (sym e) (by_one from (frame.Ask (front_of s)) (λ b k c q. cc))
+]
 
 of_prepare : (s : Standing) (from : ℕ) (ballot : Ballot) (slot : ℕ) (frames : List Frame) → AnswersPrepare s.store from ballot slot frames → ProposesNothing frames
 of_prepare s from ballot slot frames (answers.promises told above tells e) = by_same frames (one from (frame.Promise ballot slot told)) e (by_one from (frame.Promise ballot slot told) (λ b k c q. cc))

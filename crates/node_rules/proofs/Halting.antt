@@ -1,6 +1,6 @@
 -- Calls that stop in their append: the chain as far as the append, with nothing shown.
 use Rattle.std.proofs.Common.{◌≡◌, ◌≢◌, ℕ, ◌<◌, ◌*◌, ◌⊎◌, inl, inr, Bool, true, false, true≢false, not, if◌then◌else◌, ◌==◌, ◌&&◌, List, [], ◌∷◌, Option, Some, None, Result, Ok, Err, refl, sym, ap, subst, ◌∙◌, arith, get_or, set, replicate, get_or-set_other}
-use Rattle.std.specs.Prelude.{nat_lt, nat_le, is_some}
+use Rattle.std.specs.Prelude.{nat_le, is_some}
 use Rattle.std.proofs.lemmas.Bool.{le-ltb}
 use Rattle.std.proofs.lemmas.Bool.Decides.{eqb_tells}
 use Rattle.paxos_wire.specs.declared.limits.TheConstants.{SLOTS, NODES}
@@ -33,7 +33,7 @@ use Rattle.node_rules.specs.Standings.{Standing, applied, front_of, with_stored,
 use Rattle.dealer_kind.specs.Plans.{HasNodes}
 use Rattle.node_rules.specs.Sending.{one, to_others}
 use Rattle.node_rules.specs.Turns.{Turn, Refusal, Spent, still, sending, joined, behind, and_then}
-use Rattle.node_rules.specs.Learning.{learning, counting_vote, telling, asking_above}
+use Rattle.node_rules.specs.Learning.{learning, counting_vote, telling}
 use Rattle.node_rules.specs.Accepting.{told_by, is_of_ballot, stored_in, storing, promising, refusing, preparing, voting, accepting}
 use Rattle.node_rules.specs.Proposing.{higher, greatest_seen, is_over, is_spent, beginning, ticking, own_value, proposing, closing_by, proposal_at, closing}
 use Rattle.node_rules.specs.Rules.{ballots_of, seeing, taking, asking, on_read}
@@ -47,6 +47,7 @@ use Rattle.node_rules.proofs.Paths.{Hearing, Scope, dealer_in, first_in, Path, G
 use Rattle.node_rules.proofs.Promising.{refuse}
 use Rattle.node_rules.proofs.Learning.{count}
 use Rattle.node_rules.proofs.Members.{one_counted, three_nodes}
+use Rattle.node_rules.proofs.Asked.{asked_same}
 use Rattle.node_rules.proofs.Closing.{IsMade, made_by, campaigns_of, may}
 use Rattle.node_rules.proofs.Asking.{tell_known, behind_still}
 use Rattle.node_rules.proofs.Framing.{hand_on, chosen_goes}
@@ -307,27 +308,8 @@ taken_rests x s from (frame.Forward act) q same r one sent =
     let p = begin_frame x s m [] r one (sent.sent m (inl refl)) tt refl in
     inl (hand_on x [] h (still s0) p from act (has_in x [] h (applied s) (still s0) p m (subst (λ (l : List Message). In m l) (sym one) (inl refl))))
 
--- asking stores nothing
-above_by : (x : Scope) (came : List Arrival) (from slot : ℕ) (s : Standing) (b : Bool) → Halted x came s.store
-    → Halted x came (if b then sending (one from (frame.Ask slot)) s else still s).after.store
-above_by x came from slot s true h = h
-above_by x came from slot s false h = h
-
-above_leaves : (x : Scope) (came : List Arrival) (from slot : ℕ) (s : Standing) → Halted x came s.store → Halted x came (asking_above from slot s).after.store
-above_leaves x came from slot s h = above_by x came from (front_of s) s (nat_lt (front_of s) slot) h
-
-asked_leaves : (x : Scope) (came : List Arrival) (from : ℕ) (w : Wire) (s : Standing) → Halted x came s.store → Halted x came (asking from w s).after.store
-asked_leaves x came from (frame.Prepare ballot slot) s h = above_leaves x came from slot s h
-asked_leaves x came from (frame.Promise ballot slot told) s h = h
-asked_leaves x came from (frame.Refuse ballot slot promised) s h = h
-asked_leaves x came from (frame.Accept ballot slot command) s h = above_leaves x came from slot s h
-asked_leaves x came from (frame.Accepted ballot slot command) s h = above_leaves x came from slot s h
-asked_leaves x came from (frame.Chosen slot command) s h = h
-asked_leaves x came from (frame.Ask slot) s h = h
-asked_leaves x came from (frame.Forward act) s h = h
-
 then_asks : (x : Scope) (came : List Arrival) (from : ℕ) (w : Wire) (r : Result Turn Refusal) → Leaves x came r → Leaves x came (and_then r (λ closed. Ok (asking from w closed)))
-then_asks x came from w (Ok u) h = asked_leaves x came from w u.after h
+then_asks x came from w (Ok u) h = subst (λ (s : Standing). Halted x came s.store) (sym (asked_same from w u.after)) h
 then_asks x came from w (Err e) h = tt
 
 -- a frame that stops in its append

@@ -1,6 +1,5 @@
 -- What is made of the bytes of each seat.
 use Rattle.std.proofs.Common.{◌≡◌, ℕ, ◌<◌, inl, inr, Bool, true, false, true≢false, if◌then◌else◌, List, [], ◌∷◌, ◌++◌, Option, Some, None, Result, Ok, Err, refl, sym, ap, subst, ◌∙◌, arith, set, get_or-set_same, get_or-set_other, append_assoc}
-use Rattle.std.specs.Prelude.{nat_lt}
 use Rattle.std.proofs.lemmas.List.{append-nil}
 use Rattle.game_def.specs.Game.{Game}
 use Rattle.paxos_wire.specs.declared.ballot.Ballot.{Ballot}
@@ -23,11 +22,11 @@ use Rattle.seat_session.specs.declared.said.Said.TheVariants.{Ready, Act}
 use Rattle.seat_session.specs.declared.session_fault.SessionFault.{SessionFault}
 use Rattle.dealer_kind.specs.Kind.{line_of}
 use Rattle.node_rules.specs.Standings.{Place, Standing, applied, front_of, hands_at, with_stored, idle}
-use Rattle.node_rules.specs.Sending.{Frame, one, to_others}
+use Rattle.node_rules.specs.Sending.{Frame, to_others}
 use Rattle.node_rules.specs.Showing.{SeatFault, is_connected}
 use Rattle.node_rules.specs.Turns.{Turn, Refusal, Spent, Conflict, still, sending, joined, behind, and_then}
 use Rattle.node_rules.specs.Applying.{applying}
-use Rattle.node_rules.specs.Learning.{learning, asking_on, telling, comes_to_window}
+use Rattle.node_rules.specs.Learning.{learning, asking_on, telling}
 use Rattle.node_rules.specs.Accepting.{preparing, promising, refusing, stored_in, storing, voting}
 use Rattle.node_rules.specs.Proposing.{greatest_seen, is_over, is_spent, beginning}
 use Rattle.node_rules.specs.Seats.{session_at, with_session, connecting, dropping, left, answering, answering_all, Drains, HearsPiece}
@@ -46,7 +45,7 @@ use Rattle.node_rules.proofs.Beginning.{commands_known}
 use Rattle.node_rules.proofs.Results.{ok_is, ok_not}
 use Rattle.node_rules.proofs.Resting.{Closed}
 use Rattle.node_rules.proofs.Led.{tick_splits, piece_splits, frame_turn}
-use Rattle.node_rules.proofs.Asked.{asked_same}
+use Rattle.node_rules.proofs.Asked.{question, question_on, question_faults, asked_same}
 use Rattle.node_rules.proofs.Answered.{two, answers_frames}
 use Rattle.node_rules.proofs.Sitting.{drained_asked}
 use Rattle.node_rules.proofs.Shown.{closed_faults, closed_pending, closed_sessions, two_shown, answers_shown, answers_pending}
@@ -290,20 +289,6 @@ sessions_stay g own place world s called seat turn (st, comes, up, h) other =
 
 -- ---- faults
 
-asked_faults : (b : Bool) (frames : List Frame) (s : Standing) → (if b then sending frames s else still s).faults ≡ []
-asked_faults true frames s = refl
-asked_faults false frames s = refl
-
-asking_faults : (from : ℕ) (message : Wire) (s : Standing) → (asking from message s).faults ≡ []
-asking_faults from (frame.Prepare ballot slot) s = asked_faults (nat_lt (front_of s) slot) (one from (frame.Ask (front_of s))) s
-asking_faults from (frame.Promise ballot slot told) s = refl
-asking_faults from (frame.Refuse ballot slot promised) s = refl
-asking_faults from (frame.Accept ballot slot command) s = asked_faults (nat_lt (front_of s) slot) (one from (frame.Ask (front_of s))) s
-asking_faults from (frame.Accepted ballot slot command) s = asked_faults (nat_lt (front_of s) slot) (one from (frame.Ask (front_of s))) s
-asking_faults from (frame.Chosen slot command) s = refl
-asking_faults from (frame.Ask slot) s = refl
-asking_faults from (frame.Forward command) s = refl
-
 learned_faults : {A : Type 0} (place : Place) (answer : Result A SlotFault) (learned : Learned) (s : Standing) (first : Turn) → learning place answer learned s ≡ Ok first → first.faults ≡ []
 learned_faults place (Ok answer) learned s first e = ap (λ (t : Turn). t.faults) (sym (ok_is (applying place learned s) first e))
 learned_faults place (Err fault) learned s first e = absurd (ok_not first (Conflict s.store) (sym e))
@@ -318,7 +303,7 @@ chosen_faults : {A : Type 0} (place : Place) (answer : Result A SlotFault) (lear
 chosen_faults place (Ok answer) learned s from first e =
     let u : Turn = applying place learned s in
     ap (λ (t : Turn). t.faults) (sym (ok_is (joined u (asking_on from (front_of s) u.after)) first e))
-    ∙ asked_faults (comes_to_window (front_of s) (front_of u.after)) (one from (frame.Ask (front_of u.after))) u.after
+    ∙ question_faults from u.after (asking_on from (front_of s) u.after) (question_on from (front_of s) u.after)
 chosen_faults place (Err fault) learned s from first e = absurd (ok_not first (Conflict s.store) (sym e))
 
 prepare_faults : (from : ℕ) (ballot : Ballot) (slot : ℕ) (s : Standing) (b : Bool) → (if b then promising from ballot slot s else refusing from ballot slot s).faults ≡ []
@@ -370,7 +355,7 @@ faults_up g own place world s (call.Frame from bytes) turn st up comes h other =
     let c : Turn = f.split.closes.turn in
     let first : Turn = f.split.first in
     ap (λ (t : Turn). t.faults) f.whole
-    ∙ (ap (λ (l : List SeatFault). (first.faults ++ c.faults) ++ l) (asking_faults from f.message c.after)
+    ∙ (ap (λ (l : List SeatFault). (first.faults ++ c.faults) ++ l) (question_faults from c.after (asking from f.message c.after) (question from f.message c.after))
     ∙ (append-nil (first.faults ++ c.faults)
     ∙ (ap (λ (l : List SeatFault). first.faults ++ l) (closed_faults place first.after c f.split.closes.closed)
     ∙ (append-nil first.faults ∙ message_faults place s from f.message first f.split.is))))

@@ -1,6 +1,6 @@
 -- What each call shows, and which act waits after it.
 use Rattle.std.proofs.Common.{◌≡◌, ℕ, ◌<◌, ◌⊎◌, inl, inr, Bool, true, false, true≢false, if◌then◌else◌, ◌&&◌, List, [], ◌∷◌, ◌++◌, Option, Some, None, Result, Ok, Err, refl, sym, ap, subst, ◌∙◌, arith, length, reverse, append_assoc}
-use Rattle.std.specs.Prelude.{nat_lt, is_none}
+use Rattle.std.specs.Prelude.{is_none}
 use Rattle.std.proofs.lemmas.List.{append-nil}
 use Rattle.std.proofs.lemmas.Option.{same_Some}
 use Rattle.paxos_wire.specs.declared.message.Message.{Message as Wire}
@@ -24,7 +24,7 @@ use Rattle.dealer_kind.specs.Kind.{fits, line_of, dealer_of}
 use Rattle.node_rules.specs.Standings.{Place, Standing, applied, front_of, hands_at, started, stopped}
 use Rattle.node_rules.specs.Sending.{one}
 use Rattle.node_rules.specs.Showing.{Piece, is_connected, seat_line}
-use Rattle.node_rules.specs.Turns.{Turn, Refusal, Down, Spent, BadFrame, Conflict, still, sending, joined, behind}
+use Rattle.node_rules.specs.Turns.{Turn, Refusal, Down, Spent, BadFrame, Conflict, still, joined, behind}
 use Rattle.node_rules.specs.Applying.{taking_all, scene_of}
 use Rattle.node_rules.specs.Proposing.{greatest_seen, is_over, is_spent, beginning}
 use Rattle.node_rules.specs.Seats.{session_at, with_session, connecting, dropping, left, pending_act, answering, answering_all, Drains, HearsPiece}
@@ -32,7 +32,7 @@ use Rattle.node_rules.specs.Calls.{Call, Start, Tick, Line, Connect, Drop, Stop}
 use Rattle.node_rules.specs.Calls as call
 use Rattle.node_rules.specs.Rules.{asking, seeing, taking, starting, stopping, IsTurnUp, IsTurnDown, IsTurnBy, standing_after}
 use Rattle.node_rules.specs.Being.{IsPending, IsSession}
-use Rattle.node_rules.specs.Called.{Comes, Ends, took, refused, failed}
+use Rattle.node_rules.specs.Called.{Comes, took, refused, failed}
 use Rattle.node_rules.specs.Called as ways
 use Rattle.node_rules.specs.Given.{Given}
 use Rattle.node_rules.specs.Sound.{Stands}
@@ -46,7 +46,7 @@ use Rattle.node_rules.proofs.Sitting.{same_hands}
 use Rattle.node_rules.proofs.Results.{ok_is, ok_not}
 use Rattle.node_rules.proofs.Resting.{Closed, rests, proposes}
 use Rattle.node_rules.proofs.Led.{tick_splits, piece_splits, frame_turn}
-use Rattle.node_rules.proofs.Asked.{asked_same}
+use Rattle.node_rules.proofs.Asked.{asked_same, asked_shown}
 use Rattle.node_rules.proofs.Applied.{seat_line_is, takes_all, keeps_all, scene_over, waits_then, Applies, message_applies, passed_now}
 
 -- ---- the close shows nothing, and leaves all but what it proposes
@@ -74,21 +74,6 @@ closed_sessions place s c (proposes made campaign learned led mine at promise no
 closed_up : (place : Place) (s : Standing) (c : Turn) → Closed place s c → c.after.up ≡ s.up
 closed_up place s c (rests campaign e) = ap (λ (t : Turn). t.after.up) e
 closed_up place s c (proposes made campaign learned led mine at promise none left_over counts log e) = ap (λ (t : Turn). t.after.up) e
-
--- nor does a question show anything
-above_shown : (b : Bool) (from slot : ℕ) (s : Standing) → (if b then sending (one from (frame.Ask slot)) s else still s).shown ≡ []
-above_shown true from slot s = refl
-above_shown false from slot s = refl
-
-asking_shown : (from : ℕ) (message : Wire) (s : Standing) → (asking from message s).shown ≡ []
-asking_shown from (frame.Prepare ballot slot) s = above_shown (nat_lt (front_of s) slot) from (front_of s) s
-asking_shown from (frame.Promise ballot slot told) s = refl
-asking_shown from (frame.Refuse ballot slot promised) s = refl
-asking_shown from (frame.Accept ballot slot command) s = above_shown (nat_lt (front_of s) slot) from (front_of s) s
-asking_shown from (frame.Accepted ballot slot command) s = above_shown (nat_lt (front_of s) slot) from (front_of s) s
-asking_shown from (frame.Chosen slot command) s = refl
-asking_shown from (frame.Ask slot) s = refl
-asking_shown from (frame.Forward command) s = refl
 
 pub two_shown : (place : Place) (turn first c : Turn) (pieces : List Piece) → turn ≡ joined first c → Closed place first.after c → first.shown ≡ pieces → turn.shown ≡ pieces
 two_shown place turn first c pieces whole closed e =
@@ -174,7 +159,7 @@ shows_up g own place world s (call.Frame from bytes) turn st up comes h =
     let all : turn.shown ≡ shows.pieces =
     ap (λ (t : Turn). t.shown) f.whole
     ∙ (ap (λ (l : List Piece). (first.shown ++ l) ++ (asking from f.message c.after).shown) (closed_shown place first.after c f.split.closes.closed)
-    ∙ (ap (λ (l : List Piece). (first.shown ++ []) ++ l) (asking_shown from f.message c.after)
+    ∙ (ap (λ (l : List Piece). (first.shown ++ []) ++ l) (asked_shown from f.message c.after)
     ∙ (append-nil (first.shown ++ []) ∙ (append-nil first.shown ∙ (a.shown
     ∙ (ap (λ (cs : List Command). (taking_all place.setting s.sessions cs (scene_of s)).shown) p.0 ∙ shows.all)))))) in (
       applied s,

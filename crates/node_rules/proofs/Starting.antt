@@ -155,7 +155,7 @@ start_goes x s found of down left ends start had log quiet =
 -- ---- a stop, and calls that change nothing
 
 -- nothing was done
-pub nothing_taken : (own : ℕ → Command → Bool) (place : Place) (ever : List Message) (first : Node) (log : List ℕ) (came : List Message) (events : List (List Event)) (s : Standing)
+unfoldable pub nothing_taken : (own : ℕ → Command → Bool) (place : Place) (ever : List Message) (first : Node) (log : List ℕ) (came : List Message) (events : List (List Event)) (s : Standing)
     → IsOf own place s first → (s.up ≡ true → log ≡ log_of place.setting (applied s)) → In [] events
     → Called own place ever first log came events [] [] s
 nothing_taken own place ever first log came events s of logged happened = record {
@@ -173,18 +173,9 @@ nothing_taken own place ever first log came events s of logged happened = record
 pub nothing_all : (own : ℕ → Command → Bool) (place : Place) (ever : List Message) (first : Node) (log : List ℕ) (events : List (List Event)) (s : Standing)
     → IsOf own place s first → (s.up ≡ true → log ≡ log_of place.setting (applied s)) → In [] events
     → Taken own place ever first log [] events [] [] s
+unfolding nothing_taken
 nothing_all own place ever first log events s of logged happened = record {
-  called = record {
-    output = record { sent = []; shown = []; came = [] };
-    last = first;
-    chain = none _ _ refl refl;
-    of = of;
-    carry = nothing_carried place.nodes place.node;
-    shown = nothing_shown place.node first.starts log;
-    logged = logged;
-    got = λ m h. inl h;
-    happened = happened;
-  };
+  called = nothing_taken own place ever first log [] events s of logged happened;
   all_carried = nothing_lost place.nodes place.node;
   all_got = λ m h. absurd h;
 }
