@@ -20,6 +20,7 @@ pub struct Tally {
     pub(crate) nodes: [bool; PLACES],
 }
 
+/// Whether a tally counts the nodes that accepted this command in this ballot.
 #[tactic(auto, unfolding(crate::specs::Tallies::is_of))]
 fn is_of(tally: &Tally, ballot: Ballot, command: &Command) -> bool
     ensures { result ≡ is_of ballot command.now tally.now }

@@ -13,5 +13,5 @@ hear-requires-clause-cell_room c =
 
 pub hear-requires-clause-log_room : goal.hear-requires-clause-log_room
 hear-requires-clause-log_room c =
-    let most = room_within c.self.inside c.args.self.now c.self.view_is in
+    let most = room_within c.self.inside c.self.view_is in
     omega (arith, most, c.requires.room)

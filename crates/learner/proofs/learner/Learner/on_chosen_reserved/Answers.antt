@@ -4,5 +4,5 @@ use Rattle.learner.proofs.learner.Learner.on_chosen_reserved.Goals as goal
 
 pub believe-requires-clause-room : goal.believe-requires-clause-room
 believe-requires-clause-room c =
-    let most = room_within c.self.inside c.args.self.now c.self.view_is in
+    let most = room_within c.self.inside c.self.view_is in
     omega (arith, most, c.requires)
