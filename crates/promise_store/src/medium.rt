@@ -136,12 +136,14 @@ impl Medium {
         &self.calls
     }
 
+    /// How many calls have failed; it stays at its last value.
     pub fn failures(&self) -> u64
         ensures { result ≡ count_of self.now }
     {
         self.failures
     }
 
+    /// Begins the file anew: what a read gives now is what it was begun with.
     pub fn begin(&mut self)
         ensures begun { begun_of self.new ≡ seen_of self.old }
         ensures seen { seen_of self.new ≡ seen_of self.old }
@@ -152,6 +154,7 @@ impl Medium {
         self.begun = self.calls.len();
     }
 
+    /// How many bytes a read gives. It fails where it isn't to pass.
     pub fn len(&mut self, passes: bool) -> Result<usize, DiskFault>
         ensures len { IfOk result (λ n. n ≡ length (seen_of self.old)) }
         ensures passes { IsOk result ↔ (passes ≡ true) }
@@ -167,6 +170,7 @@ impl Medium {
         Ok(self.bytes.len())
     }
 
+    /// Fills the buffer from the offset on. It fails where it isn't to pass, and where bytes past the end are asked for.
     pub fn read(&mut self, passes: bool, at: usize, buffer: &mut [u8]) -> Result<(), DiskFault>
         ensures bytes { OnOk result (buffer.new ≡ take (length buffer.old) (drop at (seen_of self.old))) }
         ensures passes { IsOk result ↔ ((passes ≡ true) × (at + length buffer.old ≤ length (seen_of self.old))) }
@@ -184,6 +188,8 @@ impl Medium {
         Ok(())
     }
 
+    /// Writes over what is there, and past the end. It fails where it isn't to pass, and for want of memory; a read then
+    /// gives what it gave before. Where it wasn't to pass, a stop may still put the bytes there.
     pub fn write_at(&mut self, passes: bool, at: usize, bytes: &[u8]) -> Result<(), DiskFault>
         ensures written { at ≤ length (seen_of self.old) → OnOk result (Holds (seen_of self.old) at bytes.now (seen_of self.new)) }
         ensures nothing { length bytes.now ≡ 0 → seen_of self.new ≡ seen_of self.old }
@@ -219,6 +225,8 @@ impl Medium {
         Ok(())
     }
 
+    /// Has a stop leave what a read gives now. It fails where it isn't to pass, and for want of memory; then all that was
+    /// unsynced stays so.
     pub fn sync(&mut self, passes: bool) -> Result<(), DiskFault>
         ensures durable { OnOk result (Only (seen_of self.old) (images_of self.new)) }
         ensures fails { passes ≡ false → IsErr result }

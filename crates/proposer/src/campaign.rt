@@ -25,6 +25,8 @@ pub struct Campaign {
     pub proposed: [bool; WINDOW],
 }
 
+/// The entry of the higher ballot of two at the slot, the one found before where both ballots are the same; an entry of
+/// another slot is passed over.
 fn better(best: Option<Entry>, slot: u32, entry: Entry) -> Option<Entry>
     ensures { result ≡ better best slot entry }
 {
@@ -43,6 +45,7 @@ fn better(best: Option<Entry>, slot: u32, entry: Entry) -> Option<Entry>
     }
 }
 
+/// The entry of the highest ballot at the slot among these and the one found before.
 fn best_in(best: Option<Entry>, slot: u32, entries: &[Entry]) -> Option<Entry>
     ensures { result ≡ best_in best slot entries.now }
 {
@@ -102,6 +105,7 @@ impl Campaign {
         }
     }
 
+    /// The entry of the highest ballot at the slot in what the nodes' promises tell, if there is one.
     fn told(&self, nodes: u8, slot: u32) -> Option<Entry>
         requires { nodes ≤ NODES }
         ensures { result ≡ greatest_told self.now slot nodes }
