@@ -152,17 +152,13 @@ agree_along extend game viewer other number h k deal begins =
           cc;
     }
 
-agree_back : BettingTextsExtend → (game : Game) (viewer other number : ℕ) (h k : Hand) → h.deal ≡ k.deal → IsBeginning k.past h.past → AgreeOnHand (view_of game viewer number h) (view_of game other number k)
-agree_back extend game viewer other number h k deal begins =
-    record {
-      actions = inr begins;
-      texts = inr (text_begins extend game k.past h.past begins);
-      cards = λ place card another first second.
-          let a = shown_is game viewer number h place card first in
-          let b = shown_is game other number k place another second in
-          let c : card_at k.deal place ≡ Some card = ap (λ d. card_at d place) (sym deal) ∙ a in
-          cc;
-    }
+-- agreement is of both alike
+agree_turned : {v w : View} → AgreeOnHand v w → AgreeOnHand w v
+agree_turned agree = record { actions = turned agree.actions; texts = turned agree.texts; cards = λ place card other first second. sym (agree.cards place other card second first) }
+  where
+    turned : {P Q : Type 0} → P ⊎ Q → Q ⊎ P
+    turned (inl p) = inr p
+    turned (inr q) = inl q
 
 agree_newest : BettingTextsExtend → (game : Game) (first second : List Hand) (v w : View) → Kept first second ⊎ Kept second first → OfNewest game first v → OfNewest game second w → Agree v w
 unfolding Kept
@@ -182,7 +178,7 @@ agree_newest extend game first second v w kept a b =
                 let later = backwards b.number b.newest b.at in
                 let same : Some later.0 ≡ Some a.newest = sym later.1 ∙ ap (hand_at first) (sym number) ∙ a.at in
                 let k : later.0 ≡ a.newest = cc in
-                agree_back extend game a.viewer b.viewer a.number a.newest b.newest (ap (λ (h : Hand). h.deal) (sym k) ∙ later.2) (subst (λ (h : Hand). IsBeginning b.newest.past h.past) k later.3)
+                agree_turned (agree_along extend game b.viewer a.viewer a.number b.newest a.newest (ap (λ (h : Hand). h.deal) (sym k) ∙ later.2) (subst (λ (h : Hand). IsBeginning b.newest.past h.past) k later.3))
           ] in
           let first_is : AgreeOnHand v (view_of game b.viewer a.number b.newest) = subst (λ (u : View). AgreeOnHand u (view_of game b.viewer a.number b.newest)) (sym a.is) by_kept in
           inr (subst (λ (u : View). AgreeOnHand v u) (ap (λ n. view_of game b.viewer n b.newest) number ∙ sym b.is) first_is)

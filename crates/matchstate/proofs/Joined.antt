@@ -29,17 +29,7 @@ joined_push first (other ∷ holes) hole =
     regroup : (a b c d : List ℕ) → a ++ (b ++ (c ++ d)) ≡ a ++ (b ++ c) ++ d
     regroup a b c d = simp append_assoc
 
--- ---- the hole cards of the next position
-
-pub hole_next : (p : ℕ) (holes : List (List ℕ)) (rest behind : List ℕ) → p < length holes → rest ≡ joined p (drop p holes) ++ behind → rest ≡ separator p ++ (cards_text (get_or holes p []) ++ (joined (p + 1) (drop (p + 1) holes) ++ behind))
-hole_next p holes rest behind below is =
-    let next : suc p ≡ p + 1 = omega arith in
-    is ∙ ap (λ hs. joined p hs ++ behind) (drop_more holes p [] below)
-    ∙ regroup (separator p) (cards_text (get_or holes p [])) (joined (suc p) (drop (p + 1) holes)) behind
-    ∙ ap (λ k. separator p ++ (cards_text (get_or holes p []) ++ (joined k (drop (p + 1) holes) ++ behind))) next
-  where
-    regroup : (a b c d : List ℕ) → a ++ (b ++ c) ++ d ≡ a ++ (b ++ (c ++ d))
-    regroup a b c d = simp append_assoc
+-- ---- the hole cards of a position
 
 All-part : (P : ℕ → Type 0) (xs ys : List ℕ) → AllByRecursion P (xs ++ ys) → AllByRecursion P xs × AllByRecursion P ys
 All-part P [] ys all = (tt, all)
@@ -63,6 +53,18 @@ module _ (want : ℕ → ℕ) (players : ℕ) (holes : List (List ℕ)) (counts 
   pub count_of_hole : (p : ℕ) → p < players → length (get_or holes p []) ≡ want p
   count_of_hole p below =
       sym (get_or-map-length holes p) ∙ ap (λ ls. get_or ls p 0) counts ∙ get_or-map-range_with_len want 0 players p p 0 below (omega arith)
+
+  -- of what is left at a position its hole cards stand first
+  pub hole_next : (p : ℕ) (rest behind : List ℕ) → p < players → rest ≡ joined p (drop p holes) ++ behind → rest ≡ separator p ++ (cards_text (get_or holes p []) ++ (joined (p + 1) (drop (p + 1) holes) ++ behind))
+  hole_next p rest behind below is =
+      let count = count_of_holes in
+      let next : suc p ≡ p + 1 = omega arith in
+      is ∙ ap (λ hs. joined p hs ++ behind) (drop_more holes p [] (omega (arith, count, below)))
+      ∙ regroup (separator p) (cards_text (get_or holes p [])) (joined (suc p) (drop (p + 1) holes)) behind
+      ∙ ap (λ k. separator p ++ (cards_text (get_or holes p []) ++ (joined k (drop (p + 1) holes) ++ behind))) next
+    where
+      regroup : (a b c d : List ℕ) → a ++ (b ++ c) ++ d ≡ a ++ (b ++ (c ++ d))
+      regroup a b c d = simp append_assoc
 
 -- ---- one more position read
 

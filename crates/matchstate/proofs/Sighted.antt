@@ -36,7 +36,7 @@ counted_from_seen f g players rounds holes boards same seen =
     (counted, place.distinct)
 
 -- the same, where the counts go by other names
-pub expected : (f g : ℕ → Bool) (n m r s : ℕ) (holes boards : List (List ℕ)) → n ≡ m → r ≡ s → ((p : ℕ) → p < m → f p ≡ g p) → AreSeen m g s holes boards → AreCounted n f r holes boards × IsDistinct nat_eq (all_cards holes boards)
-expected f g n m r s holes boards players rounds same seen =
+pub expected : {f g : ℕ → Bool} {n m r s : ℕ} (holes boards : List (List ℕ)) → n ≡ m → r ≡ s → ((p : ℕ) → p < m → f p ≡ g p) → AreSeen m g s holes boards → AreCounted n f r holes boards × IsDistinct nat_eq (all_cards holes boards)
+expected {f} {g} {n} {m} {r} {s} holes boards players rounds same seen =
     let told = counted_from_seen f g m s holes boards same seen in
     (subst (λ k. AreCounted k f r holes boards) (sym players) (subst (λ k. AreCounted m f k holes boards) (sym rounds) told.0), told.1)

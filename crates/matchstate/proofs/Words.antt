@@ -1,5 +1,5 @@
 -- An action's text is a letter and digits, so what stands behind it can be told.
-use Rattle.std.proofs.Common.{◌≡◌, ℕ, zero, suc, ◌+◌, ◌-◌, ◌^◌, ◌<◌, ◌≤◌, true, false, List, [], ◌∷◌, ◌++◌, length, take, drop, replicate, Option, Some, None, refl, sym, ap, ◌∙◌, arith, decimal, inl}
+use Rattle.std.proofs.Common.{◌≡◌, ℕ, zero, suc, ◌+◌, ◌-◌, ◌^◌, ◌<◌, ◌≤◌, true, false, List, [], ◌∷◌, ◌++◌, length, take, drop, replicate, Option, Some, None, refl, sym, ap, ◌∙◌, subst, arith, decimal, inl}
 use Rattle.std.specs.Char.{is_ascii_digit}
 use Rattle.std.specs.Str.{all_ascii_digits}
 use Rattle.std.specs.List.{prefix_len, AllByRecursion, slice_index}
@@ -112,3 +112,8 @@ cut_word game past bytes action behind n is begins none told =
       ap (take n) begins.text_is ∙ take_at (action_text game action) rest n (sym length_is),
       ap (drop n) begins.text_is ∙ drop_at (action_text game action) rest n (sym length_is),
     )
+
+-- the bytes of that word read as the action
+pub word_reads : (game : Game) (past : List Action) (bytes : List ℕ) (action : Action) (behind : List ℕ) (n : ℕ) (front : List ℕ) → IsGame game → BeginsWith game past bytes action behind → NoDigitFirst behind → n ≡ 1 + prefix_len is_ascii_digit (drop 1 bytes) → front ≡ take n bytes → IsActionText game (turns game past) front action
+word_reads game past bytes action behind n front is begins none told cut =
+    subst (λ word. IsActionText game (turns game past) word action) (sym (cut ∙ (cut_word game past bytes action behind n is begins none told).0)) (action_reads game (turns game past) action is begins.can)

@@ -7,8 +7,7 @@ use Rattle.betting.specs.Betting.{Betting, history}
 use Rattle.betting.specs.Rounds.{current_round, turns}
 use Rattle.betting.specs.Legal.{CanAct}
 use Rattle.betting.specs.Text.{action_text}
-use Rattle.matchstate.specs.ActionText.{IsActionText}
-use Rattle.matchstate.proofs.Words.{cut_word, action_reads, text_of_read}
+use Rattle.matchstate.proofs.Words.{cut_word, word_reads, text_of_read}
 use Rattle.matchstate.proofs.betting_field.read_turn.Goals as goal
 
 ok_after : (ok err : Bool) → ok ≡ not err → err ≡ false → ok ≡ true
@@ -31,10 +30,8 @@ pub returns-in_err-action-clause-only : goal.returns-in_err-action-clause-only
 returns-in_err-action-clause-only c =
     λ action behind begins none.
     let play = c.args.play.now in
-    let cut = cut_word play.game play.past c.args.bytes.now action behind c.word_len.result c.requires.limits begins none c.word_len.ensures.value in
-    let reads = action_reads play.game (turns play.game play.past) action c.requires.limits begins.can in
-    let front = c.split_at.ensures.front ∙ cut.0 in
-    let got = c.read_action.ensures.only action (subst (λ bytes. IsActionText play.game (turns play.game play.past) bytes action) (sym front) reads) in
+    let reads = word_reads play.game play.past c.args.bytes.now action behind c.word_len.result c.split_at.result.0.now c.requires.limits begins none c.word_len.ensures.value c.split_at.ensures.front in
+    let got = c.read_action.ensures.only action reads in
     let was = c.in_err-action.was in
     cc
 
@@ -42,10 +39,8 @@ pub returns-then-is_err-clause-only : goal.returns-then-is_err-clause-only
 returns-then-is_err-clause-only c =
     λ action behind begins none.
     let play = c.args.play.now in
-    let cut = cut_word play.game play.past c.args.bytes.now action behind c.word_len.result c.requires.limits begins none c.word_len.ensures.value in
-    let reads = action_reads play.game (turns play.game play.past) action c.requires.limits begins.can in
-    let front = c.split_at.ensures.front ∙ cut.0 in
-    let got = c.read_action.ensures.only action (subst (λ bytes. IsActionText play.game (turns play.game play.past) bytes action) (sym front) reads) in
+    let reads = word_reads play.game play.past c.args.bytes.now action behind c.word_len.result c.split_at.result.0.now c.requires.limits begins none c.word_len.ensures.value c.split_at.ensures.front in
+    let got = c.read_action.ensures.only action reads in
     let was = c.in_ok-action.was in
     let same : action ≡ c.in_ok-action.action = cc in
     let ok = c.act.ensures.allowed.1 (subst (CanAct play.game (turns play.game play.past)) same begins.can) in
@@ -81,9 +76,8 @@ returns-clause-only c =
     λ action behind begins none.
     let play = c.args.play.now in
     let cut = cut_word play.game play.past c.args.bytes.now action behind c.word_len.result c.requires.limits begins none c.word_len.ensures.value in
-    let reads = action_reads play.game (turns play.game play.past) action c.requires.limits begins.can in
-    let front = c.split_at.ensures.front ∙ cut.0 in
-    let got = c.read_action.ensures.only action (subst (λ bytes. IsActionText play.game (turns play.game play.past) bytes action) (sym front) reads) in
+    let reads = word_reads play.game play.past c.args.bytes.now action behind c.word_len.result c.split_at.result.0.now c.requires.limits begins none c.word_len.ensures.value c.split_at.ensures.front in
+    let got = c.read_action.ensures.only action reads in
     let was = c.in_ok-action.was in
     let same : c.in_ok-action.action ≡ action = cc in
     let ok = ok_after _ _ c.is_err.ensures.negation c.if-is_err.false in

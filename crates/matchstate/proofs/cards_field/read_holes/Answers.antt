@@ -1,4 +1,4 @@
-use Rattle.std.proofs.Common.{◌≡◌, ℕ, ◌+◌, ◌<◌, ◌≤◌, List, [], ◌∷◌, ◌++◌, cond, map, ap, sym, ◌∙◌, arith, length, take, drop, get_or, length-set}
+use Rattle.std.proofs.Common.{◌≡◌, ℕ, ◌+◌, ◌<◌, ◌≤◌, [], ◌∷◌, ◌++◌, cond, map, ap, sym, ◌∙◌, arith, length, take, drop, get_or, length-set}
 use Rattle.std.specs.List.{join_by}
 use Rattle.std.proofs.lemmas.List.{drop_all, take_all}
 use Rattle.std.proofs.lemmas.List.Prefix.{end_rest}
@@ -11,28 +11,17 @@ use Rattle.matchstate.proofs.cards_field.read_holes.Goals as goal
 pub returns-in_err-text-clause-only : goal.returns-in_err-text-clause-only
 returns-in_err-text-clause-only c =
     λ holes behind counts all is.
-    let p = c.loop-position.position in
-    let want : ℕ → ℕ = λ q. cond (seen_at c.args.sees.now q) 2 0 in
     let stands = c.loop-position.invariant.5 holes behind counts all (is ∙ ap (λ t. t ++ behind) (sym (joined_is holes))) in
-    let test : p < c.args.players = c.loop-position-test.true in
-    let players = count_of_holes want c.args.players holes counts in
-    let below : p < length holes = omega arith in
-    let next = hole_next p holes c.loop-position.rest.now behind below stands.0 in
-    let later = cards_text (get_or holes p []) ++ (joined (p + 1) (drop (p + 1) holes) ++ behind) in
-    absurd (missing _ c.in_err-text.was (c.after_separator.ensures.only later next))
+    let next = hole_next _ _ holes counts c.loop-position.position c.loop-position.rest.now behind c.loop-position-test.true stands.0 in
+    absurd (missing _ c.in_err-text.was (c.after_separator.ensures.only _ next))
 
 pub returns-in_err-hole-clause-only : goal.returns-in_err-hole-clause-only
 returns-in_err-hole-clause-only c =
     λ holes behind counts all is.
     let p = c.loop-position.position in
-    let want : ℕ → ℕ = λ q. cond (seen_at c.args.sees.now q) 2 0 in
     let stands = c.loop-position.invariant.5 holes behind counts all (is ∙ ap (λ t. t ++ behind) (sym (joined_is holes))) in
-    let test : p < c.args.players = c.loop-position-test.true in
-    let players = count_of_holes want c.args.players holes counts in
-    let below : p < length holes = omega arith in
-    let next = hole_next p holes c.loop-position.rest.now behind below stands.0 in
-    let text = c.in_ok-text.ensures.only (cards_text (get_or holes p []) ++ (joined (p + 1) (drop (p + 1) holes) ++ behind)) next in
-    let found = c.read_hole.ensures.only (get_or holes p []) (joined (p + 1) (drop (p + 1) holes) ++ behind) (count_of_hole want c.args.players holes counts p test) (All-hole (λ card. card < 52) holes p all) text in
+    let text = c.in_ok-text.ensures.only _ (hole_next _ _ holes counts p c.loop-position.rest.now behind c.loop-position-test.true stands.0) in
+    let found = c.read_hole.ensures.only (get_or holes p []) (joined (p + 1) (drop (p + 1) holes) ++ behind) (count_of_hole _ _ holes counts p c.loop-position-test.true) (All-hole (λ card. card < 52) holes p all) text in
     absurd (missing _ c.in_err-hole.was found)
 
 pub loop-position-preserved : goal.loop-position-preserved
@@ -58,8 +47,7 @@ loop-position-preserved c =
           let stands = inv.5 holes behind counts all is in
           let players = count_of_holes want c.args.players holes counts in
           let within : p < length holes = omega arith in
-          let next = hole_next p holes c.loop-position.rest.now behind within stands.0 in
-          let text = c.in_ok-text.ensures.only (cards_text (get_or holes p []) ++ (joined (p + 1) (drop (p + 1) holes) ++ behind)) next in
+          let text = c.in_ok-text.ensures.only _ (hole_next want c.args.players holes counts p c.loop-position.rest.now behind test stands.0) in
           let found = told.only (get_or holes p []) (joined (p + 1) (drop (p + 1) holes) ++ behind) (count_of_hole want c.args.players holes counts p test) (All-hole (λ card. card < 52) holes p all) text in
           (moved ∙ found.1, same_more kept p hole below holes within stands.1 found.0),
     )

@@ -25,10 +25,7 @@ returns-then-are_distinct-clause-seen c =
 pub returns-in_err-seen-clause-only : goal.returns-in_err-seen-clause-only
 returns-in_err-seen-clause-only c =
     λ holes boards seen is.
-    let play = c.args.play.now in
-    let positions = c.positions_in_sight-positions.result in
-    let told = expected (seen_at positions) (sees play.game play.past c.args.viewer) c.players-players.result play.game.players c.round.result (rounds_seen play.game play.past) holes boards
-    c.players-players.ensures.value c.round.ensures.value c.positions_in_sight-positions.ensures seen in
+    let told = expected holes boards c.players-players.ensures.value c.round.ensures.value c.positions_in_sight-positions.ensures seen in
     absurd (missing _ c.in_err-seen.was (c.read_seen.ensures.only holes boards told.0 is))
 
 pub returns-then-are_distinct-clause-found : goal.returns-then-are_distinct-clause-found
@@ -38,20 +35,14 @@ returns-then-are_distinct-clause-found c =
 pub returns-then-are_distinct-clause-only : goal.returns-then-are_distinct-clause-only
 returns-then-are_distinct-clause-only c =
     λ holes boards seen is.
-    let play = c.args.play.now in
-    let positions = c.positions_in_sight-positions.result in
-    let told = expected (seen_at positions) (sees play.game play.past c.args.viewer) c.players-players.result play.game.players c.round.result (rounds_seen play.game play.past) holes boards
-    c.players-players.ensures.value c.round.ensures.value c.positions_in_sight-positions.ensures seen in
+    let told = expected holes boards c.players-players.ensures.value c.round.ensures.value c.positions_in_sight-positions.ensures seen in
     let same = c.in_ok-seen.ensures.only holes boards told.0 is in
     (subst (λ n. holes_in n c.in_ok-seen.seen ≡ holes) c.players-players.ensures.value same.0, same.1)
 
 pub returns-else-are_distinct-clause-only : goal.returns-else-are_distinct-clause-only
 returns-else-are_distinct-clause-only c =
     λ holes boards seen is.
-    let play = c.args.play.now in
-    let positions = c.positions_in_sight-positions.result in
-    let told = expected (seen_at positions) (sees play.game play.past c.args.viewer) c.players-players.result play.game.players c.round.result (rounds_seen play.game play.past) holes boards
-    c.players-players.ensures.value c.round.ensures.value c.positions_in_sight-positions.ensures seen in
+    let told = expected holes boards c.players-players.ensures.value c.round.ensures.value c.positions_in_sight-positions.ensures seen in
     let same = c.in_ok-seen.ensures.only holes boards told.0 is in
     let cards = c.gather-cards.ensures.value ∙ ap (λ h. all_cards h (boards_in c.in_ok-seen.seen)) same.0 ∙ ap (λ b. all_cards holes b) same.1 in
     let passed : c.are_distinct.result ≡ true = c.are_distinct.ensures.distinct.1 (subst (IsDistinct nat_eq) (sym cards) told.1) in
