@@ -1,5 +1,5 @@
 -- How far a script of `play` was read and answered, byte by byte and line by line.
-use Rattle.std.proofs.Common.{◌≡◌, ◌≢◌, ℕ, List, [], ◌∷◌, ◌++◌, take, sym, ◌∙◌, ap, subst, refl, append_assoc}
+use Rattle.std.proofs.Common.{◌≡◌, ◌≢◌, ℕ, List, [], ◌∷◌, ◌++◌, sym, ◌∙◌, ap, subst, refl, append_assoc}
 use Rattle.std.specs.Prelude.{Option, Some, None}
 use Rattle.std.specs.Io.KnownBytes.{Appends, Consumes, IsAtEnd, Keeps}
 use Rattle.std.proofs.lemmas.List.{append-nil}
@@ -91,12 +91,12 @@ plays_here plan start now seen r reaches = record {
 }
 
 -- they are all of it at the script's end
-pub plays_all : (plan : Plan) (left here after start now : Option (List ℕ)) (seen piece : List ℕ) (count : ℕ) (r : Scripted) → Consumes left here seen → count ≡ 0
-    → Consumes here after (take count piece) → IsAtEnd after → Reaches plan start seen r now → AnswersPlay plan left after start now
-plays_all plan left here after start now seen piece count r read zero none at_end reaches = record {
+pub plays_all : (plan : Plan) (left here after start now : Option (List ℕ)) (seen piece : List ℕ) (r : Scripted) → Consumes left here seen
+    → Consumes here after piece → (piece ≡ []) × IsAtEnd after → Reaches plan start seen r now → AnswersPlay plan left after start now
+plays_all plan left here after start now seen piece r read last none reaches = record {
   bytes = seen;
-  read = subst (Consumes left after) (append-nil seen) (consume_twice left here after seen [] read (subst (λ (n : ℕ). Consumes here after (take n piece)) zero none));
-  at_end = at_end;
+  read = subst (Consumes left after) (append-nil seen) (consume_twice left here after seen [] read (subst (Consumes here after) none.0 last));
+  at_end = none.1;
   output = reaches.output;
   played = played_so_far plan start now seen r reaches;
   written = reaches.written;
@@ -127,6 +127,11 @@ play_byte_kept plan start now seen byte r after other same line reaches = record
   promised = subst (λ (p : Playing). IsPromised in_memory (scene_of p).cluster) (sym same) reaches.promised;
   written = reaches.written;
 }
+
+-- a line and its answer, by lines and texts that are the same
+pub answers_as : (before after : Scene) (line same text shown : List ℕ) → line ≡ same → shown ≡ text → Answers before line text after → Answers before same shown after
+answers_as before after line same text shown lines texts answers =
+    subst (λ (l : List ℕ). Answers before l shown after) lines (subst (λ (t : List ℕ). Answers before line t after) (sym texts) answers)
 
 -- a line feed whose answer is written
 pub play_line_answered : (plan : Plan) (start now then : Option (List ℕ)) (seen text : List ℕ) (r after : Scripted) → Answers (scene_of r.playing) r.line.items text (scene_of after.playing)

@@ -7,7 +7,7 @@ use dealer_kind::Config;
 use match_file::{MatchFault, MatchFile};
 use std::alloc::Global;
 use std::io::{Read, Write};
-use streamed::{Ending, MOST_READS, PIECE, Stop, read_piece};
+use streamed::{Ending, MOST_READS, Pieces, Stop};
 
 /// Runs all nodes of a match over a network in memory, driven by a script, which the reader gives in any pieces.
 ///
@@ -33,8 +33,7 @@ pub fn play_run<R: Read, W: Write>(
     match read_match(alloc, file, game) {
         Ok(config) => match play_match(alloc, config, MOST_READS, reader, writer) {
             Ok(()) => Ending::Done,
-            Err(Stop::OutOfMemory) => Ending::OutOfMemory,
-            Err(Stop::StreamFailed) => Ending::StreamFailed,
+            Err(stop) => Ending::from(stop),
         },
         Err(fault) => Ending::Match(fault),
     }
@@ -63,13 +62,9 @@ pub fn play_match<R: Read, W: Write>(
     ensures err { OnErr result (StopsPlay config (R.remaining reader.old) (R.remaining reader.new) (W.contents writer.old) (W.contents writer.new)) }
 {
     let mut scripted = Scripted::begin(alloc, config, writer)?;
-    let mut piece = [0u8; PIECE];
-    for _ in 0..most_reads {
-        match read_piece(reader, &mut piece)? {
-            Some(0) => return Ok(()),
-            Some(count) => scripted.take_piece(&piece[..count], writer)?,
-            None => {}
-        }
+    let mut pieces = Pieces::new(most_reads);
+    while pieces.read(reader)? {
+        scripted.take_piece(pieces.bytes(), writer)?;
     }
-    Err(Stop::StreamFailed)
+    Ok(())
 }
