@@ -5,7 +5,8 @@
 //! first the frames, numbered in order of sending, then lines of seats and log lines in their order, then faults. A line
 //! that says nothing, or names what there isn't, is answered by `E 110 BadScript`. `flush` delivers the frame of least
 //! number that was never delivered, as often as it says and while there is one. The test `answers_a_script_of_nodes`,
-//! in a crate above, gives it a script.
+//! in a crate above, gives it a script. Who drives a cluster in another way prints by `put_piece`, `put_pieces` and
+//! `put_seat_faults` what readers get and what is wrong with what seats sent.
 //!
 //! An `AllocError` is the only fault: memory was refused. Then `Playing` may have taken an event whose text was not given
 //! out, so a run of a script ends there. The promise of a cluster holds of it all the same.
@@ -16,3 +17,4 @@ mod playing;
 mod showing;
 
 pub use playing::Playing;
+pub use showing::{put_piece, put_pieces, put_seat_faults};

@@ -44,7 +44,7 @@ fn put_log_text(out: &mut Vec<u8>, node: usize, text: &[u8]) -> Result<(), Alloc
 }
 
 /// Prints what a reader gets.
-pub(crate) fn put_piece(
+pub fn put_piece(
     out: &mut Vec<u8>,
     node: usize,
     reader: Reader,
@@ -59,7 +59,11 @@ pub(crate) fn put_piece(
 }
 
 /// Prints what readers get, in order.
-fn put_pieces(out: &mut Vec<u8>, node: usize, shown: Reading<'_, Reader>) -> Result<(), AllocError>
+pub fn put_pieces(
+    out: &mut Vec<u8>,
+    node: usize,
+    shown: Reading<'_, Reader>,
+) -> Result<(), AllocError>
     ensures { OnOk result (out.new.items ≡ out.old.items ++ flat_map (piece_text node) shown.entry) }
 {
     for (reader, text) in shown {
@@ -69,7 +73,11 @@ fn put_pieces(out: &mut Vec<u8>, node: usize, shown: Reading<'_, Reader>) -> Res
 }
 
 /// Prints what is wrong with what seats sent.
-fn put_seat_faults(out: &mut Vec<u8>, node: usize, faults: &[SeatFault]) -> Result<(), AllocError>
+pub fn put_seat_faults(
+    out: &mut Vec<u8>,
+    node: usize,
+    faults: &[SeatFault],
+) -> Result<(), AllocError>
     ensures { OnOk result (out.new.items ≡ out.old.items ++ flat_map (seat_fault_text node) faults.now) }
 {
     for told in faults {

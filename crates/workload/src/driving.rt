@@ -13,10 +13,11 @@ ghost use Rattle.std.specs.Prelude.{◌≡◌, ◌<◌, IsTrue};
 ghost use Rattle.dealer_world.specs.Stepping.{IsFor};
 
 use crate::frames::from_hexadecimal;
-use crate::telling::{put_event, put_frames_from, put_piece};
+use crate::telling::{put_event, put_frames_from};
 use dealer_node::NodeFault;
 use dealer_world::{Cluster, Event};
 use play_script::{Bounds, Order, put_fault, read};
+use playing::put_piece;
 use promise_store::Disk;
 use std::alloc::{AllocError, Global};
 use std::io;
@@ -51,7 +52,7 @@ fn put_record<D: Disk + Drop>(out: &mut Vec<u8>, cluster: &Cluster<D>) -> Result
     put_frames_from(out, cluster, 0)?;
     for number in 0..cluster.piece_count() {
         if let Some(piece) = cluster.piece(number) {
-            put_piece(out, piece.node, piece.reader, piece.text)?;
+            put_piece(out, usize::from(piece.node), piece.reader, piece.text)?;
         }
     }
     Ok(())
