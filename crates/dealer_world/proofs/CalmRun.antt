@@ -29,10 +29,12 @@ use Rattle.dealer_world.specs.Views.{placed_at, grown}
 use Rattle.dealer_world.specs.Runs.{AreWritten, arrived_at, Keeps}
 use Rattle.dealer_world.specs.RuleRuns.{State, plan_of}
 use Rattle.dealer_world.specs.CalmRun.{standing_at, IsUntroubled, TakesEvent, TakesEvents, IsNextTaken, RoundsMoveOn}
+use Rattle.dealer_world.specs.Given.{Given}
+use Rattle.node_rules.proofs.Results.{ok_is, ok_not}
 use Rattle.protocol_model.proofs.Sets.{in_first, in_later, in_split}
 use Rattle.node_rules.proofs.Members.{above_all}
 use Rattle.dealer_world.proofs.Saying.{placed_after}
-use Rattle.dealer_world.proofs.Keeping.{Laws, Kept, own_of, IsNode, is_place, each_here, run_keeps}
+use Rattle.dealer_world.proofs.Keeping.{Kept, own_of, IsNode, is_place, each_here, run_keeps}
 
 -- ---- frames with their bytes
 
@@ -134,12 +136,6 @@ changed plan old new node after low e = λ j k. at_node k j
     at_node : (k : ℕ) → put (standing_at plan old) node after k ≡ standing_at plan new k
     at_node k = by_node k (eqb_tells k node) ∙ ap (λ (l : List Standing). get_or l k (stopped (place_of plan k) empty_store empty_store)) (sym e)
 
-not_ok : (r : Refusal) (t : Turn) → ◌≡◌ {A = Result Turn Refusal} (Err r) (Ok t) → ⊥
-not_ok r t e = cc
-
-ok_is : (t u : Turn) → ◌≡◌ {A = Result Turn Refusal} (Ok t) (Ok u) → t ≡ u
-ok_is t u e = cc
-
 -- ---- all events
 
 -- where the round has come to
@@ -169,7 +165,7 @@ further plan IsSo event events st sent old new on (way, goes) t =
     (subst (λ (b : Standing). IsTurn (place_of plan s.node) b (call_of event) outcome) here
     (subst (λ (c : Call). IsTurn (place_of plan s.node) s.before c outcome) t.called is))) in
     let never : (refusal : Refusal) → IsTurn (place_of plan s.node) s.before s.called (Err refusal) → ⊥ =
-    (λ refusal is. let g = goes (Err refusal) (rule (Err refusal) is) in not_ok refusal g.0 g.1) in
+    (λ refusal is. let g = goes (Err refusal) (rule (Err refusal) is) in ok_not g.0 refusal (sym g.1)) in
     let r = turned (place_of plan s.node) s.before s.called s.after s.ruled.frames s.ruled.shown s.ruled.ends s.arrived s.made.began never t.untroubled s.ruled.keeps in
     let g = goes (Ok r.turn) (rule (Ok r.turn) r.rule) in
     let same : r.turn ≡ g.0 = ok_is r.turn g.0 g.1 in
@@ -222,7 +218,7 @@ walk plan IsSo (event ∷ first) rest st sent old new on go (between, one, more)
 
 -- ---- the law
 
-members_of : (laws : Laws) (setting : Setting) (n : ℕ) (before : List Era) (sources : List Source) (old : State) (members : List ℕ) → (was : Kept setting n before sources old) → IsUnforged old.now.sent old.now.delivered
+members_of : (laws : Given) (setting : Setting) (n : ℕ) (before : List Era) (sources : List Source) (old : State) (members : List ℕ) → (was : Kept setting n before sources old) → IsUnforged old.now.sent old.now.delivered
     → ((k : ℕ) → In k members → k < length sources) → (world : World) × AreOf (own_of setting sources before) setting (length sources) (λ k. deals_from setting.game.players (slice_get sources k)) world (standing_at (plan_of setting sources) old) members
 members_of laws setting n before sources old members was unforged low =
     let b = was.behind unforged in
@@ -236,7 +232,7 @@ members_of laws setting n before sources old members was unforged low =
       },
     )
 
-pub rounds_move_on : Laws → CalmRoundMoves → RoundsMoveOn
+pub rounds_move_on : Given → CalmRoundMoves → RoundsMoveOn
 rounds_move_on laws calm_moves setting n before sources old new i members command first rest run unforged calm e takes =
     let was = run_keeps laws setting n before sources old run in
     let plan : Plan = plan_of setting sources in

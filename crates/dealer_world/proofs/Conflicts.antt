@@ -22,13 +22,14 @@ use Rattle.dealer_world.specs.Calls.{IsSound}
 use Rattle.dealer_world.specs.Views.{placed_at}
 use Rattle.dealer_world.specs.Runs.{IsSeated, arrived_by, arrived_at}
 use Rattle.dealer_world.specs.RuleRuns.{State, plan_of, RunsTo, IsAddressed, RunsSendToNodes, RunsNeverConflict}
+use Rattle.dealer_world.specs.Given.{Given}
 use Rattle.dealer_world.proofs.Heard.{IsAt}
 use Rattle.dealer_world.proofs.Saying.{unforged_before, came_was_sent}
 use Rattle.dealer_world.proofs.Extends.{frame_at, sound_of}
 use Rattle.dealer_world.proofs.Ruling.{comes_up}
-use Rattle.dealer_world.proofs.Keeping.{Laws, own_of, IsNode, is_place, arrived_here, each_here, run_keeps}
+use Rattle.dealer_world.proofs.Keeping.{own_of, IsNode, is_place, arrived_here, each_here, run_keeps}
 
-pub runs_send_to_nodes : Laws → RunsSendToNodes
+pub runs_send_to_nodes : Given → RunsSendToNodes
 runs_send_to_nodes laws setting n before sources state run unforged frame sent =
     let kept = run_keeps laws setting n before sources state run in
     let own = (kept.behind unforged).own frame sent in
@@ -39,7 +40,7 @@ abbrev pub ConflictsNever : Type 0
 ConflictsNever = (own : ℕ → Command → Bool) (place : Place) (world : World) (s : Standing) (called : Call) (store : Store)
     → Stands own place world s → Comes place world.ever called → IsTurn place s called (Err (Conflict store)) → ⊥
 
-no_conflict : (laws : Laws) → ConflictsNever → (setting : Setting) (n : ℕ) (before : List Era) (sources : List Source) (state : State) (node : ℕ) (s : Standing) (called : Call) (store : Store)
+no_conflict : (laws : Given) → ConflictsNever → (setting : Setting) (n : ℕ) (before : List Era) (sources : List Source) (state : State) (node : ℕ) (s : Standing) (called : Call) (store : Store)
     → RunsTo setting n before sources state → node < length state.standings → get_or state.standings node s ≡ s → s.up ≡ true → IsSeated setting.game.players called
     → IsUnforged state.now.sent (state.now.delivered ++ map (placed_at (length state.now.sent)) (arrived_by node called))
     → IsTurn (place_of (plan_of setting sources) node) s called (Err (Conflict store)) → ⊥
@@ -89,7 +90,7 @@ other_down place s (Connect seat) store is = cc
 other_down place s (Drop seat) store is = cc
 other_down place s Stop store is = cc
 
-pub runs_never_conflict : Laws → RefusalsHaveReasons → RunsNeverConflict
+pub runs_never_conflict : Given → RefusalsHaveReasons → RunsNeverConflict
 runs_never_conflict laws law setting n before sources state node s called store run less at seated unforged turn = by_up s.up refl
   where
     by_up : (up : Bool) → s.up ≡ up → ⊥

@@ -1,14 +1,13 @@
 -- A call keeps the world behind a record.
 use Rattle.std.proofs.Common.{◌≡◌, ◌≢◌, ℕ, zero, suc, ◌+◌, ◌-◌, ◌<◌, ◌≤◌, inl, inr, Bool, true, false, cond, Some, List, [], ◌∷◌, ◌++◌, map, reverse, length, get_or, set, refl, ap, sym, ◌∙◌, subst, append_assoc, arith, length-set}
-use Rattle.std.proofs.lemmas.Bool.{cases_eq}
+use Rattle.std.proofs.lemmas.Bool.{cases_eq, false≢true}
 use Rattle.std.proofs.Math.Logic.{∥∥₁_map}
 use Rattle.protocol_model.specs.Sets.{In}
 use Rattle.protocol_model.specs.Messages.{Message, Accept, Accepted}
 use Rattle.protocol_model.specs.Arrivals as model
 use Rattle.protocol_model.specs.Nodes.{Node as WorldNode}
 use Rattle.protocol_model.specs.Dealers.{Dealer}
-use Rattle.protocol_model.specs.Moves.{Output, Chain}
-use Rattle.protocol_model.specs.Worlds.{World, Run, Reached, IsAfter, new_world}
+use Rattle.protocol_model.specs.Worlds.{World, Reached, IsAfter, new_world}
 use Rattle.dealer_world.specs.Records.{Record, Frame, Arrived, Delivered, Came, Connected, Dropped, Arrival, Start, log_in, log_of, start_count, last_start, said}
 use Rattle.dealer_world.specs.Unforged.{IsUnforged, ArePlaced}
 use Rattle.dealer_world.specs.Hearing.{heard_by}
@@ -16,6 +15,7 @@ use Rattle.dealer_world.specs.Headline.{Era, said_in}
 use Rattle.dealer_world.specs.Calls.{Made, Called, Calls, IsSound, IsOwn, frames_in, log_after, AreTold}
 use Rattle.dealer_world.specs.Views.{placed_at, starts_after, grown}
 use Rattle.dealer_world.specs.Behind.{Behind, EachNode, AreHeard, ArePieces, IsHeardNow}
+use Rattle.dealer_world.specs.Given.{Reaches}
 use Rattle.protocol_model.proofs.Sets.{in_first, in_later, in_split}
 use Rattle.dealer_world.proofs.Saying.{said_append, in_said, unforged_before, came_was_sent}
 use Rattle.dealer_world.proofs.Pieces.{newest_first, log_own, log_other, log_before_it, pieces_more, begun_after, headers_after, count_own, count_after_other}
@@ -46,12 +46,6 @@ each_set IsSo WillBe k (suc i) (node ∷ nodes) new others is (was, each) =
       others k node (λ same. omega arith) was,
       each_set IsSo WillBe (k + 1) i nodes new (λ j other ne. others j other (λ same. ne (same ∙ e))) (subst (λ j. WillBe j new) e is) each,
     )
-
--- the law on chains
-abbrev pub Reaches : Type 0
-Reaches = (dealer : Dealer) (n i : ℕ) (first world : World) (out : Output) (node : WorldNode)
-    → Run dealer n first world → i < n → Chain dealer n i world.ever (world.nodes i) out node
-    → (later : World) × Run dealer n first later × IsAfter world i out node later
 
 pub frame_at : (i : ℕ) (arrived : List Arrived) (frame : Frame) → ((what : Arrived) → In what arrived → IsAt i what) → In frame (frames_in arrived) → frame.to ≡ i
 frame_at i [] frame at there = elim there [ ]
@@ -145,7 +139,7 @@ hears_later IsOf dealer n i world later log arrived made new delivered count bef
               | inr there ↦ inr there
             ]);
         now = λ j seat bytes less up is. elim (cases_eq j i) [
-          | inl same ↦ absurd (clash (sym down ∙ (sym (ap (λ (node : WorldNode). node.up) after.moved) ∙ subst (λ k. (later.nodes k).up ≡ true) same up)))
+          | inl same ↦ absurd (false≢true (sym down ∙ (sym (ap (λ (node : WorldNode). node.up) after.moved) ∙ subst (λ k. (later.nodes k).up ≡ true) same up)))
           | inr other ↦
               others_at i j seat count arrived delivered at other
               ∙ now j seat bytes less (sym (ap (λ (node : WorldNode). node.up) (after.others j other)) ∙ up)
@@ -153,9 +147,6 @@ hears_later IsOf dealer n i world later log arrived made new delivered count bef
         ];
       }
 ]
-  where
-    clash : false ≡ true → ⊥
-    clash e = cc
 
 pub extends : {Node : Type 0} (IsOf : ℕ → Node → WorldNode → List ℕ → Type 0) (dealer : Dealer) (i : ℕ) (nodes : List Node) (old new : Node) (arrived : List Arrived) (made : Made)
     (now : Record) (before : List Era)

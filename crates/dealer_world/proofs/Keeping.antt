@@ -1,7 +1,7 @@
 -- In every run of the rules one list is behind the records of all eras.
 use Rattle.std.proofs.Common.{◌≡◌, ◌≢◌, ℕ, suc, ◌+◌, ◌<◌, ◌≤◌, inl, inr, Bool, true, false, Option, Some, None, List, [], ◌∷◌, map, length, get_or, set, refl, ap, sym, ◌∙◌, subst, arith, length-set}
 use Rattle.std.specs.Prelude.{slice_get, bytes_eq}
-use Rattle.std.proofs.lemmas.Bool.{cases_eq}
+use Rattle.std.proofs.lemmas.Bool.{cases_eq, false≢true}
 use Rattle.std.proofs.lemmas.List.{get_or_default}
 use Rattle.std.proofs.lemmas.Slice.Eq.{bytes_eq-Decides}
 use Rattle.slot_log.specs.declared.command.Command.{Command}
@@ -38,17 +38,15 @@ use Rattle.dealer_world.specs.Views.{grown, placed_at}
 use Rattle.dealer_world.specs.Behind.{Behind, EachNode}
 use Rattle.dealer_world.specs.Openings.{BehindEras, LeftInside}
 use Rattle.dealer_world.specs.Runs.{Ruled, Keeps, IsSeated, arrived_at, arrived_by, IsOfRule}
+use Rattle.dealer_world.specs.Given.{Reaches, Given}
 use Rattle.dealer_world.specs.RuleRuns.{State, IsCreated, EndsAs, at_rest, in_a_call, AreReopened, plan_of, RunsTo, fresh, step, opened, RunsShowOneList, IsBacked, RunsAreBacked}
 use Rattle.protocol_model.proofs.Sets.{in_later}
 use Rattle.dealer_world.proofs.Saying.{in_said, unforged_before, placed_after, came_was_sent}
 use Rattle.dealer_world.proofs.Heard.{IsAt}
-use Rattle.dealer_world.proofs.Extends.{Reaches, extends, each_at, frame_at, sound_of}
-use Rattle.dealer_world.proofs.Opening.{era_of, begins, no_eras, no_eras_world, behind_eras, broken_off, MayLeave, all_rest, MayWiden, widened}
+use Rattle.dealer_world.proofs.Extends.{extends, each_at, frame_at, sound_of}
+use Rattle.dealer_world.proofs.Opening.{era_of, begins, no_eras, no_eras_world, behind_eras, broken_off, MayLeave, all_rest, widened}
 use Rattle.dealer_world.proofs.OneList.{IsOneDealer, ChosenAreDealtOrSaid, one_list_of}
 use Rattle.dealer_world.proofs.Ruling.{called_by_rule, comes_up, events_left}
-
-never : false ≡ true → ⊥
-never e = cc
 
 -- ---- whose deals are whose
 
@@ -125,7 +123,7 @@ calls_by_rule setting sources before n i s called arrived made new law refused_d
 
 new_is : (setting : Setting) (sources : List Source) (i : ℕ) (s : Standing) → IsCreated (plan_of setting sources) i s → IsNode setting sources [] i s new_node []
 new_is setting sources i s is = subst (λ (k : Standing). IsNode setting sources [] i k new_node []) (sym is)
-    (record { of = record { up = refl; store = refl; begun = refl; runs = λ up. absurd (never up) }; logs = λ up. absurd (never up) })
+    (record { of = record { up = refl; store = refl; begun = refl; runs = λ up. absurd (false≢true up) }; logs = λ up. absurd (false≢true up) })
 
 each_new : (setting : Setting) (sources : List Source) (i : ℕ) (standings : List Standing) → EachNode (IsCreated (plan_of setting sources)) i standings
     → EachNode (λ k s. IsNode setting sources [] k s new_node []) i standings
@@ -159,7 +157,7 @@ same_count plan begun i (s ∷ before) (t ∷ more) (is, are) = ap suc (same_cou
 reopened_is : (setting : Setting) (others : List Source) (eras : List Era) (i : ℕ) (s t : Standing) (begun : Store) (there : WorldNode)
     → t ≡ stopped (place_of (plan_of setting others) i) s.store begun → there.up ≡ false → there.store ≡ s.store → there.begun ≡ begun → IsNode setting others eras i t there []
 reopened_is setting others eras i s t begun there is down store begun_is = subst (λ (k : Standing). IsNode setting others eras i k there []) (sym is)
-    (record { of = record { up = down; store = store; begun = begun_is; runs = λ up. absurd (never up) }; logs = λ up. absurd (never up) })
+    (record { of = record { up = down; store = store; begun = begun_is; runs = λ up. absurd (false≢true up) }; logs = λ up. absurd (false≢true up) })
 
 each_reopened : (setting : Setting) (others : List Source) (eras : List Era) (begun : ℕ → Store) (world : World) (n k : ℕ) (old new : List Standing)
     → AreReopened (plan_of setting others) begun k old new → HaveStores world k old → k + length old ≤ n
@@ -182,7 +180,7 @@ leaves_at_rest setting sources before i s there log begun of is = by_up s.up ref
     by_up : (up : Bool) → s.up ≡ up → MayLeave i there begun
     by_up true up = record {
       left = inl (of.of.up ∙ up, unchanged_append begun (is ∙ ((of.of.runs up).unbegun ∙ sym of.of.store)));
-      same = λ down. absurd (never (sym down ∙ (of.of.up ∙ up)));
+      same = λ down. absurd (false≢true (sym down ∙ (of.of.up ∙ up)));
     }
     by_up false down = record {
       left = inr (of.of.up ∙ down, inr (is ∙ sym of.of.begun));
@@ -259,7 +257,7 @@ ended_in_a_call setting sources before old begun node s called outcome reach app
     (λ i below. elim (cases_eq i node) [
       | inl is ↦ subst (λ j. MayLeave j (bo.behind.world.nodes j) (begun j)) (sym is)
           (subst (λ there. MayLeave node there (begun node)) (sym bo.moved)
-          (record { left = inside.left; same = λ down. absurd (never (sym down ∙ begins.up)) }))
+          (record { left = inside.left; same = λ down. absurd (false≢true (sym down ∙ begins.up)) }))
       | inr other ↦ subst (λ there. MayLeave i there (begun i)) (sym (bo.others i other))
           (leaves_at_rest setting sources before i (get_or old.standings i d) (b.world.nodes i) (log_of old.now.shown i (last_start old.now.starts i)) (begun i) (each_here IsSo i old.standings d below b.are_of) (each_here IsBegun i old.standings d below others other))
     ])
@@ -279,24 +277,13 @@ pub record Kept (setting : Setting) (n : ℕ) (before : List Era) (sources : Lis
   pub deals : OwnsDeals (own_of setting sources before)
   pub behind : IsUnforged state.now.sent state.now.delivered → BehindRules setting sources before state
 
--- the laws that this stands on
-pub record Laws : Type 0 where
-  pub reach : Reaches
-  pub calls : CallsAreSound
-  pub refused_down : LinesAreRefusedDown
-  pub appends : AppendsAreBegun
-  pub widen : MayWiden
-  pub source_deals : (players : ℕ) (sources : List Source) → OwnsDeals (owns players sources)
-  pub both_deal : (own other : ℕ → Command → Bool) → OwnsDeals own → OwnsDeals other → OwnsDeals (either own other)
-  pub second : (setting : Setting) (own other : ℕ → Command → Bool) → OwnsMore (dealer_of setting other) (either own other)
-
 none_own : OwnsDeals (λ node command. false)
-none_own node command owned = absurd (never owned)
+none_own node command owned = absurd (false≢true owned)
 
 era_is : (latest : Era) (sources : List Source) (all : Record) → latest.sources ≡ sources → latest.record_of ≡ all → era_of sources all ≡ latest
 era_is latest sources all same is = ap (λ (ss : List Source). era_of ss all) (sym same) ∙ ap (λ (r : Record). era_of latest.sources r) (sym is)
 
-ended_as : (laws : Laws) (setting : Setting) (n : ℕ) (before : List Era) (sources : List Source) (old : State) (latest : Era) (begun : ℕ → Store) → Kept setting n before sources old
+ended_as : (laws : Given) (setting : Setting) (n : ℕ) (before : List Era) (sources : List Source) (old : State) (latest : Era) (begun : ℕ → Store) → Kept setting n before sources old
     → EndsAs (plan_of setting sources) old latest.record_of begun → latest.sources ≡ sources → IsUnforged latest.record_of.sent latest.record_of.delivered
     → Ended setting sources before old (latest ∷ before) begun
 ended_as laws setting n before sources old latest begun was (at_rest all each) same unforged =
@@ -315,7 +302,7 @@ begun_behind setting others eras dealer m standings size be down each =
     (subst (λ k. (be : BehindEras dealer k eras) → ((i : ℕ) → i < k → (be.world.nodes i).up ≡ false) → EachNode (λ i t. IsNode setting others eras i t (be.world.nodes i) []) 0 standings
     → Behind (IsNode setting others eras) dealer standings no_record eras) size (begins (IsNode setting others eras) dealer standings eras)) be down each
 
-opened_behind : (laws : Laws) (setting : Setting) (before : List Era) (sources : List Source) (old : State) (latest : Era) (begun : ℕ → Store) (others : List Source) (state : State)
+opened_behind : (laws : Given) (setting : Setting) (before : List Era) (sources : List Source) (old : State) (latest : Era) (begun : ℕ → Store) (others : List Source) (state : State)
     → latest.sources ≡ sources → Ended setting sources before old (latest ∷ before) begun → AreReopened (plan_of setting others) begun 0 old.standings state.standings → state.now ≡ no_record
     → BehindRules setting others (latest ∷ before) state
 opened_behind laws setting before sources old latest begun others state same ended are empty =
@@ -335,7 +322,7 @@ opened_behind laws setting before sources old latest begun others state same end
     (subst (λ (w : World). (i : ℕ) → i < length old.standings → (w.nodes i).up ≡ false) (sym same_world) ended.down)
     (subst (λ (w : World). EachNode (λ i t. IsNode setting others (latest ∷ before) i t (w.nodes i) []) 0 state.standings) (sym same_world) each))
 
-pub run_keeps : (laws : Laws) (setting : Setting) (n : ℕ) (before : List Era) (sources : List Source) (state : State) → RunsTo setting n before sources state → Kept setting n before sources state
+pub run_keeps : (laws : Given) (setting : Setting) (n : ℕ) (before : List Era) (sources : List Source) (state : State) → RunsTo setting n before sources state → Kept setting n before sources state
 run_keeps laws setting n _ _ _ (fresh sources state plan are is) = record {
   plan = plan;
   sources_are = are;
@@ -381,7 +368,7 @@ run_keeps laws setting n _ _ _ (opened before sources old latest begun others st
       behind = λ now_unforged. opened_behind laws setting before sources old latest begun others state same (ended_as laws setting n before sources old latest begun was ends same unforged) reopened empty;
     }
 
-pub runs_show_one_list : Laws → IsOneDealer → ChosenAreDealtOrSaid → RunsShowOneList
+pub runs_show_one_list : Given → IsOneDealer → ChosenAreDealtOrSaid → RunsShowOneList
 runs_show_one_list laws one_dealer dealt setting n before sources state run unforged =
     let was = run_keeps laws setting n before sources state run in
     subst (λ m. OneList (dealer_in setting (era_of sources state.now ∷ before)) m (era_of sources state.now ∷ before)) was.count
@@ -438,7 +425,7 @@ backed_at setting sources before state law b i s log of frame message sent from 
     by_up false down ever own too =
         law (dealer_of setting (own_of setting sources before)) (length state.standings) i b.world s.store message b.reached (inr (of.of.up ∙ down, inl (sym of.of.store))) ever own too
 
-pub runs_are_backed : Laws → StoresBack → RunsAreBacked
+pub runs_are_backed : Given → StoresBack → RunsAreBacked
 runs_are_backed laws back setting n before sources state run unforged =
     let was = run_keeps laws setting n before sources state run in
     let b = was.behind unforged in

@@ -1,7 +1,7 @@
 -- The headline, read off the world behind the records.
 use Rattle.std.proofs.Common.{◌≡◌, ℕ, ◌+◌, ◌-◌, ◌≤◌, inl, inr, ◌==◌, ◌&&◌, Bool, true, false, cond, Some, List, [], ◌∷◌, ◌++◌, map, reverse, length, refl, ap, sym, ◌∙◌, subst, eq-eqb, eqb-true, arith}
 use Rattle.std.proofs.lemmas.List.{append-nil}
-use Rattle.std.proofs.lemmas.Bool.{and_from, and_parts}
+use Rattle.std.proofs.lemmas.Bool.{and_from, and_parts, false≢true}
 use Rattle.paxos_wire.specs.declared.ballot.Ballot.{Ballot}
 use Rattle.slot_log.specs.declared.command.Command.{Command}
 use Rattle.slot_log.specs.declared.command.Command.TheVariants.{Deal, Act}
@@ -121,11 +121,8 @@ last_by base shown more piece before node start header is there headed later Log
 last_by base shown more piece before node start header is (inr there) headed later Log reader false test =
     last_later shown more (log_in before node start) (logged_by Log piece node start) (ap (λ b. cond b piece.text []) test) (later there)
 last_by base shown more piece before node start header is (inl same) headed later Log reader false test =
-    absurd (never (sym test ∙ and_from (piece.node == node) (piece.start == start)
+    absurd (false≢true (sym test ∙ and_from (piece.node == node) (piece.start == start)
     (eq-eqb piece.node node (sym (ap (λ (p : Piece). p.node) same) ∙ headed.1)) (eq-eqb piece.start start (sym (ap (λ (p : Piece). p.start) same) ∙ headed.2))))
-  where
-    never : false ≡ true → ⊥
-    never e = cc
 
 last_log : (base : ℕ → ℕ) (latest : List Shown) (pieces : List Piece) (node start : ℕ) (header : Piece) → ArePieces base latest pieces
     → In header pieces → IsHeader node start header → HasLast latest (log_in pieces node start)

@@ -1,7 +1,7 @@
 -- How a cluster begins, and how it goes on from an earlier one.
 use Rattle.std.proofs.Common.{◌≡◌, ◌≢◌, ℕ, zero, suc, ◌<◌, ◌≤◌, inl, inr, Bool, true, false, Some, List, [], ◌∷◌, ◌++◌, map, reverse, length, refl, ap, sym, ◌∙◌, subst, arith}
 use Rattle.std.proofs.lemmas.List.{append-nil}
-use Rattle.std.proofs.lemmas.Bool.{cases_eq}
+use Rattle.std.proofs.lemmas.Bool.{cases_eq, false≢true}
 use Rattle.slot_log.specs.declared.command.Command.{Command}
 use Rattle.protocol_model.specs.Sets.{In, IsBeginning}
 use Rattle.protocol_model.specs.Messages.{Accepted}
@@ -10,7 +10,7 @@ use Rattle.protocol_model.specs.Stores.{Store}
 use Rattle.protocol_model.specs.Nodes.{Node as WorldNode}
 use Rattle.protocol_model.specs.Dealers.{Dealer}
 use Rattle.protocol_model.specs.Moves
-use Rattle.protocol_model.specs.Moves.{Output, Chain, nothing}
+use Rattle.protocol_model.specs.Moves.{Chain, nothing}
 use Rattle.protocol_model.specs.Worlds.{World, Run, Reached, IsAfter, new_world, start}
 use Rattle.protocol_model.specs.Laws.{IsLeft, OwnsMore, with_own}
 use Rattle.dealer_kind.specs.declared.source.Source.{Source}
@@ -21,7 +21,7 @@ use Rattle.dealer_world.specs.Views.{placed_at, grown}
 use Rattle.dealer_world.specs.Behind.{Behind, EachNode, AreEras, ArePieces, no_era, one_more, AreHeard}
 use Rattle.dealer_world.specs.Openings.{BehindEras, LeftInside}
 use Rattle.protocol_model.proofs.Sets.{in_later, in_split}
-use Rattle.dealer_world.proofs.Extends.{Reaches}
+use Rattle.dealer_world.specs.Given.{Reaches, MayWiden}
 use Rattle.dealer_world.proofs.Heard.{IsAt, hears, was_heard_on}
 
 -- ---- the end of an era
@@ -229,15 +229,12 @@ begins IsOf dealer nodes before b down of = record {
   pieces = tt;
   eras = b.shown;
   starts = λ i less. omega arith;
-  started = λ i less up. absurd (clash (sym (down i less) ∙ up));
+  started = λ i less up. absurd (false≢true (sym (down i less) ∙ up));
   begun = λ piece h. elim h [ ];
   headers = λ begun h. elim h [ ];
   heard = λ earlier node seat bytes beginning is. inr (b.heard earlier node seat bytes beginning is);
-  heard_now = λ i seat bytes less up is. absurd (clash (sym (down i less) ∙ up));
+  heard_now = λ i seat bytes less up is. absurd (false≢true (sym (down i less) ∙ up));
 }
-  where
-    clash : false ≡ true → ⊥
-    clash e = cc
 
 -- before any era there is the new world
 pub no_eras : (dealer : Dealer) (n : ℕ) → BehindEras dealer n []
@@ -258,10 +255,6 @@ no_eras dealer n = record {
 pub no_eras_world : (dealer : Dealer) (n : ℕ) → (no_eras dealer n).world ≡ new_world
 unfolding no_eras
 no_eras_world dealer n = refl
-
--- where more deals count as a node's own, it stays
-abbrev pub MayWiden : Type 0
-MayWiden = (dealer : Dealer) (own : ℕ → Command → Bool) (n : ℕ) (first last : World) → OwnsMore dealer own → Run dealer n first last → Run (with_own dealer own) n first last
 
 pub widened : (dealer : Dealer) (own : ℕ → Command → Bool) (n : ℕ) (eras : List Era) → MayWiden → OwnsMore dealer own
     → (b : BehindEras dealer n eras) → (wide : BehindEras (with_own dealer own) n eras) × (wide.world ≡ b.world)

@@ -1,5 +1,5 @@
 -- A call by the rules is a call of the world.
-use Rattle.std.proofs.Common.{◌≡◌, ◌≢◌, ℕ, suc, ◌+◌, ◌<◌, ◌⊎◌, inl, inr, Bool, true, false, cond, List, [], ◌∷◌, ◌++◌, map, reverse, Ok, Err, refl, ap, sym, ◌∙◌, subst, arith}
+use Rattle.std.proofs.Common.{◌≡◌, ◌≢◌, ℕ, suc, ◌+◌, ◌<◌, ◌⊎◌, inl, inr, Bool, true, false, true≢false, cond, List, [], ◌∷◌, ◌++◌, map, reverse, Ok, Err, refl, ap, sym, ◌∙◌, subst, arith}
 use Rattle.std.specs.Prelude.{Result}
 use Rattle.std.proofs.lemmas.List.{reverse-reverse, reverse-append, append-nil}
 use Rattle.paxos_wire.specs.declared.message.Message.{Message as Content}
@@ -31,6 +31,7 @@ use Rattle.node_rules.specs.Sound.{Stands, CallsAreSound, LinesAreRefusedDown}
 use Rattle.dealer_world.specs.Records.{Frame, Arrived, said, said_by, messages_of}
 use Rattle.dealer_world.specs.Calls.{Made, nothing_made, AreTold, added_by, log_after, read_by, BringsAll, frames_in, log_before, IsSound, HasHeader, Called}
 use Rattle.dealer_world.specs.Runs.{AreWritten, text_by_rule, arrived_by, arrived_at, begins_by, Keeps, IsSeated, Ruled, IsOfRule}
+use Rattle.node_rules.proofs.Results.{ok_is, err_is, ok_not}
 use Rattle.protocol_model.proofs.Sets.{in_first, in_later, in_split}
 use Rattle.slot_log.proofs.Hands.{reverse-cons}
 use Rattle.dealer_world.proofs.Lists.{reverse_map}
@@ -188,9 +189,6 @@ built own place world log base called events frames shown arrived made new c wit
 
 -- ---- each way in which a call may end
 
-never : true ≡ false → ⊥
-never e = cc
-
 made_none : (made : Made) → made.frames ≡ [] → made.texts ≡ [] → made.began ≡ false → made ≡ nothing_made
 made_none made frames texts began =
     ap (λ fs. let m : Made = record made { frames = fs } in m) frames
@@ -216,7 +214,7 @@ still_called own place world log s arrived made new of same none_arrived none_ma
       own = λ frame h. elim h [ ];
       told = tt;
       starts = refl;
-      header = λ is. absurd (never (sym is));
+      header = λ is. absurd (true≢false (sym is));
       runs = λ some. absurd (some refl);
       awake = λ still up. up;
       speaks = λ still some. absurd (some refl);
@@ -290,14 +288,8 @@ refused_up law place s (Start found) refusal events up turn none = inl none
 refused_up law place s Tick refusal events up turn none = inl none
 refused_up law place s (call.Frame from bytes) refusal events up turn none = inl (refl, refl, none)
 refused_up law place s (Line seat bytes) refusal events up turn none = inr (law place s seat bytes refusal turn up)
-refused_up law place s (Connect seat) refusal events up turn none = absurd (refused_not refusal _ (subst (λ b. IsTurnBy b place s (Connect seat) (Err refusal)) up turn))
-  where
-    refused_not : (r : Refusal) (turn : Turn) → Err r ≡ Ok turn → ⊥
-    refused_not r turn e = cc
-refused_up law place s (Drop seat) refusal events up turn none = absurd (refused_not refusal _ (subst (λ b. IsTurnBy b place s (Drop seat) (Err refusal)) up turn))
-  where
-    refused_not : (r : Refusal) (turn : Turn) → Err r ≡ Ok turn → ⊥
-    refused_not r turn e = cc
+refused_up law place s (Connect seat) refusal events up turn none = absurd (ok_not _ refusal (sym (subst (λ b. IsTurnBy b place s (Connect seat) (Err refusal)) up turn)))
+refused_up law place s (Drop seat) refusal events up turn none = absurd (ok_not _ refusal (sym (subst (λ b. IsTurnBy b place s (Drop seat) (Err refusal)) up turn)))
 refused_up law place s Stop refusal events up turn none = inl none
 
 not_begun_up : (called : Call) → begins_by true called ≡ false
@@ -311,33 +303,15 @@ not_begun_up Stop = refl
 
 -- ---- a node that is down
 
-abbrev ok_of : Turn → Result Turn Refusal
-ok_of turn = Ok turn
-
-abbrev err_of : Refusal → Result Turn Refusal
-err_of refusal = Err refusal
-
-turn_is : (a b : Turn) → ok_of a ≡ ok_of b → a ≡ b
-turn_is a b e = cc
-
-no_turn : (turn : Turn) (refusal : Refusal) → Ok turn ≡ Err refusal → ⊥
-no_turn turn refusal e = cc
-
-no_refusal : (turn : Turn) (refusal : Refusal) → Err refusal ≡ Ok turn → ⊥
-no_refusal turn refusal e = cc
-
-refusal_is : (a b : Refusal) → err_of a ≡ err_of b → a ≡ b
-refusal_is a b e = cc
-
 -- refused, it is as it was
 down_refused : (place : Place) (s : Standing) (called : Call) (refusal : Refusal) → IsTurnDown place s called (Err refusal) → refusal ≡ Down
-down_refused place s (Start found) refusal (which, is) = absurd (no_refusal _ refusal is)
-down_refused place s Tick refusal is = refusal_is refusal Down is
-down_refused place s (call.Frame from bytes) refusal is = refusal_is refusal Down is
-down_refused place s (Line seat bytes) refusal is = refusal_is refusal Down is
-down_refused place s (Connect seat) refusal is = refusal_is refusal Down is
-down_refused place s (Drop seat) refusal is = refusal_is refusal Down is
-down_refused place s Stop refusal is = absurd (no_refusal _ refusal is)
+down_refused place s (Start found) refusal (which, is) = absurd (ok_not _ refusal (sym is))
+down_refused place s Tick refusal is = err_is refusal Down is
+down_refused place s (call.Frame from bytes) refusal is = err_is refusal Down is
+down_refused place s (Line seat bytes) refusal is = err_is refusal Down is
+down_refused place s (Connect seat) refusal is = err_is refusal Down is
+down_refused place s (Drop seat) refusal is = err_is refusal Down is
+down_refused place s Stop refusal is = absurd (ok_not _ refusal (sym is))
 
 -- taken, it is started, or as it was
 abbrev IsStill : Standing → Call → Turn → Type 0
@@ -347,13 +321,13 @@ abbrev IsStarting : Place → Call → Turn → Type 0
 IsStarting place called turn = (found : Store) × (called ≡ Start found) × (turn ≡ starting place found)
 
 down_took : (place : Place) (s : Standing) (called : Call) (turn : Turn) → IsTurnDown place s called (Ok turn) → IsStill s called turn ⊎ IsStarting place called turn
-down_took place s (Start found) turn (which, is) = inr (found, refl, turn_is turn _ is)
-down_took place s Tick turn is = absurd (no_turn turn Down is)
-down_took place s (call.Frame from bytes) turn is = absurd (no_turn turn Down is)
-down_took place s (Line seat bytes) turn is = absurd (no_turn turn Down is)
-down_took place s (Connect seat) turn is = absurd (no_turn turn Down is)
-down_took place s (Drop seat) turn is = absurd (no_turn turn Down is)
-down_took place s Stop turn is = inl (turn_is turn _ is, refl)
+down_took place s (Start found) turn (which, is) = inr (found, refl, ok_is turn _ is)
+down_took place s Tick turn is = absurd (ok_not turn Down is)
+down_took place s (call.Frame from bytes) turn is = absurd (ok_not turn Down is)
+down_took place s (Line seat bytes) turn is = absurd (ok_not turn Down is)
+down_took place s (Connect seat) turn is = absurd (ok_not turn Down is)
+down_took place s (Drop seat) turn is = absurd (ok_not turn Down is)
+down_took place s Stop turn is = inl (ok_is turn _ is, refl)
 
 messages_are : (from : ℕ) (read : Result Content FrameFault) → messages_of from read ≡ rule.said_in from read
 messages_are from (Ok content) = refl
@@ -415,7 +389,7 @@ up_built own place world log s called events frames shown arrived made new withi
       brings = subst (λ b. BringsAll place.node b arrived (events_of c.output.came) ⊎ ((c.output.came ≡ []) × (c.last.up ≡ false))) (sym not_begun) brings;
       starts = starts_in_events c.output.came ∙ (none ∙ ap (λ b. cond b 1 0) (sym not_begun));
     })
-    (λ begun. absurd (never (sym begun ∙ not_begun)))
+    (λ begun. absurd (true≢false (sym begun ∙ not_begun)))
     (λ some. first_up) (λ still some. first_up)
 
 -- ---- a call by the rules
@@ -439,7 +413,7 @@ called_by_rule own place world log s called arrived made new law refused_down is
         let is_down = down_refused place s called refusal (subst (λ b. IsTurnBy b place s called (Err refusal)) down turn) in
         still_by own place world log s r.frames r.shown arrived made new of (same ∙ ap (λ (k : Refusal). standing_after place s (Err k)) is_down) no_frames no_pieces
         (came ∙ ap (λ b. arrived_at b place.node called) down) not_begun r.written r.texts
-    by_end (failed outcome begun up turn either same no_frames no_pieces) is false down (came, not_begun) = absurd (never (sym up ∙ down))
+    by_end (failed outcome begun up turn either same no_frames no_pieces) is false down (came, not_begun) = absurd (true≢false (sym up ∙ down))
     by_end (took turn turned same frames_are pieces_are) is false down (came, begins) = elim (down_took place s called turn (subst (λ b. IsTurnBy b place s called (Ok turn)) down turned)) [
       | inl (is_still, not_begun) ↦
           still_by own place world log s r.frames r.shown arrived made new of (same ∙ ap (λ (t : Turn). t.after) is_still) (frames_are ∙ ap (λ (t : Turn). t.frames) is_still) (pieces_are ∙ ap (λ (t : Turn). t.shown) is_still)
@@ -459,7 +433,7 @@ called_by_rule own place world log s called arrived made new law refused_down is
             starts = starts_in_events c.output.came ∙ (ap starts_of one ∙ (starts_of_one place.node ∙ ap (λ b. cond b 1 0) (sym begun)));
           })
           (λ is_begun. (text_by_rule (header place.setting), subst (In (text_by_rule (header place.setting))) (sym text) (inl refl), refl))
-          (λ some. absurd (some none_arrived)) (λ still_now some. absurd (never (sym begun ∙ still_now)))
+          (λ some. absurd (some none_arrived)) (λ still_now some. absurd (true≢false (sym begun ∙ still_now)))
     ]
     by_end (took turn turned same frames_are pieces_are) is true up (came, begins) =
         let came_up : arrived ≡ arrived_by place.node called = came ∙ ap (λ b. arrived_at b place.node called) up in

@@ -9,6 +9,7 @@ pub mod Unforged
 pub mod Hearing
 pub mod Headline
 pub mod Calls
+pub mod Given
 pub mod Views
 pub mod Recordings
 pub mod KeptStarts

@@ -11,6 +11,7 @@ ghost use Rattle.protocol_model.specs.Quorums.{IsChosenIn, IsChosen, AreChosen};
 ghost use Rattle.protocol_model.specs.Dealers.{Dealer};
 ghost use Rattle.protocol_model.specs.Laws.{OneDealer, HasOrigin};
 ghost use Rattle.protocol_model.specs.Worlds.{World, Reached};
+ghost use Rattle.dealer_world.specs.Given.{Given};
 ghost use Rattle.dealer_world.specs.RecordLaws.{LinesOfRecordsAgree, AlikeListsShowTheSame, CompleteLogsAreMatchLogs};
 ghost use Rattle.dealer_world.specs.CalmRun.{RoundsMoveOn, FreshClustersAreCalm};
 ghost use Rattle.dealer_world.specs.RuleRuns.{RunsShowOneList, RunsAreBacked, RunsSendToNodes, RunsNeverConflict};
@@ -22,6 +23,17 @@ use node_rules::laws::{calls_are_sound, calm_rounds_move, refusals_have_reasons}
 use protocol_model::laws::{
     backing_lasts, chains_reach, one_dealer as protocol_one_dealer, owners_may_change,
 };
+
+/// What the layers below promise of runs by the rules, together.
+fn layers_below()
+    ensures { Given }
+{
+    calls_are_sound();
+    chains_reach();
+    deals_are_owned_and_acts_are_said();
+    owners_may_change();
+    owners_may_widen();
+}
 
 /// What is chosen stays chosen: in every run, of any number of nodes, whatever was lost, repeated or late and whoever
 /// stopped and started again at any moment.
@@ -89,23 +101,16 @@ pub fn complete_logs_are_match_logs()
 pub fn runs_show_one_list()
     ensures { RunsShowOneList }
 {
-    calls_are_sound();
-    chains_reach();
+    layers_below();
     protocol_one_dealer();
-    owners_may_change();
     deals_are_owned_and_acts_are_said();
-    owners_may_widen();
 }
 
 /// And what each node said by its frames both stores back that its next start may find.
 pub fn runs_are_backed()
     ensures { RunsAreBacked }
 {
-    calls_are_sound();
-    chains_reach();
-    owners_may_change();
-    deals_are_owned_and_acts_are_said();
-    owners_may_widen();
+    layers_below();
     backing_lasts();
 }
 
@@ -114,22 +119,14 @@ pub fn runs_are_backed()
 pub fn runs_send_to_nodes()
     ensures { RunsSendToNodes }
 {
-    calls_are_sound();
-    chains_reach();
-    owners_may_change();
-    deals_are_owned_and_acts_are_said();
-    owners_may_widen();
+    layers_below();
 }
 
 /// And no call finds another command known at a slot where one was chosen: 95 never comes.
 pub fn runs_never_conflict()
     ensures { RunsNeverConflict }
 {
-    calls_are_sound();
-    chains_reach();
-    owners_may_change();
-    deals_are_owned_and_acts_are_said();
-    owners_may_widen();
+    layers_below();
     refusals_have_reasons();
 }
 
@@ -140,12 +137,8 @@ pub fn runs_never_conflict()
 pub fn rounds_move_on()
     ensures { RoundsMoveOn }
 {
-    calls_are_sound();
+    layers_below();
     calm_rounds_move();
-    chains_reach();
-    owners_may_change();
-    deals_are_owned_and_acts_are_said();
-    owners_may_widen();
 }
 
 /// Nodes that have just been started on empty stores are at rest: where a node deals the first hand, it could move each

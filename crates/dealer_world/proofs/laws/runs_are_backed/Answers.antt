@@ -2,13 +2,4 @@ use Rattle.dealer_world.proofs.Keeping.{runs_are_backed}
 use Rattle.dealer_world.proofs.laws.runs_are_backed.Goals as goal
 
 pub returns : goal.returns
-returns c = runs_are_backed (record {
-  reach = c.chains_reach.ensures.reach;
-  calls = c.calls_are_sound.ensures.calls;
-  refused_down = c.calls_are_sound.ensures.lines;
-  appends = c.calls_are_sound.ensures.appends;
-  widen = c.owners_may_change.ensures;
-  source_deals = c.deals_are_owned_and_acts_are_said.ensures.sources;
-  both_deal = c.owners_may_widen.ensures.deals;
-  second = c.owners_may_widen.ensures.second;
-}) c.backing_lasts.ensures.left
+returns c = runs_are_backed c.layers_below.ensures c.backing_lasts.ensures.left

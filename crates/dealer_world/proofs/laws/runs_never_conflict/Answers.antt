@@ -2,13 +2,4 @@ use Rattle.dealer_world.proofs.Conflicts.{runs_never_conflict}
 use Rattle.dealer_world.proofs.laws.runs_never_conflict.Goals as goal
 
 pub returns : goal.returns
-returns c = runs_never_conflict (record {
-  reach = c.chains_reach.ensures.reach;
-  calls = c.calls_are_sound.ensures.calls;
-  refused_down = c.calls_are_sound.ensures.lines;
-  appends = c.calls_are_sound.ensures.appends;
-  widen = c.owners_may_change.ensures;
-  source_deals = c.deals_are_owned_and_acts_are_said.ensures.sources;
-  both_deal = c.owners_may_widen.ensures.deals;
-  second = c.owners_may_widen.ensures.second;
-}) c.refusals_have_reasons.ensures
+returns c = runs_never_conflict c.layers_below.ensures c.refusals_have_reasons.ensures

@@ -2,13 +2,4 @@ use Rattle.dealer_world.proofs.Keeping.{runs_show_one_list}
 use Rattle.dealer_world.proofs.laws.runs_show_one_list.Goals as goal
 
 pub returns : goal.returns
-returns c = runs_show_one_list (record {
-  reach = c.chains_reach.ensures.reach;
-  calls = c.calls_are_sound.ensures.calls;
-  refused_down = c.calls_are_sound.ensures.lines;
-  appends = c.calls_are_sound.ensures.appends;
-  widen = c.owners_may_change.ensures;
-  source_deals = c.deals_are_owned_and_acts_are_said.ensures.sources;
-  both_deal = c.owners_may_widen.ensures.deals;
-  second = c.owners_may_widen.ensures.second;
-}) c.one_dealer.ensures.list c.deals_are_owned_and_acts_are_said.ensures.chosen
+returns c = runs_show_one_list c.layers_below.ensures c.one_dealer.ensures.list c.deals_are_owned_and_acts_are_said.ensures.chosen
