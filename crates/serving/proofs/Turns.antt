@@ -1,7 +1,7 @@
 -- A turn as a whole: what its steps made is what it did.
-use Rattle.std.proofs.Common.{◌≡◌, ◌≤◌, ℕ, Bool, true, List, [], ◌++◌, length, Option, Some, None, Result, Ok, Err, refl, ap, sym, subst, arith, ◌∙◌}
+use Rattle.std.proofs.Common.{◌≡◌, ◌≤◌, ℕ, Bool, true, List, [], ◌++◌, length, Option, Some, None, Result, Err, refl, ap, sym, subst, arith, ◌∙◌}
+use Rattle.std.proofs.lemmas.Result.{on_ok_weaker}
 use Rattle.std.proofs.lemmas.List.{append_assoc, append-nil, length-append}
-use Rattle.std.specs.Prelude.{OnOk}
 use Rattle.promise_store.specs.declared.disk.Disk.{Ghosts}
 use Rattle.match_links.specs.Passages.{Passage}
 use Rattle.dealer_node.specs.Nodes.{Node}
@@ -25,11 +25,6 @@ use Rattle.serving.specs.Placed.{places_in}
 use Rattle.serving.specs.Turned.{Went, Gave, Ends, Mends, Passes}
 use Rattle.serving.specs.Turning.{IsWaiting}
 use Rattle.serving.proofs.Giving.{gives_none}
-
--- what holds after an Ok goes over to what follows from it
-pub on_ok : {A E P Q : Type 0} (answer : Result A E) → (P → Q) → OnOk answer P → OnOk answer Q
-on_ok (Ok told) follows holds = follows holds
-on_ok (Err why) follows holds = tt
 
 abbrev made : {N : Type 0} → View N → Progress → Option Waiting → List Passage → ℕ → ℕ → Option NodeFault → Served N
 made view progress waiting passed shown called refused = record {
@@ -102,7 +97,7 @@ gave_from {D} g w took between old answer new view progress shown passed gave = 
   tells = gave.tells;
   again = λ none. let both = gave.again none in (both.0, both.1 ∙ progress);
   given = gave.given;
-  went = on_ok answer (subst (λ (n : Progress). Went g new.view w gave.called n new.progress) progress) gave.went;
+  went = on_ok_weaker answer (subst (λ (n : Progress). Went g new.view w gave.called n new.progress) progress) gave.went;
   passes = passes_from took between old new shown passed gave.passes;
   all_given = gave.all_given;
   refused = gave.refused;

@@ -21,8 +21,7 @@ impl Places {
         ensures { length (places_in result) ≡ count }
     {
         let mut all = ArrayVec::new();
-        for pass in 0..count {
-            let _ = pass;
+        for _ in 0..count {
             all.push(Place::Awaited(0));
         }
         Places { all }

@@ -1,9 +1,10 @@
 use Rattle.std.proofs.Common.{◌≡◌, ◌≤◌, ℕ, [], Err, length, refl, sym, subst, ◌∙◌, rules}
+use Rattle.std.proofs.lemmas.Result.{on_ok_weaker}
 use Rattle.std.proofs.lemmas.List.{append-nil}
 use Rattle.dealer_node.specs.declared.fault.NodeFault.TheVariants as fault
 use Rattle.dealer_world.specs.Viewing.{view_of}
 use Rattle.serving.specs.Serving.{served_of}
-use Rattle.serving.proofs.Turns.{on_ok, passes_from, passes_none, still_within}
+use Rattle.serving.proofs.Turns.{passes_from, passes_none, still_within}
 use Rattle.serving.proofs.server.Server.give.Goals as goal
 
 pub returns-then-is_out_of_memory-clause-gave : goal.returns-then-is_out_of_memory-clause-gave
@@ -43,7 +44,7 @@ returns-clause-gave g c =
       tells = c.close.ensures.tells;
       again = λ none. absurd (ample none);
       given = λ _. c.close.ensures.waiting;
-      went = on_ok c.close.result (λ ends. record {
+      went = on_ok_weaker c.close.result (λ ends. record {
         settled = c.settle.new.self.progress;
         settles = rw c.close.ensures.same c.settle.ensures.settled;
         ends = ends;
