@@ -1,3 +1,4 @@
+use Rattle.std.proofs.lemmas.Grind.{common_steps}
 use Rattle.std.proofs.Common.{length, ap, arith}
 use Rattle.seat_session.specs.Lines.{HasNoFeed, Breaks}
 use Rattle.seat_session.proofs.LineLemmas.{overlong_line, overlong_rest}
@@ -17,3 +18,6 @@ returns-in_default c =
           let clear : HasNoFeed waiting = rw shown at w.in-None.ensures in
           overlong_rest waiting clear (omega (arith, w.if-waiting-le-LONGEST_LINE.false, ap length shown))
     ]
+
+pub returns-in-Some : goal.returns-in-Some
+returns-in-Some c = grind (arith, common_steps)
