@@ -1,4 +1,4 @@
-use Rattle.std.proofs.Common.{◌≡◌, ◌∙◌, ap, sym, subst, arith, refl, true≢false, Some, false}
+use Rattle.std.proofs.Common.{◌≡◌, ◌∙◌, ap, sym, subst, arith, refl, true≢false, Some, false, rules}
 use Rattle.std.specs.Prelude.{Result}
 use Rattle.seat_session.specs.Session.{Answers, is_ready}
 use Rattle.seat_session.specs.declared.said.Said.{Said}
@@ -77,3 +77,6 @@ loop-step-preserved c =
         capacity = c.take_answer.ensures.faults.capacity ∙ c.loop-step.invariant.faults.capacity;
       };
     }
+
+pub returns-clause-hears : goal.returns-clause-hears
+returns-clause-hears c = search rules

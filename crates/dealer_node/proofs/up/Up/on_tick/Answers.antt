@@ -1,4 +1,4 @@
-use Rattle.std.proofs.Common.{◌≡◌, ◌∙◌, ap, sym, subst, refl, inr, Result, Ok, Err, false, true≢false}
+use Rattle.std.proofs.Common.{◌≡◌, ◌∙◌, ap, sym, subst, refl, inr, Result, Ok, Err, false, true≢false, rules}
 use Rattle.node_rules.specs.Turns.{and_then}
 use Rattle.node_rules.specs.Proposing.{ticking, closing}
 use Rattle.node_rules.specs.Calls.{Tick}
@@ -51,3 +51,6 @@ returns-clause-handles g c = λ s honest is.
       works_over g.D.Disk c.args.post.now s outcome c.args.self.now c.ready.new.self c.tick.new.self (told_by c.in_ok-made.made) (told_by c.tick.new.made) (told_by c.args.out.now) (told_by c.append.new.self) (Ok tt)
           c.in_ok-made.ensures.unmoved.disk c.in_ok-made.ensures.nothing (λ e. c.append.ensures ∙ ap (λ (t : Told). both_told t (told_by c.tick.new.made)) c.in_ok-made.ensures.same) worked,
     )
+
+pub returns-then-is_spent-clause-unmade : goal.returns-then-is_spent-clause-unmade
+returns-then-is_spent-clause-unmade g c = search rules

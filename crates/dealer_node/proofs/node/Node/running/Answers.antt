@@ -1,0 +1,8 @@
+use Rattle.std.proofs.Common.{rules}
+use Rattle.dealer_node.proofs.node.Node.running.Goals as goal
+
+pub returns-clause-value : goal.returns-clause-value
+returns-clause-value g c = search rules
+
+pub returns-clause-seen : goal.returns-clause-seen
+returns-clause-seen g c = search rules
