@@ -16,6 +16,7 @@ use Rattle.match_log.specs.Lines.{header_line, state_text, state_line, score_tex
 use Rattle.match_log.specs.Names.{IsName, IsGameWord, AreNames, is_name_byte, names_by_position}
 use Rattle.match_log.specs.Log.{Title, state_lines, log_of, log_lines}
 use Rattle.match_log.specs.Further.{log_added}
+use Rattle.match_log.specs.Fronted.{fronted}
 
 -- opens the definitions
 unfoldable pub opened : ℕ
@@ -147,6 +148,19 @@ deal_adds_nothing = refl
 second_fold_adds_nothing : log_added two_players 2 alice_and_bob (Act 0 0 Fold ∷ Deal 0 ten_ace ∷ []) (Act 0 0 Fold) ≡ []
 unfolding opened
 second_fold_adds_nothing = refl
+
+-- ---- logs among other lines
+
+-- each line has the front before it, and only the lines
+two_lines_fronted : fronted (codes "2 L ") true (codes "a\nb\n") ≡ codes "2 L a\n2 L b\n"
+two_lines_fronted = refl
+
+-- no front within a line that has begun, or behind the last line
+begun_line_goes_on : fronted (codes "L ") false (codes "a\nb\n") ≡ codes "a\nL b\n"
+begun_line_goes_on = refl
+
+no_front_of_no_line : fronted (codes "L ") true [] ≡ []
+no_front_of_no_line = refl
 
 -- ---- names
 

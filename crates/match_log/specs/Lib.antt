@@ -6,6 +6,7 @@ pub mod Payoffs
 pub mod Lines
 pub mod Log
 pub mod Further
+pub mod Fronted
 pub mod Fault
 pub mod Numeral
 pub mod Reading

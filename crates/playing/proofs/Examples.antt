@@ -8,9 +8,10 @@ use Rattle.play_script.specs.declared.bounds.Bounds.{Bounds}
 use Rattle.play_script.specs.declared.order.Order.{Order}
 use Rattle.play_script.specs.declared.order.Order.TheVariants.{Tick, Deliver, Flush, Connect, Drop, Line, Stop, Start}
 use Rattle.play_script.specs.Orders.{Says}
+use Rattle.protocol_model.specs.Dealers.{Log}
 use Rattle.playing.specs.Marks.{AreDelivered, IsFirstMissing}
 use Rattle.playing.specs.Playing.{Scene, Answers, bad_script, obeyed}
-use Rattle.playing.specs.Showing.{frames_text, fronted, answer_text}
+use Rattle.playing.specs.Showing.{frames_text, text_for, answer_text}
 
 -- ---- what is printed
 
@@ -30,8 +31,9 @@ numbers_begin_with_0 = refl
 no_frames : frames_text 1 7 [] ≡ []
 no_frames = refl
 
--- each line of a log has the node in front, and only the lines
-two_log_lines : fronted (codes "2 L ") true (codes "a\nb\n") ≡ codes "2 L a\n2 L b\n"
+-- each line of a log has the node in front
+two_log_lines : text_for 2 Log (codes "a\nb\n") ≡ codes "2 L a\n2 L b\n"
+unfolding digits
 two_log_lines = refl
 
 nothing_of_ok : answer_text 0 (Ok tt) ≡ []

@@ -1,6 +1,7 @@
 -- How what comes of an event is printed.
-use Rattle.std.specs.Prelude.{ℕ, ◌+◌, ◌==◌, Bool, true, List, [], ◌∷◌, ◌++◌, Result, Ok, Err, codes, decimal, if◌then◌else◌}
+use Rattle.std.specs.Prelude.{ℕ, ◌+◌, true, List, [], ◌∷◌, ◌++◌, Result, Ok, Err, codes, decimal}
 use Rattle.std.specs.List.{flat_map}
+use Rattle.match_log.specs.Fronted.{fronted}
 use Rattle.seat_session.specs.Fault.{fault_text as session_fault_text}
 use Rattle.dealer_node.specs.FaultText.{fault_text as node_fault_text}
 use Rattle.dealer_node.specs.declared.fault.NodeFault.{NodeFault}
@@ -16,11 +17,6 @@ use Rattle.play_script.specs.Shown.{whole_line, frame_text, seat_text, node_text
 abbrev pub frames_text : ℕ → ℕ → List (Marked ℕ) → List ℕ
 frames_text node number [] = []
 frames_text node number (frame ∷ frames) = whole_line (frame_text number node frame.mark frame.text) ++ frames_text node (number + 1) frames
-
--- a text with this in front of each of its lines; whether the first byte begins a line
-abbrev pub fronted : List ℕ → Bool → List ℕ → List ℕ
-fronted front begins [] = []
-fronted front begins (byte ∷ rest) = (if begins then front else []) ++ byte ∷ fronted front (byte == 10) rest
 
 -- what stands in front of the lines of a node's log
 abbrev pub log_front : ℕ → List ℕ

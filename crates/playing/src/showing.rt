@@ -2,10 +2,12 @@
 
 ghost use Rattle.std.specs.Prelude.{◌≡◌, ◌+◌, ◌^◌, ◌<◌, ◌++◌, List, true, length, OnOk};
 ghost use Rattle.std.specs.List.{flat_map};
+ghost use Rattle.match_log.specs.Fronted.{fronted};
 ghost use Rattle.dealer_world.specs.KeptShown.{reader_by};
-ghost use Rattle.playing.specs.Showing.{frames_text, fronted, log_front, text_for, piece_text, seat_fault_text, answer_text, event_text};
+ghost use Rattle.playing.specs.Showing.{frames_text, log_front, text_for, piece_text, seat_fault_text, answer_text, event_text};
 
 use dealer_node::{NodeFault, Out, Reader, Reading, SeatFault};
+use match_log::put_fronted;
 use play_script::{put_fault, put_frame, put_seat_fault, put_seat_line};
 use std::alloc::AllocError;
 
@@ -32,15 +34,7 @@ fn put_log_text(out: &mut Vec<u8>, node: usize, text: &[u8]) -> Result<(), Alloc
     ensures { OnOk result (out.new.items ≡ out.old.items ++ fronted (log_front node) true text.now) }
 {
     let front = format!(in *out.allocator(); "{node} L ")?;
-    let mut begins = true;
-    for byte in text {
-        if begins {
-            out.extend_from_slice(front.as_bytes())?;
-        }
-        out.push(*byte)?;
-        begins = *byte == b'\n';
-    }
-    Ok(())
+    put_fronted(out, front.as_bytes(), text)
 }
 
 /// Prints what a reader gets.

@@ -1,5 +1,5 @@
 -- The definitions on values that are written out: what they hold of, and near misses that they don't.
-use Rattle.std.proofs.Common.{◌≡◌, ℕ, List, [], ◌∷◌, ◌++◌, length, refl, ap, append_assoc, true, arith}
+use Rattle.std.proofs.Common.{◌≡◌, ℕ, List, [], ◌∷◌, ◌++◌, length, refl, ap, append_assoc, arith}
 use Rattle.std.specs.Prelude.{codes, decimal, None, Some, Ok, Err}
 use Rattle.std.specs.List.{IsDistinct}
 use Rattle.game_def.specs.Game.{Game}
@@ -111,10 +111,10 @@ names_bring_no_reply = refl
 answers_in_order : answers limit_game 1 None (Bad ∷ Names (codes "a" ∷ codes "b" ∷ []) ∷ Bad ∷ []) ≡ bad_script ++ bad_script
 answers_in_order = refl
 
-a_letter_for_each_line : lettered true (97 ∷ 10 ∷ 98 ∷ 99 ∷ 10 ∷ []) ≡ codes "L a" ++ 10 ∷ codes "L bc" ++ 10 ∷ []
+a_letter_for_each_line : lettered (97 ∷ 10 ∷ 98 ∷ 99 ∷ 10 ∷ []) ≡ codes "L a" ++ 10 ∷ codes "L bc" ++ 10 ∷ []
 a_letter_for_each_line = refl
 
-no_letter_for_no_line : lettered true [] ≡ []
+no_letter_for_no_line : lettered [] ≡ []
 no_letter_for_no_line = refl
 
 no_log_unless_asked_for : logged limit_game 1 None [] (Names (codes "a" ∷ codes "b" ∷ [])) ≡ []

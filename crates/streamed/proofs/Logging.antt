@@ -22,15 +22,15 @@ use Rattle.streamed.specs.declared.script_line.ScriptLine.TheVariants.{Names, To
 pub none_logged : (game : Game) (count : ℕ) (log : Option (List ℕ)) (before : List ScriptLine) (said : ScriptLine) → ((word : List ℕ) → log_after game count word (said ∷ before) ≡ log_after game count word before) → logged game count log before said ≡ []
 none_logged game count None before said same = refl
 none_logged game count (Some word) before said same =
-    ap (λ (z : List ℕ). lettered true (drop (length (log_after game count word before)) z)) (same word)
-    ∙ ap (lettered true) (drop-length (log_after game count word before))
+    ap (λ (z : List ℕ). lettered (drop (length (log_after game count word before)) z)) (same word)
+    ∙ ap lettered (drop-length (log_after game count word before))
 
 -- the further lines where the log has grown
 pub some_logged : (game : Game) (count : ℕ) (log : Option (List ℕ)) (before : List ScriptLine) (said : ScriptLine) (further : List ℕ) → ((word : List ℕ) → log_after game count word (said ∷ before) ≡ log_after game count word before ++ further) → logged game count log before said ≡ printed log further
 some_logged game count None before said further grows = refl
 some_logged game count (Some word) before said further grows =
-    ap (λ (z : List ℕ). lettered true (drop (length (log_after game count word before)) z)) (grows word)
-    ∙ ap (lettered true) (drop-append_seam (log_after game count word before) further)
+    ap (λ (z : List ℕ). lettered (drop (length (log_after game count word before)) z)) (grows word)
+    ∙ ap lettered (drop-append_seam (log_after game count word before) further)
 
 -- a bad line
 pub bad_logged : (game : Game) (count : ℕ) (log : Option (List ℕ)) (before : List ScriptLine) → logged game count log before Bad ≡ []
@@ -42,9 +42,9 @@ names_logged game count None before names some unnamed none = refl
 names_logged game count (Some word) before names some unnamed none =
     let title = title_of count word in
     let earlier : log_after game count word before ≡ [] = ap (λ (n : Option (List (List ℕ))). elim n [ None ↦ [] | Some told ↦ log_lines game title told (commands_of before) ]) unnamed in
-    ap (λ (z : List ℕ). lettered true (drop (length z) (log_lines game title names (commands_of before)))) earlier
-    ∙ ap (λ (z : List Command). lettered true (log_lines game title names z)) none
-    ∙ ap (lettered true) (begins_with_header game title names some)
+    ap (λ (z : List ℕ). lettered (drop (length z) (log_lines game title names (commands_of before)))) earlier
+    ∙ ap (λ (z : List Command). lettered (log_lines game title names z)) none
+    ∙ ap lettered (begins_with_header game title names some)
 
 -- ---- a command
 

@@ -1,5 +1,5 @@
 -- The lines that the log has further once a hand has ended.
-use Rattle.std.specs.Prelude.{ℕ, true, List, [], Option, Some, None, codes}
+use Rattle.std.specs.Prelude.{ℕ, List, [], Option, Some, None, codes}
 use Rattle.game_def.specs.Game.{Game}
 use Rattle.slot_log.specs.Hand.{Hand}
 use Rattle.match_log.specs.Lines.{header_line}
@@ -14,9 +14,9 @@ further_lines game count (Some names) hands = lines_further game count names han
 -- the lines of a log, printed where there is a word for its game
 abbrev pub printed : Option (List ℕ) → List ℕ → List ℕ
 printed None text = []
-printed (Some word) text = lettered true text
+printed (Some word) text = lettered text
 
 -- the header, printed likewise
 abbrev pub printed_header : Option (List ℕ) → ℕ → List ℕ
 printed_header None count = []
-printed_header (Some word) count = lettered true (header_line (codes "hand") word count)
+printed_header (Some word) count = lettered (header_line (codes "hand") word count)

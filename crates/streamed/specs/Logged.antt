@@ -1,7 +1,8 @@
 -- The log that `hand` prints beside the answers, each line behind `L `.
-use Rattle.std.specs.Prelude.{ℕ, ◌==◌, Bool, true, List, [], ◌∷◌, ◌++◌, length, drop, Option, Some, None, codes, if◌then◌else◌}
+use Rattle.std.specs.Prelude.{ℕ, true, List, [], ◌∷◌, length, drop, Option, Some, None, codes}
 use Rattle.game_def.specs.Game.{Game}
 use Rattle.match_log.specs.Log.{Title, log_lines}
+use Rattle.match_log.specs.Fronted.{fronted}
 use Rattle.streamed.specs.Told.{commands_of, names_of}
 use Rattle.streamed.specs.declared.script_line.ScriptLine.{ScriptLine}
 
@@ -14,13 +15,12 @@ abbrev pub log_after : Game → ℕ → List ℕ → List ScriptLine → List �
 log_after game count word before =
     elim (names_of before) [ None ↦ [] | Some names ↦ log_lines game (title_of count word) names (commands_of before) ]
 
--- a text with `L ` in front of each of its lines; whether the first byte begins a line
-abbrev pub lettered : Bool → List ℕ → List ℕ
-lettered begins [] = []
-lettered begins (byte ∷ rest) = (if begins then codes "L " else []) ++ byte ∷ lettered (byte == 10) rest
+-- a text of the log with `L ` in front of each of its lines
+abbrev pub lettered : List ℕ → List ℕ
+lettered text = fronted (codes "L ") true text
 
 -- where the log is printed under a word for its game: what it has after a line of the script that it hadn't before
 abbrev pub logged : Game → ℕ → Option (List ℕ) → List ScriptLine → ScriptLine → List ℕ
 logged game count None before said = []
 logged game count (Some word) before said =
-    lettered true (drop (length (log_after game count word before)) (log_after game count word (said ∷ before)))
+    lettered (drop (length (log_after game count word before)) (log_after game count word (said ∷ before)))

@@ -11,12 +11,11 @@ ghost use Rattle.streamed.specs.Answer.{Says, ComesInTurn, Tells, answer, lines_
 ghost use Rattle.streamed.specs.declared.script_line.ScriptLine.{ScriptLine as Said};
 
 use crate::game_word::GameWord;
-use crate::log_lines::put_lettered;
 use crate::script_line::ScriptLine;
 use betting::ActFault;
 use game_def::GameDef;
 use itoa::Buffer;
-use match_log::{SeatNames, further_lines, header};
+use match_log::{SeatNames, further_lines, header, put_fronted};
 use matchstate::{BettingText, read_action, read_deal, seat_line};
 use slot_log::{Command, Effect, Reason, Table};
 use std::alloc::{AllocError, Global};
@@ -168,7 +167,7 @@ impl<'a> Dealing<'a> {
             Some(word) => {
                 self.further.clear();
                 header(&mut self.further, b"hand", word.as_bytes(), hands)?;
-                put_lettered(out, &self.further)
+                put_fronted(out, b"L ", &self.further)
             }
             None => Ok(()),
         }
@@ -208,7 +207,7 @@ impl<'a> Dealing<'a> {
             return Ok(());
         }
         self.write_further()?;
-        put_lettered(out, &self.further)
+        put_fronted(out, b"L ", &self.further)
     }
 
     /// Writes the log's further lines after a command that took effect: none while a hand runs.

@@ -18,7 +18,6 @@ mod hand_script;
 pub mod laws;
 mod line;
 mod log_check;
-mod log_lines;
 mod pieces;
 mod running;
 mod script_line;
