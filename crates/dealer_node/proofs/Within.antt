@@ -1,5 +1,5 @@
 -- No more is made than was needed.
-use Rattle.std.proofs.Common.{◌≡◌, ℕ, ◌+◌, ◌*◌, arith, ap, length, vec_len}
+use Rattle.std.proofs.Common.{◌≡◌, ℕ, ◌*◌, arith, ap, length, vec_len}
 use Rattle.dealer_node.specs.declared.running.Running.{Running}
 use Rattle.dealer_node.specs.declared.made.Made.{Made}
 use Rattle.dealer_node.specs.declared.made.Need.{Need}
@@ -10,7 +10,7 @@ use Rattle.dealer_node.specs.Rooms.{Grows, Tells}
 use Rattle.dealer_node.specs.Running.{ahead_of}
 use Rattle.dealer_node.specs.Working.{HasLeft}
 use Rattle.dealer_node.specs.Handling.{IsWithin}
-use Rattle.dealer_node.specs.Calling.{close_need, line_need, frame_need, HasCallRoom}
+use Rattle.dealer_node.specs.Calling.{need_of, close_need, line_need, frame_need, HasCallRoom}
 
 -- what is left was needed
 pub left_within : (running : Running) (made : Made) (need : Need) → HasLeft running made need 0 0 → IsWithin made need
@@ -37,16 +37,6 @@ no_text_bytes made nothing = ap (λ (t : Told). byte_total t.shown) nothing
 
 no_faults : (made : Made) → told_by made ≡ nothing_told → vec_len made.faults ≡ 0
 no_faults made nothing = let none : length made.faults.items ≡ 0 = ap (λ (t : Told). length t.faults) nothing in omega (arith, none, made.faults.ok.0)
-
--- what so many votes and frames make at most, with what is learned of them
-abbrev need_of : Running → ℕ → ℕ → Need
-need_of running votes frames = record {
-  frames = frames;
-  frame_bytes = 46 * frames;
-  texts = 11 * (ahead_of running + votes);
-  text_bytes = 45716 * (ahead_of running + votes);
-  faults = 0;
-}
 
 module _ {D : Type 0} where
   call_left : (up : Up D) (made : Made) (votes frames : ℕ) → told_by made ≡ nothing_told → HasCallRoom up made (need_of up.running votes frames) votes

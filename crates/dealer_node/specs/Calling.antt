@@ -17,9 +17,19 @@ use Rattle.dealer_node.specs.Running.{ahead_of}
 use Rattle.dealer_node.specs.Working.{disk_under, store_room, IsUp}
 use Rattle.dealer_node.specs.Handling.{Stays, Handles}
 
+-- what a call makes at most that learns so many commands and sends so many frames
+abbrev pub need_of : Running → ℕ → ℕ → Need
+need_of running commands frames = record {
+  frames = frames;
+  frame_bytes = 46 * frames;
+  texts = 11 * (ahead_of running + commands);
+  text_bytes = 45716 * (ahead_of running + commands);
+  faults = 0;
+}
+
 -- what the close of a call makes at most
 abbrev pub close_need : Running → Need
-close_need running = record { frames = 10; frame_bytes = 460; texts = 11 * (ahead_of running + 1); text_bytes = 45716 * (ahead_of running + 1); faults = 0 }
+close_need running = need_of running 1 10
 
 -- and with a piece of a seat's bytes that is given fewer answers than these: a frame and a fault for each, and the seat's line
 abbrev pub line_need : Running → ℕ → Need
@@ -33,7 +43,7 @@ line_need running limit = record {
 
 -- what a message of another node makes at most: what is told of 64 slots, what the close makes, and a question
 abbrev pub frame_need : Running → Need
-frame_need running = record { frames = 75; frame_bytes = 3450; texts = 11 * (ahead_of running + 2); text_bytes = 45716 * (ahead_of running + 2); faults = 0 }
+frame_need running = need_of running 2 75
 
 module _ {D : Type 0} where
   -- there is room for so much, to learn of so many commands, and to store as many votes

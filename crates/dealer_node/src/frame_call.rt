@@ -14,9 +14,7 @@ ghost use Rattle.dealer_node.specs.Handling.{IsWithin, AnswersUp};
 ghost use Rattle.dealer_node.specs.Calling.{frame_need};
 
 use crate::fault::NodeFault;
-use crate::limits::{
-    FRAME_BYTES_OF_A_MESSAGE, FRAMES_OF_A_MESSAGE, TEXT_BYTES_OF_A_COMMAND, TEXTS_OF_A_COMMAND,
-};
+use crate::limits::FRAMES_OF_A_MESSAGE;
 use crate::made::{Made, Need};
 use crate::post::Post;
 use crate::running::Running;
@@ -37,14 +35,7 @@ fn read(bytes: &[u8]) -> Result<Message, FrameFault>
 fn frame_need(running: &Running) -> Need
     ensures { result ≡ frame_need running.now }
 {
-    let applied = running.most_applied(2);
-    Need {
-        frames: FRAMES_OF_A_MESSAGE,
-        frame_bytes: FRAME_BYTES_OF_A_MESSAGE,
-        texts: TEXTS_OF_A_COMMAND * applied,
-        text_bytes: TEXT_BYTES_OF_A_COMMAND * applied,
-        faults: 0,
-    }
+    running.need(2, FRAMES_OF_A_MESSAGE)
 }
 
 impl<D: Disk + Drop> Up<D> {

@@ -14,15 +14,9 @@ pub(crate) const FRAME_BYTES_TO_ALL: usize = FRAMES_TO_ALL * MOST_SINGLE_FRAME;
 /// The most frames that the close of a call makes: two messages to all nodes.
 pub(crate) const FRAMES_OF_A_CLOSE: usize = 2 * FRAMES_TO_ALL;
 
-/// The most bytes of these frames.
-pub(crate) const FRAME_BYTES_OF_A_CLOSE: usize = FRAMES_OF_A_CLOSE * MOST_SINGLE_FRAME;
-
 /// The most frames that a call makes by a message of another node: one for each slot that an Ask is answered with,
 /// those of the close, and a question.
 pub(crate) const FRAMES_OF_A_MESSAGE: usize = WINDOW + FRAMES_OF_A_CLOSE + 1;
-
-/// The most bytes of these frames.
-pub(crate) const FRAME_BYTES_OF_A_MESSAGE: usize = FRAMES_OF_A_MESSAGE * MOST_SINGLE_FRAME;
 
 /// The most texts that a command shows: a line to each seat, and what the log has further.
 pub(crate) const TEXTS_OF_A_COMMAND: usize = PLAYERS + 1;

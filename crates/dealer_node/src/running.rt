@@ -11,13 +11,16 @@ ghost use Rattle.dealer_node.specs.Outs.{told_by};
 ghost use Rattle.dealer_node.specs.Rooms.{Grows, Tells};
 ghost use Rattle.dealer_node.specs.Seated.{feeds_with, HasRoomAt};
 ghost use Rattle.dealer_node.specs.Running.{IsRunning, TakesPiece, IsAt, ahead_of};
+ghost use Rattle.dealer_node.specs.Calling.{need_of};
 
 use crate::hearing::wait;
-use crate::made::Made;
+use crate::limits::{TEXT_BYTES_OF_A_COMMAND, TEXTS_OF_A_COMMAND};
+use crate::made::{Made, Need};
 use crate::post::Post;
 use crate::seats::Seats;
 use crate::seen::seen_in;
 use learner::Learner;
+use paxos_wire::limits::MOST_SINGLE_FRAME;
 use paxos_wire::{Ballot, Message};
 use proposer::Proposer;
 use slot_log::{Command, SlotLog, Table};
@@ -93,6 +96,22 @@ impl Running {
         ensures most { result ≤ SLOTS + commands }
     {
         ahead(self.learner.log()) + commands
+    }
+
+    /// What a call makes at most that learns so many commands and sends so many frames.
+    pub(crate) fn need(&self, commands: usize, frames: usize) -> Need
+        requires commands { commands ≤ 64 }
+        requires frames { frames ≤ 75 }
+        ensures { result ≡ need_of self.now commands frames }
+    {
+        let applied = self.most_applied(commands);
+        Need {
+            frames,
+            frame_bytes: MOST_SINGLE_FRAME * frames,
+            texts: TEXTS_OF_A_COMMAND * applied,
+            text_bytes: TEXT_BYTES_OF_A_COMMAND * applied,
+            faults: 0,
+        }
     }
 
     /// Makes room to learn of so many commands more. An `Err` changes room alone.

@@ -13,9 +13,7 @@ ghost use Rattle.dealer_node.specs.Handling.{IsWithin, AnswersUp};
 ghost use Rattle.dealer_node.specs.Calling.{close_need};
 
 use crate::fault::NodeFault;
-use crate::limits::{
-    FRAME_BYTES_OF_A_CLOSE, FRAMES_OF_A_CLOSE, TEXT_BYTES_OF_A_COMMAND, TEXTS_OF_A_COMMAND,
-};
+use crate::limits::FRAMES_OF_A_CLOSE;
 use crate::made::{Made, Need};
 use crate::post::Post;
 use crate::running::Running;
@@ -28,14 +26,7 @@ use std::alloc::Global;
 fn close_need(running: &Running) -> Need
     ensures { result ≡ close_need running.now }
 {
-    let applied = running.most_applied(1);
-    Need {
-        frames: FRAMES_OF_A_CLOSE,
-        frame_bytes: FRAME_BYTES_OF_A_CLOSE,
-        texts: TEXTS_OF_A_COMMAND * applied,
-        text_bytes: TEXT_BYTES_OF_A_COMMAND * applied,
-        faults: 0,
-    }
+    running.need(1, FRAMES_OF_A_CLOSE)
 }
 
 impl<D: Disk + Drop> Up<D> {
