@@ -108,6 +108,19 @@ impl Deal {
         ]
     }
 
+    /// The seven cards of a position, counted from 0: its two hole cards and then the board.
+    pub fn seven(&self, position: usize) -> [Card; 7]
+        requires { position < player_count self.now }
+        ensures value { result ≡ hole_of self.now position ++ board_of self.now }
+        ensures distinct { IsDistinct nat_eq result }
+    {
+        let hole = self.hole(position);
+        let board = self.board();
+        [
+            hole[0], hole[1], board[0], board[1], board[2], board[3], board[4],
+        ]
+    }
+
     /// Whether another deal has the same cards at the same places. What `==` of deals says is in no contract.
     pub fn is_same(&self, other: &Deal) -> bool
         ensures { IsTrue result ↔ (self.now ≡ other.now) }

@@ -1,5 +1,5 @@
-ghost use Rattle.std.specs.Prelude.{◌≡◌, ℕ, ◌++◌, ◌<◌, ◌≤◌, ◌≤ℤ◌, pos, negsuc, length, take, nat_eq, max, fold};
-ghost use Rattle.std.specs.List.{All, IsDistinct};
+ghost use Rattle.std.specs.Prelude.{◌≡◌, ℕ, ◌++◌, ◌<◌, ◌≤◌, ◌≤ℤ◌, pos, negsuc, length, take, max, fold};
+ghost use Rattle.std.specs.List.{All};
 ghost use Rattle.card_core.specs.Deal.{IsDeal, player_count};
 ghost use Rattle.betting.specs.Betting.{history};
 ghost use Rattle.betting.specs.Turns.{max_spent};
@@ -9,8 +9,8 @@ ghost use Rattle.match_log.specs.Payoffs.{seven_of, values_of, amounts_of, folds
 
 use arrayvec::ArrayVec;
 use betting::{Play, laws};
+use card_core::Deal;
 use card_core::limits::PLAYERS;
-use card_core::{Card, Deal};
 use game_def::GameDef;
 use hand_rank::{HandValue, best_of_seven};
 use side_pots::settle;
@@ -37,25 +37,12 @@ pub(crate) fn payoffs(game: &GameDef, play: &Play, deal: &Deal) -> ArrayVec<i64,
     )
 }
 
-/// A position's seven cards: his hole cards and the board.
-fn seven(deal: &Deal, position: usize) -> [Card; 7]
-    requires { position < player_count deal.now }
-    ensures value { result ≡ seven_of deal.now position }
-    ensures distinct { IsDistinct nat_eq result }
-{
-    let hole = deal.hole(position);
-    let board = deal.board();
-    [
-        hole[0], hole[1], board[0], board[1], board[2], board[3], board[4],
-    ]
-}
-
 /// What a position's best five are worth.
 fn value(deal: &Deal, position: usize) -> HandValue
     requires { position < player_count deal.now }
     ensures { result ≡ best_worth (seven_of deal.now position) }
 {
-    best_of_seven(&seven(deal, position))
+    best_of_seven(&deal.seven(position))
 }
 
 /// What each position's best five are worth; behind the last position stands what the first one's are.

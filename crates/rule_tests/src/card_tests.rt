@@ -47,6 +47,10 @@ fn a_deal_lies_at_its_places(rt: HostRuntime) {
     assert!(rt; deal.hole(1) == [cards[2], cards[3]]);
     assert!(rt; are_distinct(&cards));
     assert!(rt; deal.board() == [cards[4], cards[5], cards[6], cards[7], cards[8]]);
+    let second = [
+        cards[2], cards[3], cards[4], cards[5], cards[6], cards[7], cards[8],
+    ];
+    assert!(rt; deal.seven(1) == second);
     assert!(rt; deal.is_same(&deal));
     let other_way = [
         cards[1], cards[0], cards[2], cards[3], cards[4], cards[5], cards[6], cards[7], cards[8],

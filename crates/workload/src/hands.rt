@@ -1,5 +1,4 @@
 ghost use Rattle.std.specs.Prelude.{◌<◌};
-ghost use Rattle.card_core.specs.Deal.{player_count};
 
 use card_core::{Card, Deal};
 use deck_draw::draw;
@@ -47,18 +46,8 @@ pub fn print_draws(rt: &impl Print) -> io::Result<()> {
 /// Counts the hands of all positions of a deal.
 fn count_deal(tally: &mut Tally, deal: &Deal) {
     for position in 0..deal.players() {
-        count_seven(tally, deal, position);
+        count(tally, best_of_seven(&deal.seven(position)));
     }
-}
-
-/// Counts the hand of one position.
-fn count_seven(tally: &mut Tally, deal: &Deal, position: usize)
-    requires { position < player_count deal.now }
-{
-    let [first, second] = deal.hole(position);
-    let [third, fourth, fifth, sixth, seventh] = deal.board();
-    let value = best_of_seven(&[first, second, third, fourth, fifth, sixth, seventh]);
-    count(tally, value);
 }
 
 /// How many of the 2,598,960 five-card hands are of each category.

@@ -1,6 +1,5 @@
 ghost use Rattle.std.specs.Prelude.{◌<◌, nat_eq};
 ghost use Rattle.std.specs.List.{IsDistinct};
-ghost use Rattle.card_core.specs.Deal.{player_count};
 
 use card_core::{Card, Deal};
 use deck_draw::draw;
@@ -68,20 +67,8 @@ fn print_sample(rt: &impl Print) -> io::Result<()> {
 /// Counts the hands of all positions of a deal.
 fn count_deal(found: &mut Found, deal: &Deal) {
     for position in 0..deal.players() {
-        count_position(found, deal, position);
+        found.count(Body::Both, deal.seven(position));
     }
-}
-
-/// Counts the hand of one position.
-fn count_position(found: &mut Found, deal: &Deal, position: usize)
-    requires { position < player_count deal.now }
-{
-    let [first, second] = deal.hole(position);
-    let [third, fourth, fifth, sixth, seventh] = deal.board();
-    found.count(
-        Body::Both,
-        [first, second, third, fourth, fifth, sixth, seventh],
-    );
 }
 
 /// Counts the hands of which these two cards are the highest below the ace.
