@@ -3,10 +3,6 @@ use Rattle.std.proofs.Common.{◌≡◌, ℕ, zero, suc, ◌+◌, ◌<◌, ◌�
 use Rattle.std.proofs.lemmas.Bool.{cases_lt}
 use Rattle.betting.specs.Turns.{count_below}
 
-pub count_below-suc : (P : ℕ → Bool) (n : ℕ) → count_below P (suc n) ≡ count_below P n + cond (P n) 1 0
-unfolding count_below
-count_below-suc P n = refl
-
 pub count_below-add : (P : ℕ → Bool) (n : ℕ) → count_below P (n + 1) ≡ count_below P n + cond (P n) 1 0
 unfolding count_below
 count_below-add P n = rw add-one refl

@@ -1,6 +1,6 @@
 -- What the fields of a play tell of its history.
 use Rattle.std.proofs.Common.{◌≡◌, ℕ, ◌<◌, ◌≤◌, Bool, true, false, not, List, take, Option, Some, None, refl, sym, ap, ◌∙◌, arith, subst}
-use Rattle.std.specs.Prelude.{slice_index, slice_index_or, IfSome, is_none, is_some}
+use Rattle.std.specs.Prelude.{slice_index, IfSome, is_none, is_some}
 use Rattle.game_def.specs.Game.{Game, stack_of}
 use Rattle.betting.specs.declared.totals.Totals.{Totals}
 use Rattle.betting.specs.declared.play.Play.TheInside.{Inside}
@@ -68,26 +68,14 @@ none_tested (Some x) false e = refl
 
 -- the same, of the value that a caller sees
 module _ (d : Inside) (b : Betting) (is : betting_of d ≡ b) (kept : IsKept d) where
-  pub seen_place : (p : ℕ) → p < b.game.players → p < 10
-  seen_place p = subst (λ (w : Betting). p < w.game.players → p < 10) is (λ within. omega (arith, kept.game.most_players))
-
-  pub seen_players : (p : ℕ) → p < b.game.players → p < d.game.players
-  seen_players p = subst (λ (w : Betting). p < w.game.players → p < d.game.players) is (λ within. within)
-
   pub seen_next : IfSome d.totals.next (λ position. position < b.game.players)
   seen_next = subst (λ (w : Betting). IfSome d.totals.next (λ position. position < w.game.players)) is (kept_next_fits d kept)
-
-  pub seen_spent : (p : ℕ) → p < b.game.players → slice_index d.totals.spent p ≡ spent b.game (history b) p
-  seen_spent p = subst (λ (w : Betting). p < w.game.players → slice_index d.totals.spent p ≡ spent w.game (history w) p) is (kept.totals.tally.spent_each p)
 
   pub seen_within_stack : (p : ℕ) → p < b.game.players → slice_index d.totals.spent p ≤ stack_of b.game p
   seen_within_stack p = subst (λ (w : Betting). p < w.game.players → slice_index d.totals.spent p ≤ stack_of w.game p) is (λ within. rw (kept.totals.tally.spent_each p within) ((kept_sound d kept).within_stack p within))
 
   pub seen_within_most : (p : ℕ) → p < b.game.players → slice_index d.totals.spent p ≤ max_spent b.game (history b)
   seen_within_most p = subst (λ (w : Betting). p < w.game.players → slice_index d.totals.spent p ≤ max_spent w.game (history w)) is (λ within. rw (kept.totals.tally.spent_each p within) ((kept_sound d kept).within_most p within))
-
-  pub seen_folded : (p : ℕ) → p < b.game.players → slice_index_or d.totals.folded p false ≡ folded (history b) p
-  seen_folded p = subst (λ (w : Betting). p < w.game.players → slice_index_or d.totals.folded p false ≡ folded (history w) p) is (kept.totals.tally.folded_each p)
 
   pub seen_unfolded : count_below (seat_stays d.totals) d.game.players ≡ unfolded_count b.game (history b)
   unfolding unfolded_count

@@ -4,7 +4,7 @@ use Rattle.std.proofs.lemmas.Bool.{cases_eq, ne_eqb, eq-eqb}
 use Rattle.game_def.specs.Game.{Game, stack_of, big_blind}
 use Rattle.betting.specs.declared.action.Action.{Action}
 use Rattle.betting.specs.declared.action.Action.TheVariants.{Fold, Call, Raise}
-use Rattle.betting.specs.Turns.{Turn, turn_by, is_fold, is_raise, raised_to, count_below, max_spent, spent, folded, live, live_count, has_answered, owes, owing_count, actions_in, raises_in, min_to}
+use Rattle.betting.specs.Turns.{Turn, turn_by, is_raise, raised_to, count_below, max_spent, spent, folded, live, live_count, has_answered, owes, owing_count, actions_in, raises_in, min_to}
 use Rattle.betting.proofs.Counts.{count_below-same, count_below-one_less}
 
 eqb-self : (p : ℕ) → eqb p p ≡ true
@@ -21,10 +21,6 @@ module _ (game : Game) (h : List Turn) (p r : ℕ) (a : Action) where
   pub spent-other : (q : ℕ) → p ≢ q → spent game (turn_by p r a ∷ h) q ≡ spent game h q
   unfolding spent
   spent-other q ne = rw (eqb-other p q ne) refl
-
-  pub folded-turn : (q : ℕ) → folded (turn_by p r a ∷ h) q ≡ ((eqb p q && is_fold a) || folded h q)
-  unfolding folded
-  folded-turn q = refl
 
   pub folded-other : (q : ℕ) → p ≢ q → folded (turn_by p r a ∷ h) q ≡ folded h q
   unfolding folded

@@ -1,5 +1,5 @@
 -- The dealer of a match of two players: what it does computes.
-use Rattle.std.proofs.Common.{◌≡◌, ℕ, ◌≤◌, inl, inr, true, false, Bool, List, [], ◌∷◌, ◌++◌, Some, None, Option, Vec, Global, length, refl, ap, sym, ◌∙◌, arith}
+use Rattle.std.proofs.Common.{◌≡◌, ℕ, ◌≤◌, inl, inr, true, false, Bool, List, [], ◌∷◌, ◌++◌, Some, None, Vec, Global, length, refl, ap, arith}
 use Rattle.std.specs.Prelude.{codes, slice_get}
 use Rattle.betting.specs.declared.action.Action.TheVariants.{Fold, Call, Raise}
 use Rattle.slot_log.specs.declared.command.Command.{Command}
@@ -7,7 +7,7 @@ use Rattle.slot_log.specs.declared.command.Command.TheVariants.{Deal, Act}
 use Rattle.matchstate.specs.Line.{line}
 use Rattle.match_log.proofs.Examples.{opened, two_players, ten_ace, twos_threes, alice_and_bob}
 use Rattle.protocol_model.specs.Dealers.{Dealer, text_of, Seat, Log}
-use Rattle.protocol_model.specs.Arrivals.{Arrival, heard_in}
+use Rattle.protocol_model.proofs.ArrivalExamples.{nothing_said}
 use Rattle.deck_draw.specs.Deck.{drawn}
 use Rattle.dealer_kind.specs.Kind.{Setting, dealer_of}
 use Rattle.dealer_kind.specs.Owning.{OwnsDeals, either, IsDealtOrSaid}
@@ -44,17 +44,7 @@ owns_acts owns = owns 0 (Act 0 0 Call) refl
 
 -- an act that every node owned, and that nobody said, comes from nowhere
 unsaid_act : IsDealtOrSaid (dealer_of setting (λ node command. true)) 3 [] [] (Act 0 0 Call) → ⊥
-unsaid_act said = none (none_before said.moment.came_later said.earlier said.moment.all_came)
-  where
-    none_before : (later earlier : List Arrival) → [] ≡ later ++ earlier → earlier ≡ []
-    none_before [] earlier e = sym e
-    none_before (arrival ∷ later) earlier e = absurd cc
-
-    not_connected : (bytes : List ℕ) → (let nobody : Option (List ℕ) = None in nobody) ≡ Some bytes → ⊥
-    not_connected bytes e = cc
-
-    none : said.earlier ≡ [] → ⊥
-    none e = not_connected said.bytes (sym (ap (λ came. heard_in came said.node said.seat) e) ∙ said.connected)
+unsaid_act said = nothing_said (dealer_of setting (λ node command. true)) 3 [] (Act 0 0 Call) said
 
 -- an act is nobody's own
 no_act : (first : Source) → owns 2 (first ∷ []) 0 (Act 0 0 Call) ≡ false

@@ -1,5 +1,5 @@
 mod Owning
-mod Fitting
+pub mod Fitting
 mod Holding
 mod Saying
 pub mod Examples

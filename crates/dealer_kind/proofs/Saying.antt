@@ -1,9 +1,10 @@
 -- What sessions take from lines, and what lines say to the protocol.
-use Rattle.std.proofs.Common.{◌≡◌, ℕ, ◌<◌, Bool, true, false, List, [], ◌∷◌, ◌++◌, Some, None, Option, length, refl, ap, sym, ◌∙◌, subst, arith, ◌==◌, ◌&&◌, nat_lt}
+use Rattle.std.proofs.Common.{◌≡◌, ℕ, Bool, true, false, List, [], ◌∷◌, ◌++◌, Some, None, Option, length, refl, ap, sym, ◌∙◌, subst, arith, ◌==◌, ◌&&◌, nat_lt}
+use Rattle.std.proofs.lemmas.Option.{same_Some}
 use Rattle.std.specs.Prelude.{bytes_eq, Ok}
 use Rattle.std.proofs.lemmas.Bool.Decides.{nat_tests}
 use Rattle.std.proofs.lemmas.Slice.Eq.{bytes_eq-Decides}
-use Rattle.game_def.specs.Game.{Game, IsGame}
+use Rattle.game_def.specs.Game.{Game}
 use Rattle.betting.specs.declared.action.Action.{Action}
 use Rattle.betting.specs.Rounds.{turns, to_act}
 use Rattle.betting.specs.Legal.{CanAct}
@@ -11,21 +12,18 @@ use Rattle.betting.specs.Text.{action_text}
 use Rattle.slot_log.specs.Hand.{Hand}
 use Rattle.slot_log.specs.Dealer.{Fits}
 use Rattle.slot_log.specs.Laws.{FitsWithoutReason}
-use Rattle.slot_log.specs.declared.command.Command.{Command}
 use Rattle.slot_log.specs.declared.command.Command.TheVariants.{Act}
-use Rattle.matchstate.specs.View.{View, IsView, seat_view}
+use Rattle.matchstate.specs.View.{View, seat_view}
 use Rattle.matchstate.specs.Line.{line_text}
 use Rattle.matchstate.specs.OneReading.{AnswersAreTexts}
 use Rattle.seat_session.specs.Lines.{text_of}
-use Rattle.seat_session.specs.Saying.{SaysAct, Says, Plays}
+use Rattle.seat_session.specs.Saying.{SaysAct, Says}
 use Rattle.seat_session.specs.RightLines.{RightLinesAct}
-use Rattle.seat_session.specs.Laws.{HoldsLine, IsRestOf, WholeLines}
-use Rattle.seat_session.specs.Session.{Standing, Answers}
+use Rattle.seat_session.specs.Laws.{WholeLines}
 use Rattle.seat_session.specs.declared.phase.Phase.{Phase}
 use Rattle.seat_session.specs.declared.phase.Phase.TheVariants.{Greeting, Ready as InPlay, Closed}
 use Rattle.seat_session.specs.declared.said.Said.TheVariants.{Act as SaidAct}
-use Rattle.protocol_model.specs.Dealers.{HasLine}
-use Rattle.dealer_kind.specs.Kind.{Setting, hands_after, fits, is_position, echoes, says}
+use Rattle.dealer_kind.specs.Kind.{hands_after, fits, is_position, echoes}
 use Rattle.dealer_kind.specs.Laws.{SessionsSay, SaidIsHeard, AnswersAreHeard}
 use Rattle.dealer_kind.proofs.Fitting.{fitting}
 use Rattle.dealer_kind.proofs.Holding.{held}
@@ -73,10 +71,7 @@ of_running : (game : Game) (count : ℕ) (hands : List Hand) (seat hand index : 
     → Fits game count hands (Act hand index action) → (view.hand ≡ hand) × (length view.past ≡ index)
 of_running game count [] seat hand index action view is takes = absurd takes
 of_running game count (newest ∷ earlier) seat hand index action view is takes =
-    let shown = some_view is in (ap (λ (v : View). v.hand) (sym shown) ∙ sym takes.same_hand, ap (λ (v : View). length v.past) (sym shown) ∙ sym takes.next_index)
-  where
-    some_view : {a b : View} → Some a ≡ Some b → a ≡ b
-    some_view e = cc
+    let shown = same_Some _ _ is in (ap (λ (v : View). v.hand) (sym shown) ∙ sym takes.same_hand, ap (λ (v : View). length v.past) (sym shown) ∙ sym takes.next_index)
 
 allowed_there : (game : Game) (count : ℕ) (hands : List Hand) (seat hand index : ℕ) (action : Action) (view : View) → seat_view game hands seat ≡ Some view
     → Fits game count hands (Act hand index action) → CanAct game (turns game view.past) action

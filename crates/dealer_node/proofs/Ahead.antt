@@ -1,7 +1,7 @@
 -- How a log goes on.
 use borrow.Author.Tests.{ltb-true}
 use Rattle.std.proofs.Common.{◌≡◌, ℕ, ◌+◌, ◌<◌, ◌≤◌, Bool, true, false, true≢false, List, [], ◌∷◌, refl, ap, sym, ◌∙◌, subst, arith, length, length-append}
-use Rattle.std.specs.Prelude.{not, nat_lt, ◌==◌, if◌then◌else◌, Option, Some, None, is_none}
+use Rattle.std.specs.Prelude.{not, nat_lt, ◌==◌, if◌then◌else◌, Some, None, is_none}
 use Rattle.slot_log.specs.declared.limits.TheConstants.{SLOTS}
 use Rattle.slot_log.specs.declared.command.Command.{Command}
 use Rattle.slot_log.specs.declared.known.Known.{Known}
@@ -10,6 +10,7 @@ use Rattle.slot_log.specs.Slots.{Log, IsLog, Rise, front, known_at, with_command
 use Rattle.slot_log.specs.SlotLaws.{OneMoreIsKnown, FrontsGoOn, CommandsAreKept}
 use Rattle.paxos_wire.specs.declared.ballot.Ballot.{Ballot}
 use Rattle.learner.specs.Learning.{Learned, is_open, counting, knowing, hearing, believing}
+use Rattle.dealer_kind.proofs.Fitting.{none_then}
 use Rattle.dealer_node.specs.Running.{AreInRange, GoesOn}
 
 rise_few : (from : ℕ) (known : List Known) → Rise from known → from ≤ SLOTS + 1 → from + length known ≤ SLOTS + 1
@@ -49,10 +50,6 @@ pub record Goes (old new : Log) : Type 0 where
   pub on : GoesOn old new
   pub range : AreInRange new
 
-none_is : (known : Option Command) → is_none known ≡ true → known ≡ None
-none_is None e = refl
-none_is (Some command) e = absurd (true≢false (sym e))
-
 open_slot : (slot : ℕ) (a b c : Bool) → nat_lt slot SLOTS ≡ c → (if a then false else if b then c else false) ≡ true → slot < SLOTS
 open_slot slot true b c is e = absurd (true≢false (sym e))
 open_slot slot false false c is e = absurd (true≢false (sym e))
@@ -64,7 +61,7 @@ module _ (goes : FrontsGoOn) (kept : CommandsAreKept) (law : OneMoreIsKnown) whe
       → Goes log (if b then with_command log slot command else log)
   known_goes log slot command true e is here within all = record {
     on = one_more goes kept log slot command;
-    range = range_more law log slot command is here (none_is (known_at log slot) e) within all;
+    range = range_more law log slot command is here (none_then (known_at log slot) e) within all;
   }
   known_goes log slot command false e is here within all = record { on = stays log; range = all }
 

@@ -70,10 +70,6 @@ pub record GoesOn (setting : Setting) (sessions : List (Option Talk)) (commands 
   pub is : IsScene setting scene table pending before texts
   pub leads : taking_all setting sessions commands scene ≡ end
 
-pub goes_from : (setting : Setting) (sessions : List (Option Talk)) (commands : List Command) (scene : Scene) (table : Match) (pending : Option Command) (before texts : List (Marked Reader))
-    → IsScene setting scene table pending before texts → GoesOn setting sessions commands (taking_all setting sessions commands scene) table pending before texts
-goes_from setting sessions commands scene table pending before texts is = record { scene = scene; is = is; leads = refl }
-
 taken_first : (setting : Setting) (sessions : List (Option Talk)) (command : Command) (later : List Command) (scene : Scene)
     → taking_all setting sessions (command ∷ later) scene ≡ taking_all setting sessions later (taking setting sessions command scene)
 unfolding taking_all

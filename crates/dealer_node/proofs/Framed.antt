@@ -37,6 +37,7 @@ use Rattle.dealer_node.specs.Posts.{Post, place_at}
 use Rattle.dealer_node.specs.Running.{IsRunning, IsTaken, CanLearn, ahead_of}
 use Rattle.dealer_node.specs.Working.{disk_under, ComesTo, IsDone, IsUp, Took, Failed, Works, HasLeft}
 use Rattle.node_rules.proofs.Asked.{asked_on, asked_same}
+use Rattle.dealer_node.proofs.Left.{left_beside, sent_left}
 use Rattle.dealer_node.proofs.Worked.{OneAppends, same_turn, done_behind, then_works, first_failed, works_from}
 use Rattle.dealer_node.proofs.Stored.{telling_keeps, telling_done}
 
@@ -247,30 +248,11 @@ left_of running made votes frames learn texts bytes = record {
 -- nothing of the room is gone where the ballots are seen
 pub seen_left : (old new : Running) (made : Made) (need : Need) (votes frames : ℕ) → new ≡ record old { seen = new.seen } → HasLeft old made need votes frames → HasLeft new made need votes frames
 seen_left old new made need votes frames rest left =
-    let with_seen : HasLeft (record old { seen = new.seen }) made need votes frames = record {
-      learn = record { learner = left.learn.learner; table = left.learn.table; texts = left.learn.texts; bytes = left.learn.bytes };
-      texts = left.texts;
-      bytes = left.bytes;
-      frames_made = left.frames_made;
-      bytes_made = left.bytes_made;
-      texts_shown = left.texts_shown;
-      bytes_shown = left.bytes_shown;
-      faults_told = left.faults_told;
-    } in
-    subst (λ (r : Running). HasLeft r made need votes frames) (sym rest) with_seen
+    subst (λ (r : Running). HasLeft r made need votes frames) (sym rest) (left_beside old new old made need votes frames left)
 
 -- a question was asked
 pub asked_left : (running : Running) (earlier later : Made) (need : Need) (votes frames : ℕ) → later ≡ record earlier { frames = later.frames } → Grows earlier.frames later.frames 1 46
     → HasLeft running earlier need votes (frames + 1) → HasLeft running later need votes frames
 asked_left running earlier later need votes frames rest grows left =
-    let with_frames : HasLeft running (record earlier { frames = later.frames }) need votes frames = record {
-      learn = record { learner = left.learn.learner; table = left.learn.table; texts = left.learn.texts; bytes = left.learn.bytes };
-      texts = omega (arith, left.texts, grows.text_room);
-      bytes = omega (arith, left.bytes, grows.byte_room);
-      frames_made = omega (arith, left.frames_made, grows.len);
-      bytes_made = omega (arith, left.bytes_made, grows.size);
-      texts_shown = left.texts_shown;
-      bytes_shown = left.bytes_shown;
-      faults_told = left.faults_told;
-    } in
-    subst (λ (m : Made). HasLeft running m need votes frames) (sym rest) with_frames
+    subst (λ (m : Made). HasLeft running m need votes frames) (sym rest)
+    (sent_left running earlier later.frames need votes frames (frames + 1) 1 (omega arith) grows left)

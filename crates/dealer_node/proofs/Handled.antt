@@ -1,11 +1,8 @@
 -- From what a whole call makes of what runs to what it makes of the node.
-use Rattle.std.proofs.Common.{◌≡◌, ◌≤◌, inl, inr, true, false, Result, Ok, Err, refl, sym, ap, subst, ◌∙◌, true≢false}
+use Rattle.std.proofs.Common.{◌≡◌, inl, inr, true, false, Result, Ok, Err, refl, sym, ap, subst}
 use Rattle.std.specs.Prelude.{Option, Some, IsErr, OnOk}
 use Rattle.promise_store.specs.declared.disk.Disk.{Ghosts}
-use Rattle.promise_store.specs.declared.fault.StoreFault.{StoreFault}
 use Rattle.promise_store.specs.declared.fault.StoreFault.TheVariants.{Disk}
-use Rattle.acceptor.specs.Taken.{IsFault}
-use Rattle.promise_store.specs.Disks.{Rose}
 use Rattle.slot_log.specs.Hand.{Match}
 use Rattle.node_rules.specs.Standings.{Standing}
 use Rattle.node_rules.specs.Turns.{Turn, Refusal, Spent, BadFrame}
@@ -17,13 +14,13 @@ use Rattle.dealer_node.specs.declared.fault.NodeFault.{NodeFault}
 use Rattle.dealer_node.specs.declared.fault.NodeFault.TheVariants as fault
 use Rattle.dealer_node.specs.Outs.{Told}
 use Rattle.dealer_node.specs.Posts.{Post, place_at}
-use Rattle.dealer_node.specs.Working.{disk_under, IsDone, GoesOn}
-use Rattle.dealer_node.specs.Handling.{Stays, Handles, HasNoEffect, IsOfCall, AnswersUp}
+use Rattle.dealer_node.specs.Working.{disk_under, IsDone}
+use Rattle.dealer_node.specs.Handling.{Stays, Handles, HasNoEffect}
 use Rattle.dealer_node.specs.Calling.{HandlesCall}
 use Rattle.dealer_node.specs.Nodes.{Node}
 use Rattle.dealer_node.specs.NodeInside.{node_of}
 use Rattle.dealer_node.specs.Seeing.{post_in, runs, disk_in, settled, IsSeen, begun_of, failures_of}
-use Rattle.dealer_node.specs.Taking.{MayFail, TakesDown, AnswersRightly, LeavesDisk, Takes, StaysItself}
+use Rattle.dealer_node.specs.Taking.{MayFail, TakesDown, LeavesDisk, Takes}
 use Rattle.dealer_node.proofs.Settled.{noted, turn_up, up_took, up_unchanged, up_refused, up_failed, up_clashed}
 
 same_post : {D : Type 0} (answer : Result (Unit {0}) NodeFault) (node : Node D) → post_in (settled answer node) ≡ post_in node
@@ -64,48 +61,6 @@ module _ {D : Type 0} (g : Ghosts D) where
   disk_after (Err (fault.Store why)) post blank disk up = refl
   disk_after (Err fault.Conflict) post blank disk up = refl
   disk_after (Err why) post blank disk up = refl
-
-  not_down : (answer : Result (Unit {0}) NodeFault) → IsOfCall answer → answer ≡ Err fault.Down → ⊥
-  not_down answer of e = let P : Result (Unit {0}) NodeFault → Type 0 = λ a. IsOfCall a in subst P e of
-
-  of_open : (answer : Result (Unit {0}) NodeFault) (why : StoreFault) → IsOfCall answer → answer ≡ Err (fault.Store why) → IsFault why
-  of_open answer why of e = let P : Result (Unit {0}) NodeFault → Type 0 = λ a. IsOfCall a in subst P e of
-
-  pub handled_answers : (post : Post) (blank : Match) (disk other : Option D) (old new : Up D) (answer : Result (Unit {0}) NodeFault) → AnswersUp old new answer
-      → AnswersRightly (noted g post blank disk (Some old)) (settled answer (noted g post blank other (Some new))) answer
-  handled_answers post blank disk other old new answer a = record {
-    down = λ down. absurd (true≢false down);
-    up = λ e. absurd (not_down answer a.of_call e);
-    stands = λ none. runs_on answer post blank other new none;
-    disk = λ none. disk_after answer post blank other new ∙ ap (λ (d : D). Some d) (a.disk none);
-    falls = goes_down answer (noted g post blank other (Some new));
-    carries = λ why e. of_open answer why a.of_call e;
-  }
-
-  -- a node that is down answers 90 and stays as it is
-  pub down_answers : (node : Node D) → runs node ≡ false → AnswersRightly node node (Err fault.Down)
-  down_answers node down = record {
-    down = λ d. refl;
-    up = λ e. down;
-    stands = λ none. refl;
-    disk = λ none. refl;
-    falls = λ falls. absurd falls;
-    carries = λ why e. absurd (cc);
-  }
-
-  pub handled_stays : (post : Post) (blank : Match) (disk : Option D) (old new : Up D) (earlier later : Told) (answer : Result (Unit {0}) NodeFault)
-      → GoesOn g old new answer → (IsErr answer → later ≡ earlier)
-      → StaysItself g (noted g post blank disk (Some old)) (settled answer (noted g post blank disk (Some new))) earlier later answer
-  handled_stays post blank disk old new earlier later answer goes unmade =
-      let node : Node D = noted g post blank disk (Some new) in
-      let count = same_failures answer node in
-      record {
-        post = same_post answer node;
-        begun = same_begun answer node ∙ goes.begun;
-        counts = subst (λ n. g.count (disk_under old) ≤ n) (sym count) goes.counts;
-        rose = λ says. subst (λ n. Rose (g.count (disk_under old)) n) (sym count) (goes.rose says);
-        unmade = unmade;
-      }
 
   -- what it made stays as it was by a fault
   same_told : (post : Post) (blank : Match) (disk : Option D) (old : Up D) (node : Node D) (s : Standing) (called : Call) (earlier later : Told) (answer : Result (Unit {0}) NodeFault) → later ≡ earlier

@@ -24,7 +24,6 @@ use Rattle.dealer_node.specs.Running.{TakesPiece, is_spent_at}
 use Rattle.dealer_node.specs.Working.{disk_under, head_of, StandsByIts, IsUp, Works, GoesOn}
 use Rattle.dealer_node.specs.Handling.{Handles}
 use Rattle.dealer_node.specs.Lines.{HearsLine, WorksLine}
-use Rattle.dealer_node.specs.Calling.{Unmoved, Wants}
 use Rattle.dealer_node.proofs.Worked.{memory_took, then_works}
 use Rattle.node_rules.proofs.Results.{ok_is}
 
@@ -88,20 +87,9 @@ module _ {D : Type 0} (g : Ghosts D) where
       record { left = w.left; rule = w.rule; leaves = w.leaves; moments = subst L same w.moments }
   works_over post s outcome before between after made later out behind (Err other) same nothing appends w = absurd w
 
-  pub wants_memory : (post : Post) (s : Standing) (before after : Up D) (answer : Result (Unit {0}) NodeFault) → Unmoved g before after → IsUp g post before s → answer ≡ Err fault.OutOfMemory
-      → Wants g post s before after answer
-  wants_memory post s before after answer unmoved is e = record { stays = record { now = unmoved.up post s is; disk = unmoved.disk }; memory = e }
-
   pub goes_over : (before between after : Up D) (answer : Result (Unit {0}) NodeFault) → disk_under between ≡ disk_under before → GoesOn g between after answer → GoesOn g before after answer
   goes_over before between after answer same on = record {
     begun = on.begun ∙ ap (λ (d : D). g.begun d) same;
     counts = let h : g.count (disk_under between) ≡ g.count (disk_under before) = ap (λ (d : D). g.count d) same in omega (arith, on.counts, h);
     rose = λ e. subst (λ (n : ℕ). Rose n (g.count (disk_under after))) (ap (λ (d : D). g.count d) same) (on.rose e);
-  }
-
-  pub goes_nowhere : (before after : Up D) (answer : Result (Unit {0}) NodeFault) (why : NodeFault) → disk_under after ≡ disk_under before → answer ≡ Err why → (why ≡ fault.Store Disk → ⊥) → GoesOn g before after answer
-  goes_nowhere before after answer why same e other = record {
-    begun = ap (λ (d : D). g.begun d) same;
-    counts = let h : g.count (disk_under after) ≡ g.count (disk_under before) = ap (λ (d : D). g.count d) same in omega (arith, h);
-    rose = λ r. absurd (other (err_of why (fault.Store Disk) (sym e ∙ r)));
   }

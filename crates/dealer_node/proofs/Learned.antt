@@ -1,5 +1,5 @@
 -- What was learned is applied.
-use Rattle.std.proofs.Common.{◌≡◌, ℕ, ◌+◌, true≢false, List, ◌++◌, refl, ap, sym, ◌∙◌, subst, arith, drop, reverse}
+use Rattle.std.proofs.Common.{◌≡◌, ℕ, ◌+◌, true≢false, List, ◌++◌, refl, ap, sym, ◌∙◌, subst, drop, reverse}
 use Rattle.std.specs.Prelude.{map, Result, Ok, Err, IsOk, IsErr}
 use Rattle.std.proofs.lemmas.List.{append-nil}
 use Rattle.slot_log.specs.Slots.{front}
@@ -13,7 +13,6 @@ use Rattle.node_rules.specs.Sending.{Frame}
 use Rattle.node_rules.specs.Learning.{learning}
 use Rattle.node_rules.specs.Applying.{Scene, taking_all, passed, scene_of, applying}
 use Rattle.dealer_node.specs.declared.reader.Reader.{Reader}
-use Rattle.dealer_node.specs.declared.made.Made.{Made}
 use Rattle.dealer_node.specs.declared.running.Running.{Running}
 use Rattle.dealer_node.specs.Texts.{Marked}
 use Rattle.dealer_node.specs.Posts.{Post, place_at}
@@ -21,7 +20,7 @@ use Rattle.dealer_node.specs.Outs.{Told}
 use Rattle.dealer_node.specs.Turned.{posted, printed}
 use Rattle.dealer_node.specs.Fitting.{AreMessages}
 use Rattle.dealer_node.specs.Scenes.{IsTableOf, IsScene}
-use Rattle.dealer_node.specs.Running.{IsRunning, IsTaken, GoesOn, CanLearn, Learns}
+use Rattle.dealer_node.specs.Running.{IsRunning, IsTaken, GoesOn}
 use Rattle.node_rules.proofs.Passing.{all_applied, passed_all}
 use Rattle.dealer_node.proofs.Messages.{no_messages, both_messages}
 use Rattle.dealer_node.proofs.Telling.{told_with, frames_more, shown_more, told_more}
@@ -89,15 +88,6 @@ stored_too post running s store is = record {
 }
 
 -- ---- room
-
--- of room for one command more than these, room for these is left
-pub learns_on : (old new : Running) (earlier later : Made) (commands : ℕ) → CanLearn old earlier (commands + 1) → Learns old new earlier later → CanLearn new later commands
-learns_on old new earlier later commands can learns = record {
-  learner = omega (arith, can.learner, learns.learner);
-  table = omega (arith, can.table, learns.table, learns.ahead);
-  texts = omega (arith, can.texts, learns.shown.text_room, learns.ahead);
-  bytes = omega (arith, can.bytes, learns.shown.byte_room, learns.ahead);
-}
 
 -- ---- one turn behind another
 

@@ -29,6 +29,20 @@ voted_left old new earlier later need votes frames nodes few learns grows rest l
       faults_told = omega (arith, left.faults_told, same);
     }
 
+-- the ballots that it saw and its campaign take no room
+pub left_beside : (old seeing leading : Running) (made : Made) (need : Need) (votes frames : ℕ) → HasLeft old made need votes frames
+    → HasLeft (record old { seen = seeing.seen; proposer = leading.proposer }) made need votes frames
+left_beside old seeing leading made need votes frames left = record {
+  learn = record { learner = left.learn.learner; table = left.learn.table; texts = left.learn.texts; bytes = left.learn.bytes };
+  texts = left.texts;
+  bytes = left.bytes;
+  frames_made = left.frames_made;
+  bytes_made = left.bytes_made;
+  texts_shown = left.texts_shown;
+  bytes_shown = left.bytes_shown;
+  faults_told = left.faults_told;
+}
+
 -- fewer frames, and another ballot
 pub fewer_left : (old new : Running) (made : Made) (need : Need) (votes more frames : ℕ) → frames ≤ more → new ≡ record old { proposer = new.proposer } → HasLeft old made need votes more → HasLeft new made need votes frames
 fewer_left old new made need votes more frames fewer rest left =
@@ -42,17 +56,7 @@ fewer_left old new made need votes more frames fewer rest left =
       bytes_shown = left.bytes_shown;
       faults_told = left.faults_told;
     } in
-    let with_proposer : HasLeft (record old { proposer = new.proposer }) made need votes frames = record {
-      learn = record { learner = same.learn.learner; table = same.learn.table; texts = same.learn.texts; bytes = same.learn.bytes };
-      texts = same.texts;
-      bytes = same.bytes;
-      frames_made = same.frames_made;
-      bytes_made = same.bytes_made;
-      texts_shown = same.texts_shown;
-      bytes_shown = same.bytes_shown;
-      faults_told = same.faults_told;
-    } in
-    subst (λ (r : Running). HasLeft r made need votes frames) (sym rest) with_proposer
+    subst (λ (r : Running). HasLeft r made need votes frames) (sym rest) (left_beside old old new made need votes frames same)
 
 -- frames to the others were sent
 pub sent_left : (running : Running) (earlier : Made) (new : Written ℕ) (need : Need) (votes frames more nodes : ℕ) → nodes + frames ≤ more → Grows earlier.frames new nodes (46 * nodes)

@@ -1,6 +1,6 @@
 -- What is done in memory alone leaves the store as it is.
 use Rattle.std.proofs.Common.{◌≡◌, ℕ, Bool, true, false, List, refl, ap, sym, ◌∙◌, subst}
-use Rattle.std.specs.Prelude.{Option, Some, None, IfSome, Result, Ok, Err, OnOk, if◌then◌else◌}
+use Rattle.std.specs.Prelude.{Option, Some, None, IfSome, Result, Ok, Err, if◌then◌else◌}
 use Rattle.paxos_wire.specs.declared.ballot.Ballot.{Ballot}
 use Rattle.paxos_wire.specs.declared.entry.Entry.{Entry}
 use Rattle.slot_log.specs.declared.slot_fault.SlotFault.{SlotFault}
@@ -21,10 +21,6 @@ use Rattle.node_rules.proofs.Results.{ok_is}
 use Rattle.node_rules.proofs.Asked.{asked_on}
 use Rattle.dealer_node.proofs.Messages.{no_messages}
 use Rattle.dealer_node.proofs.Worked.{nothing_more}
-
-pub on_ok : {P Q : Type 0} {T E : Type 0} (result : Result T E) → (P → Q) → OnOk result P → OnOk result Q
-on_ok (Ok value) f p = f p
-on_ok (Err fault) f p = tt
 
 -- ---- the ballot stays
 

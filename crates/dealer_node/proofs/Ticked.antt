@@ -218,8 +218,3 @@ spends : (post : Post) (s : Standing) (over spent : Bool) → over ≡ false →
 spends post s true spent a b = absurd (true≢false a)
 spends post s false true a b = refl
 spends post s false false a b = absurd (true≢false (sym b))
-
-pub tick_spent : (post : Post) (running : Running) (s : Standing) (promise : Ballot) → IsRunning post running s → promise ≡ s.store.promise → is_over (place_at post) s ≡ false → is_spent_at running promise ≡ true
-    → and_then (ticking (place_at post) s) (closing (place_at post)) ≡ Err Spent
-tick_spent post running s promise is same over spent =
-    ap (λ (o : Result Turn Refusal). and_then o (closing (place_at post))) (spends post s (is_over (place_at post) s) (is_spent s) over (sym (spent_same post running s promise is same) ∙ spent))

@@ -1,6 +1,6 @@
 -- What a node tells of its own vote, as it stands among what a call makes.
-use Rattle.std.proofs.Common.{◌≡◌, ℕ, List, ◌++◌, Result, Ok, Err, ap, sym, subst, ◌∙◌}
-use Rattle.std.specs.Prelude.{map, OnOk}
+use Rattle.std.proofs.Common.{◌≡◌, ℕ, List, ◌++◌, ap, sym, subst, ◌∙◌}
+use Rattle.std.specs.Prelude.{map}
 use Rattle.paxos_wire.specs.declared.ballot.Ballot.{Ballot}
 use Rattle.paxos_wire.specs.declared.message.Message.{Message}
 use Rattle.paxos_wire.specs.declared.message.Message.TheVariants.{Accepted}
@@ -19,10 +19,6 @@ use Rattle.dealer_node.specs.Running.{IsRunning, TakesTurn}
 use Rattle.dealer_node.specs.Voting.{telling_vote}
 use Rattle.dealer_node.proofs.Telling.{told_with}
 use Rattle.dealer_node.proofs.Learned.{sent_taken, taken_behind}
-
-pub on_ok : {T E : Type 0} {A B : Type 0} (r : Result T E) → (A → B) → OnOk r A → OnOk r B
-on_ok (Ok done) f a = f a
-on_ok (Err fault) f a = tt
 
 pub messages_to : (nodes node n i : ℕ) (message : Message) → n ≡ nodes → i ≡ node → AreMessages (to_first n i message) → AreMessages (to_first nodes node message)
 messages_to nodes node n i message a b are =

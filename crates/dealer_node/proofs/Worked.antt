@@ -7,6 +7,7 @@ use Rattle.promise_store.specs.declared.fault.StoreFault.TheVariants.{Disk}
 use Rattle.promise_store.specs.Disks.{During}
 use Rattle.promise_store.specs.Holding.{StandsFor}
 use Rattle.promise_store.specs.Keeping.{Keeps, Leaves, LeavesDuring}
+use Rattle.promise_store.proofs.Appends.{goes_on}
 use Rattle.acceptor.specs.Stored.{store_of}
 use Rattle.protocol_model.proofs.Sets.{in_first, in_later}
 use Rattle.protocol_model.specs.Stores.{Store}
@@ -30,23 +31,17 @@ nothing_more told s = same_told _ _ _ _ _ _ (sym (append-nil told.frames)) (sym 
 
 -- ---- moments
 
-pub later_during : (past between since : ℕ → List ℕ → Type 0) (These Those All : List ℕ → Type 0)
-    → During past between These → During between since Those → ((image : List ℕ) → These image → All image) → ((image : List ℕ) → Those image → All image)
-    → During past since All
-later_during past between since These Those All first next a b t image at =
-    elim (next t image at) [ inl before ↦ elim (first t image before) [ inl was ↦ inl was | inr these ↦ inr (a image these) ] | inr those ↦ inr (b image those) ]
-
 -- the second part goes on from a store that is the first one's, or leaves the store as it is
 pub left_during : (head : List ℕ) (past between since : ℕ → List ℕ → Type 0) (old middle new : Store) → (middle ≡ old) ⊎ (new ≡ middle)
     → During past between (λ image. StandsFor head image old ⊎ StandsFor head image middle)
     → During between since (λ image. StandsFor head image middle ⊎ StandsFor head image new)
     → During past since (λ image. StandsFor head image old ⊎ StandsFor head image new)
 left_during head past between since old middle new (inl e) first next =
-    later_during past between since _ _ _ first next
+    goes_on past between since _ _ _ first next
     (λ image at. elim at [ inl o ↦ inl o | inr m ↦ inl (subst (StandsFor head image) e m) ])
     (λ image at. elim at [ inl m ↦ inl (subst (StandsFor head image) e m) | inr n ↦ inr n ])
 left_during head past between since old middle new (inr e) first next =
-    later_during past between since _ _ _ first next
+    goes_on past between since _ _ _ first next
     (λ image at. elim at [ inl o ↦ inl o | inr m ↦ inr (subst (StandsFor head image) (sym e) m) ])
     (λ image at. elim at [ inl m ↦ inr (subst (StandsFor head image) (sym e) m) | inr n ↦ inr n ])
 

@@ -19,7 +19,7 @@ use Rattle.dealer_world.specs.Records.{Record}
 use Rattle.dealer_world.specs.Views.{grown}
 use Rattle.dealer_world.specs.Recordings.{made_by}
 use Rattle.dealer_world.specs.Events.{node_of}
-use Rattle.dealer_world.specs.Stepping.{IsFor, IsGiven, arrived_by_event, begins_by_event}
+use Rattle.dealer_world.specs.Stepping.{View, IsFor, IsGiven, Gains, Stepped, arrived_by_event, begins_by_event}
 use Rattle.dealer_world.specs.Promise.{IsForMatch}
 use Rattle.dealer_world.specs.Ruling.{ArePosted, GoesOn, IsBehind}
 use Rattle.dealer_world.proofs.Ruled.{node_within, runs_on, runs_still}
@@ -89,11 +89,11 @@ module _ {D : Type 0} (g : Ghosts D) where
       (λ ruled. runs_still g plan before nodes e old new told answer all (node_within (length nodes) plan.setting.game.players e is_for) at honest given none ruled)
 
 -- two reads of one node
-pub same_node : {A : Type 0} (xs : List A) (i : ℕ) (x y : A) → i < length xs → x ≡ get_or xs i x → y ≡ get_or xs i y → x ≡ y
+same_node : {A : Type 0} (xs : List A) (i : ℕ) (x y : A) → i < length xs → x ≡ get_or xs i x → y ≡ get_or xs i y → x ≡ y
 same_node xs i x y less is also = is ∙ (get_or_default xs i x y less ∙ sym also)
 
 -- what the record gained
-pub recorded : (e : Event) (up is_up : Bool) (between old new : Record) (told : Told) (begins : Bool) (answer : Result (Unit {0}) NodeFault)
+recorded : (e : Event) (up is_up : Bool) (between old new : Record) (told : Told) (begins : Bool) (answer : Result (Unit {0}) NodeFault)
     → new ≡ grown between (node_of e) (arrived_by_event up e) (made_by (node_of e) told begins) → begins ≡ begins_by_event up e answer → up ≡ is_up → between ≡ old
     → new ≡ grown old (node_of e) (arrived_by_event is_up e) (made_by (node_of e) told (begins_by_event is_up e answer))
 recorded e up is_up between old new told begins answer is begun runs same =
@@ -104,3 +104,32 @@ recorded e up is_up between old new told begins answer is begun runs same =
 -- the event's node is one of these
 pub node_in : {N : Type 0} (plan : Plan) (nodes : List N) (e : Event) → length nodes ≡ length plan.sources → IsForMatch plan e → node_of e < length nodes
 node_in plan nodes e count is_for = subst (λ n. node_of e < n) (sym count) (node_within (length plan.sources) plan.setting.game.players e is_for)
+
+module _ {D : Type 0} where
+  -- by a call of a node that was seen to run before it was given the event
+  pub record_gained : (nodes : List (Node D)) (e : Event) (i : ℕ) (seen old : Node D) (up : Bool) (between before new : Record) (told : Told) (begins : Bool) (answer : Result (Unit {0}) NodeFault)
+      → i ≡ node_of e → node_of e < length nodes → seen ≡ get_or nodes i seen → old ≡ get_or nodes i old → up ≡ runs seen
+      → new ≡ grown between (node_of e) (arrived_by_event up e) (made_by (node_of e) told begins) → begins ≡ begins_by_event up e answer → between ≡ before
+      → new ≡ grown before (node_of e) (arrived_by_event (runs old) e) (made_by (node_of e) told (begins_by_event (runs old) e answer))
+  record_gained nodes e i seen old up between before new told begins answer is less read again is_up grew begun same =
+      let within : i < length nodes = subst (λ k. k < length nodes) (sym is) less in
+      recorded e up (runs old) between before new told begins answer grew begun (is_up ∙ ap (runs {D = D}) (same_node nodes i seen old within read again)) same
+
+module _ {D : Type 0} (g : Ghosts D) where
+  -- one event, by the node that it was given to
+  pub stepped_to : (old new : View (Node D)) (e : Event) (answer : Result (Unit {0}) NodeFault) (before after : Node D) (told : Told) (i : ℕ) → i ≡ node_of e
+      → new.config ≡ old.config → new.opened ≡ old.opened → length old.nodes ≡ length old.config.sources → IsForMatch old.config e
+      → before ≡ get_or old.nodes i before → new.nodes ≡ set old.nodes i after → IsGiven g e before after told answer → Gains e (runs before) told old new answer
+      → Stepped g old e answer new
+  stepped_to old new e answer before after told i is same_config same_opened count is_for read put given gains = record {
+    same_config = same_config;
+    same_opened = same_opened;
+    before = before;
+    after = after;
+    within = node_in old.config old.nodes e count is_for;
+    at = subst (λ k. get_or old.nodes k before ≡ before) is (sym read);
+    others = put ∙ ap (λ k. set old.nodes k after) is;
+    told = told;
+    given = given;
+    gains = gains;
+  }

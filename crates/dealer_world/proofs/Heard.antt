@@ -5,6 +5,7 @@ use Rattle.std.proofs.lemmas.List.{take-append-le, take_min, take_all, append-ni
 use Rattle.std.proofs.lemmas.Bool.{cases_eq}
 use Rattle.protocol_model.specs.Sets.{In, IsBeginning}
 use Rattle.protocol_model.specs.Arrivals as model
+use Rattle.protocol_model.proofs.Hearing.{none_own}
 use Rattle.dealer_world.specs.Records.{Arrived, Delivered, Came, Connected, Dropped, Arrival}
 use Rattle.dealer_world.specs.Hearing.{heard_after, heard_from, heard_by, WasHeard}
 use Rattle.dealer_world.specs.Headline.{Era, InSome}
@@ -61,13 +62,7 @@ hears_one i came delivered more before latest others own heard earlier node seat
     on (inl here) = inl (was_heard_on delivered more node seat bytes here)
     on (inr there) = inr there
 
-not_both : (j i seat place : ℕ) → j ≢ i → ((j == i) && (seat == place)) ≡ false
-not_both j i seat place other = ap (λ b. b && (seat == place)) (ne_eqb j i other)
-
 -- a seat's event is no other node's
-seat_other : (j i seat place : ℕ) (x heard : Option (List ℕ)) → j ≢ i → cond ((j == i) && (seat == place)) x heard ≡ heard
-seat_other j i seat place x heard other = ap (λ b. cond b x heard) (not_both j i seat place other)
-
 started_other : (j i : ℕ) (heard : Option (List ℕ)) → j ≢ i → cond (j == i) None heard ≡ heard
 started_other j i heard other = ap (λ b. cond b None heard) (ne_eqb j i other)
 
@@ -184,15 +179,15 @@ hears_by i (Connected node seat) count out came delivered before at brings now h
     let found = one_event out (model.Connected node seat) brings in
     subst (λ all. HearsOn i came (all ++ came) delivered (delivered ++ placed_at count (Connected node seat) ∷ []) before) (sym found.1)
     (one_alike i came delivered before found.0 (model.Connected node seat) (placed_at count (Connected node seat)) found.2
-    (λ j place h ne. seat_other j node place seat (Some []) h (λ same. ne (same ∙ at)))
-    (λ j place h ne. seat_other j node place seat (Some []) h (λ same. ne (same ∙ at)))
+    (λ j place h ne. none_own j node seat place (Some []) h (λ same. ne (same ∙ at)))
+    (λ j place h ne. none_own j node seat place (Some []) h (λ same. ne (same ∙ at)))
     (λ place world told tells. tells_by ((i == node) && (place == seat)) (Some []) (Some []) world told (λ bytes is. is) tells) now heard)
 hears_by i (Dropped node seat) count out came delivered before at brings now heard =
     let found = one_event out (model.Dropped node seat) brings in
     subst (λ all. HearsOn i came (all ++ came) delivered (delivered ++ placed_at count (Dropped node seat) ∷ []) before) (sym found.1)
     (one_alike i came delivered before found.0 (model.Dropped node seat) (placed_at count (Dropped node seat)) found.2
-    (λ j place h ne. seat_other j node place seat None h (λ same. ne (same ∙ at)))
-    (λ j place h ne. seat_other j node place seat None h (λ same. ne (same ∙ at)))
+    (λ j place h ne. none_own j node seat place None h (λ same. ne (same ∙ at)))
+    (λ j place h ne. none_own j node seat place None h (λ same. ne (same ∙ at)))
     (λ place world told tells. tells_by ((i == node) && (place == seat)) None None world told (λ bytes is. is) tells) now heard)
 hears_by i (Came node seat bytes) count out came delivered before at brings now heard = elim brings [
   | inl one ↦
@@ -211,8 +206,8 @@ hears_by i (Came node seat bytes) count out came delivered before at brings now 
         → HearsOn i came (arrival ∷ came) delivered (delivered ++ placed_at count (Came node seat bytes) ∷ []) before
     came_by arrival is =
         one_alike i came delivered before arrival (model.Came node seat bytes) (placed_at count (Came node seat bytes)) is
-        (λ j place h ne. seat_other j node place seat (option_map (λ first. first ++ bytes) h) h (λ same. ne (same ∙ at)))
-        (λ j place h ne. seat_other j node place seat (option_map (λ first. first ++ bytes) h) h (λ same. ne (same ∙ at)))
+        (λ j place h ne. none_own j node seat place (option_map (λ first. first ++ bytes) h) h (λ same. ne (same ∙ at)))
+        (λ j place h ne. none_own j node seat place (option_map (λ first. first ++ bytes) h) h (λ same. ne (same ∙ at)))
         (λ place world told tells. tells_by ((i == node) && (place == seat)) (option_map (λ first. first ++ bytes) world) (option_map (λ first. first ++ bytes) told) world told
         (tells_longer bytes world told tells) tells) now heard
 
@@ -221,7 +216,7 @@ hears_by i (Came node seat bytes) count out came delivered before at brings now 
         → HearsOn i (first ∷ came) (later ∷ first ∷ came) (delivered ++ placed_at count (Came node seat bytes) ∷ []) (delivered ++ placed_at count (Came node seat bytes) ∷ []) before
     closed_by first later is on =
         one_alone i (first ∷ came) (delivered ++ placed_at count (Came node seat bytes) ∷ []) before later
-        (λ j place h ne. ap (λ e. model.heard_after e j place h) is ∙ seat_other j node place seat None h (λ same. ne (same ∙ at)))
+        (λ j place h ne. ap (λ e. model.heard_after e j place h) is ∙ none_own j node seat place None h (λ same. ne (same ∙ at)))
         (λ place. subst (λ e. Tells (model.heard_after e i place (model.heard_in (first ∷ came) i place)) (heard_by (delivered ++ placed_at count (Came node seat bytes) ∷ []) i place)) (sym is)
         (tells_closed ((i == node) && (place == seat)) (model.heard_in (first ∷ came) i place) (heard_by (delivered ++ placed_at count (Came node seat bytes) ∷ []) i place) (on.own place (now place))))
         on.heard
@@ -268,9 +263,9 @@ hears i began (what ∷ more) count out came delivered before at brings now hear
 -- what came to one node is nothing to another
 what_other : (i j seat : ℕ) (what : Arrived) (heard : Option (List ℕ)) → IsAt i what → j ≢ i → heard_after what j seat heard ≡ heard
 what_other i j seat (Delivered frame) heard at ne = refl
-what_other i j seat (Came node place bytes) heard at ne = seat_other j node seat place (option_map (λ first. first ++ bytes) heard) heard (λ same. ne (same ∙ at))
-what_other i j seat (Connected node place) heard at ne = seat_other j node seat place (Some []) heard (λ same. ne (same ∙ at))
-what_other i j seat (Dropped node place) heard at ne = seat_other j node seat place None heard (λ same. ne (same ∙ at))
+what_other i j seat (Came node place bytes) heard at ne = none_own j node place seat (option_map (λ first. first ++ bytes) heard) heard (λ same. ne (same ∙ at))
+what_other i j seat (Connected node place) heard at ne = none_own j node place seat (Some []) heard (λ same. ne (same ∙ at))
+what_other i j seat (Dropped node place) heard at ne = none_own j node place seat None heard (λ same. ne (same ∙ at))
 
 others_from : (i j seat count : ℕ) (arrived : List Arrived) (heard : Option (List ℕ)) → ((what : Arrived) → In what arrived → IsAt i what) → j ≢ i
     → heard_from heard (map (placed_at count) arrived) j seat ≡ heard

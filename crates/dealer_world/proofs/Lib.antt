@@ -12,7 +12,7 @@ mod Starting
 mod OneList
 mod Opening
 mod Dealt
-mod Logging
+pub mod Logging
 mod Reading
 mod Ruling
 mod Keeping

@@ -1,6 +1,7 @@
 -- The log of a start, piece by piece.
 use Rattle.std.proofs.Common.{◌≡◌, ℕ, zero, suc, ◌+◌, Some, List, [], ◌∷◌, ◌++◌, reverse, take, slice_get, ap, sym, ◌∙◌, append_assoc, arith}
 use Rattle.std.proofs.lemmas.List.{reverse-append, append-nil}
+use Rattle.std.proofs.lemmas.Option.{same_Some}
 use Rattle.dealer_world.specs.Records.{Piece, logged_by, log_in, log_of}
 
 -- what came later stands behind
@@ -30,10 +31,11 @@ moved_on piece more node start now after added =
     ∙ (append_assoc now (logged_by piece.reader piece node start) (log_of more node start)
     ∙ ap (λ log. now ++ log) (sym (log_of_append (piece ∷ []) more node start)))
 
-one_more : (pieces : List Piece) (number : ℕ) (piece : Piece) → slice_get pieces number ≡ Some piece → take (suc number) pieces ≡ take number pieces ++ piece ∷ []
-one_more [] number piece at = absurd cc
-one_more (first ∷ more) zero piece at = cc
-one_more (first ∷ more) (suc number) piece at = ap (λ pieces. first ∷ pieces) (one_more more number piece at)
+-- a list up to a place, and what stands there
+pub take_next : {A : Type 0} (xs : List A) (n : ℕ) (x : A) → slice_get xs n ≡ Some x → take (suc n) xs ≡ take n xs ++ x ∷ []
+take_next [] n x is = cc
+take_next (y ∷ ys) zero x is = ap (λ z. z ∷ []) (same_Some y x is)
+take_next (y ∷ ys) (suc n) x is = ap (λ zs. y ∷ zs) (take_next ys n x is)
 
 -- a log that has the pieces below a number has that piece too
 pub next_piece : (pieces : List Piece) (number : ℕ) (piece : Piece) (node start : ℕ) (old now after : List ℕ) → slice_get pieces number ≡ Some piece
@@ -41,5 +43,5 @@ pub next_piece : (pieces : List Piece) (number : ℕ) (piece : Piece) (node star
     → after ≡ old ++ log_of (take (number + 1) pieces) node start
 next_piece pieces number piece node start old now after at is added =
     let next : suc number ≡ number + 1 = omega arith in
-    let more : take number pieces ++ piece ∷ [] ≡ take (number + 1) pieces = sym (one_more pieces number piece at) ∙ ap (λ n. take n pieces) next in
+    let more : take number pieces ++ piece ∷ [] ≡ take (number + 1) pieces = sym (take_next pieces number piece at) ∙ ap (λ n. take n pieces) next in
     joined (take number pieces) (piece ∷ []) node start old now after is added ∙ ap (λ ps. old ++ log_of ps node start) more

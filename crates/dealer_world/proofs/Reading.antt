@@ -1,5 +1,5 @@
 -- What follows for whoever reads the records.
-use Rattle.std.proofs.Common.{◌≡◌, ℕ, ◌⊎◌, inl, inr, Bool, true, false, cond, Option, Some, None, List, [], ◌∷◌, ◌++◌, length, refl, ap, sym, ◌∙◌, subst, arith}
+use Rattle.std.proofs.Common.{◌≡◌, ℕ, ◌⊎◌, inl, inr, Bool, true, false, cond, Option, Some, None, List, [], ◌∷◌, ◌++◌, length, refl, ap, sym, ◌∙◌, subst}
 use Rattle.std.specs.Prelude.{nat_lt}
 use Rattle.std.specs.Option.{option_map}
 use Rattle.std.specs.List.{AllByRecursion}
@@ -9,6 +9,7 @@ use Rattle.matchstate.specs.View.{View, seat_view}
 use Rattle.matchstate.specs.Line.{line, line_text}
 use Rattle.matchstate.specs.Laws.{Place, SeatSees, AllSameButUnseen, LinesAgree}
 use Rattle.matchstate.specs.Beginnings.{AlikeThroughout}
+use Rattle.matchstate.proofs.Growing.{same_length}
 use Rattle.match_log.specs.Check.{DealsFairly}
 use Rattle.protocol_model.specs.Sets.{In, IsBeginning}
 use Rattle.dealer_kind.specs.Kind.{Setting}
@@ -51,12 +52,6 @@ lines_agree law setting n eras first second one has_first has_second =
     let w = view_by (nat_lt second.seat setting.game.players) (seat_view setting.game (hands_of setting.game setting.title.hands b.0) second.seat) second.text b.2 in
     let agree = law setting.game setting.title.hands one.commands a.0 b.0 a.1 b.1 first.seat second.seat v.0 w.0 v.1 w.1 in
     (v.0, w.0, v.2, w.2, agree.2)
-
-same_length : (Seen : ℕ → Place → Type 0) (first second : List Command) → AllSameButUnseen Seen first second → length first ≡ length second
-same_length Seen [] [] same = refl
-same_length Seen [] (other ∷ others) same = absurd same
-same_length Seen (command ∷ commands) [] same = absurd same
-same_length Seen (command ∷ commands) (other ∷ others) (is, same) = let e = same_length Seen commands others same in omega arith
 
 beginning_of : (Seen : ℕ → Place → Type 0) (newer first second : List Command) → AllSameButUnseen Seen (newer ++ first) second
     → (before : List Command) × IsBeginning before second × (length before ≡ length first)

@@ -2,17 +2,9 @@
 use Rattle.std.proofs.Common.{◌≡◌, ℕ, zero, suc, ◌<◌, ◌≤◌, List, [], ◌∷◌, ◌++◌, length, get_or, Some, refl, ap, sym, ◌∙◌, arith}
 use Rattle.std.specs.Prelude.{slice_get}
 use Rattle.std.proofs.lemmas.List.{map-append}
-use Rattle.slot_log.proofs.Hands.{in_front, at_end}
 use Rattle.dealer_world.specs.declared.shared_rows.Numbered.{Numbered}
 use Rattle.dealer_world.specs.Rows.{Row}
 use Rattle.dealer_world.specs.SharedRows.{bytes_in, text_of, row_by, rows_by, AreNumbered}
-
--- a text stays where it is when another is put behind
-pub text_stays : {U : Type 0} (old : List (Row U)) (row : Row U) (number : ℕ) → number < length old → text_of (old ++ row ∷ []) number ≡ text_of old number
-text_stays old row number less = ap bytes_in (in_front old (row ∷ []) number less)
-
-pub text_last : {U : Type 0} (old : List (Row U)) (row : Row U) → text_of (old ++ row ∷ []) (length old) ≡ row.text
-text_last old row = ap bytes_in (at_end old row)
 
 rows_stay : {U T : Type 0} (old new : List (Row U)) (entries : List (Numbered T)) → AreNumbered (length old) entries
     → ((number : ℕ) → number < length old → text_of new number ≡ text_of old number) → rows_by new entries ≡ rows_by old entries

@@ -23,5 +23,5 @@ pub drawn_cards :
 drawn_cards n deck moved h =
     let count : length deck ≡ 52 = length_permutation pack deck moved in (
       length-take-le n deck (omega arith),
-      IsDistinct-take n deck (IsDistinct-IsPermutation nat_eq nat_eq_equiv.symm pack deck moved pack-distinct),
+      IsDistinct-take nat_eq n deck (IsDistinct-IsPermutation nat_eq nat_eq_equiv.symm pack deck moved pack-distinct),
     )

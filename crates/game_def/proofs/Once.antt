@@ -19,9 +19,6 @@ at : ℕ → List Entry → ℕ
 at n [] = 0
 at n (entry ∷ entries) = cond (eqb (place_of entry.key) n) 1 0 + at n entries
 
-keys_of : List Entry → List Key
-keys_of entries = map (λ entry. entry.key) entries
-
 none_at : (key : Key) (entries : List Entry) → AllByRecursion (λ other. same_key key other ≡ false) (map (λ entry. entry.key) entries) → at (place_of key) entries ≡ 0
 unfolding at
 none_at key [] apart = refl

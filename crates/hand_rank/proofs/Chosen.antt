@@ -1,20 +1,20 @@
 -- Five cards chosen among the cards by how many of each rank are wanted, and what they are worth.
-use Rattle.std.proofs.Common.{◌≡◌, ◌≢◌, ℕ, zero, suc, ◌+◌, ◌-◌, ◌<◌, ◌≤◌, Bool, true, false, cond, eqb, ◌==◌, ◌&&◌, List, [], ◌∷◌, ◌++◌, length, take, replicate, Option, Some, None, inl, inr, ◌⊎◌, refl, sym, ◌∙◌, ap, subst, arith}
-use Rattle.std.specs.List.{All, AllByRecursion, count_by, list_any, sum}
+use Rattle.std.proofs.Common.{◌≡◌, ℕ, suc, ◌+◌, ◌-◌, ◌<◌, ◌≤◌, Bool, true, false, eqb, ◌==◌, ◌&&◌, List, [], ◌∷◌, ◌++◌, length, take, None, inl, inr, refl, sym, ◌∙◌, ap, subst, arith}
+use Rattle.std.specs.List.{All, count_by, sum}
 use Rattle.std.specs.List.Sorted.{IsPermutation}
-use Rattle.std.proofs.lemmas.Bool.{cases_eq, cases_lt, cases_Bool, eq-eqb, ne_eqb, eqb-true, cond-true, cond-false}
+use Rattle.std.proofs.lemmas.Bool.{cases_eq, cases_lt, cases_Bool}
 use Rattle.std.proofs.lemmas.List.{take_at}
 use Rattle.std.proofs.lemmas.List.Elements.{All-take}
 use Rattle.std.proofs.lemmas.List.Sorted.{IsPermutation-refl, IsPermutation-sym, IsPermutation-cons, IsPermutation-trans, IsPermutation-middle, All-permutation}
 use Rattle.std.proofs.lemmas.List.Sums.{sum_by-cons}
-use Rattle.card_core.specs.Card.{rank_of, suit_of}
-use Rattle.hand_rank.specs.Best.{IsFiveOf, IsReached}
-use Rattle.hand_rank.specs.Five.{straight_top, straight_ranks, is_straight_from, counts_of, is_flush, worth_of_five, rank_count, suit_count}
+use Rattle.card_core.specs.Card.{rank_of}
+use Rattle.hand_rank.specs.Best.{IsFiveOf}
+use Rattle.hand_rank.specs.Five.{straight_top, counts_of, is_flush, worth_of_five, rank_count}
 use Rattle.hand_rank.specs.Worth.{Worth}
 use Rattle.hand_rank.proofs.Groups.{those, those_are, IsDescending, in_is_below, at_rank, category_by, in_order, worth}
-use Rattle.hand_rank.proofs.Picks.{IsIn, IsPicked, wanted, wanted_is_there, wanted_total, wanted_so_often, wanted_is_in, in_is_wanted}
-use Rattle.hand_rank.proofs.Straights.{other_five, at_rank-is, straight_top_found}
-use Rattle.hand_rank.proofs.Totals.{sum_below, sum_below-same, one_if, one_if-true, one_if-false, one_if-le, one_if_same, one_if_other, total_count}
+use Rattle.hand_rank.proofs.Picks.{IsPicked, wanted, wanted_is_there, wanted_total, wanted_so_often, wanted_is_in, in_is_wanted}
+use Rattle.hand_rank.proofs.Straights.{other_five, at_rank-is}
+use Rattle.hand_rank.proofs.Totals.{sum_below, sum_below-same, one_if, one_if-true, one_if_same, one_if_other, total_count}
 
 -- how many of the cards that pass have this rank
 abbrev pub passing_count : (ℕ → Bool) → List ℕ → ℕ → ℕ
@@ -33,10 +33,6 @@ passing-take passes card rank good = ap (λ (b : Bool). one_if (b && (rank_of ca
 
 passing-leave : (passes : ℕ → Bool) (card rank : ℕ) → passes card ≡ false → one_if (passes card && (rank_of card == rank)) ≡ 0
 passing-leave passes card rank bad = ap (λ (b : Bool). one_if (b && (rank_of card == rank))) bad
-
-one_if-and : (a b : Bool) → one_if (a && b) ≤ one_if b
-one_if-and true b = omega arith
-one_if-and false b = omega arith
 
 -- one less of a rank is wanted
 abbrev pub one_less : (ℕ → ℕ) → ℕ → ℕ → ℕ

@@ -1,5 +1,5 @@
 -- The profile of cards grows with them.
-use Rattle.std.proofs.Common.{◌≡◌, ◌≢◌, ℕ, suc, ◌+◌, ◌^◌, ◌<◌, ◌≤◌, Bool, true, false, cond, eqb, ◌==◌, ◌&&◌, List, [], ◌∷◌, ◌++◌, length, take, get_or, bit_and, bit_or, inl, inr, ◌⊎◌, refl, sym, ◌∙◌, ap, subst, arith}
+use Rattle.std.proofs.Common.{◌≡◌, ◌≢◌, ℕ, suc, ◌+◌, ◌^◌, ◌<◌, Bool, true, false, ◌==◌, ◌&&◌, List, [], ◌∷◌, ◌++◌, length, take, get_or, bit_and, bit_or, sym, ◌∙◌, ap, subst, arith}
 use Rattle.std.proofs.lemmas.Bool.{eq-eqb, ne_eqb}
 use Rattle.std.proofs.lemmas.List.{take_more}
 use Rattle.std.proofs.lemmas.List.Sums.{sum_by_push}
@@ -9,8 +9,8 @@ use Rattle.hand_rank.specs.Profile.{IsProfileOf, suited_count}
 use Rattle.hand_rank.specs.Ranks.{IsAtLeast}
 use Rattle.hand_rank.specs.declared.profile.Profile.{Profile}
 use Rattle.hand_rank.proofs.Counts.{rank_count-push}
-use Rattle.hand_rank.proofs.Sets.{at_least_more, at_least_one_more, at_least_none}
-use Rattle.hand_rank.proofs.Totals.{one_if, one_if_same, one_if_other, one_if-true}
+use Rattle.hand_rank.proofs.Sets.{at_least_more, at_least_one_more}
+use Rattle.hand_rank.proofs.Totals.{one_if, one_if_same, one_if_other}
 
 count-here : (cards : List ℕ) (card rank : ℕ) → rank_of card ≡ rank → rank_count (cards ++ card ∷ []) rank ≡ rank_count cards rank + 1
 count-here cards card rank e = omega (arith, rank_count-push cards card rank, one_if_same (rank_of card) rank e)
@@ -28,16 +28,6 @@ pub again_more : (bits less new both card rank size : ℕ) (cards : List ℕ) �
 again_more bits less new both card rank size cards so_far part e met made =
     let P : ℕ → Type 0 = λ n. IsAtLeast n (suc size) (rank_count (cards ++ card ∷ [])) in
     subst P (sym (made ∙ ap (bit_or bits) met)) (at_least_more bits less size rank (rank_count cards) (rank_count (cards ++ card ∷ [])) so_far part (count-here cards card rank e) (count-there cards card rank e))
-
-pub profile_none : (profile : Profile) → profile.once.bits ≡ 0 → profile.twice.bits ≡ 0 → profile.thrice.bits ≡ 0 → profile.four.bits ≡ 0 → IsProfileOf profile []
-profile_none profile once twice thrice four =
-    let P : ℕ → ℕ → Type 0 = λ size n. IsAtLeast n size (rank_count []) in
-    record {
-      once = subst (P 1) (sym once) (at_least_none 1 (rank_count []) (omega arith) (λ rank. refl));
-      twice = subst (P 2) (sym twice) (at_least_none 2 (rank_count []) (omega arith) (λ rank. refl));
-      thrice = subst (P 3) (sym thrice) (at_least_none 3 (rank_count []) (omega arith) (λ rank. refl));
-      four = subst (P 4) (sym four) (at_least_none 4 (rank_count []) (omega arith) (λ rank. refl));
-    }
 
 -- the step of a loop: the card at i is looked at
 pub profile_step : (profile : Profile) (cards : List ℕ) (i card : ℕ) → i < length cards → card ≡ get_or cards i card → IsProfileOf profile (take i cards ++ card ∷ []) → IsProfileOf profile (take (i + 1) cards)

@@ -1,13 +1,12 @@
 -- Each five cards of a pack are read as one of the nine categories, with the ranks that decide.
-use Rattle.std.proofs.Common.{◌≡◌, ◌≢◌, ℕ, zero, suc, ◌+◌, ◌-◌, ◌*◌, ◌<◌, ◌≤◌, Bool, true, false, cond, eqb, ◌==◌, ◌&&◌, List, [], ◌∷◌, ◌++◌, length, get_or, replicate, Option, Some, None, inl, inr, ◌⊎◌, refl, sym, ◌∙◌, ap, subst, arith}
+use Rattle.std.proofs.Common.{◌≡◌, ◌≢◌, ℕ, zero, suc, ◌+◌, ◌-◌, ◌*◌, ◌<◌, ◌≤◌, Bool, true, false, cond, List, [], ◌∷◌, ◌++◌, length, replicate, Option, Some, None, refl, sym, ◌∙◌, ap, subst, arith}
 use Rattle.std.specs.List.{All}
 use Rattle.card_core.specs.Card.{rank_of}
 use Rattle.hand_rank.specs.Five.{straight_top, counts_of, is_flush, worth_of_five, rank_count}
 use Rattle.hand_rank.specs.Worth.{Worth}
-use Rattle.hand_rank.proofs.Groups.{those, those_first, IsFirstThat, at_rank, category_by, in_order, worth, sizes_together}
+use Rattle.hand_rank.proofs.Groups.{those, those_first, IsFirstThat, at_rank, category_by, in_order, sizes_together}
 use Rattle.hand_rank.proofs.Picks.{IsPicked, left_out, left_out-kept, expand}
 use Rattle.hand_rank.proofs.Straights.{IsRunOf, straight_five, other_five, at_rank-le, at_rank-total}
-use Rattle.hand_rank.proofs.Totals.{sum_below}
 
 -- ---- the ranks in order are picked one after another
 
@@ -28,9 +27,6 @@ sizes_of fours threes pairs singles = replicate (length fours) 4 ++ (replicate (
 
 abbrev pub picks_of : List ℕ → List ℕ → List ℕ → List ℕ → List ℕ
 picks_of fours threes pairs singles = fours ++ (threes ++ (pairs ++ (singles ++ [])))
-
-unlike : (x a b : ℕ) → x ≡ a → a ≢ b → x ≢ b
-unlike x a b same differ = λ (e : x ≡ b). differ (sym same ∙ e)
 
 pub all_picked : (count : ℕ → ℕ) (fours threes pairs singles : List ℕ) → those count 4 13 ≡ fours → those count 3 13 ≡ threes → those count 2 13 ≡ pairs → those count 1 13 ≡ singles → IsPicked count (sizes_of fours threes pairs singles) (picks_of fours threes pairs singles)
 all_picked count fours threes pairs singles e4 e3 e2 e1 =

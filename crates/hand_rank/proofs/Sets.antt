@@ -1,5 +1,5 @@
 -- Sets of ranks by their bits: one rank added or taken away, the highest one, and straights.
-use Rattle.std.proofs.Common.{◌≡◌, ◌≢◌, ℕ, zero, suc, ◌+◌, ◌-◌, ◌*◌, ◌/◌, ◌%◌, ◌^◌, ◌<◌, ◌≤◌, min, max, bit_and, bit_or, List, [], ◌∷◌, inl, inr, ◌⊎◌, ◌↔◌, refl, sym, ◌∙◌, ap, subst, arith, le-div_iff_mul-le, div-lt_iff_lt-mul, pow_pos, pow_mono, pow-suc, w16, shr-shr, shr_lt, shl_exact, cond, eqb, false, true}
+use Rattle.std.proofs.Common.{◌≡◌, ◌≢◌, ℕ, zero, suc, ◌+◌, ◌-◌, ◌*◌, ◌/◌, ◌%◌, ◌^◌, ◌<◌, ◌≤◌, min, max, bit_and, bit_or, [], ◌∷◌, inl, inr, ◌⊎◌, sym, ◌∙◌, ap, subst, arith, le-div_iff_mul-le, div-lt_iff_lt-mul, pow_pos, pow_mono, pow-suc, w16, shr-shr, shr_lt, shl_exact, cond, eqb, false}
 use lib.Pow.{pow-lt}
 use Rattle.std.specs.Int.{bit_at, leading_zeros}
 use Rattle.std.proofs.lemmas.Bool.{cases_lt, cases_eq, ne_eqb, cond-false}
@@ -109,10 +109,6 @@ at_least_one_more bits rank count more full one same = record {
             omega (arith, both, there.1, lacked)
       ];
 }
-
--- no rank comes yet
-pub at_least_none : (size : ℕ) (count : ℕ → ℕ) → 0 < size → ((rank : ℕ) → count rank ≡ 0) → IsAtLeast 0 size count
-at_least_none size count some none = record { present = λ rank enough. absurd (omega (arith, none rank)); absent = λ rank few. bit_at-zero rank }
 
 -- ---- straights
 

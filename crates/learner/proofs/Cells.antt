@@ -194,13 +194,6 @@ one_new n cells new before none =
 there_is : (cells : List (Vec Tally Global)) (place : ℕ) (x : Vec Tally Global) → place < length cells → get_or cells place x ≡ get_or cells place (get_or cells place x)
 there_is cells place x within = get_or_default cells place x (get_or cells place x) within
 
-pub tallies_kept : (cells : List (Vec Tally Global)) (place : ℕ) (x new : Vec Tally Global) → place < length cells → new.items ≡ (get_or cells place x).items
-    → tallies_in (set cells place new) ≡ tallies_in cells
-tallies_kept cells place x new within same = tallies_same cells place (get_or cells place x) new within (there_is cells place x within) same
-
 pub room_kept : (m : ℕ) (cells : List (Vec Tally Global)) (place : ℕ) (x new : Vec Tally Global) → place < length cells → spare_of (get_or cells place x) ≤ spare_of new
     → least m (spares cells) ≤ least m (spares (set cells place new))
 room_kept m cells place x new within more = room_same m cells place (get_or cells place x) new within (there_is cells place x within) more
-
-pub room_under : (m : ℕ) (cells : List (Vec Tally Global)) (place : ℕ) (x : Vec Tally Global) → place < length cells → least m (spares cells) ≤ spare_of (get_or cells place x)
-room_under m cells place x within = room_below m cells place (get_or cells place x) within (there_is cells place x within)

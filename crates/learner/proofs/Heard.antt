@@ -1,44 +1,21 @@
 -- What becomes of a learner, case by case.
 use Rattle.std.proofs.Common.{ℕ, ◌≡◌, Bool, true, false, Option, Result, Ok, Err, refl, ap, if◌then◌else◌}
-use Rattle.std.specs.Prelude.{OnOk, OnErr}
+use Rattle.std.specs.Prelude.{OnErr}
 use Rattle.paxos_wire.specs.declared.ballot.Ballot.{Ballot}
 use Rattle.slot_log.specs.declared.command.Command.{Command}
 use Rattle.slot_log.specs.declared.slot_fault.SlotFault.{SlotFault}
 use Rattle.slot_log.specs.declared.slot_fault.SlotFault.TheVariants.{Conflict}
 use Rattle.slot_log.specs.Slots.{known_at}
 use Rattle.learner.specs.declared.chosen.Chosen.{Chosen}
-use Rattle.learner.specs.Learning.{Learned, is_open, is_other, counting, completes, knowing, answer_to, hearing}
-
-pub heard_counted : (l : Learned) (from : ℕ) (b : Ballot) (slot : ℕ) (c : Command) → is_open l.log slot ≡ true → completes l from b slot c ≡ false → counting l from b slot c ≡ hearing l from b slot c
-heard_counted l from b slot c opens incomplete = rw (opens, incomplete) refl
-
-pub heard_refused : (l : Learned) (from : ℕ) (b : Ballot) (slot : ℕ) (c : Command) → is_open l.log slot ≡ true → completes l from b slot c ≡ true → is_other (known_at l.log slot) c ≡ true
-    → l ≡ hearing l from b slot c
-heard_refused l from b slot c opens complete other = rw (opens, complete, other) refl
-
-pub heard_chosen : (l : Learned) (from : ℕ) (b : Ballot) (slot : ℕ) (c : Command) → is_open l.log slot ≡ true → completes l from b slot c ≡ true → is_other (known_at l.log slot) c ≡ false
-    → knowing (counting l from b slot c) slot c ≡ hearing l from b slot c
-heard_chosen l from b slot c opens complete other = rw (opens, complete, other) refl
+use Rattle.learner.specs.Learning.{Learned, is_open, is_other, completes, answer_to}
 
 pub is_refused : (x : Bool) (e : SlotFault) → ◌≡◌ {A = Result (Unit {0}) SlotFault} (Err e) (if x then Err Conflict else Ok tt) → x ≡ true
 is_refused true e h = refl
 is_refused false e h = absurd (cc)
 
-pub is_put : (x : Bool) (done : Unit {0}) → ◌≡◌ {A = Result (Unit {0}) SlotFault} (Ok done) (if x then Err Conflict else Ok tt) → x ≡ false
-is_put true done h = absurd (cc)
-is_put false done h = refl
-
 pub on_err : {T E : Type 0} {P : Type 0} (r : Result T E) → P → OnErr r P
 on_err (Ok x) p = tt
 on_err (Err e) p = p
-
-pub ok_map : {T E : Type 0} {P Q : Type 0} (r : Result T E) → OnOk r P → (P → Q) → OnOk r Q
-ok_map (Ok x) p f = f p
-ok_map (Err e) p f = tt
-
-pub err_map : {T E : Type 0} {P Q : Type 0} (r : Result T E) → OnErr r P → (P → Q) → OnErr r Q
-err_map (Ok x) p f = tt
-err_map (Err e) p f = f p
 
 refused_by : (l : Learned) (from : ℕ) (b : Ballot) (slot : ℕ) (c : Command) (f : SlotFault) (x : Bool) → is_open l.log slot ≡ true → completes l from b slot c ≡ true → is_other (known_at l.log slot) c ≡ x
     → ◌≡◌ {A = Result (Unit {0}) SlotFault} (Err f) (if x then Err Conflict else Ok tt) → ◌≡◌ {A = Result (Option Chosen) SlotFault} (Err f) (answer_to l from b slot c)

@@ -3,7 +3,7 @@ use Rattle.std.proofs.Common.{◌≡◌, ℕ, zero, suc, ◌<◌, ◌≤◌, ◌
 use Rattle.std.specs.Prelude.{codes}
 use Rattle.std.specs.List.{All, IsDistinct}
 use Rattle.card_core.proofs.Examples.{heads_up, heads_up-deal}
-use Rattle.toml.specs.Data.{Data, string, integer, array, table, Items, Members, no_members, member}
+use Rattle.toml.specs.Data.{Data, string, integer, array, table, Members, no_members, member}
 use Rattle.toml.specs.View.{items_of}
 use Rattle.toml.proofs.OnLiterals.{toml_on_literals}
 use Rattle.match_file.specs.declared.key.Key.{Key}
@@ -14,6 +14,7 @@ use Rattle.match_file.specs.Keys.{key_text}
 use Rattle.match_file.specs.Said.{IsAbsent, EachSays, SaysName, SaysDeal, SaysDeals, SaysSource}
 use Rattle.match_file.proofs.Each.{each-length}
 use Rattle.match_file.proofs.Views.{items_of-same}
+use Rattle.match_file.proofs.Told.{some_array}
 use Rattle.match_file.specs.Matches.{HasMembers, SaysTitle, SaysHands, SaysNames, SaysPort}
 use Rattle.match_file.specs.Outages.{out_at, LeaveMost}
 use Rattle.match_file.specs.Refusals.{IsNamed, IsRefused, IsUnnamed, IsUnserved}
@@ -88,11 +89,8 @@ two_names = record {
   are_names = record { one_each = refl; each_name = (alice_is_named.is_name, (bob_is_named.is_name, tt)); distinct = ((refl, tt), (tt, tt)) };
 }
 
-some_array : {items others : Items} → Some (array items) ≡ Some (array others) → items ≡ others
-some_array e = cc
-
 not_in_another_order : SaysNames 2 (only Names (array (items_of alice_and_bob))) (codes "bob" ∷ codes "alice" ∷ []) → ⊥
-not_in_another_order says = omega (arith, first_said says.texts.0 (items_of-same says.texts.0 alice_and_bob (some_array (sym says.texts.1))) says.texts.2)
+not_in_another_order says = omega (arith, first_said says.texts.0 (items_of-same says.texts.0 alice_and_bob (some_array _ _ (sym says.texts.1))) says.texts.2)
   where
     first_said : (items : List Data) → items ≡ alice_and_bob → EachSays SaysName items (codes "bob" ∷ codes "alice" ∷ []) → length (codes "alice") ≡ length (codes "bob")
     first_said [] is each = absurd each
@@ -102,7 +100,7 @@ not_in_another_order says = omega (arith, first_said says.texts.0 (items_of-same
 
 not_for_three : (names : List (List ℕ)) → SaysNames 3 (only Names (array (items_of alice_and_bob))) names → ⊥
 not_for_three names says =
-    let same : says.texts.0 ≡ alice_and_bob = items_of-same says.texts.0 alice_and_bob (some_array (sym says.texts.1)) in
+    let same : says.texts.0 ≡ alice_and_bob = items_of-same says.texts.0 alice_and_bob (some_array _ _ (sym says.texts.1)) in
     omega (arith, says.are_names.one_each, ap length same, each-length SaysName says.texts.0 names says.texts.2)
 
 least_port : SaysPort (only Port (integer (pos 1024))) 1024
@@ -146,12 +144,12 @@ one_deal = ((ten_ace_text ∷ [], refl, (ten_ace_is_said, tt)), omega arith)
 
 too_few_deals : IsAbsent (SaysDeals 2 2 (Some (array (items_of (ten_ace_text ∷ [])))))
 too_few_deals deals says =
-    let same : says.0.0 ≡ ten_ace_text ∷ [] = items_of-same says.0.0 (ten_ace_text ∷ []) (some_array (sym says.0.1)) in
+    let same : says.0.0 ≡ ten_ace_text ∷ [] = items_of-same says.0.0 (ten_ace_text ∷ []) (some_array _ _ (sym says.0.1)) in
     omega (arith, says.1, ap length same, each-length (SaysDeal 2) says.0.0 deals says.0.2)
 
 -- a deal that no hand needs is to be a deal's text, too
 no_number_behind_the_deals : IsAbsent (SaysDeals 2 1 (Some (array (items_of (ten_ace_text ∷ seed_7 ∷ [])))))
-no_number_behind_the_deals deals says = second_said says.0.0 deals (items_of-same says.0.0 (ten_ace_text ∷ seed_7 ∷ []) (some_array (sym says.0.1))) says.0.2
+no_number_behind_the_deals deals says = second_said says.0.0 deals (items_of-same says.0.0 (ten_ace_text ∷ seed_7 ∷ []) (some_array _ _ (sym says.0.1))) says.0.2
   where
     second_said : (items : List Data) (deals : List (List ℕ)) → items ≡ ten_ace_text ∷ seed_7 ∷ [] → EachSays (SaysDeal 2) items deals → ⊥
     second_said [] deals is each = cc

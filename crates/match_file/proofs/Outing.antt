@@ -1,20 +1,12 @@
 -- The counts at which the most nodes are out: those where an outage begins.
 use Rattle.std.proofs.Common.{◌≡◌, ℕ, zero, suc, ◌*◌, ◌<◌, ◌≤◌, ◌⊎◌, inl, inr, Bool, true, false, cond, ◌&&◌, ◌||◌, nat_le, eqb, List, [], ◌∷◌, length, get_or, Option, Some, None, refl, subst, arith}
-use Rattle.std.proofs.lemmas.Bool.{or_left, or_right, or_cases}
+use Rattle.std.proofs.lemmas.Bool.{cases_lt, or_left, or_right, or_cases}
 use Rattle.std.proofs.lemmas.Bool.Decides.{nat_tests}
 use Rattle.std.proofs.lemmas.Grind.{common_steps}
 use Rattle.std.specs.List.{All, AllByRecursion}
+use Rattle.match_log.proofs.FieldCuts.{All-weaker}
 use Rattle.match_file.specs.declared.outage.Outage.{Outage}
 use Rattle.match_file.specs.Outages.{goes_on, is_out, is_node_out, out_at, LeaveMost}
-
-split : (a b : ℕ) → (a ≤ b) ⊎ (b < a)
-split zero b = inl (omega arith)
-split (suc a) zero = inr (omega arith)
-split (suc a) (suc b) = elim (split a b) [ inl below ↦ inl (omega arith) | inr above ↦ inr (omega arith) ]
-
-weaken : {T : Type 0} (P Q : T → Type 0) → ((x : T) → P x → Q x) → (xs : List T) → AllByRecursion P xs → AllByRecursion Q xs
-weaken P Q more [] all = tt
-weaken P Q more (x ∷ xs) all = (more x all.0, weaken P Q more xs all.1)
 
 -- an outage begins then, and none later up to the count
 record IsLatest (outages : List Outage) (count : ℕ) (k : ℕ) (latest : Outage) : Type 0 where
@@ -35,20 +27,20 @@ first x xs count begun others = record { within = omega arith; place = λ d. ref
 latest : (outages : List Outage) (count : ℕ) → NoneBegun outages count ⊎ ((k : ℕ) × (o : Outage) × IsLatest outages count k o)
 latest [] count = inl tt
 latest (x ∷ xs) count =
-    elim (split x.at count) [
-      | inr above ↦
+    elim (cases_lt count x.at) [
+      | inl above ↦
           elim (latest xs count) [
             | inl none ↦ inl (above, none)
             | inr found ↦ inr (suc found.0, found.1, later x xs count found.0 found.1 found.2 (λ le. absurd (omega arith)))
           ]
-      | inl begun ↦
+      | inr begun ↦
           elim (latest xs count) [
-            | inl none ↦ inr (0, x, first x xs count begun (weaken (λ p. count < p.at) (λ p. p.at ≤ count → p.at ≤ x.at) (λ p above le. absurd (omega arith)) xs none))
+            | inl none ↦ inr (0, x, first x xs count begun (All-weaker (λ (p : Outage). count < p.at) (λ (p : Outage). p.at ≤ count → p.at ≤ x.at) xs (λ p above le. absurd (omega arith)) none))
             | inr found ↦
-                elim (split x.at found.1.at) [
-                  | inl below ↦ inr (suc found.0, found.1, later x xs count found.0 found.1 found.2 (λ _. below))
-                  | inr above ↦
-                      inr (0, x, first x xs count begun (weaken (λ p. p.at ≤ count → p.at ≤ found.1.at) (λ p. p.at ≤ count → p.at ≤ x.at) (λ p le begins. let step : p.at ≤ found.1.at = le begins in omega arith) xs found.2.others))
+                elim (cases_lt found.1.at x.at) [
+                  | inr below ↦ inr (suc found.0, found.1, later x xs count found.0 found.1 found.2 (λ _. below))
+                  | inl above ↦
+                      inr (0, x, first x xs count begun (All-weaker (λ (p : Outage). p.at ≤ count → p.at ≤ found.1.at) (λ (p : Outage). p.at ≤ count → p.at ≤ x.at) xs (λ p le begins. let step : p.at ≤ found.1.at = le begins in omega arith) found.2.others))
                 ]
           ]
     ]

@@ -31,7 +31,7 @@ told_wider key Part Whole NotToml wider told = absurd told
 told_wider key Part Whole (Game fault) wider told = absurd told
 told_wider key Part Whole Unreadable wider told = absurd told
 
-some_array : (a b : Items) → Some (array a) ≡ Some (array b) → a ≡ b
+pub some_array : (a b : Items) → Some (array a) ≡ Some (array b) → a ≡ b
 some_array a b e = cc
 
 -- the items of an entry are those of its array

@@ -1,5 +1,6 @@
 -- What values stand for, and what is said by values of which each was read.
 use Rattle.std.proofs.Common.{◌≡◌, ℕ, ℤ, zero, suc, ◌+◌, ◌<◌, List, [], ◌∷◌, ◌++◌, length, get_or, map, take, Option, Some, None, refl, ap, ◌∙◌, sym, subst, arith}
+use Rattle.std.proofs.lemmas.Option.{same_Some}
 use Rattle.std.proofs.lemmas.List.{take_more}
 use Rattle.std.specs.Prelude.{MatchOption}
 use Rattle.std.specs.Borrow.{Bor}
@@ -56,10 +57,7 @@ none_reads Says values i v within is none =
 
 pub text_told : (d : Data) (r : Option (Bor (List ℕ))) → option_copied r ≡ as_str d → MatchOption r (IsAbsent (λ text. d ≡ string text)) (λ text. d ≡ string text.now)
 text_told d None told = λ text is. let found : as_str d ≡ Some text = ap as_str is in cc
-text_told (string s) (Some r) told = ap string (sym (from_some told))
-  where
-    from_some : {a b : List ℕ} → Some a ≡ Some b → a ≡ b
-    from_some e = cc
+text_told (string s) (Some r) told = ap string (sym (same_Some _ _ told))
 text_told (integer s) (Some r) told = cc
 text_told (float s) (Some r) told = cc
 text_told (boolean s) (Some r) told = cc

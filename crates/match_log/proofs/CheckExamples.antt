@@ -45,7 +45,7 @@ loss = inr (record { digits = codes "10"; decimal = ten; some = λ same. let cou
 gain : IsWhole (codes "10")
 gain = inl ten
 
-no_minus_nought : IsWhole (codes "-0") → ⊥
+pub no_minus_nought : IsWhole (codes "-0") → ⊥
 no_minus_nought (inl decimal) = let minus : is_ascii_digit 45 ≡ true = decimal.digits.0 in cc
 no_minus_nought (inr negative) = let whole : 45 ∷ 48 ∷ [] ≡ 45 ∷ negative.digits = negative.whole in let same : 48 ∷ [] ≡ negative.digits = cc in negative.some (sym same)
 

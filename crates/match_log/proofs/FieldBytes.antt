@@ -16,7 +16,9 @@ use Rattle.matchstate.specs.Cards.{cards_text, cards_field}
 use Rattle.matchstate.specs.View.{seat_of}
 use Rattle.match_log.specs.Lines.{names_field}
 use Rattle.match_log.specs.Names.{IsName, AreNames, is_name_byte, names_by_position}
-use Rattle.match_log.proofs.FieldCuts.{IsWithout, All-weaker, All-pieces, All-each, All-range}
+use Rattle.matchstate.specs.Free.{IsFreeOf}
+use Rattle.match_log.proofs.Free.{name_free}
+use Rattle.match_log.proofs.FieldCuts.{All-weaker, All-pieces, All-each, All-range}
 use Rattle.match_log.proofs.NumberTexts.{IsDigit, IsSignedByte, decimal_digits}
 use Rattle.slot_log.proofs.Inside.{all_joined}
 
@@ -24,10 +26,10 @@ use Rattle.slot_log.proofs.Inside.{all_joined}
 abbrev pub IsPlain : ℕ → Type 0
 IsPlain byte = (byte ≢ 58) × (byte ≢ 10)
 
-pub no_colon : (bytes : List ℕ) → AllByRecursion IsPlain bytes → IsWithout 58 bytes
+pub no_colon : (bytes : List ℕ) → AllByRecursion IsPlain bytes → IsFreeOf 58 bytes
 no_colon bytes all = All-weaker IsPlain (λ byte. byte ≢ 58) bytes (λ byte plain. plain.0) all
 
-pub no_end : (bytes : List ℕ) → AllByRecursion IsPlain bytes → IsWithout 10 bytes
+pub no_end : (bytes : List ℕ) → AllByRecursion IsPlain bytes → IsFreeOf 10 bytes
 no_end bytes all = All-weaker IsPlain (λ byte. byte ≢ 10) bytes (λ byte plain. plain.1) all
 
 -- ---- numbers
@@ -44,7 +46,7 @@ digits_plain bytes all = All-weaker IsDigit IsPlain bytes digit_plain all
 signed_plain : (bytes : List ℕ) → AllByRecursion IsSignedByte bytes → AllByRecursion IsPlain bytes
 signed_plain bytes all = All-weaker IsSignedByte IsPlain bytes (λ byte part. (λ e. omega arith, λ e. omega arith)) all
 
-signed_without_bar : (bytes : List ℕ) → AllByRecursion IsSignedByte bytes → IsWithout 124 bytes
+signed_without_bar : (bytes : List ℕ) → AllByRecursion IsSignedByte bytes → IsFreeOf 124 bytes
 signed_without_bar bytes all = All-weaker IsSignedByte (λ byte. byte ≢ 124) bytes (λ byte part e. omega arith) all
 
 bar_plain : IsPlain 124
@@ -57,8 +59,8 @@ AreValues values = AllByRecursion (AllByRecursion IsSignedByte) values
 pub values_plain : (values : List (List ℕ)) → AreValues values → AllByRecursion IsPlain (names_field values)
 values_plain values all = All-pieces IsPlain (λ value. value) values bar_plain (All-weaker (AllByRecursion IsSignedByte) (AllByRecursion IsPlain) values signed_plain all)
 
-pub values_without_bar : (values : List (List ℕ)) → AreValues values → AllByRecursion (IsWithout 124) values
-values_without_bar values all = All-weaker (AllByRecursion IsSignedByte) (IsWithout 124) values signed_without_bar all
+pub values_without_bar : (values : List (List ℕ)) → AreValues values → AllByRecursion (IsFreeOf 124) values
+values_without_bar values all = All-weaker (AllByRecursion IsSignedByte) (IsFreeOf 124) values signed_without_bar all
 
 -- ---- betting
 
@@ -126,15 +128,11 @@ name_plain name is =
     All-weaker (λ byte. is_name_byte byte ≡ true) IsPlain name
     (λ byte passes. (name_byte_is_not byte 58 (λ e. cc) passes, name_byte_is_not byte 10 (λ e. cc) passes)) is.bytes
 
-pub name_without : (other : ℕ) (name : List ℕ) → is_name_byte other ≢ true → IsName name → IsWithout other name
-name_without other name differs is =
-    All-weaker (λ byte. is_name_byte byte ≡ true) (λ byte. byte ≢ other) name (λ byte passes. name_byte_is_not byte other differs passes) is.bytes
-
 pub names_plain : (names : List (List ℕ)) → AllByRecursion IsName names → AllByRecursion IsPlain (names_field names)
 names_plain names all = All-pieces IsPlain (λ name. name) names bar_plain (All-weaker IsName (AllByRecursion IsPlain) names name_plain all)
 
-pub names_without_bar : (names : List (List ℕ)) → AllByRecursion IsName names → AllByRecursion (IsWithout 124) names
-names_without_bar names all = All-weaker IsName (IsWithout 124) names (λ name is. name_without 124 name (λ e. cc) is) all
+pub names_without_bar : (names : List (List ℕ)) → AllByRecursion IsName names → AllByRecursion (IsFreeOf 124) names
+names_without_bar names all = All-weaker IsName (IsFreeOf 124) names (name_free 124 refl) all
 
 -- names by position are names
 pub by_position_are_names : (players number : ℕ) (names : List (List ℕ)) → 1 ≤ players → AreNames players names → AllByRecursion IsName (names_by_position players number names)

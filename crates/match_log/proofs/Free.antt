@@ -10,12 +10,12 @@ use Rattle.game_def.specs.Game.{Game}
 use Rattle.betting.specs.declared.action.Action.{Action}
 use Rattle.betting.specs.declared.action.Action.TheVariants.{Fold, Call, Raise}
 use Rattle.betting.specs.Text.{text, action_text}
+use Rattle.slot_log.proofs.Inside.{all_joined}
 use Rattle.match_log.specs.Names.{IsName, IsGameWord, is_name_byte}
 use Rattle.matchstate.specs.Free.{IsFreeOf}
 
 pub free_append : (byte : ℕ) (xs ys : List ℕ) → IsFreeOf byte xs → IsFreeOf byte ys → IsFreeOf byte (xs ++ ys)
-free_append byte [] ys free others = others
-free_append byte (x ∷ xs) ys free others = (free.0, free_append byte xs ys free.1 others)
+free_append byte xs ys = all_joined (λ (other : ℕ). other ≢ byte) xs ys
 
 -- a byte that fails a test that each byte passes
 pub free_by_test : (test : ℕ → Bool) (byte : ℕ) → test byte ≡ false → (text : List ℕ) → AllByRecursion (λ other. test other ≡ true) text → IsFreeOf byte text

@@ -1,5 +1,4 @@
 pub mod Choices
-pub mod Distinct
 pub mod Tallies
 pub mod Adding
 pub mod Written

@@ -1,8 +1,7 @@
 -- Worked texts where a hand's line is due that are no hand's line: near misses, refuted.
-use Rattle.std.proofs.Common.{◌≡◌, ◌≢◌, ℕ, ◌<◌, ◌≤◌, true, false, ◌&&◌, eqb, nat_eq, lit<, List, [], ◌∷◌, ◌++◌, length, drop, get_or, refl, sym, ◌∙◌, ap, subst, append_assoc, rules, arith, inl, inr}
+use Rattle.std.proofs.Common.{◌≡◌, ◌≢◌, ℕ, ◌<◌, ◌≤◌, true, false, ◌&&◌, eqb, nat_eq, lit<, List, [], ◌∷◌, ◌++◌, length, get_or, refl, sym, ◌∙◌, ap, subst, append_assoc, rules, arith, inl, inr}
 use Rattle.std.specs.Prelude.{codes, decimal}
 use Rattle.std.specs.List.{AllByRecursion}
-use Rattle.std.specs.Char.{is_ascii_digit}
 use Rattle.std.specs.Str.Parse.{digits_value}
 use Rattle.std.proofs.lemmas.Bool.{agree_below_at, eqb-true}
 use Rattle.std.proofs.lemmas.List.{append_cancel_left}
@@ -19,15 +18,18 @@ use Rattle.slot_log.specs.declared.command.Command.TheVariants.{Deal, Act}
 use Rattle.matchstate.specs.Cards.{cards_field, holes_of}
 use Rattle.match_log.specs.Names.{names_by_position}
 use Rattle.match_log.specs.Lines.{names_field, shown_cards}
+use Rattle.matchstate.proofs.Fronts.{stands_within, cut_alike}
 use Rattle.match_log.proofs.Examples.{opened, two_players, alice_and_bob, ten_ace}
 use Rattle.match_log.specs.Numeral.{IsDecimal, IsWhole}
 use Rattle.match_log.specs.Log.{Title}
 use Rattle.match_log.specs.declared.fault_kind.LogFaultKind.TheVariants.{BadHeader, BadState}
 use Rattle.match_log.specs.Check.{DealsFairly, IsTitle, IsPlayed, BeginsLine, HasState, HasNoState, IsFirstFault}
-use Rattle.match_log.proofs.FieldCuts.{IsWithout, All-weaker, cut_alike}
+use Rattle.matchstate.specs.Free.{IsFreeOf}
+use Rattle.match_log.proofs.FieldCuts.{All-weaker}
 use Rattle.match_log.proofs.NumberTexts.{IsSignedByte, decimal_bytes, whole_bytes}
 use Rattle.match_log.proofs.FieldBytes.{no_colon, digits_plain, text_plain, values_plain, values_without_bar}
 use Rattle.match_log.proofs.SameHands.{header_parts}
+use Rattle.match_log.proofs.CheckExamples.{no_minus_nought}
 use Rattle.match_log.proofs.VerdictExamples.{two_player_game, one_hand, folded_hand, hand_played, fault_at, header_and}
 use Rattle.match_log.proofs.OneLine.{line_fields, cards_end, field_tells}
 
@@ -46,10 +48,10 @@ record AreFieldsOf (number betting cards values : List ℕ) (digits : List ℕ) 
   its_values : values ≡ names_field amounts
 
 record AreApart (number betting cards values : List ℕ) : Type 0 where
-  number_ends : IsWithout 58 number
-  betting_ends : IsWithout 58 betting
-  cards_end : IsWithout 58 cards
-  values_end : IsWithout 58 values
+  number_ends : IsFreeOf 58 number
+  betting_ends : IsFreeOf 58 betting
+  cards_end : IsFreeOf 58 cards
+  values_end : IsFreeOf 58 values
 
 fields_read : (names : List (List ℕ)) (hands : List Hand) (number betting cards values seats behind digits : List ℕ) (hand : Hand) (amounts : List (List ℕ)) → AreApart number betting cards values → (state : HasState two_players names hands (line_of number betting cards values seats behind) digits hand amounts)
     → AreFieldsOf number betting cards values digits hand amounts × (seats ++ 10 ∷ behind ≡ names_field state.by_position ++ 10 ∷ state.behind)
@@ -62,7 +64,7 @@ fields_read names hands number betting cards values seats behind digits hand amo
     (record { numbered = first.0; its_betting = second.0; its_cards = third.0; its_values = fourth.0 }, fourth.1)
 
 -- bytes that aren't a colon
-apart_from_colon : (bytes : List ℕ) → AllByRecursion (λ byte. eqb byte 58 ≡ false) bytes → IsWithout 58 bytes
+apart_from_colon : (bytes : List ℕ) → AllByRecursion (λ byte. eqb byte 58 ≡ false) bytes → IsFreeOf 58 bytes
 apart_from_colon [] all = tt
 apart_from_colon (byte ∷ bytes) all = (λ e. let test : eqb 58 58 ≡ false = subst (λ (b : ℕ). eqb b 58 ≡ false) e all.0 in cc, apart_from_colon bytes all.1)
 
@@ -163,10 +165,6 @@ not_moved_on digits hand amounts state =
 
 -- ---- a value that is no whole number
 
-no_minus_zero : IsWhole (codes "-0") → ⊥
-no_minus_zero (inl is) = let digit : is_ascii_digit 45 ≡ true = is.digits.0 in cc
-no_minus_zero (inr is) = is.some (sym (ap (drop 1) is.whole))
-
 minus_zero : HasNoState two_players alice_and_bob [] (line_of (codes "0") (codes "f") (codes "TdAs|8hTc") (codes "5|-0") (codes "alice|bob") [])
 minus_zero digits hand amounts state =
     let apart = apart_by_tests (codes "0") (codes "f") (codes "TdAs|8hTc") (codes "5|-0") (search rules) (search rules) (search rules) (search rules) in
@@ -175,7 +173,7 @@ minus_zero digits hand amounts state =
     let same : codes "5" ∷ codes "-0" ∷ [] ≡ amounts =
     field_tells (codes "5" ∷ codes "-0" ∷ []) amounts (sym state.value_each)
     (((λ e. omega arith), tt), (((λ e. omega arith), ((λ e. omega arith), tt)), tt)) (values_without_bar amounts bytes) read.0.its_values in
-    no_minus_zero (subst (AllByRecursion IsWhole) (sym same) state.whole_values).1.0
+    no_minus_nought (subst (AllByRecursion IsWhole) (sym same) state.whole_values).1.0
 
 -- ---- so they are faults of their lines
 
@@ -204,20 +202,16 @@ bad_value = after_header _ minus_zero
 
 -- ---- a header without its line's end
 
-ends_within : (front rest : List ℕ) → IsWithout 10 (front ++ 10 ∷ rest) → ⊥
-ends_within [] rest all = all.0 refl
-ends_within (byte ∷ front) rest all = ends_within front rest all.1
-
 no_end_of_line : IsFirstFault two_players (codes "# name/game/hands m l2.game 1") (fault_at BadHeader 1)
 no_end_of_line = inl (refl, (λ e. cc, λ title rest has. by title rest (has.whole ∙ header_parts title rest)))
   where
-    without : IsWithout 10 (codes "# name/game/hands m l2.game 1")
+    without : IsFreeOf 10 (codes "# name/game/hands m l2.game 1")
     without = search rules
 
     by : (title : Title) (rest : List ℕ) → codes "# name/game/hands m l2.game 1" ≡ codes "# name/game/hands " ++ (title.name ++ 32 ∷ (title.game ++ 32 ∷ (decimal title.hands ++ 10 ∷ rest))) → ⊥
     by title rest e =
-        ends_within (codes "# name/game/hands " ++ (title.name ++ 32 ∷ (title.game ++ 32 ∷ decimal title.hands))) rest
-        (subst (IsWithout 10) (e ∙ regroup (codes "# name/game/hands ") title.name title.game (decimal title.hands) rest) without)
+        stands_within 10 (codes "# name/game/hands " ++ (title.name ++ 32 ∷ (title.game ++ 32 ∷ decimal title.hands))) rest
+        (subst (IsFreeOf 10) (e ∙ regroup (codes "# name/game/hands ") title.name title.game (decimal title.hands) rest) without)
       where
         regroup : (a b c d others : List ℕ) → a ++ (b ++ 32 ∷ (c ++ 32 ∷ (d ++ 10 ∷ others))) ≡ (a ++ (b ++ 32 ∷ (c ++ 32 ∷ d))) ++ 10 ∷ others
         regroup a b c d others = simp append_assoc
@@ -251,8 +245,8 @@ running_hand played = let ended : false ≡ true = played.finished in cc
 -- a line needs its end
 line_without_end : BeginsLine (codes "SCORE:") (codes "SCORE:0|0:alice|bob") → ⊥
 line_without_end begins =
-    ends_within (codes "SCORE:" ++ begins.line) begins.behind
-    (subst (IsWithout 10) (begins.whole ∙ sym (append_assoc (codes "SCORE:") begins.line (10 ∷ begins.behind))) without)
+    stands_within 10 (codes "SCORE:" ++ begins.line) begins.behind
+    (subst (IsFreeOf 10) (begins.whole ∙ sym (append_assoc (codes "SCORE:") begins.line (10 ∷ begins.behind))) without)
   where
-    without : IsWithout 10 (codes "SCORE:0|0:alice|bob")
+    without : IsFreeOf 10 (codes "SCORE:0|0:alice|bob")
     without = search rules

@@ -11,14 +11,16 @@ use Rattle.match_log.specs.Payoffs.{payoffs_of}
 use Rattle.match_log.specs.Lines.{values_field, names_field, shown_cards, state_text, state_line}
 use Rattle.match_log.specs.Names.{IsName, AreNames, names_by_position}
 use Rattle.match_log.specs.Check.{said_text}
-use Rattle.match_log.proofs.FieldCuts.{IsWithout, cut_alike, pieces_alike}
+use Rattle.matchstate.specs.Free.{IsFreeOf}
+use Rattle.matchstate.proofs.Fronts.{cut_alike}
+use Rattle.match_log.proofs.FieldCuts.{pieces_alike}
 use Rattle.match_log.proofs.NumberTexts.{signed_bytes}
 use Rattle.match_log.proofs.FieldBytes.{AreValues, no_colon, no_end, decimal_plain, text_plain, field_plain, values_plain, values_without_bar, names_plain, names_without_bar, by_position_are_names, length_by_position}
 use Rattle.match_log.proofs.Settling.{length_payoffs}
 
 -- what is said of a hand beside its actions and cards: a number, and for each player a value and a name
 pub record AreSaid (players : ℕ) (number : List ℕ) (values names : List (List ℕ)) : Type 0 where
-  pub number_ends : IsWithout 58 number
+  pub number_ends : IsFreeOf 58 number
   pub value_each : length values ≡ players
   pub are_values : AreValues values
   pub name_each : length names ≡ players
@@ -47,10 +49,10 @@ map_itself : (pieces : List (List ℕ)) → map (λ piece. piece) pieces ≡ pie
 map_itself [] = refl
 map_itself (piece ∷ pieces) = ap (λ (ps : List (List ℕ)). piece ∷ ps) (map_itself pieces)
 
-pub field_tells : (pieces others : List (List ℕ)) → length pieces ≡ length others → AllByRecursion (IsWithout 124) pieces → AllByRecursion (IsWithout 124) others → names_field pieces ≡ names_field others → pieces ≡ others
+pub field_tells : (pieces others : List (List ℕ)) → length pieces ≡ length others → AllByRecursion (IsFreeOf 124) pieces → AllByRecursion (IsFreeOf 124) others → names_field pieces ≡ names_field others → pieces ≡ others
 field_tells pieces others count all these e = sym (map_itself pieces) ∙ pieces_alike (λ piece. piece) pieces others count all these e ∙ map_itself others
 
-pub cards_end : (game : Game) (hand : Hand) → IsWithout 58 (shown_cards game hand.past hand.deal)
+pub cards_end : (game : Game) (hand : Hand) → IsFreeOf 58 (shown_cards game hand.past hand.deal)
 cards_end game hand = no_colon (shown_cards game hand.past hand.deal) (field_plain _ _)
 
 pub lines_say_the_same : (game : Game) (number other : List ℕ) (hand another : Hand) (values amounts names seats : List (List ℕ)) (rest behind : List ℕ)

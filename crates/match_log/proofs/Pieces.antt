@@ -4,7 +4,6 @@ use Rattle.std.specs.List.{flat_map, join_by}
 use Rattle.std.proofs.lemmas.List.{append_cancel_left, drop_more, length-take-le, take-append-drop}
 use Rattle.std.proofs.lemmas.List.Concat.{flat_map-append}
 use Rattle.match_log.specs.Lines.{bar_before}
-use Rattle.match_log.proofs.Joined.{taken_written_more}
 
 -- the pieces from a place on
 abbrev pub later : {X : Type 0} → (X → List ℕ) → ℕ → List X → List ℕ
@@ -50,14 +49,3 @@ pub no_piece : {X : Type 0} (f : X → List ℕ) (xs : List X) (place : ℕ) (by
     → bytes ≡ join_by f (124 ∷ []) (take place xs) ++ rest → bytes ≡ join_by f (124 ∷ []) xs ++ behind → rest ≡ behind
 no_piece f xs place bytes rest behind all so_far whole =
     append_cancel_left (join_by f (124 ∷ []) xs) rest behind (ap (λ ys. join_by f (124 ∷ []) ys ++ rest) (sym all) ∙ sym so_far ∙ whole)
-
--- one piece more was cut off
-pub piece_more : {X : Type 0} (f : X → List ℕ) (xs : List X) (place : ℕ) (d : X) (bytes rest bar behind : List ℕ) → place < length xs
-    → bytes ≡ join_by f (124 ∷ []) (take place xs) ++ rest → rest ≡ bar_before place ++ bar → bar ≡ f (get_or xs place d) ++ behind
-    → bytes ≡ join_by f (124 ∷ []) (take (place + 1) xs) ++ behind
-piece_more {X} f xs place d bytes rest bar behind within so_far with_bar piece =
-    let front = join_by f (124 ∷ []) (take place xs) in
-    let text = f (get_or xs place d) in
-    so_far ∙ ap (λ (t : List ℕ). front ++ t) (with_bar ∙ ap (λ (t : List ℕ). bar_before place ++ t) piece)
-    ∙ sym (append_assoc front (bar_before place) (text ++ behind)) ∙ sym (append_assoc (front ++ bar_before place) text behind)
-    ∙ ap (λ (t : List ℕ). t ++ behind) (taken_written_more f xs place d [] front ((front ++ bar_before place) ++ text) within refl refl)

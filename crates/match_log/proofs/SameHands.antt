@@ -1,5 +1,5 @@
 -- Two readings of one text: their headers, and hand by hand their lines, say the same.
-use Rattle.std.proofs.Common.{◌≡◌, ◌≢◌, ℕ, ◌+◌, ◌%◌, ◌<◌, ◌≤◌, Bool, true, ℤ, pos, ◌+ℤ◌, List, [], ◌∷◌, ◌++◌, length, get_or, refl, sym, ◌∙◌, ap, subst, append_assoc, arith, inl, inr, ◌⊎◌}
+use Rattle.std.proofs.Common.{◌≡◌, ℕ, ◌+◌, ◌%◌, ◌<◌, ◌≤◌, Bool, true, ℤ, pos, ◌+ℤ◌, List, [], ◌∷◌, ◌++◌, length, get_or, refl, sym, ◌∙◌, ap, subst, append_assoc, arith, inl, inr, ◌⊎◌}
 use Rattle.std.specs.Prelude.{codes, decimal, if◌then◌else◌}
 use Rattle.std.specs.List.{AllByRecursion}
 use Rattle.std.proofs.lemmas.Bool.{cases_lt}
@@ -11,15 +11,16 @@ use Rattle.matchstate.specs.OneToOne.{BettingTextsAreOneToOne}
 use Rattle.slot_log.specs.Hand.{Hand}
 use Rattle.slot_log.specs.Dealer.{is_finished}
 use Rattle.matchstate.specs.View.{seat_of, position_of}
-use Rattle.match_log.specs.Names.{IsName, IsGameWord, AreNames, names_by_position}
+use Rattle.match_log.specs.Names.{AreNames, names_by_position}
 use Rattle.match_log.specs.Payoffs.{payoffs_of, total_of, totals_of}
 use Rattle.match_log.specs.Lines.{header_line, state_line}
 use Rattle.match_log.specs.Log.{Title, state_lines}
 use Rattle.match_log.specs.Check.{IsPlayed, HasTitle}
 use Rattle.match_log.specs.Verdict.{PayoffsAreThoseShown}
-use Rattle.match_log.proofs.FieldCuts.{IsWithout, All-weaker, cut_alike}
+use Rattle.matchstate.proofs.Fronts.{cut_alike}
+use Rattle.match_log.proofs.Free.{name_free, word_free}
 use Rattle.std.proofs.lemmas.Fmt.{decimal_injective}
-use Rattle.match_log.proofs.FieldBytes.{no_end, decimal_plain, name_without}
+use Rattle.match_log.proofs.FieldBytes.{no_end, decimal_plain}
 use Rattle.match_log.proofs.OneLine.{SaysTheSame, lines_say_the_same, paid, state_line_says, state_line_said}
 use Rattle.side_pots.proofs.Settled.{map_range-same}
 
@@ -32,18 +33,12 @@ header_parts title rest = ap (λ (t : List ℕ). codes "# name/game/hands " ++ t
     regroup : (a b c : List ℕ) → (a ++ 32 ∷ (b ++ 32 ∷ (c ++ 10 ∷ []))) ++ rest ≡ a ++ 32 ∷ (b ++ 32 ∷ (c ++ 10 ∷ rest))
     regroup a b c = simp append_assoc
 
-name_no_space : (name : List ℕ) → IsName name → IsWithout 32 name
-name_no_space name is = name_without 32 name (λ e. cc) is
-
-word_no_space : (word : List ℕ) → IsGameWord word → IsWithout 32 word
-word_no_space word is = All-weaker (λ byte. (33 ≤ byte) × (byte ≤ 126)) (λ byte. byte ≢ 32) word (λ byte printable e. omega arith) is.printable
-
 -- headers of one text have one number of hands, and the same behind them
 pub headers_alike : (bytes : List ℕ) (title other : Title) (rest behind : List ℕ) → HasTitle bytes title rest → HasTitle bytes other behind → (title.hands ≡ other.hands) × (rest ≡ behind)
 headers_alike bytes title other rest behind one another =
     let whole = append_cancel_left (codes "# name/game/hands ") _ _ (sym (header_parts title rest) ∙ sym one.whole ∙ another.whole ∙ header_parts other behind) in
-    let first = cut_alike 32 title.name other.name _ _ (name_no_space title.name one.is_title.name) (name_no_space other.name another.is_title.name) whole in
-    let second = cut_alike 32 title.game other.game _ _ (word_no_space title.game one.is_title.game) (word_no_space other.game another.is_title.game) first.1 in
+    let first = cut_alike 32 title.name other.name _ _ (name_free 32 refl title.name one.is_title.name) (name_free 32 refl other.name another.is_title.name) whole in
+    let second = cut_alike 32 title.game other.game _ _ (word_free title.game one.is_title.game) (word_free other.game another.is_title.game) first.1 in
     let third = cut_alike 10 (decimal title.hands) (decimal other.hands) rest behind (no_end (decimal title.hands) (decimal_plain title.hands)) (no_end (decimal other.hands) (decimal_plain other.hands)) second.1 in
     let few = one.is_title.most in
     let most = another.is_title.most in

@@ -21,6 +21,7 @@ use Rattle.match_log.specs.Payoffs.{payoffs_of}
 use Rattle.matchstate.specs.Free.{IsFreeOf}
 use Rattle.match_log.specs.Reading.{Fields, joined, AreApart, AreOfHand, MayBeSeats, AreKnown, AreNamed}
 use Rattle.match_log.proofs.Decimals.{decimal_free, whole_free}
+use Rattle.match_log.proofs.FieldCuts.{All-weaker}
 use Rattle.match_log.proofs.Free.{free_append, name_free, betting_free}
 use Rattle.match_log.proofs.OneLine.{line_fields}
 
@@ -64,17 +65,13 @@ pieces_free : (byte : ℕ) → 124 ≢ byte → (pieces : List (List ℕ)) → A
 pieces_free byte apart [] all = tt
 pieces_free byte apart (piece ∷ pieces) all = free_append byte piece (flat_map (λ other. 124 ∷ [] ++ other) pieces) all.0 (later_free byte apart pieces all.1)
 
-all_so : (P Q : List ℕ → Type 0) → ((xs : List ℕ) → P xs → Q xs) → (pieces : List (List ℕ)) → AllByRecursion P pieces → AllByRecursion Q pieces
-all_so P Q so [] all = tt
-all_so P Q so (piece ∷ pieces) all = (so piece all.0, all_so P Q so pieces all.1)
-
 pub fields_apart : (game : Game) (fields : Fields) (hand : Hand) (values by_position : List (List ℕ)) → AreOfHand game fields hand values by_position → AreApart fields
 fields_apart game fields hand values by_position of = record {
   number_field = decimal_free 58 refl fields.number of.numbered;
   betting_field = subst (IsFreeOf 58) (sym of.betting_text) (betting_free game hand.past);
   cards_field = subst (IsFreeOf 58) (sym of.cards_text) (cards_field_free _ _);
-  values_field = subst (IsFreeOf 58) (sym of.values_text) (pieces_free 58 (omega arith) values (all_so IsWhole (IsFreeOf 58) (whole_free 58 refl (omega arith)) values of.whole_values));
-  names_field = subst (IsFreeOf 10) (sym of.names_text) (pieces_free 10 (omega arith) by_position (all_so IsName (IsFreeOf 10) (name_free 10 refl) by_position of.each_name));
+  values_field = subst (IsFreeOf 58) (sym of.values_text) (pieces_free 58 (omega arith) values (All-weaker IsWhole (IsFreeOf 58) values (whole_free 58 refl (omega arith)) of.whole_values));
+  names_field = subst (IsFreeOf 10) (sym of.names_text) (pieces_free 10 (omega arith) by_position (All-weaker IsName (IsFreeOf 10) by_position (name_free 10 refl) of.each_name));
 }
 
 -- ---- a line that says a hand, by its fields

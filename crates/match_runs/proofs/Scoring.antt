@@ -1,11 +1,7 @@
 -- The last line of a text, and what a log got last.
-use Rattle.std.proofs.Common.{◌≡◌, ℕ, List, [], ◌∷◌, ◌++◌, inl, inr, refl, sym, ap, ◌∙◌, append_assoc}
+use Rattle.std.proofs.Common.{◌≡◌, ℕ, List, [], ◌∷◌, ◌++◌, inr, refl, sym, ap, ◌∙◌, append_assoc}
 use Rattle.streamed.specs.Script.{HasNoFeed}
 use Rattle.match_runs.specs.Score.{IsLastLine}
-
--- a text of one line
-pub lone_line : (text line : List ℕ) → text ≡ line ++ 10 ∷ [] → HasNoFeed line → IsLastLine text line
-lone_line text line is unbroken = record { before = []; parts = is; begins = inl refl; unbroken = unbroken }
 
 -- a line behind a line feed
 pub line_behind : (text body front line : List ℕ) → text ≡ body ++ 10 ∷ [] → body ≡ front ++ 10 ∷ line → HasNoFeed line → IsLastLine text line

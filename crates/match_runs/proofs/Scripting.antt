@@ -1,7 +1,7 @@
 -- How far a script of `play` was read and answered, byte by byte and line by line.
 use Rattle.std.proofs.Common.{◌≡◌, ◌≢◌, ℕ, List, [], ◌∷◌, ◌++◌, sym, ◌∙◌, ap, subst, refl, append_assoc}
-use Rattle.std.specs.Prelude.{Option, Some, None}
-use Rattle.std.specs.Io.KnownBytes.{Appends, Consumes, IsAtEnd, Keeps}
+use Rattle.std.specs.Prelude.{Option}
+use Rattle.std.specs.Io.KnownBytes.{Appends, Consumes, IsAtEnd}
 use Rattle.std.proofs.lemmas.List.{append-nil}
 use Rattle.promise_store.specs.contracts.memory_disk.MemoryDiskDisk.TheImpl.{ghosts as in_memory}
 use Rattle.dealer_kind.specs.Plans.{Plan}
@@ -16,10 +16,6 @@ use Rattle.match_runs.specs.PlayOutcome.{AnswersPlay}
 use Rattle.match_runs.specs.declared.scripted.Scripted.{Scripted}
 use Rattle.streamed.proofs.Streams.{append_twice, consume_twice}
 use Rattle.streamed.proofs.Lines.{line_ends, line_goes_on}
-
-pub keep_here : (a : Option (List ℕ)) → Keeps a a
-keep_here None = tt
-keep_here (Some a) = refl
 
 -- before the first byte
 no_lines : AreLines [] [] []

@@ -11,6 +11,7 @@ use Rattle.matchstate.specs.Answer.{IsCut, SaysAction, AnswerReadsAs}
 use Rattle.matchstate.specs.declared.line_fault.LineFault.TheVariants.{NotMatchstate, BadAction}
 use Rattle.matchstate.proofs.Counts.{count_of, count_of-append}
 use Rattle.matchstate.proofs.LastField.{same_cut}
+use Rattle.matchstate.proofs.LineExamples.{count_from_field}
 use Rattle.matchstate.proofs.Examples.{opened, limit_pair, first_deal, played, first_deal_dealt}
 
 -- ---- counting colons
@@ -24,14 +25,6 @@ field_from_count (byte ∷ bytes) none =
     elim (eqb_tells byte 58) [
       | inl same ↦ absurd (let one : 1 + count_of 58 bytes ≡ 0 = rw same.0 at none in omega arith)
       | inr apart ↦ (apart.1, field_from_count bytes (let rest : 0 + count_of 58 bytes ≡ 0 = rw apart.0 at none in omega arith))
-    ]
-
-count_from_field : (bytes : List ℕ) → IsField bytes → count_of 58 bytes ≡ 0
-count_from_field [] is = refl
-count_from_field (byte ∷ bytes) is =
-    elim (eqb_tells byte 58) [
-      | inl same ↦ absurd (is.0 same.1)
-      | inr apart ↦ rw apart.0 (omega (arith, count_from_field bytes is.1))
     ]
 
 behind_colon : (field rest : List ℕ) → IsField field → count_of 58 (field ++ 58 ∷ rest) ≡ 1 + count_of 58 rest

@@ -32,15 +32,15 @@ extended_is past (action ∷ later) =
     ∙ sym (append_assoc (reverse later) (action ∷ []) past)
     ∙ ap (λ r. r ++ past) (sym (reverse-append (action ∷ []) later))
 
+regroup : (a b c d : List ℕ) → a ++ b ++ c ++ d ≡ a ++ (b ++ (c ++ d))
+regroup a b c d = simp append_assoc
+
 text_extended : (game : Game) (past later : List Action) → text game (extended past later) ≡ text game past ++ later_text game past later
 text_extended game past [] = sym (append-nil (text game past))
 text_extended game past (action ∷ later) =
     text_extended game (action ∷ past) later
     ∙ ap (λ t. t ++ later_text game (action ∷ past) later) (text_next game past action)
     ∙ regroup (text game past) (action_text game action) (slashes_after game past action) (later_text game (action ∷ past) later)
-  where
-    regroup : (a b c d : List ℕ) → a ++ b ++ c ++ d ≡ a ++ (b ++ (c ++ d))
-    regroup a b c d = simp append_assoc
 
 -- at the beginning all stands behind
 pub behind_all : (game : Game) (whole : List Action) (bytes : List ℕ) → bytes ≡ text game whole → Behind game [] bytes whole
@@ -116,6 +116,3 @@ text_with game past bytes rest action behind whole begins =
     whole ∙ ap (λ r. text game past ++ r) begins
     ∙ sym (regroup (text game past) (action_text game action) (slashes_after game past action) behind)
     ∙ ap (λ t. t ++ behind) (sym (text_next game past action))
-  where
-    regroup : (a b c d : List ℕ) → a ++ b ++ c ++ d ≡ a ++ (b ++ (c ++ d))
-    regroup a b c d = simp append_assoc

@@ -4,14 +4,11 @@ use Rattle.std.specs.List.{AllByRecursion, concat, flat_map}
 use Rattle.std.proofs.lemmas.List.{append-nil, take_more_set, take_more, drop_more, drop-drop, drop_at}
 use Rattle.std.proofs.lemmas.List.Concat.{flat_map-append}
 use Rattle.card_core.specs.Card.{text_of}
+use Rattle.slot_log.proofs.Begin.{AllByRecursion-push}
 use Rattle.matchstate.specs.Cards.{cards_text}
 
 pub cards_text_push : (cards : List ℕ) (card : ℕ) → cards_text (cards ++ card ∷ []) ≡ cards_text cards ++ text_of card
 cards_text_push cards card = flat_map-append text_of cards (card ∷ []) ∙ ap (λ t. cards_text cards ++ t) (append-nil (text_of card))
-
-pub All-push : (P : ℕ → Type 0) (xs : List ℕ) (x : ℕ) → AllByRecursion P xs → P x → AllByRecursion P (xs ++ x ∷ [])
-All-push P [] x all here = (here, tt)
-All-push P (y ∷ xs) x all here = (all.0, All-push P xs x all.1 here)
 
 pub All-at : (P : ℕ → Type 0) (xs : List ℕ) (i : ℕ) → i < length xs → AllByRecursion P xs → P (get_or xs i 0)
 All-at P [] i below all = absurd (omega arith)
@@ -37,7 +34,7 @@ module _ (bytes rest next : List ℕ) (kept : List ℕ) (i card : ℕ) (below : 
       ∙ ap (λ cs. cards_text cs ++ next) (sym (take_more_set kept i card below))
 
   pub pack_next : AllByRecursion (λ c. c < 52) (take i kept) → card < 52 → AllByRecursion (λ c. c < 52) (take (i + 1) (set kept i card))
-  pack_next all small = subst (AllByRecursion (λ c. c < 52)) (sym (take_more_set kept i card below)) (All-push (λ c. c < 52) (take i kept) card all small)
+  pack_next all small = subst (AllByRecursion (λ c. c < 52)) (sym (take_more_set kept i card below)) (AllByRecursion-push (λ c. c < 52) (take i kept) card all small)
 
   -- the cards that stand there are those that were read
   pub same_next : (cards behind : List ℕ) → i < length cards → rest ≡ cards_text (drop i cards) ++ behind → take i kept ≡ take i cards → card ≡ get_or cards i 0 → (next ≡ cards_text (drop (i + 1) cards) ++ behind) × (take (i + 1) (set kept i card) ≡ take (i + 1) cards)

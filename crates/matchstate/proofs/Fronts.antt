@@ -10,6 +10,11 @@ use Rattle.matchstate.specs.Free.{IsFreeOf}
 abbrev pub other_than : ℕ → ℕ → Bool
 other_than byte other = not (eqb other byte)
 
+-- a text in which the byte stands
+pub stands_within : (byte : ℕ) (front behind : List ℕ) → IsFreeOf byte (front ++ byte ∷ behind) → ⊥
+stands_within byte [] behind free = free.0 refl
+stands_within byte (other ∷ front) behind free = stands_within byte front behind free.1
+
 pub front_ends : (byte : ℕ) (front behind : List ℕ) → IsFreeOf byte front → prefix_len (other_than byte) (front ++ byte ∷ behind) ≡ length front
 front_ends byte [] behind free = let same : eqb byte byte ≡ true = grind (arith, nat_tests) in rw same refl
 front_ends byte (other ∷ front) behind free =
@@ -17,6 +22,17 @@ front_ends byte (other ∷ front) behind free =
     let test : eqb other byte ≡ false = grind (arith, nat_tests) in
     let more = front_ends byte front behind free.1 in
     rw test (omega arith)
+
+-- two texts up to the first such byte, and what stands behind it, are cut in one way
+pub cut_alike : (byte : ℕ) (first second rest behind : List ℕ) → IsFreeOf byte first → IsFreeOf byte second → first ++ byte ∷ rest ≡ second ++ byte ∷ behind → (first ≡ second) × (rest ≡ behind)
+cut_alike byte [] [] rest behind p q e = (refl, cc)
+cut_alike byte [] (y ∷ second) rest behind p q e = let same : y ≡ byte = cc in absurd (q.0 same)
+cut_alike byte (x ∷ first) [] rest behind p q e = let same : x ≡ byte = cc in absurd (p.0 same)
+cut_alike byte (x ∷ first) (y ∷ second) rest behind p q e =
+    let heads : x ≡ y = cc in
+    let tails : first ++ byte ∷ rest ≡ second ++ byte ∷ behind = cc in
+    let more = cut_alike byte first second rest behind p.1 q.1 tails in
+    (ap (λ (b : ℕ). b ∷ first) heads ∙ ap (λ (bs : List ℕ). y ∷ bs) more.0, more.1)
 
 pub free_front : (byte : ℕ) (bytes : List ℕ) → IsFreeOf byte (take (prefix_len (other_than byte) bytes) bytes)
 free_front byte [] = tt

@@ -272,7 +272,7 @@ less_seen Seen Shown (command ∷ commands) (other ∷ others) covers same = (on
     one (Act hand index action) (Deal number cards) e = absurd e
     one (Act hand index action) (Act number place step) e = e
 
-same_length : (Seen : ℕ → Place → Type 0) (first second : List Command) → AllSameButUnseen Seen first second → length first ≡ length second
+pub same_length : (Seen : ℕ → Place → Type 0) (first second : List Command) → AllSameButUnseen Seen first second → length first ≡ length second
 same_length Seen [] [] same = refl
 same_length Seen [] (other ∷ others) same = absurd same
 same_length Seen (command ∷ commands) [] same = absurd same

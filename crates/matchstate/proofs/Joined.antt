@@ -3,6 +3,7 @@ use Rattle.std.proofs.Common.{◌≡◌, ℕ, zero, suc, ◌+◌, ◌<◌, List,
 use Rattle.std.specs.List.{AllByRecursion, flat_map, join_by, concat, range_with_len}
 use Rattle.std.proofs.lemmas.List.{append-nil, drop_more, take_more, take_more_set, map-append, length-map, length-take}
 use Rattle.std.proofs.lemmas.List.FromFn.{get_or-map-range_with_len, length-map-range_with_len, map-range_with_len_more}
+use Rattle.slot_log.proofs.Inside.{all_joined}
 use Rattle.matchstate.specs.Cards.{cards_text}
 use Rattle.matchstate.specs.SeenCards.{separator, hole_in}
 
@@ -19,19 +20,19 @@ pub joined_is : (holes : List (List ℕ)) → joined 0 holes ≡ join_by cards_t
 joined_is [] = refl
 joined_is (hole ∷ holes) = ap (λ rest. cards_text hole ++ rest) (joined_later 0 holes)
 
+regroup : (a b c d : List ℕ) → a ++ (b ++ (c ++ d)) ≡ a ++ (b ++ c) ++ d
+regroup a b c d = simp append_assoc
+
 pub joined_push : (first : ℕ) (holes : List (List ℕ)) (hole : List ℕ) → joined first (holes ++ hole ∷ []) ≡ joined first holes ++ (separator (first + length holes) ++ cards_text hole)
 joined_push first [] hole = let e : first + 0 ≡ first = omega arith in rw (e, append-nil (cards_text hole)) refl
 joined_push first (other ∷ holes) hole =
     let e : suc first + length holes ≡ first + suc (length holes) = omega arith in
     ap (λ rest. separator first ++ (cards_text other ++ rest)) (joined_push (suc first) holes hole ∙ ap (λ k. joined (suc first) holes ++ (separator k ++ cards_text hole)) e)
     ∙ regroup (separator first) (cards_text other) (joined (suc first) holes) (separator (first + suc (length holes)) ++ cards_text hole)
-  where
-    regroup : (a b c d : List ℕ) → a ++ (b ++ (c ++ d)) ≡ a ++ (b ++ c) ++ d
-    regroup a b c d = simp append_assoc
 
 -- ---- the hole cards of a position
 
-All-part : (P : ℕ → Type 0) (xs ys : List ℕ) → AllByRecursion P (xs ++ ys) → AllByRecursion P xs × AllByRecursion P ys
+pub All-part : (P : ℕ → Type 0) (xs ys : List ℕ) → AllByRecursion P (xs ++ ys) → AllByRecursion P xs × AllByRecursion P ys
 All-part P [] ys all = (tt, all)
 All-part P (x ∷ xs) ys all = let parts = All-part P xs ys all.1 in ((all.0, parts.0), parts.1)
 
@@ -60,21 +61,14 @@ module _ (want : ℕ → ℕ) (players : ℕ) (holes : List (List ℕ)) (counts 
       let count = count_of_holes in
       let next : suc p ≡ p + 1 = omega arith in
       is ∙ ap (λ hs. joined p hs ++ behind) (drop_more holes p [] (omega (arith, count, below)))
-      ∙ regroup (separator p) (cards_text (get_or holes p [])) (joined (suc p) (drop (p + 1) holes)) behind
+      ∙ sym (regroup (separator p) (cards_text (get_or holes p [])) (joined (suc p) (drop (p + 1) holes)) behind)
       ∙ ap (λ k. separator p ++ (cards_text (get_or holes p []) ++ (joined k (drop (p + 1) holes) ++ behind))) next
-    where
-      regroup : (a b c d : List ℕ) → a ++ (b ++ c) ++ d ≡ a ++ (b ++ (c ++ d))
-      regroup a b c d = simp append_assoc
 
 -- ---- one more position read
 
 pub concat_push : (xs : List (List ℕ)) (x : List ℕ) → concat (xs ++ x ∷ []) ≡ concat xs ++ x
 concat_push [] x = append-nil x
 concat_push (y ∷ xs) x = ap (λ r. y ++ r) (concat_push xs x) ∙ sym (append_assoc y (concat xs) x)
-
-All-join : (P : ℕ → Type 0) (xs ys : List ℕ) → AllByRecursion P xs → AllByRecursion P ys → AllByRecursion P (xs ++ ys)
-All-join P [] ys all others = others
-All-join P (x ∷ xs) ys all others = (all.0, All-join P xs ys all.1 others)
 
 module _ (holes : List (Option (List ℕ))) (p : ℕ) (hole : Option (List ℕ)) (below : p < length holes) where
   holes_more : map hole_in (take (p + 1) (set holes p hole)) ≡ map hole_in (take p holes) ++ hole_in hole ∷ []
@@ -89,9 +83,6 @@ module _ (holes : List (Option (List ℕ))) (p : ℕ) (hole : Option (List ℕ))
       ∙ ap (λ k. joined 0 front ++ (separator k ++ cards_text (hole_in hole)) ++ behind) (sym count)
       ∙ ap (λ t. t ++ behind) (sym (joined_push 0 front (hole_in hole)))
       ∙ ap (λ hs. joined 0 hs ++ behind) (sym holes_more)
-    where
-      regroup : (a b c d : List ℕ) → a ++ (b ++ (c ++ d)) ≡ a ++ (b ++ c) ++ d
-      regroup a b c d = simp append_assoc
 
   pub counts_more : (want : ℕ → ℕ) → map length (map hole_in (take p holes)) ≡ map want (range_with_len 0 p) → length (hole_in hole) ≡ want p → map length (map hole_in (take (p + 1) (set holes p hole))) ≡ map want (range_with_len 0 (p + 1))
   counts_more want before here =
@@ -102,7 +93,7 @@ module _ (holes : List (Option (List ℕ))) (p : ℕ) (hole : Option (List ℕ))
   pub pack_more : AllByRecursion (λ card. card < 52) (concat (map hole_in (take p holes))) → AllByRecursion (λ card. card < 52) (hole_in hole) → AllByRecursion (λ card. card < 52) (concat (map hole_in (take (p + 1) (set holes p hole))))
   pack_more before here =
       subst (AllByRecursion (λ card. card < 52)) (sym (ap concat holes_more ∙ concat_push (map hole_in (take p holes)) (hole_in hole)))
-      (All-join (λ card. card < 52) (concat (map hole_in (take p holes))) (hole_in hole) before here)
+      (all_joined (λ card. card < 52) (concat (map hole_in (take p holes))) (hole_in hole) before here)
 
   pub same_more : (others : List (List ℕ)) → p < length others → map hole_in (take p holes) ≡ take p others → hole_in hole ≡ get_or others p [] → map hole_in (take (p + 1) (set holes p hole)) ≡ take (p + 1) others
   same_more others within before here =

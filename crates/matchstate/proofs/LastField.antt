@@ -1,20 +1,17 @@
 -- The last field of a text: what stands behind its last colon.
 use Rattle.std.proofs.Common.{◌≡◌, ℕ, List, [], ◌∷◌, ◌++◌, refl, subst}
 use Rattle.matchstate.specs.Line.{IsField}
-
-pub no_field : (line field : List ℕ) → IsField (line ++ 58 ∷ field) → ⊥
-no_field [] field is = is.0 refl
-no_field (byte ∷ line) field is = no_field line field is.1
+use Rattle.matchstate.proofs.Fronts.{stands_within}
 
 -- a text is cut at its last colon in one way alone
 pub same_cut : (line field other last : List ℕ) → IsField field → IsField last → line ++ 58 ∷ field ≡ other ++ 58 ∷ last → (line ≡ other) × (field ≡ last)
 same_cut [] field [] last is behind same = (refl, cc)
 same_cut [] field (byte ∷ other) last is behind same =
     let e : field ≡ other ++ 58 ∷ last = cc in
-    absurd (no_field other last (subst IsField e is))
+    absurd (stands_within 58 other last (subst IsField e is))
 same_cut (byte ∷ line) field [] last is behind same =
     let e : last ≡ line ++ 58 ∷ field = cc in
-    absurd (no_field line field (subst IsField e behind))
+    absurd (stands_within 58 line field (subst IsField e behind))
 same_cut (byte ∷ line) field (head ∷ other) last is behind same =
     let first : byte ≡ head = cc in
     let rest : line ++ 58 ∷ field ≡ other ++ 58 ∷ last = cc in

@@ -35,3 +35,4 @@ pub mod OneAnswer
 pub mod Missing
 pub mod SaidExamples
 pub mod RightTexts
+pub mod Stripped

@@ -104,7 +104,7 @@ flop_fields = fields_with (codes "0") (codes "0") (codes "rrrc/") (codes "TdAs|/
 flop_has_fields : HasFields (codes "MATCHSTATE:0:0:rrrc/:TdAs|/2c8c3h") flop_fields
 flop_has_fields = has_fields (codes "0") (codes "0") (codes "rrrc/") (codes "TdAs|/2c8c3h") refl refl refl refl
 
-count_from_field : (bytes : List ℕ) → IsField bytes → count_of 58 bytes ≡ 0
+pub count_from_field : (bytes : List ℕ) → IsField bytes → count_of 58 bytes ≡ 0
 count_from_field [] field = refl
 count_from_field (byte ∷ bytes) field =
     let other : byte ≢ 58 = field.0 in

@@ -12,16 +12,17 @@ use Rattle.betting.specs.declared.action.Action.TheVariants.{Fold, Call, Raise}
 use Rattle.betting.specs.Rounds.{turns, current_round}
 use Rattle.betting.specs.Legal.{Legal, CanAct}
 use Rattle.betting.specs.Text.{text, action_text}
+use Rattle.slot_log.proofs.Inside.{all_joined}
 use Rattle.matchstate.specs.Cards.{cards_text, cards_field, all_cards}
 use Rattle.matchstate.specs.Line.{IsField}
 use Rattle.matchstate.specs.Reading.{slashes_after}
 use Rattle.matchstate.proofs.Texts.{text_none, text_next}
 use Rattle.matchstate.proofs.Words.{raise_fits, decimals_are_numerals}
-use Rattle.matchstate.proofs.OneField.{OfPack, OfPack-parts, marked}
+use Rattle.matchstate.proofs.Joined.{All-part}
+use Rattle.matchstate.proofs.OneField.{OfPack, marked}
 
 joins : (xs ys : List ℕ) → IsField xs → IsField ys → IsField (xs ++ ys)
-joins [] ys field others = others
-joins (x ∷ xs) ys field others = (field.0, joins xs ys field.1 others)
+joins xs ys = all_joined (λ (byte : ℕ). byte ≢ 58) xs ys
 
 -- ---- numbers
 
@@ -77,16 +78,16 @@ no_colon_in_cards (card ∷ cards) all = (no_colon_in_rank card all.0, (no_colon
 no_colon_in_groups : (mark : ℕ) (groups : List (List ℕ)) → mark ≢ 58 → OfPack (concat groups) → IsField (marked mark groups)
 no_colon_in_groups mark [] other all = tt
 no_colon_in_groups mark (group ∷ groups) other all =
-    let parts = OfPack-parts group (concat groups) all in
+    let parts = All-part (λ card. card < 52) group (concat groups) all in
     (other, joins (cards_text group) (marked mark groups) (no_colon_in_cards group parts.0) (no_colon_in_groups mark groups other parts.1))
 
 no_colon_in_holes : (holes : List (List ℕ)) → OfPack (concat holes) → IsField (join_by cards_text (124 ∷ []) holes)
 no_colon_in_holes [] all = tt
 no_colon_in_holes (hole ∷ holes) all =
-    let parts = OfPack-parts hole (concat holes) all in
+    let parts = All-part (λ card. card < 52) hole (concat holes) all in
     joins (cards_text hole) (marked 124 holes) (no_colon_in_cards hole parts.0) (no_colon_in_groups 124 holes (omega arith) parts.1)
 
 pub no_colon_in_field : (holes boards : List (List ℕ)) → OfPack (all_cards holes boards) → IsField (cards_field holes boards)
 no_colon_in_field holes boards all =
-    let parts = OfPack-parts (concat holes) (concat boards) all in
+    let parts = All-part (λ card. card < 52) (concat holes) (concat boards) all in
     joins (join_by cards_text (124 ∷ []) holes) (marked 47 boards) (no_colon_in_holes holes parts.0) (no_colon_in_groups 47 boards (omega arith) parts.1)

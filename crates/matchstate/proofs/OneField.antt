@@ -6,15 +6,12 @@ use Rattle.card_core.specs.Deal.{IsDeal}
 use Rattle.matchstate.specs.Cards.{cards_text, holes_of, boards_of, all_cards, AreSeenOf, AreInPlace}
 use Rattle.matchstate.proofs.Seen.{place_from_seen}
 use Rattle.matchstate.proofs.Dealt.{all_of}
+use Rattle.matchstate.proofs.Joined.{All-part}
 use Rattle.matchstate.specs.OneToOne.{CardsFieldsAreOneToOne, SeenFieldsAreOneToOne, ShownDealsAreOneToOne, DealTextsAreOneToOne}
 use Rattle.card_core.proofs.Letters.{text_of-one}
 
 abbrev pub OfPack : List ℕ → Type 0
 OfPack cards = AllByRecursion (λ card. card < 52) cards
-
-pub OfPack-parts : (xs ys : List ℕ) → OfPack (xs ++ ys) → OfPack xs × OfPack ys
-OfPack-parts [] ys all = (tt, all)
-OfPack-parts (x ∷ xs) ys all = let parts = OfPack-parts xs ys all.1 in ((all.0, parts.0), parts.1)
 
 -- as many cards in front
 same_cards : (cards others behind rest : List ℕ) → length cards ≡ length others → OfPack cards → OfPack others → cards_text cards ++ behind ≡ cards_text others ++ rest → (cards ≡ others) × (behind ≡ rest)
@@ -40,8 +37,8 @@ same_groups mark (group ∷ groups) [] behind rest counts all each e = cc
 same_groups mark (group ∷ groups) (other ∷ others) behind rest counts all each e =
     let count : length group ≡ length other = cc in
     let more : map length groups ≡ map length others = cc in
-    let parts = OfPack-parts group (concat groups) all in
-    let pieces = OfPack-parts other (concat others) each in
+    let parts = All-part (λ card. card < 52) group (concat groups) all in
+    let pieces = All-part (λ card. card < 52) other (concat others) each in
     let shape : mark ∷ (cards_text group ++ (marked mark groups ++ behind)) ≡ mark ∷ (cards_text other ++ (marked mark others ++ rest)) =
     ap (λ t. mark ∷ t) (sym (append_assoc (cards_text group) (marked mark groups) behind)) ∙ e ∙ ap (λ t. mark ∷ t) (append_assoc (cards_text other) (marked mark others) rest) in
     let inner : cards_text group ++ (marked mark groups ++ behind) ≡ cards_text other ++ (marked mark others ++ rest) = cc in
@@ -59,8 +56,8 @@ same_holes (hole ∷ holes) [] behind rest counts all each e = cc
 same_holes (hole ∷ holes) (other ∷ others) behind rest counts all each e =
     let count : length hole ≡ length other = cc in
     let more : map length holes ≡ map length others = cc in
-    let parts = OfPack-parts hole (concat holes) all in
-    let pieces = OfPack-parts other (concat others) each in
+    let parts = All-part (λ card. card < 52) hole (concat holes) all in
+    let pieces = All-part (λ card. card < 52) other (concat others) each in
     let shape : cards_text hole ++ (marked 124 holes ++ behind) ≡ cards_text other ++ (marked 124 others ++ rest) =
     sym (append_assoc (cards_text hole) (marked 124 holes) behind) ∙ e ∙ append_assoc (cards_text other) (marked 124 others) rest in
     let first = same_cards hole other (marked 124 holes ++ behind) (marked 124 others ++ rest) count parts.0 pieces.0 shape in
@@ -71,8 +68,8 @@ same_holes (hole ∷ holes) (other ∷ others) behind rest counts all each e =
 
 pub cards_fields_are_one_to_one : CardsFieldsAreOneToOne
 cards_fields_are_one_to_one players sees rounds holes boards others streets place spot e =
-    let parts = OfPack-parts (concat holes) (concat boards) place.pack in
-    let pieces = OfPack-parts (concat others) (concat streets) spot.pack in
+    let parts = All-part (λ card. card < 52) (concat holes) (concat boards) place.pack in
+    let pieces = All-part (λ card. card < 52) (concat others) (concat streets) spot.pack in
     let first = same_holes holes others (marked 47 boards) (marked 47 streets) (place.hole_counts ∙ sym spot.hole_counts) parts.0 pieces.0 e in
     let board : marked 47 boards ++ [] ≡ marked 47 streets ++ [] = ap (λ t. t ++ []) first.1 in
     let later = same_groups 47 boards streets [] [] (place.board_counts ∙ sym spot.board_counts) parts.1 pieces.1 board in

@@ -1,5 +1,5 @@
 -- A view has one line, and a line says one view.
-use Rattle.std.proofs.Common.{◌≡◌, ℕ, ◌<◌, List, [], ◌∷◌, ◌++◌, Ok, Err, decimal, codes, refl, sym, ap, ◌∙◌, subst, arith}
+use Rattle.std.proofs.Common.{◌≡◌, ℕ, ◌<◌, List, Ok, Err, decimal, codes, refl, sym, ap, ◌∙◌, subst, arith}
 use Rattle.std.proofs.lemmas.Fmt.{decimal_injective}
 use Rattle.std.proofs.lemmas.List.{append_cancel_left}
 use Rattle.game_def.specs.Game.{Game, IsGame}
@@ -8,9 +8,10 @@ use Rattle.betting.specs.Legal.{Legal}
 use Rattle.betting.specs.Text.{text}
 use Rattle.matchstate.specs.Cards.{cards_field, AreSeen}
 use Rattle.matchstate.specs.View.{View, IsView, sees, rounds_seen}
-use Rattle.matchstate.specs.Line.{Fields, joined, IsField, HasFields, AreNumbers, IsBetting, AreCards, IsLine, line_text, ReadsAs}
+use Rattle.matchstate.specs.Line.{Fields, joined, HasFields, AreNumbers, IsBetting, AreCards, IsLine, line_text, ReadsAs}
 use Rattle.matchstate.specs.declared.line_fault.LineFault.{LineFault}
 use Rattle.matchstate.specs.declared.line_fault.LineFault.TheVariants.{NotMatchstate, BadNumber, BadBetting, BadCards, BadAction}
+use Rattle.matchstate.proofs.Fronts.{cut_alike}
 use Rattle.matchstate.proofs.Seen.{place_from_seen}
 use Rattle.matchstate.specs.OneLine.{TextsAreLines, LinesAreTexts, LinesSayOneView, TextsReadBack}
 use Rattle.matchstate.specs.OneReading.{LinesReadOneWay}
@@ -20,26 +21,15 @@ use Rattle.matchstate.proofs.NoColon.{no_colon_in_decimal, no_colon_in_text, no_
 
 -- ---- a text has its fields in one way
 
-same_cut : (field other behind rest : List ℕ) → IsField field → IsField other → field ++ 58 ∷ behind ≡ other ++ 58 ∷ rest → (field ≡ other) × (behind ≡ rest)
-same_cut [] [] behind rest none other_none e = (refl, cc)
-same_cut [] (byte ∷ other) behind rest none other_none e = let colon : byte ≡ 58 = cc in absurd (other_none.0 colon)
-same_cut (byte ∷ field) [] behind rest none other_none e = let colon : byte ≡ 58 = cc in absurd (none.0 colon)
-same_cut (byte ∷ field) (letter ∷ other) behind rest none other_none e =
-    let first : byte ≡ letter = cc in
-    let later : field ++ 58 ∷ behind ≡ other ++ 58 ∷ rest = cc in
-    let same = same_cut field other behind rest none.1 other_none.1 later in
-    let front = same.0 in
-    (cc, same.1)
-
 abbrev pub fields_with : List ℕ → List ℕ → List ℕ → List ℕ → Fields
 fields_with position hand betting cards = record { position = position; hand = hand; betting = betting; cards = cards }
 
 pub same_fields : (bytes : List ℕ) (fields others : Fields) → HasFields bytes fields → HasFields bytes others → fields ≡ others
 same_fields bytes fields others has have =
     let whole = append_cancel_left (codes "MATCHSTATE:") _ _ (sym has.whole ∙ have.whole) in
-    let position = same_cut fields.position others.position _ _ has.position_field have.position_field whole in
-    let hand = same_cut fields.hand others.hand _ _ has.hand_field have.hand_field position.1 in
-    let betting = same_cut fields.betting others.betting _ _ has.betting_field have.betting_field hand.1 in
+    let position = cut_alike 58 fields.position others.position _ _ has.position_field have.position_field whole in
+    let hand = cut_alike 58 fields.hand others.hand _ _ has.hand_field have.hand_field position.1 in
+    let betting = cut_alike 58 fields.betting others.betting _ _ has.betting_field have.betting_field hand.1 in
     ap (λ x. fields_with x fields.hand fields.betting fields.cards) position.0
     ∙ ap (λ x. fields_with others.position x fields.betting fields.cards) hand.0
     ∙ ap (λ x. fields_with others.position others.hand x fields.cards) betting.0

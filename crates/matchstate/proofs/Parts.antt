@@ -3,8 +3,10 @@ use Rattle.std.proofs.Common.{◌≡◌, ℕ, zero, suc, ◌<◌, ◌≤◌, Boo
 use Rattle.std.specs.List.{AllByRecursion, concat, flat_map, join_by, range_with_len}
 use Rattle.std.proofs.lemmas.List.{append-nil, map-append}
 use Rattle.std.proofs.lemmas.List.Concat.{flat_map-append}
+use Rattle.slot_log.proofs.Inside.{all_joined}
 use Rattle.matchstate.specs.Cards.{cards_text, cards_field}
 use Rattle.matchstate.specs.SeenCards.{AreCounted}
+use Rattle.matchstate.proofs.Joined.{All-part}
 
 -- the text of rounds that have begun
 abbrev pub streets_text : List (List ℕ) → List ℕ
@@ -44,14 +46,6 @@ pub concat-append : (xs ys : List (List ℕ)) → concat (xs ++ ys) ≡ concat x
 concat-append [] ys = refl
 concat-append (x ∷ xs) ys = ap (λ rest. x ++ rest) (concat-append xs ys) ∙ sym (append_assoc x (concat xs) (concat ys))
 
-All-part : (xs ys : List ℕ) → AllOfPack (xs ++ ys) → AllOfPack xs × AllOfPack ys
-All-part [] ys all = (tt, all)
-All-part (x ∷ xs) ys all = let parts = All-part xs ys all.1 in ((all.0, parts.0), parts.1)
-
-All-join : (xs ys : List ℕ) → AllOfPack xs → AllOfPack ys → AllOfPack (xs ++ ys)
-All-join [] ys all others = others
-All-join (x ∷ xs) ys all others = (all.0, All-join xs ys all.1 others)
-
 -- the parts of a field's text
 pub record Parts (rounds : ℕ) (holes boards : List (List ℕ)) (bytes : List ℕ) : Type 0 where
   pub split : Rounds rounds boards
@@ -68,11 +62,11 @@ parts_of players sees rounds holes boards bytes most counted is =
     let streets : streets_text boards ≡ streets_text split.flop ++ (streets_text split.turn ++ (streets_text split.river ++ [])) =
     ap streets_text split.is ∙ flat_map-append (λ cards. 47 ∷ cards_text cards) split.flop (split.turn ++ split.river)
     ∙ ap (λ r. streets_text split.flop ++ r) (flat_map-append (λ cards. 47 ∷ cards_text cards) split.turn split.river ∙ ap (λ r. streets_text split.turn ++ r) (sym (append-nil (streets_text split.river)))) in
-    let whole = All-part (concat holes) (concat boards) counted.pack in
+    let whole = All-part (λ card. card < 52) (concat holes) (concat boards) counted.pack in
     let all : AllOfPack (concat split.flop ++ (concat split.turn ++ concat split.river)) =
     subst AllOfPack (ap concat split.is ∙ concat-append split.flop (split.turn ++ split.river) ∙ ap (λ r. concat split.flop ++ r) (concat-append split.turn split.river)) whole.1 in
-    let first = All-part (concat split.flop) (concat split.turn ++ concat split.river) all in
-    let later = All-part (concat split.turn) (concat split.river) first.1 in
+    let first = All-part (λ card. card < 52) (concat split.flop) (concat split.turn ++ concat split.river) all in
+    let later = All-part (λ card. card < 52) (concat split.turn) (concat split.river) first.1 in
     record {
       split = split;
       text_is = is ∙ ap (λ r. field ++ r) streets;
@@ -95,9 +89,9 @@ counted_joined players sees rounds holes flop turn river most counts c1 c2 c3 ah
     record {
       hole_counts = counts;
       board_counts = map-append length flop (turn ++ river) ∙ ap (λ r. map length flop ++ r) (map-append length turn river) ∙ joined_counts;
-      pack = All-join (concat holes) (concat (flop ++ (turn ++ river))) ah
+      pack = all_joined (λ card. card < 52) (concat holes) (concat (flop ++ (turn ++ river))) ah
           (subst AllOfPack (sym (concat-append flop (turn ++ river) ∙ ap (λ r. concat flop ++ r) (concat-append turn river)))
-          (All-join (concat flop) (concat turn ++ concat river) a1 (All-join (concat turn) (concat river) a2 a3)));
+          (all_joined (λ card. card < 52) (concat flop) (concat turn ++ concat river) a1 (all_joined (λ card. card < 52) (concat turn) (concat river) a2 a3)));
     }
   where
     by_rounds : (n : ℕ) → n ≤ 3 → cond {A = List ℕ} (leb 1 n) (3 ∷ []) [] ++ (cond {A = List ℕ} (leb 2 n) (1 ∷ []) [] ++ cond {A = List ℕ} (leb 3 n) (1 ∷ []) []) ≡ take {A = ℕ} n (3 ∷ 1 ∷ 1 ∷ [])

@@ -18,9 +18,6 @@ count_of-take-add x m k xs =
     let back = drop-take m k xs in
     sym parts ∙ rw (front, back) refl
 
-count_of-take-le : (x n : ℕ) (xs : List ℕ) → count_of x (take n xs) ≤ count_of x xs
-count_of-take-le x n xs = omega (arith, count_of-take-drop x n xs)
-
 count_of-drop-le : (x n : ℕ) (xs : List ℕ) → count_of x (drop n xs) ≤ count_of x xs
 count_of-drop-le x n xs = omega (arith, count_of-take-drop x n xs)
 

@@ -1,42 +1,28 @@
 -- In a reached world a ballot has one command at a slot, proposed and voted for.
 use Rattle.std.proofs.Common.{◌≡◌, ◌≢◌, ℕ, ◌⊎◌, inl, inr, true, false, ◌==◌, List, [], ◌∷◌, Some, sym, subst, ◌∙◌}
+use Rattle.std.specs.List.{AllByRecursion}
 use Rattle.std.proofs.lemmas.Bool.Decides.{eqb_tells}
 use Rattle.paxos_wire.specs.declared.ballot.Ballot.{Ballot}
 use Rattle.slot_log.specs.declared.command.Command.{Command}
 use Rattle.protocol_model.specs.Sets.{In}
-use Rattle.protocol_model.specs.Messages.{Vote, Message, Prepare, Promise, Refuse, Accept, Accepted, Chosen, Ask, Forward, Said}
+use Rattle.protocol_model.specs.Messages.{Vote, Message, Prepare, Accept}
 use Rattle.protocol_model.specs.Dealers.{Dealer}
-use Rattle.protocol_model.specs.Stores.{Store, promised, voted, StoreMove, own_promise, promise, vote, Append, unchanged, moved}
+use Rattle.protocol_model.specs.Stores.{Store, voted, StoreMove, own_promise, promise, vote, Append, unchanged, moved}
 use Rattle.protocol_model.specs.Nodes.{Node}
 use Rattle.protocol_model.specs.Moves.{Output, Move, gets, connects, drops, closes, hears, notes, begins, promises, proposes, accepts, repeats, refuses, learns, believes, tells, asks, forwards, shows, stops, starts}
 use Rattle.protocol_model.specs.Worlds.{World, start, more as further, IsAfter, Reached}
 use Rattle.node_rules.specs.Given.{Given}
 use Rattle.protocol_model.proofs.Sets.{in_later, in_split}
+use Rattle.node_rules.proofs.Carrying.{IsNoProposal}
 use Rattle.node_rules.proofs.Proposed.{accept_is}
 use Rattle.node_rules.proofs.Sourcing.{had_was_sent}
 use Rattle.node_rules.proofs.Voting.{voted_is}
 
 -- ---- a proposal is sent by a move that proposes
 
--- it is none
-abbrev IsOther : Message → Type 0
-IsOther (Prepare ballot slot) = Unit {0}
-IsOther (Promise sender ballot slot told) = Unit {0}
-IsOther (Refuse sender ballot slot promised) = Unit {0}
-IsOther (Accept ballot slot command) = ⊥
-IsOther (Accepted sender ballot slot command) = Unit {0}
-IsOther (Chosen sender slot command) = Unit {0}
-IsOther (Ask sender slot) = Unit {0}
-IsOther (Forward sender command) = Unit {0}
-IsOther (Said sender command) = Unit {0}
-
-abbrev AreOther : List Message → Type 0
-AreOther [] = Unit {0}
-AreOther (m ∷ ms) = IsOther m × AreOther ms
-
-none_among : (ms : List Message) (ballot : Ballot) (slot : ℕ) (command : Command) → AreOther ms → In (Accept ballot slot command) ms → ⊥
+none_among : (ms : List Message) (ballot : Ballot) (slot : ℕ) (command : Command) → AllByRecursion IsNoProposal ms → In (Accept ballot slot command) ms → ⊥
 none_among [] ballot slot command other h = h
-none_among (m ∷ ms) ballot slot command other (inl e) = subst IsOther (sym e) other.0
+none_among (m ∷ ms) ballot slot command other (inl e) = subst IsNoProposal (sym e) other.0
 none_among (m ∷ ms) ballot slot command other (inr h) = none_among ms ballot slot command other.1 h
 
 -- the node began the ballot, and had proposed nothing there
@@ -69,7 +55,7 @@ proposed_only old out b first k d ballot slot command e began once h =
       | inr none ↦ absurd none
     ]
 
-other_sent : (old : Node) (out other : Output) (ballot : Ballot) (slot : ℕ) (command : Command) → out ≡ other → AreOther other.sent → In (Accept ballot slot command) out.sent → ProposedBy old out ballot slot command
+other_sent : (old : Node) (out other : Output) (ballot : Ballot) (slot : ℕ) (command : Command) → out ≡ other → AllByRecursion IsNoProposal other.sent → In (Accept ballot slot command) out.sent → ProposedBy old out ballot slot command
 other_sent old out other ballot slot command e are h = absurd (none_among other.sent ballot slot command are (subst (λ (o : Output). In (Accept ballot slot command) o.sent) e h))
 
 proposed_by : (dealer : Dealer) (n i : ℕ) (ever : List Message) (old : Node) (out : Output) (new : Node) (ballot : Ballot) (slot : ℕ) (command : Command) → Move dealer n i ever old out new

@@ -34,13 +34,14 @@ use Rattle.node_rules.specs.Being.{IsSession}
 use Rattle.node_rules.specs.Called.{Comes}
 use Rattle.node_rules.specs.Given.{Given}
 use Rattle.node_rules.specs.Sound.{Stands}
-use Rattle.node_rules.specs.LawsAnswers.{IsOfClose, Sends, asks_if, AnswersPrepare, promises, AnswersAccept, accepts, AreChosenFrames, IsAnswered, act_in, acts_in, forwards, Hears, IsHeard, SendsUp, SendsDown, SendsBy, FramesAnswer}
+use Rattle.node_rules.specs.LawsAnswers.{IsOfClose, Sends, asks_if, AnswersPrepare, promises, AnswersAccept, accepts, AreChosenFrames, IsAnswered, acts_in, forwards, IsHeard, SendsUp, SendsDown, SendsBy, FramesAnswer}
 use Rattle.node_rules.specs.LawsAnswers as answers
 use Rattle.protocol_model.proofs.Ballots.{below_if, at_most_if_not}
 use Rattle.node_rules.proofs.Promising.{tells}
 use Rattle.node_rules.proofs.Settling.{below_front}
 use Rattle.node_rules.proofs.Results.{ok_is, ok_not}
 use Rattle.node_rules.proofs.Resting.{Closed, rests, proposes}
+use Rattle.node_rules.proofs.Finished.{none_past}
 use Rattle.node_rules.proofs.Led.{tick_splits, piece_splits, frame_turn}
 use Rattle.node_rules.proofs.Asked.{asked_same}
 
@@ -136,11 +137,6 @@ chosen_frames place (Ok answer) learned s from first e =
 chosen_frames place (Err fault) learned s from first e = absurd (ok_not first (Conflict s.store) (sym e))
 
 -- ---- what is told of slots below the front
-
-none_past : (xs : List Command) (k : ℕ) → k < length xs → slice_get xs k ≡ None → ⊥
-none_past [] k low h = omega arith
-none_past (x ∷ xs) zero low h = cc
-none_past (x ∷ xs) (suc k) low h = none_past xs k (omega arith) h
 
 known_below : (log : Log) (slot : ℕ) → slot < front log → (command : Command) × (known_at log slot ≡ Some command)
 known_below log slot l = by_found (slice_get (reverse log.below) slot) refl

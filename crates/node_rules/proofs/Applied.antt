@@ -34,7 +34,7 @@ use Rattle.node_rules.specs.LawsPending.{kept_over}
 use Rattle.node_rules.proofs.Finished.{adds_some}
 use Rattle.node_rules.proofs.Showing.{line_is, running_adds, adds_if}
 use Rattle.node_rules.proofs.Results.{ok_is, ok_not}
-use Rattle.node_rules.proofs.Resting.{applying_same}
+use Rattle.node_rules.proofs.Settled.{applying_same}
 
 -- ---- what a command shows
 

@@ -36,7 +36,7 @@ behind_still s (Err e) = refl
 ask : (x : Scope) (came : List Arrival) (heard : Hearing) (upto : List Command) (t : Turn) (from slot : ℕ)
     → Path x came heard upto t → from < x.place.nodes → from ≢ x.place.node → Path x came heard upto (joined t (sending (one from (frame.Ask slot)) t.after))
 ask x came heard upto t from slot p below other =
-    send_one x came heard upto t (Ask x.place.node slot) from (frame.Ask slot) p tt (λ q. tt) (asks slot p.knows.up refl refl) refl tt refl below other
+    send_one x came heard upto t (Ask x.place.node slot) from (frame.Ask slot) p tt (λ q. tt) (asks slot p.knows.up refl refl) refl (λ all. all) refl below other
 
 ask_if : (x : Scope) (came : List Arrival) (heard : Hearing) (t : Turn) (from slot : ℕ) (b : Bool)
     → Path x came heard (applied t.after) t → from < x.place.nodes → from ≢ x.place.node
@@ -60,7 +60,7 @@ tell_by : (x : Scope) (came : List Arrival) (heard : Hearing) (upto : List Comma
 tell_by x came heard upto t to slot None e p below other = go_on x came heard upto t p
 tell_by x came heard upto t to slot (Some command) e p below other =
     send_one x came heard upto t (Chosen x.place.node slot command) to (frame.Chosen slot command) p tt (λ q. tt)
-    (tells slot command p.knows.up (p.knows.learner.knows slot command e) refl refl) refl tt refl below other
+    (tells slot command p.knows.up (p.knows.learner.knows slot command e) refl refl) refl (λ all. all) refl below other
 
 tell_all : (x : Scope) (came : List Arrival) (heard : Hearing) (upto : List Command) (t : Turn) (to slot k : ℕ)
     → Path x came heard upto t → to < x.place.nodes → to ≢ x.place.node → Path x came heard upto (joined t (sending (telling_from t.after.learned.log to slot k) t.after))

@@ -1,5 +1,5 @@
 -- The calm round goes on to its end.
-use Rattle.std.proofs.Common.{◌≡◌, ◌≢◌, ℕ, zero, suc, ◌<◌, ◌≤◌, ◌+◌, ◌*◌, ◌⊎◌, inl, inr, Bool, true, false, ◌==◌, if◌then◌else◌, List, [], ◌∷◌, ◌++◌, map, Option, Some, Result, Ok, refl, sym, ap, subst, ◌∙◌, arith, length, eq-eqb, length-set}
+use Rattle.std.proofs.Common.{◌≡◌, ◌≢◌, ℕ, suc, ◌<◌, ◌≤◌, ◌+◌, ◌*◌, ◌⊎◌, inl, inr, Bool, true, false, ◌==◌, if◌then◌else◌, List, [], ◌∷◌, ◌++◌, map, Option, Some, Result, Ok, refl, sym, ap, subst, ◌∙◌, arith, length, eq-eqb, length-set}
 use Rattle.std.proofs.lemmas.Bool.{eqb-true}
 use Rattle.std.proofs.lemmas.Bool.Decides.{eqb_tells}
 use Rattle.paxos_wire.specs.declared.fault.FrameFault.{FrameFault}
@@ -17,7 +17,7 @@ use Rattle.learner.specs.Learning.{Learned, answer_to}
 use Rattle.learner.specs.declared.chosen.Chosen.{Chosen as Learnt}
 use Rattle.node_rules.proofs.CalmPromises.{IsCounted}
 use Rattle.node_rules.specs.Standings.{Place, Standing, front_of}
-use Rattle.node_rules.specs.Sending.{Frame, one, to_first, to_others}
+use Rattle.node_rules.specs.Sending.{Frame, one, to_others}
 use Rattle.node_rules.specs.Turns.{Turn, Refusal, still, joined, and_then}
 use Rattle.node_rules.specs.Proposing.{prepared, ticking, closing}
 use Rattle.node_rules.specs.Calls.{Tick}
@@ -28,6 +28,7 @@ use Rattle.node_rules.specs.CalmRound.{place_in, node_of, call_of, Sent, sent_by
 use Rattle.protocol_model.proofs.Sets.{in_first, in_later}
 use Rattle.node_rules.proofs.Voting.{voted_is}
 use Rattle.node_rules.proofs.Asked.{asked_same}
+use Rattle.node_rules.proofs.Carrying.{has_to}
 use Rattle.node_rules.proofs.Settled.{marked_at}
 use Rattle.node_rules.proofs.Electing.{covered}
 use Rattle.node_rules.proofs.Counting.{Counts, counts_vote}
@@ -52,25 +53,6 @@ sent_in : (from : ℕ) (frames : List Frame) (to : ℕ) (m : Wire) → In (recor
 sent_in from [] to m h = absurd h
 sent_in from (f ∷ fs) to m (inl e) = inl (ap (λ (x : Frame). let y : Sent = record { from = from; to = x.to; message = x.message } in y) e)
 sent_in from (f ∷ fs) to m (inr h) = inr (sent_in from fs to m h)
-
-lt_split : (j n : ℕ) → j < suc n → (j ≡ n) ⊎ (j < n)
-lt_split j n l = grind arith
-
-here_if : (n i : ℕ) (m : Wire) → (n ≡ i → ⊥) → In (record { to = n; message = m }) (if n == i then [] else one n m)
-here_if n i m other = by_test (n == i) refl
-  where
-    by_test : (b : Bool) → (n == i) ≡ b → In (record { to = n; message = m }) (if b then [] else one n m)
-    by_test true e = absurd (other (eqb-true n i e))
-    by_test false e = inl refl
-
-in_others : (n i j : ℕ) (m : Wire) → j < n → (j ≡ i → ⊥) → In (record { to = j; message = m }) (to_first n i m)
-unfolding to_first
-in_others zero i j m low other = absurd (omega arith)
-in_others (suc n) i j m low other = elim (lt_split j n low) [
-  | inl e ↦ in_later (to_first n i m) (if n == i then [] else one n m) (record { to = j; message = m })
-      (subst (λ (k : ℕ). In (record { to = k; message = m }) (if n == i then [] else one n m)) (sym e) (here_if n i m (λ same. other (e ∙ same))))
-  | inr l ↦ in_first (to_first n i m) (if n == i then [] else one n m) (record { to = j; message = m }) (in_others n i j m l other)
-]
 
 -- ---- steps
 
@@ -327,7 +309,7 @@ proposed_turn r counted s p j = joined (joined (still (with_counted r counted s 
 accept_framed : (r : Round) → (counted : List ℕ) (s : Standing) (p : IsPreparing r counted s) (j k : ℕ) → k < r.n → (k ≡ r.i → ⊥) → In (record { to = k; message = accept_in r }) (proposed_turn r counted s p j).frames
 accept_framed r counted s p j k low other =
     in_first (to_others (place_at r r.i) (accept_in r) ++ to_others (place_at r r.i) (accepted_in r)) [] (record { to = k; message = accept_in r })
-    (in_first (to_others (place_at r r.i) (accept_in r)) (to_others (place_at r r.i) (accepted_in r)) (record { to = k; message = accept_in r }) (in_others r.n r.i k (accept_in r) low other))
+    (in_first (to_others (place_at r r.i) (accept_in r)) (to_others (place_at r r.i) (accepted_in r)) (record { to = k; message = accept_in r }) (has_to r.n r.i k (accept_in r) low other))
 
 all_promises : (r : Round) → IsRest r → (others : List ℕ) → Others r others → (todo : List ℕ) (j from : ℕ) (counted : List ℕ) → ToCome r others from (j ∷ todo) → length counted + suc (length todo) ≡ length r.members
     → (IsSo : (ℕ → Standing) → Type 0) (st : ℕ → Standing) (sent : List Sent) → Promises r others counted from st sent → (events : List Event)
@@ -386,7 +368,7 @@ vote_framed r rest j s other =
     in_first ((to_others (place_at r j) (accepted_in r) ++ []) ++ []) (asking r.i (accept_in r) (accepted_turn r j s).after).frames (record { to = r.i; message = accepted_in r })
     (in_first (to_others (place_at r j) (accepted_in r) ++ []) [] (record { to = r.i; message = accepted_in r })
     (in_first (to_others (place_at r j) (accepted_in r)) [] (record { to = r.i; message = accepted_in r })
-    (in_others r.n j r.i (accepted_in r) (rest.low r.i rest.member) (λ e. other (sym e)))))
+    (has_to r.n j r.i (accepted_in r) (rest.low r.i rest.member) (λ e. other (sym e)))))
 
 all_accepts : (r : Round) → IsRest r → (others : List ℕ) → Others r others → (todo : List ℕ) (from : ℕ) → ToCome r others from todo → (IsSo : (ℕ → Standing) → Type 0) (st : ℕ → Standing) (sent : List Sent)
     → Proposes r others from st sent → (events : List Event)
@@ -480,7 +462,7 @@ abbrev ticked_turn : Round → Turn
 ticked_turn r = joined (begun_turn r) (still (begun_turn r).after)
 
 prepare_framed : (r : Round) (k : ℕ) → k < r.n → (k ≡ r.i → ⊥) → In (record { to = k; message = prepare_in r }) (ticked_turn r).frames
-prepare_framed r k low other = in_first (to_others (place_at r r.i) (prepare_in r)) [] (record { to = k; message = prepare_in r }) (in_others r.n r.i k (prepare_in r) low other)
+prepare_framed r k low other = in_first (to_others (place_at r r.i) (prepare_in r)) [] (record { to = k; message = prepare_in r }) (has_to r.n r.i k (prepare_in r) low other)
 
 by_others : (r : Round) → IsRest r → (others : List ℕ) → Others r others
     → GoOn (place_in r.setting r.n r.deals) (HasMovedOn r.i (slot_in r) r.command) r.standings []

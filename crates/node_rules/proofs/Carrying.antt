@@ -70,30 +70,7 @@ joined_all n i fs gs sent later a b = record {
   ];
 }
 
--- ---- one frame
-
--- what goes to one node alone
-abbrev pub IsForOne : Message → Type 0
-IsForOne (Prepare ballot slot) = ⊥
-IsForOne (Promise sender ballot slot told) = Unit {0}
-IsForOne (Refuse sender ballot slot promised) = Unit {0}
-IsForOne (Accept ballot slot command) = ⊥
-IsForOne (Accepted sender ballot slot command) = ⊥
-IsForOne (Chosen sender slot command) = Unit {0}
-IsForOne (Ask sender slot) = Unit {0}
-IsForOne (Forward sender command) = Unit {0}
-IsForOne (Said sender command) = ⊥
-
-not_for_all : (m : Message) → IsForOne m → IsForAll m → ⊥
-not_for_all (Prepare b s) a f = a
-not_for_all (Promise k b s t) a f = f
-not_for_all (Refuse k b s p) a f = f
-not_for_all (Accept b s c) a f = a
-not_for_all (Accepted k b s c) a f = a
-not_for_all (Chosen k s c) a f = f
-not_for_all (Ask k s) a f = f
-not_for_all (Forward k c) a f = f
-not_for_all (Said k c) a f = a
+-- ---- one frame, with what goes to one node alone
 
 only_in : {A : Type 0} (x y : A) → In x (y ∷ []) → x ≡ y
 only_in x y (inl e) = e
@@ -107,20 +84,20 @@ one_said i to w m other e h =
 says_one : (i to : ℕ) (w : Wire) (m : Message) → carried i w ≡ m ∷ [] → IsSaidTo i (one to w) to m
 says_one i to w m e = (record { to = to; message = w }, inl refl, refl, subst (λ (l : List Message). In m l) (sym e) (inl refl))
 
-pub one_carry : (n i to : ℕ) (w : Wire) (m : Message) → carried i w ≡ m ∷ [] → IsForOne m → sender_of m ≡ i → to < n → to ≢ i → Carry n i (one to w) (m ∷ [])
+pub one_carry : (n i to : ℕ) (w : Wire) (m : Message) → carried i w ≡ m ∷ [] → (IsForAll m → ⊥) → sender_of m ≡ i → to < n → to ≢ i → Carry n i (one to w) (m ∷ [])
 one_carry n i to w m e alone own below other = record {
   others = λ f h. let same : f ≡ record { to = to; message = w } = only_in f (record { to = to; message = w }) h in
       (subst (λ (g : Frame). g.to < n) (sym same) below, subst (λ (g : Frame). g.to ≢ i) (sym same) other);
   said = λ o h. inl (one_said i to w m o e h);
   own = λ o h. ap sender_of (only_in o m h) ∙ own;
-  accepted = λ s b k c h. absurd (subst IsForOne (sym (only_in (Accepted s b k c) m h)) alone);
-  accepts = λ b k c h. absurd (subst IsForOne (sym (one_said i to w m (Accept b k c) e h)) alone);
+  accepted = λ s b k c h. absurd (alone (subst IsForAll (only_in (Accepted s b k c) m h) tt));
+  accepts = λ b k c h. absurd (alone (subst IsForAll (one_said i to w m (Accept b k c) e h) tt));
 }
 
-pub one_all : (n i to : ℕ) (w : Wire) (m : Message) → carried i w ≡ m ∷ [] → IsForOne m → CarryAll n i (one to w) (m ∷ [])
+pub one_all : (n i to : ℕ) (w : Wire) (m : Message) → carried i w ≡ m ∷ [] → (IsForAll m → ⊥) → CarryAll n i (one to w) (m ∷ [])
 one_all n i to w m e alone = record {
   covers = λ o h. inr (to, subst (λ (k : Message). IsSaidTo i (one to w) to k) (sym (only_in o m h)) (says_one i to w m e));
-  to_all = λ o h all. absurd (not_for_all m alone (subst IsForAll (only_in o m h) all));
+  to_all = λ o h all. absurd (alone (subst IsForAll (only_in o m h) all));
 }
 
 -- ---- a note
@@ -176,7 +153,7 @@ has_step k i to w b e l ne ih (inr below) = in_first (to_first k i w) (if b then
 last_or_below : (k to : ℕ) → to < suc k → (to ≡ k) ⊎ (to < k)
 last_or_below k to l = grind arith
 
-has_to : (k i to : ℕ) (w : Wire) → to < k → to ≢ i → In (record { to = to; message = w }) (to_first k i w)
+pub has_to : (k i to : ℕ) (w : Wire) → to < k → to ≢ i → In (record { to = to; message = w }) (to_first k i w)
 unfolding to_first
 has_to zero i to w l ne = absurd (omega arith)
 has_to (suc k) i to w l ne = has_step k i to w (k == i) refl l ne (λ below. has_to k i to w below ne) (last_or_below k to l)

@@ -46,7 +46,8 @@ use Rattle.node_rules.proofs.Keeping.{with_got, got_learner, got_pending, sent_p
 use Rattle.node_rules.specs.Given.{Given}
 use Rattle.node_rules.proofs.Paths.{Hearing, Scope, dealer_in, Path, Goes, regroup}
 use Rattle.node_rules.proofs.Steps.{Leads, get_own, go_on}
-use Rattle.node_rules.proofs.Voting.{voted_is, within_voted}
+use Rattle.protocol_model.proofs.Backing.{vote_within}
+use Rattle.node_rules.proofs.Voting.{voted_is}
 use Rattle.node_rules.proofs.Learning.{count}
 use Rattle.node_rules.proofs.Asking.{joined_assoc, with_campaign}
 use Rattle.node_rules.specs.Proposed.{IsValue}
@@ -258,7 +259,7 @@ propose x came heard t ends p c made is =
       knows = record {
         up = p.knows.up;
         store = ap (λ (st : Store). voted st made.slot stored) p.knows.store;
-        within = within_voted p.node.store made.slot stored up p.knows.within;
+        within = vote_within p.node.store made.slot stored p.knows.within up;
         proposer = record {
           is_campaign = proposed_campaign x.given n i p.node last c (front_of t.after) own made camp is.made_so safe.ballot safe.ballot refl refl
               (λ s v e. voted_is p.node.store made.slot stored v s e);

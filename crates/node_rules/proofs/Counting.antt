@@ -1,8 +1,8 @@
 -- What is counted of the votes that came, from call to call.
-use Rattle.std.proofs.Common.{◌≡◌, ℕ, ◌<◌, ◌≤◌, ◌+◌, inl, inr, Bool, true, false, not, if◌then◌else◌, ◌==◌, List, [], ◌∷◌, Result, Ok, Err, refl, sym, ap, subst, ◌∙◌, arith}
+use Rattle.std.proofs.Common.{◌≡◌, ℕ, ◌<◌, ◌≤◌, ◌+◌, inl, inr, Bool, true, false, if◌then◌else◌, List, ◌∷◌, Result, Ok, Err, refl, sym, ap, subst, ◌∙◌, arith}
 use Rattle.std.specs.Prelude.{nat_lt, IsOk}
-use Rattle.std.proofs.lemmas.Bool.{eqb-true, ltb-true, ltb-false}
-use Rattle.paxos_wire.specs.declared.limits.TheConstants.{WINDOW, SLOTS, NODES}
+use Rattle.std.proofs.lemmas.Bool.{ltb-true, ltb-false}
+use Rattle.paxos_wire.specs.declared.limits.TheConstants.{WINDOW, SLOTS}
 use Rattle.paxos_wire.specs.declared.ballot.Ballot.{Ballot}
 use Rattle.slot_log.specs.declared.slot_fault.SlotFault.{SlotFault}
 use Rattle.slot_log.specs.Slots.{IsLog, front}
@@ -10,63 +10,16 @@ use Rattle.slot_log.specs.declared.command.Command.{Command}
 use Rattle.protocol_model.specs.Sets.{In}
 use Rattle.protocol_model.specs.Messages.{Message, Accepted}
 use Rattle.protocol_model.specs.Quorums.{IsChosenIn}
-use Rattle.learner.specs.declared.tally.Tally.{Tally}
-use Rattle.learner.specs.Same.{is_same}
-use Rattle.learner.specs.Tallies.{has, nodes_for, is_of}
-use Rattle.learner.specs.Learning.{Learned, is_open, answers_at, answer_to, hearing, believing as with_chosen}
+use Rattle.learner.specs.Learning.{Learned, is_open, answer_to, hearing, believing as with_chosen}
 use Rattle.learner.specs.Counted.{IsOpen, CountsFrom, CountsAll, KnowsChosen}
 use Rattle.node_rules.specs.Standings.{Place, Standing}
 use Rattle.node_rules.specs.Turns.{Turn}
 use Rattle.node_rules.specs.Learning.{learning}
 use Rattle.node_rules.specs.Given.{Given}
 use Rattle.node_rules.specs.Being.{IsLearner}
-use Rattle.protocol_model.proofs.Sets.{all_same}
-use Rattle.protocol_model.proofs.Ballots.{same_ballot}
+use Rattle.learner.proofs.Counting.{counted_came}
 use Rattle.learner.proofs.Kept.{open_means}
 use Rattle.node_rules.proofs.Results.{ok_is}
-
--- ---- what was counted came
-
--- the tally of a ballot and a command
-pub record Tallied (ballot : Ballot) (command : Command) (tallies : List Tally) (node : ℕ) : Type 0 where
-  pub tally : Tally
-  pub inside : In tally tallies
-  pub ballot_is : tally.ballot ≡ ballot
-  pub command_is : tally.command ≡ command
-  pub counted : has tally.nodes node ≡ true
-
-tally_is : (g : Given) (ballot : Ballot) (command : Command) (tally : Tally) → is_of ballot command tally ≡ true → (tally.ballot ≡ ballot) × (tally.command ≡ command)
-unfolding is_of
-tally_is g ballot command tally e = by_tests (tally.ballot.round == ballot.round) (tally.ballot.node == ballot.node) refl refl e
-  where
-    by_tests : (a b : Bool) → (tally.ballot.round == ballot.round) ≡ a → (tally.ballot.node == ballot.node) ≡ b
-        → (if not a then false else if not b then false else is_same tally.command command) ≡ true → (tally.ballot ≡ ballot) × (tally.command ≡ command)
-    by_tests false b ea eb h = absurd (cc)
-    by_tests true false ea eb h = absurd (cc)
-    by_tests true true ea eb h =
-        (same_ballot tally.ballot ballot (eqb-true tally.ballot.round ballot.round ea) (eqb-true tally.ballot.node ballot.node eb), (g.same tally.command command).0 h)
-
-more_tallied : (ballot : Ballot) (command : Command) (tallies : List Tally) (node : ℕ) (tally : Tally) → Tallied ballot command tallies node → Tallied ballot command (tally ∷ tallies) node
-more_tallied ballot command tallies node tally t = record { tally = t.tally; inside = inr t.inside; ballot_is = t.ballot_is; command_is = t.command_is; counted = t.counted }
-
-tallied_by : (g : Given) (ballot : Ballot) (command : Command) (tally : Tally) (tallies : List Tally) (node : ℕ) (b : Bool) → is_of ballot command tally ≡ b
-    → (has (nodes_for ballot command tallies) node ≡ true → Tallied ballot command tallies node)
-    → has (if b then tally.nodes else nodes_for ballot command tallies) node ≡ true → Tallied ballot command (tally ∷ tallies) node
-tallied_by g ballot command tally tallies node true e later h =
-    let is = tally_is g ballot command tally e in record { tally = tally; inside = inl refl; ballot_is = is.0; command_is = is.1; counted = h }
-tallied_by g ballot command tally tallies node false e later h = more_tallied ballot command tallies node tally (later h)
-
-tallied : (g : Given) (ballot : Ballot) (command : Command) (tallies : List Tally) (node : ℕ) → has (nodes_for ballot command tallies) node ≡ true → Tallied ballot command tallies node
-tallied g ballot command [] node h = let clash : false ≡ true = sym (all_same false NODES node) ∙ h in absurd (cc)
-tallied g ballot command (tally ∷ tallies) node h =
-    tallied_by g ballot command tally tallies node (is_of ballot command tally) refl (λ k. tallied g ballot command tallies node k) h
-
-counted_came : (g : Given) (messages : List Message) (l : Learned) (node : ℕ) (ballot : Ballot) (slot : ℕ) (command : Command) → CountsFrom messages l → IsOpen l.log slot
-    → has (answers_at l ballot slot command) node ≡ true → In (Accepted node ballot slot command) messages
-counted_came g messages l node ballot slot command counts ahead h =
-    let t = tallied g ballot command _ node h in
-    subst (λ (b : Ballot). In (Accepted node b slot command) messages) t.ballot_is
-    (subst (λ (c : Command). In (Accepted node t.tally.ballot slot c) messages) t.command_is (counts slot t.tally ahead t.inside node t.counted))
 
 -- ---- what is counted grows
 
@@ -165,7 +118,7 @@ pub had_in_time : (g : Given) (n : ℕ) (messages : List Message) (known : List 
     → In (Accepted voter ballot slot command) learner.in_time
 had_in_time g n messages known l more voter ballot slot command learner all low reached is_slot h =
     let ahead : IsOpen l.log slot = record { reached = reached; within = all.within voter ballot slot command h; is_slot = is_slot } in
-    counted_came g learner.in_time l voter ballot slot command learner.counts ahead
+    counted_came learner.in_time l ballot slot command voter learner.counts ahead
     (all.counted voter ballot slot command (subst (λ (k : ℕ). voter < k) (sym learner.nodes) low) ahead h)
 
 pub known_by_quorum : (n : ℕ) (messages : List Message) (known : List (ℕ × Command)) (l : Learned) (more : List Message) (ballot : Ballot) (slot : ℕ) (command : Command)

@@ -1,6 +1,6 @@
 -- A command that takes effect and leaves no hand running adds a line to the log.
 use Rattle.std.proofs.Common.{◌≡◌, ℕ, zero, suc, ◌<◌, ◌+◌, Bool, true, false, true≢false, not, if◌then◌else◌, cond, List, [], ◌∷◌, ◌++◌, Option, Some, None, refl, sym, ap, ◌∙◌, arith, length, reverse}
-use Rattle.std.specs.Prelude.{is_none, slice_get}
+use Rattle.std.specs.Prelude.{slice_get}
 use Rattle.std.specs.List.{flat_map, count_by}
 use Rattle.std.specs.Option.{option_to_list}
 use Rattle.std.proofs.lemmas.List.{length-reverse}
@@ -14,16 +14,13 @@ use Rattle.slot_log.specs.declared.command.Command.TheVariants.{Deal, Act}
 use Rattle.match_log.specs.Lines.{state_text, state_line}
 use Rattle.match_log.specs.Further.{last_line, score_of, further_lines}
 use Rattle.dealer_kind.specs.Kind.{Setting, hands_after, fits}
+use Rattle.dealer_kind.proofs.Fitting.{none_then}
 
 -- ---- a command that takes effect leaves hands
 
 -- these are some
 abbrev AreSome : List Hand → Type 0
 AreSome hands = (newest : Hand) × (earlier : List Hand) × (hands ≡ newest ∷ earlier)
-
-none_if : (o : Option Reason) → is_none o ≡ true → o ≡ None
-none_if None e = refl
-none_if (Some reason) e = absurd (true≢false (sym e))
 
 no_act : (game : Game) (count : ℕ) (hand index : ℕ) (command : Command) (over : Bool) (done other : Reason) → ◌≡◌ {A = Option Reason} (if over then Some done else Some other) None → ⊥
 no_act game count hand index command true done other e = cc
@@ -37,13 +34,13 @@ some_hands game count (newest ∷ earlier) (Act hand index action) e = (_, earli
 hands_then : (setting : Setting) (before : List Command) (command : Command) → fits setting before command ≡ true → AreSome (hands_after setting (command ∷ before))
 unfolding hands_of
 hands_then setting before command e =
-    let reason = none_if (reason_of setting.game setting.title.hands (hands_after setting before) command) e in
+    let reason = none_then (reason_of setting.game setting.title.hands (hands_after setting before) command) e in
     let some = some_hands setting.game setting.title.hands (hands_after setting before) command reason in
     (some.0, some.1, ap (λ (o : Option Reason). elim o [ None ↦ with_command (hands_after setting before) command | Some why ↦ hands_after setting before ]) reason ∙ some.2)
 
 -- ---- the line of a finished hand
 
-none_past : (xs : List Hand) (k : ℕ) → k < length xs → slice_get xs k ≡ None → ⊥
+pub none_past : {X : Type 0} (xs : List X) (k : ℕ) → k < length xs → slice_get xs k ≡ None → ⊥
 none_past [] k low h = omega arith
 none_past (x ∷ xs) zero low h = cc
 none_past (x ∷ xs) (suc k) low h = none_past xs k (omega arith) h

@@ -248,6 +248,20 @@ in_time_had : (in_time has : List Message) (m : Message) → In m has → ((o : 
 in_time_had in_time has m h came o (inl e) = subst (λ (k : Message). In k has) (sym e) h
 in_time_had in_time has m h came o (inr i) = came o i
 
+-- with one more vote, to which the learner has an answer, all is counted
+vote_counted : (g : Given) (n : ℕ) (has : List Message) (known : List (ℕ × Command)) (old new : Learned) (from : ℕ) (ballot : Ballot) (slot : ℕ) (command : Command) (answer : Option Learnt)
+    → (l : IsLearner n has known old) → from < n → is_open old.log slot ≡ true → answer_to old from ballot slot command ≡ Ok answer → hearing old from ballot slot command ≡ new
+    → CountsFrom (Accepted from ballot slot command ∷ l.in_time) new × CountsAll (Accepted from ballot slot command ∷ l.in_time) new × KnowsChosen (Accepted from ballot slot command ∷ l.in_time) new
+vote_counted g n has known old new from ballot slot command answer l below opens is en =
+    let at : IsOpen old.log slot = open_means old.log slot opens in
+    let ok : IsOk (answer_to old from ballot slot command) = subst IsOk (sym is) refl in
+    let low : from < old.nodes = subst (λ (k : ℕ). from < k) (sym l.nodes) below in
+    let m : Message = Accepted from ballot slot command in (
+      subst (CountsFrom (m ∷ l.in_time)) en (g.answer_counts (m ∷ l.in_time) old from ballot slot command (inl refl) (g.more l.in_time old m l.counts)),
+      subst (CountsAll (m ∷ l.in_time)) en (g.answer_counts_all l.in_time old from ballot slot command low at ok l.counts_all),
+      subst (KnowsChosen (m ∷ l.in_time)) en (g.answers_known l.in_time old from ballot slot command l.log at low ok l.counts l.counts_all l.knows_chosen),
+    )
+
 count_by : (x : Scope) (came : List Arrival) (heard : Hearing) (t : Turn) (from : ℕ) (ballot : Ballot) (slot : ℕ) (command : Command) (ahead done other : Bool)
     (p : Path x came heard (applied t.after) t) → In (Accepted from ballot slot command) p.node.has → from < x.place.nodes
     → is_open t.after.learned.log slot ≡ ahead → completes t.after.learned from ballot slot command ≡ done → is_other (known_at t.after.learned.log slot) command ≡ other
@@ -266,15 +280,10 @@ count_by x came heard t from ballot slot command false done other p had below eo
 count_by x came heard t from ballot slot command true false other p had below eo ed er (Err f) ea answers new en is = absurd (cc)
 count_by x came heard t from ballot slot command true false other p had below eo ed er (Ok a) ea answers new en is =
     let l = p.knows.learner in
-    let g = x.given in
-    let at : IsOpen t.after.learned.log slot = open_means t.after.learned.log slot eo in
-    let ok : IsOk (answer_to t.after.learned from ballot slot command) = subst IsOk (sym ea) refl in
-    let low : from < t.after.learned.nodes = subst (λ (k : ℕ). from < k) (sym l.nodes) below in
     let m : Message = Accepted from ballot slot command in
+    let counts = vote_counted x.given x.place.nodes p.node.has p.node.known t.after.learned new from ballot slot command a l below eo ea en in
     apply_same x came heard t p new (m ∷ l.in_time) (ap (λ (y : Learned). y.log) is) (ap (λ (y : Learned). y.nodes) is) (in_time_had l.in_time p.node.has m had l.came)
-    (subst (CountsFrom (m ∷ l.in_time)) en (g.answer_counts (m ∷ l.in_time) t.after.learned from ballot slot command (inl refl) (g.more l.in_time t.after.learned m l.counts)))
-    (subst (CountsAll (m ∷ l.in_time)) en (g.answer_counts_all l.in_time t.after.learned from ballot slot command low at ok l.counts_all))
-    (subst (KnowsChosen (m ∷ l.in_time)) en (g.answers_known l.in_time t.after.learned from ballot slot command l.log at low ok l.counts l.counts_all l.knows_chosen))
+    counts.0 counts.1 counts.2
 count_by x came heard t from ballot slot command true true true p had below eo ed er answer ea answers new en is =
     let l = p.knows.learner in
     let m : Message = Accepted from ballot slot command in
@@ -285,19 +294,14 @@ count_by x came heard t from ballot slot command true true true p had below eo e
 count_by x came heard t from ballot slot command true true false p had below eo ed er (Err f) ea answers new en is = absurd (cc)
 count_by x came heard t from ballot slot command true true false p had below eo ed er (Ok a) ea answers new en is =
     let l = p.knows.learner in
-    let g = x.given in
     let at : IsOpen t.after.learned.log slot = open_means t.after.learned.log slot eo in
-    let ok : IsOk (answer_to t.after.learned from ballot slot command) = subst IsOk (sym ea) refl in
-    let low : from < t.after.learned.nodes = subst (λ (k : ℕ). from < k) (sym l.nodes) below in
     let m : Message = Accepted from ballot slot command in
+    let counts = vote_counted x.given x.place.nodes p.node.has p.node.known t.after.learned new from ballot slot command a l below eo ea en in
     let chosen : IsChosenIn x.place.nodes p.node.has ballot slot command =
     chosen_more t.after.learned.nodes x.place.nodes (m ∷ l.in_time) p.node.has ballot slot command l.nodes (in_time_had l.in_time p.node.has m had l.came)
-    (g.completed (m ∷ l.in_time) t.after.learned from ballot slot command (g.more l.in_time t.after.learned m l.counts) (inl refl) at ed) in
+    (x.given.completed (m ∷ l.in_time) t.after.learned from ballot slot command (x.given.more l.in_time t.after.learned m l.counts) (inl refl) at ed) in
     apply_known x came heard t p new slot command (m ∷ l.in_time) (ap (λ (y : Learned). y.log) is) at.is_slot (ap (λ (y : Learned). y.nodes) is) (inl (ballot, chosen))
-    (in_time_had l.in_time p.node.has m had l.came)
-    (subst (CountsFrom (m ∷ l.in_time)) en (g.answer_counts (m ∷ l.in_time) t.after.learned from ballot slot command (inl refl) (g.more l.in_time t.after.learned m l.counts)))
-    (subst (CountsAll (m ∷ l.in_time)) en (g.answer_counts_all l.in_time t.after.learned from ballot slot command low at ok l.counts_all))
-    (subst (KnowsChosen (m ∷ l.in_time)) en (g.answers_known l.in_time t.after.learned from ballot slot command l.log at low ok l.counts l.counts_all l.knows_chosen))
+    (in_time_had l.in_time p.node.has m had l.came) counts.0 counts.1 counts.2
 
 -- a vote that the node has is counted, and what it completes is applied
 pub count : (x : Scope) (came : List Arrival) (heard : Hearing) (t : Turn) (from : ℕ) (ballot : Ballot) (slot : ℕ) (command : Command)

@@ -72,7 +72,7 @@ pub refuse : (x : Scope) (came : List Arrival) (heard : Hearing) (upto : List Co
     → Path x came heard upto t → from < x.place.nodes → from ≢ x.place.node → Path x came heard upto (joined t (refusing from ballot slot t.after))
 refuse x came heard upto t from ballot slot p below other =
     send_one x came heard upto t (Refuse x.place.node ballot slot t.after.store.promise) from (frame.Refuse ballot slot t.after.store.promise) p tt (λ q. tt)
-    (refuses ballot slot t.after.store.promise p.knows.up refl refl) refl tt refl below other
+    (refuses ballot slot t.after.store.promise p.knows.up refl refl) refl (λ all. all) refl below other
 
 -- ---- promising
 
@@ -108,7 +108,7 @@ promise x came heard upto t from ballot slot ends p had above below other =
       proposals = promised_proposed x.place.nodes x.place.node upto (front_of t.after) (own_value x.place t.after) p.node.store ballot p.node.has p.node.has p.node.sent (m ∷ p.node.sent) up
           p.knows.proposer.proposed (λ b s c h. proposed_before p.node m b s c tt h) p.knows.proposals;
     })
-    (one_carry x.place.nodes i from w m refl tt refl below other) (one_all x.place.nodes i from w m refl tt)).path
+    (one_carry x.place.nodes i from w m refl (λ all. all) refl below other) (one_all x.place.nodes i from w m refl (λ all. all))).path
   where
     i : ℕ
     i = x.place.node

@@ -12,9 +12,6 @@ use Rattle.protocol_model.proofs.Sets.{in_later, in_first, in_split}
 same_sent : (new old : Node) (m : Message) → new ≡ old → In m new.sent → In m old.sent
 same_sent new old m e h = subst (λ (k : Node). In m k.sent) e h
 
-out_sent : (out other : Output) (m : Message) → out ≡ other → In m other.sent → In m out.sent
-out_sent out other m e h = subst (λ (k : Output). In m k.sent) (sym e) h
-
 -- the node has sent no more than this
 sent_one : (new : Node) (old sent : List Message) (out : Output) (m : Message) → new.sent ≡ sent ++ old → out.sent ≡ sent → In m new.sent → In m out.sent ⊎ In m old
 sent_one new old sent out m en eo h = elim (in_split sent old m (subst (λ (l : List Message). In m l) en h)) [

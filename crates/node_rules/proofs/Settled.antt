@@ -2,7 +2,7 @@
 use Rattle.std.proofs.Common.{◌≡◌, ℕ, ◌<◌, ◌≤◌, ◌+◌, ◌-◌, inl, inr, Bool, true, false, not, if◌then◌else◌, ◌&&◌, List, [], ◌∷◌, ◌++◌, Option, Some, None, Result, Ok, Err, refl, sym, ap, subst, ◌∙◌, arith, length, get_or, set, get_or-set_same, drop, reverse}
 use Rattle.std.specs.Prelude.{nat_lt, nat_le}
 use Rattle.std.proofs.lemmas.Bool.{ltb-true, ltb-false}
-use Rattle.std.proofs.lemmas.List.{append-nil, length-reverse}
+use Rattle.std.proofs.lemmas.List.{append-nil, length-reverse, drop_all}
 use Rattle.paxos_wire.specs.declared.limits.TheConstants.{SLOTS, WINDOW}
 use Rattle.paxos_wire.specs.declared.ballot.Ballot.{Ballot}
 use Rattle.paxos_wire.specs.declared.message.Message.{Message as Wire}
@@ -163,14 +163,10 @@ marked_at c at made places covered same =
 
 -- ---- what is applied where no more is known
 
-drop_all : {A : Type 0} (xs : List A) → drop (length xs) xs ≡ []
-drop_all [] = refl
-drop_all (x ∷ xs) = drop_all xs
-
 none_passed : (old new : Log) → new ≡ old → passed old new ≡ []
 none_passed old new e =
     ap (λ (l : Log). drop (front old) (reverse l.below)) e
-    ∙ (ap (λ (k : ℕ). drop k (reverse old.below)) (sym (length-reverse old.below)) ∙ drop_all (reverse old.below))
+    ∙ (ap (λ (k : ℕ). drop k (reverse old.below)) (sym (length-reverse old.below)) ∙ drop_all (length (reverse old.below)) (reverse old.below) (omega arith))
 
 pub applying_same : (place : Place) (new : Learned) (s : Standing) → new.log ≡ s.learned.log → applying place new s ≡ still (record s { learned = new })
 unfolding taking_all
@@ -250,11 +246,22 @@ pub record Fresh (place : Place) (s : Standing) (c : Campaign) (made : Made) : T
   pub places : length c.proposed ≡ WINDOW
   pub over : PassesOver s.learned place.node made.ballot made.slot made.command
 
+-- the store has no vote at the slot in the ballot of the proposal
+pub none_stored : (x : Scope) (came : List Arrival) (heard : Hearing) (t : Turn) (p : Path x came heard (applied t.after) t) (c : Campaign) (made : Made) → IsMade x.place t.after c made
+    → (vote : Vote) → t.after.store.votes made.slot ≡ Some vote → vote.ballot ≡ made.ballot → ⊥
+none_stored x came heard t p c made is vote has same =
+    let camp : Campaigns x.place.nodes x.place.node p.node c = campaigns_of x.place.nodes x.place.node p.node t.after.campaign c is.has p.knows.proposer.is_campaign in
+    let safe : IsSafe x.place.nodes p.node.has c (front_of t.after) (own_value x.place t.after) made =
+    x.given.safe x.place.nodes p.node.has c (front_of t.after) (own_value x.place t.after) made camp.counts is.made_so in
+    x.given.once x.place.nodes p.node.sent c (front_of t.after) (own_value x.place t.after) made vote.command camp.marks is.made_so
+    (subst (λ (y : Ballot). In (Accept y made.slot vote.command) p.node.sent) (sym safe.ballot)
+    (camp.votes made.slot vote (ap (λ (st : Store). st.votes made.slot) p.knows.store ∙ has) (same ∙ safe.ballot)))
+
 pub fresh : (x : Scope) (came : List Arrival) (heard : Hearing) (t : Turn) (p : Path x came heard (applied t.after) t) (c : Campaign) (made : Made) → IsMade x.place t.after c made
     → Fresh x.place t.after c made
 fresh x came heard t p c made is = record {
   proposal = proposal_is x.place.nodes c (front_of t.after) (own_value x.place t.after) made is.made_so;
-  unvoted = none_of_ballot (t.after.store.votes made.slot) made.ballot none_stored;
+  unvoted = none_of_ballot (t.after.store.votes made.slot) made.ballot (none_stored x came heard t p c made is);
   places = camp.marks.places;
   over = passes_over t.after.learned x.place.node made.ballot made.slot made.command not_done;
 }
@@ -267,12 +274,6 @@ fresh x came heard t p c made is = record {
 
     once : (other : Command) → In (Accept made.ballot made.slot other) p.node.sent → ⊥
     once other h = x.given.once x.place.nodes p.node.sent c (front_of t.after) (own_value x.place t.after) made other camp.marks is.made_so h
-
-    none_stored : (w : Vote) → t.after.store.votes made.slot ≡ Some w → w.ballot ≡ made.ballot → ⊥
-    none_stored w ew same =
-        once w.command
-        (subst (λ (y : Ballot). In (Accept y made.slot w.command) p.node.sent) (sym safe.ballot)
-        (camp.votes made.slot w (ap (λ (st : Store). st.votes made.slot) p.knows.store ∙ ew) (same ∙ safe.ballot)))
 
     not_done : is_open t.after.learned.log made.slot ≡ true → completes t.after.learned x.place.node made.ballot made.slot made.command ≡ true → ⊥
     not_done ahead done =
@@ -295,7 +296,7 @@ made_turn place s c made has f =
 unled : (place : Place) (s : Standing) → IsSettled place (idle s)
 unled place s leads_on = let clash : false ≡ true = leads_on in absurd (cc)
 
-and_left : (a b : Bool) → a ≡ true → (a && b) ≡ false → b ≡ false
+pub and_left : (a b : Bool) → a ≡ true → (a && b) ≡ false → b ≡ false
 and_left true b e h = h
 and_left false b e h = absurd (cc)
 

@@ -73,7 +73,7 @@ forward_by x came heard upto t act true e p said =
     let promise : Ballot = t.after.store.promise in
     let a = and_parts (nat_lt 0 promise.round) (nat_lt promise.node x.place.nodes && not (promise.node == x.place.node)) e in
     let b = and_parts (nat_lt promise.node x.place.nodes) (not (promise.node == x.place.node)) a.1 in
-    send_one x came heard upto t (Forward x.place.node act) promise.node (frame.Forward act) p tt (λ q. tt) (forwards act p.knows.up said refl refl) refl tt refl
+    send_one x came heard upto t (Forward x.place.node act) promise.node (frame.Forward act) p tt (λ q. tt) (forwards act p.knows.up said refl refl) refl (λ all. all) refl
     (ltb-true promise.node x.place.nodes b.0) (eqb-false promise.node x.place.node (not-true (promise.node == x.place.node) b.1))
 
 waits_by : (x : Scope) (came : List Arrival) (heard : Hearing) (t : Turn) (p : Path x came heard (applied t.after) t) (act : Command) (a b : Bool)

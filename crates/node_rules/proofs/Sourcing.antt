@@ -1,5 +1,6 @@
 -- What a node has was sent.
-use Rattle.std.proofs.Common.{◌≡◌, ◌≢◌, ℕ, ◌⊎◌, inl, inr, ◌==◌, Bool, true, false, true≢false, List, ◌∷◌, refl, ap, sym, ◌∙◌, subst, eqb-true, eq-eqb}
+use Rattle.std.proofs.Common.{◌≡◌, ◌≢◌, ℕ, ◌⊎◌, inl, inr, List, ◌∷◌, refl, ap, sym, ◌∙◌, subst}
+use Rattle.std.proofs.lemmas.Bool.{cases_eq}
 use Rattle.protocol_model.specs.Sets.{In}
 use Rattle.protocol_model.specs.Messages.{Message}
 use Rattle.protocol_model.specs.Dealers.{Dealer}
@@ -47,16 +48,9 @@ move_has dealer n i ever old out new (move.starts store down left o e) m h = abs
 abbrev AreSent : World → Type 0
 AreSent w = (j : ℕ) (m : Message) → In m (w.nodes j).has → In m w.ever
 
-same_or_not : (j i : ℕ) → (j ≡ i) ⊎ (j ≢ i)
-same_or_not j i = by_test (j == i) refl
-  where
-    by_test : (b : Bool) → (j == i) ≡ b → (j ≡ i) ⊎ (j ≢ i)
-    by_test true is = inl (eqb-true j i is)
-    by_test false is = inr (λ e. true≢false (sym (eq-eqb j i e) ∙ is))
-
 step_sent : (dealer : Dealer) (n : ℕ) (old : World) (i : ℕ) (out : Output) (node : Node) (new : World)
     → AreSent old → Move dealer n i old.ever (old.nodes i) out node → IsAfter old i out node new → AreSent new
-step_sent dealer n old i out node new sent step after j m h = subst (λ (l : List Message). In m l) (sym after.ever) (in_later out.sent old.ever m (by_node (same_or_not j i)))
+step_sent dealer n old i out node new sent step after j m h = subst (λ (l : List Message). In m l) (sym after.ever) (in_later out.sent old.ever m (by_node (cases_eq j i)))
   where
     by_node : (j ≡ i) ⊎ (j ≢ i) → In m old.ever
     by_node (inl e) = elim (move_has dealer n i old.ever (old.nodes i) out node step m (subst (λ (y : Node). In m y.has) (ap new.nodes e ∙ after.moved) h)) [

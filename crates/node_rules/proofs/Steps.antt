@@ -18,9 +18,9 @@ use Rattle.node_rules.specs.Showing.{Piece}
 use Rattle.node_rules.specs.Turns.{Turn, sending, joined}
 use Rattle.node_rules.specs.Seen.{ballots_in}
 use Rattle.node_rules.specs.Being.{Knows}
-use Rattle.node_rules.specs.Called.{Carry, CarryAll, AreShown, log_after}
+use Rattle.node_rules.specs.Called.{IsForAll, Carry, CarryAll, AreShown, log_after}
 use Rattle.protocol_model.proofs.Sets.{in_first}
-use Rattle.node_rules.proofs.Carrying.{joined_carry, joined_all, IsForOne, one_carry, one_all}
+use Rattle.node_rules.proofs.Carrying.{joined_carry, joined_all, one_carry, one_all}
 use Rattle.node_rules.proofs.Ordering.{sees_own}
 use Rattle.node_rules.proofs.Keeping.{with_others, with_got, IsNoAnswer, got_knows, IsQuiet, sent_knows}
 use Rattle.node_rules.proofs.Paths.{Hearing, Scope, dealer_in, first_in, Path}
@@ -191,7 +191,7 @@ send x came heard upto t m frames p quiet silent move carry all = (send_said x c
 pub send_one : (x : Scope) (came : List Arrival) (heard : Hearing) (upto : List Command) (t : Turn) (m : Message) (to : ℕ) (w : Wire)
     (p : Path x came heard upto t) → IsQuiet m → (x.ends ≡ false → IsNoVote m)
     → Move (dealer_in x) x.place.nodes x.place.node (p.sent ++ x.world.ever) p.node (sends m) (with_sent p.node (m ∷ []))
-    → carried x.place.node w ≡ m ∷ [] → IsForOne m → sender_of m ≡ x.place.node → to < x.place.nodes → to ≢ x.place.node
+    → carried x.place.node w ≡ m ∷ [] → (IsForAll m → ⊥) → sender_of m ≡ x.place.node → to < x.place.nodes → to ≢ x.place.node
     → Path x came heard upto (joined t (sending (one to w) t.after))
 send_one x came heard upto t m to w p quiet silent move e alone own below other =
     send x came heard upto t m (one to w) p quiet silent move (one_carry x.place.nodes x.place.node to w m e alone own below other) (one_all x.place.nodes x.place.node to w m e alone)

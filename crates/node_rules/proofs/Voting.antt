@@ -9,7 +9,6 @@ use Rattle.protocol_model.specs.Sets.{In}
 use Rattle.protocol_model.specs.Ballots.{AtMost}
 use Rattle.protocol_model.specs.Messages.{Vote, Message, Prepare, Accept, Accepted}
 use Rattle.protocol_model.specs.Stores.{Store, voted}
-use Rattle.protocol_model.specs.Backing.{IsWithinPromise}
 use Rattle.protocol_model.specs.Nodes.{Node}
 use Rattle.protocol_model.specs.Arrivals.{Arrival}
 use Rattle.protocol_model.specs.Moves.{with_store, with_sent, accepts, repeats}
@@ -22,6 +21,7 @@ use Rattle.node_rules.specs.Accepting.{is_of_ballot, stored_in, refusing, voting
 use Rattle.node_rules.specs.Learning.{counting_vote}
 use Rattle.node_rules.specs.Being.{IsProposer}
 use Rattle.node_rules.proofs.Carrying.{others_carry, others_all}
+use Rattle.protocol_model.proofs.Backing.{vote_within}
 use Rattle.protocol_model.proofs.Ballots.{at_most_trans, at_most_self, same_if, at_most_if_not}
 use Rattle.node_rules.proofs.Ordering.{both_ways, sees_up}
 use Rattle.node_rules.proofs.Keeping.{sent_pending, stored_pending, prepared_before, proposed_before}
@@ -41,12 +41,6 @@ voted_by store slot vote found k false e h = inr h
 pub voted_is : (store : Store) (slot : ℕ) (vote found : Vote) (k : ℕ) → (voted store slot vote).votes k ≡ Some found
     → ((k ≡ slot) × (found ≡ vote)) ⊎ (store.votes k ≡ Some found)
 voted_is store slot vote found k h = voted_by store slot vote found k (k == slot) refl h
-
-pub within_voted : (store : Store) (slot : ℕ) (vote : Vote) → AtMost store.promise vote.ballot → IsWithinPromise store → IsWithinPromise (voted store slot vote)
-within_voted store slot vote up within k found e = elim (voted_is store slot vote found k e) [
-  | inl new ↦ subst (λ (v : Vote). AtMost v.ballot vote.ballot) (sym new.1) (at_most_self vote.ballot)
-  | inr old ↦ at_most_trans found.ballot store.promise vote.ballot (within k found old) up
-]
 
 -- a proposer that promised another node's ballot has none to stand for
 gone : (n i : ℕ) (node new : Node) (front : ℕ) (m : Message) (ballot : Ballot) → ballot.node ≢ i → AtMost node.store.promise ballot → new.store.promise ≡ ballot
@@ -97,7 +91,7 @@ new_vote x came heard upto t ends ballot slot command p had above other =
         (record {
           up = p.knows.up;
           store = ap (λ (st : Store). voted st slot vote) p.knows.store;
-          within = within_voted p.node.store slot vote up p.knows.within;
+          within = vote_within p.node.store slot vote p.knows.within up;
           proposer = gone x.place.nodes i p.node (with_sent stored (m ∷ [])) (front_of t.after) m ballot other up refl
               (λ b f h. prepared_before p.node m b f tt h) (λ b s c h. proposed_before p.node m b s c tt h) t.after.campaign p.knows.proposer;
           learner = p.knows.learner;

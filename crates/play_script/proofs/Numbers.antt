@@ -1,13 +1,12 @@
 -- Numbers of a script as texts of digits.
-use Rattle.std.proofs.Common.{◌≡◌, ◌≢◌, ℕ, ◌<◌, ◌≤◌, ◌^◌, true, ◌&&◌, List, [], ◌∷◌, length, Result, Ok, refl, ap, ◌∙◌, sym, subst, arith}
+use Rattle.std.proofs.Common.{◌≡◌, ◌≢◌, ℕ, ◌<◌, ◌^◌, true, ◌&&◌, List, [], ◌∷◌, Result, Ok, refl, ap, ◌∙◌, sym, subst, arith}
 use Rattle.std.specs.Char.{is_ascii_digit}
 use Rattle.std.specs.List.{list_all}
-use Rattle.std.specs.Result.{OkIff}
 use Rattle.std.specs.Str.{all_ascii_digits, IsUtf8}
-use Rattle.std.specs.Str.Parse.{digits_value, ParsesUnsigned, AllDigits}
+use Rattle.std.specs.Str.Parse.{ParsesUnsigned, AllDigits}
 use Rattle.std.proofs.lemmas.Fmt.{IsAscii-from_digits}
 use Rattle.std.proofs.lemmas.Str.{IsUtf8-from_ascii}
-use Rattle.std.proofs.lemmas.Str.Parse.{parse_digits, parse_gives, digit_from_value}
+use Rattle.std.proofs.lemmas.Str.Parse.{parse_gives, digit_from_value}
 use Rattle.matchstate.specs.Free.{IsFreeOf}
 use Rattle.matchstate.proofs.Words.{decimals_are_numerals}
 use Rattle.play_script.specs.Orders.{IsNumber}
@@ -18,12 +17,6 @@ listed (b ∷ bs) = ap (λ t. is_ascii_digit b && t) (listed bs)
 
 pub digits_listed : (bs : List ℕ) → list_all is_ascii_digit bs ≡ true → all_ascii_digits bs ≡ true
 digits_listed bs digits = listed bs ∙ digits
-
-pub number_found : {E : Type 0} (bs : List ℕ) (r : Result ℕ E) (n : ℕ) → ParsesUnsigned 64 10 bs r → r ≡ Ok n → list_all is_ascii_digit bs ≡ true → 1 ≤ length bs → IsNumber bs n
-number_found {E} bs r n parsed is digits some =
-    let told = parse_digits decimals_are_numerals 64 bs r parsed (digits_listed bs digits) in
-    let here = subst (λ (s : Result ℕ E). OkIff s ((0 < length bs) × (digits_value 10 bs < 2 ^ 64)) (digits_value 10 bs)) is told in
-    record { digits = digits_listed bs digits; some = some; value = sym here.1; fits = subst (λ (v : ℕ). v < 2 ^ 64) (sym here.1) here.0.1 }
 
 pub number_absent : {E : Type 0} (bs : List ℕ) (r : Result ℕ E) → ParsesUnsigned 64 10 bs r → ((n : ℕ) → ¬ (r ≡ Ok n)) → (n : ℕ) → ¬ (IsNumber bs n)
 number_absent bs r parsed none =

@@ -1,6 +1,5 @@
 -- The two writes of an append, each had on the disk before the next call.
-use Rattle.std.proofs.Common.{◌≡◌, inl, inr, ⊎_elim, ℕ, ◌+◌, ◌≤◌, List, [], ◌∷◌, ◌++◌, length, sym, ◌∙◌, ap, subst, arith, take, drop, length-append, length-drop}
-use Rattle.std.proofs.lemmas.List.{length-take-le}
+use Rattle.std.proofs.Common.{◌≡◌, inl, inr, ⊎_elim, ℕ, ◌+◌, ◌≤◌, List, [], ◌∷◌, ◌++◌, length, sym, ◌∙◌, ap, subst, arith}
 use Rattle.std.specs.Prelude.{IsTrue, Result, Ok, Err, OnOk}
 use Rattle.promise_store.specs.declared.disk.Disk.{Ghosts}
 use Rattle.promise_store.specs.Disks.{Torn, Holds, Only, During, TornFrom}
@@ -18,9 +17,6 @@ goes_on past between since P Q R first second p q t image left =
 
 module _ {D : Type 0} (g : Ghosts D) (honest : (disk : D) (image : List ℕ) → g.images disk image → IsTrue g.is_honest)
     (head : List ℕ) (records : List Record) (r : Record) (fits : IsRecord r) (gate : ℕ) (before : D) (settled : IsSettled g head records gate before) where
-  pub before_opens : (image : List ℕ) → g.images before image → IsJournal head image records
-  before_opens image left = subst (λ (l : List ℕ). IsJournal head l records) (sym (settled.durable image left)) (settled.journal (honest before image left))
-
   pub inside : IsTrue g.is_honest → gate + 1 ≤ length (g.seen before)
   inside true_disk = omega (arith, settled.at_gate true_disk, within head records r fits (g.seen before) (settled.journal true_disk))
 
@@ -61,15 +57,6 @@ module _ {D : Type 0} (g : Ghosts D) (honest : (disk : D) (image : List ℕ) →
 pub on_ok_two : {T E : Type 0} (result : Result T E) (H P Q R : Type 0) → ((H → P) → Q → R) → (H → OnOk result P) → OnOk result Q → OnOk result R
 on_ok_two (Ok x) H P Q R f p q = f p q
 on_ok_two (Err e) H P Q R f p q = q
-
-pub holds_long : (old : List ℕ) (at : ℕ) (bytes new : List ℕ) → at ≤ length old → Holds old at bytes new → (at + length bytes ≤ length new) × (length old ≤ length new)
-holds_long old at bytes new within holds =
-    let long = ap length holds in
-    let all = length-append (take at old ++ bytes) (drop (at + length bytes) old) in
-    let front = length-append (take at old) bytes in
-    let first = length-take-le at old within in
-    let last = length-drop (at + length bytes) old in
-    (omega arith, omega arith)
 
 pub settled_at : {D : Type 0} (g : Ghosts D) (head : List ℕ) (records : List Record) (gate place_now : ℕ) (disk : D) → IsSettled g head records gate disk → (IsTrue g.is_honest → place_now ≡ gate) → IsSettled g head records place_now disk
 settled_at g head records gate place_now disk settled is = record { journal = settled.journal; at_gate = λ true_disk. is true_disk ∙ settled.at_gate true_disk; durable = settled.durable }

@@ -1,12 +1,12 @@
 -- What calls make of a file in memory.
-use Rattle.std.proofs.Common.{Vec, Global, ◌≡◌, ◌⊎◌, inl, inr, ℕ, zero, suc, ◌+◌, ◌-◌, ◌≤◌, min, max, Bool, true, false, List, [], ◌∷◌, ◌++◌, length, take, drop, map, reverse, refl, sym, ◌∙◌, ap, subst, arith, length-append, length-drop}
+use Rattle.std.proofs.Common.{Vec, Global, ◌≡◌, inl, inr, ℕ, zero, suc, ◌+◌, ◌-◌, ◌≤◌, min, max, Bool, true, false, List, [], ◌∷◌, ◌++◌, length, take, drop, map, reverse, refl, sym, ◌∙◌, ap, subst, arith, length-append, length-drop}
 use Rattle.std.specs.Prelude.{◌%◌, ◌/◌, replicate}
 use Rattle.std.proofs.lemmas.Bool.{cases_lt}
 use Rattle.std.proofs.lemmas.List.{take_min, take-take, take-append-le, drop-append-le, take_rest, drop_at, drop_all, length-take-le, length-replicate, reverse-append, map-append, append-nil}
-use Rattle.promise_store.specs.Disks.{Torn, TornFrom, Within, Holds, Elapses}
+use Rattle.promise_store.specs.Disks.{Torn, TornFrom, Within}
 use Rattle.promise_store.specs.declared.call.Call.{Call}
 use Rattle.promise_store.specs.declared.call.Call.TheVariants.{Wrote, Synced}
-use Rattle.promise_store.specs.Calls.{Event, wrote, synced, stopped, event_of, events, grown, landed, redone, replayed, Write, write_of, picked, Contents, contents, Reaches, IsImage, Had, Since, IsTied}
+use Rattle.promise_store.specs.Calls.{Event, wrote, synced, stopped, event_of, events, grown, landed, redone, replayed, Write, write_of, picked, Contents, contents, Reaches, IsImage, IsTied}
 
 pub torn_same : (at n : ℕ) (file : List ℕ) → Torn at n file file
 torn_same at n file = record { before = take_min at file; after = refl; no_shorter = omega arith; no_longer = omega arith }
@@ -61,11 +61,6 @@ torn_landed (suc (suc digit)) file at bytes =
     let torn = torn_over at (length bytes) file (replicate (length bytes) 1) same in
     subst (λ (k : ℕ). Torn at (length bytes) file (take at (grown file (at + length bytes)) ++ replicate (length bytes) 1 ++ drop (at + k) (grown file (at + length bytes)))) (sym same) torn
 
-pub holds_landed : (file : List ℕ) (at : ℕ) (bytes : List ℕ) → at ≤ length file → Holds file at bytes (landed 1 file at bytes)
-holds_landed file at bytes within =
-    ap (λ (l : List ℕ). l ++ bytes ++ drop (at + length bytes) (grown file (at + length bytes))) (take-append-le at file (replicate (at + length bytes - length file) 0) within)
-    ∙ ap (λ (l : List ℕ). take at file ++ bytes ++ l) (drop_grown file (at + length bytes))
-
 pub reaches_picked : (file : List ℕ) (writes : List Write) (pick : ℕ) → Reaches file writes (picked file writes pick)
 reaches_picked file [] pick = refl
 reaches_picked file (write ∷ writes) pick =
@@ -87,25 +82,6 @@ module _ (calls : List Event) where
       ((contents calls).seen, inl refl, subst (λ (l : List ℕ). Torn at (length bytes) (contents calls).seen l) (sym is) (seen_write at bytes done))
   write_follows at bytes done image (inr reaches) =
       let more = reaches_more (contents calls).base (contents calls).pending (at, bytes) image reaches in (more.0, inr more.1, more.2)
-
-  pub elapses_more : (event : Event) → Elapses (length calls) (length (event ∷ calls)) (λ t. Since t calls) (λ t. Since t (event ∷ calls)) (IsImage (contents (event ∷ calls)))
-  elapses_more event = record { later = omega arith; nothing_else = was; keeps = λ t image le past. inr (kept t image le past) }
-    where
-      was : (t : ℕ) (image : List ℕ) → Since t (event ∷ calls) image → Since t calls image ⊎ IsImage (contents (event ∷ calls)) image
-      was t image (inl now) = inr now
-      was t image (inr (inl here)) = inl (inl here.1)
-      was t image (inr (inr had)) = inl (inr had)
-
-      kept : (t : ℕ) (image : List ℕ) → t ≤ length calls → Since t calls image → Had t (event ∷ calls) image
-      kept t image le (inl now) = inl (le, now)
-      kept t image le (inr had) = inr had
-
-  pub elapses_same : Elapses (length calls) (length calls) (λ t. Since t calls) (λ t. Since t calls) (IsImage (contents calls))
-  elapses_same = record { later = omega arith; nothing_else = λ t image since. inl since; keeps = λ t image le since. since }
-
-  pub only_synced : (image : List ℕ) → IsImage (contents (synced ∷ calls)) image → image ≡ (contents calls).seen
-  only_synced image (inl is) = is
-  only_synced image (inr is) = is
 
   pub stop_leaves : (pick : ℕ) → IsImage (contents calls) (contents (stopped pick ∷ calls)).seen
   stop_leaves pick = inr (reaches_picked (contents calls).base (contents calls).pending pick)

@@ -132,10 +132,3 @@ module _ (head bytes : List ℕ) (records : List Record) (journal : IsJournal he
           let same : kept.placed ≡ placed = same_Some kept.placed placed (sym (sym is ∙ indexes.entries slot ∙ ap placed_of there)) in
           let vote : Vote = record { ballot = kept.placed.ballot; command = kept.command } in
           (vote, ap vote_of there, subst (λ (p : Placed). IsEntry bytes slot p vote) same (stands_entry kept (kept_stands head records slot kept there)))
-
-pub not_indexed : (head : List ℕ) (records : List Record) (slot : ℕ) (index : Held) → Indexes index (holding head records) → found slot index.entries.items ≡ None → (store_of (holding head records)).votes slot ≡ None
-not_indexed head records slot index indexes is = by ((holding head records).entries slot) refl
-  where
-    by : (entry : Option Kept) → (holding head records).entries slot ≡ entry → (store_of (holding head records)).votes slot ≡ None
-    by None there = ap vote_of there
-    by (Some kept) there = absurd (let e : Some kept.placed ≡ None = sym (ap placed_of there) ∙ sym (indexes.entries slot) ∙ is in cc)

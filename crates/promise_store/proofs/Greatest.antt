@@ -3,7 +3,7 @@ use Rattle.std.proofs.Common.{◌≡◌, ◌⊎◌, inl, inr, ℕ, ◌+◌, refl
 use Rattle.std.specs.Prelude.{◌==◌, if◌then◌else◌, Option, Some, None}
 use Rattle.std.proofs.lemmas.Bool.Decides.{nat_tests}
 use Rattle.std.proofs.lemmas.Bool.{cases_eq}
-use Rattle.std.proofs.lemmas.Option.{same_Some}
+use Rattle.std.proofs.lemmas.Option.{none-some, same_Some}
 use Rattle.paxos_wire.specs.declared.ballot.Ballot.{Ballot}
 use Rattle.slot_log.specs.declared.command.Command.{Command}
 use Rattle.protocol_model.specs.Ballots.{Below, AtMost}
@@ -87,6 +87,14 @@ at_slot votes slot new = let test : (slot == slot) ≡ true = grind (arith, nat_
 off_slot : (votes : ℕ → Option Vote) (slot other : ℕ) (new : Option Vote) → (other ≡ slot → ⊥) → put votes slot new other ≡ votes other
 off_slot votes slot other new apart = let test : (other == slot) ≡ false = grind (arith, nat_tests, apart) in rw test refl
 
+-- the vote at an accept's own slot is the later of what was there and of what is accepted
+vote_at : (store : Store) (ballot : Ballot) {slot s : ℕ} (command : Command) (vote : Vote) {old : Option Vote} → slot ≡ s → (stored store (Voted ballot s command)).votes slot ≡ Some vote → store.votes s ≡ old → later (λ (v : Vote). v.ballot) old (vote_of ballot command) ≡ vote
+vote_at store ballot {slot} {s} command vote here is was =
+    same_Some _ vote (
+    sym (ap (λ (o : Option Vote). Some (later (λ (v : Vote). v.ballot) o (vote_of ballot command))) was) ∙ sym (at_slot store.votes s _)
+    ∙ ap (put store.votes s (Some (later (λ (v : Vote). v.ballot) (store.votes s) (vote_of ballot command)))) (sym here) ∙ is
+    )
+
 abbrev is_vote : Record → Bool
 is_vote (Promised ballot) = false
 is_vote (Voted ballot slot command) = true
@@ -156,9 +164,6 @@ record_step store (Voted ballot s command) records slot vote (is, below) = elim 
     all other b c (inl here) = absurd (other (ap slot_in here))
     all other b c (inr there) = below b c there
 
-    stands : slot ≡ s → Some (later (λ (v : Vote). v.ballot) (store.votes s) (vote_of ballot command)) ≡ Some vote
-    stands here = sym (at_slot store.votes s _) ∙ ap (put store.votes s (Some (later (λ (v : Vote). v.ballot) (store.votes s) (vote_of ballot command)))) (sym here) ∙ is
-
     comes : slot ≡ s → vote_of ballot command ≡ vote → ((old : Vote) → store.votes slot ≡ Some old → AtMost old.ballot ballot) → Comes store (Voted ballot s command ∷ records) slot vote
     comes here same least = (
       record {
@@ -173,18 +178,15 @@ record_step store (Voted ballot s command) records slot vote (is, below) = elim 
 
     at_place : slot ≡ s → (old : Option Vote) → store.votes s ≡ old → Stays store (Voted ballot s command ∷ records) slot vote ⊎ Comes store (Voted ballot s command ∷ records) slot vote
     at_place here None was =
-        let same = same_Some (vote_of ballot command) vote (sym (ap (λ (o : Option Vote). Some (later (λ (v : Vote). v.ballot) o (vote_of ballot command))) was) ∙ stands here) in
-        inr (comes here same (λ old is_old. absurd (none_some (sym was ∙ ap store.votes (sym here) ∙ is_old))))
-      where
-        none_some : {v : Vote} → None ≡ Some v → ⊥
-        none_some {v} e = cc
+        let same = vote_at store ballot command vote here is was in
+        inr (comes here same (λ old is_old. absurd (none-some old (sym was ∙ ap store.votes (sym here) ∙ is_old))))
     at_place here (Some old) was = elim (below_cases ballot old.ballot) [
       | inl lower ↦ inl (ap store.votes here ∙ was ∙ ap (λ (v : Vote). Some v) (kept lower.0), under lower)
       | inr above ↦ inr (comes here (taken above.0) (λ other is_other. subst (λ (v : Vote). AtMost v.ballot ballot) (same_Some old other (sym was ∙ ap store.votes (sym here) ∙ is_other)) above.1))
     ]
       where
         whole : (if is_below ballot old.ballot then old else vote_of ballot command) ≡ vote
-        whole = same_Some _ vote (sym (ap (λ (o : Option Vote). Some (later (λ (v : Vote). v.ballot) o (vote_of ballot command))) was) ∙ stands here)
+        whole = vote_at store ballot command vote here is was
 
         kept : is_below ballot old.ballot ≡ true → old ≡ vote
         kept test = sym (ap (λ (b : Bool). if b then old else vote_of ballot command) test) ∙ whole
@@ -243,10 +245,7 @@ is_there store (x ∷ records) slot ballot command (inr there) = is_there (store
 pub none_there : (head : List ℕ) (records : List Record) (slot : ℕ) (ballot : Ballot) (command : Command) → (store_of (holding head records)).votes slot ≡ None → In (Voted ballot slot command) records → ⊥
 none_there head records slot ballot command none there =
     let new = is_there empty_store records slot ballot command there in
-    apart (sym none ∙ ap (λ s. s.votes slot) (stored_holding head records) ∙ new.1)
-  where
-    apart : {v : Vote} → None ≡ Some v → ⊥
-    apart {v} e = cc
+    none-some new.0 (sym none ∙ ap (λ s. s.votes slot) (stored_holding head records) ∙ new.1)
 
 -- ---- no vote is above the promise
 
@@ -257,20 +256,17 @@ within_next store (Voted ballot s command) within slot vote is = elim (cases_eq 
   | inr other ↦ at_most_trans vote.ballot store.promise _ (within slot vote (sym (off_slot store.votes s slot _ other) ∙ is)) (promise_kept store ballot)
 ]
   where
-    stands : slot ≡ s → Some (later (λ (v : Vote). v.ballot) (store.votes s) (vote_of ballot command)) ≡ Some vote
-    stands here = sym (at_slot store.votes s _) ∙ ap (put store.votes s (Some (later (λ (v : Vote). v.ballot) (store.votes s) (vote_of ballot command)))) (sym here) ∙ is
-
     at_place : slot ≡ s → (old : Option Vote) → store.votes s ≡ old → AtMost vote.ballot (greater store.promise ballot)
     at_place here None was =
         subst (λ (v : Vote). AtMost v.ballot (greater store.promise ballot))
-        (same_Some (vote_of ballot command) vote (sym (ap (λ (o : Option Vote). Some (later (λ (v : Vote). v.ballot) o (vote_of ballot command))) was) ∙ stands here)) (promise_raised store ballot)
+        (vote_at store ballot command vote here is was) (promise_raised store ballot)
     at_place here (Some old) was = elim (below_cases ballot old.ballot) [
       | inl lower ↦ subst (λ (v : Vote). AtMost v.ballot (greater store.promise ballot)) (sym (ap (λ (b : Bool). if b then old else vote_of ballot command) lower.0) ∙ whole) (at_most_trans old.ballot store.promise _ (within s old was) (promise_kept store ballot))
       | inr above ↦ subst (λ (v : Vote). AtMost v.ballot (greater store.promise ballot)) (sym (ap (λ (b : Bool). if b then old else vote_of ballot command) above.0) ∙ whole) (promise_raised store ballot)
     ]
       where
         whole : (if is_below ballot old.ballot then old else vote_of ballot command) ≡ vote
-        whole = same_Some _ vote (sym (ap (λ (o : Option Vote). Some (later (λ (v : Vote). v.ballot) o (vote_of ballot command))) was) ∙ stands here)
+        whole = vote_at store ballot command vote here is was
 
 within_all : (store : Store) (records : List Record) → IsWithinPromise store → IsWithinPromise (stored_all store records)
 within_all store [] within = within
@@ -278,4 +274,4 @@ within_all store (r ∷ records) within = within_all (stored store r) records (w
 
 pub held_within : (head : List ℕ) (records : List Record) → IsWithinPromise (store_of (holding head records))
 held_within head records =
-    subst (λ (s : Store). IsWithinPromise s) (sym (stored_holding head records)) (within_all empty_store records (λ slot vote none. absurd (let e : None ≡ Some vote = none in cc)))
+    subst (λ (s : Store). IsWithinPromise s) (sym (stored_holding head records)) (within_all empty_store records (λ slot vote none. absurd (none-some vote none)))

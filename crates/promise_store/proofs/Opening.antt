@@ -1,7 +1,6 @@
 -- What a file that is opened shows.
 use Rattle.std.proofs.Common.{◌≡◌, ◌⊎◌, inl, inr, ℕ, ◌<◌, refl, sym, ◌∙◌, ap, List, [], ◌∷◌, ◌++◌, length, take, drop, arith, append_assoc, length-append, length-drop, take-append-drop}
 use Rattle.std.specs.List.{AllByRecursion}
-use Rattle.std.proofs.lemmas.List.{take_at}
 use Rattle.protocol_model.specs.Stores.{Store}
 use Rattle.promise_store.specs.declared.records.Record.{Record}
 use Rattle.promise_store.specs.declared.fault.StoreFault.{StoreFault}
@@ -34,9 +33,6 @@ no_refusal head bytes store OutOfMemory stands refused = inr refl
 -- a file with a head is longer than it, and begins with it
 pub head_long : (head bytes : List ℕ) → HasHead head bytes → length head < length bytes
 head_long head bytes (gate, rest, is) = omega (arith, ap length is, length-append head (gate ∷ rest))
-
-pub head_front : (head bytes : List ℕ) → HasHead head bytes → take (length head) bytes ≡ head
-head_front head bytes (gate, rest, is) = ap (λ (l : List ℕ). take (length head) l) is ∙ take_at head (gate ∷ rest) (length head) refl
 
 -- a file that begins with the head and is longer has the head and a gate
 pub front_head : (head bytes : List ℕ) → take (length head) bytes ≡ head → length head < length bytes → HasHead head bytes

@@ -38,10 +38,6 @@ rise_from slot from (x ∷ xs) zero e rise within is above =
     (high, rise_all slot (x.slot + 1) xs rise.1 (omega (arith, high)))
 rise_from slot from (x ∷ xs) (suc k) e rise within is above = rise_from slot (x.slot + 1) xs k e rise.1 (omega (arith, within)) is above
 
-rise_raise : (from higher : ℕ) (xs : List Placed) → Rise from xs → From higher xs → Rise higher xs
-rise_raise from higher [] rise above = tt
-rise_raise from higher (x ∷ xs) rise above = (above.0, rise.1)
-
 pub rise_insert : (from : ℕ) (xs : List Placed) (k : ℕ) (e : Placed) → Rise from xs → from ≤ e.slot → Below e.slot (take k xs) → From (e.slot + 1) (drop k xs) → Rise from (take k xs ++ e ∷ drop k xs)
 rise_insert from [] zero e rise low below above = (low, tt)
 rise_insert from [] (suc k) e rise low below above = (low, tt)
@@ -80,18 +76,19 @@ found_none slot (x ∷ xs) zero below above =
 found_none slot (x ∷ xs) (suc k) below above =
     rw (eq_false slot x.slot (λ eq. omega (arith, below.0, eq))) (found_none slot xs k below.1 above)
 
+-- of two tests that don't both hold either may come first
+turned : (x e : Placed) (a b : Bool) (rest : Option Placed) → (a ≡ true → b ≡ true → ⊥) → (if a then Some x else (if b then Some e else rest)) ≡ (if b then Some e else (if a then Some x else rest))
+turned x e true true rest apart = absurd (apart refl refl)
+turned x e true false rest apart = refl
+turned x e false b rest apart = refl
+
 pub found_insert : (s : ℕ) (xs : List Placed) (k : ℕ) (e : Placed) → Below e.slot (take k xs) → found s (take k xs ++ e ∷ drop k xs) ≡ (if nat_eq s e.slot then Some e else found s xs)
 found_insert s [] zero e below = refl
 found_insert s [] (suc k) e below = refl
 found_insert s (x ∷ xs) zero e below = refl
 found_insert s (x ∷ xs) (suc k) e below =
     ap (λ o. if nat_eq s x.slot then Some x else o) (found_insert s xs k e below.1)
-    ∙ turned (nat_eq s x.slot) (nat_eq s e.slot) (found s xs) (λ one two. let a : s ≡ x.slot = grind (arith, nat_tests, one) in let b : s ≡ e.slot = grind (arith, nat_tests, two) in omega (arith, a, b, below.0))
-  where
-    turned : (a b : Bool) (rest : Option Placed) → (a ≡ true → b ≡ true → ⊥) → (if a then Some x else (if b then Some e else rest)) ≡ (if b then Some e else (if a then Some x else rest))
-    turned true true rest apart = absurd (apart refl refl)
-    turned true false rest apart = refl
-    turned false b rest apart = refl
+    ∙ turned x e (nat_eq s x.slot) (nat_eq s e.slot) (found s xs) (λ one two. let a : s ≡ x.slot = grind (arith, nat_tests, one) in let b : s ≡ e.slot = grind (arith, nat_tests, two) in omega (arith, a, b, below.0))
 
 pub found_set : (s : ℕ) (xs : List Placed) (k : ℕ) (old e : Placed) → Below e.slot (take k xs) → k < length xs → old ≡ get_or xs k old → old.slot ≡ e.slot → found s (set xs k e) ≡ (if nat_eq s e.slot then Some e else found s xs)
 found_set s [] k old e below within is same = absurd (omega arith)
@@ -104,12 +101,7 @@ found_set s (x ∷ xs) zero old e below within is same =
     covered false a is_same = rw is_same refl
 found_set s (x ∷ xs) (suc k) old e below within is same =
     ap (λ o. if nat_eq s x.slot then Some x else o) (found_set s xs k old e below.1 (omega (arith, within)) is same)
-    ∙ turned (nat_eq s x.slot) (nat_eq s e.slot) (found s xs) (λ one two. let a : s ≡ x.slot = grind (arith, nat_tests, one) in let b : s ≡ e.slot = grind (arith, nat_tests, two) in omega (arith, a, b, below.0))
-  where
-    turned : (a b : Bool) (rest : Option Placed) → (a ≡ true → b ≡ true → ⊥) → (if a then Some x else (if b then Some e else rest)) ≡ (if b then Some e else (if a then Some x else rest))
-    turned true true rest apart = absurd (apart refl refl)
-    turned true false rest apart = refl
-    turned false b rest apart = refl
+    ∙ turned x e (nat_eq s x.slot) (nat_eq s e.slot) (found s xs) (λ one two. let a : s ≡ x.slot = grind (arith, nat_tests, one) in let b : s ≡ e.slot = grind (arith, nat_tests, two) in omega (arith, a, b, below.0))
 
 module _ (slot : ℕ) (xs : List Placed) (k : ℕ) (d : Placed) (rise : Rise 0 xs) (within : k < length xs) where
   there_is : get_or xs k d ≡ get_or xs k (get_or xs k d)

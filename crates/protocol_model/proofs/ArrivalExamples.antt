@@ -4,6 +4,7 @@ use Rattle.slot_log.specs.declared.command.Command.{Command}
 use Rattle.protocol_model.specs.Sets.{In}
 use Rattle.protocol_model.specs.Messages.{Message, Ask}
 use Rattle.protocol_model.specs.Arrivals.{Event, Arrival, Started, Connected, Dropped, Closed, Came, heard_in, AreInOrder, started_below}
+use Rattle.protocol_model.specs.Dealers.{Dealer}
 use Rattle.protocol_model.specs.Laws.{IsMoment, WasSaid, HasOrigin, IsStarted}
 use Rattle.protocol_model.specs.Nodes.{Node}
 use Rattle.protocol_model.proofs.ActExample.{talk}
@@ -86,8 +87,8 @@ not_too_late moment = came moment.came_later moment.all_came moment.no_later
         let first : connection ≡ arrival = cc in omega (arith, ap (λ (a : Arrival). a.sent) first, none arrival (inl refl))
 
 -- where nothing came nothing was said, and a command that nobody owns has no origin
-nothing_said : (ever : List Message) (command : Command) → WasSaid talk 1 ever [] command → ⊥
-nothing_said ever command said = none (none_before said.moment.came_later said.earlier said.moment.all_came)
+pub nothing_said : (dealer : Dealer) (n : ℕ) (ever : List Message) (command : Command) → WasSaid dealer n ever [] command → ⊥
+nothing_said dealer n ever command said = none (none_before said.moment.came_later said.earlier said.moment.all_came)
   where
     none_before : (later earlier : List Arrival) → [] ≡ later ++ earlier → earlier ≡ []
     none_before [] earlier e = sym e
@@ -101,7 +102,7 @@ nothing_said ever command said = none (none_before said.moment.came_later said.e
 
 invented : (ever : List Message) (command : Command) → HasOrigin talk 1 ever [] command → ⊥
 invented ever command (inl owned) = cc (owned.2)
-invented ever command (inr said) = nothing_said ever command said
+invented ever command (inr said) = nothing_said talk 1 ever command said
 
 -- a node that was started again was started once more than before
 not_the_same_start : (node new : Node) → IsStarted node node.store new → new.starts ≡ node.starts → ⊥

@@ -1,5 +1,6 @@
 -- What a store backs it goes on to back, and each store of a run backs what its node sent.
 use Rattle.std.proofs.Common.{◌≡◌, ℕ, inl, inr, ◌⊎◌, Some, List, ap, sym, ◌∙◌, subst, refl, arith}
+use Rattle.std.proofs.lemmas.Option.{same_Some}
 use Rattle.paxos_wire.specs.declared.ballot.Ballot.{Ballot}
 use Rattle.slot_log.specs.declared.command.Command.{Command}
 use Rattle.protocol_model.specs.Sets.{In}
@@ -14,7 +15,7 @@ use Rattle.protocol_model.specs.Laws.{IsLeft}
 use Rattle.protocol_model.proofs.Sets.{put_same, put_cases}
 use Rattle.protocol_model.proofs.Ballots.{at_most_trans, at_most_of_below, at_most_self, equal_or_below}
 use Rattle.protocol_model.proofs.Facts.{Facts}
-use Rattle.protocol_model.proofs.Stores.{Holds, append_holds, some_vote}
+use Rattle.protocol_model.proofs.Stores.{Holds, append_holds}
 use Rattle.protocol_model.proofs.Sending.{NodeFacts}
 use Rattle.protocol_model.proofs.Runs.{world_facts}
 
@@ -84,9 +85,9 @@ vote_backs store slot taken message within at_most none =
 promise_within : (store : Store) (ballot : Ballot) → IsWithinPromise store → Below store.promise ballot → IsWithinPromise (promised store ballot)
 promise_within store ballot within below slot v is = at_most_trans v.ballot store.promise ballot (within slot v is) (at_most_of_below store.promise ballot below)
 
-vote_within : (store : Store) (slot : ℕ) (taken : Vote) → IsWithinPromise store → AtMost store.promise taken.ballot → IsWithinPromise (voted store slot taken)
+pub vote_within : (store : Store) (slot : ℕ) (taken : Vote) → IsWithinPromise store → AtMost store.promise taken.ballot → IsWithinPromise (voted store slot taken)
 vote_within store slot taken within at_most s v is = elim (put_cases store.votes slot (Some taken) s) [
-  | inl new ↦ subst (λ (w : Vote). AtMost w.ballot taken.ballot) (some_vote taken v (sym new.1 ∙ is)) (at_most_self taken.ballot)
+  | inl new ↦ subst (λ (w : Vote). AtMost w.ballot taken.ballot) (same_Some taken v (sym new.1 ∙ is)) (at_most_self taken.ballot)
   | inr same ↦ at_most_trans v.ballot store.promise taken.ballot (within s v (sym same ∙ is)) at_most
 ]
 

@@ -1,5 +1,6 @@
 -- What a store backs.
 use Rattle.std.proofs.Common.{◌≡◌, ℕ, inl, inr, Some, [], refl, ap, sym, ◌∙◌, subst, arith}
+use Rattle.std.proofs.lemmas.Option.{same_Some}
 use Rattle.paxos_wire.specs.declared.ballot.Ballot.{Ballot}
 use Rattle.slot_log.specs.declared.command.Command.TheVariants.{Deal}
 use Rattle.protocol_model.specs.Ballots.{Below}
@@ -51,14 +52,11 @@ promise_alone backs = no_vote backs.1.0 backs.1.1
 another_slot : Backs taken (Accepted 1 first 5 (Deal 0 [])) → ⊥
 another_slot backs = no_vote backs.1.0 backs.1.1
 
-held_vote : (found wanted : Vote) → Some wanted ≡ Some found → wanted ≡ found
-held_vote found wanted held = cc
-
 same_deal : (found : Vote) (ballot : Ballot) (hand other : ℕ) → Some (vote ballot hand) ≡ Some found → found ≡ vote ballot other → Deal hand [] ≡ Deal other []
-same_deal found ballot hand other held is = ap (λ (v : Vote). v.command) (held_vote found (vote ballot hand) held ∙ is)
+same_deal found ballot hand other held is = ap (λ (v : Vote). v.command) (same_Some (vote ballot hand) found held ∙ is)
 
 its_ballot : (found wanted : Vote) → Some wanted ≡ Some found → found.ballot ≡ wanted.ballot
-its_ballot found wanted held = ap (λ (v : Vote). v.ballot) (sym (held_vote found wanted held))
+its_ballot found wanted held = ap (λ (v : Vote). v.ballot) (sym (same_Some wanted found held))
 
 not_below_itself : (a b : Ballot) → b ≡ a → Below a b → ⊥
 not_below_itself a b e below = let is : Below a a = subst (Below a) e below in grind arith

@@ -1,6 +1,7 @@
 -- What a node hears of a seat is what came from the seat since it connected, and arrivals come in order.
 use Rattle.std.proofs.Common.{◌≡◌, ◌≢◌, ℕ, ◌≤◌, ◌⊎◌, inl, inr, ◌==◌, ◌&&◌, Bool, cond, eq-eqb, ne_eqb, eqb-true, true, false, Option, Some, None, List, [], ◌∷◌, ◌++◌, length, refl, ap, sym, ◌∙◌, subst, arith, length-append}
 use Rattle.std.specs.Option.{option_map}
+use Rattle.std.proofs.lemmas.Bool.{cases_eq}
 use Rattle.protocol_model.specs.Sets.{In, put}
 use Rattle.protocol_model.specs.Messages.{Message}
 use Rattle.protocol_model.specs.Dealers.{Dealer}
@@ -10,7 +11,6 @@ use Rattle.protocol_model.specs.Moves
 use Rattle.protocol_model.specs.Moves.{Output, Move}
 use Rattle.protocol_model.specs.Worlds
 use Rattle.protocol_model.specs.Worlds.{World, IsAfter, Run, Reached}
-use Rattle.protocol_model.proofs.Runs.{same_or_not}
 
 -- the event is no other node's
 abbrev IsOf : ℕ → Event → Type 0
@@ -42,7 +42,7 @@ not_own j i b ne = ap (λ t. t && b) (ne_eqb j i ne)
 put_own : (i place seat : ℕ) (heard : ℕ → Option (List ℕ)) (x : Option (List ℕ)) → put heard place x seat ≡ cond ((i == i) && (seat == place)) x (heard seat)
 put_own i place seat heard x = ap (λ b. cond b x (heard seat)) (sym (own i (seat == place)))
 
-none_own : (j i place seat : ℕ) (x heard : Option (List ℕ)) → j ≢ i → cond ((j == i) && (seat == place)) x heard ≡ heard
+pub none_own : (j i place seat : ℕ) (x heard : Option (List ℕ)) → j ≢ i → cond ((j == i) && (seat == place)) x heard ≡ heard
 none_own j i place seat x heard ne = ap (λ b. cond b x heard) (not_own j i (seat == place) ne)
 
 -- more bytes of a seat stand behind those before them
@@ -125,7 +125,7 @@ world_hears dealer n world j seat Worlds.start = refl
 world_hears dealer n world j seat (Worlds.more between i out node end run within move after) =
     let takes = move_takes dealer n i between.ever (between.nodes i) out node move in
     let hears = hears_after i between.ever (between.nodes i) out node between.came takes (λ s. world_hears dealer n between i s run) in
-    elim (same_or_not j i) [
+    elim (cases_eq j i) [
       | inl e ↦ subst (λ k. (end.nodes k).heard seat ≡ heard_in end.came k seat) (sym e)
           (ap (λ (v : Node). v.heard seat) after.moved ∙ hears.0 seat ∙ ap (λ xs. heard_in xs i seat) (sym after.came))
       | inr ne ↦ ap (λ (v : Node). v.heard seat) (after.others j ne) ∙ world_hears dealer n between j seat run

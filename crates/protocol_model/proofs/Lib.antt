@@ -7,9 +7,9 @@ mod Stores
 mod Sending
 mod Moving
 mod Runs
-mod Backing
+pub mod Backing
 mod Showing
-mod Hearing
+pub mod Hearing
 mod Saying
 mod Dealing
 mod Opening

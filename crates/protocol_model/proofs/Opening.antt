@@ -1,5 +1,6 @@
 -- A run goes on from the stores that it left when it ended.
 use Rattle.std.proofs.Common.{◌≡◌, ◌≢◌, ℕ, zero, suc, ◌<◌, ◌≤◌, inl, inr, true, false, List, [], ◌∷◌, ◌++◌, length, refl, ap, sym, ◌∙◌, subst, subst₂, append_assoc, arith, None}
+use Rattle.std.proofs.lemmas.Bool.{cases_eq}
 use Rattle.protocol_model.specs.Sets.{IsBeginning}
 use Rattle.protocol_model.specs.Messages.{Message}
 use Rattle.protocol_model.specs.Stores.{Store}
@@ -11,7 +12,7 @@ use Rattle.protocol_model.specs.Moves.{Output, nothing, taking, Chain}
 use Rattle.protocol_model.specs.Worlds
 use Rattle.protocol_model.specs.Worlds.{World, IsAfter, Run, Reached}
 use Rattle.protocol_model.specs.Laws.{IsLeft, IsStarted, IsOpened}
-use Rattle.protocol_model.proofs.Runs.{chain_reaches, same_or_not}
+use Rattle.protocol_model.proofs.Runs.{chain_reaches}
 
 -- the node started again with this store
 started : Node → Store → Node
@@ -77,7 +78,7 @@ open_some dealer n stores world left (suc k) le =
       ever = reached.2.ever ∙ before.ever;
       shown = reached.2.shown ∙ before.shown;
       came = reached.2.came ∙ (λ j. (record { event = Started k; sent = length (before.ever j) }) ∷ before.came j);
-      these = λ i less. elim (same_or_not i k) [
+      these = λ i less. elim (cases_eq i k) [
         | inl e ↦ subst (λ j. IsStarted (world.nodes j) (stores j) (reached.0.nodes j)) (sym e)
             (subst₂ (λ u v. IsStarted u (stores k) v) (before.others k (omega arith)) (sym reached.2.moved) here.2)
         | inr other ↦ subst (λ v. IsStarted (world.nodes i) (stores i) v) (sym (reached.2.others i other)) (before.these i (below k i less other))

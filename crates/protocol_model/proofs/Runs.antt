@@ -1,11 +1,12 @@
 -- What holds in every world that a run reaches.
-use Rattle.std.proofs.Common.{◌≡◌, ◌≢◌, ℕ, ◌<◌, ◌⊎◌, inl, inr, ◌==◌, Bool, true, false, true≢false, List, ◌++◌, refl, ap, sym, ◌∙◌, subst, subst₂, append_assoc, eqb-true, eq-eqb}
+use Rattle.std.proofs.Common.{ℕ, ◌<◌, inl, inr, List, ◌++◌, refl, ap, sym, ◌∙◌, subst, subst₂, append_assoc}
+use Rattle.std.proofs.lemmas.Bool.{cases_eq}
 use Rattle.protocol_model.specs.Sets.{put}
 use Rattle.protocol_model.specs.Messages.{Message}
 use Rattle.protocol_model.specs.Dealers.{Dealer}
 use Rattle.protocol_model.specs.Nodes.{Node}
 use Rattle.protocol_model.specs.Moves
-use Rattle.protocol_model.specs.Moves.{Output, nothing, both, Move, Chain}
+use Rattle.protocol_model.specs.Moves.{Output, both, Move, Chain}
 use Rattle.protocol_model.specs.Worlds
 use Rattle.protocol_model.specs.Worlds.{World, IsAfter, Run, Reached, new_world}
 use Rattle.protocol_model.proofs.Sets.{put_same, put_other}
@@ -17,14 +18,6 @@ use Rattle.protocol_model.proofs.Moving.{move_keeps}
 pub record WorldFacts (dealer : Dealer) (n : ℕ) (world : World) : Type 0 where
   pub facts : Facts dealer n world.ever
   pub nodes : (i : ℕ) → NodeFacts n i world.ever (world.nodes i)
-
--- two numbers are equal or not
-pub same_or_not : (j i : ℕ) → (j ≡ i) ⊎ (j ≢ i)
-same_or_not j i = by_test (j == i) refl
-  where
-    by_test : (b : Bool) → (j == i) ≡ b → (j ≡ i) ⊎ (j ≢ i)
-    by_test true is = inl (eqb-true j i is)
-    by_test false is = inr (λ e. true≢false (sym (eq-eqb j i e) ∙ is))
 
 first_facts : (dealer : Dealer) (n : ℕ) → WorldFacts dealer n new_world
 first_facts dealer n = record {
@@ -50,7 +43,7 @@ step_facts dealer n old i out node new within facts move after =
     let kept = move_keeps dealer n i old.ever (old.nodes i) out node within facts.facts (facts.nodes i) move in
     record {
       facts = subst (Facts dealer n) (sym after.ever) kept.facts;
-      nodes = λ j. elim (same_or_not j i) [
+      nodes = λ j. elim (cases_eq j i) [
         | inl e ↦ subst₂ (NodeFacts n j) (sym after.ever) (sym (ap new.nodes e ∙ after.moved))
             (subst (λ k. NodeFacts n k (out.sent ++ old.ever) node) (sym e) kept.node)
         | inr other ↦ subst₂ (NodeFacts n j) (sym after.ever) (sym (after.others j other)) (kept.others j (old.nodes j) other (facts.nodes j))

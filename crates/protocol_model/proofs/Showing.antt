@@ -1,5 +1,6 @@
 -- What moves show, and that it never goes back.
 use Rattle.std.proofs.Common.{◌≡◌, ℕ, suc, ◌<◌, ◌≤◌, ◌⊎◌, inl, inr, Some, List, [], ◌∷◌, ◌++◌, length, refl, ap, sym, ◌∙◌, subst, arith}
+use Rattle.std.proofs.lemmas.Bool.{cases_eq}
 use Rattle.slot_log.specs.declared.command.Command.{Command}
 use Rattle.protocol_model.specs.Sets.{In}
 use Rattle.protocol_model.specs.Messages.{Message}
@@ -14,7 +15,7 @@ use Rattle.protocol_model.specs.Laws.{NeverGoesBack}
 use Rattle.protocol_model.proofs.Sets.{in_later}
 use Rattle.protocol_model.proofs.Quorums.{all_chosen_stay}
 use Rattle.protocol_model.proofs.Moving.{knows_chosen}
-use Rattle.protocol_model.proofs.Runs.{WorldFacts, world_facts, same_or_not}
+use Rattle.protocol_model.proofs.Runs.{WorldFacts, world_facts}
 
 -- the move shows nothing, and starts the node again or leaves what it showed last
 abbrev IsQuiet : Node → Output → Node → Type 0
@@ -116,7 +117,7 @@ quiet_keeps dealer n i old out node new after calm facts =
       forward = subst NeverGoesBack (sym same) facts.forward;
       past = λ j shown here is.
           let before = facts.past j shown (subst (In shown) same here) is in
-          elim (same_or_not j i) [
+          elim (cases_eq j i) [
             | inl e ↦
                 let starts : (new.nodes j).starts ≡ node.starts = ap (λ v. v.starts) (ap new.nodes e ∙ after.moved) in
                 let count : (new.nodes j).shown ≡ node.shown = ap (λ v. v.shown) (ap new.nodes e ∙ after.moved) in
@@ -150,7 +151,7 @@ shows_keeps dealer n i old out node new world after one facts =
             inr (ap (λ s. s.start) e ∙ sym (ap (λ v. v.starts) node_is ∙ one.starts), count_fits shown latest (new.nodes j) (ap (λ s. s.count) e) (ap (λ v. v.shown) node_is ∙ one.shown))
         | inr before ↦
             let past = facts.past j shown before is in
-            elim (same_or_not j i) [
+            elim (cases_eq j i) [
               | inl e ↦
                   let node_is : new.nodes j ≡ node = ap new.nodes e ∙ after.moved in
                   past_shows shown (old.nodes j) (new.nodes j) past

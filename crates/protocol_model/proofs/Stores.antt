@@ -1,5 +1,6 @@
 -- What a store keeps of what its node said.
 use Rattle.std.proofs.Common.{◌≡◌, ◌≢◌, ℕ, inl, inr, Some, List, [], ◌∷◌, ap, sym, ◌∙◌, subst}
+use Rattle.std.proofs.lemmas.Option.{same_Some}
 use Rattle.paxos_wire.specs.declared.ballot.Ballot.{Ballot}
 use Rattle.protocol_model.specs.Sets.{In}
 use Rattle.protocol_model.specs.Ballots.{Below, AtMost}
@@ -54,9 +55,6 @@ promised_holds i ever store ballot below holds =
       proposed = λ slot v is. ((holds.proposed slot v is).0, at_most_trans v.ballot store.promise ballot (holds.proposed slot v is).1 higher);
     }
 
-pub some_vote : (v w : Vote) → Some v ≡ Some w → v ≡ w
-some_vote v w e = cc
-
 pub voted_holds : (i : ℕ) (ever : List Message) (store : Store) (slot : ℕ) (v : Vote) → AtMost store.promise v.ballot
     → In (Accept v.ballot slot v.command) ever → Holds i ever store → Holds i ever (voted store slot v)
 voted_holds i ever store slot v at_most here holds =
@@ -71,7 +69,7 @@ voted_holds i ever store slot v at_most here holds =
       backs = λ message there sender. backed_grows store (voted store slot v) message grows (holds.backs message there sender);
       proposed = λ s w is. elim (put_cases store.votes slot (Some v) s) [
         | inl new ↦
-            let same : v ≡ w = some_vote v w (sym new.1 ∙ is) in
+            let same : v ≡ w = same_Some v w (sym new.1 ∙ is) in
             subst (λ x. In (Accept x.ballot s x.command) ever × AtMost x.ballot v.ballot) same
             (subst (λ x. In (Accept v.ballot x v.command) ever) (sym new.0) here, at_most_self v.ballot)
         | inr same ↦

@@ -1,6 +1,5 @@
 -- What a line of the game says at a table.
 use Rattle.std.proofs.Common.{◌≡◌, ℕ, ◌≤◌, Bool, true, false, List, [], ◌∷◌, ◌++◌, length, Option, Some, None, Result, Ok, Err, IfSome, IfOk, refl, sym, ◌∙◌, ap, arith}
-use Rattle.std.specs.Option.{option_map}
 use Rattle.std.proofs.lemmas.List.Sums.{count_by-le-length}
 use Rattle.game_def.specs.Game.{Game}
 use Rattle.betting.specs.declared.action.Action.{Action}
@@ -12,7 +11,7 @@ use Rattle.betting.specs.Laws.{AllowedWithoutFault}
 use Rattle.slot_log.specs.Hand.{Hand, Match}
 use Rattle.slot_log.specs.Range.{IsInRange}
 use Rattle.slot_log.specs.declared.command.Command.{Command}
-use Rattle.slot_log.specs.Dealer.{is_finished, finished_count, hand_at, Fits}
+use Rattle.slot_log.specs.Dealer.{is_finished, finished_count, Fits}
 use Rattle.slot_log.specs.declared.command.Command.TheVariants.{Act}
 use Rattle.matchstate.specs.View.{View, view_of, position_of, seat_view}
 use Rattle.matchstate.specs.Answer.{AnswerReadsAs}
@@ -21,7 +20,6 @@ use Rattle.seat_session.specs.declared.said.Said.{Said}
 use Rattle.seat_session.specs.declared.said.Said.TheVariants.{Ready, Act as Says}
 use Rattle.seat_session.specs.declared.session_fault.SessionFault.{SessionFault}
 use Rattle.matchstate.proofs.OneLine.{line_is_text}
-use Rattle.matchstate.proofs.Seats.{newest_at}
 
 -- an answer whose line is the one that the seat has now
 pub echoes_now : (game : Game) (hands : List Hand) (seat : ℕ) (text : List ℕ) (view : View) (action : Action)
@@ -54,15 +52,6 @@ of_newest game (newest ∷ earlier) seat view current =
       hand_is = ap (λ (v : View). v.hand) (sym same);
       past_is = ap (λ (v : View). v.past) (sym same);
     }
-
--- the actions of the hand that the seat's view is of
-pub current_past : (game : Game) (hands : List Hand) (seat : ℕ) (view : View) → seat_view game hands seat ≡ Some view
-    → option_map (λ found. found.past) (hand_at hands view.hand) ≡ Some view.past
-current_past game hands seat view current =
-    let at = of_newest game hands seat view current in
-    ap (λ hs. option_map (λ found. found.past) (hand_at hs view.hand)) at.hands_are
-    ∙ ap (λ n. option_map (λ found. found.past) (hand_at (at.newest ∷ at.earlier) n)) at.hand_is
-    ∙ ap (option_map (λ found. found.past)) (newest_at at.newest at.earlier) ∙ ap Some (sym at.past_is)
 
 -- where somebody is to act, the betting isn't over
 not_over : (game : Game) (past : List Turn) (position : ℕ) → to_act game past ≡ Some position → over game past ≡ false

@@ -3,31 +3,16 @@ use Rattle.std.proofs.Common.{◌≡◌, ◌≢◌, ℕ, zero, suc, ◌+◌, ◌
 use Rattle.std.proofs.lemmas.List.{take-append-drop, drop_at, append_assoc, length-append, get_or_at, get_or_append_left}
 use Rattle.std.proofs.lemmas.List.Elements.{All-from_recursion}
 use Rattle.std.proofs.lemmas.Bool.Decides.{nat_tests}
+use Rattle.matchstate.proofs.Fronts.{stands_within, cut_alike}
 use Rattle.seat_session.specs.Lines.{HasNoFeed, Breaks, BeginsWith, IsOverlong, text_of}
-
--- the first line feed of a list parts it in one way
-same_parts : (front other rest more : List ℕ) → HasNoFeed front → HasNoFeed other → front ++ 10 ∷ rest ≡ other ++ 10 ∷ more → (front ≡ other) × (rest ≡ more)
-same_parts [] [] rest more _ _ same = (refl, cc)
-same_parts [] (y ∷ ys) rest more _ clear same = absurd (clear.0 cc)
-same_parts (x ∷ xs) [] rest more clear _ same = absurd (clear.0 cc)
-same_parts (x ∷ xs) (y ∷ ys) rest more clear other same =
-    let tails : xs ++ 10 ∷ rest ≡ ys ++ 10 ∷ more = cc in
-    let heads : x ≡ y = cc in
-    let parts = same_parts xs ys rest more clear.1 other.1 tails in
-    let fronts : xs ≡ ys = parts.0 in
-    (cc, parts.1)
 
 pub one_break : (stream line rest other more : List ℕ) → Breaks stream line rest → Breaks stream other more → (line ≡ other) × (rest ≡ more)
 one_break stream line rest other more first second =
-    same_parts line other rest more first.one_line second.one_line (sym first.joined ∙ second.joined)
-
-feed_stands : (front rest : List ℕ) → HasNoFeed (front ++ 10 ∷ rest) → ⊥
-feed_stands [] rest clear = clear.0 refl
-feed_stands (x ∷ xs) rest clear = feed_stands xs rest clear.1
+    cut_alike 10 line other rest more first.one_line second.one_line (sym first.joined ∙ second.joined)
 
 -- where a line feed stands, not all bytes are others
 pub not_clear : (stream line rest : List ℕ) → Breaks stream line rest → HasNoFeed stream → ⊥
-not_clear stream line rest breaks clear = feed_stands line rest (rw breaks.joined at clear)
+not_clear stream line rest breaks clear = stands_within 10 line rest (rw breaks.joined at clear)
 
 pub HasNoFeed-take : (count : ℕ) (bytes : List ℕ) → HasNoFeed bytes → HasNoFeed (take count bytes)
 HasNoFeed-take zero bytes clear = tt

@@ -1,8 +1,9 @@
 -- What is given of a record, piece by piece.
 use Rattle.std.proofs.Common.{◌≡◌, ℕ, zero, suc, ◌+◌, ◌<◌, ◌≤◌, List, [], ◌∷◌, ◌++◌, length, take, drop, slice_get, Some, inl, inr, refl, ap, sym, subst, ◌∙◌, arith}
 use Rattle.std.proofs.lemmas.List.{append_assoc, append-nil, drop-take, drop-append-le, length-take-le}
-use Rattle.std.proofs.lemmas.Option.{same_Some, slice_get_within}
+use Rattle.std.proofs.lemmas.Option.{slice_get_within}
 use Rattle.dealer_world.specs.Records.{Piece}
+use Rattle.dealer_world.proofs.Logging.{take_next}
 use Rattle.match_links.specs.Passages.{Passage, Came, came}
 use Rattle.serving.specs.declared.place.Place.{Place}
 use Rattle.serving.specs.Giving.{IsGiven, AreGiven, Gives, FewerSeated}
@@ -14,11 +15,6 @@ plus_none n = omega arith
 
 next_is : (n : ℕ) → n + 1 ≡ suc n
 next_is n = omega arith
-
-take_next : {A : Type 0} (xs : List A) (n : ℕ) (x : A) → slice_get xs n ≡ Some x → take (suc n) xs ≡ take n xs ++ x ∷ []
-take_next [] n x is = cc
-take_next (y ∷ ys) zero x is = ap (λ z. z ∷ []) (same_Some y x is)
-take_next (y ∷ ys) (suc n) x is = ap (λ zs. y ∷ zs) (take_next ys n x is)
 
 taken_none : {A : Type 0} (n : ℕ) (xs : List A) → drop n (take n xs) ≡ []
 taken_none n xs = ap (λ k. drop n (take k xs)) (plus_none n) ∙ drop-take n 0 xs

@@ -4,7 +4,6 @@ use Rattle.std.proofs.lemmas.Option.{same_Some}
 use Rattle.promise_store.specs.declared.disk.Disk.{Ghosts}
 use Rattle.protocol_model.specs.Sets.{In}
 use Rattle.protocol_model.proofs.Sets.{in_split}
-use Rattle.dealer_kind.specs.Plans.{Plan}
 use Rattle.dealer_node.specs.Nodes.{Node}
 use Rattle.dealer_node.specs.Outs.{Told}
 use Rattle.dealer_node.specs.Seeing.{runs}
@@ -18,23 +17,14 @@ use Rattle.dealer_world.specs.Recordings.{made_by}
 use Rattle.dealer_world.specs.Views.{placed_at}
 use Rattle.dealer_world.specs.Stepping.{View, Stepped, Gains, nothing, call, arrived_by_event, begins_by_event}
 use Rattle.dealer_world.specs.Unforged.{IsAmong, IsUnforged}
-use Rattle.dealer_world.specs.Promise.{IsForMatch, HasNoForged}
-use Rattle.serving.specs.declared.waiting.Waiting.{Waiting}
-use Rattle.serving.specs.Turning.{IsSent, IsWaiting}
+use Rattle.dealer_world.specs.Promise.{HasNoForged}
+use Rattle.serving.specs.Turning.{IsSent}
 
 -- a call that found no memory leaves the record
 kept : {N : Type 0} (e : Event) (up : Bool) (told : Told) (old new : View N) (answer : Result (Unit {0}) NodeFault)
     → answer ≡ Err fault.OutOfMemory → Gains e up told old new answer → new.all ≡ old.all
 kept e up told old new answer none (nothing a is same last) = same
 kept e up told old new answer none (call a ample grows last) = absurd (ample none)
-
--- what waited before it waits after it
-pub still_waiting : {D : Type 0} (g : Ghosts D) (old new : View (Node D)) (e : Event) (answer : Result (Unit {0}) NodeFault) (w : Waiting)
-    → answer ≡ Err fault.OutOfMemory → Stepped g old e answer new → IsWaiting old w → IsWaiting new w
-still_waiting g old new e answer w none stepped (of_match, is_sent) = (
-  subst (λ (plan : Plan). IsForMatch plan w.event) (sym stepped.same_config) of_match,
-  subst (λ (all : Record). IsSent all.sent w.number w.event) (sym (kept e (runs stepped.before) stepped.told old new answer none stepped.gains)) is_sent,
-)
 
 -- ---- lists
 

@@ -4,13 +4,10 @@ use Rattle.std.specs.Option.{option_map}
 use Rattle.game_def.specs.Game.{Game}
 use Rattle.betting.specs.declared.action.Action.{Action}
 use Rattle.betting.specs.Rounds.{to_act, turns}
-use Rattle.slot_log.specs.Hand.{Hand, Match}
-use Rattle.slot_log.specs.Dealer.{hand_at, is_match_over}
-use Rattle.slot_log.specs.declared.command.Command.{Command}
+use Rattle.slot_log.specs.Hand.{Hand}
+use Rattle.slot_log.specs.Dealer.{hand_at}
 use Rattle.matchstate.specs.View.{seat_of}
 use Rattle.matchstate.proofs.Seats.{newest_at}
-use Rattle.dealer_kind.specs.Kind.{Setting, hands_after}
-use Rattle.dealer_node.specs.Scenes.{IsTableOf}
 use Rattle.serving.specs.Sights.{acting_seat}
 
 -- no hand was dealt
@@ -38,16 +35,3 @@ is_found (newest ∷ earlier) hand count none =
     let at = ap (hand_at (newest ∷ earlier)) number ∙ newest_at newest earlier in
     let past_is : None ≡ Some newest.past = none ∙ ap (option_map (λ found. found.past)) at in
     cc
-
--- the same of the table that commands make
-pub over_of : (setting : Setting) (applied : List Command) (table : Match) → IsTableOf setting applied table
-    → is_match_over table.game table.count table.hands ≡ is_match_over setting.game setting.title.hands (hands_after setting applied)
-over_of setting applied table is =
-    ap (λ (game : Game). is_match_over game table.count table.hands) is.game
-    ∙ ap (λ n. is_match_over setting.game n table.hands) is.count
-    ∙ ap (λ (hands : List Hand). is_match_over setting.game setting.title.hands hands) is.hands
-
-pub acting_of : (setting : Setting) (applied : List Command) (table : Match) → IsTableOf setting applied table
-    → acting_seat table.game table.hands ≡ acting_seat setting.game (hands_after setting applied)
-acting_of setting applied table is =
-    ap (λ (game : Game). acting_seat game table.hands) is.game ∙ ap (λ (hands : List Hand). acting_seat setting.game hands) is.hands

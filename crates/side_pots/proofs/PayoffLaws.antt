@@ -1,5 +1,5 @@
 -- What holds of all payoffs: they sum to zero, and the last unfolded player gets all.
-use Rattle.std.proofs.Common.{◌≡◌, ◌≢◌, ℕ, ◌+◌, ◌-◌, ◌<◌, ◌≤◌, ℤ, pos, ◌+ℤ◌, ◌-ℤ◌, neg_ℤ, ◌≤ℤ◌, Bool, true, max, min, List, [], ◌∷◌, length, get_or, map, zero, suc, refl, sym, ◌∙◌, ap, arith}
+use Rattle.std.proofs.Common.{◌≡◌, ◌≢◌, ℕ, ◌+◌, ◌-◌, ◌<◌, ◌≤◌, ℤ, pos, ◌+ℤ◌, ◌-ℤ◌, Bool, true, max, min, List, [], ◌∷◌, length, get_or, map, zero, suc, refl, sym, ◌∙◌, ap, arith}
 use Rattle.std.specs.List.{All, fold, range_with_len, sum, sum_by}
 use Rattle.std.proofs.lemmas.Bool.{cond_both}
 use Rattle.std.proofs.lemmas.Int.{ints}
@@ -48,9 +48,6 @@ payoffs-total spent folded values all =
     ∙ omega (arith, ints, all, sum_of_places spent)
 
 -- ---- no more is lost than was put in
-
-pub payoff-least : (spent : List ℕ) (folded : List Bool) (values : List Worth) (position : ℕ) → neg_ℤ (pos (get_or spent position 0)) ≤ℤ payoff spent folded values position
-payoff-least spent folded values position = omega (arith, ints)
 
 -- ---- the last unfolded player
 

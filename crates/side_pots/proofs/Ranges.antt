@@ -23,9 +23,6 @@ sum_range-split f a m k = ap (sum_by f) (range-append a m k) ∙ sum_by-append f
 pub sum_range-first : (f : ℕ → ℕ) (a k : ℕ) → sum_by f (range_with_len a (suc k)) ≡ f a + sum_by f (range_with_len (a + 1) k)
 sum_range-first f a k = sum_by-cons f a (range_with_len (a + 1) k)
 
-pub sum_range-last : (f : ℕ → ℕ) (a k : ℕ) → sum_by f (range_with_len a (k + 1)) ≡ sum_by f (range_with_len a k) + f (a + k)
-sum_range-last f a k = omega (arith, sum_range-split f a k 1, sum_range-first f (a + k) 0)
-
 pub sum_range-same : (f g : ℕ → ℕ) (a k : ℕ) → ((v : ℕ) → a ≤ v → v < a + k → f v ≡ g v) → sum_by f (range_with_len a k) ≡ sum_by g (range_with_len a k)
 sum_range-same f g a zero same = refl
 sum_range-same f g a (suc k) same =

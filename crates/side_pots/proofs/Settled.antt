@@ -7,7 +7,7 @@ use Rattle.std.proofs.lemmas.List.FromFn.{get_or-map-range_with_len, length-map-
 use Rattle.std.proofs.lemmas.List.Sums.{sum-map, sum_by-le}
 use Rattle.hand_rank.specs.Worth.{Worth}
 use Rattle.side_pots.specs.Amounts.{IsAmount, IsNextAmount, IsLastAmount, chips_between}
-use Rattle.side_pots.specs.Pots.{is_eligible, pot_of, is_winner, winners_of, wins, share, won, payoff, payoffs}
+use Rattle.side_pots.specs.Pots.{is_eligible, pot_of, winners_of, wins, share, won, payoff, payoffs}
 use Rattle.side_pots.proofs.Levels.{IsBottom, owner_within, eligible_reached, sum_by-add, sum_by-nothing, pot_of-top, share_of_set, won_upto, won_upto-next, next_within, last_is_greatest}
 use Rattle.side_pots.proofs.BestHands.{some_winner}
 use Rattle.side_pots.proofs.PayoffLaws.{chips_upto_greatest}
@@ -80,10 +80,6 @@ pot_has_winner spent folded values below top winners folded_length values_length
     let within : p < length values = omega (arith, owner_within folded p unfolded) in
     let P : List Bool → Type 0 = λ ws. 0 < wins ws in
     subst P (sym winners_are) (some_winner values (is_eligible spent folded top) p within (eligible_reached spent folded top p unfolded (omega (arith, exactly))))
-
-pub winners_length : (spent : List ℕ) (folded : List Bool) (values : List Worth) (gains : List ℕ) (below top : ℕ) (winners : List Bool) → length values ≡ length spent → winners ≡ winners_of values (is_eligible spent folded top) → IsSettledUpto spent folded values gains below → length winners ≡ length gains
-winners_length spent folded values gains below top winners values_length winners_are settled =
-    omega (arith, gains_length spent folded values gains below settled, ap length winners_are, length-map-range_with_len (is_winner values (is_eligible spent folded top)) 0 (length values))
 
 -- ten players' chips are few
 pub chips_bound : (spent : List ℕ) (below : ℕ) → All (λ amount. amount ≤ 2147483647) spent → chips_between spent 0 below ≤ length spent * 2147483647

@@ -18,7 +18,7 @@ use Rattle.slot_log.proofs.Hands.{finished_before, finished_with, length-earlier
 use Rattle.slot_log.proofs.Inside.{some_dealt, newest_of}
 use Rattle.slot_log.proofs.Fitting.{fits_from_none}
 
-AllByRecursion-push : {X : Type 0} (P : X → Type 0) (xs : List X) (x : X) → AllByRecursion P xs → P x → AllByRecursion P (xs ++ x ∷ [])
+pub AllByRecursion-push : {X : Type 0} (P : X → Type 0) (xs : List X) (x : X) → AllByRecursion P xs → P x → AllByRecursion P (xs ++ x ∷ [])
 AllByRecursion-push P [] x all here = (here, tt)
 AllByRecursion-push P (y ∷ xs) x all here = (all.0, AllByRecursion-push P xs x all.1 here)
 

@@ -1,15 +1,12 @@
 -- The hands that a table's fields hold.
-use Rattle.std.proofs.Common.{◌≡◌, ℕ, ◌+◌, ◌≤◌, Bool, true, not, eqb, cond, List, [], ◌∷◌, ◌++◌, map, reverse, length, Option, Some, None, refl, sym, ap, ◌∙◌, subst, IfNone}
+use Rattle.std.proofs.Common.{◌≡◌, ℕ, ◌+◌, ◌≤◌, Bool, true, cond, List, [], ◌∷◌, ◌++◌, map, reverse, length, Option, Some, None, refl, sym, ap, ◌∙◌, subst, IfNone}
 use Rattle.std.specs.List.{AllByRecursion}
 use Rattle.std.specs.Option.{option_to_list}
 use Rattle.game_def.specs.Game.{Game}
 use Rattle.betting.specs.Rounds.{over}
 use Rattle.betting.specs.Betting.{history}
 use Rattle.betting.specs.declared.action.Action.{Action}
-use Rattle.betting.specs.Legal.{fault_of}
-use Rattle.std.specs.Option.{option_map}
-use Rattle.slot_log.specs.declared.reason.Reason.{Reason}
-use Rattle.slot_log.specs.declared.reason.Reason.TheVariants.{NoHand, WrongHand, WrongIndex, Illegal}
+use Rattle.slot_log.specs.declared.reason.Reason.TheVariants.{NoHand}
 use Rattle.slot_log.specs.Hand.{Match}
 use Rattle.slot_log.specs.Dealer.{is_finished, finished_count, act_reason}
 use Rattle.slot_log.specs.TableInside.{hands_in, match_of, IsKept}
@@ -17,7 +14,7 @@ use Rattle.slot_log.specs.PlayedHand.{hand_of, IsOf}
 use Rattle.slot_log.specs.declared.played_hand.PlayedHand.{PlayedHand}
 use Rattle.slot_log.specs.declared.table.Table.TheInside.{Inside}
 use Rattle.slot_log.specs.Played.{IsLegalHand, AreEarlierFinished, AreHands}
-use Rattle.slot_log.proofs.Hands.{finished_before, finished_with, length-earlier, hands_from, reverse-cons}
+use Rattle.slot_log.proofs.Hands.{finished_before, finished_with, hands_from, reverse-cons}
 
 pub none_dealt : (t : Inside) → IsKept t → t.newest ≡ None → hands_in t ≡ []
 none_dealt t kept none =
@@ -71,20 +68,6 @@ finished_some t m hand b c view kept some told is =
 pub act_reason_none : (t : Inside) (m : Match) (hand index : ℕ) (action : Action) → match_of t ≡ m → IsKept t → t.newest ≡ None → Some NoHand ≡ act_reason m.game m.hands hand index action
 act_reason_none t m hand index action view kept none =
     subst (λ (n : Match). Some NoHand ≡ act_reason n.game n.hands hand index action) view (rw (none_dealt t kept none) refl)
-
-unfoldable pub act_chain : Bool → Bool → Bool → Option Reason → Option Reason
-act_chain over same_hand same_index fault =
-    cond over (Some NoHand) (cond (not same_hand) (Some WrongHand) (cond (not same_index) (Some WrongIndex) fault))
-
-module _ (t : Inside) (m : Match) (newest : PlayedHand) (hand index : ℕ) (action : Action) (view : match_of t ≡ m) (kept : IsKept t) (some : t.newest ≡ Some newest) where
-  pub act_reason_some : act_reason m.game m.hands hand index action ≡ act_chain (over newest.play.game (history newest.play)) (eqb hand t.earlier.len) (eqb index (length newest.play.past)) (option_map Illegal (fault_of newest.play.game (history newest.play) action))
-  unfolding act_chain
-  act_reason_some =
-      let dealt = some_dealt t newest some in
-      let same = (newest_of t newest kept some).same_game in
-      let earlier = length-earlier t.earlier.items ∙ sym t.earlier.ok.0 in
-      subst (λ (n : Match). act_reason n.game n.hands hand index action ≡ act_chain (over newest.play.game (history newest.play)) (eqb hand t.earlier.len) (eqb index (length newest.play.past)) (option_map Illegal (fault_of newest.play.game (history newest.play) action))) view
-      (rw (dealt, earlier, same) refl)
 
 -- ---- what a table's hands are
 

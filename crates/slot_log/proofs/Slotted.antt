@@ -52,9 +52,6 @@ not_here : (known : Known) (others : List Known) (slot : ℕ) → find (known �
 not_here known others slot none same = let wrong : Some known.command ≡ None = sym (find_at known others slot same) ∙ none in cc
 
 module _ (slot : ℕ) (command : Command) where
-  here_or : Option Command → ℕ → Option Command
-  here_or rest other = if other == slot then Some command else rest
-
   at_slot : (known : List Known) (other : ℕ) → find (known_by slot command ∷ known) other ≡ (if other == slot then Some command else find known other)
   at_slot known other =
       elim (cases_eq other slot) [

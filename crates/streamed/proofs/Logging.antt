@@ -14,7 +14,7 @@ use Rattle.streamed.specs.Told.{commands_of, names_of}
 use Rattle.streamed.specs.Logged.{title_of, log_after, lettered, logged}
 use Rattle.streamed.specs.Further.{further_lines, printed, printed_header}
 use Rattle.streamed.specs.declared.script_line.ScriptLine.{ScriptLine}
-use Rattle.streamed.specs.declared.script_line.ScriptLine.TheVariants.{Names, Told, Bad}
+use Rattle.streamed.specs.declared.script_line.ScriptLine.TheVariants.{Names, Told}
 
 -- ---- the log after a line of the script
 
@@ -31,10 +31,6 @@ some_logged game count None before said further grows = refl
 some_logged game count (Some word) before said further grows =
     ap (λ (z : List ℕ). lettered (drop (length (log_after game count word before)) z)) (grows word)
     ∙ ap lettered (drop-append_seam (log_after game count word before) further)
-
--- a bad line
-pub bad_logged : (game : Game) (count : ℕ) (log : Option (List ℕ)) (before : List ScriptLine) → logged game count log before Bad ≡ []
-bad_logged game count log before = none_logged game count log before Bad (λ word. refl)
 
 -- the line that names the seats
 pub names_logged : (game : Game) (count : ℕ) (log : Option (List ℕ)) (before : List ScriptLine) (names : List (List ℕ)) → 1 ≤ count → names_of before ≡ None → commands_of before ≡ [] → logged game count log before (Names names) ≡ printed_header log count

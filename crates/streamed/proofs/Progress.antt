@@ -86,6 +86,18 @@ pub record LineEnds (r : Running) (said : ScriptLine) (after : Dealing) (text : 
   pub stands : (game : Game) (count : ℕ) (log : Option (List ℕ)) (before : List ScriptLine) → Stands game count log before r.dealing → Stands game count log (said ∷ before) after
   pub answered : (game : Game) (count : ℕ) (log : Option (List ℕ)) (before : List ScriptLine) → Stands game count log before r.dealing → text ≡ answer game count log before said
 
+-- by what reading its front, taking what it says and the answer bring, where the answer was empty before
+pub line_taken : (r : Running) (said : ScriptLine) (after : Dealing) (text : List ℕ) {front empty written : List ℕ} → front ≡ r.line.items → empty ≡ [] → text ≡ written
+    → ((line : List ℕ) → front ≡ take 336 line → Says r.dealing.table.game r.dealing.names r.dealing.table.hands line said)
+    → ((game : Game) (count : ℕ) (log : Option (List ℕ)) (before : List ScriptLine) → Stands game count log before r.dealing → Stands game count log (said ∷ before) after)
+    → ((game : Game) (count : ℕ) (log : Option (List ℕ)) (before : List ScriptLine) → Stands game count log before r.dealing → written ≡ empty ++ answer game count log before said)
+    → LineEnds r said after text
+line_taken r said after text kept_as none shown says stands answered = record {
+  says = λ line kept. says line (kept_as ∙ kept);
+  stands = stands;
+  answered = λ game count log before is. shown ∙ answered game count log before is ∙ ap (λ z. z ++ answer game count log before said) none;
+}
+
 -- the line says this in its turn
 ended_turn : (game : Game) (count : ℕ) (log start now : Option (List ℕ)) (seen text : List ℕ) (r : Running) (said : ScriptLine) (after : Dealing) → LineEnds r said after text → (shows : Shows game count log start seen r now) → SayInTurn game count (shows.rest ∷ shows.lines) (said ∷ shows.says)
 ended_turn game count log start now seen text r said after ends shows =

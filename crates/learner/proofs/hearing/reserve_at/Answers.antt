@@ -1,6 +1,6 @@
 use Rattle.std.proofs.Common.{◌%◌, arith}
 use Rattle.learner.proofs.Cells.{tallies_same, room_same, spare_there, room_below}
-use Rattle.learner.proofs.Heard.{ok_map, err_map}
+use Rattle.std.proofs.lemmas.Result.{on_ok_weaker, on_err_weaker}
 use Rattle.learner.proofs.hearing.reserve_at.Goals as goal
 
 pub returns-clause-tallies : goal.returns-clause-tallies
@@ -8,14 +8,17 @@ returns-clause-tallies c =
     tallies_same c.args.cells.now.items (c.args.slot % 64) c.index_mut-cell.result.now c.reserve.new.self (omega arith) c.index_mut-cell.ensures.value c.reserve.ensures.items
 
 pub returns-clause-room : goal.returns-clause-room
-returns-clause-room c = ok_map c.reserve.result c.reserve.ensures.ok (λ enough.
-    let there = spare_there c.args.cells.now.items (c.args.slot % 64) c.reserve.new.self (omega arith) in omega (arith, there, enough))
+returns-clause-room c = on_ok_weaker c.reserve.result
+    (λ enough. let there = spare_there c.args.cells.now.items (c.args.slot % 64) c.reserve.new.self (omega arith) in omega (arith, there, enough))
+    c.reserve.ensures.ok
 
 pub returns-clause-kept : goal.returns-clause-kept
 returns-clause-kept c most =
     room_same most c.args.cells.now.items (c.args.slot % 64) c.index_mut-cell.result.now c.reserve.new.self (omega arith) c.index_mut-cell.ensures.value (omega arith)
 
 pub returns-clause-full : goal.returns-clause-full
-returns-clause-full c = err_map c.reserve.result c.reserve.ensures.full (λ full most.
-    let below = room_below most c.args.cells.now.items (c.args.slot % 64) c.index_mut-cell.result.now (omega arith) c.index_mut-cell.ensures.value in
-    omega (arith, below, full))
+returns-clause-full c = on_err_weaker c.reserve.result
+    (λ full most.
+      let below = room_below most c.args.cells.now.items (c.args.slot % 64) c.index_mut-cell.result.now (omega arith) c.index_mut-cell.ensures.value in
+      omega (arith, below, full))
+    c.reserve.ensures.full

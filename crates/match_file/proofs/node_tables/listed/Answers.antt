@@ -1,6 +1,6 @@
-use Rattle.std.proofs.Common.{◌≡◌, ◌≤◌, map, length, refl, ap, subst, arith, Some, Vec, Global, List, ℕ}
+use Rattle.std.proofs.Common.{◌≤◌, map, length, refl, ap, subst, arith, Some, Vec, Global, List, ℕ}
+use Rattle.std.proofs.lemmas.Option.{same_Some}
 use Rattle.toml.specs.View.{view}
-use Rattle.toml.specs.Data.{Data}
 use Rattle.match_file.specs.declared.key.Key.TheVariants.{Node}
 use Rattle.match_file.specs.Said.{IsAbsent, EachSays, SaysDeal, SaysDeals}
 use Rattle.match_file.specs.Refusals.{IsToldOf}
@@ -10,9 +10,6 @@ use Rattle.match_file.proofs.Told.{told_wider, no_deals, few_deals, no_array}
 use Rattle.match_file.proofs.Wider.{result_wider}
 use Rattle.match_file.proofs.node_tables.listed.Goals as goal
 use Rattle.match_file.proofs.node_tables.listed.Goals.{in_default-via-in-Some+else-len-hands, in_default-via-in_default}
-
-from_some : {a b : Data} → Some a ≡ Some b → a ≡ b
-from_some e = cc
 
 pub returns-in-Some : goal.returns-in-Some
 returns-in-Some c =
@@ -36,5 +33,5 @@ returns-in_default c =
         few_deals c.args.players c.args.hands (view c.args.value.now) (map view w.in-Some.texts.now.items) w.in-Some.ensures
             (λ many. let counted = w.len.ensures in let few = w.if-len-hands.false in let views = length-view w.in-Some.texts.now.items in omega arith),
       )
-      | in_default-via-in_default w ↦ (refl, λ deals says. no_array (SaysDeal c.args.players) (Some (view c.args.value.now)) (λ items is. w.in_default.ensures items (from_some is)) deals says.0)
+      | in_default-via-in_default w ↦ (refl, λ deals says. no_array (SaysDeal c.args.players) (Some (view c.args.value.now)) (λ items is. w.in_default.ensures items (same_Some _ _ is)) deals says.0)
     ]

@@ -1,6 +1,6 @@
 use Rattle.std.proofs.Common.{ap, ◌∙◌, sym, rules, not}
 use Rattle.std.specs.Prelude.{bytes_eq}
-use Rattle.match_log.proofs.Distinct.{IsDistinct-empty, IsDistinct-first, IsDistinct-first_repeated}
+use Rattle.card_core.proofs.Distinct.{IsDistinct-empty, IsDistinct-first, IsDistinct-first_repeated}
 use Rattle.match_log.proofs.seat_names.+are_distinct.Goals as goal
 
 pub returns-in-empty-clause-distinct : goal.returns-in-empty-clause-distinct

@@ -1,13 +1,14 @@
 use Rattle.std.proofs.Common.{◌≡◌, ◌+◌, ◌-◌, take, drop, length, refl, sym, ◌∙◌, subst, arith, length-drop}
 use Rattle.std.proofs.lemmas.List.{take_all}
 use Rattle.matchstate.specs.Line.{IsField}
-use Rattle.matchstate.proofs.LastField.{no_field, same_cut}
+use Rattle.matchstate.proofs.Fronts.{stands_within}
+use Rattle.matchstate.proofs.LastField.{same_cut}
 use Rattle.matchstate.proofs.line_fields.cut_last_field.Goals as goal
 
 pub returns-in_err-place-clause-only : goal.returns-in_err-place-clause-only
 returns-in_err-place-clause-only c =
     λ line field is whole.
-    absurd (no_field line field (subst IsField whole (c.in_err-place.ensures.missing refl)))
+    absurd (stands_within 58 line field (subst IsField whole (c.in_err-place.ensures.missing refl)))
 
 pub returns-clause-only : goal.returns-clause-only
 returns-clause-only c =

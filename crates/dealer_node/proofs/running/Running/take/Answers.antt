@@ -1,5 +1,6 @@
 use Rattle.std.proofs.Common.{◌≡◌, ap, sym, subst, refl}
 use Rattle.std.specs.Prelude.{Result, Ok, OnOk}
+use Rattle.std.proofs.lemmas.Result.{on_ok_weaker}
 use Rattle.paxos_wire.specs.declared.message.Message.{Message}
 use Rattle.learner.specs.Learning.{answer_to, hearing, answer_to_chosen, believing}
 use Rattle.node_rules.specs.Standings.{Standing}
@@ -11,7 +12,7 @@ use Rattle.dealer_node.specs.Posts.{place_at}
 use Rattle.dealer_node.specs.Outs.{told_by}
 use Rattle.dealer_node.specs.Running.{IsRunning}
 use Rattle.dealer_node.specs.Memory.{TakesInMemory}
-use Rattle.dealer_node.proofs.Remembered.{on_ok, counted_keeps, refused_keeps, learned_keeps, believed_keeps, still_taken}
+use Rattle.dealer_node.proofs.Remembered.{counted_keeps, refused_keeps, learned_keeps, believed_keeps, still_taken}
 use Rattle.dealer_node.proofs.running.Running.take.Goals as goal
 
 pub returns-in-Promise-clause-ok : goal.returns-in-Promise-clause-ok
@@ -33,7 +34,7 @@ returns-in-Refuse-clause-at c = c.hear_refusal.ensures.at c.args.post.now c.requ
 pub returns-in-Accepted-clause-ok : goal.returns-in-Accepted-clause-ok
 returns-in-Accepted-clause-ok c =
     let place = place_at c.args.post.now in
-    on_ok c.count_vote.result
+    on_ok_weaker c.count_vote.result
     (λ takes s is.
     subst (λ (m : Message). TakesInMemory c.args.post.now c.count_vote.new.self (told_by c.args.made.now) (told_by c.count_vote.new.made) s (taking place c.args.from m s)) (sym c.in-Accepted.is)
     (let turn = takes s is in record {
@@ -45,7 +46,7 @@ returns-in-Accepted-clause-ok c =
 pub returns-in-Chosen-clause-ok : goal.returns-in-Chosen-clause-ok
 returns-in-Chosen-clause-ok c =
     let place = place_at c.args.post.now in
-    on_ok c.believe.result
+    on_ok_weaker c.believe.result
     (λ takes s is.
     subst (λ (m : Message). TakesInMemory c.args.post.now c.believe.new.self (told_by c.args.made.now) (told_by c.believe.new.made) s (taking place c.args.from m s)) (sym c.in-Chosen.is)
     (let turn = takes s is in record {

@@ -1,11 +1,12 @@
+use Rattle.std.proofs.lemmas.Result.{on_ok_weaker}
 use Rattle.node_rules.specs.Standings.{Standing}
 use Rattle.dealer_node.specs.Outs.{told_by}
-use Rattle.dealer_node.proofs.Voted.{on_ok, vote_told}
+use Rattle.dealer_node.proofs.Voted.{vote_told}
 use Rattle.dealer_node.proofs.running.Running.tell_vote.Goals as goal
 
 pub returns-clause-ok : goal.returns-clause-ok
 returns-clause-ok c =
-    on_ok c.count_vote.result
+    on_ok_weaker c.count_vote.result
     (λ took s is. vote_told c.args.post.now c.args.self.now c.count_vote.new.self c.node.result c.args.ballot c.args.slot c.args.command.now (told_by c.args.made.now) (told_by c.count_vote.new.made) c.send_accepted.new.frames.texts s is
     c.node.ensures.value c.send_accepted.ensures.texts c.send_accepted.ensures.fits (took s is))
     c.count_vote.ensures.ok

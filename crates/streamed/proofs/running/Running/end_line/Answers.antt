@@ -1,8 +1,7 @@
-use Rattle.std.proofs.Common.{[], ◌∷◌, ◌++◌, ◌∙◌, ap}
+use Rattle.std.proofs.Common.{[], ◌∷◌}
 use Rattle.std.proofs.lemmas.Result.{on_ok_weaker, on_err_weaker}
-use Rattle.streamed.specs.Answer.{answer}
 use Rattle.streamed.proofs.Streams.{on_err}
-use Rattle.streamed.proofs.Progress.{LineEnds, begins_so_far, line_answered, line_begun}
+use Rattle.streamed.proofs.Progress.{begins_so_far, line_taken, line_answered, line_begun}
 use Rattle.streamed.proofs.running.Running.end_line.Goals as goal
 
 pub returns-in_err-take-clause-err : goal.returns-in_err-take-clause-err
@@ -10,24 +9,16 @@ returns-in_err-take-clause-err g c = on_err c.from_residual.result _ (λ game co
 
 pub returns-clause-ok : goal.returns-clause-ok
 returns-clause-ok g c =
-    let ends : LineEnds c.args.self.now c.read-said.result c.take.new.self c.deref-2.result.now = record {
-      says = λ line kept. c.read-said.ensures.says line (c.deref.ensures.0 ∙ kept);
-      stands = c.in_ok-take.ensures.stands;
-      answered = λ game count log before stands. c.deref-2.ensures.value ∙ c.in_ok-take.ensures.answered game count log before stands
-          ∙ ap (λ z. z ++ answer game count log before c.read-said.result) c.clear-2.ensures.items;
-    } in
+    let ends = line_taken c.args.self.now c.read-said.result c.take.new.self c.deref-2.result.now c.deref.ensures.0 c.clear-2.ensures.items c.deref-2.ensures.value
+    c.read-said.ensures.says c.in_ok-take.ensures.stands c.in_ok-take.ensures.answered in
     on_ok_weaker c.send.result
     (λ sent game count log start seen shows. line_answered game count log start _ _ seen c.deref-2.result.now c.args.self.now c.read-said.result _ ends c.clear.ensures sent shows)
     c.send.ensures.ok
 
 pub returns-clause-err : goal.returns-clause-err
 returns-clause-err g c =
-    let ends : LineEnds c.args.self.now c.read-said.result c.take.new.self c.deref-2.result.now = record {
-      says = λ line kept. c.read-said.ensures.says line (c.deref.ensures.0 ∙ kept);
-      stands = c.in_ok-take.ensures.stands;
-      answered = λ game count log before stands. c.deref-2.ensures.value ∙ c.in_ok-take.ensures.answered game count log before stands
-          ∙ ap (λ z. z ++ answer game count log before c.read-said.result) c.clear-2.ensures.items;
-    } in
+    let ends = line_taken c.args.self.now c.read-said.result c.take.new.self c.deref-2.result.now c.deref.ensures.0 c.clear-2.ensures.items c.deref-2.ensures.value
+    c.read-said.ensures.says c.in_ok-take.ensures.stands c.in_ok-take.ensures.answered in
     on_err_weaker c.send.result
     (λ sent game count log start seen shows. line_begun game count log start _ _ seen c.deref-2.result.now sent.0 sent.1 c.args.self.now c.read-said.result c.take.new.self ends sent.2 sent.3 shows)
     c.send.ensures.err
