@@ -1,27 +1,11 @@
-use crate::samples::{L2, game};
-use card_core::{Card, Deal};
+use crate::samples::{L2, game, ten_ace};
+use card_core::Deal;
 use dealer_kind::{Config, Source};
 use game_def::GameDef;
 use match_log::{Name, SeatNames};
 use std::alloc::Global;
 use std::process::Abort;
 use std::test::Fail;
-
-/// `TdAs|8hTc/2c8c3h/9c/Kh`.
-fn ten_ace(rt: &impl Abort) -> Deal {
-    let cards = [
-        Card::from_number(33),
-        Card::from_number(51),
-        Card::from_number(26),
-        Card::from_number(32),
-        Card::from_number(0),
-        Card::from_number(24),
-        Card::from_number(6),
-        Card::from_number(28),
-        Card::from_number(46),
-    ];
-    Deal::new(2, &cards).expect(rt, "nine cards for two players")
-}
 
 fn listed(alloc: Global, deal: Deal) -> Result<Source, Fail> {
     Ok(Source::Listed(vec![in alloc; deal]?))

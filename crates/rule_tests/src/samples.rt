@@ -1,7 +1,8 @@
-//! The games and cards that tests of several crates are about.
+//! The games, cards and deals that tests of several crates are about.
 
-use card_core::Card;
+use card_core::{Card, Deal};
 use game_def::GameDef;
+use matchstate::read_deal;
 use std::process::Abort;
 
 /// Two players, limit.
@@ -74,4 +75,9 @@ pub(crate) fn game(rt: &impl Abort, text: &[u8]) -> GameDef {
 /// The card of a rank and a suit, as the protocol writes it.
 pub(crate) fn card(rt: &impl Abort, text: &[u8; 2]) -> Card {
     Card::from_text(*text).expect(rt, "a card")
+}
+
+/// A ten and an ace for the first seat, an eight and a ten for the second.
+pub(crate) fn ten_ace(rt: &impl Abort) -> Deal {
+    read_deal(b"TdAs|8hTc/2c8c3h/9c/Kh", 2).expect(rt, "a deal of two players")
 }

@@ -1,64 +1,23 @@
-use crate::samples::{L2, card, game};
+use crate::samples::{L2, game, ten_ace};
 use betting::{ActFault, Action};
-use card_core::{Card, Deal};
+use card_core::Deal;
+use matchstate::read_deal;
 use slot_log::*;
 use std::alloc::AllocError;
 use std::process::Abort;
 use std::test::Fail;
 
-/// `TdAs|8hTc/2c8c3h/9c/Kh`.
-fn first_deal(rt: &impl Abort) -> Deal {
-    let cards = [
-        card(rt, b"Td"),
-        card(rt, b"As"),
-        card(rt, b"8h"),
-        card(rt, b"Tc"),
-        card(rt, b"2c"),
-        card(rt, b"8c"),
-        card(rt, b"3h"),
-        card(rt, b"9c"),
-        card(rt, b"Kh"),
-    ];
-    Deal::new(2, &cards).expect(rt, "nine cards for two players")
-}
-
-/// `2d2h|3d3s/4c5c6c/7c/8d`.
 fn second_deal(rt: &impl Abort) -> Deal {
-    let cards = [
-        card(rt, b"2d"),
-        card(rt, b"2h"),
-        card(rt, b"3d"),
-        card(rt, b"3s"),
-        card(rt, b"4c"),
-        card(rt, b"5c"),
-        card(rt, b"6c"),
-        card(rt, b"7c"),
-        card(rt, b"8d"),
-    ];
-    Deal::new(2, &cards).expect(rt, "nine cards for two players")
+    read_deal(b"2d2h|3d3s/4c5c6c/7c/8d", 2).expect(rt, "a deal of two players")
 }
 
-/// `2d2h|3d3s|4d4s/5c6c7c/8c/9d`.
 fn three_handed_deal(rt: &impl Abort) -> Deal {
-    let cards = [
-        card(rt, b"2d"),
-        card(rt, b"2h"),
-        card(rt, b"3d"),
-        card(rt, b"3s"),
-        card(rt, b"4d"),
-        card(rt, b"4s"),
-        card(rt, b"5c"),
-        card(rt, b"6c"),
-        card(rt, b"7c"),
-        card(rt, b"8c"),
-        card(rt, b"9d"),
-    ];
-    Deal::new(3, &cards).expect(rt, "eleven cards for three players")
+    read_deal(b"2d2h|3d3s|4d4s/5c6c7c/8c/9d", 3).expect(rt, "a deal of three players")
 }
 
 fn deal_in_turn(rt: &impl Abort, hand: u32) -> Deal {
     if hand % 2 == 0 {
-        first_deal(rt)
+        ten_ace(rt)
     } else {
         second_deal(rt)
     }
@@ -115,7 +74,7 @@ fn a_match_of_two_hands(rt: HostRuntime) -> Result<(), Fail> {
     assert!(rt; table.game().players() == 2);
     assert!(rt; table.hands() == 2);
     table.reserve(1)?;
-    let [first, second] = [first_deal(&rt), second_deal(&rt)];
+    let [first, second] = [ten_ace(&rt), second_deal(&rt)];
     let deal = Command::Deal {
         hand: 0,
         deal: first,
@@ -171,7 +130,7 @@ fn a_command_that_does_not_fit_does_nothing(rt: HostRuntime) -> Result<(), Fail>
     let [deal, deal_of_the_next_hand, deal_for_three] = [
         Command::Deal {
             hand: 0,
-            deal: first_deal(&rt),
+            deal: ten_ace(&rt),
         },
         Command::Deal {
             hand: 1,
