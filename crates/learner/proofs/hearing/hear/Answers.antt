@@ -1,4 +1,4 @@
-use Rattle.std.proofs.Common.{sym, ◌∙◌, ap, List, Bool}
+use Rattle.std.proofs.Common.{sym, ◌∙◌, ap, List, Bool, rules}
 use Rattle.learner.specs.Tallies.{nodes_for, is_completed}
 use Rattle.learner.specs.Learning.{tallies_at}
 use Rattle.learner.specs.Cells.{tallies_in, learned_by, spares}
@@ -14,3 +14,6 @@ returns-in-Err-clause-answer c =
 
 pub returns-in-Err-clause-room : goal.returns-in-Err-clause-room
 returns-in-Err-clause-room c = least_alike 1 c.args.log.now.room c.put.new.log.room (spares c.args.cells.now.items) c.put.ensures.room
+
+pub returns-in-Ok-clause-learned : goal.returns-in-Ok-clause-learned
+returns-in-Ok-clause-learned c = search rules

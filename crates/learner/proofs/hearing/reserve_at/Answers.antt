@@ -19,6 +19,6 @@ returns-clause-kept c most =
 pub returns-clause-full : goal.returns-clause-full
 returns-clause-full c = on_err_weaker c.reserve.result
     (λ full most.
-      let below = room_below most c.args.cells.now.items (c.args.slot % 64) c.index_mut-cell.result.now (omega arith) c.index_mut-cell.ensures.value in
-      omega (arith, below, full))
+    let below = room_below most c.args.cells.now.items (c.args.slot % 64) c.index_mut-cell.result.now (omega arith) c.index_mut-cell.ensures.value in
+    omega (arith, below, full))
     c.reserve.ensures.full

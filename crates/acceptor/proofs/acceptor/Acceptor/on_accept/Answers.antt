@@ -1,3 +1,4 @@
+use Rattle.std.proofs.Common.{rules}
 use Rattle.acceptor.specs.Answers.{answer_to_accept, accepted}
 use Rattle.acceptor.proofs.Exits.{after_room}
 use Rattle.acceptor.proofs.acceptor.Acceptor.on_accept.Goals as goal
@@ -6,3 +7,6 @@ pub returns-clause-taken : goal.returns-clause-taken
 returns-clause-taken g c =
     after_room g.D.Disk (answer_to_accept c.args.ballot c.args.slot c.args.command) (accepted c.args.ballot c.args.slot c.args.command)
     c.args.self.now.store c.reserve.new.self.store c.on_accept_reserved.new.self.store c.on_accept_reserved.result c.reserve.ensures.same c.on_accept_reserved.ensures.taken
+
+pub on_accept_reserved-requires-clause-room : goal.on_accept_reserved-requires-clause-room
+on_accept_reserved-requires-clause-room g c = search rules

@@ -1,4 +1,4 @@
-use Rattle.std.proofs.Common.{arith}
+use Rattle.std.proofs.Common.{arith, rules}
 use Rattle.learner.proofs.Rooms.{room_kept, room_wanting}
 use Rattle.learner.proofs.Heard.{on_err}
 use Rattle.learner.proofs.learner.Learner.on_accepted.Goals as goal
@@ -15,3 +15,6 @@ returns-clause-room c =
     let made = c.reserve_at.ensures.kept c.reserve.new.self.room in
     let used = c.hear.ensures.room in
     omega (arith, kept, made, used)
+
+pub returns-then-not-is_open-clause-answer : goal.returns-then-not-is_open-clause-answer
+returns-then-not-is_open-clause-answer c = search rules

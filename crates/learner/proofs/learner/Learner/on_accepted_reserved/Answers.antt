@@ -1,4 +1,4 @@
-use Rattle.std.proofs.Common.{◌≡◌, ◌%◌, ap, arith}
+use Rattle.std.proofs.Common.{◌≡◌, ◌%◌, ap, arith, rules}
 use Rattle.learner.specs.Learning.{Learning}
 use Rattle.learner.specs.Cells.{room_by}
 use Rattle.learner.proofs.Cells.{room_at}
@@ -15,3 +15,6 @@ pub hear-requires-clause-log_room : goal.hear-requires-clause-log_room
 hear-requires-clause-log_room c =
     let most = room_within c.self.inside c.self.view_is in
     omega (arith, most, c.requires.room)
+
+pub returns-then-not-is_open-clause-answer : goal.returns-then-not-is_open-clause-answer
+returns-then-not-is_open-clause-answer c = search rules

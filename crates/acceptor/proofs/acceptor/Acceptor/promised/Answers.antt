@@ -1,0 +1,11 @@
+use Rattle.std.proofs.Common.{rules}
+use Rattle.acceptor.proofs.acceptor.Acceptor.promised.Goals as goal
+
+pub returns-clause-value : goal.returns-clause-value
+returns-clause-value g c = search rules
+
+pub returns-clause-kept : goal.returns-clause-kept
+returns-clause-kept g c = search rules
+
+pub returns-clause-range : goal.returns-clause-range
+returns-clause-range g c = search rules
