@@ -14,7 +14,8 @@ use Rattle.promise_store.specs.Keeping.{is_closed}
 use Rattle.acceptor.specs.declared.answers.PrepareAnswer.{PrepareAnswer}
 use Rattle.acceptor.specs.declared.answers.PrepareAnswer.TheVariants.{Promise, Refuse as RefusePrepare}
 use Rattle.acceptor.specs.declared.answers.AcceptAnswer.TheVariants.{Accepted, Refuse as RefuseAccept}
-use Rattle.acceptor.specs.Answers.{told_of, answer_to_prepare, refusal_of_prepare, prepared, AnswersPrepare, answer_to_accept, refusal_of_accept, accepted, AnswersAccept}
+use Rattle.protocol_model.specs.Votes.{told_from, told_by}
+use Rattle.acceptor.specs.Answers.{answer_to_prepare, refusal_of_prepare, prepared, AnswersPrepare, answer_to_accept, refusal_of_accept, accepted, AnswersAccept}
 use Rattle.acceptor.specs.Taken.{NeedsStore}
 
 abbrev ballot : ℕ → ℕ → Ballot
@@ -46,13 +47,16 @@ abbrev store : Store
 store = record { promise = ballot 3 1; votes = votes }
 
 -- slot 9 stands before the window, and 74 behind it
-pub told_from_10 : told_of store 10 ≡ entry 10 (ballot 3 1) call ∷ entry 73 (ballot 2 2) fold ∷ []
+pub told_from_10 : told_by store 10 ≡ entry 10 (ballot 3 1) call ∷ entry 73 (ballot 2 2) fold ∷ []
+unfolding told_from
 told_from_10 = refl
 
-pub told_from_75 : told_of store 75 ≡ []
+pub told_from_75 : told_by store 75 ≡ []
+unfolding told_from
 told_from_75 = refl
 
 pub promised_above : answer_to_prepare (ballot 3 2) 10 store ≡ Promise (ballot 3 2) 10 (entry 10 (ballot 3 1) call ∷ entry 73 (ballot 2 2) fold ∷ [])
+unfolding told_from
 promised_above = refl
 
 pub promise_stored : prepared (ballot 3 2) store ≡ record { promise = ballot 3 2; votes = votes }

@@ -16,7 +16,8 @@ use Rattle.promise_store.specs.Holding.{stored}
 use Rattle.promise_store.specs.Shown.{vote_pair, vote_ballot, placed_ballot}
 use Rattle.acceptor.specs.declared.answers.PrepareAnswer.TheVariants.{Promise}
 use Rattle.acceptor.specs.declared.answers.AcceptAnswer.TheVariants.{Accepted}
-use Rattle.acceptor.specs.Answers.{told_at, told_pair, told_from, told_of, command_found, stored_command, has_voted, command_in, answer_to_prepare, prepared, answer_to_accept, accepted}
+use Rattle.protocol_model.specs.Votes.{told_at, told_from, told_by, is_of_ballot, stored_in}
+use Rattle.acceptor.specs.Answers.{told_pair, command_found, stored_command, answer_to_prepare, prepared, answer_to_accept, accepted}
 use Rattle.paxos_wire.specs.Order.{is_below, is_same_ballot}
 use Rattle.protocol_model.proofs.Ballots.{below_if, at_most_if_not}
 
@@ -46,6 +47,7 @@ pair_told slot (Some vote) = refl
 pub told_more : (held : Store) (first place : ℕ) (entries : List Entry) (found : Option (Ballot × Command)) (all : List Entry)
     → all ≡ entries ++ told_pair (first + place) found → entries ≡ told_from held first place → found ≡ vote_pair (held.votes (first + place))
     → all ≡ told_from held first (place + 1)
+unfolding told_from
 told_more held first place entries found all put before is =
     put
     ∙ ap (λ (es : List Entry). es ++ told_pair (first + place) found) before
@@ -87,7 +89,7 @@ prepared_is moves held b p same below =
     let raised : prepared b held ≡ promised held b = rw e refl in
     raised ∙ sym (moves held b (below_if held.promise b e))
 
-pub promise_is : (held : Store) (b p : Ballot) (slot : ℕ) (told : List Entry) → p ≡ held.promise → is_below p b ≡ true → told ≡ told_of held slot
+pub promise_is : (held : Store) (b p : Ballot) (slot : ℕ) (told : List Entry) → p ≡ held.promise → is_below p b ≡ true → told ≡ told_by held slot
     → Promise b slot told ≡ answer_to_prepare b slot held
 promise_is held b p slot told same below is =
     let e : is_below held.promise b ≡ true = ap (λ (x : Ballot). is_below x b) (sym same) ∙ below in rw e (ap (Promise b slot) is)
@@ -105,7 +107,7 @@ module _ (b : Ballot) (slot : ℕ) (c : Command) (held : Store) where
   was_by v s false e = absurd (cc)
 
   was_in : (o : Option Vote) (s : Command) → Some s ≡ stored_command b o
-      → (Accepted b slot s ≡ Accepted b slot (command_in o b c)) × ((if has_voted o b then held else voted held slot (record { ballot = b; command = c })) ≡ held)
+      → (Accepted b slot s ≡ Accepted b slot (stored_in o b c)) × ((if is_of_ballot o b then held else voted held slot (record { ballot = b; command = c })) ≡ held)
   was_in None s e = absurd (cc)
   was_in (Some v) s e = was_by v s (is_same_ballot v.ballot b) e
 
@@ -123,8 +125,8 @@ module _ (b : Ballot) (slot : ℕ) (c : Command) (held : Store) where
   new_by v false e = (refl, refl)
 
   new_in : (o : Option Vote) → None ≡ stored_command b o
-      → (Accepted b slot c ≡ Accepted b slot (command_in o b c))
-      × ((if has_voted o b then held else voted held slot (record { ballot = b; command = c })) ≡ voted held slot (record { ballot = b; command = c }))
+      → (Accepted b slot c ≡ Accepted b slot (stored_in o b c))
+      × ((if is_of_ballot o b then held else voted held slot (record { ballot = b; command = c })) ≡ voted held slot (record { ballot = b; command = c }))
   new_in None e = (refl, refl)
   new_in (Some v) e = new_by v (is_same_ballot v.ballot b) e
 

@@ -9,7 +9,8 @@ use Rattle.protocol_model.specs.Ballots.{Below, AtMost}
 use Rattle.protocol_model.specs.Messages.{Vote, Message, Prepare, Accept}
 use Rattle.protocol_model.specs.Stores.{Store, promised, voted, StoreMove, own_promise, promise, vote as vote_move}
 use Rattle.protocol_model.specs.Backing.{IsWithinPromise}
-use Rattle.acceptor.specs.Answers.{has_voted, command_in, prepared, accepted}
+use Rattle.protocol_model.specs.Votes.{is_of_ballot, stored_in}
+use Rattle.acceptor.specs.Answers.{prepared, accepted}
 use Rattle.paxos_wire.specs.Order.{is_below, is_same_ballot}
 use Rattle.acceptor.specs.Laws.{IsPromised, IsNotPromised, IsAccepted, IsNotAccepted}
 use Rattle.protocol_model.proofs.Ballots.{at_most_trans, at_most_self, at_most_of_below, not_below, below_if, is_below_if, at_most_if_not, same_if, is_same_if}
@@ -34,7 +35,7 @@ refuses_below b slot c store isnt = by_case (is_below b store.promise) refl
 module _ (b : Ballot) (slot : ℕ) (c : Command) (store : Store) where
   -- what is stored, where the slot has this vote
   abbrev stored_with : Option Vote → Store
-  stored_with o = if has_voted o b then store else voted store slot (new_vote b c)
+  stored_with o = if is_of_ballot o b then store else voted store slot (new_vote b c)
 
   there : (voted store slot (new_vote b c)).votes slot ≡ Some (new_vote b c)
   there = rw (eq-eqb slot slot refl) refl
@@ -44,14 +45,14 @@ module _ (b : Ballot) (slot : ℕ) (c : Command) (store : Store) where
   stored_some v true e same = e ∙ ap (λ (k : Ballot). Some (new_vote k v.command)) (same_if v.ballot b same)
   stored_some v false e same = there
 
-  stored_by : (o : Option Vote) → store.votes slot ≡ o → (stored_with o).votes slot ≡ Some (new_vote b (command_in o b c))
+  stored_by : (o : Option Vote) → store.votes slot ≡ o → (stored_with o).votes slot ≡ Some (new_vote b (stored_in o b c))
   stored_by None e = there
   stored_by (Some v) e = stored_some v (is_same_ballot v.ballot b) e refl
 
   abbrev IsOnce : Option Vote → Type 0
   IsOnce o =
       (stored_with o ≡ store)
-      ⊎ ((stored_with o ≡ voted store slot (new_vote b c)) × (command_in o b c ≡ c) × ((v : Vote) → store.votes slot ≡ Some v → v.ballot ≡ b → ⊥))
+      ⊎ ((stored_with o ≡ voted store slot (new_vote b c)) × (stored_in o b c ≡ c) × ((v : Vote) → store.votes slot ≡ Some v → v.ballot ≡ b → ⊥))
 
   once_some : (v : Vote) (x : Bool) → store.votes slot ≡ Some v → is_same_ballot v.ballot b ≡ x
       → ((if x then store else voted store slot (new_vote b c)) ≡ store)
@@ -97,11 +98,11 @@ accepts_are_moves node has b slot c store had = accepts_by node has b slot c sto
 abbrev Stands : Store → ℕ → Vote → Type 0
 Stands store other v = (later : Vote) × (store.votes other ≡ Some later) × ((later ≡ v) ⊎ Below v.ballot later.ballot)
 
-unvoted : (o : Option Vote) (v : Vote) (b : Ballot) → o ≡ Some v → has_voted o b ≡ false → is_same_ballot v.ballot b ≡ false
+unvoted : (o : Option Vote) (v : Vote) (b : Ballot) → o ≡ Some v → is_of_ballot o b ≡ false → is_same_ballot v.ballot b ≡ false
 unvoted None v b e h = absurd (cc)
 unvoted (Some w) v b e h = let one : w ≡ v = cc in sym (ap (λ (u : Vote). is_same_ballot u.ballot b) one) ∙ h
 
-stands_by : (b : Ballot) (slot : ℕ) (c : Command) (store : Store) (other : ℕ) (v : Vote) (x y : Bool) → is_below b store.promise ≡ x → has_voted (store.votes slot) b ≡ y
+stands_by : (b : Ballot) (slot : ℕ) (c : Command) (store : Store) (other : ℕ) (v : Vote) (x y : Bool) → is_below b store.promise ≡ x → is_of_ballot (store.votes slot) b ≡ y
     → IsWithinPromise store → store.votes other ≡ Some v
     → Stands (if x then store else if y then store else voted store slot (new_vote b c)) other v
 stands_by b slot c store other v true y ex ey within e = (v, e, inl refl)

@@ -1,12 +1,12 @@
 -- What an acceptor answers, and what it keeps then, by what it kept.
-use Rattle.std.specs.Prelude.{◌≡◌, ℕ, zero, suc, ◌+◌, ◌==◌, Bool, true, false, nat_lt, if◌then◌else◌, List, [], ◌∷◌, ◌++◌, Option, Some, None}
+use Rattle.std.specs.Prelude.{◌≡◌, ℕ, if◌then◌else◌, List, [], ◌∷◌, Option, Some, None}
 use Rattle.paxos_wire.specs.Fits.{IsBallot, IsInRange, AreEntries}
-use Rattle.paxos_wire.specs.declared.limits.TheConstants.{WINDOW}
 use Rattle.paxos_wire.specs.declared.ballot.Ballot.{Ballot}
 use Rattle.paxos_wire.specs.declared.entry.Entry.{Entry}
 use Rattle.slot_log.specs.declared.command.Command.{Command}
-use Rattle.protocol_model.specs.Messages.{Vote, entry_of}
-use Rattle.protocol_model.specs.Stores.{Store, promised, voted}
+use Rattle.protocol_model.specs.Messages.{Vote}
+use Rattle.protocol_model.specs.Stores.{Store, promised}
+use Rattle.protocol_model.specs.Votes.{told_by, stored_in, storing}
 use Rattle.acceptor.specs.declared.answers.PrepareAnswer.{PrepareAnswer}
 use Rattle.acceptor.specs.declared.answers.PrepareAnswer.TheVariants.{Promise, Refuse as RefusePrepare}
 use Rattle.acceptor.specs.declared.answers.AcceptAnswer.{AcceptAnswer}
@@ -31,24 +31,10 @@ stored_command ballot (Some vote) = if is_same_ballot vote.ballot ballot then So
 
 -- ---- a Prepare
 
--- the entry of a slot where something was accepted
-abbrev pub told_at : ℕ → Option Vote → List Entry
-told_at slot None = []
-told_at slot (Some vote) = entry_of slot vote ∷ []
-
--- the entries of so many slots from the first on, in their order
-abbrev pub told_from : Store → ℕ → ℕ → List Entry
-told_from store first zero = []
-told_from store first (suc places) = told_from store first places ++ told_at (first + places) (store.votes (first + places))
-
--- those of the 64 slots
-abbrev pub told_of : Store → ℕ → List Entry
-told_of store first = told_from store first WINDOW
-
 -- a ballot above what it promised is promised
 abbrev pub answer_to_prepare : Ballot → ℕ → Store → PrepareAnswer
 answer_to_prepare ballot slot store =
-    if is_below store.promise ballot then Promise ballot slot (told_of store slot) else RefusePrepare ballot slot store.promise
+    if is_below store.promise ballot then Promise ballot slot (told_by store slot) else RefusePrepare ballot slot store.promise
 
 -- any other is refused by the promise alone, which is told
 abbrev pub refusal_of_prepare : Ballot → ℕ → Ballot → Option PrepareAnswer
@@ -64,21 +50,11 @@ AnswersPrepare ballot slot (RefusePrepare b s promise) = (b ≡ ballot) × (s �
 
 -- ---- a proposal
 
--- the slot has a vote of this ballot
-abbrev pub has_voted : Option Vote → Ballot → Bool
-has_voted None ballot = false
-has_voted (Some vote) ballot = is_same_ballot vote.ballot ballot
-
--- the command that is accepted: that of the vote, where there is one of the ballot already
-abbrev pub command_in : Option Vote → Ballot → Command → Command
-command_in None ballot command = command
-command_in (Some vote) ballot command = if is_same_ballot vote.ballot ballot then vote.command else command
-
 -- a proposal of no ballot below what it promised is accepted
 abbrev pub answer_to_accept : Ballot → ℕ → Command → Store → AcceptAnswer
 answer_to_accept ballot slot command store =
     if is_below ballot store.promise then RefuseAccept ballot slot store.promise
-    else Accepted ballot slot (command_in (store.votes slot) ballot command)
+    else Accepted ballot slot (stored_in (store.votes slot) ballot command)
 
 -- any other is refused by the promise alone, which is told
 abbrev pub refusal_of_accept : Ballot → ℕ → Ballot → Option AcceptAnswer
@@ -87,9 +63,7 @@ refusal_of_accept ballot slot promise = if is_below ballot promise then Some (Re
 -- once a ballot and slot: where a vote of the ballot is there, it stays
 abbrev pub accepted : Ballot → ℕ → Command → Store → Store
 accepted ballot slot command store =
-    if is_below ballot store.promise then store
-    else if has_voted (store.votes slot) ballot then store
-    else voted store slot (record { ballot = ballot; command = command })
+    if is_below ballot store.promise then store else storing store ballot slot command
 
 -- an answer that a frame carries
 abbrev pub AnswersAccept : Ballot → ℕ → AcceptAnswer → Type 0

@@ -10,7 +10,8 @@ use Rattle.protocol_model.specs.Stores.{Store, promised, voted, Tells, StoreMove
 use Rattle.protocol_model.specs.Backing.{IsWithinPromise}
 use Rattle.acceptor.specs.declared.answers.PrepareAnswer.TheVariants.{Promise, Refuse as RefusePrepare}
 use Rattle.acceptor.specs.declared.answers.AcceptAnswer.TheVariants.{Accepted, Refuse as RefuseAccept}
-use Rattle.acceptor.specs.Answers.{told_of, answer_to_prepare, prepared, command_in, answer_to_accept, accepted}
+use Rattle.protocol_model.specs.Votes.{told_by, stored_in}
+use Rattle.acceptor.specs.Answers.{answer_to_prepare, prepared, answer_to_accept, accepted}
 use Rattle.paxos_wire.specs.Order.{is_below, is_same_ballot}
 
 -- the tests tell the order of ballots, and whether two are the same
@@ -24,19 +25,19 @@ SameIsTested = (a b : Ballot) → (is_same_ballot a b ≡ true) ↔ (a ≡ b)
 
 -- the entries of its 64 slots, and no others
 abbrev pub ToldAreHeld : Type 0
-ToldAreHeld = (store : Store) (first : ℕ) → Tells store first (told_of store first)
+ToldAreHeld = (store : Store) (first : ℕ) → Tells store first (told_by store first)
 
 -- by rising slots, so that a frame can carry them
 abbrev pub ToldRise : Type 0
 ToldRise =
     (store : Store) (first : ℕ) → ((slot : ℕ) (vote : Vote) → store.votes slot ≡ Some vote → IsEntry (entry_of slot vote))
-    → AreEntries first (told_of store first)
+    → AreEntries first (told_by store first)
 
 -- ---- the answer to a Prepare
 
 -- promised is a ballot above what was promised
 pub record IsPromised (ballot : Ballot) (slot : ℕ) (store : Store) : Type 0 where
-  pub answer : answer_to_prepare ballot slot store ≡ Promise ballot slot (told_of store slot)
+  pub answer : answer_to_prepare ballot slot store ≡ Promise ballot slot (told_by store slot)
   pub kept : prepared ballot store ≡ promised store ballot
 
 -- any other is refused, and nothing is stored
@@ -55,11 +56,11 @@ RefusesOthers = (ballot : Ballot) (slot : ℕ) (store : Store) → ¬ Below stor
 -- what is told as accepted is stored then: a vote of the ballot that was there already, and nothing else is written; or the
 -- proposal, where no vote of the ballot was there
 pub record IsAccepted (ballot : Ballot) (slot : ℕ) (command : Command) (store : Store) : Type 0 where
-  pub answer : answer_to_accept ballot slot command store ≡ Accepted ballot slot (command_in (store.votes slot) ballot command)
-  pub stored : (accepted ballot slot command store).votes slot ≡ Some (record { ballot = ballot; command = command_in (store.votes slot) ballot command })
+  pub answer : answer_to_accept ballot slot command store ≡ Accepted ballot slot (stored_in (store.votes slot) ballot command)
+  pub stored : (accepted ballot slot command store).votes slot ≡ Some (record { ballot = ballot; command = stored_in (store.votes slot) ballot command })
   pub kept : (accepted ballot slot command store ≡ store)
       ⊎ ((accepted ballot slot command store ≡ voted store slot (record { ballot = ballot; command = command }))
-      × (command_in (store.votes slot) ballot command ≡ command)
+      × (stored_in (store.votes slot) ballot command ≡ command)
       × ((vote : Vote) → store.votes slot ≡ Some vote → vote.ballot ≡ ballot → ⊥))
 
 pub record IsNotAccepted (ballot : Ballot) (slot : ℕ) (command : Command) (store : Store) : Type 0 where

@@ -3,7 +3,8 @@ ghost use Rattle.paxos_wire.specs.Fits.{IsSlot, IsInRange, IsEntry, AreEntries};
 ghost use Rattle.promise_store.specs.declared.fault.StoreFault.TheVariants.{Closed};
 ghost use Rattle.promise_store.specs.Keeping.{is_closed};
 ghost use Rattle.promise_store.specs.Shown.{vote_pair};
-ghost use Rattle.acceptor.specs.Answers.{told_of, told_pair, command_found, stored_command};
+ghost use Rattle.protocol_model.specs.Votes.{told_by};
+ghost use Rattle.acceptor.specs.Answers.{told_pair, command_found, stored_command};
 ghost use Rattle.acceptor.specs.Taken.{Read};
 
 use paxos_wire::limits::WINDOW;
@@ -41,7 +42,7 @@ fn tell(entries: &mut Entries, slot: u32, found: Option<(Ballot, Command)>)
 /// Reads what was accepted at the 64 slots from the first on.
 pub(crate) fn entries_from<D: Disk>(store: &mut Store<D>, first: u32) -> Result<Entries, StoreFault>
     requires { IsSlot first }
-    ensures read { Read D.Disk (λ held. told_of held first) store.old store.new result }
+    ensures read { Read D.Disk (λ held. told_by held first) store.old store.new result }
     ensures closed { is_closed store.old ≡ true → IsErrOf result Closed }
     ensures range { IfOk result (λ entries. AreEntries first entries) }
 {

@@ -14,7 +14,8 @@ use Rattle.learner.specs.Learning.{Learned, answer_to, hearing as hearing_vote, 
 use Rattle.node_rules.specs.Standings.{Place, Standing, front_of, idle}
 use Rattle.node_rules.specs.Turns.{Turn, Refusal, Conflict, still, sending, joined, behind, and_then}
 use Rattle.node_rules.specs.Learning.{learning, asking_on}
-use Rattle.node_rules.specs.Accepting.{refusing, promising, voting, stored_in, storing}
+use Rattle.protocol_model.specs.Votes.{stored_in, storing}
+use Rattle.node_rules.specs.Accepting.{refusing, promising, voting}
 use Rattle.node_rules.specs.Standings.{with_stored}
 use Rattle.node_rules.specs.Sending.{to_others}
 use Rattle.node_rules.specs.Proposing.{closing, closing_by as closing_by_rule, proposal_at}

@@ -21,7 +21,7 @@ use Rattle.learner.specs.Learning.{Learned}
 use Rattle.node_rules.specs.Standings.{Standing, applied, front_of, idle}
 use Rattle.node_rules.specs.Sending.{Frame, to_first}
 use Rattle.node_rules.specs.Turns.{still}
-use Rattle.node_rules.specs.Accepting.{told_by}
+use Rattle.protocol_model.specs.Votes.{told_by}
 use Rattle.node_rules.specs.Proposing.{prepared, beginning, own_value, proposal_at, closing, closing_by}
 use Rattle.dealer_node.specs.declared.running.Running.{Running}
 use Rattle.dealer_node.specs.Texts.{Marked}

@@ -1,11 +1,9 @@
 -- What a node stores: promises and votes, as the rules have them.
-use Rattle.std.proofs.Common.{◌≡◌, ℕ, zero, suc, ◌+◌, ◌≤◌, inl, inr, Bool, true, false, List, ◌++◌, Result, Ok, Err, refl, ap, sym, subst, ◌∙◌, arith, true≢false}
+use Rattle.std.proofs.Common.{◌≡◌, ℕ, ◌+◌, ◌≤◌, inl, inr, Bool, true, false, List, ◌++◌, Result, Ok, Err, refl, ap, sym, subst, ◌∙◌, arith, true≢false}
 use Rattle.std.proofs.lemmas.Option.{same_Some}
 use Rattle.std.specs.Prelude.{◌⊎◌, Option, Some, None, IfSome, MatchResult, map, if◌then◌else◌, nat_lt, ◌==◌}
 use Rattle.std.proofs.lemmas.Bool.{le-ltb, eq-eqb}
-use Rattle.paxos_wire.specs.declared.limits.TheConstants.{WINDOW}
 use Rattle.paxos_wire.specs.declared.ballot.Ballot.{Ballot}
-use Rattle.paxos_wire.specs.declared.entry.Entry.{Entry}
 use Rattle.paxos_wire.specs.declared.message.Message.TheVariants as frame
 use Rattle.slot_log.specs.declared.command.Command.{Command}
 use Rattle.slot_log.specs.declared.slot_fault.SlotFault.{SlotFault}
@@ -17,8 +15,8 @@ use Rattle.promise_store.specs.Room.{promised_in}
 use Rattle.promise_store.specs.Appended.{IsAsBefore}
 use Rattle.promise_store.specs.Keeping.{disk_of, held_of, Keeps, Leaves, LeavesDuring}
 use Rattle.protocol_model.specs.Sets.{In}
-use Rattle.protocol_model.specs.Messages.{Vote}
 use Rattle.protocol_model.specs.Stores.{Store, promised, voted}
+use Rattle.protocol_model.specs.Votes.{told_by, is_of_ballot, stored_in, storing}
 use Rattle.paxos_wire.specs.Order.{is_below}
 use Rattle.proposer.specs.declared.accept.Accept.{Accept}
 use Rattle.proposer.specs.declared.campaign.Campaign.{Campaign}
@@ -27,15 +25,14 @@ use Rattle.acceptor.specs.declared.answers.PrepareAnswer.{PrepareAnswer}
 use Rattle.acceptor.specs.declared.answers.PrepareAnswer.TheVariants.{Promise, Refuse}
 use Rattle.acceptor.specs.declared.answers.AcceptAnswer.{AcceptAnswer}
 use Rattle.acceptor.specs.declared.answers.AcceptAnswer.TheVariants.{Accepted, Refuse as RefuseAccept}
-use Rattle.acceptor.specs.Answers.{told_from, told_of, answer_to_prepare, refusal_of_prepare, prepared, command_in, has_voted, answer_to_accept, accepted}
+use Rattle.acceptor.specs.Answers.{answer_to_prepare, refusal_of_prepare, prepared, answer_to_accept, accepted}
 use Rattle.acceptor.specs.Stored.{store_of}
 use Rattle.acceptor.specs.Taken.{IsFault, NeedsStore}
 use Rattle.node_rules.specs.Standings.{Place, Standing, with_stored, idle}
 use Rattle.node_rules.specs.Sending.{Frame, one, to_others}
 use Rattle.node_rules.specs.Turns.{Turn, Refusal, Conflict, still, sending, joined, behind}
 use Rattle.node_rules.specs.Learning.{learning}
-use Rattle.node_rules.specs.Accepting.{told_by, told_at, refusing, promising, preparing, stored_in, storing, is_of_ballot, voting, accepting}
-use Rattle.node_rules.specs.Accepting as rules
+use Rattle.node_rules.specs.Accepting.{refusing, promising, preparing, voting, accepting}
 use Rattle.node_rules.specs.Proposing.{proposing, closing}
 use Rattle.dealer_node.specs.declared.up.Up.{Up}
 use Rattle.dealer_node.specs.declared.running.Running.{Running}
@@ -56,20 +53,10 @@ use Rattle.dealer_node.proofs.Still.{told_to_none, of_refusal}
 use Rattle.protocol_model.proofs.Sets.{in_first}
 use Rattle.dealer_node.proofs.Worked.{nothing_more, same_turn, memory_took, then_works, works_from}
 
--- ---- what is told
-
-told_same_from : (store : Store) (first places : ℕ) → told_from store first places ≡ rules.told_from store first places
-unfolding rules.told_from
-told_same_from store first zero = refl
-told_same_from store first (suc places) = ap (λ (es : List Entry). es ++ told_at (first + places) (store.votes (first + places))) (told_same_from store first places)
-
-pub told_same : (store : Store) (first : ℕ) → told_of store first ≡ told_by store first
-told_same store first = told_same_from store first WINDOW
-
 -- ---- promises
 
 abbrev pub answered_prepare : Bool → Ballot → ℕ → Store → PrepareAnswer
-answered_prepare b ballot slot store = if b then Promise ballot slot (told_of store slot) else Refuse ballot slot store.promise
+answered_prepare b ballot slot store = if b then Promise ballot slot (told_by store slot) else Refuse ballot slot store.promise
 
 abbrev pub prepared_by : Bool → Ballot → Store → Store
 prepared_by b ballot store = if b then promised store ballot else store
@@ -87,7 +74,7 @@ module _ {D : Type 0} (g : Ghosts D) where
   promised_by post s from ballot slot false old new answer told texts is given keeps during runs promises sent fits =
       absurd (true≢false (sym promises ∙ ap is_promise given))
   promised_by post s from ballot slot true old new answer told texts is given keeps during runs promises sent fits =
-      let same : message_of answer ≡ frame.Promise ballot slot (told_by s.store slot) = ap message_of given ∙ ap (λ (es : List Entry). frame.Promise ballot slot es) (told_same s.store slot) in
+      let same : message_of answer ≡ frame.Promise ballot slot (told_by s.store slot) = ap message_of given in
       record {
         turn = promising from ballot slot s;
         rule = refl;
@@ -213,34 +200,26 @@ pub telling_done : (place : Place) (ballot : Ballot) (slot : ℕ) (command : Com
 telling_done place ballot slot command s =
     learning_done place (answer_to s.learned place.node ballot slot command) (hearing_vote s.learned place.node ballot slot command) s (sending (to_others place (frame.Accepted ballot slot command)) s)
 
--- the command and the store of a vote, as the acceptor has them
-same_command : (vote : Option Vote) (ballot : Ballot) (command : Command) → command_in vote ballot command ≡ stored_in vote ballot command
-same_command None ballot command = refl
-same_command (Some vote) ballot command = refl
-
-same_voted : (vote : Option Vote) (ballot : Ballot) → has_voted vote ballot ≡ is_of_ballot vote ballot
-same_voted None ballot = refl
-same_voted (Some vote) ballot = refl
-
+-- the store of a vote
 abbrev stored_by : Bool → Store → Ballot → ℕ → Command → Store
 stored_by b store ballot slot command = if b then store else voted store slot (record { ballot = ballot; command = command })
 
 abbrev accepted_by : Bool → Ballot → ℕ → Command → Store → Store
-accepted_by below ballot slot command store = if below then store else stored_by (has_voted (store.votes slot) ballot) store ballot slot command
+accepted_by below ballot slot command store = if below then store else storing store ballot slot command
 
 accepted_stores : (below : Bool) (ballot : Ballot) (slot : ℕ) (command : Command) (store : Store) → below ≡ false → accepted_by below ballot slot command store ≡ storing store ballot slot command
 accepted_stores true ballot slot command store e = absurd (true≢false e)
-accepted_stores false ballot slot command store e = ap (λ (b : Bool). stored_by b store ballot slot command) (same_voted (store.votes slot) ballot)
+accepted_stores false ballot slot command store e = refl
 
 pub vote_stores : (ballot : Ballot) (slot : ℕ) (command : Command) (store : Store) → is_below ballot store.promise ≡ false → accepted ballot slot command store ≡ storing store ballot slot command
 vote_stores ballot slot command store above = accepted_stores (is_below ballot store.promise) ballot slot command store above
 
 abbrev answered_accept : Bool → Ballot → ℕ → Command → Store → AcceptAnswer
-answered_accept below ballot slot command store = if below then RefuseAccept ballot slot store.promise else Accepted ballot slot (command_in (store.votes slot) ballot command)
+answered_accept below ballot slot command store = if below then RefuseAccept ballot slot store.promise else Accepted ballot slot (stored_in (store.votes slot) ballot command)
 
 accepts_by : (below : Bool) (ballot : Ballot) (slot : ℕ) (command : Command) (store : Store) → below ≡ false → accepted_in (answered_accept below ballot slot command store) ≡ Some (stored_in (store.votes slot) ballot command)
 accepts_by true ballot slot command store e = absurd (true≢false e)
-accepts_by false ballot slot command store e = ap (λ (c : Command). Some c) (same_command (store.votes slot) ballot command)
+accepts_by false ballot slot command store e = refl
 
 pub vote_accepts : (ballot : Ballot) (slot : ℕ) (command : Command) (store : Store) → is_below ballot store.promise ≡ false
     → accepted_in (answer_to_accept ballot slot command store) ≡ Some (stored_in (store.votes slot) ballot command)

@@ -23,7 +23,7 @@ use Rattle.acceptor.specs.Answers.{answer_to_prepare, prepared as stores_prepare
 use Rattle.acceptor.specs.Stored.{store_of}
 use Rattle.node_rules.specs.Standings.{Place, Standing, front_of, idle}
 use Rattle.node_rules.specs.Turns.{Turn, Refusal, Spent, still, joined, behind, and_then}
-use Rattle.node_rules.specs.Accepting.{told_by}
+use Rattle.protocol_model.specs.Votes.{told_by}
 use Rattle.node_rules.specs.Proposing.{higher, greatest_seen, is_over, is_spent, prepared, beginning, ticking, closing, closing_by, own_value}
 use Rattle.dealer_node.specs.declared.up.Up.{Up}
 use Rattle.dealer_node.specs.declared.running.Running.{Running}
@@ -35,7 +35,7 @@ use Rattle.dealer_node.specs.declared.fault.NodeFault.{NodeFault}
 use Rattle.paxos_wire.specs.declared.message.Message.TheVariants as frame
 use Rattle.dealer_node.proofs.Still.{more_than_one, told_to_none}
 use Rattle.dealer_node.proofs.Worked.{nothing_more, then_works}
-use Rattle.dealer_node.proofs.Stored.{told_same, answered_prepare, prepared_by}
+use Rattle.dealer_node.proofs.Stored.{answered_prepare, prepared_by}
 
 -- ---- one promise of three or five is no quorum
 
@@ -127,7 +127,7 @@ next_is_above post running s promise same =
 
 answered_by : (below : Bool) (ballot : Ballot) (slot first : ℕ) (store : Store) → below ≡ true → slot ≡ first → answered_prepare below ballot slot store ≡ Promise ballot slot (told_by store first)
 answered_by false ballot slot first store e here = absurd (true≢false (sym e))
-answered_by true ballot slot first store e here = ap (λ (es : List Entry). Promise ballot slot es) (told_same store slot ∙ ap (told_by store) here)
+answered_by true ballot slot first store e here = ap (λ (s : ℕ). Promise ballot slot (told_by store s)) here
 
 pub is_promised : (ballot : Ballot) (slot first : ℕ) (store : Store) (answer : PrepareAnswer) → is_below store.promise ballot ≡ true → slot ≡ first → answer ≡ answer_to_prepare ballot slot store
     → answer ≡ Promise ballot slot (told_by store first)

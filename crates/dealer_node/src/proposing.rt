@@ -6,7 +6,7 @@ ghost use Rattle.paxos_wire.specs.declared.limits.TheConstants.{SLOTS};
 ghost use Rattle.slot_log.specs.Slots.{front};
 ghost use Rattle.proposer.specs.Campaigns.{next_ballot, leads};
 ghost use Rattle.node_rules.specs.Standings.{Standing, idle, front_of};
-ghost use Rattle.node_rules.specs.Accepting.{told_by as told_by_store};
+ghost use Rattle.protocol_model.specs.Votes.{told_by as told_by_store};
 ghost use Rattle.node_rules.specs.Proposing.{higher, is_over, beginning, counting_promise, hearing_refusal};
 ghost use Rattle.dealer_node.specs.Posts.{Post as Station, place_at};
 ghost use Rattle.dealer_node.specs.Outs.{told_by};

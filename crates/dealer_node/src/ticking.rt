@@ -7,7 +7,7 @@ ghost use Rattle.proposer.specs.Campaigns.{next_ballot};
 ghost use Rattle.acceptor.specs.declared.answers.PrepareAnswer.TheVariants.{Promise as Promising};
 ghost use Rattle.node_rules.specs.Standings.{Standing, front_of};
 ghost use Rattle.node_rules.specs.Turns.{and_then};
-ghost use Rattle.node_rules.specs.Accepting.{told_by as told_by_store};
+ghost use Rattle.protocol_model.specs.Votes.{told_by as told_by_store};
 ghost use Rattle.node_rules.specs.Proposing.{higher, is_over, beginning, ticking, closing};
 ghost use Rattle.dealer_node.specs.Posts.{place_at};
 ghost use Rattle.dealer_node.specs.Outs.{told_by};

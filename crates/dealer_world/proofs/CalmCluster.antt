@@ -22,7 +22,7 @@ use Rattle.node_rules.specs.Showing.{Piece as Shown, SeatFault}
 use Rattle.node_rules.specs.Calls.{Call, Start, Tick, Line, Connect, Drop, Stop}
 use Rattle.node_rules.specs.Calls as call
 use Rattle.node_rules.specs.Called.{Ends, took, refused, failed, unchanged}
-use Rattle.node_rules.specs.Accepting.{told_by}
+use Rattle.protocol_model.specs.Votes.{told_by}
 use Rattle.node_rules.specs.Proposing.{is_over, own_value}
 use Rattle.paxos_wire.specs.declared.limits.TheConstants.{SLOTS}
 use Rattle.node_rules.specs.Calm.{without, IsHeld, IsGreatestHeld, IsOwn, Calm, Ticks, Delivers, delivers, ballot_after, round}

@@ -23,7 +23,8 @@ use Rattle.node_rules.specs.Sending.{Frame, one, to_others}
 use Rattle.node_rules.specs.Turns.{Turn, Refusal, Down, Spent, Conflict, still, sending, joined, behind, and_then}
 use Rattle.node_rules.specs.Applying.{applying}
 use Rattle.node_rules.specs.Learning.{learning, comes_to_window, asking_on, told_of, telling_from, next_window, telling, asking_above}
-use Rattle.node_rules.specs.Accepting.{told_by, refusing, promising, preparing, stored_in, storing, voting}
+use Rattle.protocol_model.specs.Votes.{told_by, stored_in, storing}
+use Rattle.node_rules.specs.Accepting.{refusing, promising, preparing, voting}
 use Rattle.node_rules.specs.Proposing.{greatest_seen, is_over, is_spent, beginning}
 use Rattle.proposer.specs.Campaigns.{next_ballot}
 use Rattle.node_rules.specs.Seats.{session_at, with_session, connecting, dropping, left, forwarding, answering, answering_all, HearsPiece}
@@ -37,7 +38,7 @@ use Rattle.node_rules.specs.Sound.{Stands}
 use Rattle.node_rules.specs.LawsAnswers.{IsOfClose, Sends, asks_if, AnswersPrepare, promises, AnswersAccept, accepts, AreChosenFrames, IsAnswered, acts_in, forwards, IsHeard, SendsUp, SendsDown, SendsBy, FramesAnswer}
 use Rattle.node_rules.specs.LawsAnswers as answers
 use Rattle.protocol_model.proofs.Ballots.{below_if, at_most_if_not}
-use Rattle.node_rules.proofs.Promising.{tells}
+use Rattle.protocol_model.proofs.Votes.{tells}
 use Rattle.node_rules.proofs.Settling.{below_front}
 use Rattle.node_rules.proofs.Results.{ok_is, ok_not}
 use Rattle.node_rules.proofs.Resting.{Closed, rests, proposes}

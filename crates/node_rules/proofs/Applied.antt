@@ -25,7 +25,8 @@ use Rattle.node_rules.specs.Showing.{Piece, is_connected, line_piece, seat_line,
 use Rattle.node_rules.specs.Turns.{Turn, Conflict, still, sending, joined, behind, and_then}
 use Rattle.node_rules.specs.Applying.{Scene, kept, shown_of, taking as applies, taking_all, passed, scene_of, applying}
 use Rattle.node_rules.specs.Learning.{learning, asking_on, telling, comes_to_window}
-use Rattle.node_rules.specs.Accepting.{preparing, promising, refusing, stored_in, storing, voting}
+use Rattle.protocol_model.specs.Votes.{stored_in, storing}
+use Rattle.node_rules.specs.Accepting.{preparing, promising, refusing, voting}
 use Rattle.node_rules.specs.Seats.{session_at, waiting}
 use Rattle.node_rules.specs.Rules.{seeing, taking}
 use Rattle.node_rules.specs.Given.{Given}

@@ -28,7 +28,8 @@ use Rattle.node_rules.specs.Showing.{Piece}
 use Rattle.node_rules.specs.Turns.{Turn, Refusal, Down, Spent, Conflict, still, sending, joined, behind, and_then}
 use Rattle.node_rules.specs.Applying.{applying}
 use Rattle.node_rules.specs.Learning.{learning, asking_on, comes_to_window}
-use Rattle.node_rules.specs.Accepting.{refusing, promising, preparing, is_of_ballot, stored_in, storing, voting}
+use Rattle.protocol_model.specs.Votes.{is_of_ballot, stored_in, storing}
+use Rattle.node_rules.specs.Accepting.{refusing, promising, preparing, voting}
 use Rattle.node_rules.specs.Proposing.{higher, greatest_seen, is_over, is_spent, beginning}
 use Rattle.node_rules.specs.Seats.{session_at, with_session, connecting, dropping, left, answering, answering_all, HearsPiece}
 use Rattle.node_rules.specs.Calls.{Call, Start, Tick, Line, Connect, Drop, Stop}

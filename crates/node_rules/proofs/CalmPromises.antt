@@ -16,12 +16,12 @@ use Rattle.proposer.specs.Campaigns.{promise_by, new_campaign, has_promised, has
 use Rattle.paxos_wire.specs.Order.{is_same_ballot}
 use Rattle.proposer.specs.Counted.{IsGreatest}
 use Rattle.proposer.specs.Counted as counted_of
-use Rattle.node_rules.specs.Accepting.{told_by}
+use Rattle.protocol_model.specs.Votes.{told_by}
 use Rattle.node_rules.specs.Calm.{IsHeld, IsGreatestHeld}
 use Rattle.node_rules.specs.Standings.{Standing}
 use Rattle.node_rules.specs.Given.{Given}
 use Rattle.node_rules.proofs.Ordering.{both_ways}
-use Rattle.node_rules.proofs.Promising.{tells}
+use Rattle.protocol_model.proofs.Votes.{tells}
 use Rattle.node_rules.proofs.Members.{is_in, is_in_in, in_is, count_same, count_list, AreDistinct}
 
 -- of these nodes the promises are counted, each telling its node's votes; nothing was proposed

@@ -32,7 +32,8 @@ use Rattle.dealer_kind.specs.Plans.{HasNodes}
 use Rattle.node_rules.specs.Standings.{Place, Standing, front_of, with_stored, idle}
 use Rattle.node_rules.specs.Sending.{to_others}
 use Rattle.node_rules.specs.Turns.{Turn, Refusal, Spent, still, sending, joined, behind, and_then}
-use Rattle.node_rules.specs.Accepting.{told_by, is_of_ballot, storing, promising, refusing, voting}
+use Rattle.protocol_model.specs.Votes.{told_by, is_of_ballot, storing}
+use Rattle.node_rules.specs.Accepting.{promising, refusing, voting}
 use Rattle.node_rules.specs.Learning.{learning, counting_vote}
 use Rattle.node_rules.specs.Applying.{applying}
 use Rattle.node_rules.specs.Proposing.{is_over, is_spent, prepared, beginning, ticking, own_value, closing_by, proposal_at, closing}

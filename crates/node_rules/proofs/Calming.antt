@@ -17,7 +17,7 @@ use Rattle.protocol_model.specs.Moves.{Output, nothing, with_store, with_sent, C
 use Rattle.protocol_model.specs.Worlds.{World, Reached, IsAfter, new_world}
 use Rattle.dealer_kind.specs.Kind.{Setting, dealer_of}
 use Rattle.node_rules.specs.Standings.{Standing, applied, front_of}
-use Rattle.node_rules.specs.Accepting.{told_by}
+use Rattle.protocol_model.specs.Votes.{told_by}
 use Rattle.node_rules.specs.Proposing.{greatest_seen, is_spent}
 use Rattle.node_rules.specs.Being.{Knows}
 use Rattle.node_rules.specs.Calm.{Calm, ballot_after}
@@ -26,7 +26,7 @@ use Rattle.node_rules.specs.Given.{Given}
 use Rattle.protocol_model.proofs.Sets.{in_later}
 use Rattle.node_rules.proofs.Sourcing.{had_was_sent}
 use Rattle.protocol_model.proofs.Ballots.{not_below}
-use Rattle.node_rules.proofs.Promising.{tells}
+use Rattle.protocol_model.proofs.Votes.{tells}
 use Rattle.node_rules.proofs.Agreeing.{votes_agree}
 use Rattle.node_rules.proofs.Members.{above_all}
 use Rattle.node_rules.proofs.CalmTurns.{IsRest}

@@ -10,7 +10,7 @@ use Rattle.protocol_model.specs.Frames.{carried}
 use Rattle.dealer_kind.specs.Plans.{HasNodes}
 use Rattle.node_rules.specs.Sending.{Frame, one, to_first}
 use Rattle.node_rules.specs.Called.{IsNote, IsForAll, IsSaidTo, IsSaid, Carry, CarryAll}
-use Rattle.protocol_model.proofs.Sets.{in_later, in_first, in_split}
+use Rattle.protocol_model.proofs.Sets.{in_later, in_first, in_split, last_or_below}
 
 pub nothing_carried : (n i : ℕ) → Carry n i [] []
 nothing_carried n i = record {
@@ -149,9 +149,6 @@ has_step : (k i to : ℕ) (w : Wire) (b : Bool) → (k == i) ≡ b → to < suc 
 has_step k i to w true e l ne ih (inl same) = absurd (ne (same ∙ eqb-true k i e))
 has_step k i to w false e l ne ih (inl same) = in_later (to_first k i w) (one k w) (record { to = to; message = w }) (inl (ap (λ (j : ℕ). record { to = j; message = w }) same))
 has_step k i to w b e l ne ih (inr below) = in_first (to_first k i w) (if b then [] else one k w) (record { to = to; message = w }) (ih below)
-
-last_or_below : (k to : ℕ) → to < suc k → (to ≡ k) ⊎ (to < k)
-last_or_below k to l = grind arith
 
 pub has_to : (k i to : ℕ) (w : Wire) → to < k → to ≢ i → In (record { to = to; message = w }) (to_first k i w)
 unfolding to_first

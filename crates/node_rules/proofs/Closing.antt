@@ -34,7 +34,7 @@ use Rattle.node_rules.specs.Standings.{Place, Standing, applied, front_of, hands
 use Rattle.node_rules.specs.Sending.{to_others}
 use Rattle.node_rules.specs.Showing.{Piece}
 use Rattle.node_rules.specs.Turns.{Turn, Refusal, still, sending, joined, behind}
-use Rattle.node_rules.specs.Accepting.{is_of_ballot, stored_in, storing}
+use Rattle.protocol_model.specs.Votes.{is_of_ballot, stored_in, storing}
 use Rattle.node_rules.specs.Learning.{counting_vote}
 use Rattle.node_rules.specs.Proposing.{own_deal, fitting, own_value, proposing, closing_by, proposal_at, closing}
 use Rattle.node_rules.specs.Being.{Campaigns, IsCampaign, Stands, IsProposer, IsPending}

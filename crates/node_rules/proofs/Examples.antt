@@ -27,7 +27,7 @@ use Rattle.node_rules.specs.Sending.{Frame, to_first}
 use Rattle.node_rules.specs.Turns.{Turn, Refusal, Down, Spent, Conflict, still, and_then}
 use Rattle.node_rules.specs.Applying.{taking_all}
 use Rattle.node_rules.specs.Learning.{comes_to_window, next_window, telling_from}
-use Rattle.node_rules.specs.Accepting.{told_from}
+use Rattle.protocol_model.specs.Votes.{told_from}
 use Rattle.node_rules.specs.Proposing.{ticking, closing, greatest_seen}
 use Rattle.node_rules.specs.Seats.{answering, answering_all, hearing, connecting, dropping}
 use Rattle.node_rules.specs.Calls.{Line}

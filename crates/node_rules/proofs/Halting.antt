@@ -34,7 +34,8 @@ use Rattle.dealer_kind.specs.Plans.{HasNodes}
 use Rattle.node_rules.specs.Sending.{one, to_others}
 use Rattle.node_rules.specs.Turns.{Turn, Refusal, Spent, still, sending, joined, behind, and_then}
 use Rattle.node_rules.specs.Learning.{learning, counting_vote, telling}
-use Rattle.node_rules.specs.Accepting.{told_by, is_of_ballot, stored_in, storing, promising, refusing, preparing, voting, accepting}
+use Rattle.protocol_model.specs.Votes.{told_by, is_of_ballot, stored_in, storing}
+use Rattle.node_rules.specs.Accepting.{promising, refusing, preparing, voting, accepting}
 use Rattle.node_rules.specs.Proposing.{higher, greatest_seen, is_over, is_spent, beginning, ticking, own_value, proposing, closing_by, proposal_at, closing}
 use Rattle.node_rules.specs.Rules.{ballots_of, seeing, taking, asking, on_read}
 use Rattle.node_rules.specs.Being.{Campaigns}

@@ -59,15 +59,8 @@ one_more_step m n p true e low out later =
     by_case : (k : ℕ) → k < n → n ≡ m → ((k == m) ≡ true) × (k ≡ m) ⊎ ((k == m) ≡ false) × (k ≢ m) → (k == m) ≡ false
     by_case k l same (inl eq) = absurd (let a = eq.1 in omega (arith, a, same))
     by_case k l same (inr ne) = ne.0
-one_more_step m n p false e low out later = by_last (p n) (later (let ne = eqb-false n m e in by_order (lt_split m n low) ne))
+one_more_step m n p false e low out later = by_last (p n) (later (let other : n ≢ m = eqb-false n m e in omega (arith, other)))
   where
-    lt_split : (m n : ℕ) → m < suc n → (n ≡ m) ⊎ (m < n)
-    lt_split m n l = grind arith
-
-    by_order : (n ≡ m) ⊎ (m < n) → (n ≡ m → ⊥) → m < n
-    by_order (inl same) ne = absurd (ne same)
-    by_order (inr l) ne = l
-
     by_last : (b : Bool) → count (λ k. if k == m then true else p k) n ≡ 1 + count p n
         → (if b then 1 + count (λ k. if k == m then true else p k) n else count (λ k. if k == m then true else p k) n) ≡ 1 + (if b then 1 + count p n else count p n)
     by_last true h = ap (λ (x : ℕ). 1 + x) h

@@ -33,7 +33,8 @@ use Rattle.seat_session.specs.declared.session_fault.SessionFault.{SessionFault}
 use Rattle.node_rules.specs.Standings.{Place, Standing, front_of, with_stored, idle, applied}
 use Rattle.node_rules.specs.Sending.{one, to_others}
 use Rattle.node_rules.specs.Turns.{Turn, Refusal, Spent, still, sending, joined, and_then}
-use Rattle.node_rules.specs.Accepting.{is_of_ballot, stored_in, storing, promising, refusing, voting}
+use Rattle.protocol_model.specs.Votes.{is_of_ballot, stored_in, storing}
+use Rattle.node_rules.specs.Accepting.{promising, refusing, voting}
 use Rattle.node_rules.specs.Learning.{learning, counting_vote, asking_on, believing}
 use Rattle.node_rules.specs.Proposing.{greatest_seen, is_over, is_spent, beginning, ticking, closing}
 use Rattle.node_rules.specs.Seats.{session_at, with_session, left, connecting, dropping, answering, answering_all, HearsPiece}

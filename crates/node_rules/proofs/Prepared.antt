@@ -17,7 +17,7 @@ use Rattle.proposer.specs.Campaigns.{leads, next_ballot, new_campaign, has_quoru
 use Rattle.dealer_kind.specs.Plans.{HasNodes}
 use Rattle.node_rules.specs.Standings.{Place, Standing, front_of}
 use Rattle.node_rules.specs.Turns.{Turn, Refusal, Spent, still, joined, behind, and_then}
-use Rattle.node_rules.specs.Accepting.{told_by}
+use Rattle.protocol_model.specs.Votes.{told_by}
 use Rattle.node_rules.specs.Proposing.{higher, greatest_seen, is_over, is_spent, prepared, beginning, ticking, own_value, closing}
 use Rattle.node_rules.specs.Seen.{Sees}
 use Rattle.node_rules.specs.Proposed.{IsSettled}

@@ -1,14 +1,12 @@
 -- Promises and refusals on the path of a call.
-use Rattle.std.proofs.Common.{◌≡◌, ◌≢◌, ℕ, zero, suc, ◌<◌, ◌≤◌, ◌+◌, ◌⊎◌, inl, inr, Bool, true, false, true≢false, if◌then◌else◌, List, ◌∷◌, Option, Some, None, Ok, refl, sym, ap, subst, ◌∙◌, arith}
-use Rattle.paxos_wire.specs.declared.limits.TheConstants.{WINDOW}
+use Rattle.std.proofs.Common.{◌≡◌, ◌≢◌, ℕ, ◌<◌, Bool, true, false, true≢false, if◌then◌else◌, List, ◌∷◌, Ok, refl, sym, ap, subst, ◌∙◌}
 use Rattle.paxos_wire.specs.declared.ballot.Ballot.{Ballot}
-use Rattle.paxos_wire.specs.declared.entry.Entry.{Entry}
 use Rattle.paxos_wire.specs.declared.message.Message.{Message as Wire}
 use Rattle.paxos_wire.specs.declared.message.Message.TheVariants as frame
 use Rattle.slot_log.specs.declared.command.Command.{Command}
 use Rattle.protocol_model.specs.Sets.{In}
 use Rattle.protocol_model.specs.Ballots.{Below, AtMost}
-use Rattle.protocol_model.specs.Messages.{Vote, entry_of, vote_of, Message, Prepare, Promise, Refuse}
+use Rattle.protocol_model.specs.Messages.{Message, Prepare, Promise, Refuse}
 use Rattle.protocol_model.specs.Stores.{Store, promised, Tells}
 use Rattle.protocol_model.specs.Backing.{IsWithinPromise}
 use Rattle.protocol_model.specs.Arrivals.{Arrival}
@@ -19,52 +17,15 @@ use Rattle.node_rules.specs.Proposing.{own_value}
 use Rattle.node_rules.proofs.Proposed.{promised_proposed}
 use Rattle.node_rules.specs.Sending.{one}
 use Rattle.node_rules.specs.Turns.{Turn, joined, behind}
-use Rattle.node_rules.specs.Accepting.{told_at, told_from, told_by, refusing, promising, preparing}
-use Rattle.protocol_model.proofs.Sets.{in_later, in_first, in_split}
+use Rattle.protocol_model.specs.Votes.{told_by}
+use Rattle.node_rules.specs.Accepting.{refusing, promising, preparing}
 use Rattle.node_rules.proofs.Carrying.{one_carry, one_all}
+use Rattle.protocol_model.proofs.Votes.{tells}
 use Rattle.protocol_model.proofs.Ballots.{at_most_trans, at_most_of_below, not_below, below_if}
 use Rattle.node_rules.proofs.Ordering.{sees_up}
 use Rattle.node_rules.proofs.Keeping.{sent_pending, stored_pending, prepared_before, proposed_before}
 use Rattle.node_rules.proofs.Paths.{Hearing, Scope, dealer_in, Path, Goes}
 use Rattle.node_rules.proofs.Steps.{say, send_one}
-
--- ---- what a promise tells
-
-last_or_below : (first k slot : ℕ) → slot < first + suc k → (slot ≡ first + k) ⊎ (slot < first + k)
-last_or_below first k slot l = grind arith
-
-told_here : (store : Store) (first k slot : ℕ) (vote : Vote) → first ≤ slot → slot < first + k → store.votes slot ≡ Some vote → In (entry_of slot vote) (told_from store first k)
-unfolding told_from
-told_here store first zero slot vote low high e = absurd (omega arith)
-told_here store first (suc k) slot vote low high e = elim (last_or_below first k slot high) [
-  | inl last ↦ in_later (told_from store first k) (told_at (first + k) (store.votes (first + k))) (entry_of slot vote)
-      (subst (λ (at : ℕ). In (entry_of slot vote) (told_at at (store.votes at))) last (subst (λ (v : Option Vote). In (entry_of slot vote) (told_at slot v)) (sym e) (inl refl)))
-  | inr before ↦ in_first (told_from store first k) (told_at (first + k) (store.votes (first + k))) (entry_of slot vote) (told_here store first k slot vote low before e)
-]
-
-at_slot : (slot : ℕ) (vote : Option Vote) (store : Store) (entry : Entry) → store.votes slot ≡ vote → In entry (told_at slot vote)
-    → (entry.slot ≡ slot) × (store.votes entry.slot ≡ Some (vote_of entry))
-at_slot slot None store entry e h = absurd h
-at_slot slot (Some vote) store entry e (inl same) =
-    let at : entry.slot ≡ slot = ap (λ (x : Entry). x.slot) same in
-    (at, ap store.votes at ∙ e ∙ ap (λ (x : Entry). Some (vote_of x)) (sym same))
-at_slot slot (Some vote) store entry e (inr h) = absurd h
-
-told_only : (store : Store) (first k : ℕ) (entry : Entry) → In entry (told_from store first k)
-    → (first ≤ entry.slot) × (entry.slot < first + k) × (store.votes entry.slot ≡ Some (vote_of entry))
-unfolding told_from
-told_only store first zero entry h = absurd h
-told_only store first (suc k) entry h = elim (in_split (told_from store first k) (told_at (first + k) (store.votes (first + k))) entry h) [
-  | inl before ↦ (let t = told_only store first k entry before in (t.0, omega (arith, t.1), t.2))
-  | inr last ↦ (let t = at_slot (first + k) (store.votes (first + k)) store entry refl last in (omega (arith, t.0), omega (arith, t.0), t.1))
-]
-
--- the entries are those of the 64 slots, and no others
-pub tells : (store : Store) (first : ℕ) → Tells store first (told_by store first)
-tells store first = record {
-  all = λ slot vote covers e. told_here store first WINDOW slot vote covers.0 (let h = covers.1 in omega arith) e;
-  only = λ entry h. let t = told_only store first WINDOW entry h in ((t.0, let l = t.1 in omega arith), t.2);
-}
 
 -- ---- refusing
 

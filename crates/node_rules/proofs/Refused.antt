@@ -16,7 +16,8 @@ use Rattle.node_rules.specs.Sending.{Frame, to_others}
 use Rattle.node_rules.specs.Turns.{Turn, Refusal, Down, Spent, BadFrame, Conflict, still, sending, joined, behind, and_then}
 use Rattle.node_rules.specs.Applying.{applying}
 use Rattle.node_rules.specs.Learning.{learning, asking_on}
-use Rattle.node_rules.specs.Accepting.{refusing, stored_in, storing, voting}
+use Rattle.protocol_model.specs.Votes.{stored_in, storing}
+use Rattle.node_rules.specs.Accepting.{refusing, voting}
 use Rattle.node_rules.specs.Proposing.{greatest_seen, is_over, is_spent, beginning}
 use Rattle.node_rules.specs.Seats.{connecting, dropping}
 use Rattle.node_rules.specs.Calls.{Call, Start, Tick, Line, Connect, Drop, Stop}

@@ -27,7 +27,8 @@ use Rattle.node_rules.specs.Showing.{SeatFault, is_connected}
 use Rattle.node_rules.specs.Turns.{Turn, Refusal, Spent, Conflict, still, sending, joined, behind, and_then}
 use Rattle.node_rules.specs.Applying.{applying}
 use Rattle.node_rules.specs.Learning.{learning, asking_on, telling}
-use Rattle.node_rules.specs.Accepting.{preparing, promising, refusing, stored_in, storing, voting}
+use Rattle.protocol_model.specs.Votes.{stored_in, storing}
+use Rattle.node_rules.specs.Accepting.{preparing, promising, refusing, voting}
 use Rattle.node_rules.specs.Proposing.{greatest_seen, is_over, is_spent, beginning}
 use Rattle.node_rules.specs.Seats.{session_at, with_session, connecting, dropping, left, answering, answering_all, Drains, HearsPiece}
 use Rattle.node_rules.specs.Calls.{Call, Start, Tick, Line, Connect, Drop, Stop}

@@ -31,7 +31,7 @@ use Rattle.node_rules.specs.Sending.{Frame, to_others}
 use Rattle.node_rules.specs.Turns.{Turn, Refusal, still, sending, joined, behind, and_then}
 use Rattle.node_rules.specs.Applying.{passed, taking_all, scene_of, applying}
 use Rattle.node_rules.specs.Learning.{learning, counting_vote}
-use Rattle.node_rules.specs.Accepting.{is_of_ballot, storing}
+use Rattle.protocol_model.specs.Votes.{is_of_ballot, storing}
 use Rattle.node_rules.specs.Proposing.{own_value, proposing, closing_by, proposal_at, closing}
 use Rattle.node_rules.specs.Being.{Campaigns}
 use Rattle.node_rules.specs.Proposed.{IsSettled}

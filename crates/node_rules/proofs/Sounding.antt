@@ -21,7 +21,8 @@ use Rattle.node_rules.specs.Sending.{Frame, to_others}
 use Rattle.node_rules.specs.Showing.{Piece}
 use Rattle.node_rules.specs.Turns.{Turn, Refusal, Down, Spent, BadFrame, Conflict, still, sending, behind}
 use Rattle.node_rules.specs.Learning.{learning, counting_vote}
-use Rattle.node_rules.specs.Accepting.{stored_in, storing, voting}
+use Rattle.protocol_model.specs.Votes.{stored_in, storing}
+use Rattle.node_rules.specs.Accepting.{voting}
 use Rattle.node_rules.specs.Proposing.{proposing, closing_by, proposal_at, closing}
 use Rattle.node_rules.specs.Seats.{connecting, dropping}
 use Rattle.node_rules.specs.Calls.{Call, Start, Tick, Line, Connect, Drop, Stop}

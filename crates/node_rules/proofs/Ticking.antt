@@ -21,7 +21,7 @@ use Rattle.node_rules.specs.Standings.{applied, front_of}
 use Rattle.node_rules.specs.Sending.{Frame, to_others}
 use Rattle.node_rules.specs.Showing.{Piece}
 use Rattle.node_rules.specs.Turns.{Turn, Spent, still, joined, behind}
-use Rattle.node_rules.specs.Accepting.{told_by}
+use Rattle.protocol_model.specs.Votes.{told_by}
 use Rattle.node_rules.specs.Proposing.{higher, greatest_seen, is_over, is_spent, prepared, beginning, ticking, own_value}
 use Rattle.node_rules.proofs.Proposed.{promised_proposed}
 use Rattle.node_rules.specs.Seen.{ballots_in, IsTold, Sees}
@@ -33,7 +33,8 @@ use Rattle.node_rules.proofs.Ordering.{higher_is, sees_own, sees_up}
 use Rattle.node_rules.proofs.Keeping.{with_got, got_learner, got_pending, sent_pending, stored_pending}
 use Rattle.node_rules.proofs.Paths.{Hearing, Scope, dealer_in, Path, Goes}
 use Rattle.node_rules.proofs.Steps.{go_on}
-use Rattle.node_rules.proofs.Promising.{tells, within_up}
+use Rattle.protocol_model.proofs.Votes.{tells}
+use Rattle.node_rules.proofs.Promising.{within_up}
 
 -- ---- the ballot
 

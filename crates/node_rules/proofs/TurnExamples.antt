@@ -25,7 +25,7 @@ use Rattle.node_rules.specs.Calls as call
 use Rattle.node_rules.specs.Seen.{ballots_in}
 use Rattle.node_rules.specs.Sending.{Frame, one}
 use Rattle.node_rules.specs.Turns.{Turn, Refusal, Down, BadFrame, still}
-use Rattle.node_rules.specs.Accepting.{told_by, stored_in}
+use Rattle.protocol_model.specs.Votes.{told_by, stored_in}
 use Rattle.node_rules.specs.Being.{IsTalk}
 use Rattle.node_rules.specs.LawsRefused.{RefusesUp}
 use Rattle.match_log.proofs.Examples.{two_players}

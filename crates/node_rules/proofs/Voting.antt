@@ -17,7 +17,8 @@ use Rattle.paxos_wire.specs.Order.{is_below, is_same_ballot}
 use Rattle.node_rules.specs.Standings.{Place, Standing, applied, front_of, with_stored, idle}
 use Rattle.node_rules.specs.Sending.{to_others}
 use Rattle.node_rules.specs.Turns.{Turn, sending, joined, behind}
-use Rattle.node_rules.specs.Accepting.{is_of_ballot, stored_in, refusing, voting, accepting}
+use Rattle.protocol_model.specs.Votes.{is_of_ballot, stored_in}
+use Rattle.node_rules.specs.Accepting.{refusing, voting, accepting}
 use Rattle.node_rules.specs.Learning.{counting_vote}
 use Rattle.node_rules.specs.Being.{IsProposer}
 use Rattle.node_rules.proofs.Carrying.{others_carry, others_all}

@@ -11,7 +11,7 @@ use Rattle.protocol_model.specs.Ballots.{Below, AtMost}
 use Rattle.protocol_model.specs.Messages.{Vote}
 use Rattle.proposer.specs.Campaigns.{next_ballot}
 use Rattle.node_rules.specs.Standings.{Place, Standing, front_of}
-use Rattle.node_rules.specs.Accepting.{told_by}
+use Rattle.protocol_model.specs.Votes.{told_by}
 use Rattle.node_rules.specs.Proposing.{greatest_seen, is_over, own_value}
 
 -- ---- the members of a quorum

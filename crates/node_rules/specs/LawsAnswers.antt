@@ -22,7 +22,7 @@ use Rattle.node_rules.specs.Standings.{Place, Standing, front_of, hands_at}
 use Rattle.node_rules.specs.Sending.{Frame, one, to_others}
 use Rattle.node_rules.specs.Turns.{Turn}
 use Rattle.node_rules.specs.Learning.{comes_to_window, next_window}
-use Rattle.node_rules.specs.Accepting.{stored_in}
+use Rattle.protocol_model.specs.Votes.{stored_in}
 use Rattle.node_rules.specs.Seats.{is_others, Drains}
 use Rattle.node_rules.specs.Calls.{Call, Start, Tick, Line, Connect, Drop, Stop}
 use Rattle.node_rules.specs.Calls as call

@@ -18,7 +18,8 @@ use Rattle.dealer_kind.specs.Kind.{fits}
 use Rattle.node_rules.specs.Standings.{Place, Standing, applied, front_of, hands_at, with_stored, idle}
 use Rattle.node_rules.specs.Sending.{to_others}
 use Rattle.node_rules.specs.Turns.{Turn, Refusal, Spent, still, sending, and_then}
-use Rattle.node_rules.specs.Accepting.{told_by, voting}
+use Rattle.protocol_model.specs.Votes.{told_by}
+use Rattle.node_rules.specs.Accepting.{voting}
 
 -- ---- ballots
 

@@ -4,6 +4,7 @@ pub mod Quorums
 mod Facts
 mod Choice
 mod Stores
+pub mod Votes
 mod Sending
 mod Moving
 mod Runs

@@ -1,5 +1,5 @@
--- Lists as sets, and maps.
-use Rattle.std.proofs.Common.{◌≡◌, ◌≢◌, ℕ, zero, suc, ◌⊎◌, inl, inr, ◌==◌, Bool, cond, true, false, eqb-true, get_or, replicate, List, [], ◌∷◌, ◌++◌, refl, ap, eq-eqb, ne_eqb}
+-- Lists as sets, maps, and what is below a number.
+use Rattle.std.proofs.Common.{◌≡◌, ◌≢◌, ℕ, zero, suc, ◌<◌, ◌⊎◌, inl, inr, ◌==◌, Bool, cond, true, false, eqb-true, get_or, replicate, List, [], ◌∷◌, ◌++◌, refl, ap, arith, eq-eqb, ne_eqb}
 use Rattle.protocol_model.specs.Sets.{In, put}
 
 -- all that stands in the first stands in the second
@@ -19,6 +19,10 @@ pub in_split : {A : Type 0} (xs ys : List A) (x : A) → In x (xs ++ ys) → In 
 in_split [] ys x h = inr h
 in_split (z ∷ xs) ys x (inl e) = inl (inl e)
 in_split (z ∷ xs) ys x (inr h) = elim (in_split xs ys x h) [ inl l ↦ inl (inr l) | inr r ↦ inr r ]
+
+-- what is below the next number is this number, or below it
+pub last_or_below : (k n : ℕ) → n < suc k → (n ≡ k) ⊎ (n < k)
+last_or_below k n less = grind arith
 
 -- where all are the same one thing, it is got at every place, beyond them too
 pub all_same : {A : Type 0} (x : A) (k place : ℕ) → get_or (replicate k x) place x ≡ x

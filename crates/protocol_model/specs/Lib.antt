@@ -4,6 +4,7 @@ pub mod Messages
 pub mod Frames
 pub mod Quorums
 pub mod Stores
+pub mod Votes
 pub mod Backing
 pub mod Dealers
 pub mod Nodes

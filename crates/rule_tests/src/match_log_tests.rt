@@ -5,7 +5,7 @@ use card_core::Deal;
 use game_def::GameDef;
 use match_log::{
     LogFault, LogFaultKind, Name, SeatNames, check, further_lines, header, is_game_word,
-    score_line, state_line,
+    put_fronted, score_line, state_line,
 };
 use matchstate::{read_betting, read_deal};
 use slot_log::{Command, Table};
@@ -306,4 +306,16 @@ fn the_first_line_at_fault_is_told(rt: HostRuntime) {
         )
     );
     assert!(rt; is_wrong(&rt, b"", 1, LogFaultKind::WrongScore));
+}
+
+#[test]
+fn a_log_is_printed_among_other_lines(rt: HostRuntime) -> Result<(), Fail> {
+    let mut printed = Vec::new(rt.alloc());
+    put_fronted(&mut printed, b"1 L ", b"# name/game/hands m l2.game 1\n")?;
+    put_fronted(&mut printed, b"2 L ", b"STATE:0\nSCORE:1|-1:a|b\n")?;
+    assert!(rt;
+        printed.as_slice()
+            == b"1 L # name/game/hands m l2.game 1\n2 L STATE:0\n2 L SCORE:1|-1:a|b\n".as_slice()
+    );
+    Ok(())
 }

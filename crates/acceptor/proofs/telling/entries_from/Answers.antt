@@ -1,9 +1,9 @@
-use Rattle.std.proofs.Common.{ℕ, ◌≡◌, ◌+◌, ◌∙◌, Ok, ap, subst, arith}
+use Rattle.std.proofs.Common.{ℕ, ◌≡◌, ◌+◌, ◌∙◌, Ok, ap, subst, arith, rules}
 use Rattle.std.proofs.lemmas.Result.{err_from_is_err_and}
 use Rattle.paxos_wire.specs.Fits.{Rise}
 use Rattle.promise_store.specs.Keeping.{is_closed}
 use Rattle.promise_store.specs.Shown.{vote_pair}
-use Rattle.acceptor.specs.Answers.{told_from, told_of}
+use Rattle.protocol_model.specs.Votes.{told_from, told_by}
 use Rattle.acceptor.specs.Taken.{Read}
 use Rattle.acceptor.proofs.Exits.{read_on, read_failed}
 use Rattle.acceptor.proofs.Stored.{told_more}
@@ -13,9 +13,13 @@ use Rattle.acceptor.proofs.telling.entries_from.Goals as goal
 pub returns-in_err-found-clause-read : goal.returns-in_err-found-clause-read
 returns-in_err-found-clause-read g c =
     let p = err_from_is_err_and c.from_residual.result c.from_residual.ensures.1 in
-    rw (p.1, p.2) (read_failed g.D.Disk (λ held. told_from held c.args.first c.loop-place.place) (λ held. vote_pair (held.votes (c.args.first + c.loop-place.place))) (λ held. told_of held c.args.first)
+    rw (p.1, p.2) (read_failed g.D.Disk (λ held. told_from held c.args.first c.loop-place.place) (λ held. vote_pair (held.votes (c.args.first + c.loop-place.place))) (λ held. told_by held c.args.first)
     c.args.store.now c.loop-place.store c.vote_at.new.store c.loop-place.entries c.in_err-found.field-0.0 c.loop-place.invariant.read c.in_err-found.ensures.read
     (λ closed. c.loop-place.invariant.begin (c.loop-place.invariant.opened closed)))
+
+pub loop-place-init : goal.loop-place-init
+unfolding told_from
+loop-place-init g c = search rules
 
 pub loop-place-preserved : goal.loop-place-preserved
 loop-place-preserved g c = let fit = more_fit c.args.first c.loop-place.place c.loop-place.entries c.tell.new.entries c.in_ok-found.found c.tell.ensures.entries c.loop-place.invariant.each c.loop-place.invariant.rise c.in_ok-found.ensures.range in record {

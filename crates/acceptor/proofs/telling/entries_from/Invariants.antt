@@ -2,7 +2,7 @@ use Rattle.std.proofs.Common.{◌≡◌, ◌+◌, ◌≤◌, true, Ok, length}
 use Rattle.std.specs.List.{AllByRecursion}
 use Rattle.paxos_wire.specs.Fits.{IsEntry, Rise}
 use Rattle.promise_store.specs.Keeping.{is_closed}
-use Rattle.acceptor.specs.Answers.{told_from}
+use Rattle.protocol_model.specs.Votes.{told_from}
 use Rattle.acceptor.specs.Taken.{Read}
 use Rattle.acceptor.proofs.telling.entries_from.Given as goal
 

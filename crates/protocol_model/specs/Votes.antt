@@ -1,0 +1,42 @@
+-- What a store tells of its votes, and what a vote makes of it.
+use Rattle.std.specs.Prelude.{ℕ, zero, suc, ◌+◌, Bool, false, if◌then◌else◌, List, [], ◌∷◌, ◌++◌, Option, Some, None}
+use Rattle.paxos_wire.specs.declared.limits.TheConstants.{WINDOW}
+use Rattle.paxos_wire.specs.declared.ballot.Ballot.{Ballot}
+use Rattle.paxos_wire.specs.declared.entry.Entry.{Entry}
+use Rattle.paxos_wire.specs.Order.{is_same_ballot}
+use Rattle.slot_log.specs.declared.command.Command.{Command}
+use Rattle.protocol_model.specs.Messages.{Vote, entry_of}
+use Rattle.protocol_model.specs.Stores.{Store, voted}
+
+-- ---- what a promise tells
+
+-- the entry of a slot where there is a vote
+abbrev pub told_at : ℕ → Option Vote → List Entry
+told_at slot None = []
+told_at slot (Some vote) = entry_of slot vote ∷ []
+
+-- the votes at so many slots from the first on, by rising slots
+unfoldable pub told_from : Store → ℕ → ℕ → List Entry
+told_from store first zero = []
+told_from store first (suc places) = told_from store first places ++ told_at (first + places) (store.votes (first + places))
+
+-- what a promise that covers the 64 slots from this one on tells
+abbrev pub told_by : Store → ℕ → List Entry
+told_by store first = told_from store first WINDOW
+
+-- ---- a vote
+
+-- the vote is of this ballot
+abbrev pub is_of_ballot : Option Vote → Ballot → Bool
+is_of_ballot None ballot = false
+is_of_ballot (Some vote) ballot = is_same_ballot vote.ballot ballot
+
+-- the command that the ballot has at the slot: what was stored in it stays
+abbrev pub stored_in : Option Vote → Ballot → Command → Command
+stored_in None ballot command = command
+stored_in (Some vote) ballot command = if is_same_ballot vote.ballot ballot then vote.command else command
+
+-- the store with a vote, unless it has one of the ballot there
+abbrev pub storing : Store → Ballot → ℕ → Command → Store
+storing store ballot slot command =
+    if is_of_ballot (store.votes slot) ballot then store else voted store slot (record { ballot = ballot; command = command })
