@@ -1,3 +1,4 @@
+use Rattle.std.proofs.lemmas.Grind.{common_steps}
 use Rattle.std.proofs.Common.{take, drop, sym, subst, arith, List, ℕ}
 use Rattle.std.proofs.lemmas.List.{take-append-drop}
 use Rattle.std.specs.Io.KnownBytes.{Appends}
@@ -23,3 +24,9 @@ loop-preserved g c =
 pub returns-clause-err : goal.returns-clause-err
 returns-clause-err g c =
     (take c.loop.sent c.args.bytes.now, drop c.loop.sent c.args.bytes.now, sym (take-append-drop c.loop.sent c.args.bytes.now), c.loop.invariant.1)
+
+pub returns-then-sent-bytes-clause-ok : goal.returns-then-sent-bytes-clause-ok
+returns-then-sent-bytes-clause-ok g c = grind (arith, common_steps)
+
+pub returns-then-sent-bytes-clause-err : goal.returns-then-sent-bytes-clause-err
+returns-then-sent-bytes-clause-err g c = grind (arith, common_steps)
