@@ -1,15 +1,15 @@
 ghost use Rattle.std.specs.Prelude.{◌≤◌};
+ghost use Rattle.paxos_wire.specs.Fits.{IsBallot, IsInRange, IsSlot};
 
+use crate::journal::{self, FIRST};
 use acceptor::{AcceptAnswer, Acceptor, PrepareAnswer};
 use betting::Action;
 use paxos_wire::{Ballot, Entries, Entry};
-use promise_store::{Disk, MemoryDisk, OnceDisk, Store, StoreFault};
+use promise_store::{Disk, MemoryDisk, OnceDisk, StoreFault};
 use slot_log::Command;
 use std::alloc::Global;
 use std::process::Abort;
 use std::test::Fail;
-
-const FIRST: Ballot = Ballot { round: 1, node: 0 };
 
 const SECOND: Ballot = Ballot { round: 1, node: 1 };
 
@@ -31,18 +31,60 @@ const FOLD: Command = Command::Act {
 
 /// The acceptor of node 0 of 3 with a new store.
 fn created<D: Disk>(rt: &impl Abort, alloc: Global, disk: D) -> Acceptor<D> {
-    match Store::create(alloc, disk, 0, 3) {
-        Ok(store) => Acceptor::new(store),
-        Err(_) => panic!(rt; "create"),
-    }
+    Acceptor::new(journal::created(rt, alloc, disk))
 }
 
 /// The same with the store that the disk has.
 fn opened<D: Disk>(rt: &impl Abort, alloc: Global, disk: D) -> Acceptor<D> {
-    match Store::open(alloc, disk, 0, 3) {
-        Ok(store) => Acceptor::new(store),
-        Err(_) => panic!(rt; "open"),
-    }
+    Acceptor::new(journal::opened(rt, alloc, disk))
+}
+
+// Each call of an acceptor stands in one function here: what a contract says is read anew wherever its call stands.
+
+/// What is answered to a Prepare.
+fn prepare<D: Disk>(
+    acceptor: &mut Acceptor<D>,
+    ballot: Ballot,
+    slot: u32,
+) -> Result<PrepareAnswer, StoreFault>
+    requires ballot { IsBallot ballot }
+    requires slot { IsSlot slot }
+{
+    acceptor.on_prepare(ballot, slot)
+}
+
+/// What is answered to an Accept.
+fn accept<D: Disk>(
+    acceptor: &mut Acceptor<D>,
+    ballot: Ballot,
+    slot: u32,
+    command: Command,
+) -> Result<AcceptAnswer, StoreFault>
+    requires ballot { IsBallot ballot }
+    requires slot { IsSlot slot }
+    requires command { IsInRange command }
+{
+    acceptor.on_accept(ballot, slot, command)
+}
+
+/// What is answered to an Accept where room was made for it.
+fn accept_with_room<D: Disk>(
+    acceptor: &mut Acceptor<D>,
+    ballot: Ballot,
+    slot: u32,
+    command: Command,
+) -> Result<AcceptAnswer, Fail>
+    requires ballot { IsBallot ballot }
+    requires slot { IsSlot slot }
+    requires command { IsInRange command }
+{
+    acceptor.reserve(1)?;
+    Ok(acceptor.on_accept_reserved(ballot, slot, command)?)
+}
+
+/// The ballot that the acceptor has promised.
+fn promised<D: Disk>(acceptor: &Acceptor<D>) -> Ballot {
+    acceptor.store().held().promised()
 }
 
 /// Two slots are accepted in one ballot, and told to the next.
@@ -56,20 +98,19 @@ fn what_was_accepted_is_told(rt: HostRuntime) -> Result<(), Fail> {
         slot: 0,
         entries,
     };
-    assert_eq!(rt; acceptor.on_prepare(FIRST, 0), Ok(promise));
+    assert_eq!(rt; prepare(&mut acceptor, FIRST, 0), Ok(promise));
     let accepted = AcceptAnswer::Accepted {
         ballot: FIRST,
         slot: 63,
         command: CALL,
     };
-    assert_eq!(rt; acceptor.on_accept(FIRST, 63, CALL), Ok(accepted));
-    acceptor.reserve(1)?;
+    assert_eq!(rt; accept(&mut acceptor, FIRST, 63, CALL), Ok(accepted));
     let accepted = AcceptAnswer::Accepted {
         ballot: FIRST,
         slot: 7,
         command: FOLD,
     };
-    assert_eq!(rt; acceptor.on_accept_reserved(FIRST, 7, FOLD), Ok(accepted));
+    assert_eq!(rt; accept_with_room(&mut acceptor, FIRST, 7, FOLD)?, accepted);
     entries.push(Entry {
         slot: 7,
         ballot: FIRST,
@@ -86,8 +127,8 @@ fn what_was_accepted_is_told(rt: HostRuntime) -> Result<(), Fail> {
         entries,
     };
     let mut acceptor = opened(&rt, alloc, acceptor.close());
-    assert_eq!(rt; acceptor.on_prepare(SECOND, 0), Ok(promise));
-    assert_eq!(rt; acceptor.store().held().promised(), SECOND);
+    assert_eq!(rt; prepare(&mut acceptor, SECOND, 0), Ok(promise));
+    assert_eq!(rt; promised(&acceptor), SECOND);
     Ok(())
 }
 
@@ -101,13 +142,25 @@ fn a_ballot_accepts_once_at_a_slot(rt: HostRuntime) -> Result<(), Fail> {
         slot: 7,
         command: CALL,
     };
-    assert_eq!(rt; acceptor.on_accept(FIRST, 7, CALL), Ok(accepted));
+    assert_eq!(rt; accept(&mut acceptor, FIRST, 7, CALL), Ok(accepted));
     let disk = acceptor.close();
     let written = disk.bytes().to_vec(alloc)?;
     let mut acceptor = opened(&rt, alloc, disk);
-    assert_eq!(rt; acceptor.on_accept(FIRST, 7, FOLD), Ok(accepted));
+    assert_eq!(rt; accept(&mut acceptor, FIRST, 7, FOLD), Ok(accepted));
     assert_eq!(rt; acceptor.close().bytes(), written.as_slice());
     Ok(())
+}
+
+/// A Prepare is refused where the second ballot was promised.
+fn refuses<D: Disk>(rt: &impl Abort, acceptor: &mut Acceptor<D>, ballot: Ballot)
+    requires { IsBallot ballot }
+{
+    let refused = PrepareAnswer::Refuse {
+        ballot,
+        slot: 9,
+        promised: SECOND,
+    };
+    assert_eq!(rt; prepare(acceptor, ballot, 9), Ok(refused));
 }
 
 /// Below what was promised nothing is accepted, and no ballot is promised that isn't above it.
@@ -115,30 +168,23 @@ fn a_ballot_accepts_once_at_a_slot(rt: HostRuntime) -> Result<(), Fail> {
 fn what_was_promised_is_told_by_refusals(rt: HostRuntime) -> Result<(), Fail> {
     let alloc = rt.alloc();
     let mut acceptor = created(&rt, alloc, MemoryDisk::new(alloc, &[])?);
-    assert!(rt; acceptor.on_prepare(SECOND, 0).is_ok());
-    for ballot in [FIRST, SECOND] {
-        let refused = PrepareAnswer::Refuse {
-            ballot,
-            slot: 9,
-            promised: SECOND,
-        };
-        assert_eq!(rt; acceptor.on_prepare(ballot, 9), Ok(refused));
-    }
+    assert!(rt; prepare(&mut acceptor, SECOND, 0).is_ok());
+    refuses(&rt, &mut acceptor, FIRST);
+    refuses(&rt, &mut acceptor, SECOND);
     let refused = AcceptAnswer::Refuse {
         ballot: FIRST,
         slot: 9,
         promised: SECOND,
     };
-    assert_eq!(rt; acceptor.on_accept(FIRST, 9, CALL), Ok(refused));
-    acceptor.reserve(1)?;
-    assert_eq!(rt; acceptor.on_accept_reserved(FIRST, 9, CALL), Ok(refused));
+    assert_eq!(rt; accept(&mut acceptor, FIRST, 9, CALL), Ok(refused));
+    assert_eq!(rt; accept_with_room(&mut acceptor, FIRST, 9, CALL)?, refused);
     let accepted = AcceptAnswer::Accepted {
         ballot: THIRD,
         slot: 9,
         command: CALL,
     };
-    assert_eq!(rt; acceptor.on_accept(THIRD, 9, CALL), Ok(accepted));
-    assert_eq!(rt; acceptor.store().held().promised(), THIRD);
+    assert_eq!(rt; accept(&mut acceptor, THIRD, 9, CALL), Ok(accepted));
+    assert_eq!(rt; promised(&acceptor), THIRD);
     Ok(())
 }
 
@@ -152,13 +198,16 @@ fn a_slot_wants_memory(rt: HostRuntime) -> Result<(), Fail> {
         slot: 9,
         command: CALL,
     };
-    let mut answer = acceptor.on_accept(FIRST, 9, CALL);
+    let mut answer = accept(&mut acceptor, FIRST, 9, CALL);
     if answer == Err(StoreFault::OutOfMemory) {
         assert!(rt; acceptor.store().held().find(9).is_none());
-        answer = acceptor.on_accept(FIRST, 9, CALL);
+        answer = accept(&mut acceptor, FIRST, 9, CALL);
     }
     if answer == Err(StoreFault::Disk) {
-        assert_eq!(rt; acceptor.on_accept(FIRST, 9, CALL), Err(StoreFault::Closed));
+        assert_eq!(rt;
+            accept(&mut acceptor, FIRST, 9, CALL),
+            Err(StoreFault::Closed)
+        );
         return Ok(());
     }
     assert_eq!(rt; answer, Ok(accepted));
@@ -176,17 +225,18 @@ fn left_of_a_prepare(
     requires { calls ≤ 4 }
 {
     let mut acceptor = created(rt, alloc, MemoryDisk::new(alloc, &[2 + calls])?);
-    let promised = match acceptor.on_prepare(THIRD, 0) {
+    let promised = match prepare(&mut acceptor, THIRD, 0) {
         Ok(answer) => matches!(answer, PrepareAnswer::Promise { .. }),
         Err(fault) => {
             assert_eq!(rt; fault, StoreFault::Disk);
-            assert_eq!(rt; acceptor.on_prepare(THIRD, 0), Err(StoreFault::Closed));
+            assert_eq!(rt; prepare(&mut acceptor, THIRD, 0), Err(StoreFault::Closed));
             false
         }
     };
     let mut disk = acceptor.close();
     disk.stop(pick);
-    match opened(rt, alloc, disk).on_accept(FIRST, 0, CALL)? {
+    let mut acceptor = opened(rt, alloc, disk);
+    match accept(&mut acceptor, FIRST, 0, CALL)? {
         AcceptAnswer::Accepted { .. } => Ok((promised, true)),
         AcceptAnswer::Refuse { promised: told, .. } => {
             assert_eq!(rt; told, THIRD);
@@ -224,9 +274,9 @@ fn opened_again(
     alloc: Global,
     mut acceptor: Acceptor<OnceDisk>,
 ) -> Acceptor<OnceDisk> {
-    assert_eq!(rt; acceptor.on_prepare(FOURTH, 0), Err(StoreFault::Closed));
+    assert_eq!(rt; prepare(&mut acceptor, FOURTH, 0), Err(StoreFault::Closed));
     assert_eq!(rt;
-        acceptor.on_accept(FOURTH, 0, CALL),
+        accept(&mut acceptor, FOURTH, 0, CALL),
         Err(StoreFault::Closed)
     );
     let mut disk = acceptor.close();
@@ -240,22 +290,22 @@ fn each_call_fails_once(rt: HostRuntime) -> Result<(), Fail> {
     let alloc = rt.alloc();
     let mut faults = 0u32;
     for call in 0..11u64 {
-        let mut acceptor = match Store::create(alloc, OnceDisk::new(alloc, call), 0, 3) {
+        let mut acceptor = match journal::create(alloc, OnceDisk::new(alloc, call)) {
             Ok(store) => Acceptor::new(store),
             Err((disk, _)) => {
                 faults = faults.saturating_add(1);
                 created(&rt, alloc, disk)
             }
         };
-        if let Err(fault) = acceptor.on_prepare(THIRD, 0) {
+        if let Err(fault) = prepare(&mut acceptor, THIRD, 0) {
             assert_eq!(rt; fault, StoreFault::Disk);
             faults = faults.saturating_add(1);
             acceptor = opened_again(&rt, alloc, acceptor);
-            if let PrepareAnswer::Refuse { promised, .. } = acceptor.on_prepare(THIRD, 0)? {
+            if let PrepareAnswer::Refuse { promised, .. } = prepare(&mut acceptor, THIRD, 0)? {
                 assert_eq!(rt; promised, THIRD);
             }
         }
-        if let Err(fault) = acceptor.on_accept(THIRD, 0, CALL) {
+        if let Err(fault) = accept(&mut acceptor, THIRD, 0, CALL) {
             assert_eq!(rt; fault, StoreFault::Disk);
             faults = faults.saturating_add(1);
             let refused = PrepareAnswer::Refuse {
@@ -263,17 +313,17 @@ fn each_call_fails_once(rt: HostRuntime) -> Result<(), Fail> {
                 slot: 0,
                 promised: THIRD,
             };
-            assert_eq!(rt; acceptor.on_prepare(FIRST, 0), Ok(refused));
+            assert_eq!(rt; prepare(&mut acceptor, FIRST, 0), Ok(refused));
             acceptor = opened_again(&rt, alloc, acceptor);
-            assert!(rt; acceptor.on_accept(THIRD, 0, CALL).is_ok());
+            assert!(rt; accept(&mut acceptor, THIRD, 0, CALL).is_ok());
         }
-        assert_eq!(rt; acceptor.store().held().promised(), THIRD);
+        assert_eq!(rt; promised(&acceptor), THIRD);
         let accepted = AcceptAnswer::Accepted {
             ballot: THIRD,
             slot: 0,
             command: CALL,
         };
-        assert_eq!(rt; acceptor.on_accept(THIRD, 0, FOLD), Ok(accepted));
+        assert_eq!(rt; accept(&mut acceptor, THIRD, 0, FOLD), Ok(accepted));
     }
     assert_eq!(rt; faults, 10);
     Ok(())

@@ -1,108 +1,12 @@
-ghost use Rattle.paxos_wire.specs.Fits.{IsInRange};
-
-use paxos_wire::{Ballot, read_command};
-use promise_store::*;
-use slot_log::Command;
+use crate::journal::{
+    FIRST, JOURNAL, accept, answer, create, created, deal, disk_with, entry, has_both, next, open,
+    opened, promise,
+};
+use paxos_wire::Ballot;
+use promise_store::{Call, Disk, MemoryDisk, OnceDisk, Store, StoreFault};
 use std::alloc::Global;
-use std::fs;
-use std::fs::File;
 use std::process::Abort;
 use std::test::Fail;
-
-const FIRST: Ballot = Ballot { round: 1, node: 0 };
-
-/// `TdAs|8hTc/2c8c3h/9c/Kh` of hand 0.
-const DEAL: [u8; 15] = [
-    0x01, 0, 0, 0, 0, 0x09, 0x21, 0x33, 0x1a, 0x20, 0x00, 0x18, 0x06, 0x1c, 0x2e,
-];
-
-/// Node 0 of 3 after a promise of (1, 0) and an accept of the deal in it at slot 0.
-const JOURNAL: [u8; 46] = [
-    0x48, 0x44, 0x4a, 0x31, 0, 3, 0, 0, 1, 0, 6, 1, 0, 0, 0, 1, 0, 1, 0, 25, 2, 0, 0, 0, 1, 0, 0,
-    0, 0, 0, 0x01, 0, 0, 0, 0, 0x09, 0x21, 0x33, 0x1a, 0x20, 0x00, 0x18, 0x06, 0x1c, 0x2e, 0,
-];
-
-fn deal(rt: &impl Abort) -> Command
-    ensures { IsInRange result }
-{
-    match read_command(&DEAL) {
-        Some((command, _)) => command,
-        None => panic!(rt; "a deal"),
-    }
-}
-
-/// A disk in memory with these bytes.
-fn disk_with(alloc: Global, bytes: &[u8], fuses: &[u64]) -> Result<MemoryDisk, Fail> {
-    let mut disk = MemoryDisk::new(alloc, fuses)?;
-    disk.write_at(0, bytes)?;
-    Ok(disk)
-}
-
-// Each call of a store stands in one function here: what a contract says is read anew wherever its call stands.
-
-/// A new store of node 0 of 3 on the disk; or why there is none, and the disk.
-fn create<D: Disk>(alloc: Global, disk: D) -> Result<Store<D>, (D, StoreFault)> {
-    Store::create(alloc, disk, 0, 3)
-}
-
-/// The store of node 0 of 3 that the disk has; or why there is none, and the disk.
-fn open<D: Disk>(alloc: Global, disk: D) -> Result<Store<D>, (D, StoreFault)> {
-    Store::open(alloc, disk, 0, 3)
-}
-
-/// A new store on a disk that doesn't fail.
-fn created<D: Disk>(rt: &impl Abort, alloc: Global, disk: D) -> Store<D> {
-    match create(alloc, disk) {
-        Ok(store) => store,
-        Err(_) => panic!(rt; "create"),
-    }
-}
-
-/// The store of a disk that doesn't fail.
-fn opened<D: Disk>(rt: &impl Abort, alloc: Global, disk: D) -> Store<D> {
-    match open(alloc, disk) {
-        Ok(store) => store,
-        Err(_) => panic!(rt; "open"),
-    }
-}
-
-/// Stores the promise of the first ballot.
-fn promise<D: Disk>(store: &mut Store<D>) -> Result<(), StoreFault> {
-    store.promise(FIRST)
-}
-
-/// Stores that the deal was accepted in the first ballot at slot 0.
-fn accept<D: Disk>(rt: &impl Abort, store: &mut Store<D>) -> Result<(), StoreFault> {
-    store.accept(FIRST, 0, &deal(rt))
-}
-
-/// What was accepted at a slot.
-fn entry<D: Disk>(
-    store: &mut Store<D>,
-    slot: u32,
-) -> Result<Option<(Ballot, Command)>, StoreFault> {
-    store.entry(slot)
-}
-
-/// Whether the store has promised the first ballot, and has the deal accepted in it at slot 0.
-fn has_both<D: Disk>(rt: &impl Abort, store: &mut Store<D>) -> Result<bool, Fail> {
-    let found = entry(store, 0)?;
-    Ok(store.held().promised() == FIRST && found == Some((FIRST, deal(rt))))
-}
-
-/// What opening a file as node 0 of 3 answers: the fault's number, or 0.
-fn answer(alloc: Global, bytes: &[u8]) -> Result<u8, Fail> {
-    match open(alloc, disk_with(alloc, bytes, &[])?) {
-        Ok(_) => Ok(0),
-        Err((_, fault)) => Ok(fault.code()),
-    }
-}
-
-/// A next number of the generator of Lehmer (multiplier 48271 modulo 2^31 - 1).
-fn next(seed: &mut u64) -> u64 {
-    *seed = *seed % 2_147_483_647 * 48_271 % 2_147_483_647;
-    *seed
-}
 
 #[test]
 fn journal_byte_by_byte(rt: HostRuntime) -> Result<(), Fail> {
@@ -229,47 +133,6 @@ fn stops_before_the_last_sync(rt: HostRuntime) -> Result<(), Fail> {
             assert!(rt; has_both(&rt, &mut store)?);
         }
     }
-    Ok(())
-}
-
-/// Two calls pass, after a stop one, and after another stop all.
-#[test]
-fn each_stop_takes_the_next_fuse(rt: HostRuntime) -> Result<(), Fail> {
-    let mut disk = MemoryDisk::new(rt.alloc(), &[2, 1])?;
-    for passing in [2u32, 1] {
-        for _ in 0..passing {
-            assert_eq!(rt; disk.len(), Ok(0));
-        }
-        for _ in 0..3u32 {
-            assert_eq!(rt; disk.len(), Err(DiskFault));
-            assert_eq!(rt; disk.sync(), Err(DiskFault));
-        }
-        disk.stop(0);
-    }
-    for _ in 0..9u32 {
-        assert_eq!(rt; disk.len(), Ok(0));
-    }
-    assert_eq!(rt; disk.failures(), 12);
-    Ok(())
-}
-
-/// A growth that no memory can serve is a failure of the disk in memory, which goes on afterwards.
-#[test]
-fn a_refused_growth_is_a_failure(rt: HostRuntime) -> Result<(), Fail> {
-    let alloc = rt.alloc();
-    let mut store = created(&rt, alloc, MemoryDisk::new(alloc, &[])?);
-    promise(&mut store)?;
-    let mut disk = store.close();
-    let before = disk.bytes().to_vec(alloc)?;
-    assert_eq!(rt; disk.write_at(usize::MAX / 2 + 1, &[1]), Err(DiskFault));
-    assert_eq!(rt; disk.failures(), 1);
-    assert_eq!(rt; disk.bytes(), before.as_slice());
-    let mut store = opened(&rt, alloc, disk);
-    assert!(rt; !store.is_closed());
-    accept(&rt, &mut store)?;
-    let disk = store.close();
-    assert_eq!(rt; disk.bytes(), JOURNAL.as_slice());
-    assert_eq!(rt; disk.failures(), 1);
     Ok(())
 }
 
@@ -430,88 +293,6 @@ fn each_call_fails_once(rt: HostRuntime) -> Result<(), Fail> {
         }
     }
     assert_eq!(rt; faults, 12);
-    Ok(())
-}
-
-#[test]
-fn a_file_is_opened_cut_short_at_each_byte(rt: HostRuntime) -> Result<(), Fail> {
-    let alloc = rt.alloc();
-    let path = "cut.journal";
-    let file = File::options()
-        .read(true)
-        .write(true)
-        .create(true)
-        .truncate(true)
-        .open(&rt, path)?;
-    let mut store = created(&rt, alloc, FileDisk::new(file));
-    promise(&mut store)?;
-    accept(&rt, &mut store)?;
-    let mut store = opened(&rt, alloc, store.close());
-    assert!(rt; has_both(&rt, &mut store)?);
-    assert_eq!(rt; fs::read(&rt, path)?.as_slice(), JOURNAL.as_slice());
-    for cut in 0..46u64 {
-        let len = 45 - cut;
-        let file = File::options().read(true).write(true).open(&rt, path)?;
-        file.set_len(len)?;
-        let code = match open(alloc, FileDisk::new(file)) {
-            Ok(_) => 0,
-            Err((_, fault)) => fault.code(),
-        };
-        let expected = match len {
-            0 => 60,
-            1..=8 => 61,
-            _ => 62,
-        };
-        assert_eq!(rt; code, expected, "{len} bytes");
-    }
-    fs::remove_file(&rt, path)?;
-    Ok(())
-}
-
-/// No contract says what a file does: the same calls on a file and in memory answer the same and leave the same bytes.
-#[test]
-fn a_file_answers_as_memory_does(rt: HostRuntime) -> Result<(), Fail> {
-    let alloc = rt.alloc();
-    let path = "calls.journal";
-    let file = File::options()
-        .read(true)
-        .write(true)
-        .create(true)
-        .truncate(true)
-        .open(&rt, path)?;
-    let mut on_file = FileDisk::new(file);
-    let mut in_memory = MemoryDisk::new(alloc, &[])?;
-    assert_eq!(rt; on_file.write_at(400, &[]), in_memory.write_at(400, &[]));
-    assert_eq!(rt; on_file.len(), in_memory.len());
-    let mut seed = 11;
-    for _ in 0..400u32 {
-        let kind = next(&mut seed) % 4;
-        let at = next(&mut seed) as usize % 300;
-        let count = next(&mut seed) as usize % 40;
-        let mut bytes = [0u8; 40];
-        for byte in bytes.iter_mut() {
-            *byte = (next(&mut seed) % 256) as u8;
-        }
-        match kind {
-            0 => assert_eq!(rt;
-                on_file.write_at(at, &bytes[..count]),
-                in_memory.write_at(at, &bytes[..count])
-            ),
-            1 => {
-                let mut other = bytes;
-                let read = on_file.read(at, &mut bytes[..count]);
-                assert_eq!(rt; read, in_memory.read(at, &mut other[..count]));
-                if read.is_ok() {
-                    assert_eq!(rt; bytes, other);
-                }
-            }
-            2 => assert_eq!(rt; on_file.len(), in_memory.len()),
-            _ => assert_eq!(rt; on_file.sync(), in_memory.sync()),
-        }
-    }
-    assert_eq!(rt; on_file.failures(), in_memory.failures());
-    assert_eq!(rt; fs::read(&rt, path)?.as_slice(), in_memory.bytes());
-    fs::remove_file(&rt, path)?;
     Ok(())
 }
 

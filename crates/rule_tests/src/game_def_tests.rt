@@ -1,6 +1,7 @@
-use crate::samples::{L2, L3, N2, N3};
+use crate::samples::{L2, L3, N2, N3, game};
 use game_def::*;
 use std::alloc::{AllocError, Global};
+use std::process::Abort;
 use std::test::*;
 
 /// L2 in capitals, with tabs, CR, blank lines and comments, and without any `=`.
@@ -49,78 +50,108 @@ fn told(text: &[u8]) -> (u8, usize) {
     }
 }
 
-#[test]
-fn limit_games(rt: HostRuntime) -> Result<(), Fail> {
-    let game = read(L2).ok().ok_or("l2 is a game file")?;
-    game.limits();
-    assert_eq!(rt; game.players(), 2);
-    assert!(rt; game.is_limit());
-    assert_eq!(rt; game.big_blind(), 10);
-    let stacks = [2_147_483_647, 2_147_483_647];
-    let blinds = [10, 5];
-    for position in 0..2 {
-        assert!(rt; position < game.players());
-        assert_eq!(rt; game.stack(position), stacks[position]);
-        assert_eq!(rt; game.blind(position), blinds[position]);
+/// A seat's stack and its blind.
+fn assert_seat(rt: &impl Abort, game: &GameDef, position: usize, stack: u32, blind: u32) {
+    assert!(rt; position < game.players());
+    assert_eq!(rt; game.stack(position), stack);
+    assert_eq!(rt; game.blind(position), blind);
+}
+
+/// The size of a round's raises, the first player to act in it and how many raises it has at most.
+fn assert_round(rt: &impl Abort, game: &GameDef, round: usize, said: (Option<u32>, usize, u8)) {
+    assert!(rt; round < 4);
+    assert_eq!(rt; game.raise_size(round), said.0);
+    assert_eq!(rt; game.first_player(round), said.1);
+    assert_eq!(rt; game.max_raises(round), said.2);
+}
+
+/// The seats' stacks and blinds.
+fn assert_seats(rt: &impl Abort, game: &GameDef, seats: &[(u32, u32)]) {
+    assert_eq!(rt; game.players(), seats.len());
+    for (position, (stack, blind)) in seats.iter().enumerate() {
+        assert_seat(rt, game, position, *stack, *blind);
     }
-    let sizes = [10, 10, 20, 20];
-    let firsts = [1, 0, 0, 0];
-    let raises = [3, 4, 4, 4];
-    for round in 0..4 {
-        assert_eq!(rt; game.raise_size(round), Some(sizes[round]));
-        assert_eq!(rt; game.first_player(round), firsts[round]);
-        assert_eq!(rt; game.max_raises(round), raises[round]);
+}
+
+/// What holds in each round.
+fn assert_rounds(rt: &impl Abort, game: &GameDef, rounds: &[(Option<u32>, usize, u8); 4]) {
+    for (round, said) in rounds.iter().enumerate() {
+        assert_round(rt, game, round, *said);
     }
-    let third = read(L3).ok().ok_or("l3 is a game file")?;
-    assert_eq!(rt; third.players(), 3);
-    assert!(rt; third.players() == 3);
-    assert_eq!(rt; third.blind(0), 5);
-    assert_eq!(rt; third.blind(1), 10);
-    assert_eq!(rt; third.blind(2), 0);
-    let third_firsts = [2, 0, 0, 0];
-    for position in 0..3 {
-        assert_eq!(rt; third.stack(position), 2_147_483_647);
-    }
-    for round in 0..4 {
-        assert_eq!(rt; third.raise_size(round), Some(sizes[round]));
-        assert_eq!(rt; third.first_player(round), third_firsts[round]);
-        assert_eq!(rt; third.max_raises(round), raises[round]);
-    }
-    assert!(rt; read(L2_LOUD) == Ok(game));
-    Ok(())
 }
 
 #[test]
-fn nolimit_games(rt: HostRuntime) -> Result<(), Fail> {
-    let game = read(N2).ok().ok_or("n2 is a game file")?;
-    assert!(rt; game.players() == 2);
-    assert!(rt; !game.is_limit());
-    assert_eq!(rt; game.big_blind(), 100);
-    assert_eq!(rt; game.stack(0), 20_000);
-    assert_eq!(rt; game.stack(1), 20_000);
-    assert_eq!(rt; game.blind(0), 100);
-    assert_eq!(rt; game.blind(1), 50);
-    let firsts = [1, 0, 0, 0];
-    for round in 0..4 {
-        assert_eq!(rt; game.raise_size(round), None);
-        assert_eq!(rt; game.first_player(round), firsts[round]);
-        assert_eq!(rt; game.max_raises(round), 255);
-    }
-    let third = read(N3).ok().ok_or("n3 is a game file")?;
-    assert!(rt; third.players() == 3);
-    let stacks = [1000, 150, 5000];
-    let blinds = [50, 100, 0];
-    for position in 0..3 {
-        assert_eq!(rt; third.stack(position), stacks[position]);
-        assert_eq!(rt; third.blind(position), blinds[position]);
-    }
-    let third_firsts = [2, 0, 0, 0];
-    for round in 0..4 {
-        assert_eq!(rt; third.raise_size(round), None);
-        assert_eq!(rt; third.first_player(round), third_firsts[round]);
-        assert_eq!(rt; third.max_raises(round), 255);
-    }
-    Ok(())
+fn limit_games(rt: HostRuntime) {
+    let heads_up = game(&rt, L2);
+    heads_up.limits();
+    assert!(rt; heads_up.is_limit());
+    assert_eq!(rt; heads_up.big_blind(), 10);
+    assert_seats(&rt, &heads_up, &[(2_147_483_647, 10), (2_147_483_647, 5)]);
+    assert_rounds(
+        &rt,
+        &heads_up,
+        &[
+            (Some(10), 1, 3),
+            (Some(10), 0, 4),
+            (Some(20), 0, 4),
+            (Some(20), 0, 4),
+        ],
+    );
+    assert!(rt; game(&rt, L2_LOUD) == heads_up);
+}
+
+#[test]
+fn limit_games_of_three(rt: HostRuntime) {
+    let three = game(&rt, L3);
+    assert_seats(
+        &rt,
+        &three,
+        &[(2_147_483_647, 5), (2_147_483_647, 10), (2_147_483_647, 0)],
+    );
+    assert_rounds(
+        &rt,
+        &three,
+        &[
+            (Some(10), 2, 3),
+            (Some(10), 0, 4),
+            (Some(20), 0, 4),
+            (Some(20), 0, 4),
+        ],
+    );
+}
+
+#[test]
+fn nolimit_games(rt: HostRuntime) {
+    let heads_up = game(&rt, N2);
+    assert!(rt; !heads_up.is_limit());
+    assert_eq!(rt; heads_up.big_blind(), 100);
+    assert_seats(&rt, &heads_up, &[(20_000, 100), (20_000, 50)]);
+    assert_rounds(
+        &rt,
+        &heads_up,
+        &[
+            (None, 1, 255),
+            (None, 0, 255),
+            (None, 0, 255),
+            (None, 0, 255),
+        ],
+    );
+}
+
+#[test]
+fn nolimit_games_of_three(rt: HostRuntime) {
+    let three = game(&rt, N3);
+    assert_seats(&rt, &three, &[(1000, 50), (150, 100), (5000, 0)]);
+    assert_rounds(
+        &rt,
+        &three,
+        &[
+            (None, 2, 255),
+            (None, 0, 255),
+            (None, 0, 255),
+            (None, 0, 255),
+        ],
+    );
 }
 
 #[test]

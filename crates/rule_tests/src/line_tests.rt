@@ -1,4 +1,4 @@
-use crate::samples::{L2, N2, game};
+use crate::samples::{L2, N2, game, ten_ace};
 use betting::Action;
 use game_def::GameDef;
 use matchstate::{
@@ -7,42 +7,51 @@ use matchstate::{
     seat_line_reserved, seat_view, write, write_reserved,
 };
 use slot_log::{Command, Effect, Table};
+use std::alloc::Global;
 use std::process::Abort;
 use std::test::Fail;
 
-#[test]
-fn a_seat_sees_its_own_cards(rt: HostRuntime) -> Result<(), Fail> {
-    let game = game(&rt, L2);
-    let mut table = Table::new(rt.alloc(), game, 1);
-    let deal = read_deal(b"TdAs|8hTc/2c8c3h/9c/Kh", 2).expect(&rt, "a deal");
+/// The table of a limit match of two once its first hand is dealt.
+fn dealt(rt: &impl Abort, alloc: Global) -> Table {
+    let mut table = Table::new(alloc, game(rt, L2), 1);
+    let deal = ten_ace(rt);
     assert_eq!(rt;
         table.apply(&Command::Deal { hand: 0, deal }),
         Ok(Effect::Dealt)
     );
+    table
+}
+
+/// Takes an action of the first hand, its index counted from 0.
+fn take(table: &mut Table, index: u16, action: Action) -> Result<(), Fail> {
+    table.apply(&Command::Act {
+        hand: 0,
+        index,
+        action,
+    })?;
+    Ok(())
+}
+
+#[test]
+fn a_seat_sees_its_own_cards(rt: HostRuntime) -> Result<(), Fail> {
+    let table = dealt(&rt, rt.alloc());
+    assert_eq!(rt; table.game().players(), 2);
     let view = seat_view(&table, 1).expect(&rt, "a view");
     let mut line = Vec::new(rt.alloc());
-    write(&mut line, &view, &game)?;
+    write(&mut line, &view, table.game())?;
     assert!(rt; line.as_slice() == &b"MATCHSTATE:1:0::|8hTc"[..]);
     Ok(())
 }
 
 #[test]
 fn all_seats_share_one_betting_text(rt: HostRuntime) -> Result<(), Fail> {
-    let game = game(&rt, L2);
-    let mut table = Table::new(rt.alloc(), game, 1);
-    let deal = read_deal(b"TdAs|8hTc/2c8c3h/9c/Kh", 2).expect(&rt, "a deal");
-    table.apply(&Command::Deal { hand: 0, deal })?;
-    let mut lines = Vec::new(rt.alloc());
-    for (index, action) in [Action::Raise(20), Action::Call].iter().enumerate() {
-        table.apply(&Command::Act {
-            hand: 0,
-            index: index as u16,
-            action: *action,
-        })?;
-    }
+    let mut table = dealt(&rt, rt.alloc());
+    take(&mut table, 0, Action::Raise(20))?;
+    take(&mut table, 1, Action::Call)?;
     let betting = BettingText::newest(&table);
     assert!(rt; betting.as_bytes() == &b"rc/"[..]);
     assert_eq!(rt; table.game().players(), 2);
+    let mut lines = Vec::new(rt.alloc());
     seat_line(&mut lines, &table, 0, &betting)?;
     lines.push(b'\n')?;
     lines.reserve(MOST_LINE)?;

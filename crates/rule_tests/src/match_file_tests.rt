@@ -150,31 +150,24 @@ fn each_key_is_told_where_it_is_wrong(rt: HostRuntime) -> Result<(), Fail> {
 #[test]
 fn the_first_fault_is_told(rt: HostRuntime) -> Result<(), Fail> {
     let alloc = rt.alloc();
-    let text = with(alloc, LISTED, "hands = 1", "hands = 0")?;
-    assert_eq!(rt;
-        told(alloc, text.as_bytes(), None)?.as_str(),
-        "104 Unreadable"
-    );
-    assert_eq!(rt;
-        told(alloc, text.as_bytes(), Some(LOW_STACK))?.as_str(),
-        "102 Game 17 StackBelowBlind 5"
-    );
-    assert_eq!(rt;
-        told(alloc, text.as_bytes(), Some(L2))?.as_str(),
-        "101 BadEntry hands"
-    );
-    let text = with(alloc, LISTED, "\"l2.game\"", "7")?;
-    assert_eq!(rt;
-        told(alloc, text.as_bytes(), None)?.as_str(),
-        "101 BadEntry game"
-    );
-    let file = file(alloc, text.as_bytes()).expect(&rt, "a file");
+    let no_hands = with(alloc, LISTED, "hands = 1", "hands = 0")?;
+    let no_game = with(alloc, LISTED, "\"l2.game\"", "7")?;
+    for (text, game, expected) in [
+        (no_hands.as_bytes(), None, "104 Unreadable"),
+        (
+            no_hands.as_bytes(),
+            Some(LOW_STACK),
+            "102 Game 17 StackBelowBlind 5",
+        ),
+        (no_hands.as_bytes(), Some(L2), "101 BadEntry hands"),
+        (no_game.as_bytes(), None, "101 BadEntry game"),
+        (b"", None, "101 BadEntry name"),
+        (b"name = \"\xff\"", None, "100 NotToml"),
+    ] {
+        assert_eq!(rt; told(alloc, text, game)?.as_str(), expected);
+    }
+    let file = file(alloc, no_game.as_bytes()).expect(&rt, "a file");
     assert_eq!(rt; file.game().err(), Some(MatchFault::BadEntry(Key::Game)));
-    assert_eq!(rt; told(alloc, b"", None)?.as_str(), "101 BadEntry name");
-    assert_eq!(rt;
-        told(alloc, b"name = \"\xff\"", None)?.as_str(),
-        "100 NotToml"
-    );
     Ok(())
 }
 

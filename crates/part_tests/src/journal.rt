@@ -1,0 +1,105 @@
+//! A store of node 0 of 3, and the bytes of its journal: what the tests of acceptors, stores and disks call and compare.
+
+ghost use Rattle.paxos_wire.specs.Fits.{IsInRange};
+
+use paxos_wire::{Ballot, read_command};
+use promise_store::{Disk, MemoryDisk, Store, StoreFault};
+use slot_log::Command;
+use std::alloc::Global;
+use std::process::Abort;
+use std::test::Fail;
+
+pub(crate) const FIRST: Ballot = Ballot { round: 1, node: 0 };
+
+/// `TdAs|8hTc/2c8c3h/9c/Kh` of hand 0.
+pub(crate) const DEAL: [u8; 15] = [
+    0x01, 0, 0, 0, 0, 0x09, 0x21, 0x33, 0x1a, 0x20, 0x00, 0x18, 0x06, 0x1c, 0x2e,
+];
+
+/// Node 0 of 3 after a promise of (1, 0) and an accept of the deal in it at slot 0.
+pub(crate) const JOURNAL: [u8; 46] = [
+    0x48, 0x44, 0x4a, 0x31, 0, 3, 0, 0, 1, 0, 6, 1, 0, 0, 0, 1, 0, 1, 0, 25, 2, 0, 0, 0, 1, 0, 0,
+    0, 0, 0, 0x01, 0, 0, 0, 0, 0x09, 0x21, 0x33, 0x1a, 0x20, 0x00, 0x18, 0x06, 0x1c, 0x2e, 0,
+];
+
+pub(crate) fn deal(rt: &impl Abort) -> Command
+    ensures { IsInRange result }
+{
+    match read_command(&DEAL) {
+        Some((command, _)) => command,
+        None => panic!(rt; "a deal"),
+    }
+}
+
+/// A disk in memory with these bytes.
+pub(crate) fn disk_with(alloc: Global, bytes: &[u8], fuses: &[u64]) -> Result<MemoryDisk, Fail> {
+    let mut disk = MemoryDisk::new(alloc, fuses)?;
+    disk.write_at(0, bytes)?;
+    Ok(disk)
+}
+
+// Each call of a store stands in one function here: what a contract says is read anew wherever its call stands.
+
+/// A new store of node 0 of 3 on the disk; or why there is none, and the disk.
+pub(crate) fn create<D: Disk>(alloc: Global, disk: D) -> Result<Store<D>, (D, StoreFault)> {
+    Store::create(alloc, disk, 0, 3)
+}
+
+/// The store of node 0 of 3 that the disk has; or why there is none, and the disk.
+pub(crate) fn open<D: Disk>(alloc: Global, disk: D) -> Result<Store<D>, (D, StoreFault)> {
+    Store::open(alloc, disk, 0, 3)
+}
+
+/// A new store on a disk that doesn't fail.
+pub(crate) fn created<D: Disk>(rt: &impl Abort, alloc: Global, disk: D) -> Store<D> {
+    match create(alloc, disk) {
+        Ok(store) => store,
+        Err(_) => panic!(rt; "create"),
+    }
+}
+
+/// The store of a disk that doesn't fail.
+pub(crate) fn opened<D: Disk>(rt: &impl Abort, alloc: Global, disk: D) -> Store<D> {
+    match open(alloc, disk) {
+        Ok(store) => store,
+        Err(_) => panic!(rt; "open"),
+    }
+}
+
+/// Stores the promise of the first ballot.
+pub(crate) fn promise<D: Disk>(store: &mut Store<D>) -> Result<(), StoreFault> {
+    store.promise(FIRST)
+}
+
+/// Stores that the deal was accepted in the first ballot at slot 0.
+pub(crate) fn accept<D: Disk>(rt: &impl Abort, store: &mut Store<D>) -> Result<(), StoreFault> {
+    store.accept(FIRST, 0, &deal(rt))
+}
+
+/// What was accepted at a slot.
+pub(crate) fn entry<D: Disk>(
+    store: &mut Store<D>,
+    slot: u32,
+) -> Result<Option<(Ballot, Command)>, StoreFault> {
+    store.entry(slot)
+}
+
+/// Whether the store has promised the first ballot, and has the deal accepted in it at slot 0.
+pub(crate) fn has_both<D: Disk>(rt: &impl Abort, store: &mut Store<D>) -> Result<bool, Fail> {
+    let found = entry(store, 0)?;
+    Ok(store.held().promised() == FIRST && found == Some((FIRST, deal(rt))))
+}
+
+/// What opening a file as node 0 of 3 answers: the fault's number, or 0.
+pub(crate) fn answer(alloc: Global, bytes: &[u8]) -> Result<u8, Fail> {
+    match open(alloc, disk_with(alloc, bytes, &[])?) {
+        Ok(_) => Ok(0),
+        Err((_, fault)) => Ok(fault.code()),
+    }
+}
+
+/// A next number of the generator of Lehmer (multiplier 48271 modulo 2^31 - 1).
+pub(crate) fn next(seed: &mut u64) -> u64 {
+    *seed = *seed % 2_147_483_647 * 48_271 % 2_147_483_647;
+    *seed
+}
