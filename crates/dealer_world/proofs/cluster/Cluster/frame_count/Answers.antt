@@ -1,0 +1,5 @@
+use Rattle.std.proofs.Common.{rules}
+use Rattle.dealer_world.proofs.cluster.Cluster.frame_count.Goals as goal
+
+pub returns : goal.returns
+returns g c = search rules
