@@ -2,8 +2,8 @@ ghost use Rattle.std.specs.Prelude.{◌≤◌};
 ghost use Rattle.paxos_wire.specs.Fits.{IsBallot, IsInRange, IsSlot};
 
 use crate::journal::{self, FIRST};
+use crate::samples::{CALL, FOLD};
 use acceptor::{AcceptAnswer, Acceptor, PrepareAnswer};
-use betting::Action;
 use paxos_wire::{Ballot, Entries, Entry};
 use promise_store::{Disk, MemoryDisk, OnceDisk, StoreFault};
 use slot_log::Command;
@@ -16,18 +16,6 @@ const SECOND: Ballot = Ballot { round: 1, node: 1 };
 const THIRD: Ballot = Ballot { round: 2, node: 0 };
 
 const FOURTH: Ballot = Ballot { round: 2, node: 1 };
-
-const CALL: Command = Command::Act {
-    hand: 0,
-    index: 0,
-    action: Action::Call,
-};
-
-const FOLD: Command = Command::Act {
-    hand: 0,
-    index: 0,
-    action: Action::Fold,
-};
 
 /// The acceptor of node 0 of 3 with a new store.
 fn created<D: Disk>(rt: &impl Abort, alloc: Global, disk: D) -> Acceptor<D> {

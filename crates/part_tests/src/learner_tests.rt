@@ -1,33 +1,11 @@
 ghost use Rattle.std.specs.Prelude.{◌≡◌, ◌<◌};
 
-use betting::Action;
+use crate::samples::{CALL, FOLD, RAISE, ballot};
 use learner::{Chosen, Learner};
 use paxos_wire::Ballot;
 use slot_log::{Command, SlotFault};
 use std::process::Abort;
 use std::test::Fail;
-
-const CALL: Command = Command::Act {
-    hand: 0,
-    index: 0,
-    action: Action::Call,
-};
-
-const FOLD: Command = Command::Act {
-    hand: 0,
-    index: 0,
-    action: Action::Fold,
-};
-
-const RAISE: Command = Command::Act {
-    hand: 0,
-    index: 0,
-    action: Action::Raise(20),
-};
-
-fn ballot(round: u32, node: u8) -> Ballot {
-    Ballot { round, node }
-}
 
 // Each call of a learner stands in one function here: what a contract says is read anew wherever its call stands.
 

@@ -1,25 +1,9 @@
-use betting::Action;
+use crate::samples::{CALL, FOLD, ballot};
 use paxos_wire::{Ballot, Entries, Entry};
 use proposer::{Accept, BallotsSpent, Prepare, ProposeFault, Proposer};
 use slot_log::Command;
 use std::process::Abort;
 use std::test::Fail;
-
-const CALL: Command = Command::Act {
-    hand: 0,
-    index: 0,
-    action: Action::Call,
-};
-
-const FOLD: Command = Command::Act {
-    hand: 0,
-    index: 0,
-    action: Action::Fold,
-};
-
-fn ballot(round: u32, node: u8) -> Ballot {
-    Ballot { round, node }
-}
 
 /// One entry at the slot.
 fn told(slot: u32, ballot: Ballot, command: Command) -> Entries {
