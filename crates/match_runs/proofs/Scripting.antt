@@ -3,6 +3,7 @@ use Rattle.std.proofs.Common.{◌≡◌, ◌≢◌, ℕ, List, [], ◌∷◌, �
 use Rattle.std.specs.Prelude.{Option}
 use Rattle.std.specs.Io.KnownBytes.{Appends, Consumes, IsAtEnd}
 use Rattle.std.proofs.lemmas.List.{append-nil}
+use Rattle.std.proofs.KnownBytes.{Appends-trans, Consumes-trans}
 use Rattle.promise_store.specs.contracts.memory_disk.MemoryDiskDisk.TheImpl.{ghosts as in_memory}
 use Rattle.dealer_kind.specs.Plans.{Plan}
 use Rattle.dealer_world.specs.Promise.{IsPromised}
@@ -14,7 +15,6 @@ use Rattle.match_runs.specs.Played.{Played}
 use Rattle.match_runs.specs.Scripted.{Reaches, BeginsPlay}
 use Rattle.match_runs.specs.PlayOutcome.{AnswersPlay}
 use Rattle.match_runs.specs.declared.scripted.Scripted.{Scripted}
-use Rattle.streamed.proofs.Streams.{append_twice, consume_twice}
 use Rattle.streamed.proofs.Lines.{line_ends, line_goes_on}
 
 -- before the first byte
@@ -91,7 +91,7 @@ pub plays_all : (plan : Plan) (left here after start now : Option (List ℕ)) (s
     → Consumes here after piece → (piece ≡ []) × IsAtEnd after → Reaches plan start seen r now → AnswersPlay plan left after start now
 plays_all plan left here after start now seen piece r read last none reaches = record {
   bytes = seen;
-  read = subst (Consumes left after) (append-nil seen) (consume_twice left here after seen [] read (subst (Consumes here after) none.0 last));
+  read = subst (Consumes left after) (append-nil seen) (Consumes-trans left here after seen [] read (subst (Consumes here after) none.0 last));
   at_end = none.1;
   output = reaches.output;
   played = played_so_far plan start now seen r reaches;
@@ -139,7 +139,7 @@ play_line_answered plan start now then seen text r after answers promised empty 
   are_lines = subst (AreLines (seen ++ 10 ∷ []) (r.line.items ∷ reaches.lines)) (sym empty) (line_ends seen reaches.lines r.line.items reaches.are_lines);
   plays = answered reaches.lines r.line.items reaches.output text (scene_of r.playing) (r.line.items ∷ reaches.lines) (reaches.output ++ text) (scene_of after.playing) reaches.plays answers refl refl;
   promised = promised;
-  written = append_twice start now then reaches.output text reaches.written sent;
+  written = Appends-trans start now then reaches.output text reaches.written sent;
 }
 
 -- a line feed whose answer is written in part
@@ -161,5 +161,5 @@ play_line_begun plan start now then seen text shown missing r scene answers prom
   shown = reaches.output ++ shown;
   missing = missing;
   front_shown = ap (λ z. reaches.output ++ z) parts ∙ sym (append_assoc reaches.output shown missing);
-  written = append_twice start now then reaches.output shown reaches.written sent;
+  written = Appends-trans start now then reaches.output shown reaches.written sent;
 }

@@ -3,6 +3,7 @@ use Rattle.std.proofs.Common.{◌≡◌, ◌≢◌, ℕ, ◌+◌, ◌<◌, List,
 use Rattle.std.specs.Prelude.{Option}
 use Rattle.std.specs.Io.KnownBytes.{Appends}
 use Rattle.std.proofs.lemmas.List.{append-nil, take_more, take-append-drop}
+use Rattle.std.proofs.KnownBytes.{Appends-trans}
 use Rattle.game_def.specs.Game.{Game}
 use Rattle.slot_log.specs.Hand.{Hand}
 use Rattle.slot_log.specs.Dealer.{hands_of}
@@ -13,7 +14,6 @@ use Rattle.streamed.specs.Running.{Stands, Shows, Begins}
 use Rattle.streamed.specs.declared.dealing.Dealing.{Dealing}
 use Rattle.streamed.specs.declared.running.Running.{Running}
 use Rattle.streamed.specs.declared.script_line.ScriptLine.{ScriptLine}
-use Rattle.streamed.proofs.Streams.{append_twice}
 use Rattle.streamed.proofs.Lines.{line_ends, line_goes_on, take_again}
 
 -- what a line says of a match is what it says after the lines so far
@@ -110,7 +110,7 @@ ended_output game count log start now seen text r said after ends shows =
 -- a line feed whose answer is written
 pub line_answered : (game : Game) (count : ℕ) (log start now then : Option (List ℕ)) (seen text : List ℕ) (r : Running) (said : ScriptLine) (after : Running) → LineEnds r said after.dealing text → after.line.items ≡ [] → Appends now then text → Shows game count log start seen r now → Shows game count log start (seen ++ 10 ∷ []) after then
 line_answered game count log start now then seen text r said after ends empty sent shows =
-    let written : Appends start then (answers game count log shows.says ++ text) = append_twice start now then _ text shows.written sent in
+    let written : Appends start then (answers game count log shows.says ++ text) = Appends-trans start now then _ text shows.written sent in
     let appended : List ℕ → Type 0 = λ z. Appends start then z in
     record {
       lines = shows.rest ∷ shows.lines;
@@ -143,7 +143,7 @@ line_begun game count log start now then seen text shown missing r said after en
       shown = before ++ shown;
       missing = missing;
       front_shown = sym (ended_output game count log start now seen text r said after ends shows) ∙ ap (λ z. before ++ z) parts ∙ sym (append_assoc before shown missing);
-      written = append_twice start now then before shown shows.written sent;
+      written = Appends-trans start now then before shown shows.written sent;
     }
 
 -- the last of a piece's bytes so far, and those behind it

@@ -1,5 +1,5 @@
 use Rattle.std.proofs.Common.{refl, []}
-use Rattle.streamed.proofs.Streams.{append_here}
+use Rattle.std.proofs.KnownBytes.{Appends-nil}
 use Rattle.streamed.proofs.running.Running.new.Goals as goal
 
 pub returns : goal.returns
@@ -11,5 +11,5 @@ returns c = λ now. record {
   say_in_turn = tt;
   stands = c.new.ensures;
   kept = c.new-2.ensures;
-  written = append_here now;
+  written = Appends-nil now;
 }
