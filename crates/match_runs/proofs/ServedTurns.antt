@@ -1,6 +1,7 @@
 -- How serving ends, by the turns that were made and told.
 use Rattle.std.proofs.Common.{ℕ, ◌+◌, List, map, Ok, Err, inl, ◌≡◌, ◌++◌, subst}
 use Rattle.std.specs.Prelude.{Option}
+use Rattle.std.proofs.KnownBytes.{Keeps-refl}
 use Rattle.promise_store.specs.declared.disk.Disk.{Ghosts}
 use Rattle.dealer_node.specs.Nodes.{Node}
 use Rattle.dealer_node.specs.declared.fault.NodeFault.{NodeFault}
@@ -15,7 +16,7 @@ use Rattle.match_runs.specs.Notes.{AreNoted, note_line, names_in, awaited_notes,
 use Rattle.match_runs.specs.Score.{TellsScore}
 use Rattle.match_runs.specs.Serving.{Turns, IsServed, more}
 use Rattle.match_runs.specs.declared.seat_ports.SeatPorts.{SeatPorts}
-use Rattle.match_runs.proofs.Noting.{kept_here, told_all}
+use Rattle.match_runs.proofs.Noting.{told_all}
 
 pub ends_well : {D : Type 0} (g : Ghosts D) (ports : SeatPorts) (first before after : Served (Node D)) (start held between told : Option (List ℕ)) (awaited : Option (ℕ × ℕ)) (count : ℕ)
     → IsAwaited g before awaited → Turns g ports first start count before held → Turned g before (Ok Over) after → AreNoted (map note_line (awaited_notes (names_in before.view) ports awaited)) held between
@@ -38,7 +39,7 @@ ends_in_fault g ports first before after start held told awaited count why is tu
   held = held;
   turns = turns;
   ended = last;
-  told = record { awaited = awaited; is_awaited = is; between = told; first = noted; last = kept_here told };
+  told = record { awaited = awaited; is_awaited = is; between = told; first = noted; last = Keeps-refl told };
 })
 
 -- one turn more, which is told

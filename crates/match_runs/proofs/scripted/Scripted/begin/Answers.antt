@@ -1,13 +1,13 @@
 use Rattle.std.proofs.Common.{◌≡◌, ◌++◌, ◌∙◌, ap, subst, sym, inl, inr, List, ℕ}
+use Rattle.std.proofs.KnownBytes.{Keeps-refl}
 use Rattle.playing.specs.Playing.{Begins}
 use Rattle.playing.specs.PlayingInside.{scene_of}
 use Rattle.streamed.proofs.Streams.{on_err}
-use Rattle.match_runs.proofs.Noting.{kept_here}
 use Rattle.match_runs.proofs.Scripting.{headers_written, headers_begun}
 use Rattle.match_runs.proofs.scripted.Scripted.begin.Goals as goal
 
 pub returns-in_err-playing-clause-err : goal.returns-in_err-playing-clause-err
-returns-in_err-playing-clause-err g c = on_err c.from_residual.result _ (inl (kept_here _))
+returns-in_err-playing-clause-err g c = on_err c.from_residual.result _ (inl (Keeps-refl _))
 
 pub returns-in_err-send-clause-err : goal.returns-in_err-send-clause-err
 returns-in_err-send-clause-err g c =
