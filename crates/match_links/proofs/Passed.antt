@@ -1,5 +1,6 @@
 -- What one more passage leaves of the lines and the logs.
 use Rattle.std.proofs.Common.{◌≡◌, ℕ, zero, suc, ◌<◌, ◌==◌, if◌then◌else◌, List, [], ◌∷◌, ◌++◌, map, length, get_or, set, refl, ap, ◌∙◌, arith, rules}
+use Rattle.std.proofs.lemmas.List.{append-nil}
 use Rattle.match_links.specs.Passages.{Passage, Came, Told, Emptied, Logged, came, lines_in, logged_by, log_after, log_of}
 
 lines_more : (xs ys : List Passage) → lines_in (xs ++ ys) ≡ lines_in xs ++ lines_in ys
@@ -17,27 +18,23 @@ more node log (x ∷ xs) ys = more node (logged_by node log x) xs ys
 pub lines_when_told : (passed : List Passage) (node seat : ℕ) (line : List ℕ) → lines_in (passed ++ Told node seat line ∷ []) ≡ lines_in passed ++ Told node seat line ∷ []
 lines_when_told passed node seat line = lines_more passed (Told node seat line ∷ [])
 
-no_more : (ls : List Passage) → ls ++ [] ≡ ls
-no_more [] = refl
-no_more (l ∷ ls) = ap (λ more. l ∷ more) (no_more ls)
-
 -- no line more
 pub lines_when_came : (passed : List Passage) (node seat : ℕ) (bytes : List ℕ) → lines_in (passed ++ came node seat bytes) ≡ lines_in passed
-lines_when_came passed node seat [] = ap lines_in (no_more passed)
-lines_when_came passed node seat (byte ∷ bytes) = lines_more passed (Came node seat (byte ∷ bytes) ∷ []) ∙ no_more (lines_in passed)
+lines_when_came passed node seat [] = ap lines_in (append-nil passed)
+lines_when_came passed node seat (byte ∷ bytes) = lines_more passed (Came node seat (byte ∷ bytes) ∷ []) ∙ append-nil (lines_in passed)
 
 pub lines_when_emptied : (passed : List Passage) (node : ℕ) → lines_in (passed ++ Emptied node ∷ []) ≡ lines_in passed
-lines_when_emptied passed node = lines_more passed (Emptied node ∷ []) ∙ no_more (lines_in passed)
+lines_when_emptied passed node = lines_more passed (Emptied node ∷ []) ∙ append-nil (lines_in passed)
 
 pub lines_when_logged : (passed : List Passage) (node : ℕ) (text : List ℕ) → lines_in (passed ++ Logged node text ∷ []) ≡ lines_in passed
-lines_when_logged passed node text = lines_more passed (Logged node text ∷ []) ∙ no_more (lines_in passed)
+lines_when_logged passed node text = lines_more passed (Logged node text ∷ []) ∙ append-nil (lines_in passed)
 
 -- a log grows by what is put behind it, and is emptied; nothing else changes it
 pub log_when_told : (passed : List Passage) (i node seat : ℕ) (line : List ℕ) → log_of (passed ++ Told node seat line ∷ []) i ≡ log_of passed i
 log_when_told passed i node seat line = more i [] passed (Told node seat line ∷ [])
 
 pub log_when_came : (passed : List Passage) (i node seat : ℕ) (bytes : List ℕ) → log_of (passed ++ came node seat bytes) i ≡ log_of passed i
-log_when_came passed i node seat [] = ap (λ ps. log_of ps i) (no_more passed)
+log_when_came passed i node seat [] = ap (λ ps. log_of ps i) (append-nil passed)
 log_when_came passed i node seat (byte ∷ bytes) = more i [] passed (Came node seat (byte ∷ bytes) ∷ [])
 
 pub log_when_emptied : (passed : List Passage) (i node : ℕ) → log_of (passed ++ Emptied node ∷ []) i ≡ (if node == i then [] else log_of passed i)

@@ -1,5 +1,5 @@
 -- What is given of a record, piece by piece.
-use Rattle.std.proofs.Common.{◌≡◌, ℕ, zero, suc, ◌+◌, ◌<◌, ◌≤◌, List, [], ◌∷◌, ◌++◌, length, take, drop, slice_get, Some, inl, inr, refl, ap, sym, subst, ◌∙◌, arith}
+use Rattle.std.proofs.Common.{◌≡◌, ℕ, zero, suc, ◌+◌, ◌<◌, ◌≤◌, List, [], ◌∷◌, ◌++◌, length, take, drop, slice_get, Some, inl, inr, refl, ap, sym, subst, ◌∙◌, arith, add-one}
 use Rattle.std.proofs.lemmas.List.{append_assoc, append-nil, drop-take, drop-append-le, length-take-le}
 use Rattle.std.proofs.lemmas.Option.{slice_get_within}
 use Rattle.dealer_world.specs.Records.{Piece}
@@ -12,9 +12,6 @@ use Rattle.serving.specs.Giving.{IsGiven, AreGiven, Gives, FewerSeated}
 
 plus_none : (n : ℕ) → n ≡ n + 0
 plus_none n = omega arith
-
-next_is : (n : ℕ) → n + 1 ≡ suc n
-next_is n = omega arith
 
 taken_none : {A : Type 0} (n : ℕ) (xs : List A) → drop n (take n xs) ≡ []
 taken_none n xs = ap (λ k. drop n (take k xs)) (plus_none n) ∙ drop-take n 0 xs
@@ -59,7 +56,7 @@ pub gives_next : (places : List Place) (pieces : List Piece) (from to : ℕ) (gi
 gives_next places pieces from to given last piece gives is given_too =
     let below : to < length pieces = slice_get_within pieces to piece is in
     let same : drop from (take (to + 1) pieces) ≡ drop from (take to pieces) ++ piece ∷ [] =
-    ap (λ k. drop from (take k pieces)) (next_is to) ∙ ap (drop from) (take_next pieces to piece is)
+    ap (λ k. drop from (take k pieces)) (add-one to) ∙ ap (drop from) (take_next pieces to piece is)
     ∙ drop-append-le from (take to pieces) (piece ∷ []) (omega (arith, gives.onwards, length-take-le to pieces gives.within, below)) in
     record {
       onwards = omega (arith, gives.onwards);
