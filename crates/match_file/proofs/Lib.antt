@@ -2,5 +2,4 @@ pub mod Each
 pub mod Views
 pub mod Told
 pub mod Outing
-pub mod Wider
 pub mod Examples

@@ -1,5 +1,6 @@
 use Rattle.std.proofs.Common.{◌≤◌, map, length, refl, ap, subst, arith, Some, Vec, Global, List, ℕ}
 use Rattle.std.proofs.lemmas.Option.{same_Some}
+use Rattle.std.proofs.lemmas.Result.{MatchResult-weaker}
 use Rattle.toml.specs.View.{view}
 use Rattle.match_file.specs.declared.key.Key.TheVariants.{Node}
 use Rattle.match_file.specs.Said.{IsAbsent, EachSays, SaysDeal, SaysDeals}
@@ -7,7 +8,6 @@ use Rattle.match_file.specs.Refusals.{IsToldOf}
 use Rattle.match_file.proofs.Each.{each-length}
 use Rattle.match_file.proofs.Views.{length-view}
 use Rattle.match_file.proofs.Told.{told_wider, no_deals, few_deals, no_array}
-use Rattle.match_file.proofs.Wider.{result_wider}
 use Rattle.match_file.proofs.node_tables.listed.Goals as goal
 use Rattle.match_file.proofs.node_tables.listed.Goals.{in_default-via-in-Some+else-len-hands, in_default-via-in_default}
 
@@ -19,8 +19,9 @@ returns-in-Some c =
     let same = c.deref.ensures.value in
     let counted = c.len.ensures in
     let many : hands ≤ length (map view texts) = rw (length-view texts, same) (omega arith) in
-    result_wider (λ (deals : Vec (List ℕ) Global). EachSays (SaysDeal players) (map view texts) deals.items) (λ (deals : Vec (List ℕ) Global). SaysDeals players hands (Some (view c.args.value.now)) deals.items)
-    (IsToldOf Node (IsAbsent (EachSays (SaysDeal players) (map view texts)))) (IsToldOf Node (IsAbsent (SaysDeals players hands (Some (view c.args.value.now))))) c.deals_of.result c.deals_of.ensures
+    MatchResult-weaker c.deals_of.result
+    {P = λ (deals : Vec (List ℕ) Global). EachSays (SaysDeal players) (map view texts) deals.items} {P' = λ (deals : Vec (List ℕ) Global). SaysDeals players hands (Some (view c.args.value.now)) deals.items}
+    {Q = IsToldOf Node (IsAbsent (EachSays (SaysDeal players) (map view texts)))} {Q' = IsToldOf Node (IsAbsent (SaysDeals players hands (Some (view c.args.value.now))))} c.deals_of.ensures
     (λ deals each. ((map view texts, rw same (ap Some c.in-Some.ensures), each), subst (λ (n : ℕ). hands ≤ n) (each-length (SaysDeal players) (map view texts) deals.items each) many))
     (λ fault. told_wider Node (IsAbsent (EachSays (SaysDeal players) (map view texts))) (IsAbsent (SaysDeals players hands (Some (view c.args.value.now)))) fault
     (no_deals players hands (view c.args.value.now) (map view texts) (rw same c.in-Some.ensures)))

@@ -1,4 +1,5 @@
 use Rattle.std.proofs.Common.{◌≡◌, map, length, refl, ap, sym, subst, arith, Vec, Global}
+use Rattle.std.proofs.lemmas.Result.{MatchResult-weaker}
 use Rattle.toml.specs.View.{view}
 use Rattle.dealer_kind.specs.Plans.{HasNodes}
 use Rattle.dealer_kind.specs.declared.source.Source.{Source}
@@ -10,7 +11,6 @@ use Rattle.match_file.specs.Refusals.{IsToldOf}
 use Rattle.match_file.proofs.Each.{each-length}
 use Rattle.match_file.proofs.Views.{length-view}
 use Rattle.match_file.proofs.Told.{told_wider, no_sources, no_nodes, no_array}
-use Rattle.match_file.proofs.Wider.{result_wider}
 use Rattle.match_file.proofs.match_file.MatchFile.sources.Goals as goal
 use Rattle.match_file.proofs.match_file.MatchFile.sources.Goals.{in_default-via-in-Some+else-are_nodes, in_default-via-in_default}
 
@@ -23,8 +23,9 @@ returns-in-Some c =
     let same = c.deref.ensures.value in
     let views : length (map view values) ≡ c.len.result = omega (arith, length-view values, ap length same, c.len.ensures) in
     let nodes : HasNodes (length (map view values)) = subst HasNodes (sym views) (c.are_nodes.ensures.0 c.if-are_nodes.true) in
-    result_wider (λ (sources : Vec Source Global). EachSays (SaysSource players hands) (map view values) sources.items) (λ (sources : Vec Source Global). SaysSources players hands table sources.items)
-    (IsToldOf Node (IsAbsent (EachSays (SaysSource players hands) (map view values)))) (IsToldOf Node (IsAbsent (SaysSources players hands table))) c.sources_of.result c.sources_of.ensures
+    MatchResult-weaker c.sources_of.result
+    {P = λ (sources : Vec Source Global). EachSays (SaysSource players hands) (map view values) sources.items} {P' = λ (sources : Vec Source Global). SaysSources players hands table sources.items}
+    {Q = IsToldOf Node (IsAbsent (EachSays (SaysSource players hands) (map view values)))} {Q' = IsToldOf Node (IsAbsent (SaysSources players hands table))} c.sources_of.ensures
     (λ sources each. record {
       tables = (map view values, rw same c.in-Some.ensures, each);
       nodes = subst HasNodes (each-length (SaysSource players hands) (map view values) sources.items each) nodes;
