@@ -1,7 +1,7 @@
 -- What values stand for, and what is said by values of which each was read.
-use Rattle.std.proofs.Common.{◌≡◌, ℕ, ℤ, zero, suc, ◌+◌, ◌<◌, List, [], ◌∷◌, ◌++◌, length, get_or, map, take, Option, Some, None, refl, ap, ◌∙◌, sym, subst, arith}
+use Rattle.std.proofs.Common.{◌≡◌, ℕ, ℤ, ◌+◌, ◌<◌, List, [], ◌∷◌, ◌++◌, length, get_or, map, take, Option, Some, None, refl, ap, ◌∙◌, sym, subst}
 use Rattle.std.proofs.lemmas.Option.{same_Some}
-use Rattle.std.proofs.lemmas.List.{take_more}
+use Rattle.std.proofs.lemmas.List.{take_more, length-map, map_push, get_or-map}
 use Rattle.std.specs.Prelude.{MatchOption}
 use Rattle.std.specs.Borrow.{Bor}
 use Rattle.std.specs.Option.{option_copied}
@@ -22,26 +22,12 @@ items_of-same (d ∷ ds) (e ∷ es) same =
     let tail : ds ≡ es = items_of-same ds es parts in
     cc
 
--- a value of a place, among the values seen
-pub get_or-view : (values : List Value) (i : ℕ) (v : Value) → i < length values → get_or (map view values) i (view v) ≡ view (get_or values i v)
-get_or-view [] i v within = absurd (omega arith)
-get_or-view (x ∷ values) zero v within = refl
-get_or-view (x ∷ values) (suc i) v within = get_or-view values i v (omega arith)
-
-pub length-view : (values : List Value) → length (map view values) ≡ length values
-length-view [] = refl
-length-view (x ∷ values) = ap suc (length-view values)
-
-map-push : (values : List Value) (v : Value) → map view (values ++ v ∷ []) ≡ map view values ++ view v ∷ []
-map-push [] v = refl
-map-push (x ∷ values) v = ap (λ ds. view x ∷ ds) (map-push values v)
-
 -- one more value was read
 pub reads_more : {T : Type 0} (Says : Data → T → Type 0) (values : List Value) (i : ℕ) (v : Value) (xs : List T) (x : T) → i < length values → v ≡ get_or values i v
     → EachSays Says (map view (take i values)) xs → Says (view v) x → EachSays Says (map view (take (i + 1) values)) (xs ++ x ∷ [])
 reads_more Says values i v xs x within is each says =
     let front : take (i + 1) values ≡ take i values ++ v ∷ [] = take_more values i v within ∙ ap (λ w. take i values ++ w ∷ []) (sym is) in
-    let seen : map view (take (i + 1) values) ≡ map view (take i values) ++ view v ∷ [] = ap (map view) front ∙ map-push (take i values) v in
+    let seen : map view (take (i + 1) values) ≡ map view (take i values) ++ view v ∷ [] = ap (map view) front ∙ map_push view (take i values) v in
     subst (λ (ds : List Data). EachSays Says ds (xs ++ x ∷ [])) (sym seen) (each-push Says (map view (take i values)) xs (view v) x each says)
 
 -- where one value says nothing, the values say nothing
@@ -49,8 +35,8 @@ pub none_reads : {T : Type 0} (Says : Data → T → Type 0) (values : List Valu
     → IsAbsent (Says (view v)) → IsAbsent (EachSays Says (map view values))
 none_reads Says values i v within is none =
     λ xs each.
-    let found = each-at Says (map view values) xs i (view v) (rw (length-view values) within) each in
-    let same : get_or (map view values) i (view v) ≡ view v = get_or-view values i v within ∙ ap view (sym is) in
+    let found = each-at Says (map view values) xs i (view v) (rw (length-map values view) within) each in
+    let same : get_or (map view values) i (view v) ≡ view v = get_or-map view values i v (view v) within ∙ ap view (sym is) in
     none found.0 (subst (λ (d : Data). Says d found.0) same found.1)
 
 -- ---- what the accessors of a value tell

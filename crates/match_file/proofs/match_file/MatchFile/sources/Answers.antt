@@ -1,5 +1,6 @@
 use Rattle.std.proofs.Common.{◌≡◌, map, length, refl, ap, sym, subst, arith, Vec, Global}
 use Rattle.std.proofs.lemmas.Result.{MatchResult-weaker}
+use Rattle.std.proofs.lemmas.List.{length-map}
 use Rattle.toml.specs.View.{view}
 use Rattle.dealer_kind.specs.Plans.{HasNodes}
 use Rattle.dealer_kind.specs.declared.source.Source.{Source}
@@ -9,7 +10,6 @@ use Rattle.match_file.specs.Matches.{entry_at, SaysSources}
 use Rattle.match_file.specs.MatchFile.{members}
 use Rattle.match_file.specs.Refusals.{IsToldOf}
 use Rattle.match_file.proofs.Each.{each-length}
-use Rattle.match_file.proofs.Views.{length-view}
 use Rattle.match_file.proofs.Told.{told_wider, no_sources, no_nodes, no_array}
 use Rattle.match_file.proofs.match_file.MatchFile.sources.Goals as goal
 use Rattle.match_file.proofs.match_file.MatchFile.sources.Goals.{in_default-via-in-Some+else-are_nodes, in_default-via-in_default}
@@ -21,7 +21,7 @@ returns-in-Some c =
     let table = members c.args.self.now in
     let values = c.deref.result.now in
     let same = c.deref.ensures.value in
-    let views : length (map view values) ≡ c.len.result = omega (arith, length-view values, ap length same, c.len.ensures) in
+    let views : length (map view values) ≡ c.len.result = omega (arith, length-map values view, ap length same, c.len.ensures) in
     let nodes : HasNodes (length (map view values)) = subst HasNodes (sym views) (c.are_nodes.ensures.0 c.if-are_nodes.true) in
     MatchResult-weaker c.sources_of.result
     {P = λ (sources : Vec Source Global). EachSays (SaysSource players hands) (map view values) sources.items} {P' = λ (sources : Vec Source Global). SaysSources players hands table sources.items}
@@ -40,7 +40,7 @@ returns-in_default c =
         refl,
         no_nodes c.args.players c.args.hands (members c.args.self.now) (map view w.in-Some.values.now.items) w.in-Some.ensures
             (λ nodes.
-            let views : length (map view w.in-Some.values.now.items) ≡ w.len.result = omega (arith, length-view w.in-Some.values.now.items, w.len.ensures) in
+            let views : length (map view w.in-Some.values.now.items) ≡ w.len.result = omega (arith, length-map w.in-Some.values.now.items view, w.len.ensures) in
             let held = w.are_nodes.ensures.1 (subst HasNodes views nodes) in let not = w.if-are_nodes.false in cc),
       )
       | in_default-via-in_default w ↦ (
