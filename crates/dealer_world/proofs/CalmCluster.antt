@@ -1,5 +1,5 @@
 -- A cluster at rest moves: its events are those of a round of the rules.
-use Rattle.std.proofs.Common.{Option, Some, None, ◌≡◌, ◌≢◌, ℕ, ◌<◌, ◌≤◌, ◌+◌, ◌-◌, ◌^◌, ◌⊎◌, inl, inr, Bool, true, false, ◌==◌, if◌then◌else◌, List, [], ◌∷◌, ◌++◌, map, length, get_or, set, Result, Err, IsTrue, refl, ap, sym, ◌∙◌, subst, arith, length-set, get_or-set_same, get_or-set_other}
+use Rattle.std.proofs.Common.{Option, Some, None, ◌≡◌, ◌≢◌, ℕ, ◌<◌, ◌≤◌, ◌+◌, ◌-◌, ◌^◌, ◌⊎◌, inl, inr, Bool, true, false, ◌==◌, if◌then◌else◌, List, [], ◌∷◌, ◌++◌, map, length, get_or, set, Result, Err, IsTrue, refl, ap, sym, ◌∙◌, subst, arith, length-set, get_or-set_same, get_or-set_other, le_refl}
 use Rattle.std.proofs.Math.Logic.{∥∥₁_map, ∥∥₁_elim}
 use Rattle.std.proofs.lemmas.List.{get_or_default}
 use Rattle.std.proofs.lemmas.Bool.Decides.{eqb_tells}
@@ -217,9 +217,6 @@ calm_same place a b i members command same calm = record {
 
 -- ---- small facts
 
-le-self : (a : ℕ) → a ≤ a
-le-self a = omega arith
-
 no_events : (events : List Event) (ys : List calm.Event) → events ≡ [] → AreEvents events ys → ys ≡ []
 no_events [] [] e are = refl
 no_events [] (y ∷ ys) e are = absurd are
@@ -308,7 +305,7 @@ module _ {D : Type 0} (g : Ghosts D) where
       by_node (inr other) =
           subst (λ (n : Node D). failures_of g (get_or old.nodes k d) ≤ failures_of g n)
           (sym (ap (λ (nodes : List (Node D)). get_or nodes k d) stepped.others ∙ get_or-set_other old.nodes (node_of e) k stepped.after d other.1))
-          (le-self (failures_of g (get_or old.nodes k d)))
+          (le_refl (failures_of g (get_or old.nodes k d)))
 
   -- ---- all events
 
@@ -329,7 +326,7 @@ module _ {D : Type 0} (g : Ghosts D) where
       → AreEvents events ys → AllIn members ys → Grown first last
   grown_by n members first end all_events ys count low (none events last e same) are all = record {
     count = ap (λ (v : View (Node D)). length v.nodes) same;
-    counts = λ k d. subst (λ (v : View (Node D)). failures_of g (get_or first.nodes k d) ≤ failures_of g (get_or v.nodes k d)) (sym same) (le-self (failures_of g (get_or first.nodes k d)));
+    counts = λ k d. subst (λ (v : View (Node D)). failures_of g (get_or first.nodes k d) ≤ failures_of g (get_or v.nodes k d)) (sym same) (le_refl (failures_of g (get_or first.nodes k d)));
   }
   grown_by n members first end all_events ys count low (more before between e answer events last ran stepped ample whole) are all =
       let s = split before e ys (subst (λ (l : List Event). AreEvents l ys) whole are) in

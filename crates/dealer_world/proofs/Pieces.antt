@@ -72,7 +72,7 @@ count_step : (b : Bool) (more_count old_count all_count : ℕ) → all_count ≡
 count_step true more_count old_count all_count e = omega arith
 count_step false more_count old_count all_count e = e
 
-count_more : (starts more : List Start) (j : ℕ) → start_count (starts ++ more) j ≡ start_count starts j + start_count more j
+pub count_more : (starts more : List Start) (j : ℕ) → start_count (starts ++ more) j ≡ start_count starts j + start_count more j
 count_more [] more j = omega arith
 count_more (begun ∷ starts) more j = count_step (begun.node == j) (start_count more j) (start_count starts j) (start_count (starts ++ more) j) (count_more starts more j)
 

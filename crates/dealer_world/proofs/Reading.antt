@@ -11,6 +11,7 @@ use Rattle.matchstate.specs.Laws.{Place, SeatSees, AllSameButUnseen, LinesAgree}
 use Rattle.matchstate.specs.Beginnings.{AlikeThroughout}
 use Rattle.matchstate.proofs.Growing.{same_length}
 use Rattle.match_log.specs.Check.{DealsFairly}
+use Rattle.paxos_wire.proofs.Steps.{then_some}
 use Rattle.protocol_model.specs.Sets.{In, IsBeginning}
 use Rattle.dealer_kind.specs.Kind.{Setting}
 use Rattle.dealer_world.specs.Records.{Line, Written, lines_of, logs_of}
@@ -40,10 +41,6 @@ view_by true None text is = absurd cc
 view_by true (Some found) text is = (found, refl, cc)
 view_by false view text is = absurd cc
 
-seated_by : (seated : Bool) (shown : Option (List ℕ)) (text : List ℕ) → cond seated shown None ≡ Some text → (seated ≡ true) × (shown ≡ Some text)
-seated_by true shown text is = (refl, is)
-seated_by false shown text is = absurd cc
-
 pub lines_agree : LinesAgree → LinesOfRecordsAgree
 lines_agree law setting n eras first second one has_first has_second =
     let a = line_of_record setting n eras first one has_first in
@@ -64,7 +61,7 @@ beginning_of Seen (command ∷ newer) first (other ∷ others) (is, same) =
 pub alike_lists : AlikeThroughout → AlikeListsShowTheSame
 alike_lists law setting n eras other found one alike has =
     let is = line_of_record setting n eras found one has in
-    let seated = seated_by (nat_lt found.seat setting.game.players) (line setting.game setting.title.hands is.0 found.seat) found.text is.2 in
+    let seated = then_some (nat_lt found.seat setting.game.players) (line setting.game setting.title.hands is.0 found.seat) found.text is.2 in
     let Seen : ℕ → Place → Type 0 = λ number place.
     SeatSees setting.game (hands_of setting.game setting.title.hands one.commands) found.seat number place ⊎ SeatSees setting.game (hands_of setting.game setting.title.hands other) found.seat number place in
     let before = beginning_of Seen is.1.0 is.0 other (subst (λ (cs : List Command). AllSameButUnseen Seen cs other) is.1.1 alike) in

@@ -1,5 +1,5 @@
 -- What the record of a cluster is once all nodes were started.
-use Rattle.std.proofs.Common.{◌≡◌, ◌≢◌, ℕ, zero, suc, ◌+◌, ◌<◌, ◌≤◌, ◌⊎◌, inl, inr, ◌==◌, Bool, true, false, if◌then◌else◌, ne_eqb, eq-eqb, List, [], ◌∷◌, ◌++◌, map, length, get_or, Result, Ok, Err, IsTrue, refl, ap, sym, ◌∙◌, subst, arith, length-set}
+use Rattle.std.proofs.Common.{◌≡◌, ◌≢◌, ℕ, zero, suc, ◌+◌, ◌<◌, ◌≤◌, ◌⊎◌, inl, inr, Bool, true, false, if◌then◌else◌, ne_eqb, eq-eqb, List, [], ◌∷◌, ◌++◌, map, length, get_or, Result, Ok, Err, IsTrue, refl, ap, sym, ◌∙◌, subst, arith, length-set}
 use Rattle.std.specs.Prelude.{is_ok}
 use Rattle.std.proofs.lemmas.Bool.{cases_eq}
 use Rattle.std.proofs.lemmas.List.{get_or-set_same, get_or-set_other, length-map}
@@ -23,13 +23,14 @@ use Rattle.promise_store.specs.Journals.{header as store_header}
 use Rattle.promise_store.specs.Holding.{StandsFor}
 use Rattle.dealer_node.specs.Taking.{Answered}
 use Rattle.dealer_world.specs.declared.event.Event.TheVariants as event
-use Rattle.dealer_world.specs.Records.{Record, Start as Begin, start_count, last_start, no_record}
+use Rattle.dealer_world.specs.Records.{Record, start_count, last_start, no_record}
 use Rattle.dealer_world.specs.declared.event.Event.{Event}
 use Rattle.dealer_world.specs.Events.{node_of}
 use Rattle.dealer_world.specs.Views.{grown, piece_of}
 use Rattle.dealer_world.specs.Recordings.{made_by, frame_by, text_by}
 use Rattle.dealer_world.specs.Stepping.{View, Gains, nothing, call, arrived_by_event, begins_by_event}
 use Rattle.dealer_world.specs.Beginning.{IsCreatedAt, IsReopenedAt, HaveStores, AreEach, first_starts, first_headers, first_asks, first_record, AreStarted, Starts, none, more, StartsAll}
+use Rattle.dealer_world.proofs.Pieces.{count_more}
 
 -- ---- a start by the rules
 
@@ -71,21 +72,13 @@ start_turn place store found after frames shown faults (unchanged a b c) (told, 
 
 -- ---- the record
 
-count_append : (xs ys : List Begin) (node : ℕ) → start_count (xs ++ ys) node ≡ start_count xs node + start_count ys node
-count_append [] ys node = omega arith
-count_append (x ∷ xs) ys node = by_case (x.node == node) (start_count (xs ++ ys) node) (start_count xs node) (start_count ys node) (count_append xs ys node)
-  where
-    by_case : (b : Bool) (all left right : ℕ) → all ≡ left + right → (if b then 1 + all else all) ≡ (if b then 1 + left else left) + right
-    by_case true all left right e = omega (arith, e)
-    by_case false all left right e = e
-
 none_yet : (k j : ℕ) → k ≤ j → start_count (first_starts k) j ≡ 0
 none_yet zero j less = refl
 none_yet (suc k) j less =
     let first : start_count (first_starts k) j ≡ 0 = none_yet k j (omega (arith, less)) in
     let ne : k ≢ j = λ e. omega (arith, e, less) in
     let last : start_count ((record { node = k; start = 0 }) ∷ []) j ≡ 0 = ap (λ b. if b then 1 + 0 else 0) (ne_eqb k j ne) in
-    let all = count_append (first_starts k) ((record { node = k; start = 0 }) ∷ []) j in omega (arith, first, last, all)
+    let all = count_more (first_starts k) ((record { node = k; start = 0 }) ∷ []) j in omega (arith, first, last, all)
 
 -- the record, a start longer
 start_more : (plan : Plan) (stores : ℕ → Store) (k : ℕ) (told : Told) (frames : List Outgoing) (shown : List Shown) (faults : List SeatFault)
@@ -104,7 +97,7 @@ start_more plan stores k told frames shown faults made asks shows =
     let m = last_start (first_starts k ++ (record { node = k; start = n }) ∷ []) k in
     let zero_n : n ≡ 0 = none_yet k k (omega arith) in
     let one : start_count ((record { node = k; start = n }) ∷ []) k ≡ 1 = ap (λ b. if b then 1 + 0 else 0) (eq-eqb k k refl) in
-    let sum = count_append (first_starts k) ((record { node = k; start = n }) ∷ []) k in
+    let sum = count_more (first_starts k) ((record { node = k; start = n }) ∷ []) k in
     let zero_m : m ≡ 0 = omega (arith, zero_n, one, sum) in
     let first : Told = record { frames = map posted frames; shown = map printed shown; faults = map fault_of faults } in
     let second : Told = record { frames = map posted asked; shown = map printed shown; faults = map fault_of faults } in
