@@ -1,7 +1,6 @@
 -- What a step keeps of a cluster.
 use Rattle.std.proofs.Common.{◌≡◌, ℕ, zero, suc, ◌<◌, Bool, List, [], ◌∷◌, map, length, get_or, set, Result, Err, refl, ap, sym, ◌∙◌, subst, length-set}
 use Rattle.std.proofs.Math.Logic.{∥∥₁_map, ∥∥₁_elim}
-use denote.Struct.Props.{props}
 use Rattle.std.proofs.Math.Seq.{map-set_same}
 use Rattle.std.proofs.lemmas.List.{get_or_default}
 use Rattle.promise_store.specs.declared.disk.Disk.{Ghosts}
@@ -14,24 +13,14 @@ use Rattle.dealer_node.specs.Outs.{Told}
 use Rattle.dealer_node.specs.Posts.{place_at}
 use Rattle.dealer_node.specs.Seeing.{post_in, runs, IsSeen, begun_of}
 use Rattle.dealer_world.specs.declared.event.Event.{Event}
-use Rattle.dealer_world.specs.declared.event.Event.TheVariants as event
 use Rattle.dealer_world.specs.Records.{Record}
 use Rattle.dealer_world.specs.Views.{grown}
 use Rattle.dealer_world.specs.Recordings.{made_by}
 use Rattle.dealer_world.specs.Events.{node_of}
-use Rattle.dealer_world.specs.Stepping.{View, IsFor, IsGiven, Gains, Stepped, arrived_by_event, begins_by_event}
+use Rattle.dealer_world.specs.Stepping.{View, IsFor, for_prop, IsGiven, Gains, Stepped, arrived_by_event, begins_by_event}
 use Rattle.dealer_world.specs.Promise.{IsForMatch}
 use Rattle.dealer_world.specs.Ruling.{ArePosted, GoesOn, IsBehind}
 use Rattle.dealer_world.proofs.Ruled.{node_within, runs_on, runs_still}
-
-is_for_prop : (nodes players : ℕ) (e : Event) → IsProp (IsFor nodes players e)
-is_for_prop nodes players (event.Frame from to bytes) = hlevel props
-is_for_prop nodes players (event.Line node seat bytes) = hlevel props
-is_for_prop nodes players (event.Tick node) = hlevel props
-is_for_prop nodes players (event.Connect node seat) = hlevel props
-is_for_prop nodes players (event.Drop node seat) = hlevel props
-is_for_prop nodes players (event.Stop node pick) = hlevel props
-is_for_prop nodes players (event.Start node) = hlevel props
 
 module _ {D : Type 0} where
   pub same_place : (nodes : List (Node D)) (i j : ℕ) (new d : Node D) → place_at (post_in new) ≡ place_at (post_in (get_or nodes i d))
@@ -55,7 +44,7 @@ module _ {D : Type 0} where
       → ∥ ArePosted plan nodes ∥₁ → IsForMatch plan e → IsFor (post_in node).nodes (post_in node).setting.game.players e
   is_for_node plan nodes e node count at posted is_for_match =
       let is_for : IsFor (length nodes) plan.setting.game.players e = subst (λ n. IsFor n plan.setting.game.players e) (sym count) is_for_match in
-      ∥∥₁_elim posted (is_for_prop (post_in node).nodes (post_in node).setting.game.players e) (λ each.
+      ∥∥₁_elim posted (for_prop (post_in node).nodes (post_in node).setting.game.players e) (λ each.
       let here : place_at (post_in node) ≡ place_of plan (node_of e) =
       ap (λ (n : Node D). place_at (post_in n)) (sym at) ∙ each (node_of e) node (node_within (length nodes) plan.setting.game.players e is_for) in
       subst (λ n. IsFor n (post_in node).setting.game.players e) (count ∙ ap (λ (p : Place). p.nodes) (sym here))

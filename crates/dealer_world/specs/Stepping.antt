@@ -1,5 +1,6 @@
 -- A cluster as it is seen, and how events change it.
 use Rattle.std.specs.Prelude.{◌≡◌, ℕ, ◌<◌, Bool, true, false, if◌then◌else◌, is_ok, List, [], ◌∷◌, ◌++◌, length, Result, Err, IsTrue}
+use Rattle.std.specs.Coded.{×_prop, le_prop}
 use Rattle.std.proofs.Common.{get_or, set}
 use Rattle.promise_store.specs.declared.disk.Disk.{Ghosts}
 use Rattle.protocol_model.specs.Stores.{Store}
@@ -35,6 +36,16 @@ IsFor nodes players (event.Connect node seat) = (node < nodes) × (seat < player
 IsFor nodes players (event.Drop node seat) = (node < nodes) × (seat < players)
 IsFor nodes players (event.Stop node pick) = node < nodes
 IsFor nodes players (event.Start node) = node < nodes
+
+-- of which there is one proof at most
+pub for_prop : (nodes players : ℕ) (e : Event) → IsProp (IsFor nodes players e)
+for_prop nodes players (event.Frame from to bytes) = ×_prop le_prop le_prop
+for_prop nodes players (event.Line node seat bytes) = ×_prop le_prop le_prop
+for_prop nodes players (event.Tick node) = le_prop
+for_prop nodes players (event.Connect node seat) = ×_prop le_prop le_prop
+for_prop nodes players (event.Drop node seat) = ×_prop le_prop le_prop
+for_prop nodes players (event.Stop node pick) = le_prop
+for_prop nodes players (event.Start node) = le_prop
 
 -- what the event brings arrives at a node that runs
 abbrev pub arrived_by_event : Bool → Event → List Arrived

@@ -1,26 +1,17 @@
 -- Of what waits there is one proof at most.
 use Rattle.std.specs.Prelude.{◌≡◌, ℕ, List, length, Option, Some}
-use Rattle.std.specs.Coded.{Coded, Coded-set, coded_ℕ, coded_list, coded×, coded_option, code_by, ×_prop, Π_prop, →_prop, Unit-prop, le_prop}
+use Rattle.std.specs.Coded.{Coded, Coded-set, coded_ℕ, coded_list, coded×, coded_option, code_by, ×_prop, Π_prop, →_prop, Unit-prop}
 use Rattle.std.proofs.Common.{refl}
 use Rattle.dealer_world.specs.declared.event.Event.{Event}
 use Rattle.dealer_world.specs.declared.event.Event.TheVariants as event
 use Rattle.dealer_world.specs.Records.{Frame}
-use Rattle.dealer_world.specs.Stepping.{View, IsFor}
+use Rattle.dealer_world.specs.Stepping.{View, for_prop}
 use Rattle.serving.specs.declared.waiting.Waiting.{Waiting}
 use Rattle.serving.specs.Turning.{IsSent, IsWaiting}
 
 coded_frame : Coded Frame
 coded_frame = code_by (ℕ × (ℕ × List ℕ)) (coded× coded_ℕ (coded× coded_ℕ (coded_list coded_ℕ))) (λ f. (f.from, (f.to, f.bytes)))
     (λ p. record { from = p.0; to = p.1.0; bytes = p.1.1 }) (λ _. refl)
-
-for_prop : (nodes players : ℕ) (e : Event) → IsProp (IsFor nodes players e)
-for_prop nodes players (event.Frame from to bytes) = ×_prop le_prop le_prop
-for_prop nodes players (event.Line node seat bytes) = ×_prop le_prop le_prop
-for_prop nodes players (event.Tick node) = le_prop
-for_prop nodes players (event.Connect node seat) = ×_prop le_prop le_prop
-for_prop nodes players (event.Drop node seat) = ×_prop le_prop le_prop
-for_prop nodes players (event.Stop node pick) = le_prop
-for_prop nodes players (event.Start node) = le_prop
 
 sent_prop : (sent : List Frame) (number : ℕ) (e : Event) → IsProp (IsSent sent number e)
 sent_prop sent number (event.Frame from to bytes) = Coded-set (coded_option coded_frame) _ _
