@@ -1,6 +1,6 @@
 -- Cutting bytes into texts.
 use Rattle.std.proofs.Common.{◌≡◌, ℕ, ◌+◌, ◌-◌, ◌≤◌, List, [], ◌∷◌, ◌++◌, length, take, drop, refl, sym, ◌∙◌, ap, arith, length-append, Vec, Global, vec_len}
-use Rattle.std.proofs.lemmas.List.{length-drop, length-take, take-append-le, drop-append-le}
+use Rattle.std.proofs.lemmas.List.{length-drop, length-take, take-append-le, drop-append-le, take_all}
 use Rattle.dealer_node.specs.declared.texts.Run.{Run}
 use Rattle.dealer_node.specs.Texts.{Marked, cut, run_total, byte_total}
 
@@ -36,13 +36,6 @@ byte_total-cut (run ∷ runs) bytes e =
     let more = byte_total-cut runs (drop run.len bytes) left in
     omega (arith, more, length-drop run.len bytes, length-take run.len bytes)
 
-take-whole : (xs : List ℕ) (n : ℕ) → n ≡ length xs → take n xs ≡ xs
-take-whole xs n e = ap (λ k. take k xs) e ∙ all xs
-  where
-    all : (ys : List ℕ) → take (length ys) ys ≡ ys
-    all [] = refl
-    all (y ∷ ys) = ap (λ zs. y ∷ zs) (all ys)
-
 -- one run more for what was written behind
 pub grown : {T : Type 0} (runs now_runs : List (Run T)) (bytes now text : List ℕ) (run : Run T) → run_total runs ≡ length bytes → now_runs ≡ runs ++ run ∷ [] → now ≡ bytes ++ text → run.len ≡ length now - length bytes
     → (run_total now_runs ≡ length now) × (cut now_runs now ≡ cut runs bytes ++ (record { mark = run.mark; text = text }) ∷ [])
@@ -52,7 +45,7 @@ grown {T} runs now_runs bytes now text run all is_runs is_bytes len =
     let last : List ℕ → Marked T = λ t. record { mark = run.mark; text = t } in (
       (let e : run_total now_runs ≡ run_total (runs ++ run ∷ []) = ap run_total is_runs in omega (arith, run_total-append runs (run ∷ []))),
       ap (λ rs. cut rs now) is_runs ∙ ap (λ bs. cut (runs ++ run ∷ []) bs) is_bytes ∙ cut-append runs (run ∷ []) bytes text all
-          ∙ ap (λ t. cut runs bytes ++ last t ∷ []) (take-whole text run.len whole),
+          ∙ ap (λ t. cut runs bytes ++ last t ∷ []) (take_all run.len text (omega (arith, whole))),
     )
 
 pub byte_total-append : {T : Type 0} (texts more : List (Marked T)) → byte_total (texts ++ more) ≡ byte_total texts + byte_total more

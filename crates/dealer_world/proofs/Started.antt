@@ -2,7 +2,7 @@
 use Rattle.std.proofs.Common.{◌≡◌, ◌≢◌, ℕ, zero, suc, ◌+◌, ◌<◌, ◌≤◌, ◌⊎◌, inl, inr, Bool, true, false, if◌then◌else◌, ne_eqb, eq-eqb, List, [], ◌∷◌, ◌++◌, map, length, get_or, Result, Ok, Err, IsTrue, refl, ap, sym, ◌∙◌, subst, arith, length-set}
 use Rattle.std.specs.Prelude.{is_ok}
 use Rattle.std.proofs.lemmas.Bool.{cases_eq}
-use Rattle.std.proofs.lemmas.List.{get_or-set_same, get_or-set_other, length-map}
+use Rattle.std.proofs.lemmas.List.{get_or-set_same, get_or-set_other, get_or-map, length-map}
 use Rattle.promise_store.specs.declared.disk.Disk.{Ghosts}
 use Rattle.protocol_model.specs.Stores.{Store, empty_store}
 use Rattle.dealer_kind.specs.Plans.{Plan}
@@ -114,11 +114,6 @@ gained : {N : Type 0} (e : Event) (up : Bool) (told : Told) (old new : View N) (
 gained e up told old new answer ok (nothing a absent all last) = absurd (not_err _ answer ok absent)
 gained e up told old new answer ok (call a ample all last) = all
 
-mapped : {A B : Type 0} (f : A → B) (xs : List A) (i : ℕ) (d : A) (e : B) → i < length xs → get_or (map f xs) i e ≡ f (get_or xs i d)
-mapped f [] i d e less = absurd (omega (arith, less))
-mapped f (x ∷ xs) zero d e less = refl
-mapped f (x ∷ xs) (suc i) d e less = mapped f xs i d e (omega (arith, less))
-
 module _ {D : Type 0} (g : Ghosts D) where
   -- node i of a plan, down, with this store
   pub record IsWaiting (plan : Plan) (stores : ℕ → Store) (i : ℕ) (node : Node D) : Type 0 where
@@ -211,7 +206,7 @@ module _ {D : Type 0} (g : Ghosts D) where
       (subst (λ (ns : List (Node D)). AreEach (IsWaiting config stores) ns) (sym nodes_are)
       (λ i d less.
       let e = each i d less in
-      let here : get_or files i [] ≡ begun_of g (get_or nodes i d) = ap (λ fs. get_or fs i []) (sym held) ∙ mapped (begun_of g) nodes i d [] less in
+      let here : get_or files i [] ≡ begun_of g (get_or nodes i d) = ap (λ fs. get_or fs i []) (sym held) ∙ get_or-map (begun_of g) nodes i d [] less in
       let within : i < length files = subst (λ n. i < n) (sym (length-map nodes (begun_of g)) ∙ ap length held) less in
       record {
         placed = e.placed;
