@@ -1,7 +1,8 @@
 -- What sessions take from lines, and what lines say to the protocol.
-use Rattle.std.proofs.Common.{◌≡◌, ℕ, Bool, true, false, List, [], ◌∷◌, ◌++◌, Some, None, Option, length, refl, ap, sym, ◌∙◌, subst, arith, ◌==◌, ◌&&◌, nat_lt}
+use Rattle.std.proofs.Common.{◌≡◌, ℕ, true, List, [], ◌∷◌, ◌++◌, Some, None, Option, length, refl, ap, sym, ◌∙◌, subst, arith, nat_lt, eq-eqb}
 use Rattle.std.proofs.lemmas.Option.{same_Some}
 use Rattle.std.specs.Prelude.{bytes_eq, Ok}
+use Rattle.std.proofs.lemmas.Bool.{and_from, and_parts}
 use Rattle.std.proofs.lemmas.Bool.Decides.{nat_tests}
 use Rattle.std.proofs.lemmas.Slice.Eq.{bytes_eq-Decides}
 use Rattle.game_def.specs.Game.{Game}
@@ -28,26 +29,11 @@ use Rattle.dealer_kind.specs.Laws.{SessionsSay, SaidIsHeard, AnswersAreHeard}
 use Rattle.dealer_kind.proofs.Fitting.{fitting}
 use Rattle.dealer_kind.proofs.Holding.{held}
 
-same_number : (n : ℕ) → (n == n) ≡ true
-same_number n = grind (arith, nat_tests)
-
-and_both : (a b : Bool) → a ≡ true → b ≡ true → (a && b) ≡ true
-and_both true b first second = second
-and_both false b first second = first
-
-and_first : (a b : Bool) → (a && b) ≡ true → a ≡ true
-and_first true b is = refl
-and_first false b is = is
-
-and_second : (a b : Bool) → (a && b) ≡ true → b ≡ true
-and_second true b is = is
-and_second false b is = absurd cc
-
 -- ---- from sessions to the protocol
 
 turn_is : (game : Game) (view : View) → to_act game (turns game view.past) ≡ Some view.position
     → is_position (to_act game (turns game view.past)) view.position ≡ true
-turn_is game view turn = ap (λ p. is_position p view.position) turn ∙ same_number view.position
+turn_is game view turn = ap (λ p. is_position p view.position) turn ∙ eq-eqb view.position view.position refl
 
 pub sessions_say : AnswersAreTexts → FitsWithoutReason → SessionsSay
 sessions_say texts law setting before seat line hand index action within said takes =
@@ -57,8 +43,8 @@ sessions_say texts law setting before seat line hand index action within said ta
     let seated : nat_lt seat game.players ≡ true = grind (arith, nat_tests) in
     let fit : fits setting before (Act hand index action) ≡ true = (fitting law setting before (Act hand index action)).1 takes in
     let echoed : echoes game (Some view) (text_of line) action ≡ true
-    = and_both _ _ (turn_is game view said.turn) ((bytes_eq-Decides (text_of line) (line_text view ++ 58 ∷ action_text game action)).1 whole) in
-    and_both _ _ (and_both _ _ seated fit) (ap (λ (v : Option View). echoes game v (text_of line) action) said.echoes.current ∙ echoed)
+    = and_from _ _ (turn_is game view said.turn) ((bytes_eq-Decides (text_of line) (line_text view ++ 58 ∷ action_text game action)).1 whole) in
+    and_from _ _ (and_from _ _ seated fit) (ap (λ (v : Option View). echoes game v (text_of line) action) said.echoes.current ∙ echoed)
 
 -- ---- and back
 
@@ -86,12 +72,12 @@ pub said_is_heard : FitsWithoutReason → RightLinesAct → SaidIsHeard
 said_is_heard law right setting before seat line hand index action view is_game current is_view said =
     let game : Game = setting.game in
     let hands : List Hand = hands_after setting before in
-    let conditions = and_first _ _ said in
-    let takes = (fitting law setting before (Act hand index action)).0 (and_second _ _ conditions) in
+    let conditions = (and_parts _ _ said).0 in
+    let takes = (fitting law setting before (Act hand index action)).0 (and_parts _ _ conditions).1 in
     let echoed : echoes game (Some view) (text_of line) action ≡ true
-    = ap (λ (v : Option View). echoes game v (text_of line) action) (sym current) ∙ and_second _ _ said in
-    let turn = position_then (to_act game (turns game view.past)) view.position (and_first _ _ echoed) in
-    let whole = (bytes_eq-Decides (text_of line) (line_text view ++ 58 ∷ action_text game action)).0 (and_second _ _ echoed) in
+    = ap (λ (v : Option View). echoes game v (text_of line) action) (sym current) ∙ (and_parts _ _ said).1 in
+    let turn = position_then (to_act game (turns game view.past)) view.position (and_parts _ _ echoed).0 in
+    let whole = (bytes_eq-Decides (text_of line) (line_text view ++ 58 ∷ action_text game action)).0 (and_parts _ _ echoed).1 in
     let of = of_running game setting.title.hands hands seat hand index action view current takes in
     let plays = right game hands seat view action is_game is_view current turn (allowed_there game setting.title.hands hands seat hand index action view current takes) in (
       subst (λ text. SaysAct game hands seat text hand index action) (sym whole)
