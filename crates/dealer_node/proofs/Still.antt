@@ -1,17 +1,12 @@
 -- What is told to the others has a frame, since there are others.
-use Rattle.std.proofs.Common.{◌≡◌, ℕ, zero, suc, ◌≤◌, Bool, true, false, [], ◌++◌, inl, inr, refl, subst, arith, true≢false}
+use Rattle.std.proofs.Common.{◌≡◌, ℕ, zero, suc, ◌≤◌, Bool, true, false, [], ◌++◌, inl, refl, subst, arith, true≢false}
 use Rattle.std.specs.Prelude.{◌==◌, if◌then◌else◌, IfSome, Some, None}
 use Rattle.std.proofs.lemmas.Bool.{eqb-true}
 use Rattle.paxos_wire.specs.declared.message.Message.{Message}
-use Rattle.dealer_kind.specs.Plans.{HasNodes}
 use Rattle.protocol_model.specs.Sets.{In}
 use Rattle.node_rules.specs.Sending.{Frame, one, to_first}
 use Rattle.dealer_node.specs.Working.{TellsNoStore}
 use Rattle.protocol_model.proofs.Sets.{in_first, in_later}
-
-pub more_than_one : (nodes : ℕ) → HasNodes nodes → 2 ≤ nodes
-more_than_one nodes (inl e) = omega arith
-more_than_one nodes (inr e) = omega arith
 
 -- of the last two nodes the one or the other is told
 one_of_two : (k node : ℕ) (message : Message) (a b : Bool) → (suc k == node) ≡ a → (k == node) ≡ b

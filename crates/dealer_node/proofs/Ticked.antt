@@ -33,7 +33,8 @@ use Rattle.dealer_node.specs.Running.{IsRunning, IsTaken, is_spent_at}
 use Rattle.dealer_node.specs.Working.{head_of, disk_under, IsDone, IsUp, Took, Failed, Works}
 use Rattle.dealer_node.specs.declared.fault.NodeFault.{NodeFault}
 use Rattle.paxos_wire.specs.declared.message.Message.TheVariants as frame
-use Rattle.dealer_node.proofs.Still.{more_than_one, told_to_none}
+use Rattle.node_rules.proofs.Members.{three_nodes}
+use Rattle.dealer_node.proofs.Still.{told_to_none}
 use Rattle.dealer_node.proofs.Worked.{nothing_more, then_works}
 use Rattle.dealer_node.proofs.Stored.{answered_prepare, prepared_by}
 
@@ -167,7 +168,7 @@ module _ {D : Type 0} (g : Ghosts D) where
         told = taken.told;
         fits = taken.fits;
         moments = subst (λ (st : Store). LeavesDuring g (head_of post) s.store st (disk_under old) (disk_under new)) stores during;
-        untouched = λ still. absurd (told_to_none post.nodes post.node (frame.Prepare ballot (front_of s)) (more_than_one post.nodes is_post.nodes) (λ e. e) still);
+        untouched = λ still. absurd (told_to_none post.nodes post.node (frame.Prepare ballot (front_of s)) (let three = three_nodes post.nodes is_post.nodes in omega arith) (λ e. e) still);
       } in
       let closes = unled post ballot s is_post in
       let second : Took g post turn.after (closing (place_at post) turn.after) new new later later = record {

@@ -11,6 +11,7 @@ use Rattle.dealer_kind.specs.Plans.{HasNodes}
 use Rattle.node_rules.specs.Sending.{Frame, one, to_first}
 use Rattle.node_rules.specs.Called.{IsNote, IsForAll, IsSaidTo, IsSaid, Carry, CarryAll}
 use Rattle.protocol_model.proofs.Sets.{in_later, in_first, in_split, last_or_below}
+use Rattle.node_rules.proofs.Members.{three_nodes}
 
 pub nothing_carried : (n i : ℕ) → Carry n i [] []
 nothing_carried n i = record {
@@ -168,12 +169,8 @@ another : (i : ℕ) → (j : ℕ) × (j < 2) × (j ≢ i)
 another zero = (1, omega arith, λ e. absurd (omega (arith, e)))
 another (suc i) = (0, omega arith, λ e. absurd (omega (arith, e)))
 
-two : (n : ℕ) → HasNodes n → 2 ≤ n
-two n (inl e) = omega (arith, e)
-two n (inr e) = omega (arith, e)
-
 pub said_by_others : (n i : ℕ) (w : Wire) (m : Message) → HasNodes n → carried i w ≡ m ∷ [] → IsSaid i (to_first n i w) m
-said_by_others n i w m few e = let j = another i in (j.0, says_to n i j.0 w m e (let h = two n few in let l = j.1 in omega arith) j.2)
+said_by_others n i w m few e = let j = another i in (j.0, says_to n i j.0 w m e (let h = three_nodes n few in let l = j.1 in omega arith) j.2)
 
 -- that isn't a proposal
 abbrev pub IsNoProposal : Message → Type 0
