@@ -4,12 +4,10 @@ use Rattle.std.specs.Prelude.{is_none}
 use Rattle.std.proofs.lemmas.Bool.{eqb-true, eqb-false}
 use Rattle.std.proofs.lemmas.List.{length-append}
 use Rattle.paxos_wire.specs.declared.ballot.Ballot.{Ballot}
-use Rattle.paxos_wire.specs.declared.entry.Entry.{Entry}
 use Rattle.slot_log.specs.declared.command.Command.{Command}
 use Rattle.protocol_model.specs.Sets.{In}
 use Rattle.protocol_model.specs.Ballots.{Below, AtMost}
-use Rattle.protocol_model.specs.Messages.{Vote, Message, Promise, Accept, Accepted}
-use Rattle.protocol_model.specs.Quorums.{HasPromise, HasPromises}
+use Rattle.protocol_model.specs.Messages.{Vote, Message, Accept, Accepted}
 use Rattle.protocol_model.specs.Stores.{Store, promised, voted}
 use Rattle.learner.specs.Learning.{Learned}
 use Rattle.dealer_kind.specs.Kind.{fits}
@@ -18,24 +16,15 @@ use Rattle.node_rules.specs.Proposing.{own_deal, fitting, own_value}
 use Rattle.node_rules.specs.Seats.{waiting}
 use Rattle.node_rules.specs.Proposed.{IsValue, IsProposed}
 use Rattle.protocol_model.proofs.Ballots.{not_below}
+use Rattle.protocol_model.proofs.Quorums.{promises_stay, greatest_stays}
 
 -- ---- more messages are had
 
-promise_more : (messages has : List Message) (node : ℕ) (ballot : Ballot) (slot : ℕ) (IsSo : Entry → Type 0) → ((m : Message) → In m messages → In m has)
-    → HasPromise messages node ballot slot IsSo → HasPromise has node ballot slot IsSo
-promise_more messages has node ballot slot IsSo inside h = (h.0, h.1, inside (Promise node ballot h.0 h.1) h.2, h.3, h.4)
-
-promises_more : (n : ℕ) (messages has : List Message) (ballot : Ballot) (slot : ℕ) (IsSo : Entry → Type 0) → ((m : Message) → In m messages → In m has)
-    → HasPromises n messages ballot slot IsSo → HasPromises n has ballot slot IsSo
-promises_more n messages has ballot slot IsSo inside h = (h.0, h.1, λ k below is. promise_more messages has k ballot slot IsSo inside (h.2 k below is))
-
 pub value_more : (n : ℕ) (messages has : List Message) (ballot : Ballot) (slot : ℕ) (own other : Option Command) (command : Command) → ((m : Message) → In m messages → In m has)
     → (own ≡ Some command → other ≡ Some command) → IsValue n messages ballot slot own command → IsValue n has ballot slot other command
-value_more n messages has ballot slot own other command inside same (inl told) =
-    let t = told.1 in
-    inl (told.0, (t.0, t.1, t.2, inside (Promise t.0 ballot t.1 t.2) t.3, t.4), promises_more n messages has ballot slot (λ entry. AtMost entry.ballot told.0) inside told.2)
+value_more n messages has ballot slot own other command inside same (inl told) = inl (greatest_stays n messages has ballot slot command inside told)
 value_more n messages has ballot slot own other command inside same (inr free) =
-    inr (promises_more n messages has ballot slot (λ entry. ⊥) inside free.0, same free.1)
+    inr (promises_stay n messages has ballot slot (λ entry. ⊥) inside free.0, same free.1)
 
 -- ---- a message is got, or sent, that is no proposal
 
