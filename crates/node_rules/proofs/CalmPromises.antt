@@ -2,6 +2,7 @@
 use Rattle.std.proofs.Common.{◌≡◌, ◌≢◌, ℕ, ◌<◌, ◌*◌, ◌⊎◌, inl, inr, Bool, true, false, not, ◌==◌, if◌then◌else◌, List, [], ◌∷◌, Option, Some, None, refl, sym, ap, subst, ◌∙◌, arith, length, get_or, set, replicate, get_or-set_same, get_or-set_other, length-set, eq-eqb}
 use Rattle.std.specs.Prelude.{nat_lt, is_some}
 use Rattle.std.proofs.lemmas.Bool.Decides.{eqb_tells}
+use Rattle.std.proofs.lemmas.Option.{cond_some}
 use Rattle.paxos_wire.specs.declared.limits.TheConstants.{NODES, WINDOW}
 use Rattle.paxos_wire.specs.declared.ballot.Ballot.{Ballot}
 use Rattle.paxos_wire.specs.declared.entry.Entry.{Entry}
@@ -90,10 +91,6 @@ abbrev pub Agree : (ℕ → Standing) → List ℕ → ℕ → Type 0
 Agree standings members slot = (m k : ℕ) → In m members → In k members → (v w : Vote) → (standings m).store.votes slot ≡ Some v → (standings k).store.votes slot ≡ Some w → v.ballot ≡ w.ballot
     → v.command ≡ w.command
 
-told_if : (b : Bool) (told other : List Entry) → (if b then Some told else None) ≡ Some other → (b ≡ true) × (told ≡ other)
-told_if true told other e = (refl, (let s : told ≡ other = cc in s))
-told_if false told other e = absurd (cc)
-
 -- who tells of an entry at the first slot has this vote
 pub record TellsVote (standings : ℕ → Standing) (members : List ℕ) (slot : ℕ) (entry : Entry) : Type 0 where
   pub node : ℕ
@@ -103,7 +100,7 @@ pub record TellsVote (standings : ℕ → Standing) (members : List ℕ) (slot :
 told_vote : (n : ℕ) (ballot : Ballot) (slot : ℕ) (standings : ℕ → Standing) (members counted : List ℕ) (k : Campaign) (entry : Entry) → IsCounted ballot slot (λ m. (standings m).store) counted k
     → ((m : ℕ) → In m counted → In m members) → counted_of.Tells n k slot entry → TellsVote standings members slot entry
 told_vote n ballot slot standings members counted k entry c inside (m, told, low, promise, had, at) =
-    let is = told_if (is_in counted m) (told_by (standings m).store slot) told (sym (c.promises m) ∙ promise) in
+    let is = cond_some (is_in counted m) (told_by (standings m).store slot) told (sym (c.promises m) ∙ promise) in
     let only = (tells (standings m).store slot).only entry (subst (λ (l : List Entry). In entry l) (sym is.1) had) in
     record { node = m; member = inside m (is_in_in counted m is.0); vote = subst (λ (s : ℕ). (standings m).store.votes s ≡ Some (vote_of entry)) at only.1 }
 
