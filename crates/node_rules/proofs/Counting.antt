@@ -1,8 +1,7 @@
 -- What is counted of the votes that came, from call to call.
-use Rattle.std.proofs.Common.{◌≡◌, ℕ, ◌<◌, ◌≤◌, ◌+◌, inl, inr, Bool, true, false, if◌then◌else◌, List, ◌∷◌, Result, Ok, Err, refl, sym, ap, subst, ◌∙◌, arith}
-use Rattle.std.specs.Prelude.{nat_lt, IsOk}
-use Rattle.std.proofs.lemmas.Bool.{ltb-true, ltb-false}
-use Rattle.paxos_wire.specs.declared.limits.TheConstants.{WINDOW, SLOTS}
+use Rattle.std.proofs.Common.{◌≡◌, ℕ, ◌<◌, ◌≤◌, inl, inr, Bool, true, false, true≢false, List, ◌∷◌, Result, Ok, Err, refl, sym, ap, subst, ◌∙◌}
+use Rattle.std.specs.Prelude.{IsOk}
+use Rattle.paxos_wire.specs.declared.limits.TheConstants.{SLOTS}
 use Rattle.paxos_wire.specs.declared.ballot.Ballot.{Ballot}
 use Rattle.slot_log.specs.declared.slot_fault.SlotFault.{SlotFault}
 use Rattle.slot_log.specs.Slots.{IsLog, front}
@@ -18,7 +17,7 @@ use Rattle.node_rules.specs.Learning.{learning}
 use Rattle.node_rules.specs.Given.{Given}
 use Rattle.node_rules.specs.Being.{IsLearner}
 use Rattle.learner.proofs.Counting.{counted_came}
-use Rattle.learner.proofs.Kept.{open_means}
+use Rattle.learner.proofs.Kept.{open_means, open_is}
 use Rattle.node_rules.proofs.Results.{ok_is}
 
 -- ---- what is counted grows
@@ -42,12 +41,7 @@ pub record GrowsBy (came : List Message) (l new : Learned) (voter : ℕ) (ballot
   pub has_vote : IsOpen l.log slot → In (Accepted voter ballot slot command) grows.more
 
 not_open : (l : Learned) (slot : ℕ) → is_open l.log slot ≡ false → IsOpen l.log slot → ⊥
-not_open l slot e o = by_tests (nat_lt slot (front l.log)) (nat_lt slot (front l.log + WINDOW)) (nat_lt slot SLOTS) refl refl refl e
-  where
-    by_tests : (a b c : Bool) → nat_lt slot (front l.log) ≡ a → nat_lt slot (front l.log + WINDOW) ≡ b → nat_lt slot SLOTS ≡ c → (if a then false else if b then c else false) ≡ false → ⊥
-    by_tests true b c ea eb ec h = let k = ltb-true slot (front l.log) ea in let r = o.reached in omega arith
-    by_tests false false c ea eb ec h = let k = ltb-false slot (front l.log + WINDOW) eb in let r = o.within in omega arith
-    by_tests false true c ea eb ec h = let k = ltb-false slot SLOTS (ec ∙ h) in let r = o.is_slot in omega arith
+not_open l slot e o = true≢false (sym (open_is l.log slot o) ∙ e)
 
 -- a vote for an open slot is counted
 pub counts_vote : (g : Given) (came : List Message) (l : Learned) (voter : ℕ) (ballot : Ballot) (slot : ℕ) (command : Command) → IsLog l.log → voter < l.nodes → IsOpen l.log slot
