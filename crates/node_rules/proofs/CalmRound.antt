@@ -1,6 +1,5 @@
 -- The calm round goes on to its end.
-use Rattle.std.proofs.Common.{◌≡◌, ◌≢◌, ℕ, suc, ◌<◌, ◌≤◌, ◌+◌, ◌*◌, ◌⊎◌, inl, inr, Bool, true, false, ◌==◌, if◌then◌else◌, List, [], ◌∷◌, ◌++◌, map, Option, Some, Result, Ok, refl, sym, ap, subst, ◌∙◌, arith, length, eq-eqb, length-set}
-use Rattle.std.proofs.lemmas.Bool.{eqb-true}
+use Rattle.std.proofs.Common.{◌≡◌, ◌≢◌, ℕ, suc, ◌<◌, ◌≤◌, ◌+◌, ◌*◌, ◌⊎◌, inl, inr, Bool, true, false, ◌==◌, List, [], ◌∷◌, ◌++◌, map, Option, Some, Result, Ok, refl, sym, ap, subst, ◌∙◌, arith, length, length-set}
 use Rattle.std.proofs.lemmas.Bool.Decides.{eqb_tells}
 use Rattle.paxos_wire.specs.declared.fault.FrameFault.{FrameFault}
 use Rattle.paxos_wire.specs.declared.message.Message.{Message as Wire}
@@ -25,7 +24,7 @@ use Rattle.node_rules.specs.Calls as call
 use Rattle.node_rules.specs.Rules.{asking, on_message, on_read, IsTurnBy, IsTurn}
 use Rattle.node_rules.specs.Calm.{Rise, without, Event, Ticks, delivers, round}
 use Rattle.node_rules.specs.CalmRound.{place_in, node_of, call_of, Sent, sent_by, IsOnItsWay, AreReadBack, GoOn, HasMovedOn}
-use Rattle.protocol_model.proofs.Sets.{in_first, in_later}
+use Rattle.protocol_model.proofs.Sets.{in_first, in_later, put_same, put_other}
 use Rattle.node_rules.proofs.Voting.{voted_is}
 use Rattle.node_rules.proofs.Asked.{asked_same}
 use Rattle.node_rules.proofs.Carrying.{has_to}
@@ -34,18 +33,6 @@ use Rattle.node_rules.proofs.Electing.{covered}
 use Rattle.node_rules.proofs.Counting.{Counts, counts_vote}
 use Rattle.node_rules.proofs.Members.{AreDistinct, above_all, rise_distinct, without_in, in_without, without_rise, without_length, three_nodes}
 use Rattle.node_rules.proofs.CalmTurns.{Round, place_at, ballot_in, slot_in, told_in, stores_in, IsRest, no_vote, begun_counted, begun_turn, tick_turn, prepare_in, promise_in, promised_turn, prepare_turn, IsPreparing, with_counted, preparing_more, promise_turn, made_in, completed_turn, completing_turn, accept_in, accepted_in, HasPromised, accepted_turn, accept_turn, IsLeading, with_heard_vote, accepted_goes, leading_more, LastTurn, last_turn, more_counted, not_refused, is_ahead, unknown, ok_if, new_over}
-
--- ---- standings, one changed
-
-put_here : (st : ℕ → Standing) (j : ℕ) (s : Standing) → put st j s j ≡ s
-put_here st j s = ap (λ (b : Bool). if b then s else st j) (eq-eqb j j refl)
-
-put_there : (st : ℕ → Standing) (j : ℕ) (s : Standing) (k : ℕ) → (k ≡ j → ⊥) → put st j s k ≡ st k
-put_there st j s k other = by_test (k == j) refl
-  where
-    by_test : (b : Bool) → (k == j) ≡ b → (if k == j then s else st k) ≡ st k
-    by_test true e = absurd (other (eqb-true k j e))
-    by_test false e = ap (λ (b : Bool). if b then s else st k) e
 
 -- ---- frames on their way
 
@@ -166,11 +153,11 @@ promise_framed r j = in_first (one r.i (promise_in r j) ++ []) (asking r.i (prep
 prepares_on : (r : Round) → IsRest r → (others : List ℕ) → Others r others → (from j : ℕ) (todo : List ℕ) → ToCome r others from (j ∷ todo) → (st : ℕ → Standing) (sent : List Sent) → Prepares r others from st sent
     → AreReadBack (prepared_turn r j).frames → Prepares r others (j + 1) (put st j (prepared_turn r j).after) (sent_by j (prepared_turn r j).frames ++ sent)
 prepares_on r rest others o from j todo c st sent p back = record {
-  preparing = subst (IsPreparing r (r.i ∷ [])) (sym (put_there st j (prepared_turn r j).after r.i (λ e. o.other j jin (sym e)))) p.preparing;
-  waits = λ k h l. put_there st j (prepared_turn r j).after k (λ e. absurd (omega (arith, e))) ∙ p.waits k h (let low = c.rise.0 in omega arith);
+  preparing = subst (IsPreparing r (r.i ∷ [])) (sym (put_other st j (prepared_turn r j).after r.i (λ e. o.other j jin (sym e)))) p.preparing;
+  waits = λ k h l. put_other st j (prepared_turn r j).after k (λ e. absurd (omega (arith, e))) ∙ p.waits k h (let low = c.rise.0 in omega arith);
   promised_so = λ k h l. elim (done_is r others from j todo c k h l) [
-    | inl low ↦ subst (HasPromised r k) (sym (put_there st j (prepared_turn r j).after k (λ e. let b = c.rise.0 in absurd (omega (arith, e))))) (p.promised_so k h low)
-    | inr e ↦ subst (λ (m : ℕ). HasPromised r m (put st j (prepared_turn r j).after m)) (sym e) (subst (HasPromised r j) (sym (put_here st j (prepared_turn r j).after)) (promised_after r rest j (o.member j jin)))
+    | inl low ↦ subst (HasPromised r k) (sym (put_other st j (prepared_turn r j).after k (λ e. let b = c.rise.0 in absurd (omega (arith, e))))) (p.promised_so k h low)
+    | inr e ↦ subst (λ (m : ℕ). HasPromised r m (put st j (prepared_turn r j).after m)) (sym e) (subst (HasPromised r j) (sym (put_same st j (prepared_turn r j).after)) (promised_after r rest j (o.member j jin)))
   ];
   way = λ k h. in_later (sent_by j (prepared_turn r j).frames) sent (record { from = r.i; to = k; message = prepare_in r }) (p.way k h);
   reads = p.reads;
@@ -320,8 +307,8 @@ all_promises r rest others o [] j from counted c size IsSo st sent p events late
     (completing_turn r rest counted (st r.i) p.preparing j distinct (half r rest (length counted) 0 size) (inside_more r others o counted from j [] c p.inside) (all_in r others o counted from j c p.done p.own)
     (let q = rest.quorum.most in omega (arith, q, size)))
     (λ back. later (put st r.i t.after) (sent_by r.i t.frames ++ sent) (record {
-      leading = subst (IsLeading r (r.i ∷ [])) (sym (put_here st r.i t.after)) (leads_then r rest counted (st r.i) p.preparing j distinct (half r rest (length counted) 0 size));
-      waits = λ k h l. subst (HasPromised r k) (sym (put_there st r.i t.after k (o.other k h))) (p.promised_so k h);
+      leading = subst (IsLeading r (r.i ∷ [])) (sym (put_same st r.i t.after)) (leads_then r rest counted (st r.i) p.preparing j distinct (half r rest (length counted) 0 size));
+      waits = λ k h l. subst (HasPromised r k) (sym (put_other st r.i t.after k (o.other k h))) (p.promised_so k h);
       way = λ k h. in_first (sent_by r.i t.frames) sent (record { from = r.i; to = k; message = accept_in r }) (sent_in r.i t.frames k (accept_in r) (framed k h));
       reads = λ k h. back (record { to = k; message = accept_in r }) (framed k h);
       voted_so = λ k h l. absurd (omega arith);
@@ -346,7 +333,7 @@ all_promises r rest others o (next ∷ todo) j from counted c size IsSo st sent 
     (λ back. all_promises r rest others o todo next (j + 1) (j ∷ counted) (next_come r others from j (next ∷ todo) c) (omega (arith, size)) IsSo
     (put st r.i (counted_turn r counted (st r.i) p.preparing j).after) sent
     (record {
-      preparing = subst (IsPreparing r (j ∷ counted)) (sym (put_here st r.i (counted_turn r counted (st r.i) p.preparing j).after))
+      preparing = subst (IsPreparing r (j ∷ counted)) (sym (put_same st r.i (counted_turn r counted (st r.i) p.preparing j).after))
           (preparing_more r rest counted (st r.i) p.preparing j p.distinct (half r rest (length counted) (suc (length todo)) size) (not_counted r others o counted from j (next ∷ todo) c p.only)
           (rest.low j (o.member j (c.inside j (inl refl)))));
       distinct = distinct_more r rest others o counted from j (next ∷ todo) c p.only p.distinct;
@@ -354,7 +341,7 @@ all_promises r rest others o (next ∷ todo) j from counted c size IsSo st sent 
       done = done_more r others counted from j (next ∷ todo) c p.done;
       own = inr p.own;
       only = only_more r others counted from j (next ∷ todo) c p.only;
-      promised_so = λ k h. subst (HasPromised r k) (sym (put_there st r.i (counted_turn r counted (st r.i) p.preparing j).after k (o.other k h))) (p.promised_so k h);
+      promised_so = λ k h. subst (HasPromised r k) (sym (put_other st r.i (counted_turn r counted (st r.i) p.preparing j).after k (o.other k h))) (p.promised_so k h);
       told = p.told;
     }) events later)
 
@@ -379,8 +366,8 @@ all_accepts r rest others o (j ∷ todo) from c IsSo st sent p events later =
     deliver r IsSo st sent r.i j (accept_in r) (map (λ k. delivers r.i k (accept_in r)) todo ++ events) t (p.waits j jin c.rise.0).up (p.reads j jin) (p.way j jin)
     (accept_turn r rest j (o.member j jin) (st j) (p.waits j jin c.rise.0))
     (λ back. all_accepts r rest others o todo (j + 1) (next_come r others from j todo c) IsSo (put st j t.after) (sent_by j t.frames ++ sent) (record {
-      leading = subst (IsLeading r (r.i ∷ [])) (sym (put_there st j t.after r.i (λ e. o.other j jin (sym e)))) p.leading;
-      waits = λ k h l. subst (HasPromised r k) (sym (put_there st j t.after k (λ e. absurd (omega (arith, e))))) (p.waits k h (let low = c.rise.0 in omega arith));
+      leading = subst (IsLeading r (r.i ∷ [])) (sym (put_other st j t.after r.i (λ e. o.other j jin (sym e)))) p.leading;
+      waits = λ k h l. subst (HasPromised r k) (sym (put_other st j t.after k (λ e. absurd (omega (arith, e))))) (p.waits k h (let low = c.rise.0 in omega arith));
       way = λ k h. in_later (sent_by j t.frames) sent (record { from = r.i; to = k; message = accept_in r }) (p.way k h);
       reads = p.reads;
       voted_so = λ k h l. elim (done_is r others from j todo c k h l) [
@@ -420,7 +407,7 @@ all_votes : (r : Round) → IsRest r → (others : List ℕ) → Others r others
 all_votes r rest others o [] j from voters c size st sent p =
     deliver r (HasMovedOn r.i (slot_in r) r.command) st sent j r.i (accepted_in r) [] l.turn p.leading.up (p.voted_so j jin).reads (p.voted_so j jin).way l.goes
     (λ back. ended (place_in r.setting r.n r.deals) (HasMovedOn r.i (slot_in r) r.command) (put st r.i l.turn.after) (sent_by r.i l.turn.frames ++ sent)
-    (subst (λ (s : Standing). (slot_in r < front_of s) × (known_at s.learned.log (slot_in r) ≡ Some r.command)) (sym (put_here st r.i l.turn.after)) (l.learned.passed, l.learned.known)))
+    (subst (λ (s : Standing). (slot_in r < front_of s) × (known_at s.learned.log (slot_in r) ≡ Some r.command)) (sym (put_same st r.i l.turn.after)) (l.learned.passed, l.learned.known)))
   where
     jin : In j others
     jin = c.inside j (inl refl)
@@ -433,7 +420,7 @@ all_votes r rest others o (next ∷ todo) j from voters c size st sent p =
     (accepted_goes r rest voters (st r.i) p.leading j (distinct_more r rest others o voters from j (next ∷ todo) c p.only p.distinct) (half r rest (suc (length voters)) (length todo) (omega (arith, size))))
     (λ back. all_votes r rest others o todo next (j + 1) (j ∷ voters) (next_come r others from j (next ∷ todo) c) (omega (arith, size)) (put st r.i (heard_turn r (st r.i) j).after)
     (sent_by r.i (heard_turn r (st r.i) j).frames ++ sent) (record {
-      leading = subst (IsLeading r (j ∷ voters)) (sym (put_here st r.i (heard_turn r (st r.i) j).after ∙ asked_same j (accepted_in r) (with_heard_vote r (st r.i) j)))
+      leading = subst (IsLeading r (j ∷ voters)) (sym (put_same st r.i (heard_turn r (st r.i) j).after ∙ asked_same j (accepted_in r) (with_heard_vote r (st r.i) j)))
           (leading_more r rest voters (st r.i) p.leading j (distinct_more r rest others o voters from j (next ∷ todo) c p.only p.distinct) (half r rest (suc (length voters)) (length todo) (omega (arith, size))));
       distinct = distinct_more r rest others o voters from j (next ∷ todo) c p.only p.distinct;
       done = done_more r others voters from j (next ∷ todo) c p.done;
@@ -475,8 +462,8 @@ by_others r rest (j ∷ todo) o =
     subst (λ (b : Bool). IsTurnBy b (place_at r r.i) (r.standings r.i) Tick outcome) (rest.up r.i rest.member) is in by) ∙ tick_turn r rest)
     (λ back. all_prepares r rest others o others 0 come Moved (put r.standings r.i (ticked_turn r).after) (sent_by r.i (ticked_turn r).frames ++ [])
     (record {
-      preparing = subst (IsPreparing r (r.i ∷ [])) (sym (put_here r.standings r.i (ticked_turn r).after)) (begun_state r rest);
-      waits = λ k h l. put_there r.standings r.i (ticked_turn r).after k (o.other k h);
+      preparing = subst (IsPreparing r (r.i ∷ [])) (sym (put_same r.standings r.i (ticked_turn r).after)) (begun_state r rest);
+      waits = λ k h l. put_other r.standings r.i (ticked_turn r).after k (o.other k h);
       promised_so = λ k h l. absurd (omega arith);
       way = λ k h. in_first (sent_by r.i (ticked_turn r).frames) [] (record { from = r.i; to = k; message = prepare_in r })
           (sent_in r.i (ticked_turn r).frames k (prepare_in r) (prepare_framed r k (rest.low k (o.member k h)) (o.other k h)));

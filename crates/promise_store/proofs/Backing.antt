@@ -10,6 +10,7 @@ use Rattle.protocol_model.specs.Sets.{put}
 use Rattle.protocol_model.specs.Messages.{Vote, Message, Prepare, Promise, Refuse, Accept, Accepted, Chosen, Ask, Forward, Said}
 use Rattle.protocol_model.specs.Stores.{Store}
 use Rattle.protocol_model.proofs.Ballots.{below_cases, at_most_trans}
+use Rattle.protocol_model.proofs.Sets.{put_same}
 use Rattle.protocol_model.specs.Backing.{Backs, HasVote, HasNoOther}
 use Rattle.promise_store.specs.declared.records.Record.TheVariants.{Voted}
 use Rattle.promise_store.specs.Index.{later}
@@ -34,16 +35,10 @@ promise_kept store ballot = elim (below_cases store.promise ballot) [
 below_below : (a b c : Ballot) → Below a b → Below b c → Below a c
 below_below a b c p q = grind arith
 
-same_slot : (slot : ℕ) → (slot == slot) ≡ true
-same_slot slot = grind (arith, nat_tests)
-
 -- the vote that is stored, or one of a greater ballot
 pub own_backed : (store : Store) (ballot : Ballot) (slot : ℕ) (command : Command) → HasVote (stored store (Voted ballot slot command)) slot (vote_of ballot command)
 own_backed store ballot slot command = chosen (store.votes slot)
   where
-    at_slot : (new : Option Vote) → put store.votes slot new slot ≡ new
-    at_slot new = rw (same_slot slot) refl
-
     over : (old : Vote) → (((if is_below ballot old.ballot then old else vote_of ballot command) ≡ vote_of ballot command) ⊎ Below ballot (if is_below ballot old.ballot then old else vote_of ballot command).ballot)
     over old = elim (below_cases ballot old.ballot) [
       | inl below ↦ rw below.0 (inr below.1)
@@ -51,8 +46,8 @@ own_backed store ballot slot command = chosen (store.votes slot)
     ]
 
     chosen : (old : Option Vote) → (found : Vote) × (put store.votes slot (Some (later (λ (v : Vote). v.ballot) old (vote_of ballot command))) slot ≡ Some found) × ((found ≡ vote_of ballot command) ⊎ Below ballot found.ballot)
-    chosen None = (vote_of ballot command, at_slot (Some (vote_of ballot command)), inl refl)
-    chosen (Some old) = ((if is_below ballot old.ballot then old else vote_of ballot command), at_slot (Some (if is_below ballot old.ballot then old else vote_of ballot command)), over old)
+    chosen None = (vote_of ballot command, put_same store.votes slot (Some (vote_of ballot command)), inl refl)
+    chosen (Some old) = ((if is_below ballot old.ballot then old else vote_of ballot command), put_same store.votes slot (Some (if is_below ballot old.ballot then old else vote_of ballot command)), over old)
 
 module _ (store : Store) (ballot : Ballot) (slot : ℕ) (command : Command) (no_other : HasNoOther store slot (vote_of ballot command)) where
   -- what stands at the slot after a vote is stored there: what stood there, or something of a greater ballot

@@ -1,7 +1,6 @@
 -- The greatest ballots of records are held.
 use Rattle.std.proofs.Common.{◌≡◌, ◌⊎◌, inl, inr, ℕ, ◌+◌, refl, sym, ◌∙◌, ap, subst, List, [], ◌∷◌, length, true, false, Bool, arith}
-use Rattle.std.specs.Prelude.{◌==◌, if◌then◌else◌, Option, Some, None}
-use Rattle.std.proofs.lemmas.Bool.Decides.{nat_tests}
+use Rattle.std.specs.Prelude.{if◌then◌else◌, Option, Some, None}
 use Rattle.std.proofs.lemmas.Bool.{cases_eq}
 use Rattle.std.proofs.lemmas.Option.{none-some, same_Some}
 use Rattle.paxos_wire.specs.declared.ballot.Ballot.{Ballot}
@@ -19,6 +18,7 @@ use Rattle.promise_store.specs.Journals.{gated}
 use Rattle.promise_store.specs.Holding.{Holding, nothing_held, greater, with_record, held_from, holding, store_of, stored}
 use Rattle.promise_store.specs.Laws.{ballot_of_record, IsGreatest, IsLastOfGreatest}
 use Rattle.promise_store.proofs.Holding.{store_with}
+use Rattle.protocol_model.proofs.Sets.{put_same, put_other}
 use Rattle.protocol_model.proofs.Ballots.{below_cases, at_most_trans}
 use Rattle.promise_store.proofs.Backing.{vote_of, promise_raised, promise_kept}
 
@@ -81,17 +81,11 @@ greatest head records =
 
 -- ---- votes
 
-at_slot : (votes : ℕ → Option Vote) (slot : ℕ) (new : Option Vote) → put votes slot new slot ≡ new
-at_slot votes slot new = let test : (slot == slot) ≡ true = grind (arith, nat_tests) in rw test refl
-
-off_slot : (votes : ℕ → Option Vote) (slot other : ℕ) (new : Option Vote) → (other ≡ slot → ⊥) → put votes slot new other ≡ votes other
-off_slot votes slot other new apart = let test : (other == slot) ≡ false = grind (arith, nat_tests, apart) in rw test refl
-
 -- the vote at an accept's own slot is the later of what was there and of what is accepted
 vote_at : (store : Store) (ballot : Ballot) {slot s : ℕ} (command : Command) (vote : Vote) {old : Option Vote} → slot ≡ s → (stored store (Voted ballot s command)).votes slot ≡ Some vote → store.votes s ≡ old → later (λ (v : Vote). v.ballot) old (vote_of ballot command) ≡ vote
 vote_at store ballot {slot} {s} command vote here is was =
     same_Some _ vote (
-    sym (ap (λ (o : Option Vote). Some (later (λ (v : Vote). v.ballot) o (vote_of ballot command))) was) ∙ sym (at_slot store.votes s _)
+    sym (ap (λ (o : Option Vote). Some (later (λ (v : Vote). v.ballot) o (vote_of ballot command))) was) ∙ sym (put_same store.votes s _)
     ∙ ap (put store.votes s (Some (later (λ (v : Vote). v.ballot) (store.votes s) (vote_of ballot command)))) (sym here) ∙ is
     )
 
@@ -108,7 +102,7 @@ grows_at : (store : Store) (r : Record) (slot : ℕ) (old : Vote) → store.vote
 grows_at store (Promised ballot) slot old is = (old, is, inr (refl, omega arith))
 grows_at store (Voted ballot s command) slot old is = elim (cases_eq slot s) [
   | inl here ↦ there here
-  | inr other ↦ (old, off_slot store.votes s slot _ other ∙ is, inr (refl, omega arith))
+  | inr other ↦ (old, put_other store.votes s _ slot other ∙ is, inr (refl, omega arith))
 ]
   where
     new : Vote
@@ -123,7 +117,7 @@ grows_at store (Voted ballot s command) slot old is = elim (cases_eq slot s) [
     there : slot ≡ s → (new : Vote) × ((stored store (Voted ballot s command)).votes slot ≡ Some new) × AtMost old.ballot new.ballot
     there here = (
       (if is_below ballot old.ballot then old else vote_of ballot command),
-      ap (put store.votes s (Some (later (λ (v : Vote). v.ballot) (store.votes s) (vote_of ballot command)))) here ∙ at_slot store.votes s _
+      ap (put store.votes s (Some (later (λ (v : Vote). v.ballot) (store.votes s) (vote_of ballot command)))) here ∙ put_same store.votes s _
           ∙ ap (λ (o : Option Vote). Some (later (λ (v : Vote). v.ballot) o (vote_of ballot command))) (ap store.votes (sym here) ∙ is),
       grown,
     )
@@ -139,8 +133,8 @@ raised_at store ballot slot command = by (store.votes slot) refl
     ]
 
     by : (old : Option Vote) → store.votes slot ≡ old → (new : Vote) × ((stored store (Voted ballot slot command)).votes slot ≡ Some new) × AtMost ballot new.ballot
-    by None is = (vote_of ballot command, at_slot store.votes slot _ ∙ ap (λ (o : Option Vote). Some (later (λ (v : Vote). v.ballot) o (vote_of ballot command))) is, inr (refl, omega arith))
-    by (Some old) is = ((if is_below ballot old.ballot then old else vote_of ballot command), at_slot store.votes slot _ ∙ ap (λ (o : Option Vote). Some (later (λ (v : Vote). v.ballot) o (vote_of ballot command))) is, over old)
+    by None is = (vote_of ballot command, put_same store.votes slot _ ∙ ap (λ (o : Option Vote). Some (later (λ (v : Vote). v.ballot) o (vote_of ballot command))) is, inr (refl, omega arith))
+    by (Some old) is = ((if is_below ballot old.ballot then old else vote_of ballot command), put_same store.votes slot _ ∙ ap (λ (o : Option Vote). Some (later (λ (v : Vote). v.ballot) o (vote_of ballot command))) is, over old)
 
 -- a slot's vote was there before the records, and those that accept there are of lower ballots; or it is the last of the greatest ballot among them
 abbrev Stays : Store → List Record → ℕ → Vote → Type 0
@@ -157,7 +151,7 @@ record_step store (Promised ballot) records slot vote (is, below) = inl (is, all
     all b c (inr there) = below b c there
 record_step store (Voted ballot s command) records slot vote (is, below) = elim (cases_eq slot s) [
   | inl here ↦ at_place here (store.votes s) refl
-  | inr other ↦ inl (sym (off_slot store.votes s slot _ other) ∙ is, all other)
+  | inr other ↦ inl (sym (put_other store.votes s _ slot other) ∙ is, all other)
 ]
   where
     all : (slot ≡ s → ⊥) → (b : Ballot) (c : Command) → In (Voted b slot c) (Voted ballot s command ∷ records) → Below b vote.ballot
@@ -253,7 +247,7 @@ within_next : (store : Store) (r : Record) → IsWithinPromise store → IsWithi
 within_next store (Promised ballot) within slot vote is = at_most_trans vote.ballot store.promise _ (within slot vote is) (promise_kept store ballot)
 within_next store (Voted ballot s command) within slot vote is = elim (cases_eq slot s) [
   | inl here ↦ at_place here (store.votes s) refl
-  | inr other ↦ at_most_trans vote.ballot store.promise _ (within slot vote (sym (off_slot store.votes s slot _ other) ∙ is)) (promise_kept store ballot)
+  | inr other ↦ at_most_trans vote.ballot store.promise _ (within slot vote (sym (put_other store.votes s _ slot other) ∙ is)) (promise_kept store ballot)
 ]
   where
     at_place : slot ≡ s → (old : Option Vote) → store.votes s ≡ old → AtMost vote.ballot (greater store.promise ballot)

@@ -1,5 +1,5 @@
 -- What a file that is opened shows.
-use Rattle.std.proofs.Common.{◌≡◌, ◌⊎◌, inl, inr, ℕ, ◌<◌, refl, sym, ◌∙◌, ap, List, [], ◌∷◌, ◌++◌, length, take, drop, arith, append_assoc, length-append, length-drop, take-append-drop}
+use Rattle.std.proofs.Common.{◌≡◌, ◌⊎◌, inl, inr, ℕ, ◌<◌, refl, sym, ◌∙◌, ap, List, [], ◌∷◌, ◌++◌, length, take, drop, arith, append_assoc, length-append, length-drop, take-append-drop, append-nil}
 use Rattle.std.specs.List.{AllByRecursion}
 use Rattle.protocol_model.specs.Stores.{Store}
 use Rattle.promise_store.specs.declared.records.Record.{Record}
@@ -13,11 +13,7 @@ use Rattle.promise_store.proofs.Journals.{opens_together}
 
 -- a journal has its head and a gate
 pub has_head : (head bytes : List ℕ) (records : List Record) → IsJournal head bytes records → HasHead head bytes
-has_head head bytes [] journal = (journal.gate, journal.rest, journal.text ∙ ap (λ (l : List ℕ). l ++ journal.gate ∷ journal.rest) (nil head))
-  where
-    nil : (xs : List ℕ) → xs ++ [] ≡ xs
-    nil [] = refl
-    nil (x ∷ xs) = ap (λ (l : List ℕ). x ∷ l) (nil xs)
+has_head head bytes [] journal = (journal.gate, journal.rest, journal.text ∙ ap (λ (l : List ℕ). l ++ journal.gate ∷ journal.rest) (append-nil head))
 has_head head bytes (r ∷ records) journal =
     (1, _, journal.text ∙ append_assoc head (gated (r ∷ records)) (journal.gate ∷ journal.rest))
 
