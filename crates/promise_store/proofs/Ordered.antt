@@ -2,6 +2,7 @@
 use Rattle.std.proofs.Common.{◌≡◌, ℕ, zero, suc, ◌+◌, ◌<◌, ◌≤◌, Bool, true, false, List, [], ◌∷◌, ◌++◌, length, take, drop, get_or, set, refl, sym, ◌∙◌, ap, subst, arith}
 use Rattle.std.specs.Prelude.{nat_eq, if◌then◌else◌, Option, Some, None}
 use Rattle.std.specs.List.{AllByRecursion}
+use Rattle.std.proofs.lemmas.Bool.{eq-eqb, ne_eqb}
 use Rattle.std.proofs.lemmas.Bool.Decides.{nat_tests}
 use Rattle.promise_store.specs.declared.placed.Placed.{Placed}
 use Rattle.std.proofs.lemmas.List.{drop_all, get_or_default}
@@ -51,30 +52,24 @@ rise_set from (x ∷ xs) zero old e rise is same within =
     (subst (λ (n : ℕ). from ≤ n) slot rise.0, subst (λ (n : ℕ). Rise (n + 1) xs) slot rise.1)
 rise_set from (x ∷ xs) (suc k) old e rise is same within = (rise.0, rise_set (x.slot + 1) xs k old e rise.1 is same (omega (arith, within)))
 
-eq_true : (a b : ℕ) → a ≡ b → nat_eq a b ≡ true
-eq_true a b same = grind (arith, nat_tests)
-
-eq_false : (a b : ℕ) → (a ≡ b → ⊥) → nat_eq a b ≡ false
-eq_false a b other = grind (arith, nat_tests)
-
 -- the entry at the place of a slot is that slot's
 pub found_at : (slot : ℕ) (xs : List Placed) (k : ℕ) (e : Placed) → Below slot (take k xs) → k < length xs → e ≡ get_or xs k e → e.slot ≡ slot → found slot xs ≡ Some e
 found_at slot [] k e below within is same = absurd (omega arith)
 found_at slot (x ∷ xs) zero e below within is same =
-    rw (eq_true slot x.slot (sym same ∙ ap (λ (y : Placed). y.slot) is)) (ap Some (sym is))
+    rw (eq-eqb slot x.slot (sym same ∙ ap (λ (y : Placed). y.slot) is)) (ap Some (sym is))
 found_at slot (x ∷ xs) (suc k) e below within is same =
-    rw (eq_false slot x.slot (λ eq. omega (arith, below.0, eq))) (found_at slot xs k e below.1 (omega (arith, within)) is same)
+    rw (ne_eqb slot x.slot (λ eq. omega (arith, below.0, eq))) (found_at slot xs k e below.1 (omega (arith, within)) is same)
 
 pub found_none : (slot : ℕ) (xs : List Placed) (k : ℕ) → Below slot (take k xs) → From (slot + 1) (drop k xs) → found slot xs ≡ None
 found_none slot [] k below above = refl
 found_none slot (x ∷ xs) zero below above =
-    rw (eq_false slot x.slot (λ eq. omega (arith, above.0, eq))) (found_none slot xs zero (none xs) above.1)
+    rw (ne_eqb slot x.slot (λ eq. omega (arith, above.0, eq))) (found_none slot xs zero (none xs) above.1)
   where
     none : (xs : List Placed) → Below slot (take 0 xs)
     none [] = tt
     none (x ∷ xs) = tt
 found_none slot (x ∷ xs) (suc k) below above =
-    rw (eq_false slot x.slot (λ eq. omega (arith, below.0, eq))) (found_none slot xs k below.1 above)
+    rw (ne_eqb slot x.slot (λ eq. omega (arith, below.0, eq))) (found_none slot xs k below.1 above)
 
 -- of two tests that don't both hold either may come first
 turned : (x e : Placed) (a b : Bool) (rest : Option Placed) → (a ≡ true → b ≡ true → ⊥) → (if a then Some x else (if b then Some e else rest)) ≡ (if b then Some e else (if a then Some x else rest))
