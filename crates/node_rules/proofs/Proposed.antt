@@ -1,11 +1,10 @@
 -- What a node proposed, as it gets and sends messages, learns and votes.
-use Rattle.std.proofs.Common.{◌≡◌, ◌≢◌, ℕ, ◌<◌, ◌≤◌, ◌⊎◌, inl, inr, Bool, true, false, if◌then◌else◌, ◌==◌, ◌&&◌, List, [], ◌∷◌, ◌++◌, Option, Some, None, refl, sym, ap, subst, ◌∙◌, arith, length}
+use Rattle.std.proofs.Common.{◌≡◌, ◌≢◌, ℕ, ◌<◌, ◌≤◌, ◌⊎◌, inl, inr, Bool, true, false, if◌then◌else◌, ◌&&◌, List, [], ◌∷◌, ◌++◌, Option, Some, None, sym, ap, subst, ◌∙◌, arith, length}
 use Rattle.std.specs.Prelude.{is_none}
-use Rattle.std.proofs.lemmas.Bool.{eqb-true, eqb-false}
 use Rattle.std.proofs.lemmas.List.{length-append}
 use Rattle.paxos_wire.specs.declared.ballot.Ballot.{Ballot}
 use Rattle.slot_log.specs.declared.command.Command.{Command}
-use Rattle.protocol_model.specs.Sets.{In}
+use Rattle.protocol_model.specs.Sets.{In, put}
 use Rattle.protocol_model.specs.Ballots.{Below, AtMost}
 use Rattle.protocol_model.specs.Messages.{Vote, Message, Accept, Accepted}
 use Rattle.protocol_model.specs.Stores.{Store, promised, voted}
@@ -17,6 +16,7 @@ use Rattle.node_rules.specs.Seats.{waiting}
 use Rattle.node_rules.specs.Proposed.{IsValue, IsProposed}
 use Rattle.protocol_model.proofs.Ballots.{not_below}
 use Rattle.protocol_model.proofs.Quorums.{promises_stay, greatest_stays}
+use Rattle.protocol_model.proofs.Sets.{put_same, put_other}
 
 -- ---- more messages are had
 
@@ -78,14 +78,6 @@ voted_proposed n i upto at own store slot vote has sent more other before p =
 
 -- ---- a proposal
 
-slot_new : (store : Store) (slot k : ℕ) (vote : Vote) (b : Bool) → (k == slot) ≡ b → k ≡ slot → (if b then Some vote else store.votes k) ≡ Some vote
-slot_new store slot k vote true e same = refl
-slot_new store slot k vote false e same = absurd (eqb-false k slot e same)
-
-slot_old : (store : Store) (slot k : ℕ) (vote found : Vote) (b : Bool) → (k == slot) ≡ b → (k ≡ slot → ⊥) → store.votes k ≡ Some found → (if b then Some vote else store.votes k) ≡ Some found
-slot_old store slot k vote found true e other h = absurd (other (eqb-true k slot e))
-slot_old store slot k vote found false e other h = h
-
 pub accept_is : (a b : Ballot) (s t : ℕ) (c d : Command) → ◌≡◌ {A = Message} (Accept a s c) (Accept b t d) → (a ≡ b) × (s ≡ t) × (c ≡ d)
 accept_is a b s t c d e = ((let k : a ≡ b = cc in k), (let k : s ≡ t = cc in k), (let k : c ≡ d = cc in k))
 
@@ -116,10 +108,12 @@ made_proposed n i upto own store has sent ballot slot command promised_is at min
     voted_of : (s : ℕ) (c : Command) → ((s ≡ slot) × (c ≡ command)) ⊎ (In (Accept ballot s c) sent × (s ≡ slot → ⊥))
         → (voted store slot (record { ballot = ballot; command = command })).votes s ≡ Some (record { ballot = ballot; command = c })
     voted_of s c (inl new) =
-        slot_new store slot s (record { ballot = ballot; command = command }) (s == slot) refl new.0 ∙ ap (λ (d : Command). let v : Vote = record { ballot = ballot; command = d } in Some v) (sym new.1)
-    voted_of s c (inr old) = slot_old store slot s (record { ballot = ballot; command = command }) (record { ballot = ballot; command = c }) (s == slot) refl old.1
-        (subst (λ (b : Ballot). store.votes s ≡ Some (record { ballot = b; command = c })) promised_is
-        (p.voted s c (subst (λ (b : Ballot). In (Accept b s c) sent) (sym promised_is) old.0)))
+        ap (put store.votes slot (Some (record { ballot = ballot; command = command }))) new.0 ∙ put_same store.votes slot (Some (record { ballot = ballot; command = command }))
+        ∙ ap (λ (d : Command). let v : Vote = record { ballot = ballot; command = d } in Some v) (sym new.1)
+    voted_of s c (inr old) =
+        put_other store.votes slot (Some (record { ballot = ballot; command = command })) s old.1
+        ∙ subst (λ (b : Ballot). store.votes s ≡ Some (record { ballot = b; command = c })) promised_is
+        (p.voted s c (subst (λ (b : Ballot). In (Accept b s c) sent) (sym promised_is) old.0))
 
     reached_of : (s : ℕ) (c : Command) → ((s ≡ slot) × (c ≡ command)) ⊎ (In (Accept ballot s c) sent × (s ≡ slot → ⊥)) → s ≤ length upto
     reached_of s c (inl new) = let a = new.0 in omega (arith, a, at)

@@ -1,6 +1,6 @@
 -- Votes for other nodes' proposals on the path of a call.
-use Rattle.std.proofs.Common.{◌≡◌, ◌≢◌, ℕ, ◌<◌, ◌⊎◌, inl, inr, Bool, true, false, true≢false, if◌then◌else◌, ◌==◌, List, [], ◌∷◌, Option, Some, None, Ok, refl, sym, ap, subst, ◌∙◌}
-use Rattle.std.proofs.lemmas.Bool.{eqb-true}
+use Rattle.std.proofs.Common.{◌≡◌, ◌≢◌, ℕ, ◌<◌, ◌⊎◌, inl, inr, Bool, true, false, true≢false, if◌then◌else◌, List, [], ◌∷◌, Option, Some, None, Ok, refl, sym, ap, subst, ◌∙◌}
+use Rattle.std.proofs.lemmas.Option.{same_Some}
 use Rattle.paxos_wire.specs.declared.ballot.Ballot.{Ballot}
 use Rattle.paxos_wire.specs.declared.message.Message.{Message as Wire}
 use Rattle.paxos_wire.specs.declared.message.Message.TheVariants as frame
@@ -23,6 +23,7 @@ use Rattle.node_rules.specs.Learning.{counting_vote}
 use Rattle.node_rules.specs.Being.{IsProposer}
 use Rattle.node_rules.proofs.Carrying.{others_carry, others_all}
 use Rattle.protocol_model.proofs.Backing.{vote_within}
+use Rattle.protocol_model.proofs.Sets.{put_cases}
 use Rattle.protocol_model.proofs.Ballots.{at_most_trans, at_most_self, same_if, at_most_if_not}
 use Rattle.node_rules.proofs.Ordering.{both_ways, sees_up}
 use Rattle.node_rules.proofs.Keeping.{sent_pending, stored_pending, prepared_before, proposed_before}
@@ -34,14 +35,12 @@ use Rattle.node_rules.proofs.Promising.{refuse}
 use Rattle.node_rules.proofs.Learning.{count}
 
 -- a slot has the new vote, or what it had
-voted_by : (store : Store) (slot : ℕ) (vote found : Vote) (k : ℕ) (b : Bool) → (k == slot) ≡ b → (if b then Some vote else store.votes k) ≡ Some found
-    → ((k ≡ slot) × (found ≡ vote)) ⊎ (store.votes k ≡ Some found)
-voted_by store slot vote found k true e h = let same : vote ≡ found = cc in inl (eqb-true k slot e, sym same)
-voted_by store slot vote found k false e h = inr h
-
 pub voted_is : (store : Store) (slot : ℕ) (vote found : Vote) (k : ℕ) → (voted store slot vote).votes k ≡ Some found
     → ((k ≡ slot) × (found ≡ vote)) ⊎ (store.votes k ≡ Some found)
-voted_is store slot vote found k h = voted_by store slot vote found k (k == slot) refl h
+voted_is store slot vote found k h = elim (put_cases store.votes slot (Some vote) k) [
+  | inl new ↦ inl (new.0, same_Some found vote (sym h ∙ new.1))
+  | inr same ↦ inr (sym same ∙ h)
+]
 
 -- a proposer that promised another node's ballot has none to stand for
 gone : (n i : ℕ) (node new : Node) (front : ℕ) (m : Message) (ballot : Ballot) → ballot.node ≢ i → AtMost node.store.promise ballot → new.store.promise ≡ ballot
