@@ -8,7 +8,7 @@ use Rattle.protocol_model.specs.Sets.{In}
 use Rattle.protocol_model.specs.Ballots.{Below, AtMost}
 use Rattle.protocol_model.specs.Messages.{Vote, Message, Prepare, Accept}
 use Rattle.protocol_model.specs.Stores.{Store, promised, voted, StoreMove, own_promise, promise, vote as vote_move}
-use Rattle.protocol_model.specs.Backing.{IsWithinPromise}
+use Rattle.protocol_model.specs.Backing.{HasVote, IsWithinPromise}
 use Rattle.protocol_model.specs.Votes.{is_of_ballot, stored_in}
 use Rattle.acceptor.specs.Answers.{prepared, accepted}
 use Rattle.paxos_wire.specs.Order.{is_below, is_same_ballot}
@@ -95,16 +95,13 @@ accepts_are_moves node has b slot c store had = accepts_by node has b slot c sto
 
 -- ---- one vote a ballot and slot
 
-abbrev Stands : Store → ℕ → Vote → Type 0
-Stands store other v = (later : Vote) × (store.votes other ≡ Some later) × ((later ≡ v) ⊎ Below v.ballot later.ballot)
-
 unvoted : (o : Option Vote) (v : Vote) (b : Ballot) → o ≡ Some v → is_of_ballot o b ≡ false → is_same_ballot v.ballot b ≡ false
 unvoted None v b e h = absurd (cc)
 unvoted (Some w) v b e h = let one : w ≡ v = cc in sym (ap (λ (u : Vote). is_same_ballot u.ballot b) one) ∙ h
 
 stands_by : (b : Ballot) (slot : ℕ) (c : Command) (store : Store) (other : ℕ) (v : Vote) (x y : Bool) → is_below b store.promise ≡ x → is_of_ballot (store.votes slot) b ≡ y
     → IsWithinPromise store → store.votes other ≡ Some v
-    → Stands (if x then store else if y then store else voted store slot (new_vote b c)) other v
+    → HasVote (if x then store else if y then store else voted store slot (new_vote b c)) other v
 stands_by b slot c store other v true y ex ey within e = (v, e, inl refl)
 stands_by b slot c store other v false true ex ey within e = (v, e, inl refl)
 stands_by b slot c store other v false false ex ey within e = elim (eqb_tells other slot) [
@@ -116,7 +113,7 @@ stands_by b slot c store other v false false ex ey within e = elim (eqb_tells ot
 ]
 
 pub votes_stand : (b : Ballot) (slot : ℕ) (c : Command) (store : Store) (other : ℕ) (v : Vote) → IsWithinPromise store → store.votes other ≡ Some v
-    → Stands (accepted b slot c store) other v
+    → HasVote (accepted b slot c store) other v
 votes_stand b slot c store other v within e = stands_by b slot c store other v _ _ refl refl within e
 
 within_prepared : (b : Ballot) (store : Store) (x : Bool) → is_below store.promise b ≡ x → IsWithinPromise store → IsWithinPromise (if x then promised store b else store)
