@@ -1,5 +1,5 @@
 -- What an acceptor answers and stores.
-use Rattle.std.proofs.Common.{ℕ, ◌≡◌, ◌⊎◌, inl, inr, Bool, true, false, Option, Some, None, List, refl, sym, ◌∙◌, ap, subst, if◌then◌else◌}
+use Rattle.std.proofs.Common.{ℕ, ◌≡◌, ◌⊎◌, inl, inr, Bool, true, false, Option, Some, None, List, refl, sym, ◌∙◌, ap, if◌then◌else◌}
 use Rattle.std.proofs.lemmas.Bool.{eq-eqb}
 use Rattle.std.proofs.lemmas.Bool.Decides.{eqb_tells}
 use Rattle.paxos_wire.specs.declared.ballot.Ballot.{Ballot}
@@ -13,7 +13,8 @@ use Rattle.protocol_model.specs.Votes.{is_of_ballot, stored_in}
 use Rattle.acceptor.specs.Answers.{prepared, accepted}
 use Rattle.paxos_wire.specs.Order.{is_below, is_same_ballot}
 use Rattle.acceptor.specs.Laws.{IsPromised, IsNotPromised, IsAccepted, IsNotAccepted}
-use Rattle.protocol_model.proofs.Ballots.{at_most_trans, at_most_self, at_most_of_below, not_below, below_if, is_below_if, at_most_if_not, same_if, is_same_if}
+use Rattle.protocol_model.proofs.Ballots.{at_most_trans, not_below, below_if, is_below_if, at_most_if_not, same_if, is_same_if}
+use Rattle.protocol_model.proofs.Backing.{promise_within, vote_within}
 use Rattle.acceptor.proofs.Ballots.{is_below_not, differ}
 
 abbrev new_vote : Ballot → Command → Vote
@@ -117,19 +118,14 @@ pub votes_stand : (b : Ballot) (slot : ℕ) (c : Command) (store : Store) (other
 votes_stand b slot c store other v within e = stands_by b slot c store other v _ _ refl refl within e
 
 within_prepared : (b : Ballot) (store : Store) (x : Bool) → is_below store.promise b ≡ x → IsWithinPromise store → IsWithinPromise (if x then promised store b else store)
-within_prepared b store true e within = λ slot v at. at_most_trans v.ballot store.promise b (within slot v at) (at_most_of_below store.promise b (below_if store.promise b e))
+within_prepared b store true e within = promise_within store b within (below_if store.promise b e)
 within_prepared b store false e within = within
-
-within_put : (b : Ballot) (slot : ℕ) (c : Command) (store : Store) (other : ℕ) (v : Vote) (x : Bool) → AtMost store.promise b → IsWithinPromise store
-    → (if x then Some (new_vote b c) else store.votes other) ≡ Some v → AtMost v.ballot b
-within_put b slot c store other v true most within e = let one : new_vote b c ≡ v = cc in subst (λ (u : Vote). AtMost u.ballot b) one (at_most_self b)
-within_put b slot c store other v false most within e = at_most_trans v.ballot store.promise b (within other v e) most
 
 within_accepted : (b : Ballot) (slot : ℕ) (c : Command) (store : Store) (x y : Bool) → is_below b store.promise ≡ x → IsWithinPromise store
     → IsWithinPromise (if x then store else if y then store else voted store slot (new_vote b c))
 within_accepted b slot c store true y e within = within
 within_accepted b slot c store false true e within = within
-within_accepted b slot c store false false e within = λ other v at. within_put b slot c store other v _ (at_most_if_not b store.promise e) within at
+within_accepted b slot c store false false e within = vote_within store slot (new_vote b c) within (at_most_if_not b store.promise e)
 
 pub stays_within : (b : Ballot) (slot : ℕ) (c : Command) (store : Store) → IsWithinPromise store → IsWithinPromise (prepared b store) × IsWithinPromise (accepted b slot c store)
 stays_within b slot c store within = (within_prepared b store _ refl within, within_accepted b slot c store _ _ refl within)

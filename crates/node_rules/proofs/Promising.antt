@@ -5,10 +5,9 @@ use Rattle.paxos_wire.specs.declared.message.Message.{Message as Wire}
 use Rattle.paxos_wire.specs.declared.message.Message.TheVariants as frame
 use Rattle.slot_log.specs.declared.command.Command.{Command}
 use Rattle.protocol_model.specs.Sets.{In}
-use Rattle.protocol_model.specs.Ballots.{Below, AtMost}
+use Rattle.protocol_model.specs.Ballots.{Below}
 use Rattle.protocol_model.specs.Messages.{Message, Prepare, Promise, Refuse}
 use Rattle.protocol_model.specs.Stores.{Store, promised, Tells}
-use Rattle.protocol_model.specs.Backing.{IsWithinPromise}
 use Rattle.protocol_model.specs.Arrivals.{Arrival}
 use Rattle.protocol_model.specs.Moves.{with_store, refuses, promises}
 use Rattle.paxos_wire.specs.Order.{is_below}
@@ -21,6 +20,7 @@ use Rattle.protocol_model.specs.Votes.{told_by}
 use Rattle.node_rules.specs.Accepting.{refusing, promising, preparing}
 use Rattle.node_rules.proofs.Carrying.{one_carry, one_all}
 use Rattle.protocol_model.proofs.Votes.{tells}
+use Rattle.protocol_model.proofs.Backing.{promise_within}
 use Rattle.protocol_model.proofs.Ballots.{at_most_trans, at_most_of_below, not_below, below_if}
 use Rattle.node_rules.proofs.Ordering.{sees_up}
 use Rattle.node_rules.proofs.Keeping.{sent_pending, stored_pending, prepared_before, proposed_before}
@@ -37,9 +37,6 @@ refuse x came heard upto t from ballot slot p below other =
 
 -- ---- promising
 
-pub within_up : (store : Store) (ballot : Ballot) → AtMost store.promise ballot → IsWithinPromise store → IsWithinPromise (promised store ballot)
-within_up store ballot up within slot vote e = at_most_trans vote.ballot store.promise ballot (within slot vote e) up
-
 promise : (x : Scope) (came : List Arrival) (heard : Hearing) (upto : List Command) (t : Turn) (from : ℕ) (ballot : Ballot) (slot : ℕ) → x.ends ≡ true
     → (p : Path x came heard upto t) → In (Prepare ballot slot) p.node.has → Below t.after.store.promise ballot → from < x.place.nodes → from ≢ x.place.node
     → Path x came heard upto (joined t (promising from ballot slot t.after))
@@ -51,7 +48,7 @@ promise x came heard upto t from ballot slot ends p had above below other =
     (record {
       up = p.knows.up;
       store = ap (λ (st : Store). promised st ballot) p.knows.store;
-      within = within_up p.node.store ballot (at_most_of_below p.node.store.promise ballot up) p.knows.within;
+      within = promise_within p.node.store ballot p.knows.within up;
       proposer = record {
         is_campaign = tt;
         began = λ b f h. let old = p.knows.proposer.began b f (prepared_before p.node m b f tt h) in

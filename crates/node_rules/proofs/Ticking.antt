@@ -30,11 +30,11 @@ use Rattle.node_rules.specs.Called.{Carry, CarryAll, AreShown, log_after}
 use Rattle.node_rules.proofs.Carrying.{joined_carry, joined_all, others_carry, others_all, note_carry, note_all}
 use Rattle.protocol_model.proofs.Ballots.{at_most_trans, at_most_self, at_most_of_below, not_below}
 use Rattle.node_rules.proofs.Ordering.{higher_is, sees_own, sees_up}
+use Rattle.protocol_model.proofs.Backing.{promise_within}
 use Rattle.node_rules.proofs.Keeping.{with_got, got_learner, got_pending, sent_pending, stored_pending}
 use Rattle.node_rules.proofs.Paths.{Hearing, Scope, dealer_in, Path, Goes}
 use Rattle.node_rules.proofs.Steps.{go_on}
 use Rattle.protocol_model.proofs.Votes.{tells}
-use Rattle.node_rules.proofs.Promising.{within_up}
 
 -- ---- the ballot
 
@@ -79,7 +79,7 @@ begin x came heard t ends p = record {
   knows = record {
     up = p.knows.up;
     store = ap (λ (st : Store). promised st ballot) p.knows.store;
-    within = within_up p.node.store ballot (at_most_of_below p.node.store.promise ballot up) p.knows.within;
+    within = promise_within p.node.store ballot p.knows.within up;
     proposer = record {
       is_campaign = campaigns;
       began = λ b f h. began_now b f h;

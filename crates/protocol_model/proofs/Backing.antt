@@ -82,7 +82,7 @@ pub vote_backs : (store : Store) (slot : ℕ) (taken : Vote) (message : Message)
 vote_backs store slot taken message within at_most none =
     outlives_backs store (voted store slot taken) message (vote_outlives store slot taken within at_most none)
 
-promise_within : (store : Store) (ballot : Ballot) → IsWithinPromise store → Below store.promise ballot → IsWithinPromise (promised store ballot)
+pub promise_within : (store : Store) (ballot : Ballot) → IsWithinPromise store → Below store.promise ballot → IsWithinPromise (promised store ballot)
 promise_within store ballot within below slot v is = at_most_trans v.ballot store.promise ballot (within slot v is) (at_most_of_below store.promise ballot below)
 
 pub vote_within : (store : Store) (slot : ℕ) (taken : Vote) → IsWithinPromise store → AtMost store.promise taken.ballot → IsWithinPromise (voted store slot taken)
