@@ -1,5 +1,5 @@
 -- What a quorum of the answers that came chose is known.
-use Rattle.std.proofs.Common.{ℕ, zero, suc, ◌≡◌, ◌<◌, ◌≤◌, ◌+◌, ◌⊎◌, inl, inr, Bool, true, false, not, List, [], ◌∷◌, Option, Some, None, Result, Ok, Err, refl, sym, ◌∙◌, ap, subst, arith, if◌then◌else◌, set}
+use Rattle.std.proofs.Common.{ℕ, ◌≡◌, ◌<◌, ◌⊎◌, inl, inr, Bool, true, false, not, List, [], ◌∷◌, Option, Some, None, Result, Ok, Err, refl, sym, ◌∙◌, ap, subst, arith, if◌then◌else◌, set}
 use Rattle.std.specs.Prelude.{is_none, IsOk}
 use Rattle.std.proofs.lemmas.Bool.{eq-eqb}
 use Rattle.std.proofs.lemmas.Bool.Decides.{eqb_tells}
@@ -11,7 +11,8 @@ use Rattle.slot_log.specs.declared.slot_fault.SlotFault.TheVariants.{Conflict}
 use Rattle.slot_log.specs.Slots.{Log, IsLog, known_at, with_command}
 use Rattle.slot_log.specs.SlotLaws.{OneMoreIsKnown}
 use Rattle.protocol_model.specs.Messages.{Message, Accepted}
-use Rattle.protocol_model.specs.Quorums.{count, IsChosenIn}
+use Rattle.protocol_model.specs.Quorums.{IsChosenIn}
+use Rattle.protocol_model.proofs.Quorums.{none_counted}
 use Rattle.learner.specs.declared.chosen.Chosen.{Chosen}
 use Rattle.learner.specs.Same.{is_same}
 use Rattle.learner.specs.Tallies.{is_quorum, is_of}
@@ -82,18 +83,10 @@ without n came from b d s t c e other q = (q.0, q.1, λ node below is. elim (q.2
 
 -- ---- nothing is chosen at first
 
-no_step : (q : ℕ → Bool) (k : ℕ) (x : Bool) → q k ≡ x → (q k ≡ true → ⊥) → count q k ≡ 0 → (if x then 1 + count q k else count q k) ≡ 0
-no_step q k true e none rest = absurd (none e)
-no_step q k false e none rest = rest
-
-nobody : (n : ℕ) (q : ℕ → Bool) → ((node : ℕ) → node < n → q node ≡ true → ⊥) → (k : ℕ) → k ≤ n → count q k ≡ 0
-nobody n q none zero below = refl
-nobody n q none (suc k) below = no_step q k (q k) refl (λ is. none k (omega arith) is) (nobody n q none k (omega arith))
-
 pub new_knows : (nodes : ℕ) → KnowsChosen [] (new_learned nodes)
 new_knows nodes b slot c chosen =
     let many = chosen.1 in
-    let none = nobody nodes chosen.0 (λ node below is. chosen.2 node below is) nodes (omega arith) in absurd (omega arith)
+    let none = none_counted chosen.0 nodes (λ node below is. chosen.2 node below is) in absurd (omega arith)
 
 -- ---- the whole of a call
 

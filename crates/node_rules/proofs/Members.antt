@@ -6,6 +6,7 @@ use Rattle.protocol_model.specs.Sets.{In}
 use Rattle.protocol_model.specs.Quorums.{count}
 use Rattle.dealer_kind.specs.Plans.{HasNodes}
 use Rattle.node_rules.specs.Calm.{Rise, without}
+use Rattle.protocol_model.proofs.Quorums.{none_counted}
 
 -- ---- sets as tests
 
@@ -77,14 +78,6 @@ count_none (suc n) = count_none n
 one_step : (b : Bool) (k : ℕ) → (b ≡ true → k ≡ 0) → k ≤ 1 → (if b then 1 + k else k) ≤ 1
 one_step true k zero_then low = let e = zero_then refl in omega (arith, e)
 one_step false k zero_then low = low
-
-none_step : (b : Bool) (k : ℕ) → (b ≡ true → ⊥) → k ≡ 0 → (if b then 1 + k else k) ≡ 0
-none_step true k not_so e = absurd (not_so refl)
-none_step false k not_so e = e
-
-none_counted : (chosen : ℕ → Bool) (n : ℕ) → ((k : ℕ) → k < n → chosen k ≡ true → ⊥) → count chosen n ≡ 0
-none_counted chosen zero none = refl
-none_counted chosen (suc n) none = none_step (chosen n) (count chosen n) (λ e. none n (omega arith) e) (none_counted chosen n (λ k low is. none k (omega arith) is))
 
 -- a set of one node at most
 pub one_counted : (chosen : ℕ → Bool) (i n : ℕ) → ((k : ℕ) → k < n → chosen k ≡ true → k ≡ i) → count chosen n ≤ 1

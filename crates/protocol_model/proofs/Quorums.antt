@@ -18,6 +18,15 @@ pub count_within : (p q : ℕ → Bool) (n : ℕ) → ((k : ℕ) → k < n → p
 count_within p q zero h = omega arith
 count_within p q (suc n) h = within_step p q n (p n) (q n) (h n (omega arith)) (count_within p q n (λ k is. h k (omega arith)))
 
+none_step : (b : Bool) (k : ℕ) → (b ≡ true → ⊥) → k ≡ 0 → (if b then 1 + k else k) ≡ 0
+none_step true k not_so e = absurd (not_so refl)
+none_step false k not_so e = e
+
+-- nobody of an empty set is counted
+pub none_counted : (chosen : ℕ → Bool) (n : ℕ) → ((k : ℕ) → k < n → chosen k ≡ true → ⊥) → count chosen n ≡ 0
+none_counted chosen zero none = refl
+none_counted chosen (suc n) none = none_step (chosen n) (count chosen n) (λ e. none n (omega arith) e) (none_counted chosen n (λ k low is. none k (omega arith) is))
+
 -- sets that count more than n together share one of the first n
 abbrev Shares : ℕ → (ℕ → Bool) → (ℕ → Bool) → Type 0
 Shares n a b = (node : ℕ) × (node < n) × (a node ≡ true) × (b node ≡ true)
