@@ -32,7 +32,7 @@ use Rattle.dealer_world.specs.Records.{Frame, Arrived, said, said_by, messages_o
 use Rattle.dealer_world.specs.Calls.{Made, nothing_made, AreTold, added_by, log_after, read_by, BringsAll, frames_in, log_before, IsSound, HasHeader, Called}
 use Rattle.dealer_world.specs.Runs.{AreWritten, text_by_rule, arrived_by, arrived_at, begins_by, Keeps, IsSeated, Ruled, IsOfRule}
 use Rattle.node_rules.proofs.Results.{ok_is, err_is, ok_not}
-use Rattle.protocol_model.proofs.Sets.{in_first, in_later, in_split}
+use Rattle.protocol_model.proofs.Sets.{in_first, in_later, in_split, only_in}
 use Rattle.slot_log.proofs.Hands.{reverse-cons}
 use Rattle.dealer_world.proofs.Lists.{reverse_map}
 use Rattle.dealer_world.proofs.Starting.{starts_in, is_start, chain_counts}
@@ -356,10 +356,6 @@ arrived_some : (i : ℕ) (up : Bool) (called : Call) (arrived : List Arrived) �
 arrived_some i true called arrived is some = refl
 arrived_some i false called arrived is some = absurd (some is)
 
-only_one : {A : Type 0} {x y : A} → In x (y ∷ []) → x ≡ y
-only_one (inl is) = is
-only_one (inr none) = elim none [ ]
-
 starts_of_one : (i : ℕ) → starts_of (model.Started i ∷ []) ≡ 1
 unfolding starts_of
 starts_of_one i = refl
@@ -425,7 +421,7 @@ called_by_rule own place world log s called arrived made new law refused_down is
           let base : rule.log_before place s ≡ log_before made.began log = ap (λ b. cond b (log_of place.setting (applied s)) []) down ∙ ap (λ b. log_before b log) (sym begun) in
           let events : In (events_of c.output.came) ((model.Started place.node ∷ []) ∷ []) =
           subst (λ (k : Call). In (events_of c.output.came) (rule.taken_events place.node false k)) is_start_call (subst (λ b. In (events_of c.output.came) (rule.taken_events place.node b called)) down c.happened) in
-          let one : events_of c.output.came ≡ model.Started place.node ∷ [] = only_one events in
+          let one : events_of c.output.came ≡ model.Started place.node ∷ [] = only_in _ _ events in
           let text : made.texts ≡ text_by_rule (header place.setting) ∷ [] = r.texts ∙ ap (map text_by_rule) (pieces_are ∙ ap (λ (t : Turn). t.shown) is_starting) in
           built own place world log (rule.log_before place s) called (rule.taken_events place.node s.up called) r.frames r.shown arrived made new c is_place.node r.written r.texts base
           (record {
@@ -445,7 +441,7 @@ called_by_rule own place world log s called arrived made new law refused_down is
     by_end (refused refusal turn same no_frames no_pieces) is true up (came, not_begun) =
         let came_up : arrived ≡ arrived_by place.node called = came ∙ ap (λ b. arrived_at b place.node called) up in
         let c = law own place world s called new r.frames r.shown stands (comes_up place world.ever called arrived r.seated came_up sound) (refused refusal turn same no_frames no_pieces) in
-        let none : events_of c.output.came ≡ [] = only_one c.happened in
+        let none : events_of c.output.came ≡ [] = only_in _ _ c.happened in
         up_built own place world log s called ([] ∷ []) r.frames r.shown arrived made new is_place.node of up c r.written r.texts not_begun
         (elim (refused_up refused_down place s called refusal (events_of c.output.came) up turn none) [
           | inl brings ↦ inl (subst (λ (a : List Arrived). BringsAll place.node false a (events_of c.output.came)) (sym came_up) brings)

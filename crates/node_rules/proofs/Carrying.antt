@@ -10,7 +10,7 @@ use Rattle.protocol_model.specs.Frames.{carried}
 use Rattle.dealer_kind.specs.Plans.{HasNodes}
 use Rattle.node_rules.specs.Sending.{Frame, one, to_first}
 use Rattle.node_rules.specs.Called.{IsNote, IsForAll, IsSaidTo, IsSaid, Carry, CarryAll}
-use Rattle.protocol_model.proofs.Sets.{in_later, in_first, in_split, last_or_below}
+use Rattle.protocol_model.proofs.Sets.{in_later, in_first, in_split, only_in, last_or_below}
 use Rattle.node_rules.proofs.Members.{three_nodes}
 
 pub nothing_carried : (n i : ℕ) → Carry n i [] []
@@ -72,10 +72,6 @@ joined_all n i fs gs sent later a b = record {
 }
 
 -- ---- one frame, with what goes to one node alone
-
-only_in : {A : Type 0} (x y : A) → In x (y ∷ []) → x ≡ y
-only_in x y (inl e) = e
-only_in x y (inr h) = absurd h
 
 one_said : (i to : ℕ) (w : Wire) (m other : Message) → carried i w ≡ m ∷ [] → IsSaid i (one to w) other → other ≡ m
 one_said i to w m other e h =

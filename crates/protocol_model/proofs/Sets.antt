@@ -20,6 +20,11 @@ in_split [] ys x h = inr h
 in_split (z ∷ xs) ys x (inl e) = inl (inl e)
 in_split (z ∷ xs) ys x (inr h) = elim (in_split xs ys x h) [ inl l ↦ inl (inr l) | inr r ↦ inr r ]
 
+-- what stands in a list of one thing is that thing
+pub only_in : {A : Type 0} (x y : A) → In x (y ∷ []) → x ≡ y
+only_in x y (inl e) = e
+only_in x y (inr h) = absurd h
+
 -- what is below the next number is this number, or below it
 pub last_or_below : (k n : ℕ) → n < suc k → (n ≡ k) ⊎ (n < k)
 last_or_below k n less = grind arith
