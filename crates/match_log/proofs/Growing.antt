@@ -1,10 +1,9 @@
 -- What each command adds to the log, and so that it only grows.
-use Rattle.std.proofs.Common.{◌≡◌, ℕ, suc, ◌≤◌, List, [], ◌∷◌, ◌++◌, length, sym, ◌∙◌, ap, refl, append_assoc, arith, true, false, not, cond}
+use Rattle.std.proofs.Common.{◌≡◌, ℕ, suc, List, [], ◌∷◌, ◌++◌, length, sym, ◌∙◌, ap, refl, append_assoc, arith, true, false, not, cond}
 use Rattle.std.specs.Prelude.{Option, Some, None, is_none, nat_le}
 use Rattle.std.specs.List.{flat_map}
 use Rattle.std.specs.Option.{option_to_list}
-use Rattle.std.proofs.lemmas.Bool.{not-false}
-use Rattle.std.proofs.lemmas.Bool.Decides.{nat_tests}
+use Rattle.std.proofs.lemmas.Bool.{not-false, lt-leb}
 use Rattle.std.proofs.lemmas.List.{append-nil}
 use Rattle.std.proofs.lemmas.List.Sums.{sum_by-cons}
 use Rattle.game_def.specs.Game.{Game}
@@ -154,11 +153,8 @@ logs_grow game title names (command ∷ later) commands =
 
 -- ---- the log of no commands
 
-not_reached : (count : ℕ) → 1 ≤ count → nat_le count 0 ≡ false
-not_reached count some = grind (arith, nat_tests)
-
 pub begins_with_header : LogsBeginWithTheirHeader
 unfolding log_lines log_of hands_of state_lines
 begins_with_header game title names some =
     let head : List ℕ = header_line title.name title.game title.hands in
-    ap (λ z. head ++ z) (no_score game title.hands names [] (not_reached title.hands some)) ∙ append-nil head
+    ap (λ z. head ++ z) (no_score game title.hands names [] (lt-leb title.hands 0 (omega arith))) ∙ append-nil head

@@ -1,8 +1,8 @@
 -- Nodes that have just been started are at rest.
 use Rattle.std.proofs.Common.{◌≡◌, ℕ, ◌≤◌, ◌+◌, ◌*◌, inl, inr, Bool, true, false, not, if◌then◌else◌, List, [], Option, Some, None, refl, ap, ◌∙◌, arith, length, eq-eqb}
-use Rattle.std.specs.Prelude.{nat_le, is_none}
+use Rattle.std.specs.Prelude.{is_none}
 use Rattle.std.specs.Option.{option_map}
-use Rattle.std.proofs.lemmas.Bool.{leb-true}
+use Rattle.std.proofs.lemmas.Bool.{lt-leb}
 use Rattle.slot_log.specs.Dealer.{hands_of}
 use Rattle.slot_log.specs.declared.command.Command.{Command}
 use Rattle.slot_log.specs.declared.command.Command.TheVariants.{Deal}
@@ -15,20 +15,13 @@ use Rattle.node_rules.specs.Proposing.{is_over, fitting, own_value}
 use Rattle.node_rules.specs.Calm.{IsHeld}
 use Rattle.node_rules.specs.CalmRound.{place_in, FreshIsCalm}
 
-begun : (hands : ℕ) → 1 ≤ hands → nat_le hands 0 ≡ false
-begun hands least = by_test (nat_le hands 0) refl
-  where
-    by_test : (b : Bool) → nat_le hands 0 ≡ b → nat_le hands 0 ≡ false
-    by_test true e = absurd (let l = leb-true hands 0 e in omega arith)
-    by_test false e = e
-
 first_goes_on : (place : Place) → 1 ≤ place.setting.title.hands → is_over place (started place empty_store) ≡ false
 unfolding hands_of
-first_goes_on place least = begun place.setting.title.hands least
+first_goes_on place least = lt-leb place.setting.title.hands 0 (omega arith)
 
 first_fits : (setting : Setting) (deal : List ℕ) → 1 ≤ setting.title.hands → length deal ≡ 2 * setting.game.players + 5 → fits setting [] (Deal 0 deal) ≡ true
 unfolding hands_of
-first_fits setting deal least count = λ j. is_none (if begun setting.title.hands least j then Some MatchDone
+first_fits setting deal least count = let begun = lt-leb setting.title.hands 0 (omega arith) in λ j. is_none (if begun j then Some MatchDone
     else if not (eq-eqb (length deal) (2 * setting.game.players + 5) count j) then Some WrongCards
     else None)
 
