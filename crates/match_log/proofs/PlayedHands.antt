@@ -1,26 +1,22 @@
 -- The hands of a list of commands that ends the match are played by the rules to their end.
-use Rattle.std.proofs.Common.{◌≡◌, ◌≢◌, ℕ, ◌+◌, ◌*◌, ◌<◌, ◌≤◌, Bool, true, false, not, cond, eqb, leb, List, [], ◌∷◌, length, Option, Some, None, refl, ap, subst, arith}
+use Rattle.std.proofs.Common.{◌≡◌, ℕ, ◌≤◌, Bool, true, false, cond, List, [], ◌∷◌, length, Option, Some, None, refl, ap, subst, arith}
 use Rattle.std.specs.List.{AllByRecursion}
 use Rattle.std.proofs.lemmas.Bool.{not-false}
 use Rattle.std.proofs.lemmas.Bool.Decides.{nat_tests}
 use Rattle.std.proofs.lemmas.List.Sums.{sum_by-cons}
 use Rattle.game_def.specs.Game.{Game}
 use Rattle.card_core.specs.Deal.{IsDeal, player_count}
-use Rattle.betting.specs.declared.action.Action.{Action}
-use Rattle.betting.specs.Legal.{CanAct, Legal}
+use Rattle.betting.specs.Legal.{Legal}
 use Rattle.betting.specs.Laws.{AllowedWithoutFault}
-use Rattle.betting.specs.Rounds.{turns}
 use Rattle.slot_log.specs.Hand.{Hand}
 use Rattle.slot_log.specs.Dealer.{is_finished, finished_count, is_running, hands_of, reason_of, with_command}
 use Rattle.slot_log.specs.declared.command.Command.{Command}
 use Rattle.slot_log.specs.declared.command.Command.TheVariants.{Deal, Act}
 use Rattle.slot_log.specs.declared.reason.Reason.{Reason}
-use Rattle.slot_log.specs.declared.reason.Reason.TheVariants.{MatchDone, NoHand, HandRunning, WrongHand, WrongIndex, WrongCards}
 use Rattle.match_log.specs.Check.{DealsFairly, IsPlayed}
 use Rattle.match_log.specs.Verdict.{HandsEndFinished}
-use Rattle.slot_log.proofs.Allowed.{past_test}
 use Rattle.match_log.proofs.SoFar.{finished_all}
-use Rattle.slot_log.proofs.Fitting.{no_reason}
+use Rattle.slot_log.proofs.Fitting.{fits_from_none}
 
 -- dealt, and legal so far
 pub record IsBegun (game : Game) (hand : Hand) : Type 0 where
@@ -37,29 +33,6 @@ record IsCourse (game : Game) (count : ℕ) (hands : List Hand) : Type 0 where
   in_order : AreInOrder game hands
   few : length hands ≤ count
 
--- no hand runs where there is no reason against a deal
-deal_begins : (game : Game) (count number : ℕ) (deal : List ℕ) (hands : List Hand) → reason_of game count hands (Deal number deal) ≡ None → (finished_count game hands < count) × (is_running game hands ≡ false) × (length deal ≡ 2 * game.players + 5)
-deal_begins game count number deal hands none =
-    let first = past_test (leb count (finished_count game hands)) MatchDone _ none in
-    let second = past_test (is_running game hands) HandRunning _ first.1 in
-    let third = past_test (not (eqb number (finished_count game hands))) WrongHand _ second.1 in
-    let fourth = past_test (not (eqb (length deal) (2 * game.players + 5))) WrongCards _ third.1 in
-    let goes_on : leb count (finished_count game hands) ≡ false = first.0 in
-    let cards : not (eqb (length deal) (2 * game.players + 5)) ≡ false = fourth.0 in
-    (grind (arith, nat_tests), second.0, grind (arith, nat_tests))
-
--- and the newest hand allows an act
-act_goes_on : AllowedWithoutFault → (game : Game) (count number index : ℕ) (action : Action) (newest : Hand) (earlier : List Hand) → reason_of game count (newest ∷ earlier) (Act number index action) ≡ None → CanAct game (turns game newest.past) action
-act_goes_on law game count number index action newest earlier none =
-    let first = past_test (leb count (finished_count game (newest ∷ earlier))) MatchDone _ none in
-    let second = past_test (is_finished game newest) NoHand _ first.1 in
-    let third = past_test (not (eqb number (length earlier))) WrongHand _ second.1 in
-    let fourth = past_test (not (eqb index (length newest.past))) WrongIndex _ third.1 in
-    (law game (turns game newest.past) action).1 (no_reason _ fourth.1)
-
-none_to_act : (game : Game) (count number index : ℕ) (action : Action) → reason_of game count [] (Act number index action) ≢ None
-none_to_act game count number index action none = let first = past_test (leb count (finished_count game [])) MatchDone _ none in let rest = first.1 in cc
-
 -- where no hand runs all are played to their end
 all_played : (game : Game) (hands : List Hand) → AreInOrder game hands → is_running game hands ≡ false → AllByRecursion (IsPlayed game) hands
 all_played game [] in_order none_runs = tt
@@ -68,19 +41,19 @@ all_played game (newest ∷ earlier) in_order none_runs =
 
 command_fits : AllowedWithoutFault → (game : Game) (count : ℕ) (hands : List Hand) (command : Command) → DealsFairly command → reason_of game count hands command ≡ None → IsCourse game count hands → IsCourse game count (with_command hands command)
 command_fits law game count hands (Deal number deal) fair none course =
-    let begins = deal_begins game count number deal hands none in
-    let before : AllByRecursion (IsPlayed game) hands = all_played game hands course.in_order begins.1 in
-    let players : player_count deal ≡ game.players = omega (arith, begins.2) in
+    let fits = fits_from_none law game count hands (Deal number deal) none in
+    let before : AllByRecursion (IsPlayed game) hands = all_played game hands course.in_order fits.none_runs in
+    let players : player_count deal ≡ game.players = omega (arith, fits.card_count) in
     record {
       in_order = (record { dealt = subst (λ (n : ℕ). IsDeal n deal) players fair; legal = tt }, before);
-      few = omega (arith, begins.0, finished_all game hands before);
+      few = omega (arith, fits.goes_on, finished_all game hands before);
     }
-command_fits law game count [] (Act number index action) fair none course = absurd (none_to_act game count number index action none)
+command_fits law game count [] (Act number index action) fair none course = absurd (fits_from_none law game count [] (Act number index action) none)
 command_fits law game count (newest ∷ earlier) (Act number index action) fair none course =
     let few = course.few in
+    let fits = fits_from_none law game count (newest ∷ earlier) (Act number index action) none in
     record {
-      in_order =
-          (record { dealt = course.in_order.0.dealt; legal = (course.in_order.0.legal, act_goes_on law game count number index action newest earlier none) }, course.in_order.1);
+      in_order = (record { dealt = course.in_order.0.dealt; legal = (course.in_order.0.legal, fits.allowed) }, course.in_order.1);
       few = omega arith;
     }
 

@@ -1,5 +1,5 @@
 -- What a seat sees of a hand only grows with further commands.
-use Rattle.std.proofs.Common.{◌≡◌, ◌≢◌, ℕ, zero, suc, ◌+◌, ◌≤◌, min, Bool, true, false, not, ◌&&◌, ◌||◌, cond, eqb, List, [], ◌∷◌, ◌++◌, length, reverse, Option, Some, None, refl, sym, ap, ◌∙◌, subst, arith, ◌⊎◌, inl, inr, length-append, append_assoc}
+use Rattle.std.proofs.Common.{◌≡◌, ◌≢◌, ℕ, zero, suc, ◌+◌, ◌≤◌, min, Bool, true, false, ◌&&◌, ◌||◌, cond, eqb, List, [], ◌∷◌, ◌++◌, length, reverse, Option, Some, None, refl, sym, ap, ◌∙◌, subst, arith, ◌⊎◌, inl, inr, length-append, append_assoc}
 use Rattle.std.specs.Bool.{IsTrue}
 use Rattle.std.specs.List.{slice_get}
 use Rattle.std.specs.Option.{option_map, unwrap_or}
@@ -9,19 +9,18 @@ use Rattle.game_def.specs.Game.{Game}
 use Rattle.betting.specs.declared.action.Action.{Action}
 use Rattle.betting.specs.Laws.{AllowedWithoutFault}
 use Rattle.betting.specs.Rounds.{over, turns, with_turn, current_round, is_alone, ends_round, can_bet_on}
-use Rattle.betting.specs.Legal.{Legal, CanAct, fault_of}
+use Rattle.betting.specs.Legal.{Legal, CanAct}
 use Rattle.slot_log.specs.Hand.{Hand}
-use Rattle.slot_log.specs.Dealer.{hands_of, hands_after, with_command, with_action, with_deal, reason_of, act_reason, is_match_over, is_finished}
+use Rattle.slot_log.specs.Dealer.{hands_of, hands_after, with_command, with_action, with_deal, reason_of}
 use Rattle.slot_log.specs.declared.command.Command.{Command}
 use Rattle.slot_log.specs.declared.command.Command.TheVariants.{Deal, Act}
 use Rattle.slot_log.specs.declared.reason.Reason.{Reason}
-use Rattle.slot_log.specs.declared.reason.Reason.TheVariants.{MatchDone, NoHand, WrongHand, WrongIndex}
 use Rattle.matchstate.specs.View.{sees, rounds_seen, position_of}
 use Rattle.matchstate.specs.Laws.{IsBeginning, Place, hole, board, board_count, SeesPlace, past_at, SeatSees, SameButUnseen, AllSameButUnseen}
 use Rattle.matchstate.proofs.Alikeness.{alike_lines}
 use Rattle.matchstate.specs.Beginnings.{BeginningsAreAlike, AlikeThroughout}
 use Rattle.betting.proofs.Sound.{to_act-over}
-use Rattle.slot_log.proofs.Fitting.{no_reason}
+use Rattle.slot_log.proofs.Begin.{newest_allows}
 
 -- ---- the actions of each hand
 
@@ -132,19 +131,6 @@ AllLegal-action game newest earlier action can legal number =
     by_test true before = (newest_legal game newest earlier legal, can)
     by_test false before = before
 
-passed : {A : Type 0} (b : Bool) (reason : A) (rest : Option A) → cond b (Some reason) rest ≡ None → rest ≡ None
-passed true reason rest e = cc
-passed false reason rest e = e
-
--- an act that fits is allowed
-allowed : AllowedWithoutFault → (game : Game) (count : ℕ) (newest : Hand) (earlier : List Hand) (hand index : ℕ) (action : Action) → reason_of game count (newest ∷ earlier) (Act hand index action) ≡ None → CanAct game (turns game newest.past) action
-allowed without game count newest earlier hand index action none =
-    let act : act_reason game (newest ∷ earlier) hand index action ≡ None = passed (is_match_over game count (newest ∷ earlier)) MatchDone _ none in
-    let runs = passed (is_finished game newest) NoHand _ act in
-    let right = passed (not (eqb hand (length earlier))) WrongHand _ runs in
-    let next = passed (not (eqb index (length newest.past))) WrongIndex _ right in
-    (without game (turns game newest.past) action).1 (no_reason (fault_of game (turns game newest.past) action) next)
-
 module _ (without : AllowedWithoutFault) (game : Game) (count : ℕ) where
   Grow-after : (hands : List Hand) (command : Command) → Grow hands (hands_after game count hands command)
   Grow-after hands command = by_reason command (reason_of game count hands command)
@@ -160,7 +146,7 @@ module _ (without : AllowedWithoutFault) (game : Game) (count : ℕ) where
       by_reason : (hs : List Hand) (c : Command) → AllLegal game hs → (reason : Option Reason) → reason_of game count hs c ≡ reason → AllLegal game (elim reason as (λ _. List Hand) [ None ↦ with_command hs c | Some why ↦ hs ])
       by_reason hs (Deal hand deal) before None e = AllLegal-deal game hs deal before
       by_reason [] (Act hand index action) before None e = before
-      by_reason (newest ∷ earlier) (Act hand index action) before None e = AllLegal-action game newest earlier action (allowed without game count newest earlier hand index action e) before
+      by_reason (newest ∷ earlier) (Act hand index action) before None e = AllLegal-action game newest earlier action (newest_allows without game count (newest ∷ earlier) hand index action e).1 before
       by_reason hs c before (Some why) e = before
 
   Grow-commands : (newer earlier : List Command) → Grow (hands_of game count earlier) (hands_of game count (newer ++ earlier))
