@@ -3,13 +3,13 @@ use Rattle.std.proofs.Common.{◌≡◌, ℕ, suc, List, [], ◌∷◌, ◌++◌
 use Rattle.std.specs.Prelude.{Option, Some, None, is_none, nat_le}
 use Rattle.std.specs.List.{flat_map}
 use Rattle.std.specs.Option.{option_to_list}
-use Rattle.std.proofs.lemmas.Bool.{not-false, lt-leb}
+use Rattle.std.proofs.lemmas.Bool.{lt-leb}
 use Rattle.std.proofs.lemmas.List.{append-nil}
 use Rattle.std.proofs.lemmas.List.Sums.{sum_by-cons}
 use Rattle.game_def.specs.Game.{Game}
 use Rattle.betting.specs.declared.action.Action.{Action}
 use Rattle.slot_log.specs.Hand.{Hand}
-use Rattle.slot_log.specs.Dealer.{is_finished, is_running, finished_count, is_match_over, reason_of, deal_reason, act_reason, hands_of, hands_after, with_command}
+use Rattle.slot_log.specs.Dealer.{is_finished, finished_count, is_match_over, reason_of, deal_reason, act_reason, hands_of, with_command}
 use Rattle.slot_log.specs.declared.command.Command.{Command}
 use Rattle.slot_log.specs.declared.command.Command.TheVariants.{Deal, Act}
 use Rattle.slot_log.specs.declared.reason.Reason.{Reason}
@@ -18,31 +18,15 @@ use Rattle.match_log.specs.Log.{Title, state_lines, log_of, log_lines}
 use Rattle.match_log.specs.Further.{last_line, score_of, further_lines, log_added}
 use Rattle.match_log.specs.Laws.{LogsGrow, CommandsAddToTheLog, LogsBeginWithTheirHeader}
 use Rattle.matchstate.proofs.Seats.{newest_at}
+use Rattle.matchstate.proofs.Earlier.{finished_more, EarlierOver, all_over, none_runs, over_after}
 use Rattle.slot_log.proofs.Allowed.{past_test}
 
 -- ---- how many hands are finished
-
-finished_more : (game : Game) (newest : Hand) (earlier : List Hand) → is_finished game newest ≡ true → finished_count game (newest ∷ earlier) ≡ suc (finished_count game earlier)
-finished_more game newest earlier ended =
-    let one : ◌≡◌ {A = ℕ} (cond (is_finished game newest) 1 0) 1 = rw ended refl in
-    omega (arith, sum_by-cons (λ hand. cond (is_finished game hand) 1 0) newest earlier)
 
 finished_same : (game : Game) (newest : Hand) (earlier : List Hand) → is_finished game newest ≡ false → finished_count game (newest ∷ earlier) ≡ finished_count game earlier
 finished_same game newest earlier runs =
     let none : ◌≡◌ {A = ℕ} (cond (is_finished game newest) 1 0) 0 = rw runs refl in
     omega (arith, sum_by-cons (λ hand. cond (is_finished game hand) 1 0) newest earlier)
-
--- all hands but the newest are finished
-abbrev pub EarlierOver : Game → List Hand → Type 0
-EarlierOver game [] = Unit {0}
-EarlierOver game (newest ∷ earlier) = finished_count game earlier ≡ length earlier
-
--- where none runs all are
-all_over : (game : Game) (hands : List Hand) → EarlierOver game hands → is_running game hands ≡ false → finished_count game hands ≡ length hands
-all_over game [] over none = refl
-all_over game (newest ∷ earlier) over none =
-    let more = finished_more game newest earlier (not-false (is_finished game newest) none) in
-    omega arith
 
 -- ---- why a command fits
 
@@ -51,28 +35,12 @@ goes_on : (game : Game) (count : ℕ) (hands : List Hand) (command : Command) �
 goes_on game count hands (Deal hand deal) fits = (past_test (is_match_over game count hands) _ (deal_reason game hands hand deal) fits).0
 goes_on game count hands (Act hand index action) fits = (past_test (is_match_over game count hands) _ (act_reason game hands hand index action) fits).0
 
--- no hand runs where one is dealt
-none_runs : (game : Game) (count : ℕ) (hands : List Hand) (hand : ℕ) (deal : List ℕ) → reason_of game count hands (Deal hand deal) ≡ None → is_running game hands ≡ false
-none_runs game count hands hand deal fits = (past_test (is_running game hands) _ _ (past_test (is_match_over game count hands) _ (deal_reason game hands hand deal) fits).1).0
-
 -- the newest hand runs where one acts
 newest_runs : (game : Game) (count : ℕ) (newest : Hand) (earlier : List Hand) (hand index : ℕ) (action : Action) → reason_of game count (newest ∷ earlier) (Act hand index action) ≡ None → is_finished game newest ≡ false
 newest_runs game count newest earlier hand index action fits =
     (past_test (is_finished game newest) _ _ (past_test (is_match_over game count (newest ∷ earlier)) _ (act_reason game (newest ∷ earlier) hand index action) fits).1).0
 
 -- ---- all hands but the newest are finished, whatever the commands
-
-over_with : (game : Game) (count : ℕ) (hands : List Hand) (command : Command) → EarlierOver game hands → reason_of game count hands command ≡ None → EarlierOver game (with_command hands command)
-over_with game count hands (Deal hand deal) over fits = all_over game hands over (none_runs game count hands hand deal fits)
-over_with game count [] (Act hand index action) over fits = tt
-over_with game count (newest ∷ earlier) (Act hand index action) over fits = over
-
-over_after : (game : Game) (count : ℕ) (hands : List Hand) (command : Command) → EarlierOver game hands → EarlierOver game (hands_after game count hands command)
-over_after game count hands command over =
-    elim (reason_of game count hands command) as (λ r. reason_of game count hands command ≡ r → EarlierOver game (elim r [ None ↦ with_command hands command | Some reason ↦ hands ])) [
-      | None ↦ λ fits. over_with game count hands command over fits
-      | Some reason ↦ λ does_nothing. over
-    ] refl
 
 earlier_over : (game : Game) (count : ℕ) (commands : List Command) → EarlierOver game (hands_of game count commands)
 unfolding hands_of

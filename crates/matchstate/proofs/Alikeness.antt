@@ -2,7 +2,6 @@
 use Rattle.std.proofs.Common.{◌≡◌, ℕ, zero, suc, ◌+◌, ◌-◌, ◌<◌, ◌≤◌, Bool, true, false, not, cond, eqb, List, [], ◌∷◌, ◌++◌, map, length, take, drop, Option, Some, None, refl, sym, ap, ◌∙◌, subst, arith, ◌⊎◌, inl}
 use Rattle.std.specs.List.{slice_get, concat, range_with_len}
 use Rattle.std.specs.Option.{option_map, unwrap_or}
-use Rattle.std.proofs.lemmas.Bool.{not-false}
 use Rattle.std.proofs.lemmas.Bool.Decides.{nat_tests}
 use Rattle.std.proofs.lemmas.List.{append-nil, length-drop, take_all, take-take, drop-take, drop-drop, take-append-drop}
 use Rattle.std.proofs.lemmas.List.Sums.{sum_by-cons}
@@ -10,7 +9,7 @@ use Rattle.game_def.specs.Game.{Game}
 use Rattle.betting.specs.declared.action.Action.{Action}
 use Rattle.card_core.specs.Deal.{hole_of, board_of}
 use Rattle.slot_log.specs.Hand.{Hand}
-use Rattle.slot_log.specs.Dealer.{hands_of, hands_after, with_command, with_action, with_deal, reason_of, act_reason, is_finished, is_running, is_match_over, finished_count}
+use Rattle.slot_log.specs.Dealer.{hands_of, hands_after, with_action, with_deal, reason_of, act_reason, is_finished, is_running, is_match_over, finished_count}
 use Rattle.slot_log.specs.declared.reason.Reason.{Reason}
 use Rattle.slot_log.specs.declared.reason.Reason.TheVariants.{MatchDone, HandRunning, WrongHand}
 use Rattle.slot_log.specs.declared.command.Command.{Command}
@@ -21,6 +20,7 @@ use Rattle.matchstate.specs.View.{View, view_of, sees, rounds_seen, position_of,
 use Rattle.matchstate.specs.Line.{line_text}
 use Rattle.matchstate.specs.Laws.{Place, hole, board, card_at, board_count, SeesPlace, SeatSees, past_at, SameButUnseen, AllSameButUnseen, AlikeLines}
 use Rattle.matchstate.proofs.Seats.{newest_at}
+use Rattle.matchstate.proofs.Earlier.{EarlierOver, all_over, over_after}
 
 -- hands that differ only in cards at places that aren't seen: newest first, the number of each is how many
 -- stand behind it
@@ -78,42 +78,16 @@ module _ (Seen : ℕ → Place → Type 0) (game : Game) (count : ℕ) where
       let act = alike_act hs ks hand index action a in
       rw (finished, act) refl
 
-  -- all hands but the newest are finished
-  Tidy : List Hand → Type 0
-  Tidy [] = Unit {0}
-  Tidy (h ∷ hs) = finished_count game hs ≡ length hs
-
-  all_finished : (hs : List Hand) → Tidy hs → is_running game hs ≡ false → finished_count game hs ≡ length hs
-  unfolding Tidy
-  all_finished [] tidy stopped = refl
-  all_finished (h ∷ hs) tidy stopped =
-      let over : is_finished game h ≡ true = not-false (is_finished game h) stopped in
-      let one : ◌≡◌ {A = ℕ} (cond (is_finished game h) 1 0) 1 = rw over refl in
-      omega (arith, sum_by-cons (λ x. cond (is_finished game x) 1 0) h hs)
-
   -- what a deal without a reason against it says
-  deal_fits : (hs : List Hand) (hand : ℕ) (deal : List ℕ) → Tidy hs → reason_of game count hs (Deal hand deal) ≡ None → (hand ≡ length hs) × (finished_count game hs ≡ length hs)
+  deal_fits : (hs : List Hand) (hand : ℕ) (deal : List ℕ) → EarlierOver game hs → reason_of game count hs (Deal hand deal) ≡ None → (hand ≡ length hs) × (finished_count game hs ≡ length hs)
   deal_fits hs hand deal tidy none =
       let first = past_test (is_match_over game count hs) MatchDone _ none in
       let second = past_test (is_running game hs) HandRunning _ first.1 in
       let third = past_test (not (eqb hand (finished_count game hs))) WrongHand _ second.1 in
-      let all = all_finished hs tidy second.0 in
+      let all = all_over game hs tidy second.0 in
       let test : not (eqb hand (finished_count game hs)) ≡ false = third.0 in
       let next : hand ≡ finished_count game hs = grind (arith, nat_tests) in
       (next ∙ all, all)
-
-  tidy_after : (hs : List Hand) (command : Command) → Tidy hs → Tidy (hands_after game count hs command)
-  unfolding Tidy
-  tidy_after hs command tidy = by_reason command (reason_of game count hs command) refl
-    where
-      tidy_action : (hands : List Hand) (action : Action) → Tidy hands → Tidy (with_action hands action)
-      tidy_action [] action t = tt
-      tidy_action (h ∷ rest) action t = t
-
-      by_reason : (c : Command) (reason : Option Reason) → reason_of game count hs c ≡ reason → Tidy (elim reason as (λ _. List Hand) [ None ↦ with_command hs c | Some why ↦ hs ])
-      by_reason (Deal hand deal) None e = (deal_fits hs hand deal tidy e).1
-      by_reason (Act hand index action) None e = tidy_action hs action tidy
-      by_reason c (Some why) e = tidy
 
   alike_action : (hs ks : List Hand) (action : Action) → AlikeHands Seen hs ks → AlikeHands Seen (with_action hs action) (with_action ks action)
   unfolding AlikeHands
@@ -126,7 +100,7 @@ module _ (Seen : ℕ → Place → Type 0) (game : Game) (count : ℕ) where
   unfolding AlikeHands
   alike_deal hs ks deal cards a same count_is = (refl, same, count_is, a)
 
-  alike_after : (hs ks : List Hand) (command other : Command) → AlikeHands Seen hs ks → Tidy hs → SameButUnseen Seen command other → AlikeHands Seen (hands_after game count hs command) (hands_after game count ks other)
+  alike_after : (hs ks : List Hand) (command other : Command) → AlikeHands Seen hs ks → EarlierOver game hs → SameButUnseen Seen command other → AlikeHands Seen (hands_after game count hs command) (hands_after game count ks other)
   alike_after hs ks (Deal hand deal) (Deal number cards) a tidy same =
       let reasons : reason_of game count hs (Deal hand deal) ≡ reason_of game count ks (Deal number cards) =
       alike_reason_deal hs ks hand deal cards a same.1 ∙ ap (λ n. reason_of game count ks (Deal n cards)) same.0 in
@@ -152,15 +126,15 @@ module _ (Seen : ℕ → Place → Type 0) (game : Game) (count : ℕ) where
       by_reason None = alike_action hs ks action a
       by_reason (Some why) = a
 
-  alike_hands : (first second : List Command) → AllSameButUnseen Seen first second → AlikeHands Seen (hands_of game count first) (hands_of game count second) × Tidy (hands_of game count first)
-  unfolding hands_of AlikeHands Tidy
+  alike_hands : (first second : List Command) → AllSameButUnseen Seen first second → AlikeHands Seen (hands_of game count first) (hands_of game count second) × EarlierOver game (hands_of game count first)
+  unfolding hands_of AlikeHands
   alike_hands [] [] same = (tt, tt)
   alike_hands [] (d ∷ ds) same = absurd same
   alike_hands (c ∷ cs) [] same = absurd same
   alike_hands (c ∷ cs) (d ∷ ds) same =
       let before = alike_hands cs ds same.1 in (
         alike_after (hands_of game count cs) (hands_of game count ds) c d before.0 before.1 same.0,
-        tidy_after (hands_of game count cs) c before.1,
+        over_after game count (hands_of game count cs) c before.1,
       )
 
 -- ---- what is seen is the same

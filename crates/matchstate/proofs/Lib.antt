@@ -8,6 +8,7 @@ pub mod CardTexts
 pub mod Sights
 pub mod Seats
 pub mod Agreeing
+pub mod Earlier
 pub mod Alikeness
 pub mod Examples
 pub mod Joined
