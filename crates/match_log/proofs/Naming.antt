@@ -1,7 +1,7 @@
 -- Names with | between them, read one by one.
 use Rattle.std.proofs.Common.{◌≡◌, ℕ, ◌+◌, ◌<◌, ◌≤◌, List, [], ◌∷◌, ◌++◌, length, take, drop, set, get_or, zero, suc, refl, sym, ◌∙◌, ap, subst, append_assoc, arith}
 use Rattle.std.specs.List.{AllByRecursion, flat_map}
-use Rattle.std.proofs.lemmas.List.{append-nil, drop_more, take_more_set, length-drop}
+use Rattle.std.proofs.lemmas.List.{append-nil, drop_more, take_more_set, length-drop, nil_from_length}
 use Rattle.std.proofs.lemmas.List.Concat.{flat_map-append}
 use Rattle.match_log.specs.Lines.{names_field}
 use Rattle.match_log.specs.Names.{IsName}
@@ -16,10 +16,6 @@ all_at : (P : List ℕ → Type 0) (names : List (List ℕ)) (place : ℕ) → p
 all_at P [] place within all = absurd (omega arith)
 all_at P (name ∷ names) zero within all = all.0
 all_at P (name ∷ names) (suc place) within all = all_at P names place (omega arith) all.1
-
-pub all_push : (P : List ℕ → Type 0) (names : List (List ℕ)) (name : List ℕ) → AllByRecursion P names → P name → AllByRecursion P (names ++ name ∷ [])
-all_push P [] name all one = (one, tt)
-all_push P (first ∷ names) name all one = (all.0, all_push P names name all.1 one)
 
 -- the next of several names
 pub record NextName (names : List (List ℕ)) (place : ℕ) (rest : List ℕ) : Type 0 where
@@ -45,13 +41,9 @@ next_name names place rest within all is =
 -- the last of several names
 pub last_name : (names : List (List ℕ)) (place : ℕ) (rest : List ℕ) → place + 1 ≡ length names → AllByRecursion IsName names → rest ≡ names_field (drop place names) → (IsName rest) × (rest ≡ get_or names place [])
 last_name names place rest last all is =
-    let none : drop (place + 1) names ≡ [] = nothing (drop (place + 1) names) (omega (arith, length-drop (place + 1) names)) in
+    let none : drop (place + 1) names ≡ [] = nil_from_length (drop (place + 1) names) (omega (arith, length-drop (place + 1) names)) in
     let read : rest ≡ get_or names place [] = is ∙ ap names_field (drop_more names place [] (omega arith) ∙ ap (λ (later : List (List ℕ)). get_or names place [] ∷ later) none) ∙ append-nil (get_or names place []) in
     (subst IsName (sym read) (all_at IsName names place (omega arith) all), read)
-  where
-    nothing : (xs : List (List ℕ)) → length xs ≡ 0 → xs ≡ []
-    nothing [] e = refl
-    nothing (x ∷ xs) e = absurd (omega arith)
 
 pub ended_more : (names : List (List ℕ)) (place : ℕ) (name bytes rest behind : List ℕ) → place < length names → bytes ≡ ended (take place names) ++ rest → rest ≡ name ++ 124 ∷ behind → bytes ≡ ended (take (place + 1) (set names place name)) ++ behind
 ended_more names place name bytes rest behind within so_far is =

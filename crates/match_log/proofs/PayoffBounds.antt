@@ -18,11 +18,8 @@ use Rattle.side_pots.specs.Pots.{is_eligible, is_same_set, chips_at, levels, pot
 use Rattle.slot_log.specs.Hand.{Hand}
 use Rattle.match_log.specs.Payoffs.{amounts_of, folds_of, values_of, payoffs_of}
 use Rattle.match_log.proofs.ByPosition.{stack_fits}
+use Rattle.match_log.proofs.Settling.{max_within}
 use Rattle.match_log.proofs.FieldCuts.{All-range, All-each}
-
-most_of : (start most : ℕ) (xs : List ℕ) → start ≤ most → AllByRecursion (λ x. x ≤ most) xs → fold max start xs ≤ most
-most_of start most [] h all = h
-most_of start most (x ∷ xs) h all = let first : x ≤ most = all.0 in most_of (max start x) most xs (omega arith) all.1
 
 cond_within : (b : Bool) (x bound : ℕ) → x ≤ bound → cond b x 0 ≤ bound
 cond_within true x bound h = h
@@ -62,7 +59,7 @@ record AreFew (amounts : List ℕ) : Type 0 where
   small : AllByRecursion (λ amount. amount ≤ 2147483647) amounts
 
 most_amount : (amounts : List ℕ) → AreFew amounts → fold max 0 amounts ≤ 2147483647
-most_amount amounts are = most_of 0 2147483647 amounts (omega arith) are.small
+most_amount amounts are = max_within 0 2147483647 amounts (omega arith) (All-from_recursion (λ x. x ≤ 2147483647) amounts are.small)
 
 won_at_within : (amounts : List ℕ) (folds : List Bool) (values : List Worth) (position level : ℕ) → AreFew amounts → won_at amounts folds values position level ≤ 21474836471
 unfolding won_at

@@ -21,7 +21,7 @@ use Rattle.game_def.proofs.Amounts.{each_within}
 
 -- ---- somebody who hasn't folded has the greatest amount in
 
-max_within : (start most : ℕ) (xs : List ℕ) → start ≤ most → All (λ x. x ≤ most) xs → fold max start xs ≤ most
+pub max_within : (start most : ℕ) (xs : List ℕ) → start ≤ most → All (λ x. x ≤ most) xs → fold max start xs ≤ most
 max_within start most [] h all = h
 max_within start most (x ∷ xs) h all =
     let first : x ≤ most = All-head (λ y. y ≤ most) x xs all in

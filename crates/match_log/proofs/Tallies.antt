@@ -1,7 +1,7 @@
 -- A running score, one hand after another.
-use Rattle.std.proofs.Common.{◌≡◌, ℕ, ◌+◌, ◌-◌, ◌%◌, ◌<◌, ◌≤◌, ℤ, pos, ◌+ℤ◌, List, [], ◌∷◌, Some, length, map, take, drop, replicate, reverse, get_or, zero, suc, add-zero, refl, sym, ◌∙◌, ap, arith}
+use Rattle.std.proofs.Common.{◌≡◌, ℕ, ◌+◌, ◌-◌, ◌%◌, ◌<◌, ℤ, pos, ◌+ℤ◌, List, [], ◌∷◌, Some, length, map, take, drop, replicate, reverse, get_or, zero, suc, add-zero, refl, sym, ◌∙◌, ap, arith}
 use Rattle.std.specs.List.{range_with_len}
-use Rattle.std.proofs.lemmas.List.{get_or-take, get_or-reverse}
+use Rattle.std.proofs.lemmas.List.{get_or-take, get_or-reverse, drop_all}
 use Rattle.std.proofs.lemmas.List.FromFn.{get_or-map-range_with_len, fill_by_all}
 use Rattle.std.proofs.lemmas.Option.{get_or_from_slice_get}
 use Rattle.std.proofs.Math.Nat.{mod-eq_of_lt}
@@ -54,13 +54,7 @@ abbrev pub older : List Hand → ℕ → List Hand
 older hands number = drop (length hands - number) hands
 
 pub older_none : (hands : List Hand) → older hands 0 ≡ []
-older_none hands = drop_whole hands (length hands - 0) (omega arith)
-  where
-    drop_whole : (xs : List Hand) (n : ℕ) → length xs ≤ n → drop n xs ≡ []
-    drop_whole [] zero h = refl
-    drop_whole [] (suc n) h = refl
-    drop_whole (x ∷ xs) zero h = absurd (omega arith)
-    drop_whole (x ∷ xs) (suc n) h = drop_whole xs n (omega arith)
+older_none hands = drop_all (length hands - 0) hands (omega arith)
 
 pub older_all : (hands : List Hand) → older hands (length hands) ≡ hands
 older_all hands =

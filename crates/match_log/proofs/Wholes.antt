@@ -1,5 +1,5 @@
 -- Lines as their pieces, one behind another.
-use Rattle.std.proofs.Common.{◌≡◌, ℕ, ℤ, List, [], ◌∷◌, ◌++◌, Option, Some, None, IfSome, codes, decimal, ap, ◌∙◌, append_assoc}
+use Rattle.std.proofs.Common.{◌≡◌, ℕ, ℤ, List, [], ◌∷◌, ◌++◌, codes, decimal, ap, ◌∙◌, append_assoc}
 use Rattle.match_log.specs.Lines.{header_line, values_field, names_field, score_text}
 
 pub header_is : (name game : List ℕ) (hands : ℕ) (rest : List ℕ) → header_line name game hands ++ rest ≡ codes "# name/game/hands " ++ (name ++ 32 ∷ (game ++ 32 ∷ (decimal hands ++ 10 ∷ rest)))
@@ -16,7 +16,3 @@ score_is totals names rest =
     append_assoc (codes "SCORE:") (values_field totals ++ 58 ∷ (names_field names ++ 10 ∷ [])) rest
     ∙ ap (λ (t : List ℕ). codes "SCORE:" ++ t) (append_assoc (values_field totals) (58 ∷ (names_field names ++ 10 ∷ [])) rest
     ∙ ap (λ (t : List ℕ). values_field totals ++ 58 ∷ t) (append_assoc (names_field names) (10 ∷ []) rest))
-
-pub if_some : {X : Type 0} (r : Option X) (P Q : X → Type 0) → ((x : X) → P x → Q x) → IfSome r P → IfSome r Q
-if_some None P Q so h = tt
-if_some (Some x) P Q so h = so x h

@@ -1,7 +1,8 @@
 use Rattle.std.proofs.Common.{◌≡◌, ◌++◌, ◌∷◌, ℕ, ℤ, List, codes, sym, ap, ◌∙◌}
 use Rattle.std.specs.Borrow.{Bor}
+use Rattle.std.proofs.lemmas.Option.{IfSome_then}
 use Rattle.match_log.specs.Lines.{values_field, names_field, score_text}
-use Rattle.match_log.proofs.Wholes.{score_is, if_some}
+use Rattle.match_log.proofs.Wholes.{score_is}
 use Rattle.match_log.proofs.printed_text.after_score.Goals as goal
 
 pub returns-in_err-values-clause-only : goal.returns-in_err-values-clause-only
@@ -32,14 +33,15 @@ pub returns-clause-found : goal.returns-clause-found
 returns-clause-found c =
     let totals : List ℤ = c.args.totals.now in
     let names : List (List ℕ) = c.args.names.now in
-    if_some c.after-3.result (λ (rest : Bor (List ℕ)). c.in_ok-line_feed.line_feed.now ≡ 10 ∷ rest.now) (λ (rest : Bor (List ℕ)). c.args.bytes.now ≡ score_text totals names ++ rest.now)
+    IfSome_then c.after-3.result {P = λ (rest : Bor (List ℕ)). c.in_ok-line_feed.line_feed.now ≡ 10 ∷ rest.now} {Q = λ (rest : Bor (List ℕ)). c.args.bytes.now ≡ score_text totals names ++ rest.now}
+    c.after-3.ensures.found
     (λ rest line_feed.
     c.in_ok-values.ensures.found
     ∙ ap (λ (t : List ℕ). codes "SCORE:" ++ t) (c.in_ok-colon.ensures.found
     ∙ ap (λ (t : List ℕ). values_field totals ++ t) (c.in_ok-listed.ensures.found
     ∙ ap (λ (t : List ℕ). 58 ∷ t) (c.in_ok-line_feed.ensures.found
     ∙ ap (λ (t : List ℕ). names_field names ++ t) line_feed)))
-    ∙ sym (score_is totals names rest.now)) c.after-3.ensures.found
+    ∙ sym (score_is totals names rest.now))
 
 pub returns-clause-only : goal.returns-clause-only
 returns-clause-only c =
