@@ -2,6 +2,7 @@
 use Rattle.std.proofs.Common.{◌≡◌, ℕ, zero, suc, Bool, true, false, cond, List, [], ◌∷◌, ◌++◌, map, reverse, length, take, drop, get_or, Option, Some, None, refl, sym, ap, ◌∙◌, subst, arith, ◌⊎◌, inl, inr, append_assoc}
 use Rattle.std.specs.List.{slice_get, concat, range_with_len}
 use Rattle.std.specs.Option.{option_map}
+use Rattle.std.proofs.Output.{concat-append}
 use Rattle.std.proofs.lemmas.Bool.{cases_lt}
 use Rattle.std.proofs.lemmas.Bool.Decides.{eqb_tells}
 use Rattle.std.proofs.lemmas.List.{get_or_past, take-append-drop}
@@ -22,7 +23,6 @@ use Rattle.matchstate.specs.View.{View, view_of, sees, rounds_seen, position_of,
 use Rattle.matchstate.specs.Line.{line_text}
 use Rattle.matchstate.specs.Laws.{IsBeginning, IsTextBeginning, Place, hole, board, card_at, shown_at, AgreeOnHand, Agree, LinesAgree}
 use Rattle.matchstate.proofs.Seats.{newest_at}
-use Rattle.matchstate.proofs.Parts.{concat-append}
 
 -- ---- a view shows the deal's cards
 

@@ -20,6 +20,7 @@ use Rattle.matchstate.specs.View.{View, view_of, sees, rounds_seen, position_of,
 use Rattle.matchstate.specs.Line.{line_text}
 use Rattle.matchstate.specs.Laws.{Place, hole, board, card_at, board_count, SeesPlace, SeatSees, past_at, SameButUnseen, AllSameButUnseen, AlikeLines}
 use Rattle.matchstate.proofs.Seats.{newest_at}
+use Rattle.matchstate.proofs.Seen.{board_parts}
 use Rattle.matchstate.proofs.Earlier.{EarlierOver, all_over, over_after}
 
 -- hands that differ only in cards at places that aren't seen: newest first, the number of each is how many
@@ -171,10 +172,7 @@ same_holes f g h a (suc n) same =
     by_test true e = same a e
     by_test false e = refl
 
-abbrev parts_of : List ℕ → List (List ℕ)
-parts_of b = take 3 b ∷ take 1 (drop 3 b) ∷ drop 4 b ∷ []
-
-concat_parts : (b : List ℕ) → concat (parts_of b) ≡ b
+concat_parts : (b : List ℕ) → concat (board_parts b) ≡ b
 concat_parts b =
     let river : drop 1 (drop 3 b) ≡ drop 4 b = drop-drop 1 3 b in
     let later : take 1 (drop 3 b) ++ (drop 4 b ++ []) ≡ drop 3 b =
@@ -182,7 +180,7 @@ concat_parts b =
     ap (λ r. take 3 b ++ r) later ∙ take-append-drop 3 b
 
 -- fronts of two boards that are the same show the same rounds
-same_parts : (rounds : ℕ) (b c : List ℕ) → length b ≤ 5 → length c ≤ 5 → take (board_count rounds) b ≡ take (board_count rounds) c → take rounds (parts_of b) ≡ take rounds (parts_of c)
+same_parts : (rounds : ℕ) (b c : List ℕ) → length b ≤ 5 → length c ≤ 5 → take (board_count rounds) b ≡ take (board_count rounds) c → take rounds (board_parts b) ≡ take rounds (board_parts c)
 same_parts zero b c short few same = refl
 same_parts (suc zero) b c short few same = ap (λ f. f ∷ []) same
 same_parts (suc (suc zero)) b c short few same =
@@ -192,7 +190,7 @@ same_parts (suc (suc zero)) b c short few same =
 same_parts (suc (suc (suc rounds))) b c short few same =
     let five : board_count (suc (suc (suc rounds))) ≡ 5 = elim rounds as (λ r. board_count (suc (suc (suc r))) ≡ 5) [ zero ↦ refl | suc r ↦ refl ] in
     let whole : b ≡ c = sym (take_all 5 b short) ∙ (rw five at same) ∙ take_all 5 c few in
-    ap (λ d. take (suc (suc (suc rounds))) (parts_of d)) whole
+    ap (λ d. take (suc (suc (suc rounds))) (board_parts d)) whole
 
 length-board : (deal : List ℕ) → length (board_of deal) ≤ 5
 length-board deal = omega (arith, length-drop (length deal - 5) deal)

@@ -3,8 +3,10 @@ use Rattle.std.proofs.Common.{◌≡◌, ◌≢◌, ℕ, zero, suc, ◌+◌, ◌
 use Rattle.std.specs.Bool.{IsTrue}
 use Rattle.std.specs.List.{slice_get}
 use Rattle.std.specs.Option.{option_map, unwrap_or}
+use Rattle.std.proofs.lemmas.Bool.{cases_Bool}
 use Rattle.std.proofs.lemmas.Bool.Decides.{eqb_tells, nat_tests}
 use Rattle.std.proofs.lemmas.List.{append-nil, reverse-append, length-reverse}
+use Rattle.std.proofs.lemmas.Option.{slice_get_past}
 use Rattle.game_def.specs.Game.{Game}
 use Rattle.betting.specs.declared.action.Action.{Action}
 use Rattle.betting.specs.Laws.{AllowedWithoutFault}
@@ -52,15 +54,10 @@ past_at-newest newest earlier number =
     by_test true = refl
     by_test false = refl
 
-none_past : (hands : List Hand) (number : ℕ) → length hands ≤ number → slice_get hands number ≡ None
-none_past [] number past = refl
-none_past (h ∷ hands) zero past = absurd (omega arith)
-none_past (h ∷ hands) (suc number) past = none_past hands number (omega arith)
-
 -- none where the hand wasn't dealt
 past_at-none : (hands : List Hand) (number : ℕ) → length hands ≤ number → past_at hands number ≡ []
 unfolding past_of
-past_at-none hands number past = ap past_of (none_past (reverse hands) number (omega (arith, length-reverse hands)))
+past_at-none hands number past = ap past_of (slice_get_past (reverse hands) number (omega (arith, length-reverse hands)))
 
 -- ---- they only grow, and are legal
 
@@ -224,12 +221,8 @@ own_only true done two stays other running seen = refl
 own_only false true two stays other running seen = cc
 own_only false false two stays other running seen = cc
 
-cases_bool : (b : Bool) → (b ≡ true) ⊎ (b ≡ false)
-cases_bool true = inl refl
-cases_bool false = inr refl
-
 place_stays : (game : Game) (newer past : List Action) (viewer : ℕ) (place : Place) → Legal game (newer ++ past) → SeesPlace game past viewer place → SeesPlace game (newer ++ past) viewer place
-place_stays game newer past viewer (hole position card) legal seen = elim (cases_bool (over game (turns game past))) [
+place_stays game newer past viewer (hole position card) legal seen = elim (cases_Bool (over game (turns game past))) [
   | inl done ↦ subst (λ p. IsTrue (sees game p viewer position)) (sym (stays_over game newer past done legal)) seen
   | inr running ↦ own_only (eqb position viewer) (over game (turns game past)) _ _ _ running seen
 ]

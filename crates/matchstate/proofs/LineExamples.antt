@@ -27,7 +27,7 @@ use Rattle.matchstate.proofs.Examples.{opened, limit_pair, no_limit_pair, first_
 use Rattle.matchstate.proofs.Seen.{place_from_seen}
 use Rattle.matchstate.proofs.Words.{raise_fits, cut_word}
 use Rattle.matchstate.proofs.OneBetting.{letter, letter_is}
-use Rattle.matchstate.proofs.OneField.{OfPack}
+use Rattle.matchstate.proofs.Parts.{AllOfPack}
 use Rattle.matchstate.proofs.OneLine.{fields_with, same_fields, lines_are_texts, texts_read_back}
 
 -- ---- the games are games
@@ -344,7 +344,7 @@ no_bar card below bar =
     false≢true (sym (agree_below_at (λ c. eqb (rank_letter (rank_of c)) 124) (λ _. false) 52 card refl below) ∙ ap (λ r. eqb r 124) (sym bar))
 
 -- the field of a position that is seen begins with a card
-bar_in_front : (holes boards : List (List ℕ)) → map length holes ≡ 2 ∷ 0 ∷ [] → OfPack (all_cards holes boards) → codes "|8hTc" ≡ cards_field holes boards → ⊥
+bar_in_front : (holes boards : List (List ℕ)) → map length holes ≡ 2 ∷ 0 ∷ [] → AllOfPack (all_cards holes boards) → codes "|8hTc" ≡ cards_field holes boards → ⊥
 bar_in_front [] boards counts pack is = cc
 bar_in_front ([] ∷ holes) boards counts pack is = cc
 bar_in_front ((card ∷ cards) ∷ holes) boards counts pack is =

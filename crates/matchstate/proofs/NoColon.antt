@@ -19,7 +19,8 @@ use Rattle.matchstate.specs.Reading.{slashes_after}
 use Rattle.matchstate.proofs.Texts.{text_none, text_next}
 use Rattle.matchstate.proofs.Words.{raise_fits, decimals_are_numerals}
 use Rattle.matchstate.proofs.Joined.{All-part}
-use Rattle.matchstate.proofs.OneField.{OfPack, marked}
+use Rattle.matchstate.proofs.Parts.{AllOfPack}
+use Rattle.matchstate.proofs.OneField.{marked}
 
 joins : (xs ys : List ℕ) → IsField xs → IsField ys → IsField (xs ++ ys)
 joins xs ys = all_joined (λ (byte : ℕ). byte ≢ 58) xs ys
@@ -71,23 +72,23 @@ no_colon_in_suit : (card : ℕ) → card < 52 → suit_letter (suit_of card) ≢
 no_colon_in_suit card below colon =
     false≢true (sym (agree_below_at (λ c. eqb (suit_letter (suit_of c)) 58) (λ _. false) 52 card refl below) ∙ ap (λ letter. eqb letter 58) colon)
 
-no_colon_in_cards : (cards : List ℕ) → OfPack cards → IsField (cards_text cards)
+no_colon_in_cards : (cards : List ℕ) → AllOfPack cards → IsField (cards_text cards)
 no_colon_in_cards [] all = tt
 no_colon_in_cards (card ∷ cards) all = (no_colon_in_rank card all.0, (no_colon_in_suit card all.0, no_colon_in_cards cards all.1))
 
-no_colon_in_groups : (mark : ℕ) (groups : List (List ℕ)) → mark ≢ 58 → OfPack (concat groups) → IsField (marked mark groups)
+no_colon_in_groups : (mark : ℕ) (groups : List (List ℕ)) → mark ≢ 58 → AllOfPack (concat groups) → IsField (marked mark groups)
 no_colon_in_groups mark [] other all = tt
 no_colon_in_groups mark (group ∷ groups) other all =
     let parts = All-part (λ card. card < 52) group (concat groups) all in
     (other, joins (cards_text group) (marked mark groups) (no_colon_in_cards group parts.0) (no_colon_in_groups mark groups other parts.1))
 
-no_colon_in_holes : (holes : List (List ℕ)) → OfPack (concat holes) → IsField (join_by cards_text (124 ∷ []) holes)
+no_colon_in_holes : (holes : List (List ℕ)) → AllOfPack (concat holes) → IsField (join_by cards_text (124 ∷ []) holes)
 no_colon_in_holes [] all = tt
 no_colon_in_holes (hole ∷ holes) all =
     let parts = All-part (λ card. card < 52) hole (concat holes) all in
     joins (cards_text hole) (marked 124 holes) (no_colon_in_cards hole parts.0) (no_colon_in_groups 124 holes (omega arith) parts.1)
 
-pub no_colon_in_field : (holes boards : List (List ℕ)) → OfPack (all_cards holes boards) → IsField (cards_field holes boards)
+pub no_colon_in_field : (holes boards : List (List ℕ)) → AllOfPack (all_cards holes boards) → IsField (cards_field holes boards)
 no_colon_in_field holes boards all =
     let parts = All-part (λ card. card < 52) (concat holes) (concat boards) all in
     joins (join_by cards_text (124 ∷ []) holes) (marked 47 boards) (no_colon_in_holes holes parts.0) (no_colon_in_groups 47 boards (omega arith) parts.1)

@@ -1,20 +1,18 @@
 -- Cards at the same places have one text.
 use Rattle.std.proofs.Common.{◌≡◌, ℕ, ◌+◌, ◌<◌, true, List, [], ◌∷◌, ◌++◌, map, length, take, refl, sym, ap, ◌∙◌, arith, append_assoc}
-use Rattle.std.specs.List.{AllByRecursion, concat, flat_map, join_by}
+use Rattle.std.specs.List.{concat, flat_map, join_by}
 use Rattle.card_core.specs.Card.{text_of}
 use Rattle.card_core.specs.Deal.{IsDeal}
 use Rattle.matchstate.specs.Cards.{cards_text, holes_of, boards_of, all_cards, AreSeenOf, AreInPlace}
 use Rattle.matchstate.proofs.Seen.{place_from_seen}
 use Rattle.matchstate.proofs.Dealt.{all_of}
 use Rattle.matchstate.proofs.Joined.{All-part}
+use Rattle.matchstate.proofs.Parts.{AllOfPack}
 use Rattle.matchstate.specs.OneToOne.{CardsFieldsAreOneToOne, SeenFieldsAreOneToOne, ShownDealsAreOneToOne, DealTextsAreOneToOne}
 use Rattle.card_core.proofs.Letters.{text_of-one}
 
-abbrev pub OfPack : List ℕ → Type 0
-OfPack cards = AllByRecursion (λ card. card < 52) cards
-
 -- as many cards in front
-same_cards : (cards others behind rest : List ℕ) → length cards ≡ length others → OfPack cards → OfPack others → cards_text cards ++ behind ≡ cards_text others ++ rest → (cards ≡ others) × (behind ≡ rest)
+same_cards : (cards others behind rest : List ℕ) → length cards ≡ length others → AllOfPack cards → AllOfPack others → cards_text cards ++ behind ≡ cards_text others ++ rest → (cards ≡ others) × (behind ≡ rest)
 same_cards [] [] behind rest count all each e = (refl, e)
 same_cards [] (other ∷ others) behind rest count all each e = absurd (omega arith)
 same_cards (card ∷ cards) [] behind rest count all each e = absurd (omega arith)
@@ -30,7 +28,7 @@ abbrev pub marked : ℕ → List (List ℕ) → List ℕ
 marked mark groups = flat_map (λ cards. mark ∷ cards_text cards) groups
 
 -- groups of the same counts in front
-same_groups : (mark : ℕ) (groups others : List (List ℕ)) (behind rest : List ℕ) → map length groups ≡ map length others → OfPack (concat groups) → OfPack (concat others) → marked mark groups ++ behind ≡ marked mark others ++ rest → (groups ≡ others) × (behind ≡ rest)
+same_groups : (mark : ℕ) (groups others : List (List ℕ)) (behind rest : List ℕ) → map length groups ≡ map length others → AllOfPack (concat groups) → AllOfPack (concat others) → marked mark groups ++ behind ≡ marked mark others ++ rest → (groups ≡ others) × (behind ≡ rest)
 same_groups mark [] [] behind rest counts all each e = (refl, e)
 same_groups mark [] (other ∷ others) behind rest counts all each e = cc
 same_groups mark (group ∷ groups) [] behind rest counts all each e = cc
@@ -49,7 +47,7 @@ same_groups mark (group ∷ groups) (other ∷ others) behind rest counts all ea
     (cc, later.1)
 
 -- hole cards of the same counts in front
-same_holes : (holes others : List (List ℕ)) (behind rest : List ℕ) → map length holes ≡ map length others → OfPack (concat holes) → OfPack (concat others) → join_by cards_text (124 ∷ []) holes ++ behind ≡ join_by cards_text (124 ∷ []) others ++ rest → (holes ≡ others) × (behind ≡ rest)
+same_holes : (holes others : List (List ℕ)) (behind rest : List ℕ) → map length holes ≡ map length others → AllOfPack (concat holes) → AllOfPack (concat others) → join_by cards_text (124 ∷ []) holes ++ behind ≡ join_by cards_text (124 ∷ []) others ++ rest → (holes ≡ others) × (behind ≡ rest)
 same_holes [] [] behind rest counts all each e = (refl, e)
 same_holes [] (other ∷ others) behind rest counts all each e = cc
 same_holes (hole ∷ holes) [] behind rest counts all each e = cc

@@ -1,6 +1,7 @@
 -- A cards field in its four parts: hole cards, flop, turn, river.
-use Rattle.std.proofs.Common.{◌≡◌, ℕ, zero, suc, ◌<◌, ◌≤◌, Bool, cond, leb, List, [], ◌∷◌, ◌++◌, map, length, take, refl, sym, ap, ◌∙◌, subst, arith, append_assoc}
+use Rattle.std.proofs.Common.{◌≡◌, ℕ, zero, suc, ◌<◌, ◌≤◌, Bool, cond, leb, List, [], ◌∷◌, ◌++◌, map, length, take, refl, sym, ap, ◌∙◌, subst, arith}
 use Rattle.std.specs.List.{AllByRecursion, concat, flat_map, join_by, range_with_len}
+use Rattle.std.proofs.Output.{concat-append}
 use Rattle.std.proofs.lemmas.List.{append-nil, map-append}
 use Rattle.std.proofs.lemmas.List.Concat.{flat_map-append}
 use Rattle.slot_log.proofs.Inside.{all_joined}
@@ -41,10 +42,6 @@ parted (suc (suc (suc zero))) (f ∷ t ∷ []) most count = cc
 parted (suc (suc (suc zero))) (f ∷ t ∷ r ∷ []) most count = record { flop = f ∷ []; turn = t ∷ []; river = r ∷ []; is = refl; flop_count = cc; turn_count = cc; river_count = cc }
 parted (suc (suc (suc zero))) (f ∷ t ∷ r ∷ more ∷ boards) most count = cc
 parted (suc (suc (suc (suc rounds)))) boards most count = absurd (omega arith)
-
-pub concat-append : (xs ys : List (List ℕ)) → concat (xs ++ ys) ≡ concat xs ++ concat ys
-concat-append [] ys = refl
-concat-append (x ∷ xs) ys = ap (λ rest. x ++ rest) (concat-append xs ys) ∙ sym (append_assoc x (concat xs) (concat ys))
 
 -- the parts of a field's text
 pub record Parts (rounds : ℕ) (holes boards : List (List ℕ)) (bytes : List ℕ) : Type 0 where

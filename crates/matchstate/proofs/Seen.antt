@@ -1,7 +1,7 @@
 -- What is seen of a deal is in place, and what is in place is seen of some deal.
 use Rattle.std.proofs.Common.{◌≡◌, ℕ, zero, suc, ◌+◌, ◌-◌, ◌*◌, ◌<◌, ◌≤◌, Bool, true, false, cond, List, [], ◌∷◌, ◌++◌, map, length, get_or, take, drop, refl, sym, ap, ◌∙◌, arith, length-append, length-drop, length-take, append_assoc}
 use Rattle.std.specs.List.{AllByRecursion, concat, range_with_len}
-use Rattle.std.proofs.lemmas.List.{take-take, drop-drop, drop-take, take_at, drop_at, length-map, append-nil}
+use Rattle.std.proofs.lemmas.List.{take-take, drop-drop, drop-take, take_at, drop_at, length-map, append-nil, nil_from_length}
 use Rattle.std.proofs.lemmas.List.FromFn.{fill_by_all, length-map-range_with_len, get_or-map-range_with_len}
 use Rattle.card_core.specs.Deal.{IsDeal, hole_of, board_of}
 use Rattle.matchstate.specs.Cards.{holes_seen, boards_of, all_cards, AreSeenOf, AreSeen, AreInPlace}
@@ -208,10 +208,6 @@ length-board (flop {f} a) = omega (arith, length-append f [], a)
 length-board (turn {f} {t} a b) = omega (arith, length-append f (t ++ []), length-append t [], a, b)
 length-board (river {f} {t} {r} a b c) = omega (arith, length-append f (t ++ (r ++ [])), length-append t (r ++ []), length-append r [], a, b, c)
 
-no_more : (xs : List ℕ) → length xs ≡ 0 → xs ≡ []
-no_more [] none = refl
-no_more (x ∷ xs) none = absurd (omega arith)
-
 pub boards_of-board : {rounds : ℕ} {boards : List (List ℕ)} (rest : List ℕ) → Board rounds boards → length (concat boards) + length rest ≡ 5 → boards ≡ take rounds (board_parts (concat boards ++ rest))
 boards_of-board rest unseen five = refl
 boards_of-board rest (flop {f} a) five =
@@ -224,7 +220,7 @@ boards_of-board rest (turn {f} {t} a b) five =
     let second : take 1 (drop 3 ((f ++ (t ++ [])) ++ rest)) ≡ t = ap (take 1) next ∙ take_at t rest 1 b in
     cc
 boards_of-board rest (river {f} {t} {r} a b c) five =
-    let none : rest ≡ [] = no_more rest (omega (arith, length-append f (t ++ (r ++ [])), length-append t (r ++ []), length-append r [], a, b, c)) in
+    let none : rest ≡ [] = nil_from_length rest (omega (arith, length-append f (t ++ (r ++ [])), length-append t (r ++ []), length-append r [], a, b, c)) in
     let whole : (f ++ (t ++ (r ++ []))) ++ rest ≡ f ++ (t ++ r) =
     ap (λ k. (f ++ (t ++ (r ++ []))) ++ k) none ∙ append-nil (f ++ (t ++ (r ++ []))) ∙ ap (λ k. f ++ (t ++ k)) (append-nil r) in
     let first : take 3 ((f ++ (t ++ (r ++ []))) ++ rest) ≡ f = ap (take 3) whole ∙ take_at f (t ++ r) 3 a in
@@ -325,7 +321,7 @@ module _ (players : ℕ) (sees : ℕ → Bool) (rounds : ℕ) (holes boards : Li
       rw at
       (elim (sees p) as (λ b. length (given p) ≡ cond b 2 0 → given p ≡ cond b (cond b (given p) (hole_of fresh p)) []) [
         | true ↦ λ e. refl
-        | false ↦ λ e. no_more (given p) e
+        | false ↦ λ e. nil_from_length (given p) e
       ] length_told)
 
   holes_are : holes ≡ holes_seen players sees (completed players sees holes boards fresh)
