@@ -1,7 +1,6 @@
 -- Records one after another behind open gates.
 use Rattle.std.proofs.Common.{◌≡◌, ℕ, ◌+◌, ◌≤◌, List, [], ◌∷◌, ◌++◌, length, take, drop, refl, sym, ◌∙◌, ap, arith, length-append, append_assoc}
 use Rattle.std.specs.Prelude.{◌/◌, ◌%◌, Option, Some, None}
-use Rattle.std.specs.List.{AllByRecursion}
 use Rattle.std.proofs.lemmas.List.{take_at, drop_at, append-nil}
 use Rattle.paxos_wire.specs.declared.ballot.Ballot.{Ballot}
 use Rattle.paxos_wire.specs.declared.limits.TheConstants.{SLOTS}
@@ -97,10 +96,6 @@ gated_push (first ∷ records) r rest =
     ap (λ (l : List ℕ). 1 ∷ l) (append_assoc (record_text first) (gated (records ++ r ∷ [])) rest
     ∙ ap (λ (l : List ℕ). record_text first ++ l) (gated_push records r rest)
     ∙ sym (append_assoc (record_text first) (gated records) (1 ∷ (record_text r ++ rest))))
-
-pub each_push : (records : List Record) (r : Record) → AllByRecursion IsRecord records → IsRecord r → AllByRecursion IsRecord (records ++ r ∷ [])
-each_push [] r short one = (one, tt)
-each_push (first ∷ records) r short one = (short.0, each_push records r short.1 one)
 
 pub length_gated_push : (front : List Record) (r : Record) → length (gated (front ++ r ∷ [])) ≡ length (gated front) + length (payload r) + 3
 length_gated_push front r =
