@@ -1,18 +1,12 @@
 -- Two views are equal where their position, hand, actions and cards one after another are.
-use Rattle.std.proofs.Common.{◌≡◌, ℕ, List, [], ◌∷◌, ◌++◌, map, length, take, drop, refl, sym, ap, ◌∙◌, subst, arith, length-append}
+use Rattle.std.proofs.Common.{◌≡◌, ℕ, List, [], ◌∷◌, map, length, refl, sym, ap, ◌∙◌, subst, arith, length-append}
 use Rattle.std.specs.List.{concat}
-use Rattle.std.proofs.lemmas.List.{take_at, drop_at}
 use Rattle.game_def.specs.Game.{Game}
 use Rattle.betting.specs.declared.action.Action.{Action}
+use Rattle.slot_log.proofs.Hands.{same_fronts}
 use Rattle.matchstate.specs.Cards.{AreSeen, all_cards}
 use Rattle.matchstate.specs.View.{View, IsView, sees, rounds_seen}
 use Rattle.matchstate.proofs.Seen.{place_from_seen}
-
-append_parts : (xs ys others rest : List ℕ) → length xs ≡ length others → xs ++ ys ≡ others ++ rest → (xs ≡ others) × (ys ≡ rest)
-append_parts xs ys others rest size same = (
-  sym (take_at xs ys (length others) size) ∙ ap (take (length others)) same ∙ take_at others rest (length others) refl,
-  sym (drop_at xs ys (length others) size) ∙ ap (drop (length others)) same ∙ drop_at others rest (length others) refl,
-)
 
 groups_same : (groups others : List (List ℕ)) → map length groups ≡ map length others → concat groups ≡ concat others → groups ≡ others
 groups_same [] [] sizes same = refl
@@ -21,7 +15,7 @@ groups_same (group ∷ groups) [] sizes same = cc
 groups_same (group ∷ groups) (other ∷ others) sizes same =
     let size : length group ≡ length other = cc in
     let later : map length groups ≡ map length others = cc in
-    let parts = append_parts group (concat groups) other (concat others) size same in
+    let parts = same_fronts group other (concat groups) (concat others) size same in
     let rest = groups_same groups others later parts.1 in
     ap (λ g. g ∷ groups) parts.0 ∙ ap (λ r. other ∷ r) rest
 
@@ -44,7 +38,7 @@ same_cards game past position holes boards others streets seen shown same =
     let other = place_from_seen game.players (sees game past position) (rounds_seen game past) others streets shown.0 shown.1 in
     let hole_sizes : map length holes ≡ map length others = place.hole_counts ∙ sym other.hole_counts in
     let board_sizes : map length boards ≡ map length streets = place.board_counts ∙ sym other.board_counts in
-    let parts = append_parts (concat holes) (concat boards) (concat others) (concat streets) (length-concat holes others hole_sizes) same in
+    let parts = same_fronts (concat holes) (concat others) (concat boards) (concat streets) (length-concat holes others hole_sizes) same in
     (groups_same holes others hole_sizes parts.0, groups_same boards streets board_sizes parts.1)
 
 pub same_view :

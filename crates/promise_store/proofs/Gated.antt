@@ -1,7 +1,8 @@
 -- Records one after another behind open gates.
-use Rattle.std.proofs.Common.{◌≡◌, ℕ, ◌+◌, ◌≤◌, List, [], ◌∷◌, ◌++◌, length, take, drop, refl, sym, ◌∙◌, ap, arith, length-append, append_assoc}
+use Rattle.std.proofs.Common.{◌≡◌, ℕ, ◌+◌, ◌≤◌, List, [], ◌∷◌, ◌++◌, length, refl, sym, ◌∙◌, ap, arith, length-append, append_assoc}
 use Rattle.std.specs.Prelude.{◌/◌, ◌%◌, Option, Some, None}
-use Rattle.std.proofs.lemmas.List.{take_at, drop_at, append-nil}
+use Rattle.std.proofs.lemmas.List.{append-nil}
+use Rattle.slot_log.proofs.Hands.{same_fronts}
 use Rattle.paxos_wire.specs.declared.ballot.Ballot.{Ballot}
 use Rattle.paxos_wire.specs.declared.limits.TheConstants.{SLOTS}
 use Rattle.slot_log.specs.declared.command.Command.{Command}
@@ -17,13 +18,6 @@ use Rattle.promise_store.specs.declared.records.Record.{Record}
 use Rattle.promise_store.specs.declared.records.Record.TheVariants.{Promised, Voted}
 use Rattle.promise_store.specs.Records.{payload, IsRecord, counted, record_text}
 use Rattle.promise_store.specs.Journals.{gated}
-
--- two lists of one length in front
-pub same_fronts : (xs ys p q : List ℕ) → length xs ≡ length ys → xs ++ p ≡ ys ++ q → (xs ≡ ys) × (p ≡ q)
-same_fronts xs ys p q long same = (
-  sym (take_at xs p (length xs) refl) ∙ ap (λ (l : List ℕ). take (length xs) l) same ∙ take_at ys q (length xs) (sym long),
-  sym (drop_at xs p (length xs) refl) ∙ ap (λ (l : List ℕ). drop (length xs) l) same ∙ drop_at ys q (length xs) (sym long),
-)
 
 -- a list of bytes with its length in front ends by itself
 same_counted : (p q x y : List ℕ) → counted p ++ x ≡ counted q ++ y → (p ≡ q) × (x ≡ y)

@@ -1,8 +1,8 @@
 -- How many of a table's hands are finished, and what stands at a number.
-use Rattle.std.proofs.Common.{◌≡◌, ℕ, zero, suc, ◌+◌, ◌<◌, Bool, true, cond, List, [], ◌∷◌, ◌++◌, map, reverse, length, Option, Some, None, refl, sym, ap, ◌∙◌, arith}
+use Rattle.std.proofs.Common.{◌≡◌, ℕ, zero, suc, ◌+◌, ◌<◌, Bool, true, cond, List, [], ◌∷◌, ◌++◌, map, reverse, length, take, drop, Option, Some, None, refl, sym, ap, ◌∙◌, arith}
 use Rattle.std.specs.List.{AllByRecursion, count_by, sum_by, slice_get}
 use Rattle.std.specs.Option.{option_to_list}
-use Rattle.std.proofs.lemmas.List.{append-nil, reverse-append, reverse-reverse, length-reverse, length-map}
+use Rattle.std.proofs.lemmas.List.{take_at, drop_at, append-nil, reverse-append, reverse-reverse, length-reverse, length-map}
 use Rattle.std.proofs.lemmas.List.Sums.{sum_by-cons, sum_by_push}
 use Rattle.game_def.specs.Game.{Game}
 use Rattle.slot_log.specs.Hand.{Hand}
@@ -20,6 +20,13 @@ pub got_before : {X : Type 0} (xs ys : List X) (i : ℕ) (x : X) → slice_get x
 got_before [] ys i x e = cc
 got_before (y ∷ xs) ys zero x e = e
 got_before (y ∷ xs) ys (suc i) x e = got_before xs ys i x e
+
+-- two lists of one length in front of two others
+pub same_fronts : (xs ys p q : List ℕ) → length xs ≡ length ys → xs ++ p ≡ ys ++ q → (xs ≡ ys) × (p ≡ q)
+same_fronts xs ys p q long same = (
+  sym (take_at xs p (length xs) refl) ∙ ap (λ (l : List ℕ). take (length xs) l) same ∙ take_at ys q (length xs) (sym long),
+  sym (drop_at xs p (length xs) refl) ∙ ap (λ (l : List ℕ). drop (length xs) l) same ∙ drop_at ys q (length xs) (sym long),
+)
 
 -- what stands behind all others
 pub at_end : {X : Type 0} (xs : List X) (x : X) → slice_get (xs ++ x ∷ []) (length xs) ≡ Some x

@@ -1,6 +1,6 @@
 -- Worked logs of slots that pin their definitions; each computes. In front stand the commands of slots 0 and 1,
 -- beyond those of slots 3 and 4; nothing is known at slot 2.
-use Rattle.std.proofs.Common.{◌≡◌, ℕ, ◌<◌, ◌≤◌, List, [], ◌∷◌, Some, None, refl, arith, codes}
+use Rattle.std.proofs.Common.{◌≡◌, ℕ, ◌<◌, ◌≤◌, [], ◌∷◌, Some, None, refl, arith, codes}
 use Rattle.betting.specs.declared.action.Action.TheVariants.{Call}
 use Rattle.slot_log.specs.declared.command.Command.{Command}
 use Rattle.slot_log.specs.declared.command.Command.TheVariants.{Act}
@@ -9,6 +9,7 @@ use Rattle.slot_log.specs.declared.slot_fault.SlotFault.TheVariants.{Conflict, S
 use Rattle.slot_log.specs.Fault.{fault_code, fault_text}
 use Rattle.slot_log.specs.Slots.{Log, IsLog, front, known_by, known_at, with_command}
 use Rattle.slot_log.specs.SlotLaws.{known_count}
+use Rattle.slot_log.proofs.Slotted.{log_by}
 
 -- the command that shall stand at a slot
 abbrev numbered : ℕ → Command
@@ -16,9 +17,6 @@ numbered slot = Act 0 slot Call
 
 abbrev at : ℕ → Known
 at slot = known_by slot (numbered slot)
-
-abbrev log_by : List Command → List Known → Log
-log_by below beyond = record { below = below; beyond = beyond }
 
 abbrev with_hole : Log
 with_hole = log_by (numbered 1 ∷ numbered 0 ∷ []) (at 3 ∷ at 4 ∷ [])

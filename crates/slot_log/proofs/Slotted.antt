@@ -96,7 +96,7 @@ module _ (slot : ℕ) (command : Command) where
 
 -- ---- the front goes on
 
-abbrev log_by : List Command → List Known → Log
+abbrev pub log_by : List Command → List Known → Log
 log_by below beyond = record { below = below; beyond = beyond }
 
 below_at : (below : List Command) (beyond : List Known) (slot : ℕ) → slot < length below → known_at (log_by below beyond) slot ≡ slice_get (reverse below) slot
