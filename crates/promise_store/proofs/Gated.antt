@@ -1,7 +1,8 @@
 -- Records one after another behind open gates.
-use Rattle.std.proofs.Common.{◌≡◌, ℕ, ◌+◌, ◌≤◌, List, [], ◌∷◌, ◌++◌, length, refl, sym, ◌∙◌, ap, arith, length-append, append_assoc}
-use Rattle.std.specs.Prelude.{◌/◌, ◌%◌, Option, Some, None}
+use Rattle.std.proofs.Common.{◌≡◌, ℕ, ◌+◌, ◌≤◌, List, [], ◌∷◌, ◌++◌, length, sym, ◌∙◌, ap, arith, length-append, append_assoc}
+use Rattle.std.specs.Prelude.{◌/◌, ◌%◌}
 use Rattle.std.proofs.lemmas.List.{append-nil}
+use Rattle.std.proofs.lemmas.Option.{some_pair_parts}
 use Rattle.slot_log.proofs.Hands.{same_fronts}
 use Rattle.paxos_wire.specs.declared.ballot.Ballot.{Ballot}
 use Rattle.paxos_wire.specs.declared.limits.TheConstants.{SLOTS}
@@ -27,28 +28,14 @@ same_counted p q x y same =
     let rest : p ++ x ≡ q ++ y = cc in
     same_fronts p q x y (omega (arith, high, low)) rest
 
-abbrev some_pair : {A B : Type 0} → A → B → Option (A × B)
-some_pair a b = Some (a, b)
-
-some_both : {A B : Type 0} (a c : A) (b d : B) → some_pair a b ≡ some_pair c d → (a ≡ c) × (b ≡ d)
-some_both {A} {B} a c b d same = (ap first same, ap second same)
-  where
-    first : Option (A × B) → A
-    first (Some pair) = pair.0
-    first None = a
-
-    second : Option (A × B) → B
-    second (Some pair) = pair.1
-    second None = b
-
 same_ballots : (a b : Ballot) (x y : List ℕ) → IsBallot a → IsBallot b → ballot_text a ++ x ≡ ballot_text b ++ y → (a ≡ b) × (x ≡ y)
-same_ballots a b x y is_a is_b same = some_both a b x y (sym (ballot_again a x is_a) ∙ ap ballot_at same ∙ ballot_again b y is_b)
+same_ballots a b x y is_a is_b same = some_pair_parts a b x y (sym (ballot_again a x is_a) ∙ ap ballot_at same ∙ ballot_again b y is_b)
 
 same_slots : (a b : ℕ) (x y : List ℕ) → IsSlot a → IsSlot b → slot_text a ++ x ≡ slot_text b ++ y → (a ≡ b) × (x ≡ y)
-same_slots a b x y is_a is_b same = some_both a b x y (sym (below_again 4 SLOTS a x is_a (omega arith)) ∙ ap (below_at 4 SLOTS) same ∙ below_again 4 SLOTS b y is_b (omega arith))
+same_slots a b x y is_a is_b same = some_pair_parts a b x y (sym (below_again 4 SLOTS a x is_a (omega arith)) ∙ ap (below_at 4 SLOTS) same ∙ below_again 4 SLOTS b y is_b (omega arith))
 
 same_commands : (a b : Command) (x y : List ℕ) → IsCommand a → IsCommand b → command_text a ++ x ≡ command_text b ++ y → (a ≡ b) × (x ≡ y)
-same_commands a b x y is_a is_b same = some_both a b x y (sym (command_again a x is_a) ∙ ap command_at same ∙ command_again b y is_b)
+same_commands a b x y is_a is_b same = some_pair_parts a b x y (sym (command_again a x is_a) ∙ ap command_at same ∙ command_again b y is_b)
 
 abbrev pub kind_of : List ℕ → ℕ
 kind_of [] = 0
