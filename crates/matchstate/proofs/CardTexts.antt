@@ -3,8 +3,8 @@ use Rattle.std.proofs.Common.{◌≡◌, ℕ, zero, suc, ◌+◌, ◌*◌, ◌<�
 use Rattle.std.specs.List.{AllByRecursion, concat, flat_map}
 use Rattle.std.proofs.lemmas.List.{append-nil, take_more_set, take_more, drop_more, drop-drop, drop_at}
 use Rattle.std.proofs.lemmas.List.Concat.{flat_map-append}
+use Rattle.std.proofs.SliceLists.{all_by_recursion_push}
 use Rattle.card_core.specs.Card.{text_of}
-use Rattle.slot_log.proofs.Begin.{AllByRecursion-push}
 use Rattle.matchstate.specs.Cards.{cards_text}
 
 pub cards_text_push : (cards : List ℕ) (card : ℕ) → cards_text (cards ++ card ∷ []) ≡ cards_text cards ++ text_of card
@@ -34,7 +34,7 @@ module _ (bytes rest next : List ℕ) (kept : List ℕ) (i card : ℕ) (below : 
       ∙ ap (λ cs. cards_text cs ++ next) (sym (take_more_set kept i card below))
 
   pub pack_next : AllByRecursion (λ c. c < 52) (take i kept) → card < 52 → AllByRecursion (λ c. c < 52) (take (i + 1) (set kept i card))
-  pack_next all small = subst (AllByRecursion (λ c. c < 52)) (sym (take_more_set kept i card below)) (AllByRecursion-push (λ c. c < 52) (take i kept) card all small)
+  pack_next all small = subst (AllByRecursion (λ c. c < 52)) (sym (take_more_set kept i card below)) (all_by_recursion_push (λ c. c < 52) (take i kept) card all small)
 
   -- the cards that stand there are those that were read
   pub same_next : (cards behind : List ℕ) → i < length cards → rest ≡ cards_text (drop i cards) ++ behind → take i kept ≡ take i cards → card ≡ get_or cards i 0 → (next ≡ cards_text (drop (i + 1) cards) ++ behind) × (take (i + 1) (set kept i card) ≡ take (i + 1) cards)

@@ -4,9 +4,9 @@ use Rattle.std.specs.List.{IsDistinct, AllByRecursion, list_any}
 use Rattle.std.proofs.lemmas.List.{take_more_set}
 use Rattle.std.specs.Prelude.{◌||◌}
 use Rattle.std.proofs.lemmas.Bool.Decides.{eqb_tells, nat_tests}
+use Rattle.std.proofs.SliceLists.{all_by_recursion_push}
 use Rattle.matchstate.proofs.Counts.{from_absent}
 use Rattle.matchstate.proofs.Completion.{fresh_card}
-use Rattle.slot_log.proofs.Begin.{AllByRecursion-push}
 use Rattle.card_core.proofs.Distinct.{none_from_any, any_from_none}
 
 IsDistinct-push : (xs : List ℕ) (x : ℕ) → IsDistinct nat_eq xs → AllByRecursion (λ y. nat_eq x y ≡ false) xs → IsDistinct nat_eq (xs ++ x ∷ [])
@@ -14,7 +14,7 @@ unfolding IsDistinct
 IsDistinct-push [] x distinct apart = (tt, tt)
 IsDistinct-push (y ∷ xs) x distinct apart =
     let other : nat_eq y x ≡ false = let here = apart.0 in grind (arith, nat_tests) in
-    (AllByRecursion-push (λ z. nat_eq y z ≡ false) xs x distinct.0 other, IsDistinct-push xs x distinct.1 apart.1)
+    (all_by_recursion_push (λ z. nat_eq y z ≡ false) xs x distinct.0 other, IsDistinct-push xs x distinct.1 apart.1)
 
 pub distinct_more : (xs : List ℕ) (place card : ℕ) → place < length xs → list_any (λ other. nat_eq card other) (take place xs) ≡ false → IsDistinct nat_eq (take place xs) → IsDistinct nat_eq (take (place + 1) (set xs place card))
 distinct_more xs place card below unused distinct =

@@ -3,7 +3,7 @@ use Rattle.std.proofs.Common.{◌≡◌, inl, inr, ℕ, suc, ◌+◌, ◌≤◌,
 use Rattle.std.proofs.lemmas.Bool.{cases_eq}
 use Rattle.std.proofs.lemmas.List.{take_at, drop_more}
 use Rattle.std.proofs.Math.Seq.{drop-append-add}
-use Rattle.slot_log.proofs.Begin.{AllByRecursion-push}
+use Rattle.std.proofs.SliceLists.{all_by_recursion_push}
 use Rattle.promise_store.specs.Disks.{Torn, Holds}
 use Rattle.promise_store.specs.declared.records.Record.{Record}
 use Rattle.promise_store.specs.Records.{payload, IsRecord, record_text}
@@ -76,7 +76,7 @@ module _ (head : List ℕ) (records : List Record) (r : Record) (fits : IsRecord
       gate = 0;
       rest = rest;
       shut = λ e. omega (arith, e);
-      each = AllByRecursion-push IsRecord records r opens.each fits;
+      each = all_by_recursion_push IsRecord records r opens.each fits;
       text = sym (front_push (0 ∷ rest));
     }
 

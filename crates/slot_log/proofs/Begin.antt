@@ -4,6 +4,7 @@ use Rattle.std.specs.List.{AllByRecursion}
 use Rattle.std.specs.Option.{option_to_list}
 use Rattle.std.proofs.lemmas.Bool.{not-false}
 use Rattle.std.proofs.lemmas.List.{length-append}
+use Rattle.std.proofs.SliceLists.{all_by_recursion_push}
 use Rattle.game_def.specs.Game.{Game}
 use Rattle.betting.specs.declared.action.Action.{Action}
 use Rattle.betting.specs.Laws.{AllowedWithoutFault}
@@ -17,10 +18,6 @@ use Rattle.slot_log.specs.declared.table.Table.TheInside.{Inside}
 use Rattle.slot_log.proofs.Hands.{finished_before, finished_with, length-earlier}
 use Rattle.slot_log.proofs.Inside.{some_dealt, newest_of}
 use Rattle.slot_log.proofs.Fitting.{fits_from_none}
-
-pub AllByRecursion-push : {X : Type 0} (P : X → Type 0) (xs : List X) (x : X) → AllByRecursion P xs → P x → AllByRecursion P (xs ++ x ∷ [])
-AllByRecursion-push P [] x all here = (here, tt)
-AllByRecursion-push P (y ∷ xs) x all here = (all.0, AllByRecursion-push P xs x all.1 here)
 
 -- a table with a newest hand
 kept_with : (u : Inside) (hand : PlayedHand) → u.newest ≡ Some hand → 1 ≤ u.count → u.count ≤ 10000 → length u.earlier.items + 1 ≤ u.count → AllByRecursion (IsOf u.game) u.earlier.items → IsOf u.game hand → AllByRecursion (λ h. is_finished u.game (hand_of h) ≡ true) u.earlier.items → IsKept u
@@ -60,9 +57,9 @@ module _ (t u : Inside) (hand : PlayedHand) (kept : IsKept t) (game : u.game ≡
       let least = kept.least in
       let most = kept.most in
       let all_of : AllByRecursion (IsOf t.game) u.earlier.items =
-      subst (AllByRecursion (IsOf t.game)) (sym items) (AllByRecursion-push (IsOf t.game) t.earlier.items last kept.earlier_hands (newest_of t last kept some)) in
+      subst (AllByRecursion (IsOf t.game)) (sym items) (all_by_recursion_push (IsOf t.game) t.earlier.items last kept.earlier_hands (newest_of t last kept some)) in
       let all_over : AllByRecursion (λ h. is_finished t.game (hand_of h) ≡ true) u.earlier.items =
-      subst (AllByRecursion (λ h. is_finished t.game (hand_of h) ≡ true)) (sym items) (AllByRecursion-push (λ h. is_finished t.game (hand_of h) ≡ true) t.earlier.items last kept.finished over) in
+      subst (AllByRecursion (λ h. is_finished t.game (hand_of h) ≡ true)) (sym items) (all_by_recursion_push (λ h. is_finished t.game (hand_of h) ≡ true) t.earlier.items last kept.finished over) in
       kept_with u hand newest (omega arith) (omega arith) (omega arith)
       (subst (λ (g : Game). AllByRecursion (IsOf g) u.earlier.items) (sym game) all_of) begins
       (subst (λ (g : Game). AllByRecursion (λ h. is_finished g (hand_of h) ≡ true) u.earlier.items) (sym game) all_over)

@@ -2,7 +2,7 @@ use Rattle.std.proofs.Common.{◌≡◌, ◌<◌, ◌+◌, ◌-◌, ◌++◌, �
 use Rattle.std.specs.List.{AllByRecursion}
 use Rattle.std.proofs.lemmas.Bool.{false≢true}
 use Rattle.std.proofs.lemmas.List.{take_more, take_more_set, take_all, length-set}
-use Rattle.slot_log.proofs.Begin.{AllByRecursion-push}
+use Rattle.std.proofs.SliceLists.{all_by_recursion_push}
 use Rattle.match_log.specs.Lines.{names_field}
 use Rattle.match_log.specs.Names.{IsName}
 use Rattle.match_log.proofs.Naming.{ended, next_name, last_name, ended_one, ended_more, ended_whole}
@@ -63,7 +63,7 @@ loop-position-preserved c =
       so_far = ended_more old position name c.args.bytes.now c.loop-position.rest.now c.in-Some-cut.behind.now within c.loop-position.invariant.so_far read;
       each_name =
           subst (AllByRecursion IsName) (sym (take_more_set old position name within))
-          (AllByRecursion-push IsName (take position old) name c.loop-position.invariant.each_name (subst IsName (sym same) (c.in_ok-names.ensures.found.0 refl)));
+          (all_by_recursion_push IsName (take position old) name c.loop-position.invariant.each_name (subst IsName (sym same) (c.in_ok-names.ensures.found.0 refl)));
       only = λ names count all is.
           let so_far = c.loop-position.invariant.only names count all is in
           let next = next_name names position c.loop-position.rest.now (omega (arith, count, c.loop-position-test.true)) all so_far.1 in

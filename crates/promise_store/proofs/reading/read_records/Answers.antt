@@ -1,7 +1,7 @@
 use Rattle.std.proofs.Common.{◌≡◌, ◌∙◌, ◌+◌, ◌≤◌, inl, inr, length-drop, drop, take, ap, sym, subst, arith, List, ℕ, [], ◌∷◌, ◌++◌}
 use Rattle.std.specs.Prelude.{◌-◌}
 use Rattle.std.proofs.lemmas.List.{length-take, drop-drop}
-use Rattle.slot_log.proofs.Begin.{AllByRecursion-push}
+use Rattle.std.proofs.SliceLists.{all_by_recursion_push}
 use Rattle.promise_store.specs.declared.reading.Step.TheVariants.{Shut, Found, Broken}
 use Rattle.promise_store.specs.Records.{IsRecord}
 use Rattle.promise_store.specs.Journals.{gated, IsEnough, IsStep}
@@ -59,7 +59,7 @@ records-preserved g c =
       window = λ honest. c.in-Ok.ensures.window honest ∙ ap (λ (l : List ℕ). take shown.1 (drop shown.0 l)) i.reads.seen;
       so_far = record {
         records = i.so_far.records ++ r ∷ [];
-        each = AllByRecursion-push IsRecord i.so_far.records r i.so_far.each found.0.2;
+        each = all_by_recursion_push IsRecord i.so_far.records r i.so_far.each found.0.2;
         text = λ honest.
             let window : bytes ≡ take count (drop at file) = part c.show.new.window file shown.0 shown.1 at s.0 s.1 (c.in-Ok.ensures.window honest) i.reads.seen in
             reading_more (drop 8 file) (drop at file) i.so_far.records i.so_far.each (i.so_far.text honest) count r size (subst (λ (l : List ℕ). IsStep l (Found r size)) window found)
