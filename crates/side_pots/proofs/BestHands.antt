@@ -1,22 +1,19 @@
 -- In each set that isn't empty somebody has the best hand.
 use Rattle.std.proofs.Common.{inl, inr, ◌⊎◌, ◌≡◌, ℕ, ◌+◌, ◌<◌, ◌≤◌, Bool, true, false, not, cond, ◌&&◌, List, [], length, get_or, zero, suc, refl, sym, ◌∙◌, ap, arith}
-use Rattle.std.specs.Cmp.{IsTotalOrder}
 use Rattle.std.specs.List.{list_all, range_with_len}
 use Rattle.std.specs.Ordering.{is_gt, ordering_reverse}
 use Rattle.std.specs.declared.cmp.Ordering.{Ordering}
 use Rattle.std.specs.declared.cmp.Ordering.TheVariants.{Less, Equal, Greater}
 use Rattle.std.proofs.lemmas.Bool.{and_from, and_left, and_right, cases_Bool, cases_eq, cases_lt, cond-true, cond-false}
-use Rattle.std.proofs.lemmas.Cmp.{then_total, on_total, nat_cmp_total, nat_list_cmp_total, upto, tied_itself}
+use Rattle.std.proofs.lemmas.Cmp.{upto, tied_itself}
 use Rattle.std.proofs.lemmas.List.{get_or_past, get_or_read}
 use Rattle.std.proofs.lemmas.List.Folds.{list_all-append}
 use Rattle.std.proofs.lemmas.List.FromFn.{get_or-map-range_with_len, length-map-range_with_len}
 use Rattle.std.proofs.lemmas.List.Sums.{get_or-le-sum_by}
 use Rattle.hand_rank.specs.Worth.{Worth, worth_cmp}
 use Rattle.side_pots.specs.Pots.{is_winner, value_at, winners_of, wins, share}
+use Rattle.hand_rank.proofs.Greatest.{worth_total}
 use Rattle.side_pots.proofs.Ranges.{range-append, all_range, not_all_range}
-
-worth_total : IsTotalOrder worth_cmp
-worth_total = then_total (on_total (λ (w : Worth). w.category) nat_cmp_total) (on_total (λ (w : Worth). w.ranks) nat_list_cmp_total)
 
 -- the first is better than the second
 abbrev pub is_better : Worth → Worth → Bool
