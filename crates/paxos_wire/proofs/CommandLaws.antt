@@ -3,6 +3,8 @@ use Rattle.std.proofs.Common.{◌≡◌, ℕ, zero, suc, ◌+◌, ◌*◌, ◌%�
 use Rattle.std.specs.List.{AllByRecursion}
 use Rattle.std.proofs.lemmas.Bool.{ltb-false, le-ltb, ltb-true, lt-ltb, leb-true, le-leb, eqb-true, eq-eqb, and_from, and_parts}
 use Rattle.std.proofs.lemmas.List.{take-append-drop, take_at, drop_at}
+use Rattle.std.proofs.lemmas.Option.{same_Some}
+use Rattle.std.proofs.NetLemmas.Options.{cond_none}
 use Rattle.card_core.specs.Deal.{player_count}
 use Rattle.betting.specs.declared.action.Action.{Action}
 use Rattle.betting.specs.declared.action.Action.TheVariants.{Fold, Call, Raise}
@@ -15,7 +17,7 @@ use Rattle.byteorder.specs.Endian.{big_bytes}
 use Rattle.paxos_wire.specs.Fits.{IsBallot, AreDealt, IsCommand}
 use Rattle.paxos_wire.specs.Spelling.{ballot_text, action_text, deal_text, command_text}
 use Rattle.paxos_wire.specs.Reading.{◌>>=◌, when, byte_at, number_at, below_at, ballot_at, action_of, action_at, are_cards, are_distinct, is_count, deal_of, bytes_at, deal_at, dealt_at, acted_at, command_at}
-use Rattle.paxos_wire.proofs.Steps.{IsBytes, IsBytes-drop, bind_some, when_some, then_some, else_some, either, some_is, Takes, both}
+use Rattle.paxos_wire.proofs.Steps.{IsBytes, IsBytes-drop, bind_some, when_some, then_some, either, Takes, both}
 use Rattle.paxos_wire.proofs.Numbers.{byte_text, byte_takes, wide2, wide4, number_takes, number_again, below_takes, below_again}
 use Rattle.paxos_wire.proofs.Distinct.{is_distinct, are_distinct-from}
 use Rattle.paxos_wire.proofs.Counts.{of_players}
@@ -70,7 +72,7 @@ action_takes bytes x fits e =
     let t0 = byte_takes bytes a.0 fits a.1 in
     let t1 = number_takes 4 wide4 a.0.1 b.0 t0.rest b.1 in
     let is = action_of_is a.0.0 b.0.0 c.0 c.1 in
-    subst (λ (y : Action × List ℕ). Takes action_text IsAmount bytes y) (some_is (c.0, b.0.1) x c.2)
+    subst (λ (y : Action × List ℕ). Takes action_text IsAmount bytes y) (same_Some (c.0, b.0.1) x c.2)
     (record { parts = both bytes (byte_text a.0.0) a.0.1 (big_bytes 4 b.0.0) b.0.1 t0.parts t1.parts ∙ ap (λ (t : List ℕ). t ++ b.0.1) is.0; rest = t1.rest; fits = is.1 })
 
 pub action_again : (a : Action) (rest : List ℕ) → IsAmount a → action_at (action_text a ++ rest) ≡ Some (a, rest)
@@ -110,9 +112,9 @@ deal_takes bytes x fits e =
     let c = bind_some (deal_of b.0.0) (λ deal. Some (deal, b.0.1)) x b.2 in
     let t0 = byte_takes bytes a.0 fits a.1 in
     let counted = then_some (is_count a.0.0) (bytes_at a.0.0 a.0.1) b.0 b.1 in
-    let cut = else_some (ltb (length a.0.1) a.0.0) (Some (take a.0.0 a.0.1, drop a.0.0 a.0.1)) b.0 counted.1 in
+    let cut = cond_none (ltb (length a.0.1) a.0.0) (Some (take a.0.0 a.0.1, drop a.0.0 a.0.1)) b.0 counted.1 in
     let long : a.0.0 ≤ length a.0.1 = ltb-false _ _ cut.0 in
-    let pieces = some_is (take a.0.0 a.0.1, drop a.0.0 a.0.1) b.0 cut.1 in
+    let pieces = same_Some (take a.0.0 a.0.1, drop a.0.0 a.0.1) b.0 cut.1 in
     let len : length b.0.0 ≡ a.0.0 = ap (λ (p : List ℕ × List ℕ). length p.0) (sym pieces) ∙ (omega (arith, length-take a.0.0 a.0.1)) in
     let parts : a.0.1 ≡ b.0.0 ++ b.0.1 = sym (take-append-drop a.0.0 a.0.1) ∙ ap (λ (p : List ℕ × List ℕ). p.0 ++ p.1) pieces in
     let rest : IsBytes b.0.1 = subst (λ (p : List ℕ × List ℕ). IsBytes p.1) pieces (IsBytes-drop a.0.0 a.0.1 t0.rest) in
@@ -124,7 +126,7 @@ deal_takes bytes x fits e =
       rest = rest;
       fits = are_dealt b.0.0 count tests.0 tests.1;
     } in
-    subst (λ (y : List ℕ × List ℕ). Takes deal_text AreDealt bytes y) (ap (λ (d : List ℕ). (d, b.0.1)) g.1 ∙ some_is (c.0, b.0.1) x c.2) made
+    subst (λ (y : List ℕ × List ℕ). Takes deal_text AreDealt bytes y) (ap (λ (d : List ℕ). (d, b.0.1)) g.1 ∙ same_Some (c.0, b.0.1) x c.2) made
 
 pub deal_again : (cards rest : List ℕ) → AreDealt cards → deal_at (deal_text cards ++ rest) ≡ Some (cards, rest)
 unfolding deal_at deal_of
@@ -140,7 +142,7 @@ unfolding dealt_at
 dealt_takes hand bytes x fits e =
     let a = bind_some (deal_at bytes) (λ deal. Some (Deal hand deal.0, deal.1)) x e in
     let t = deal_takes bytes a.0 fits a.1 in
-    let is = some_is (Deal hand a.0.0, a.0.1) x a.2 in
+    let is = same_Some (Deal hand a.0.0, a.0.1) x a.2 in
     subst (λ (y : Command × List ℕ). (cards : List ℕ) × (y.0 ≡ Deal hand cards) × (bytes ≡ deal_text cards ++ y.1) × IsBytes y.1 × AreDealt cards) is (a.0.0, refl, t.parts, t.rest, t.fits)
 
 pub acted_takes : (hand : ℕ) (bytes : List ℕ) (x : Command × List ℕ) → IsBytes bytes → acted_at hand bytes ≡ Some x
@@ -151,7 +153,7 @@ acted_takes hand bytes x fits e =
     let b = bind_some (action_at a.0.1) (λ action. Some (Act hand a.0.0 action.0, action.1)) x a.2 in
     let t0 = below_takes 2 ACTIONS wide2 bytes a.0 fits a.1 in
     let t1 = action_takes a.0.1 b.0 t0.rest b.1 in
-    let is = some_is (Act hand a.0.0 b.0.0, b.0.1) x b.2 in
+    let is = same_Some (Act hand a.0.0 b.0.0, b.0.1) x b.2 in
     subst (λ (y : Command × List ℕ). (index : ℕ) × (action : Action) × (y.0 ≡ Act hand index action) × (bytes ≡ (big_bytes 2 index ++ action_text action) ++ y.1) × IsBytes y.1 × (index < ACTIONS) × IsAmount action) is
     (a.0.0, b.0.0, refl, both bytes (big_bytes 2 a.0.0) a.0.1 (action_text b.0.0) b.0.1 t0.parts t1.parts, t1.rest, t0.fits, t1.fits)
 

@@ -1,17 +1,9 @@
 -- The test of distinct cards is that they are distinct.
-use Rattle.std.proofs.Common.{◌≡◌, ℕ, Bool, true, false, not, ◌&&◌, nat_eq, List, [], ◌∷◌, Some, None, refl}
+use Rattle.std.proofs.Common.{◌≡◌, ℕ, true, false, not, nat_eq, List, [], ◌∷◌, Some, None, refl}
 use Rattle.std.specs.List.{list_any, IsDistinct}
-use Rattle.std.proofs.lemmas.Bool.{and_parts, not-true}
+use Rattle.std.proofs.lemmas.Bool.{and_parts, and_right, not-true, false_from_ne_true}
 use Rattle.paxos_wire.specs.Reading.{are_cards, are_distinct, deal_of}
 use Rattle.card_core.proofs.Distinct.{any_from_none, none_from_any}
-
-not_passed : (a : Bool) → ¬ (a ≡ true) → a ≡ false
-not_passed true h = absurd (h refl)
-not_passed false h = refl
-
-and-false : (a : Bool) → (a && false) ≡ false
-and-false true = refl
-and-false false = refl
 
 pub are_distinct-from : (xs : List ℕ) → IsDistinct nat_eq xs → are_distinct xs ≡ true
 unfolding IsDistinct
@@ -32,8 +24,8 @@ deal_is xs cards distinct = rw (cards, are_distinct-from xs distinct) refl
 
 pub deal_none : (xs : List ℕ) → ¬ (IsDistinct nat_eq xs) → deal_of xs ≡ None
 unfolding deal_of
-deal_none xs repeated = let test : are_distinct xs ≡ false = not_passed (are_distinct xs) (λ h. repeated (is_distinct xs h)) in rw (test, and-false (are_cards xs)) refl
+deal_none xs repeated = let test : are_distinct xs ≡ false = false_from_ne_true (are_distinct xs) (λ h. repeated (is_distinct xs h)) in rw (test, and_right (are_cards xs) false refl) refl
 
 pub deal_none_cards : (xs : List ℕ) → ¬ (are_cards xs ≡ true) → deal_of xs ≡ None
 unfolding deal_of
-deal_none_cards xs other = rw (not_passed (are_cards xs) other) refl
+deal_none_cards xs other = rw (false_from_ne_true (are_cards xs) other) refl

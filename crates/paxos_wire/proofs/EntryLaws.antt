@@ -3,13 +3,14 @@ use Rattle.std.proofs.Common.{◌≡◌, ℕ, zero, suc, ◌+◌, ◌<◌, ◌�
 use Rattle.std.specs.List.{flat_map, AllByRecursion}
 use Rattle.std.proofs.lemmas.Bool.{ltb-true, lt-ltb, leb-true, le-leb, and_parts}
 use Rattle.std.proofs.lemmas.List.Concat.{flat_map-cons}
+use Rattle.std.proofs.lemmas.Option.{same_Some}
 use Rattle.paxos_wire.specs.declared.limits.TheConstants.{SLOTS}
 use Rattle.paxos_wire.specs.declared.entry.Entry.{Entry}
 use Rattle.byteorder.specs.Endian.{big_bytes}
 use Rattle.paxos_wire.specs.Fits.{IsDealt, IsEntry, Rise}
 use Rattle.paxos_wire.specs.Spelling.{ballot_text, slot_text, command_text, entry_text}
 use Rattle.paxos_wire.specs.Reading.{◌>>=◌, when, below_at, ballot_at, command_at, entry_at, entry_within, entries_at}
-use Rattle.paxos_wire.proofs.Steps.{IsBytes, bind_some, when_some, some_is, Takes, both}
+use Rattle.paxos_wire.proofs.Steps.{IsBytes, bind_some, when_some, Takes, both}
 use Rattle.paxos_wire.proofs.Numbers.{wide4, below_takes, below_again}
 use Rattle.paxos_wire.proofs.CommandLaws.{ballot_takes, ballot_again, command_takes, command_again}
 
@@ -29,7 +30,7 @@ entry_takes bytes x fits e =
     let t2 = command_takes b.0.1 c.0 t1.rest c.1 in
     let made : Entry × List ℕ = (record { slot = a.0.0; ballot = b.0.0; command = c.0.0 }, c.0.1) in
     let front = both bytes (big_bytes 4 a.0.0) a.0.1 (ballot_text b.0.0) b.0.1 t0.parts t1.parts in
-    subst (λ (y : Entry × List ℕ). Takes entry_text IsWhole bytes y) (some_is made x c.2)
+    subst (λ (y : Entry × List ℕ). Takes entry_text IsWhole bytes y) (same_Some made x c.2)
     (record {
       parts = both bytes (big_bytes 4 a.0.0 ++ ballot_text b.0.0) b.0.1 (command_text c.0.0) c.0.1 front t2.parts;
       rest = t2.rest;
@@ -72,14 +73,14 @@ pub record TakesEntries (count from limit : ℕ) (bytes : List ℕ) (x : List En
 pub entries_take : (count from limit : ℕ) (bytes : List ℕ) (x : List Entry × List ℕ) → IsBytes bytes → entries_at count from limit bytes ≡ Some x → TakesEntries count from limit bytes x
 unfolding entries_at
 entries_take zero from limit bytes x fits e =
-    subst (λ (y : List Entry × List ℕ). TakesEntries 0 from limit bytes y) (some_is ([], bytes) x e) (record { parts = refl; rest = fits; len = refl; each = tt; rise = tt; cards = tt })
+    subst (λ (y : List Entry × List ℕ). TakesEntries 0 from limit bytes y) (same_Some ([], bytes) x e) (record { parts = refl; rest = fits; len = refl; each = tt; rise = tt; cards = tt })
 entries_take (suc count) from limit bytes x fits e =
     let a = bind_some (entry_within from limit bytes) (λ first. entries_at count (first.0.slot + 1) limit first.1 >>= λ others. Some (first.0 ∷ others.0, others.1)) x e in
     let b = bind_some (entries_at count (a.0.0.slot + 1) limit a.0.1) (λ others. Some (a.0.0 ∷ others.0, others.1)) x a.2 in
     let t = within_takes from limit bytes a.0 fits a.1 in
     let ts = entries_take count (a.0.0.slot + 1) limit a.0.1 b.0 t.rest b.1 in
     let whole : bytes ≡ flat_map entry_text (a.0.0 ∷ b.0.0) ++ b.0.1 = both bytes (entry_text a.0.0) a.0.1 (flat_map entry_text b.0.0) b.0.1 t.parts ts.parts ∙ ap (λ (w : List ℕ). w ++ b.0.1) (sym (flat_map-cons entry_text a.0.0 b.0.0)) in
-    subst (λ (y : List Entry × List ℕ). TakesEntries (suc count) from limit bytes y) (some_is (a.0.0 ∷ b.0.0, b.0.1) x b.2)
+    subst (λ (y : List Entry × List ℕ). TakesEntries (suc count) from limit bytes y) (same_Some (a.0.0 ∷ b.0.0, b.0.1) x b.2)
     (record { parts = whole; rest = ts.rest; len = ap suc ts.len; each = (t.fits.whole.entry, ts.each); rise = (t.fits.least, t.fits.below, ts.rise); cards = (t.fits.whole.cards, ts.cards) })
 
 pub entries_again : (es : List Entry) (from limit : ℕ) (rest : List ℕ) → AllByRecursion IsEntry es → Rise from limit es → AllByRecursion IsDealt (map (λ e. e.command) es)

@@ -3,6 +3,7 @@ use Rattle.std.proofs.Common.{◌≡◌, ℕ, zero, suc, ◌+◌, ◌<◌, ◌�
 use Rattle.std.specs.List.{flat_map, AllByRecursion}
 use Rattle.std.proofs.lemmas.Bool.{leb-true, leb-false, le-leb, eqb-true, eqb-false}
 use Rattle.std.proofs.lemmas.List.{append-nil, nil_from_length}
+use Rattle.std.proofs.lemmas.Option.{same_Some}
 use Rattle.slot_log.specs.declared.command.Command.{Command}
 use Rattle.slot_log.specs.declared.command.Command.TheVariants.{Deal, Act}
 use Rattle.paxos_wire.specs.declared.limits.TheConstants.{SLOTS, WINDOW}
@@ -13,7 +14,7 @@ use Rattle.paxos_wire.specs.declared.message.Message.TheVariants.{Prepare, Promi
 use Rattle.paxos_wire.specs.Fits.{IsBallot, IsDealt, AreEntries, IsMessage, IsAct}
 use Rattle.paxos_wire.specs.Spelling.{ballot_text, slot_text, command_text, entry_text, entries_text, kind, body}
 use Rattle.paxos_wire.specs.Reading.{◌>>=◌, when, byte_at, below_at, ballot_at, command_at, entries_at, promise_at, refuse_at, accept_at, of_ballot_at, chosen_at, ask_at, is_act, forward_at, message_at, body_of}
-use Rattle.paxos_wire.proofs.Steps.{IsBytes, bind_some, when_some, then_some, either, some_is, both}
+use Rattle.paxos_wire.proofs.Steps.{IsBytes, bind_some, when_some, then_some, either, both}
 use Rattle.paxos_wire.proofs.Numbers.{byte_text, byte_takes, wide4, below_takes, below_again}
 use Rattle.paxos_wire.proofs.CommandLaws.{ballot_takes, ballot_again, command_takes, command_again}
 use Rattle.paxos_wire.proofs.EntryLaws.{entries_take, entries_again}
@@ -43,7 +44,7 @@ module _ (b : Ballot) (s : ℕ) (is_ballot : IsBallot b) (is_slot : s < SLOTS) w
       let t1 = entries_take a.0.0 s (s + WINDOW) a.0.1 c.0 t0.rest g.1 in
       let most : length c.0.0 ≤ WINDOW = omega (arith, leb-true _ _ g.0, t1.len) in
       let tail : bytes ≡ entries_text c.0.0 ++ c.0.1 = both bytes (byte_text a.0.0) a.0.1 (flat_map entry_text c.0.0) c.0.1 t0.parts t1.parts ∙ ap (λ (n : ℕ). n ∷ (flat_map entry_text c.0.0 ++ c.0.1)) (sym t1.len) in
-      subst (λ (y : Message × List ℕ). TakesTail 2 b s bytes y) (some_is (Promise b s c.0.0, c.0.1) x c.2)
+      subst (λ (y : Message × List ℕ). TakesTail 2 b s bytes y) (same_Some (Promise b s c.0.0, c.0.1) x c.2)
       (record {
         parts = ap (λ (w : List ℕ). (ballot_text b ++ slot_text s) ++ w) tail;
         rest = t1.rest;
@@ -56,7 +57,7 @@ module _ (b : Ballot) (s : ℕ) (is_ballot : IsBallot b) (is_slot : s < SLOTS) w
   refuse_takes bytes x fits e =
       let a = bind_some (ballot_at bytes) (λ promised. Some (Refuse b s promised.0, promised.1)) x e in
       let t = ballot_takes bytes a.0 fits a.1 in
-      subst (λ (y : Message × List ℕ). TakesTail 3 b s bytes y) (some_is (Refuse b s a.0.0, a.0.1) x a.2)
+      subst (λ (y : Message × List ℕ). TakesTail 3 b s bytes y) (same_Some (Refuse b s a.0.0, a.0.1) x a.2)
       (record { parts = ap (λ (w : List ℕ). (ballot_text b ++ slot_text s) ++ w) t.parts; rest = t.rest; kind_is = refl; fits = record { numbers = (is_ballot, is_slot, t.fits); cards = tt } })
 
   accept_takes : (bytes : List ℕ) (x : Message × List ℕ) → IsBytes bytes → accept_at Accept b s bytes ≡ Some x → TakesTail 4 b s bytes x
@@ -64,7 +65,7 @@ module _ (b : Ballot) (s : ℕ) (is_ballot : IsBallot b) (is_slot : s < SLOTS) w
   accept_takes bytes x fits e =
       let a = bind_some (command_at bytes) (λ command. Some (Accept b s command.0, command.1)) x e in
       let t = command_takes bytes a.0 fits a.1 in
-      subst (λ (y : Message × List ℕ). TakesTail 4 b s bytes y) (some_is (Accept b s a.0.0, a.0.1) x a.2)
+      subst (λ (y : Message × List ℕ). TakesTail 4 b s bytes y) (same_Some (Accept b s a.0.0, a.0.1) x a.2)
       (record { parts = ap (λ (w : List ℕ). (ballot_text b ++ slot_text s) ++ w) t.parts; rest = t.rest; kind_is = refl; fits = record { numbers = (is_ballot, is_slot, t.fits.numbers); cards = (t.fits.cards, tt) } })
 
   accepted_takes : (bytes : List ℕ) (x : Message × List ℕ) → IsBytes bytes → accept_at Accepted b s bytes ≡ Some x → TakesTail 5 b s bytes x
@@ -72,14 +73,14 @@ module _ (b : Ballot) (s : ℕ) (is_ballot : IsBallot b) (is_slot : s < SLOTS) w
   accepted_takes bytes x fits e =
       let a = bind_some (command_at bytes) (λ command. Some (Accepted b s command.0, command.1)) x e in
       let t = command_takes bytes a.0 fits a.1 in
-      subst (λ (y : Message × List ℕ). TakesTail 5 b s bytes y) (some_is (Accepted b s a.0.0, a.0.1) x a.2)
+      subst (λ (y : Message × List ℕ). TakesTail 5 b s bytes y) (same_Some (Accepted b s a.0.0, a.0.1) x a.2)
       (record { parts = ap (λ (w : List ℕ). (ballot_text b ++ slot_text s) ++ w) t.parts; rest = t.rest; kind_is = refl; fits = record { numbers = (is_ballot, is_slot, t.fits.numbers); cards = (t.fits.cards, tt) } })
 
   tail_takes : (k : ℕ) (bytes : List ℕ) (x : Message × List ℕ) → 1 ≤ k → k ≤ 5 → IsBytes bytes
       → cond (eqb k 1) (Some (Prepare b s, bytes)) (cond (eqb k 2) (promise_at b s bytes) (cond (eqb k 3) (refuse_at b s bytes) (cond (eqb k 4) (accept_at Accept b s bytes) (accept_at Accepted b s bytes)))) ≡ Some x
       → TakesTail k b s bytes x
   tail_takes zero bytes x low high fits e = absurd (omega arith)
-  tail_takes (suc zero) bytes x low high fits e = subst (λ (y : Message × List ℕ). TakesTail 1 b s bytes y) (some_is (Prepare b s, bytes) x e) (record { parts = refl; rest = fits; kind_is = refl; fits = record { numbers = (is_ballot, is_slot); cards = tt } })
+  tail_takes (suc zero) bytes x low high fits e = subst (λ (y : Message × List ℕ). TakesTail 1 b s bytes y) (same_Some (Prepare b s, bytes) x e) (record { parts = refl; rest = fits; kind_is = refl; fits = record { numbers = (is_ballot, is_slot); cards = tt } })
   tail_takes (suc (suc zero)) bytes x low high fits e = promise_takes bytes x fits e
   tail_takes (suc (suc (suc zero))) bytes x low high fits e = refuse_takes bytes x fits e
   tail_takes (suc (suc (suc (suc zero)))) bytes x low high fits e = accept_takes bytes x fits e
@@ -103,7 +104,7 @@ chosen_takes bytes x fits e =
     let c = bind_some (command_at a.0.1) (λ command. Some (Chosen a.0.0 command.0, command.1)) x a.2 in
     let t0 = below_takes 4 SLOTS wide4 bytes a.0 fits a.1 in
     let t1 = command_takes a.0.1 c.0 t0.rest c.1 in
-    subst (λ (y : Message × List ℕ). TakesMessage 6 bytes y) (some_is (Chosen a.0.0 c.0.0, c.0.1) x c.2)
+    subst (λ (y : Message × List ℕ). TakesMessage 6 bytes y) (same_Some (Chosen a.0.0 c.0.0, c.0.1) x c.2)
     (record { parts = both bytes (slot_text a.0.0) a.0.1 (command_text c.0.0) c.0.1 t0.parts t1.parts; rest = t1.rest; kind_is = refl; fits = record { numbers = (t0.fits, t1.fits.numbers); cards = (t1.fits.cards, tt) } })
 
 ask_takes : (bytes : List ℕ) (x : Message × List ℕ) → IsBytes bytes → ask_at bytes ≡ Some x → TakesMessage 7 bytes x
@@ -111,7 +112,7 @@ unfolding ask_at
 ask_takes bytes x fits e =
     let a = bind_some (below_at 4 SLOTS bytes) (λ slot. Some (Ask slot.0, slot.1)) x e in
     let t = below_takes 4 SLOTS wide4 bytes a.0 fits a.1 in
-    subst (λ (y : Message × List ℕ). TakesMessage 7 bytes y) (some_is (Ask a.0.0, a.0.1) x a.2) (record { parts = t.parts; rest = t.rest; kind_is = refl; fits = record { numbers = t.fits; cards = tt } })
+    subst (λ (y : Message × List ℕ). TakesMessage 7 bytes y) (same_Some (Ask a.0.0, a.0.1) x a.2) (record { parts = t.parts; rest = t.rest; kind_is = refl; fits = record { numbers = t.fits; cards = tt } })
 
 act_is : (c : Command) → is_act c ≡ true → IsAct c
 act_is (Deal hand cards) e = absurd cc

@@ -4,10 +4,12 @@ use Rattle.std.specs.Int.{w16, w32, from_be_bytes}
 use Rattle.std.proofs.lemmas.Bool.{cases_lt, ltb-false, le-ltb, ltb-true, lt-ltb}
 use Rattle.std.proofs.lemmas.List.{take-append-drop, get_or-take, get_or_past, drop_at}
 use Rattle.std.proofs.lemmas.Nat.{be_bytes_2, be_bytes_4}
+use Rattle.std.proofs.lemmas.Option.{same_Some}
+use Rattle.std.proofs.NetLemmas.Options.{cond_none}
 use Rattle.byteorder.specs.Endian.{big_bytes, big_number}
 use Rattle.byteorder.specs.Numbers.{big_number-reads_back, length-bytes_high_first, big_from-lt}
 use Rattle.paxos_wire.specs.Reading.{when, byte_at, number_at, below_at}
-use Rattle.paxos_wire.proofs.Steps.{IsBytes, IsBytes-drop, bind_some, when_some, else_some, some_is, Takes}
+use Rattle.paxos_wire.proofs.Steps.{IsBytes, IsBytes-drop, bind_some, when_some, Takes}
 
 pub IsBytes-take : (n : ℕ) (bytes : List ℕ) → IsBytes bytes → IsBytes (take n bytes)
 IsBytes-take n bytes h i =
@@ -22,7 +24,7 @@ byte_text byte = byte ∷ []
 
 pub byte_takes : (bytes : List ℕ) (x : ℕ × List ℕ) → IsBytes bytes → byte_at bytes ≡ Some x → Takes byte_text (λ b. b < 256) bytes x
 byte_takes [] x fits e = absurd cc
-byte_takes (b ∷ bytes) x fits e = subst (λ (y : ℕ × List ℕ). Takes byte_text (λ b. b < 256) (b ∷ bytes) y) (some_is (b, bytes) x e) (record { parts = refl; rest = λ i. fits (suc i); fits = fits 0 })
+byte_takes (b ∷ bytes) x fits e = subst (λ (y : ℕ × List ℕ). Takes byte_text (λ b. b < 256) (b ∷ bytes) y) (same_Some (b, bytes) x e) (record { parts = refl; rest = λ i. fits (suc i); fits = fits 0 })
 
 -- a number of n bytes is got back from them, and they from it
 pub record IsWide (n : ℕ) : Type 0 where
@@ -44,9 +46,9 @@ wide2 = record {
 
 pub number_takes : (n : ℕ) → IsWide n → (bytes : List ℕ) (x : ℕ × List ℕ) → IsBytes bytes → number_at n bytes ≡ Some x → Takes (big_bytes n) (λ m. m < 256 ^ n) bytes x
 number_takes n wide bytes x fits e =
-    let g = else_some (ltb (length bytes) n) (Some (big_number n bytes, drop n bytes)) x e in
+    let g = cond_none (ltb (length bytes) n) (Some (big_number n bytes, drop n bytes)) x e in
     let long : n ≤ length bytes = ltb-false _ _ g.0 in
-    subst (λ (y : ℕ × List ℕ). Takes (big_bytes n) (λ m. m < 256 ^ n) bytes y) (some_is (big_number n bytes, drop n bytes) x g.1)
+    subst (λ (y : ℕ × List ℕ). Takes (big_bytes n) (λ m. m < 256 ^ n) bytes y) (same_Some (big_number n bytes, drop n bytes) x g.1)
     (record { parts = rw (wide.back bytes long fits) (sym (take-append-drop n bytes)); rest = IsBytes-drop n bytes fits; fits = big_from-lt 0 n bytes fits })
 
 pub number_again : (n m : ℕ) (rest : List ℕ) → m < 256 ^ n → number_at n (big_bytes n m ++ rest) ≡ Some (m, rest)

@@ -1,13 +1,14 @@
 -- What a reader of the program gave has its text in front, and the text in front is read.
 use Rattle.std.proofs.Common.{◌≡◌, ℕ, List, ◌++◌, Option, Some, None, Result, Ok, Err, IfOk, IfErr, IfSome, IsSomeAnd, sym, ap, ◌∙◌}
 use Rattle.std.proofs.Common.{Bor}
+use Rattle.std.proofs.lemmas.Option.{same_Some}
 use Rattle.paxos_wire.specs.declared.fault.FrameFault.{FrameFault}
 use Rattle.paxos_wire.specs.declared.message.Message.{Message}
 use Rattle.paxos_wire.specs.Fits.{IsMessage}
 use Rattle.paxos_wire.specs.Spelling.{frame}
 use Rattle.paxos_wire.specs.Faults.{fault_of, reading}
 use Rattle.paxos_wire.specs.Reading.{Gives}
-use Rattle.paxos_wire.proofs.Steps.{IsBytes, Takes, some_is}
+use Rattle.paxos_wire.proofs.Steps.{IsBytes, Takes}
 use Rattle.paxos_wire.proofs.FrameLaws.{frame_is, fault_is}
 
 module _ {X : Type 0} (text : X → List ℕ) (P : X → Type 0) (read : List ℕ → Option (X × List ℕ)) where
@@ -19,7 +20,7 @@ module _ {X : Type 0} (text : X → List ℕ) (P : X → Type 0) (read : List �
   front_only bytes None given x rest again is = absurd (cc (given, ap read is, again))
   front_only bytes (Some y) given x rest again is =
       let pair : X × List ℕ = (y.0, y.1.now) in
-      let same : pair ≡ (x, rest) = some_is pair (x, rest) (sym given ∙ ap read is ∙ again) in
+      let same : pair ≡ (x, rest) = same_Some pair (x, rest) (sym given ∙ ap read is ∙ again) in
       (ap (λ (p : X × List ℕ). p.0) same, ap (λ (p : X × List ℕ). p.1) same)
 
 pub frame_found : (bytes : List ℕ) (r : Result Message FrameFault) → IsBytes bytes → r ≡ reading bytes → IfOk r (λ m. IsMessage m × (bytes ≡ frame m))
