@@ -4,20 +4,12 @@ use Rattle.std.specs.Prelude.{slice_index, fold, IfSome, option_map}
 use Rattle.std.proofs.lemmas.Bool.{cases_lt}
 use Rattle.std.specs.List.{AllByRecursion}
 use Rattle.game_def.specs.Game.{Game, IsGame, stack_of, blind_of, big_blind, most_chips, raise_size_of}
+use Rattle.game_def.proofs.Amounts.{blind_within}
 
 pub all_at : (P : ℕ → Type 0) (xs : List ℕ) (i : ℕ) → AllByRecursion P xs → i < length xs → P (slice_index xs i)
 all_at P [] i all b = absurd (omega arith)
 all_at P (x ∷ xs) zero all b = all.0
 all_at P (x ∷ xs) (suc i) all b = all_at P xs i all.1 (omega arith)
-
-fold_max-above : (xs : List ℕ) (a : ℕ) → a ≤ fold max a xs
-fold_max-above [] a = omega arith
-fold_max-above (x ∷ xs) a = omega (arith, fold_max-above xs (max a x))
-
-fold_max-at : (xs : List ℕ) (a i : ℕ) → i < length xs → slice_index xs i ≤ fold max a xs
-fold_max-at [] a i b = absurd (omega arith)
-fold_max-at (x ∷ xs) a zero b = omega (arith, fold_max-above xs (max a x))
-fold_max-at (x ∷ xs) a (suc i) b = fold_max-at xs (max a x) i (omega arith)
 
 fold_max-some : (xs : List ℕ) (a : ℕ) → (fold max a xs ≡ a) ⊎ ((i : ℕ) × (i < length xs) × (slice_index xs i ≡ fold max a xs))
 fold_max-some [] a = inl refl
@@ -34,7 +26,7 @@ fold_max-some (x ∷ xs) a = elim (fold_max-some xs (max a x)) [
 
 module _ (game : Game) (is_game : IsGame game) where
   pub blind_fits : (q : ℕ) → q < game.players → blind_of game q ≤ big_blind game
-  blind_fits q b = fold_max-at game.blinds 0 q (omega (arith, is_game.blind_each))
+  blind_fits q b = blind_within game q
 
   pub top_blind : (q : ℕ) × (q < game.players) × (blind_of game q ≡ big_blind game)
   top_blind = elim (fold_max-some game.blinds 0) [

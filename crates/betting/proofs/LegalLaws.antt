@@ -1,5 +1,5 @@
 -- The laws of legal plays.
-use Rattle.std.proofs.Common.{◌≡◌, ℕ, ◌-◌, ◌<◌, ◌≤◌, false, List, [], ◌∷◌, ◌++◌, Some, refl, sym, ap, ◌∙◌, arith, inl, inr, append_assoc, replicate}
+use Rattle.std.proofs.Common.{◌≡◌, ℕ, ◌-◌, ◌<◌, ◌≤◌, false, List, [], ◌∷◌, ◌++◌, Some, sym, ap, ◌∙◌, arith, inl, inr, append_assoc, replicate, append-nil}
 use Rattle.std.proofs.lemmas.Bool.{cases_eq}
 use Rattle.std.proofs.lemmas.Option.{same_Some}
 use Rattle.game_def.specs.Game.{Game, IsGame, stack_of}
@@ -88,13 +88,9 @@ rounds_go_on game past action is_game legal =
       | inr later ↦ (omega (arith, later), round_fits game legal.1.0 (current_round game (turns game past)) action (turns game past) fits)
     ])
 
-append_none : (s : List ℕ) → s ≡ s ++ []
-append_none [] = refl
-append_none (x ∷ s) = ap (λ t. x ∷ t) (append_none s)
-
 pub betting_texts_extend : BettingTextsExtend
 unfolding text
-betting_texts_extend game [] past = ([], append_none (text game past))
+betting_texts_extend game [] past = ([], sym (append-nil (text game past)))
 betting_texts_extend game (action ∷ later) past =
     let before : (rest : List ℕ) × (text game (later ++ past) ≡ text game past ++ rest) = betting_texts_extend game later past in
     let added : List ℕ = action_text game action in

@@ -1,9 +1,10 @@
 -- How an action changes the running totals, and that they stay those of the history.
 use Rattle.std.proofs.Common.{◌≡◌, ℕ, ◌+◌, ◌-◌, ◌<◌, ◌≤◌, ◌≢◌, min, Bool, true, false, cond, not, eqb, List, ◌∷◌, length, Option, None, refl, sym, ap, ◌∙◌, arith, inl, inr}
 use Rattle.game_def.specs.Game.{Game, IsGame, stack_of, big_blind}
-use Rattle.std.proofs.Common.{subst, get_or, set, get_or-set_other, get_or-set_same}
+use Rattle.std.proofs.Common.{subst, set, get_or-set_other}
 use Rattle.std.proofs.Math.ListN.{length-set}
 use Rattle.std.proofs.lemmas.Bool.{cases_eq, eq-eqb, ne_eqb, cond-true, cond-false}
+use Rattle.std.proofs.lemmas.Grind.{get_or-set_at}
 use Rattle.std.specs.Prelude.{slice_index, slice_index_or}
 use Rattle.betting.specs.declared.action.Action.{Action}
 use Rattle.betting.specs.declared.action.Action.TheVariants.{Fold, Call, Raise}
@@ -23,10 +24,6 @@ pub advances-by : (game : Game) (t : Totals) (position unfolded live round start
     → (let moved : Totals = record entered { next = next } in moved) ≡ advances game t position
 unfolding advances
 advances-by game t position unfolded live round start is_over next entered a b c d e f g = cc
-
--- a place of a list after one write
-pub at_written : {A : Type 0} (xs : List A) (p q : ℕ) (v d : A) → p < length xs → p ≡ q → get_or (set xs p v) q d ≡ v
-at_written xs p q v d b e = rw (← e) (get_or-set_same xs p v d b)
 
 module _ (game : Game) (h : List Turn) (t : Totals) (tally : IsTally game h t) (p : ℕ) (within : p < game.players) (places : game.players ≤ 10) where
   seat : p < length t.spent
@@ -53,7 +50,7 @@ module _ (game : Game) (h : List Turn) (t : Totals) (tally : IsTally game h t) (
     folded_places = length-set {A = Bool} t.folded p true ∙ tally.folded_places;
     spent_each = λ q b. tally.spent_each q b ∙ sym (spent-fold game h p t.round q);
     folded_each = λ q b. elim (cases_eq p q) [
-      | inl e ↦ at_written t.folded p q true false flag e ∙ sym (rw (← e) (folded-fold game h p t.round))
+      | inl e ↦ get_or-set_at t.folded p q true false (sym e) flag ∙ sym (rw (← e) (folded-fold game h p t.round))
       | inr ne ↦ get_or-set_other t.folded p q true false (λ e. ne (sym e)) ∙ tally.folded_each q b ∙ sym (folded-other game h p t.round Fold q ne)
     ];
     most = most_same Fold refl;
@@ -68,7 +65,7 @@ module _ (game : Game) (h : List Turn) (t : Totals) (tally : IsTally game h t) (
     spent_places = length-set {A = ℕ} t.spent p (min t.max_spent (stack_of game p)) ∙ tally.spent_places;
     folded_places = tally.folded_places;
     spent_each = λ q b. elim (cases_eq p q) [
-      | inl e ↦ at_written t.spent p q (min t.max_spent (stack_of game p)) 0 seat e ∙ ap (λ m. min m (stack_of game p)) tally.most ∙ sym (rw (← e) (spent-call game h p t.round))
+      | inl e ↦ get_or-set_at t.spent p q (min t.max_spent (stack_of game p)) 0 (sym e) seat ∙ ap (λ m. min m (stack_of game p)) tally.most ∙ sym (rw (← e) (spent-call game h p t.round))
       | inr ne ↦ get_or-set_other t.spent p q (min t.max_spent (stack_of game p)) 0 (λ e. ne (sym e)) ∙ tally.spent_each q b ∙ sym (spent-other game h p t.round Call q ne)
     ];
     folded_each = λ q b. tally.folded_each q b ∙ sym (folded-call game h p t.round q);
@@ -82,7 +79,7 @@ module _ (game : Game) (h : List Turn) (t : Totals) (tally : IsTally game h t) (
   -- a raise, but for who owes an answer
   raised_spent : (amount q : ℕ) → q < game.players → slice_index (set t.spent p amount) q ≡ spent game (turn_by p t.round (Raise amount) ∷ h) q
   raised_spent amount q b = elim (cases_eq p q) [
-    | inl e ↦ at_written t.spent p q amount 0 seat e ∙ sym (rw (← e) (spent-raise game h p t.round amount))
+    | inl e ↦ get_or-set_at t.spent p q amount 0 (sym e) seat ∙ sym (rw (← e) (spent-raise game h p t.round amount))
     | inr ne ↦ get_or-set_other t.spent p q amount 0 (λ e. ne (sym e)) ∙ tally.spent_each q b ∙ sym (spent-other game h p t.round (Raise amount) q ne)
   ]
 
