@@ -1,7 +1,10 @@
-ghost use Rattle.std.specs.Prelude.{◌≡◌, ◌+◌, ◌*◌, ◌≤◌, List, length, IfSome};
+ghost use Rattle.std.specs.Prelude.{◌≡◌, ℕ, ◌+◌, ◌*◌, ◌≤◌, List, length, is_none, IfSome};
+ghost use Rattle.game_def.specs.Game.{Game};
 ghost use Rattle.paxos_wire.specs.Fits.{IsInRange};
 ghost use Rattle.node_rules.specs.Applying.{Scene, kept, taking, taking_all};
 ghost use Rattle.slot_log.specs.declared.command.Command.{Command as Order};
+ghost use Rattle.slot_log.specs.Hand.{Hand};
+ghost use Rattle.slot_log.specs.Dealer.{effect_of, reason_of};
 ghost use Rattle.dealer_kind.specs.Kind.{hands_after};
 ghost use Rattle.dealer_node.specs.declared.reader.Reader.{Reader as Reads};
 ghost use Rattle.dealer_node.specs.Texts.{Marked, byte_total};
@@ -13,7 +16,7 @@ use crate::post::Post;
 use crate::reader::Reader;
 use crate::texts::Texts;
 use seat_session::Session;
-use slot_log::{Command, Table};
+use slot_log::{Command, Effect, Table};
 
 /// Forgets an act that waits and doesn't fit.
 fn forget(pending: &mut Option<Command>, post: &Post, table: &Table)
@@ -26,6 +29,14 @@ fn forget(pending: &mut Option<Command>, post: &Post, table: &Table)
             *pending = None;
         }
     }
+}
+
+/// Whether a command took effect, by what it did.
+fn took_effect(effect: Effect) -> bool
+    ensures { (game : Game) (count : ℕ) (hands : List Hand) (command : Order) → effect ≡ effect_of game count hands command
+        → result ≡ is_none (reason_of game count hands command) }
+{
+    !matches!(effect, Effect::None(_))
 }
 
 /// Applies a command: one that takes effect is shown, and an act that waits is forgotten once it doesn't fit.
@@ -54,9 +65,8 @@ fn take(
     ensures size { byte_total shown.new.texts ≤ byte_total shown.old.texts + 45716 }
     ensures act { IfSome pending.old (λ command. IsInRange command) → IfSome pending.new (λ command. IsInRange command) }
 {
-    let fits = table.fits(command);
-    table.apply_reserved(command);
-    show_news(shown, fits, post, table, sessions);
+    let took = took_effect(table.apply_reserved(command));
+    show_news(shown, took, post, table, sessions);
     forget(pending, post, table);
 }
 
