@@ -1,4 +1,4 @@
-use crate::test_streams::{L2, Listener, Reading, Talker, Writing};
+use crate::test_streams::{L2, Listener, MATCH, Reading, Talker, Writing};
 use match_file::MatchFile;
 use match_runs::{play_match, play_run};
 use std::alloc::{AllocError, Global};
@@ -8,18 +8,6 @@ use std::ops::Range;
 use std::process::Abort;
 use std::test::Fail;
 use streamed::{Ending, MOST_READS, Stop};
-
-pub(crate) const MATCH: &[u8] = b"name = \"m1\"
-game = \"l2.game\"
-hands = 1
-names = [\"alice\", \"bob\"]
-[[node]]
-deals = [\"TdAs|8hTc/2c8c3h/9c/Kh\"]
-[[node]]
-deals = [\"2d2h|3d3s/4c5c6c/7c/8d\"]
-[[node]]
-deals = [\"QcQd|JcJd/2s3c4d/9s/Th\"]
-";
 
 /// What each node's log begins with.
 const HEADERS: &[u8] = b"0 L # name/game/hands m1 l2.game 1

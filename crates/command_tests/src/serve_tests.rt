@@ -1,7 +1,6 @@
 //! `serve_run` over links and disks in memory: the notes of a match, and of what fails in it.
 
-use crate::play_tests::MATCH;
-use crate::test_streams::L2;
+use crate::test_streams::{L2, MATCH};
 use dealer_node::NodeFault;
 use dealer_world::Cluster;
 use match_file::{MatchFile, Outage};
@@ -161,6 +160,8 @@ fn faults_of_a_server_end_the_program_with_status_1(rt: HostRuntime) -> Result<(
             "93 Spent",
         ),
     ];
+    assert_eq!(rt; ServeFault::LogFailed.code(), 106);
+    assert_eq!(rt; ServeFault::Node(NodeFault::Spent).code(), 93);
     for (why, text) in faults {
         let conclusion: Conclusion = why.conclusion();
         assert_eq!(rt; conclusion.status(), 1);

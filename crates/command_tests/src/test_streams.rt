@@ -1,5 +1,5 @@
 //! What the tests of all commands read from and write to: readers and writers that trickle, are interrupted,
-//! fail, or talk to each other; and the game that they play.
+//! fail, or talk to each other; and the game and the match that they play.
 
 use std::alloc::Global;
 use std::cell::Cell;
@@ -18,6 +18,19 @@ numRanks = 13
 numHoleCards = 2
 numBoardCards = 0 3 1 1
 END GAMEDEF
+";
+
+/// A match of one hand, whose three nodes have a deal each.
+pub(crate) const MATCH: &[u8] = b"name = \"m1\"
+game = \"l2.game\"
+hands = 1
+names = [\"alice\", \"bob\"]
+[[node]]
+deals = [\"TdAs|8hTc/2c8c3h/9c/Kh\"]
+[[node]]
+deals = [\"2d2h|3d3s/4c5c6c/7c/8d\"]
+[[node]]
+deals = [\"QcQd|JcJd/2s3c4d/9s/Th\"]
 ";
 
 /// Gives so many bytes at a time.

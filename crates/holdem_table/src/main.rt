@@ -20,7 +20,7 @@ use match_file::{MatchFault, MatchFile};
 use match_runs::{Conclusion, play_run};
 use std::io;
 use std::process::ExitCode;
-pub use streamed::{Ending, GameWord, WrongWords, check_run, hand_run};
+use streamed::{Ending, WrongWords, check_run, hand_run};
 
 fn main(rt: HostRuntime) -> ExitCode {
     let conclusion = match words(&rt) {

@@ -6,7 +6,7 @@ use dealer_world::Cluster;
 use match_file::Outage;
 use match_links::{Links, MemoryLinks, Reached};
 use promise_store::{Disk, OnceDisk};
-use serving::{Outages, ServeFault, Server, Turn};
+use serving::{Outages, Place, ServeFault, Server, Turn};
 use std::alloc::Global;
 use std::process::Abort;
 use std::test::Fail;
@@ -52,7 +52,7 @@ pub(crate) enum Ending {
     Never,
 }
 
-/// A server of a new cluster over these disks; none where a node or a log refuses.
+/// A server of a new cluster over these disks, which awaits each seat at node 0; none where a node or a log refuses.
 pub(crate) fn server<D: Disk + Drop, L: Links + Drop>(
     rt: &impl Abort,
     alloc: Global,
@@ -65,10 +65,12 @@ pub(crate) fn server<D: Disk + Drop, L: Links + Drop>(
     let Ok(cluster) = Cluster::new(alloc, config, disks) else {
         return Ok(None);
     };
-    match Server::new(alloc, cluster, links, outages) {
-        Ok(server) => Ok(Some(server)),
-        Err(_) => Ok(None),
-    }
+    let Ok(server) = Server::new(alloc, cluster, links, outages) else {
+        return Ok(None);
+    };
+    assert!(rt; server.place(0) == Some(Place::Awaited(0)));
+    assert!(rt; server.place(2).is_none());
+    Ok(Some(server))
 }
 
 /// Lets a server take turns until all is over or a fault comes. A turn that found no memory is taken again.

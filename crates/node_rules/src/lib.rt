@@ -9,6 +9,10 @@
 //! A node carries the rules out, and its code is compared with them. What is believed of a node are the `laws`: they
 //! speak of what came, of what the node of the world has got, sent, stored, knows and heard (`specs/Being.antt` says
 //! whose standing is whose), and of the turn's frames and pieces (`specs/Called.antt`).
+//!
+//! Whoever shows that a call of a node's code is right shows that it ends as `Ends` says, and calls
+//! `laws::calls_are_sound`. `proofs/Examples.antt` works out the turns of three nodes from their starts to the end of a
+//! match of one hand. There is no code here, and no fault of its own.
 #![tactic(auto)]
 
 pub mod laws;

@@ -17,7 +17,8 @@ pub enum ServeFault {
     LinkFailed,
     /// 106: a log can't be emptied or written.
     LogFailed,
-    /// The fault of a node's call: 91 where a node whose store failed can't be started again, 92, 93, 94 or 95. By 92
+    /// The fault of a node's call: 91 where a node whose store failed can't be started again or
+    /// fails once more, 92, 93, 94 or 95. By 92
     /// nothing has changed, and the same turn comes again.
     Node(NodeFault),
 }

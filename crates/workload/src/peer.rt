@@ -11,7 +11,7 @@ use slot_log::Command;
 use std::alloc::{AllocError, Global};
 
 /// Two players, limit.
-const GAME: &[u8] = b"GAMEDEF
+const L2: &[u8] = b"GAMEDEF
 limit
 numPlayers = 2
 numRounds = 4
@@ -41,7 +41,7 @@ pub fn config(alloc: Global, hands: u32) -> Result<Option<Config>, AllocError> {
 
 /// The match whose log names the game by this word, with these sources of deals.
 fn configured(word: Vec<u8>, hands: u32, sources: Vec<Source>) -> Option<Config> {
-    let game = game_def::read(GAME).ok()?;
+    let game = game_def::read(L2).ok()?;
     let name = Name::new(b"workload")?;
     let names = SeatNames::read(b"alice|bob", 2)?;
     Config::new(game, name, word, names, hands, sources)
