@@ -4,10 +4,11 @@
 //! file, the seats' names joined by `|`, how many hands there are, the seed of node 0's deals (each further node has
 //! the next), and a word for the disk of each node. The further lines drive the nodes (`driving`).
 
-ghost use Rattle.std.specs.Prelude.{◌≡◌};
+ghost use Rattle.std.specs.Prelude.{◌≡◌, length};
 
 use crate::driving::print_answers;
 use dealer_kind::{Config, Source};
+use dealer_node::NodeFault;
 use dealer_world::Cluster;
 use match_log::{Name, SeatNames};
 use promise_store::{Disk, FileDisk, MemoryDisk, OnceDisk};
@@ -84,29 +85,44 @@ fn config_of<R: AllocGlobal + Files<File = File>>(
     Ok(plan.config(rt.alloc(), &game, nodes)?)
 }
 
-/// Makes a cluster over these disks, anew or over the stores that they have, and drives it. What can't be made is told
-/// as `E FAULT`.
+/// A cluster over these disks, anew or over the stores that they have.
+fn cluster_of<D: Disk + Drop>(
+    alloc: Global,
+    config: Config,
+    disks: Vec<D>,
+    is_new: bool,
+) -> Result<Cluster<D>, NodeFault>
+    requires { length disks.items ≡ length config.sources }
+{
+    if is_new {
+        return Cluster::new(alloc, config, disks);
+    }
+    Cluster::open(alloc, config, disks)
+}
+
+/// Drives a cluster that was made. What can't be made is told as `E FAULT`.
+fn drive_made<D: Disk + Drop, R: Input + Print + AllocGlobal>(
+    rt: &R,
+    made: Result<Cluster<D>, NodeFault>,
+) -> io::Result<()> {
+    match made {
+        Ok(mut cluster) => print_answers(rt, &mut cluster),
+        Err(fault) => println!(rt; "E {fault}"),
+    }
+}
+
+/// Makes a cluster over these disks for the match of the first line, and drives it.
 fn drive<D: Disk + Drop, R: Input + Print + AllocGlobal + Files<File = File>>(
     rt: &R,
     line: &str,
     disks: Vec<D>,
     is_new: bool,
 ) -> io::Result<()> {
-    let alloc = rt.alloc();
-    let Some(config) = config_of(rt, line, disks.len())? else {
-        return rt.println("no match");
-    };
-    if disks.len() != config.nodes() {
-        return rt.println("no match");
-    }
-    let made = if is_new {
-        Cluster::new(alloc, config, disks)
-    } else {
-        Cluster::open(alloc, config, disks)
-    };
-    match made {
-        Ok(mut cluster) => print_answers(rt, &mut cluster),
-        Err(fault) => println!(rt; "E {fault}"),
+    match config_of(rt, line, disks.len())? {
+        Some(config) if config.nodes() == disks.len() => {
+            drive_made(rt, cluster_of(rt.alloc(), config, disks, is_new))
+        }
+        _ => rt.println("no match"),
     }
 }
 
