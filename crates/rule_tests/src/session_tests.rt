@@ -57,8 +57,43 @@ fn feed(session: &mut Session, piece: &[u8]) -> Result<(), AllocError> {
     session.feed(piece)
 }
 
+/// Whether a session answers a greeting, and what it answers to the bytes behind it, which come at once.
+fn answer_at_once(
+    rt: &impl Abort,
+    alloc: Global,
+    table: &Table,
+    seat: usize,
+    greeting: &[u8],
+    bytes: &[u8],
+) -> Result<(bool, Option<Answer>), AllocError> {
+    let mut session = Session::new(alloc, seat);
+    feed(&mut session, greeting)?;
+    let greeted = ask(rt, &mut session, table).is_some();
+    feed(&mut session, bytes)?;
+    Ok((greeted, ask(rt, &mut session, table)))
+}
+
+/// The same where the bytes behind the greeting come one at a time: nothing is answered before the last byte.
+fn answer_bytewise(
+    rt: &impl Abort,
+    alloc: Global,
+    table: &Table,
+    seat: usize,
+    greeting: &[u8],
+    bytes: &[u8],
+) -> Result<(bool, Option<Answer>), AllocError> {
+    let mut session = Session::new(alloc, seat);
+    feed(&mut session, greeting)?;
+    let greeted = ask(rt, &mut session, table).is_some();
+    for byte in bytes {
+        assert!(rt; ask(rt, &mut session, table).is_none());
+        feed(&mut session, &[*byte])?;
+    }
+    Ok((greeted, ask(rt, &mut session, table)))
+}
+
 /// What a session answers to these bytes, which come at once and then, to another session, one at a time:
-/// both answer the same, and to the last byte.
+/// both answer the same.
 fn answer_to(
     rt: &impl Abort,
     alloc: Global,
@@ -67,19 +102,10 @@ fn answer_to(
     greeting: &[u8],
     bytes: &[u8],
 ) -> Result<Answer, Fail> {
-    let mut whole = Session::new(alloc, seat);
-    feed(&mut whole, greeting)?;
-    let greeted = ask(rt, &mut whole, table).is_some();
-    feed(&mut whole, bytes)?;
-    let answer = ask(rt, &mut whole, table);
-    let mut bytewise = Session::new(alloc, seat);
-    feed(&mut bytewise, greeting)?;
-    assert!(rt; ask(rt, &mut bytewise, table).is_some() == greeted);
-    for byte in bytes {
-        assert!(rt; ask(rt, &mut bytewise, table).is_none());
-        feed(&mut bytewise, &[*byte])?;
-    }
-    answers(rt, &mut bytewise, table, answer);
+    let at_once = answer_at_once(rt, alloc, table, seat, greeting, bytes)?;
+    let bytewise = answer_bytewise(rt, alloc, table, seat, greeting, bytes)?;
+    assert!(rt; at_once == bytewise);
+    let (_, answer) = at_once;
     Ok(answer.ok_or("no answer")?)
 }
 
@@ -211,7 +237,7 @@ fn faults_at_other_tables(rt: HostRuntime) -> Result<(), Fail> {
 }
 
 #[test]
-fn closed_sessions(rt: HostRuntime) -> Result<(), Fail> {
+fn a_comment_of_4096_bytes_is_skipped(rt: HostRuntime) -> Result<(), Fail> {
     let table = table_after(&rt, rt.alloc(), &[])?;
     let mut session = Session::new(rt.alloc(), 1);
     session.reserve(4097)?;
@@ -220,37 +246,41 @@ fn closed_sessions(rt: HostRuntime) -> Result<(), Fail> {
     answers(&rt, &mut session, &table, None);
     feed(&mut session, b"\nVERSION:2.0.0\n")?;
     answers(&rt, &mut session, &table, Some(Ok(Said::Ready)));
-    feed(&mut session, b"#")?;
-    feed(&mut session, &[b'x'; 4096])?;
-    answers(
-        &rt,
-        &mut session,
-        &table,
-        Some(Err(SessionFault::LineTooLong)),
-    );
-    assert!(rt; session.is_closed());
-    feed(&mut session, b"\nVERSION:2.0.0\n")?;
-    answers(
-        &rt,
-        &mut session,
-        &table,
-        Some(Err(SessionFault::LineTooLong)),
-    );
-    let mut refused = Session::new(rt.alloc(), 1);
-    feed(&mut refused, b"VERSION:1.0.0\nVERSION:2.0.0\n")?;
-    answers(
-        &rt,
-        &mut refused,
-        &table,
-        Some(Err(SessionFault::BadVersion)),
-    );
-    answers(
-        &rt,
-        &mut refused,
-        &table,
-        Some(Err(SessionFault::BadVersion)),
-    );
     Ok(())
+}
+
+/// Sees that a session that gets these bytes is closed by a fault, and answers it to what comes behind, too.
+fn is_closed_by(
+    rt: &impl Abort,
+    table: &Table,
+    session: &mut Session,
+    bytes: &[u8],
+    fault: SessionFault,
+) -> Result<(), Fail> {
+    feed(session, bytes)?;
+    answers(rt, session, table, Some(Err(fault)));
+    assert!(rt; session.is_closed());
+    feed(session, b"\nVERSION:2.0.0\n")?;
+    answers(rt, session, table, Some(Err(fault)));
+    Ok(())
+}
+
+#[test]
+fn closed_sessions(rt: HostRuntime) -> Result<(), Fail> {
+    let table = table_after(&rt, rt.alloc(), &[])?;
+    let mut long = Session::new(rt.alloc(), 1);
+    feed(&mut long, GREETING)?;
+    answers(&rt, &mut long, &table, Some(Ok(Said::Ready)));
+    is_closed_by(
+        &rt,
+        &table,
+        &mut long,
+        &[b'#'; 4097],
+        SessionFault::LineTooLong,
+    )?;
+    let mut refused = Session::new(rt.alloc(), 1);
+    let line = b"VERSION:1.0.0\n";
+    is_closed_by(&rt, &table, &mut refused, line, SessionFault::BadVersion)
 }
 
 #[test]
@@ -291,14 +321,27 @@ fn refused_memory_changes_nothing(rt: HostRuntime) -> Result<(), Fail> {
     Ok(())
 }
 
+/// Sees what is printed of a fault.
+fn prints(rt: &impl Abort, alloc: Global, fault: SessionFault, text: &str) -> Result<(), Fail> {
+    assert_eq!(rt; format!(in alloc; "{fault}")?.as_str(), text);
+    Ok(())
+}
+
 #[test]
 fn faults_print(rt: HostRuntime) -> Result<(), Fail> {
-    let text = format!(in rt.alloc(); "{}", SessionFault::Malformed(LineFault::BadAction))?;
-    assert_eq!(rt; text.as_str(), "82 Malformed 44 BadAction");
-    let text = format!(in rt.alloc(); "{}", SessionFault::Illegal(ActFault::TooManyRaises))?;
-    assert_eq!(rt; text.as_str(), "85 Illegal 22 TooManyRaises");
-    let text = format!(in rt.alloc(); "{}", SessionFault::BadVersion)?;
-    assert_eq!(rt; text.as_str(), "80 BadVersion");
     assert_eq!(rt; SessionFault::LineTooLong.code(), 81);
+    for (fault, text) in [
+        (
+            SessionFault::Malformed(LineFault::BadAction),
+            "82 Malformed 44 BadAction",
+        ),
+        (
+            SessionFault::Illegal(ActFault::TooManyRaises),
+            "85 Illegal 22 TooManyRaises",
+        ),
+        (SessionFault::BadVersion, "80 BadVersion"),
+    ] {
+        prints(&rt, rt.alloc(), fault, text)?;
+    }
     Ok(())
 }
