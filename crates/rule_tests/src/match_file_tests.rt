@@ -1,5 +1,6 @@
 use crate::samples::L2;
-use match_file::{Key, MatchFault, MatchFile, Outage};
+use dealer_kind::Config;
+use match_file::{Key, MatchFault, MatchFile, Outage, Service};
 use std::alloc::{AllocError, Global};
 use std::process::Abort;
 use std::test::Fail;
@@ -42,57 +43,65 @@ fn file(alloc: Global, text: &[u8]) -> Result<MatchFile, MatchFault> {
     MatchFile::read(alloc, text)
 }
 
-/// What is printed of a text's match: nothing where there is one.
-fn told(alloc: Global, text: &[u8], game: Option<&[u8]>) -> Result<String, AllocError> {
+/// The fault of a text's match: none where there is one.
+fn fault_of(alloc: Global, text: &[u8], game: Option<&[u8]>) -> Option<MatchFault> {
     let config = match file(alloc, text) {
         Ok(file) => file.config(alloc, game),
         Err(fault) => Err(fault),
     };
-    match config {
-        Ok(_) => Ok(String::new(alloc)),
-        Err(fault) => format!(in alloc; "{fault}"),
+    config.err()
+}
+
+/// The fault of what a text says for serving, with three nodes: none where it is served.
+fn fault_of_service(alloc: Global, text: &[u8]) -> Option<MatchFault> {
+    match file(alloc, text) {
+        Ok(file) => file.service(alloc, 3).err(),
+        Err(fault) => Some(fault),
     }
 }
 
-/// What is printed of what a text says for serving, with three nodes.
-fn told_of_service(alloc: Global, text: &str) -> Result<String, AllocError> {
-    let service = match MatchFile::read(alloc, text.as_bytes()) {
-        Ok(file) => match file.service(alloc, 3) {
-            Ok(_) => return Ok(String::new(alloc)),
-            Err(fault) => fault,
-        },
-        Err(fault) => fault,
-    };
-    format!(in alloc; "{service}")
+/// What is printed of a fault: nothing where there is none.
+fn printed(alloc: Global, fault: Option<MatchFault>) -> Result<String, AllocError> {
+    match fault {
+        Some(fault) => format!(in alloc; "{fault}"),
+        None => Ok(String::new(alloc)),
+    }
+}
+
+/// Sees what is printed of a fault, where `case` says what it is the fault of.
+fn prints(
+    rt: &impl Abort,
+    alloc: Global,
+    fault: Option<MatchFault>,
+    expected: &str,
+    case: &str,
+) -> Result<(), AllocError> {
+    let told = printed(alloc, fault)?;
+    assert_eq!(rt; told.as_str(), expected, "{case}");
+    Ok(())
 }
 
 /// The text with one line in place of another.
 fn with(alloc: Global, text: &str, old: &str, new: &str) -> Result<String, AllocError> {
-    let mut changed = String::new(alloc);
     match text.split_once(old) {
-        Some((front, behind)) => {
-            changed.push_str(front)?;
-            changed.push_str(new)?;
-            changed.push_str(behind)?;
-        }
-        None => changed.push_str(text)?,
+        Some((front, behind)) => format!(in alloc; "{front}{new}{behind}"),
+        None => format!(in alloc; "{text}"),
     }
-    Ok(changed)
 }
 
-#[test]
-fn a_match_is_what_its_files_say(rt: HostRuntime) -> Result<(), Fail> {
-    let alloc = rt.alloc();
-    let file = file(alloc, LISTED.as_bytes()).expect(&rt, "a file");
-    assert_eq!(rt; file.game().expect(&rt, "a game"), "l2.game");
-    let config = file.config(alloc, Some(L2)).expect(&rt, "a match");
+/// Sees the hands, the name, the game and the players of the match that is listed.
+fn says_what_is_listed(rt: &impl Abort, config: &Config) {
     assert_eq!(rt; config.hands(), 1);
-    assert_eq!(rt; config.nodes(), 3);
     assert!(rt; config.name().as_bytes() == b"m1".as_slice());
     assert!(rt; config.game_word() == b"l2.game".as_slice());
     assert_eq!(rt; config.names().as_slice().len(), 2);
     assert!(rt; config.names().as_slice()[1].as_bytes() == b"bob".as_slice());
-    let listed = config.source(0).deal(0, 2).expect(&rt, "a deal");
+}
+
+/// Sees the nodes of the match that is listed: one deals what is written, the others what their seeds draw.
+fn deals_what_is_listed(rt: &impl Abort, config: &Config) {
+    assert_eq!(rt; config.nodes(), 3);
+    let listed = config.source(0).deal(0, 2).expect(rt, "a deal");
     assert_eq!(rt;
         Some(listed),
         matchstate::read_deal(b"TdAs|8hTc/2c8c3h/9c/Kh", 2)
@@ -102,47 +111,60 @@ fn a_match_is_what_its_files_say(rt: HostRuntime) -> Result<(), Fail> {
         config.source(2).deal(0, 2),
         Some(deck_draw::draw(9223372036854775807, 0, 2))
     );
-    Ok(())
 }
+
+#[test]
+fn a_match_is_what_its_files_say(rt: HostRuntime) {
+    let alloc = rt.alloc();
+    let file = file(alloc, LISTED.as_bytes()).expect(&rt, "a file");
+    assert_eq!(rt; file.game().expect(&rt, "a game"), "l2.game");
+    let config = file.config(alloc, Some(L2)).expect(&rt, "a match");
+    says_what_is_listed(&rt, &config);
+    deals_what_is_listed(&rt, &config);
+}
+
+/// The fault of the match that is listed, with one line in place of another.
+fn fault_with(alloc: Global, old: &str, new: &str) -> Result<Option<MatchFault>, AllocError> {
+    let text = with(alloc, LISTED, old, new)?;
+    Ok(fault_of(alloc, text.as_bytes(), Some(L2)))
+}
+
+/// A line of the match that is listed, another in its place, and what is told of that.
+const LISTED_CHANGES: [(&str, &str, &str); 22] = [
+    ("name = \"m1\"", "name = \"\"", "101 BadEntry name"),
+    ("name = \"m1\"", "name = 1", "101 BadEntry name"),
+    ("name = \"m1\"\n", "", "101 BadEntry name"),
+    ("\"l2.game\"", "\"l2 game\"", "101 BadEntry game"),
+    ("hands = 1", "hands = 0", "101 BadEntry hands"),
+    ("hands = 1", "hands = 10001", "101 BadEntry hands"),
+    ("hands = 1", "hands = -1", "101 BadEntry hands"),
+    ("hands = 1", "hands = 1.0", "101 BadEntry hands"),
+    ("hands = 1", "hands = 2", "101 BadEntry node"),
+    ("\"bob\"]", "\"alice\"]", "101 BadEntry names"),
+    (", \"bob\"]", "]", "101 BadEntry names"),
+    ("\"bob\"]", "7]", "101 BadEntry names"),
+    ("seed = 0", "seed = -1", "101 BadEntry node"),
+    ("seed = 0", "seed = 0\ndeals = []", "101 BadEntry node"),
+    ("seed = 0", "", "101 BadEntry node"),
+    ("[[node]]\nseed = 0\n", "", "101 BadEntry node"),
+    ("8hTc/", "TdTc/", "101 BadEntry node"),
+    ("/Kh\"]", "/Kh\", \"TdAs|8hTc\"]", "101 BadEntry node"),
+    ("name = \"m1\"", "name = \"m1", "100 NotToml"),
+    (
+        "name = \"m1\"",
+        "name = \"m1\"\nname = \"m1\"",
+        "100 NotToml",
+    ),
+    ("hands = 1", "hands = 1\nport = \"none\"\noutage = 3", ""),
+    ("/Kh\"]", "/Kh\", \"2d2h|3d3s/4c5c6c/7c/8d\"]", ""),
+];
 
 #[test]
 fn each_key_is_told_where_it_is_wrong(rt: HostRuntime) -> Result<(), Fail> {
     let alloc = rt.alloc();
-    let cases = [
-        ("name = \"m1\"", "name = \"\"", "101 BadEntry name"),
-        ("name = \"m1\"", "name = 1", "101 BadEntry name"),
-        ("name = \"m1\"\n", "", "101 BadEntry name"),
-        ("\"l2.game\"", "\"l2 game\"", "101 BadEntry game"),
-        ("hands = 1", "hands = 0", "101 BadEntry hands"),
-        ("hands = 1", "hands = 10001", "101 BadEntry hands"),
-        ("hands = 1", "hands = -1", "101 BadEntry hands"),
-        ("hands = 1", "hands = 1.0", "101 BadEntry hands"),
-        ("hands = 1", "hands = 2", "101 BadEntry node"),
-        ("\"bob\"]", "\"alice\"]", "101 BadEntry names"),
-        (", \"bob\"]", "]", "101 BadEntry names"),
-        ("\"bob\"]", "7]", "101 BadEntry names"),
-        ("seed = 0", "seed = -1", "101 BadEntry node"),
-        ("seed = 0", "seed = 0\ndeals = []", "101 BadEntry node"),
-        ("seed = 0", "", "101 BadEntry node"),
-        ("[[node]]\nseed = 0\n", "", "101 BadEntry node"),
-        ("8hTc/", "TdTc/", "101 BadEntry node"),
-        ("/Kh\"]", "/Kh\", \"TdAs|8hTc\"]", "101 BadEntry node"),
-        ("name = \"m1\"", "name = \"m1", "100 NotToml"),
-        (
-            "name = \"m1\"",
-            "name = \"m1\"\nname = \"m1\"",
-            "100 NotToml",
-        ),
-        ("hands = 1", "hands = 1\nport = \"none\"\noutage = 3", ""),
-        ("/Kh\"]", "/Kh\", \"2d2h|3d3s/4c5c6c/7c/8d\"]", ""),
-    ];
-    for (old, new, expected) in cases {
-        let text = with(alloc, LISTED, old, new)?;
-        assert_eq!(rt;
-            told(alloc, text.as_bytes(), Some(L2))?.as_str(),
-            expected,
-            "{old}"
-        );
+    for (old, new, expected) in LISTED_CHANGES {
+        let fault = fault_with(alloc, old, new)?;
+        prints(&rt, alloc, fault, expected, old)?;
     }
     Ok(())
 }
@@ -151,99 +173,127 @@ fn each_key_is_told_where_it_is_wrong(rt: HostRuntime) -> Result<(), Fail> {
 fn the_first_fault_is_told(rt: HostRuntime) -> Result<(), Fail> {
     let alloc = rt.alloc();
     let no_hands = with(alloc, LISTED, "hands = 1", "hands = 0")?;
-    let no_game = with(alloc, LISTED, "\"l2.game\"", "7")?;
-    for (text, game, expected) in [
-        (no_hands.as_bytes(), None, "104 Unreadable"),
-        (
-            no_hands.as_bytes(),
-            Some(LOW_STACK),
-            "102 Game 17 StackBelowBlind 5",
-        ),
-        (no_hands.as_bytes(), Some(L2), "101 BadEntry hands"),
-        (no_game.as_bytes(), None, "101 BadEntry game"),
-        (b"", None, "101 BadEntry name"),
-        (b"name = \"\xff\"", None, "100 NotToml"),
+    for (game, expected) in [
+        (None, "104 Unreadable"),
+        (Some(LOW_STACK), "102 Game 17 StackBelowBlind 5"),
+        (Some(L2), "101 BadEntry hands"),
     ] {
-        assert_eq!(rt; told(alloc, text, game)?.as_str(), expected);
+        let fault = fault_of(alloc, no_hands.as_bytes(), game);
+        prints(&rt, alloc, fault, expected, "no hands")?;
     }
-    let file = file(alloc, no_game.as_bytes()).expect(&rt, "a file");
-    assert_eq!(rt; file.game().err(), Some(MatchFault::BadEntry(Key::Game)));
+    let fault = fault_of(alloc, b"", None);
+    prints(&rt, alloc, fault, "101 BadEntry name", "no text")?;
+    let fault = fault_of(alloc, b"name = \"\xff\"", None);
+    prints(&rt, alloc, fault, "100 NotToml", "no UTF-8")?;
     Ok(())
 }
 
+/// The fault of the game's name in a file of this text.
+fn fault_of_game(rt: &impl Abort, alloc: Global, text: &[u8]) -> Option<MatchFault> {
+    let file = file(alloc, text).expect(rt, "a file");
+    file.game().err()
+}
+
 #[test]
-fn what_is_served_is_what_the_file_says(rt: HostRuntime) -> Result<(), Fail> {
+fn a_game_without_a_name_is_told(rt: HostRuntime) -> Result<(), Fail> {
     let alloc = rt.alloc();
-    let file = file(alloc, SERVED.as_bytes()).expect(&rt, "a file");
-    assert_eq!(rt; file.stores().expect(&rt, "a folder"), "stores");
-    let service = file.service(alloc, 3).expect(&rt, "a service");
-    assert_eq!(rt; service.stores, "stores");
-    assert_eq!(rt; service.logs, "a folder");
-    assert_eq!(rt; service.port, 2000);
-    let first = Outage {
+    let no_game = with(alloc, LISTED, "\"l2.game\"", "7")?;
+    let fault = fault_of(alloc, no_game.as_bytes(), None);
+    prints(&rt, alloc, fault, "101 BadEntry game", "no game")?;
+    let fault = fault_of_game(&rt, alloc, no_game.as_bytes());
+    assert_eq!(rt; fault, Some(MatchFault::BadEntry(Key::Game)));
+    Ok(())
+}
+
+/// The outages that are said for serving.
+const OUTAGES: [Outage; 2] = [
+    Outage {
         node: 0,
         at: 1,
         back: Some(5),
-    };
-    let second = Outage {
+    },
+    Outage {
         node: 1,
         at: 5,
         back: None,
-    };
-    assert!(rt; service.outages.as_slice() == [first, second].as_slice());
-    Ok(())
+    },
+];
+
+/// Sees that a match is served as the file says.
+fn is_as_said(rt: &impl Abort, service: &Service) {
+    assert_eq!(rt; service.stores, "stores");
+    assert_eq!(rt; service.logs, "a folder");
+    assert_eq!(rt; service.port, 2000);
+    assert!(rt; service.outages.as_slice() == OUTAGES.as_slice());
 }
+
+/// Sees what a file says for serving, with three nodes.
+fn says_what_is_served(rt: &impl Abort, alloc: Global, file: &MatchFile) {
+    let service = file.service(alloc, 3).expect(rt, "a service");
+    is_as_said(rt, &service);
+}
+
+#[test]
+fn what_is_served_is_what_the_file_says(rt: HostRuntime) {
+    let file = file(rt.alloc(), SERVED.as_bytes()).expect(&rt, "a file");
+    assert_eq!(rt; file.stores().expect(&rt, "a folder"), "stores");
+    says_what_is_served(&rt, rt.alloc(), &file);
+}
+
+/// The fault of what is said for serving, with one line in place of another.
+fn fault_of_service_with(
+    alloc: Global,
+    old: &str,
+    new: &str,
+) -> Result<Option<MatchFault>, AllocError> {
+    let text = with(alloc, SERVED, old, new)?;
+    Ok(fault_of_service(alloc, text.as_bytes()))
+}
+
+/// A line of what is said for serving, another in its place, and what is told of that.
+const SERVED_CHANGES: [(&str, &str, &str); 17] = [
+    ("stores = \"stores\"\n", "", "101 BadEntry stores"),
+    ("stores = \"stores\"", "stores = 1", "101 BadEntry stores"),
+    ("logs = \"a folder\"\n", "", "101 BadEntry logs"),
+    ("port = 2000\n", "", "101 BadEntry port"),
+    ("port = 2000", "port = 1023", "101 BadEntry port"),
+    ("port = 2000", "port = 1024", ""),
+    ("port = 2000", "port = 65000", ""),
+    ("port = 2000", "port = 65001", "101 BadEntry port"),
+    ("port = 2000", "port = \"2000\"", "101 BadEntry port"),
+    ("back = 5", "back = 6", "101 BadEntry outage"),
+    ("back = 5", "back = 1", "101 BadEntry outage"),
+    ("node = 1", "node = 3", "101 BadEntry outage"),
+    ("node = 1", "node = 0", ""),
+    ("at = 5}", "at = -5}", "101 BadEntry outage"),
+    (", at = 5}", "}", "101 BadEntry outage"),
+    (
+        "outage = [{node = 0, at = 1, back = 5}, {node = 1, at = 5}]",
+        "outage = 1",
+        "101 BadEntry outage",
+    ),
+    (
+        "outage = [{node = 0, at = 1, back = 5}, {node = 1, at = 5}]\n",
+        "",
+        "",
+    ),
+];
 
 #[test]
 fn each_key_of_serving_is_told(rt: HostRuntime) -> Result<(), Fail> {
     let alloc = rt.alloc();
-    let cases = [
-        ("stores = \"stores\"\n", "", "101 BadEntry stores"),
-        ("stores = \"stores\"", "stores = 1", "101 BadEntry stores"),
-        ("logs = \"a folder\"\n", "", "101 BadEntry logs"),
-        ("port = 2000\n", "", "101 BadEntry port"),
-        ("port = 2000", "port = 1023", "101 BadEntry port"),
-        ("port = 2000", "port = 1024", ""),
-        ("port = 2000", "port = 65000", ""),
-        ("port = 2000", "port = 65001", "101 BadEntry port"),
-        ("port = 2000", "port = \"2000\"", "101 BadEntry port"),
-        ("back = 5", "back = 6", "101 BadEntry outage"),
-        ("back = 5", "back = 1", "101 BadEntry outage"),
-        ("node = 1", "node = 3", "101 BadEntry outage"),
-        ("node = 1", "node = 0", ""),
-        ("at = 5}", "at = -5}", "101 BadEntry outage"),
-        (", at = 5}", "}", "101 BadEntry outage"),
-        (
-            "outage = [{node = 0, at = 1, back = 5}, {node = 1, at = 5}]",
-            "outage = 1",
-            "101 BadEntry outage",
-        ),
-        (
-            "outage = [{node = 0, at = 1, back = 5}, {node = 1, at = 5}]\n",
-            "",
-            "",
-        ),
-    ];
-    for (old, new, expected) in cases {
-        let text = with(alloc, SERVED, old, new)?;
-        assert_eq!(rt;
-            told_of_service(alloc, text.as_str())?.as_str(),
-            expected,
-            "{new}"
-        );
+    for (old, new, expected) in SERVED_CHANGES {
+        let fault = fault_of_service_with(alloc, old, new)?;
+        prints(&rt, alloc, fault, expected, new)?;
     }
     Ok(())
 }
 
 /// Whether a text ends with an answer that is named: a match, or a fault of a match file.
 fn ends_with_a_name(alloc: Global, text: &[u8]) -> bool {
-    let outcome = match file(alloc, text) {
-        Ok(file) => file.config(alloc, Some(L2)),
-        Err(fault) => Err(fault),
-    };
-    match outcome {
-        Ok(_) => true,
-        Err(fault) => [100, 101].contains(&fault.code()),
+    match fault_of(alloc, text, Some(L2)) {
+        None => true,
+        Some(fault) => [100, 101].contains(&fault.code()),
     }
 }
 
