@@ -1,4 +1,5 @@
-use crate::samples::L2;
+use crate::samples::{L2, ten_ace};
+use card_core::Deal;
 use dealer_kind::Config;
 use match_file::{Key, MatchFault, MatchFile, Outage, Service};
 use std::alloc::{AllocError, Global};
@@ -89,28 +90,32 @@ fn with(alloc: Global, text: &str, old: &str, new: &str) -> Result<String, Alloc
     }
 }
 
-/// Sees the hands, the name, the game and the players of the match that is listed.
+/// Sees the hands, the name and the game of the match that is listed.
 fn says_what_is_listed(rt: &impl Abort, config: &Config) {
     assert_eq!(rt; config.hands(), 1);
     assert!(rt; config.name().as_bytes() == b"m1".as_slice());
     assert!(rt; config.game_word() == b"l2.game".as_slice());
-    assert_eq!(rt; config.names().as_slice().len(), 2);
-    assert!(rt; config.names().as_slice()[1].as_bytes() == b"bob".as_slice());
+}
+
+/// Sees the players of the match that is listed.
+fn seats_who_is_listed(rt: &impl Abort, config: &Config) {
+    let names = config.names().as_slice();
+    assert_eq!(rt; names.len(), 2);
+    assert!(rt; names[1].as_bytes() == b"bob".as_slice());
+}
+
+/// Sees what a node of a match deals in the first hand.
+fn deals(rt: &impl Abort, config: &Config, node: usize, deal: Deal) {
+    assert!(rt; node < config.nodes());
+    assert_eq!(rt; config.source(node).deal(0, 2), Some(deal));
 }
 
 /// Sees the nodes of the match that is listed: one deals what is written, the others what their seeds draw.
 fn deals_what_is_listed(rt: &impl Abort, config: &Config) {
     assert_eq!(rt; config.nodes(), 3);
-    let listed = config.source(0).deal(0, 2).expect(rt, "a deal");
-    assert_eq!(rt;
-        Some(listed),
-        matchstate::read_deal(b"TdAs|8hTc/2c8c3h/9c/Kh", 2)
-    );
-    assert_eq!(rt; config.source(1).deal(0, 2), Some(deck_draw::draw(0, 0, 2)));
-    assert_eq!(rt;
-        config.source(2).deal(0, 2),
-        Some(deck_draw::draw(9223372036854775807, 0, 2))
-    );
+    deals(rt, config, 0, ten_ace(rt));
+    deals(rt, config, 1, deck_draw::draw(0, 0, 2));
+    deals(rt, config, 2, deck_draw::draw(9223372036854775807, 0, 2));
 }
 
 #[test]
@@ -120,6 +125,7 @@ fn a_match_is_what_its_files_say(rt: HostRuntime) {
     assert_eq!(rt; file.game().expect(&rt, "a game"), "l2.game");
     let config = file.config(alloc, Some(L2)).expect(&rt, "a match");
     says_what_is_listed(&rt, &config);
+    seats_who_is_listed(&rt, &config);
     deals_what_is_listed(&rt, &config);
 }
 
@@ -130,7 +136,7 @@ fn fault_with(alloc: Global, old: &str, new: &str) -> Result<Option<MatchFault>,
 }
 
 /// A line of the match that is listed, another in its place, and what is told of that.
-const LISTED_CHANGES: [(&str, &str, &str); 22] = [
+static LISTED_CHANGES: [(&str, &str, &str); 22] = [
     ("name = \"m1\"", "name = \"\"", "101 BadEntry name"),
     ("name = \"m1\"", "name = 1", "101 BadEntry name"),
     ("name = \"m1\"\n", "", "101 BadEntry name"),
@@ -162,7 +168,7 @@ const LISTED_CHANGES: [(&str, &str, &str); 22] = [
 #[test]
 fn each_key_is_told_where_it_is_wrong(rt: HostRuntime) -> Result<(), Fail> {
     let alloc = rt.alloc();
-    for (old, new, expected) in LISTED_CHANGES {
+    for &(old, new, expected) in &LISTED_CHANGES {
         let fault = fault_with(alloc, old, new)?;
         prints(&rt, alloc, fault, expected, old)?;
     }
@@ -195,7 +201,7 @@ fn fault_of_game(rt: &impl Abort, alloc: Global, text: &[u8]) -> Option<MatchFau
 }
 
 #[test]
-fn a_game_without_a_name_is_told(rt: HostRuntime) -> Result<(), Fail> {
+fn a_game_that_is_no_text_is_told(rt: HostRuntime) -> Result<(), Fail> {
     let alloc = rt.alloc();
     let no_game = with(alloc, LISTED, "\"l2.game\"", "7")?;
     let fault = fault_of(alloc, no_game.as_bytes(), None);
@@ -251,7 +257,7 @@ fn fault_of_service_with(
 }
 
 /// A line of what is said for serving, another in its place, and what is told of that.
-const SERVED_CHANGES: [(&str, &str, &str); 17] = [
+static SERVED_CHANGES: [(&str, &str, &str); 17] = [
     ("stores = \"stores\"\n", "", "101 BadEntry stores"),
     ("stores = \"stores\"", "stores = 1", "101 BadEntry stores"),
     ("logs = \"a folder\"\n", "", "101 BadEntry logs"),
@@ -282,7 +288,7 @@ const SERVED_CHANGES: [(&str, &str, &str); 17] = [
 #[test]
 fn each_key_of_serving_is_told(rt: HostRuntime) -> Result<(), Fail> {
     let alloc = rt.alloc();
-    for (old, new, expected) in SERVED_CHANGES {
+    for &(old, new, expected) in &SERVED_CHANGES {
         let fault = fault_of_service_with(alloc, old, new)?;
         prints(&rt, alloc, fault, expected, new)?;
     }
