@@ -67,59 +67,96 @@ fn put(
     log.put(slot, command)
 }
 
-#[test]
-fn a_match_of_two_hands(rt: HostRuntime) -> Result<(), Fail> {
-    let game = game(&rt, L2);
-    let mut table = Table::new(rt.alloc(), game, 2);
-    assert!(rt; table.game().players() == 2);
-    assert!(rt; table.hands() == 2);
+/// Sees what a command does.
+fn does(
+    rt: &impl Abort,
+    table: &mut Table,
+    command: &Command,
+    wanted: Effect,
+) -> Result<(), AllocError> {
+    let effect = applied(table, command)?;
+    assert!(rt; effect == wanted);
+    Ok(())
+}
+
+/// The actions of a first hand that is called to its end, `rrrc/cc/cc/cc`.
+static CALLED: [Action; 10] = [
+    Action::Raise(20),
+    Action::Raise(30),
+    Action::Raise(40),
+    Action::Call,
+    Action::Call,
+    Action::Call,
+    Action::Call,
+    Action::Call,
+    Action::Call,
+    Action::Call,
+];
+
+/// Deals the first hand into room that is made for it.
+fn deal_reserved(rt: &impl Abort, table: &mut Table, deal: Deal) -> Result<(), AllocError> {
     table.reserve(1)?;
-    let [first, second] = [ten_ace(&rt), second_deal(&rt)];
-    let deal = Command::Deal {
-        hand: 0,
-        deal: first,
-    };
-    assert!(rt; reason(&table, &deal) == (true, None));
+    let deal = Command::Deal { hand: 0, deal };
+    assert!(rt; reason(table, &deal) == (true, None));
     assert!(rt; table.apply_reserved(&deal) == Effect::Dealt);
-    assert!(rt; course(&table) == (1, 0, true, false));
-    // betting `rrrc/cc/cc/cc`
-    let actions = [
-        Action::Raise(20),
-        Action::Raise(30),
-        Action::Raise(40),
-        Action::Call,
-        Action::Call,
-        Action::Call,
-        Action::Call,
-        Action::Call,
-        Action::Call,
-        Action::Call,
-    ];
+    assert!(rt; course(table) == (1, 0, true, false));
+    Ok(())
+}
+
+/// Calls the first hand to its end.
+fn call_to_the_end(rt: &impl Abort, table: &mut Table) -> Result<(), AllocError> {
     for index in 0..10 {
-        let command = act(0, index as u16, actions[index]);
+        let command = act(0, index as u16, CALLED[index]);
         let effect = if index < 9 {
             Effect::Acted
         } else {
             Effect::HandOver
         };
-        assert!(rt; applied(&mut table, &command)? == effect, "at {index}");
+        assert!(rt; applied(table, &command)? == effect, "at {index}");
     }
-    assert!(rt; course(&table) == (1, 1, false, false));
-    let deal = Command::Deal {
-        hand: 1,
-        deal: second,
-    };
-    assert!(rt; applied(&mut table, &deal)? == Effect::Dealt);
-    assert!(rt; applied(&mut table, &act(1, 0, Action::Fold))? == Effect::MatchOver);
-    assert!(rt; course(&table) == (2, 2, false, true));
-    // every finished hand is kept
-    assert!(rt; dealt(&table, 0) == Some(first));
-    assert!(rt; dealt(&table, 1) == Some(second));
-    assert!(rt; dealt(&table, 2).is_none());
-    let play = table.play(0).ok_or("the first hand")?;
+    assert!(rt; course(table) == (1, 1, false, false));
+    Ok(())
+}
+
+/// Deals the second hand of two and folds it.
+fn deal_and_fold(rt: &impl Abort, table: &mut Table, deal: Deal) -> Result<(), AllocError> {
+    does(rt, table, &Command::Deal { hand: 1, deal }, Effect::Dealt)?;
+    does(rt, table, &act(1, 0, Action::Fold), Effect::MatchOver)?;
+    assert!(rt; course(table) == (2, 2, false, true));
+    Ok(())
+}
+
+/// Plays both hands of a match.
+fn play_both_hands(
+    rt: &impl Abort,
+    table: &mut Table,
+    first: Deal,
+    second: Deal,
+) -> Result<(), AllocError> {
+    deal_reserved(rt, table, first)?;
+    call_to_the_end(rt, table)?;
+    deal_and_fold(rt, table, second)
+}
+
+/// Sees that every finished hand is kept.
+fn keeps_both_hands(rt: &impl Abort, table: &Table, first: Deal, second: Deal) {
+    assert!(rt; dealt(table, 0) == Some(first));
+    assert!(rt; dealt(table, 1) == Some(second));
+    assert!(rt; dealt(table, 2).is_none());
+    let play = table.play(0).expect(rt, "the first hand");
     assert!(rt; play.finished());
-    assert!(rt; play.actions() == actions.as_slice());
+    assert!(rt; play.actions() == CALLED.as_slice());
     assert!(rt; table.play(2).is_none());
+}
+
+#[test]
+fn a_match_of_two_hands(rt: HostRuntime) -> Result<(), Fail> {
+    let [first, second] = [ten_ace(&rt), second_deal(&rt)];
+    let mut table = Table::new(rt.alloc(), game(&rt, L2), 2);
+    assert!(rt; table.game().players() == 2);
+    assert!(rt; table.hands() == 2);
+    play_both_hands(&rt, &mut table, first, second)?;
+    keeps_both_hands(&rt, &table, first, second);
     Ok(())
 }
 
@@ -213,36 +250,75 @@ fn assert_known(rt: &impl Abort, log: &SlotLog, front: u32, known: [bool; 6]) {
     }
 }
 
+/// Makes the call whose index is the slot's number known at the slot.
+fn put_call(rt: &impl Abort, log: &mut SlotLog, slot: u16) -> Result<(), AllocError> {
+    let known = put(log, u32::from(slot), act(0, slot, Action::Call))?;
+    assert!(rt; known.is_ok());
+    Ok(())
+}
+
+/// The same with room that is made before.
+fn put_call_reserved(rt: &impl Abort, log: &mut SlotLog, slot: u16) -> Result<(), AllocError> {
+    log.reserve(1)?;
+    let known = log.put_reserved(u32::from(slot), act(0, slot, Action::Call));
+    assert!(rt; known.is_ok());
+    Ok(())
+}
+
+/// Sees that a command isn't made known at a slot.
+fn refuses(
+    rt: &impl Abort,
+    log: &mut SlotLog,
+    slot: u32,
+    command: Command,
+    fault: SlotFault,
+) -> Result<(), AllocError> {
+    let refused = put(log, slot, command)?;
+    assert!(rt; refused == Err(fault));
+    Ok(())
+}
+
 #[test]
 fn slots_are_known_one_by_one(rt: HostRuntime) -> Result<(), Fail> {
     let mut log = SlotLog::new(rt.alloc());
     assert_known(&rt, &log, 0, [false; 6]);
-    assert!(rt; put(&mut log, 3, act(0, 3, Action::Call))?.is_ok());
-    assert!(rt; put(&mut log, 1, act(0, 1, Action::Call))?.is_ok());
+    put_call(&rt, &mut log, 3)?;
+    put_call(&rt, &mut log, 1)?;
     assert_known(&rt, &log, 0, [false, true, false, true, false, false]);
     assert!(rt; log.run_with(0) == 2);
     assert!(rt; log.run_with(2) == 0);
-    assert!(rt; put(&mut log, 0, act(0, 0, Action::Call))?.is_ok());
+    put_call(&rt, &mut log, 0)?;
     assert_known(&rt, &log, 2, [true, true, false, true, false, false]);
-    log.reserve(1)?;
-    assert!(rt; log.put_reserved(2, act(0, 2, Action::Call)).is_ok());
+    put_call_reserved(&rt, &mut log, 2)?;
     assert_known(&rt, &log, 4, [true, true, true, true, false, false]);
+    Ok(())
+}
+
+/// Makes calls known at the slots 0 and 2, where the same can then be put again and nothing else.
+fn put_again(rt: &impl Abort, log: &mut SlotLog) -> Result<(), AllocError> {
+    put_call(rt, log, 0)?;
+    put_call(rt, log, 2)?;
+    for slot in [0, 2] {
+        put_call(rt, log, slot)?;
+        let other = act(0, slot, Action::Fold);
+        refuses(rt, log, u32::from(slot), other, SlotFault::Conflict)?;
+    }
+    Ok(())
+}
+
+/// Puts a call behind the last slot, which is refused, and one at the last slot.
+fn spend_slots(rt: &impl Abort, log: &mut SlotLog) -> Result<(), AllocError> {
+    let beyond = act(0, 0, Action::Call);
+    refuses(rt, log, 4_000_000, beyond, SlotFault::SlotsSpent)?;
+    assert!(rt; put(log, 3_999_999, act(0, 0, Action::Call))?.is_ok());
     Ok(())
 }
 
 #[test]
 fn what_is_known_stays(rt: HostRuntime) -> Result<(), Fail> {
     let mut log = SlotLog::new(rt.alloc());
-    assert!(rt; put(&mut log, 0, act(0, 0, Action::Call))?.is_ok());
-    assert!(rt; put(&mut log, 2, act(0, 2, Action::Call))?.is_ok());
-    for slot in [0, 2] {
-        assert!(rt; put(&mut log, slot, act(0, slot as u16, Action::Call))?.is_ok());
-        let other = put(&mut log, slot, act(0, slot as u16, Action::Fold))?;
-        assert!(rt; other == Err(SlotFault::Conflict));
-    }
-    let beyond = put(&mut log, 4_000_000, act(0, 0, Action::Call))?;
-    assert!(rt; beyond == Err(SlotFault::SlotsSpent));
-    assert!(rt; put(&mut log, 3_999_999, act(0, 0, Action::Call))?.is_ok());
+    put_again(&rt, &mut log)?;
+    spend_slots(&rt, &mut log)?;
     assert_known(&rt, &log, 1, [true, false, true, false, false, false]);
     Ok(())
 }
