@@ -5,7 +5,7 @@ use paxos_wire::{
     write_ballot, write_ballot_reserved, write_command, write_command_reserved,
 };
 use slot_log::Command;
-use std::alloc::Global;
+use std::alloc::{AllocError, Global};
 use std::process::Abort;
 use std::test::Fail;
 
@@ -92,6 +92,26 @@ fn full_promise(alloc: Global) -> Result<Vec<u8>, Fail> {
     Ok(bytes)
 }
 
+/// Sees that a frame that comes in two pieces is read as this message once the second is there, and nothing else is.
+fn reads_in_pieces(
+    rt: &impl Abort,
+    alloc: Global,
+    front: &[u8],
+    behind: &[u8],
+    whole: &Message,
+) -> Result<(), AllocError> {
+    let mut feed = Feed::new(alloc);
+    feed.feed(front)?;
+    assert!(rt; feed.next().is_none());
+    feed.feed(behind)?;
+    match feed.next() {
+        Some(Ok(message)) => assert!(rt; message == *whole),
+        _ => assert!(rt; false),
+    }
+    assert!(rt; feed.next().is_none());
+    Ok(())
+}
+
 #[test]
 fn the_longest_promise_reads_the_same_cut_at_any_place(rt: HostRuntime) -> Result<(), Fail> {
     let bytes = full_promise(rt.alloc())?;
@@ -101,37 +121,54 @@ fn the_longest_promise_reads_the_same_cut_at_any_place(rt: HostRuntime) -> Resul
     encode(&mut out, &whole)?;
     assert!(rt; out.as_slice() == bytes.as_slice());
     for cut in 0..bytes.len() {
-        let mut feed = Feed::new(rt.alloc());
-        feed.feed(&bytes[..cut])?;
-        assert!(rt; feed.next().is_none());
-        feed.feed(&bytes[cut..])?;
-        match feed.next() {
-            Some(Ok(message)) => assert!(rt; message == whole),
-            _ => assert!(rt; false),
-        }
-        assert!(rt; feed.next().is_none());
+        reads_in_pieces(&rt, rt.alloc(), &bytes[..cut], &bytes[cut..], &whole)?;
     }
+    Ok(())
+}
+
+/// Gives a feed a piece that ends no frame.
+fn wants_more(rt: &impl Abort, feed: &mut Feed, piece: &[u8]) -> Result<(), AllocError> {
+    feed.feed(piece)?;
+    assert!(rt; feed.next().is_none());
+    Ok(())
+}
+
+/// Gives a feed a piece that it is at fault behind.
+fn is_at_fault(
+    rt: &impl Abort,
+    feed: &mut Feed,
+    piece: &[u8],
+    fault: FrameFault,
+) -> Result<(), AllocError> {
+    feed.feed(piece)?;
+    assert!(rt; feed.next() == Some(Err(fault)));
+    Ok(())
+}
+
+/// Gives a feed that has a length in front all bytes of its frame but one.
+fn feed_all_but_one(rt: &impl Abort, feed: &mut Feed) -> Result<(), AllocError> {
+    for _ in 0..4095u16 {
+        feed.feed(&[1])?;
+    }
+    assert!(rt; feed.next().is_none());
     Ok(())
 }
 
 #[test]
 fn lengths_at_their_limits(rt: HostRuntime) -> Result<(), Fail> {
     let mut feed = Feed::new(rt.alloc());
-    feed.feed(&[0, 0, 0x10])?;
-    assert!(rt; feed.next().is_none());
-    feed.feed(&[0])?;
-    assert!(rt; feed.next().is_none());
-    for _ in 0..4095u16 {
-        feed.feed(&[1])?;
-    }
-    assert!(rt; feed.next().is_none());
-    feed.feed(&[1])?;
-    assert!(rt; feed.next() == Some(Err(FrameFault::BadBody)));
+    wants_more(&rt, &mut feed, &[0, 0, 0x10])?;
+    wants_more(&rt, &mut feed, &[0])?;
+    feed_all_but_one(&rt, &mut feed)?;
+    is_at_fault(&rt, &mut feed, &[1], FrameFault::BadBody)?;
+    Ok(())
+}
+
+#[test]
+fn a_length_above_the_limit_stays_at_fault(rt: HostRuntime) -> Result<(), Fail> {
     let mut long = Feed::new(rt.alloc());
-    long.feed(&[0, 0, 0x10, 1])?;
-    assert!(rt; long.next() == Some(Err(FrameFault::TooLong)));
-    long.feed(&PREPARE)?;
-    assert!(rt; long.next() == Some(Err(FrameFault::TooLong)));
+    is_at_fault(&rt, &mut long, &[0, 0, 0x10, 1], FrameFault::TooLong)?;
+    is_at_fault(&rt, &mut long, &PREPARE, FrameFault::TooLong)?;
     Ok(())
 }
 
@@ -144,62 +181,117 @@ fn a_piece_goes_into_room_that_was_reserved(rt: HostRuntime) -> Result<(), Fail>
     Ok(())
 }
 
+/// Owned copies of the pieces of a stream.
+fn owned(alloc: Global, pieces: &[&[u8]]) -> Result<Vec<Vec<u8>>, AllocError> {
+    let mut copies = Vec::new(alloc);
+    for piece in pieces {
+        copies.push(Vec::from_slice(alloc, piece)?)?;
+    }
+    Ok(copies)
+}
+
 #[test]
 fn a_stream_in_pieces(rt: HostRuntime) -> Result<(), Fail> {
-    let mut pieces = Vec::new(rt.alloc());
-    pieces.push(Vec::from_slice(rt.alloc(), &PREPARE)?)?;
-    pieces.push(Vec::from_slice(rt.alloc(), &FORWARD[..7])?)?;
-    pieces.push(Vec::from_slice(rt.alloc(), &FORWARD[7..])?)?;
-    pieces.push(Vec::from_slice(rt.alloc(), &[0, 0, 0, 2, 1, 9])?)?;
+    let pieces = [
+        &PREPARE[..],
+        &FORWARD[..7],
+        &FORWARD[7..],
+        &[0, 0, 0, 2, 1, 9][..],
+    ];
+    let pieces = owned(rt.alloc(), &pieces)?;
     let (messages, fault) = read_stream(rt.alloc(), &pieces)?;
     assert_eq!(rt; messages.len(), 2);
     assert!(rt; fault == Some(FrameFault::BadKind));
     Ok(())
 }
 
+/// The ballot of a record.
+const BALLOT: Ballot = Ballot { round: 1, node: 0 };
+
+/// The command of a record.
+const CALL: Command = Command::Act {
+    hand: 0,
+    index: 0,
+    action: Action::Call,
+};
+
+/// Writes the ballot and the command behind it.
+fn write_record(out: &mut Vec<u8>) -> Result<(), AllocError> {
+    write_ballot(out, BALLOT)?;
+    write_command(out, &CALL)
+}
+
+/// Writes the same into room that is made before.
+fn write_record_reserved(out: &mut Vec<u8>) -> Result<(), AllocError> {
+    out.reserve(17)?;
+    write_ballot_reserved(out, BALLOT);
+    write_command_reserved(out, &CALL);
+    Ok(())
+}
+
+/// Sees that bytes are those of the ballot and of the command behind it.
+fn reads_record(rt: &impl Abort, bytes: &[u8]) {
+    let (read, rest) = read_ballot(bytes).expect(rt, "a ballot is in front");
+    assert_eq!(rt; read, BALLOT);
+    assert!(rt; rest.len() == 12);
+    assert!(rt; read_command(rest).is_some());
+    assert!(rt; bytes.starts_with(&ballot_bytes(BALLOT)));
+    assert!(rt; command_bytes(&CALL).as_slice() == rest);
+}
+
 #[test]
 fn ballots_and_commands_of_a_record(rt: HostRuntime) -> Result<(), Fail> {
-    let ballot = Ballot { round: 1, node: 0 };
-    let command = Command::Act {
-        hand: 0,
-        index: 0,
-        action: Action::Call,
-    };
     let mut out = Vec::new(rt.alloc());
-    write_ballot(&mut out, ballot)?;
-    write_command(&mut out, &command)?;
-    out.reserve(17)?;
-    write_ballot_reserved(&mut out, ballot);
-    write_command_reserved(&mut out, &command);
+    write_record(&mut out)?;
+    write_record_reserved(&mut out)?;
+    assert_eq!(rt; out.len(), 34);
     assert!(rt; out[..17] == out[17..]);
     out.truncate(17);
     assert!(rt; out.as_slice() == [0, 0, 0, 1, 0, 2, 0, 0, 0, 0, 0, 0, 1, 0, 0, 0, 0].as_slice());
-    let (read, rest) = read_ballot(&out).ok_or("a ballot is in front")?;
-    assert_eq!(rt; read, ballot);
-    assert!(rt; rest.len() == 12);
-    assert!(rt; read_command(rest).is_some());
-    assert!(rt; ballot_bytes(ballot)[..] == out[..5]);
-    assert!(rt; command_bytes(&command).as_slice() == rest);
-    assert!(rt; slot_bytes(3_999_999)[..] == [0, 0x3d, 8, 0xff][..]);
-    assert!(rt; read_slot(&[0, 0x3d, 8, 0xff]).is_some());
-    assert!(rt; read_slot(&[0, 0x3d, 9, 0]).is_none());
+    reads_record(&rt, &out);
     Ok(())
 }
 
 #[test]
+fn slots_of_a_record(rt: HostRuntime) {
+    assert!(rt; slot_bytes(3_999_999)[..] == [0, 0x3d, 8, 0xff][..]);
+    assert!(rt; read_slot(&[0, 0x3d, 8, 0xff]).is_some());
+    assert!(rt; read_slot(&[0, 0x3d, 9, 0]).is_none());
+}
+
+/// Sees what is printed of a message.
+fn prints(rt: &impl Abort, alloc: Global, message: &Message, line: &str) -> Result<(), AllocError> {
+    let printed = format!(in alloc; "{message}")?;
+    assert_eq!(rt; printed.as_str(), line);
+    Ok(())
+}
+
+/// Sees what is printed of the message of these bytes.
+fn prints_frame(
+    rt: &impl Abort,
+    alloc: Global,
+    frame: &[u8],
+    line: &str,
+) -> Result<(), AllocError> {
+    let message = decode(frame).ok().expect(rt, "the bytes are a frame");
+    prints(rt, alloc, &message, line)
+}
+
+#[test]
 fn messages_print_on_one_line(rt: HostRuntime) -> Result<(), Fail> {
-    let accept = decode(&ACCEPT).ok().ok_or("the bytes are a frame")?;
-    let forward = decode(&FORWARD).ok().ok_or("the bytes are a frame")?;
-    let promise = decode(&PROMISE).ok().ok_or("the bytes are a frame")?;
-    for (message, line) in [
-        (prepare(), "Prepare (1, 0) from 0"),
-        (accept, "Accept (1, 0) at 0: deal of hand 0"),
-        (forward, "Forward act 0 of hand 0: call"),
-        (promise, "Promise (2, 2) from 0: 1 accepted"),
+    prints(&rt, rt.alloc(), &prepare(), "Prepare (1, 0) from 0")?;
+    for (frame, line) in [
+        (&ACCEPT[..], "Accept (1, 0) at 0: deal of hand 0"),
+        (&FORWARD[..], "Forward act 0 of hand 0: call"),
+        (&PROMISE[..], "Promise (2, 2) from 0: 1 accepted"),
     ] {
-        let printed = format!(in rt.alloc(); "{message}")?;
-        assert_eq!(rt; printed.as_str(), line);
+        prints_frame(&rt, rt.alloc(), frame, line)?;
     }
+    Ok(())
+}
+
+#[test]
+fn a_fault_prints_its_number_and_name(rt: HostRuntime) -> Result<(), Fail> {
     let fault = FrameFault::BadBody;
     assert_eq!(rt; fault.code(), 54);
     assert_eq!(rt; format!(in rt.alloc(); "{fault}")?.as_str(), "54 BadBody");
