@@ -1,18 +1,32 @@
-use crate::rounds::{Step, assert_letter, played};
+use crate::rounds::{Due, Seen, Step, assert_arrived, assert_letters, assert_node, played};
 use crate::samples::{ACCEPT, ACCEPTED, PREPARE, PROMISE};
+use std::process::Abort;
 use std::test::Fail;
+
+/// The frames of the first round of node 0 with node 1, by their numbers among all that are sent.
+const SENT_IN_ROUND: &[Due<'_>] = &[
+    (0, (0, 1), PREPARE, 0),
+    (2, (1, 0), PROMISE, 0),
+    (3, (0, 1), ACCEPT, 0),
+    (7, (1, 0), ACCEPTED, 0),
+];
+
+/// The same by their numbers among those that reach a node, each with how many had been sent before.
+const ARRIVED_IN_ROUND: &[Due<'_>] = &[
+    (0, (0, 1), PREPARE, 2),
+    (1, (1, 0), PROMISE, 3),
+    (2, (0, 1), ACCEPT, 7),
+    (3, (1, 0), ACCEPTED, 9),
+];
 
 /// On three nodes at rest a tick and four deliveries move the ticking node one slot on.
 #[test]
 fn a_tick_and_four_deliveries_deal(rt: HostRuntime) -> Result<(), Fail> {
     let seen = played(&rt, rt.alloc(), 3, &[Step::Round(0, &[1])])?;
-    assert_letter(&rt, &seen.sent, 0, (0, 1), PREPARE, 0);
-    assert_letter(&rt, &seen.sent, 2, (1, 0), PROMISE, 0);
-    assert_letter(&rt, &seen.sent, 3, (0, 1), ACCEPT, 0);
-    assert_letter(&rt, &seen.sent, 7, (1, 0), ACCEPTED, 0);
-    assert!(rt; seen.nodes.first().copied() == Some((1, Some(0))));
-    assert!(rt; seen.nodes.get(1).copied() == Some((0, None)));
-    assert_eq!(rt; seen.arrived.len(), 4);
+    assert_letters(&rt, &seen.sent, SENT_IN_ROUND);
+    assert_node(&rt, &seen, 0, (1, Some(0)));
+    assert_node(&rt, &seen, 1, (0, None));
+    assert_arrived(&rt, &seen, 4);
     Ok(())
 }
 
@@ -20,12 +34,9 @@ fn a_tick_and_four_deliveries_deal(rt: HostRuntime) -> Result<(), Fail> {
 #[test]
 fn a_round_is_run_at_once(rt: HostRuntime) -> Result<(), Fail> {
     let seen = played(&rt, rt.alloc(), 3, &[Step::FirstRound])?;
-    assert!(rt; seen.nodes.first().copied() == Some((1, Some(0))));
-    assert_eq!(rt; seen.arrived.len(), 4);
-    assert_letter(&rt, &seen.arrived, 0, (0, 1), PREPARE, 2);
-    assert_letter(&rt, &seen.arrived, 1, (1, 0), PROMISE, 3);
-    assert_letter(&rt, &seen.arrived, 2, (0, 1), ACCEPT, 7);
-    assert_letter(&rt, &seen.arrived, 3, (1, 0), ACCEPTED, 9);
+    assert_node(&rt, &seen, 0, (1, Some(0)));
+    assert_arrived(&rt, &seen, 4);
+    assert_letters(&rt, &seen.arrived, ARRIVED_IN_ROUND);
     Ok(())
 }
 
@@ -33,8 +44,8 @@ fn a_round_is_run_at_once(rt: HostRuntime) -> Result<(), Fail> {
 #[test]
 fn a_tick_and_eight_deliveries_deal_among_five(rt: HostRuntime) -> Result<(), Fail> {
     let seen = played(&rt, rt.alloc(), 5, &[Step::Round(0, &[1, 2])])?;
-    assert!(rt; seen.nodes.first().copied() == Some((1, Some(0))));
-    assert_eq!(rt; seen.arrived.len(), 8);
+    assert_node(&rt, &seen, 0, (1, Some(0)));
+    assert_arrived(&rt, &seen, 8);
     Ok(())
 }
 
@@ -49,7 +60,7 @@ fn a_round_takes_up_what_was_accepted(rt: HostRuntime) -> Result<(), Fail> {
         Step::Round(2, &[1]),
     ];
     let seen = played(&rt, rt.alloc(), 3, &steps)?;
-    assert!(rt; seen.nodes.get(2).copied() == Some((1, Some(0))));
+    assert_node(&rt, &seen, 2, (1, Some(0)));
     Ok(())
 }
 
@@ -58,11 +69,18 @@ fn a_round_takes_up_what_was_accepted(rt: HostRuntime) -> Result<(), Fail> {
 fn two_of_five_nodes_may_be_down(rt: HostRuntime) -> Result<(), Fail> {
     let steps = [Step::Stop(1), Step::Stop(4), Step::Round(2, &[0, 3])];
     let seen = played(&rt, rt.alloc(), 5, &steps)?;
-    assert!(rt; seen.nodes.get(2).copied() == Some((1, Some(2))));
-    assert!(rt; seen.nodes.get(1).copied() == Some((0, None)));
-    assert!(rt; seen.nodes.get(4).copied() == Some((0, None)));
-    assert_eq!(rt; seen.arrived.len(), 8);
+    assert_node(&rt, &seen, 2, (1, Some(2)));
+    assert_node(&rt, &seen, 1, (0, None));
+    assert_node(&rt, &seen, 4, (0, None));
+    assert_arrived(&rt, &seen, 8);
     Ok(())
+}
+
+/// Asserts both logs that are seen of node 1.
+fn assert_logs(rt: &impl Abort, seen: &Seen, due: [&[u8]; 2]) {
+    let [first, second] = &seen.logs;
+    assert!(rt; first.as_slice() == due[0]);
+    assert!(rt; second.as_slice() == due[1]);
 }
 
 /// The log of a start begins with its header, and is put behind what stands there; that of a start that never was is
@@ -70,8 +88,10 @@ fn two_of_five_nodes_may_be_down(rt: HostRuntime) -> Result<(), Fail> {
 #[test]
 fn a_log_is_put_behind_a_text(rt: HostRuntime) -> Result<(), Fail> {
     let seen = played(&rt, rt.alloc(), 3, &[])?;
-    let [first, second] = &seen.logs;
-    assert!(rt; first.as_slice() == b"log: # name/game/hands m1 l2.game 1\n".as_slice());
-    assert!(rt; second.as_slice() == b"log: ".as_slice());
+    assert_logs(
+        &rt,
+        &seen,
+        [b"log: # name/game/hands m1 l2.game 1\n", b"log: "],
+    );
     Ok(())
 }

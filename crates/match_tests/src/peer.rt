@@ -4,7 +4,7 @@ ghost use Rattle.std.specs.Prelude.{◌≡◌};
 ghost use Rattle.dealer_node.specs.Seeing.{post_in};
 
 use crate::samples::one_hand;
-use dealer_node::{Node, NodeFault, Out, Reader};
+use dealer_node::{Node, NodeFault, Out, Reader, Reading};
 use promise_store::OnceDisk;
 use std::alloc::Global;
 use std::process::Abort;
@@ -20,7 +20,7 @@ pub(crate) struct Peer {
 
 impl Peer {
     /// A node that is down, over an empty disk whose call of this number fails; with 0 none does.
-    fn new(rt: &impl Abort, alloc: Global, call: u64) -> Result<Peer, Fail> {
+    fn new(rt: &impl Abort, alloc: Global, call: u64) -> Result<Peer, NodeFault> {
         let config = one_hand(rt, alloc, 3)?;
         assert!(rt; config.nodes() == 3);
         assert!(rt; config.game().players() == 2);
@@ -31,10 +31,15 @@ impl Peer {
     /// The same with a new store, which is made once more where the disk failed.
     pub(crate) fn created(rt: &impl Abort, alloc: Global, call: u64) -> Result<Peer, Fail> {
         let mut peer = Peer::new(rt, alloc, call)?;
-        if peer.create(rt).is_err() {
-            assert!(rt; peer.create(rt).is_ok());
-        }
+        peer.create_at_last(rt);
         Ok(peer)
+    }
+
+    /// Makes a new store, once more where the disk failed.
+    fn create_at_last(&mut self, rt: &impl Abort) {
+        if self.create(rt).is_err() {
+            assert!(rt; self.create(rt).is_ok());
+        }
     }
 
     /// Makes a new store.
@@ -84,20 +89,24 @@ impl Peer {
     }
 }
 
+/// Asserts that these bytes are read, each for whom it is due, and no others.
+fn assert_read<T: Copy + PartialEq + Drop>(
+    rt: &impl Abort,
+    mut read: Reading<'_, T>,
+    due: &[(T, &[u8])],
+) {
+    for (whom, bytes) in due.iter() {
+        assert!(rt; read.next() == Some((*whom, *bytes)));
+    }
+    assert!(rt; read.next().is_none());
+}
+
 /// Asserts that these frames were sent, each to its node, and no others.
 pub(crate) fn assert_sent(rt: &impl Abort, out: &Out, due: &[(u8, &[u8])]) {
-    let mut sent = out.frames();
-    for (to, bytes) in due.iter() {
-        assert!(rt; sent.next() == Some((*to, *bytes)));
-    }
-    assert!(rt; sent.next().is_none());
+    assert_read(rt, out.frames(), due);
 }
 
 /// Asserts that these texts were shown, each to its reader, and no others.
 pub(crate) fn assert_shown(rt: &impl Abort, out: &Out, due: &[(Reader, &[u8])]) {
-    let mut shown = out.shown();
-    for (reader, text) in due.iter() {
-        assert!(rt; shown.next() == Some((*reader, *text)));
-    }
-    assert!(rt; shown.next().is_none());
+    assert_read(rt, out.shown(), due);
 }

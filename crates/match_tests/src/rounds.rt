@@ -298,10 +298,10 @@ fn cluster_over<D: Disk + Drop>(
     rt: &impl Abort,
     alloc: Global,
     disks: Vec<D>,
-) -> Result<Cluster<D>, Fail> {
+) -> Result<Cluster<D>, NodeFault> {
     let config = one_hand(rt, alloc, disks.len())?;
     assert!(rt; disks.len() == config.nodes());
-    Ok(Cluster::new(alloc, config, disks)?)
+    Cluster::new(alloc, config, disks)
 }
 
 /// Does these steps, one after another; none of them is refused.
@@ -317,16 +317,35 @@ fn take_all<D: Disk + Drop>(
     Ok(())
 }
 
-/// What is seen of a new cluster over these disks after these steps.
+/// What is seen of a cluster after these steps.
 fn seen_after<D: Disk + Drop>(
+    rt: &impl Abort,
+    alloc: Global,
+    cluster: &mut Cluster<D>,
+    steps: &[Step<'_>],
+) -> Result<Seen, NodeFault> {
+    take_all(rt, alloc, cluster, steps)?;
+    Ok(look(rt, alloc, cluster)?)
+}
+
+/// What is seen of a new cluster over these disks after these steps.
+fn played_over<D: Disk + Drop>(
     rt: &impl Abort,
     alloc: Global,
     disks: Vec<D>,
     steps: &[Step<'_>],
-) -> Result<Seen, Fail> {
+) -> Result<Seen, NodeFault> {
     let mut cluster = cluster_over(rt, alloc, disks)?;
-    take_all(rt, alloc, &mut cluster, steps)?;
-    Ok(look(rt, alloc, &cluster)?)
+    seen_after(rt, alloc, &mut cluster, steps)
+}
+
+/// So many disks in memory that never fail.
+fn disks(alloc: Global, nodes: usize) -> Result<Vec<OnceDisk>, AllocError> {
+    let mut disks = Vec::new(alloc);
+    for _ in 0..nodes {
+        disks.push(OnceDisk::new(alloc, 0))?;
+    }
+    Ok(disks)
 }
 
 /// What is seen of a new cluster of so many nodes over disks in memory that never fail, after these steps.
@@ -336,15 +355,15 @@ pub(crate) fn played(
     nodes: usize,
     steps: &[Step<'_>],
 ) -> Result<Seen, Fail> {
-    let mut disks = Vec::new(alloc);
-    for _ in 0..nodes {
-        disks.push(OnceDisk::new(alloc, 0))?;
-    }
-    seen_after(rt, alloc, disks, steps)
+    let disks = disks(alloc, nodes)?;
+    Ok(played_over(rt, alloc, disks, steps)?)
 }
 
+/// A frame that is due: its number, which way it goes, its bytes, and how many had been sent before it came.
+pub(crate) type Due<'a> = (usize, (u8, u8), &'a [u8], usize);
+
 /// Asserts that the frame of this number goes this way, has these bytes, and came, if it did, when so many had been sent.
-pub(crate) fn assert_letter(
+fn assert_letter(
     rt: &impl Abort,
     letters: &[Letter],
     number: usize,
@@ -356,4 +375,21 @@ pub(crate) fn assert_letter(
     assert!(rt; (letter.from, letter.to) == way, "frame {number}");
     assert_eq!(rt; letter.bytes.as_slice(), bytes, "frame {number}");
     assert_eq!(rt; letter.sent_before, sent_before, "frame {number}");
+}
+
+/// Asserts that these frames are as they are due.
+pub(crate) fn assert_letters(rt: &impl Abort, letters: &[Letter], due: &[Due<'_>]) {
+    for (number, way, bytes, sent_before) in due.iter() {
+        assert_letter(rt, letters, *number, *way, bytes, *sent_before);
+    }
+}
+
+/// Asserts how many frames reached a running node.
+pub(crate) fn assert_arrived(rt: &impl Abort, seen: &Seen, count: usize) {
+    assert_eq!(rt; seen.arrived.len(), count);
+}
+
+/// Asserts the front of a node, and whose deal it has.
+pub(crate) fn assert_node(rt: &impl Abort, seen: &Seen, node: usize, due: (u32, Option<usize>)) {
+    assert!(rt; seen.nodes.get(node).copied() == Some(due));
 }

@@ -4,9 +4,8 @@ use card_core::Deal;
 use dealer_kind::{Config, Source};
 use match_log::{Name, SeatNames};
 use matchstate::read_deal;
-use std::alloc::Global;
+use std::alloc::{AllocError, Global};
 use std::process::Abort;
-use std::test::Fail;
 
 /// Two players, limit.
 const L2: &[u8] = b"GAMEDEF
@@ -63,7 +62,7 @@ fn config(
     alloc: Global,
     hands: u32,
     sources: Vec<Source>,
-) -> Result<Config, Fail> {
+) -> Result<Config, AllocError> {
     let game = game_def::read(L2).expect(rt, "a game");
     let name = Name::new(b"m1").expect(rt, "a name");
     let word = b"l2.game".to_vec(alloc)?;
@@ -72,7 +71,7 @@ fn config(
 }
 
 /// A match of one hand by so many nodes, each of which has a deal of its own.
-pub(crate) fn one_hand(rt: &impl Abort, alloc: Global, nodes: usize) -> Result<Config, Fail> {
+pub(crate) fn one_hand(rt: &impl Abort, alloc: Global, nodes: usize) -> Result<Config, AllocError> {
     let mut sources = Vec::new(alloc);
     for node in 0..nodes {
         let deals = vec![in alloc; deal(rt, node)]?;
@@ -82,7 +81,7 @@ pub(crate) fn one_hand(rt: &impl Abort, alloc: Global, nodes: usize) -> Result<C
 }
 
 /// A match of two hands by three nodes, all of which have the same two deals.
-pub(crate) fn two_hands(rt: &impl Abort, alloc: Global) -> Result<Config, Fail> {
+pub(crate) fn two_hands(rt: &impl Abort, alloc: Global) -> Result<Config, AllocError> {
     let mut sources = Vec::new(alloc);
     for _ in 0..3 {
         let deals = vec![in alloc; deal(rt, 0), deal(rt, 1)]?;
