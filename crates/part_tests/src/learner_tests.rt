@@ -4,6 +4,7 @@ use crate::samples::{CALL, FOLD, RAISE, ballot};
 use learner::{Chosen, Learner};
 use paxos_wire::Ballot;
 use slot_log::{Command, SlotFault};
+use std::alloc::AllocError;
 use std::process::Abort;
 use std::test::Fail;
 
@@ -16,11 +17,11 @@ fn answered(
     ballot: Ballot,
     slot: u32,
     command: Command,
-) -> Result<Result<Option<Chosen>, SlotFault>, Fail>
+) -> Result<Result<Option<Chosen>, SlotFault>, AllocError>
     requires { from < learner.old.learned.nodes }
     ensures { learner.new.learned.nodes ≡ learner.old.learned.nodes }
 {
-    Ok(learner.on_accepted(from, ballot, slot, command)?)
+    learner.on_accepted(from, ballot, slot, command)
 }
 
 /// Counts a node's answer, which completes just what is told here.
@@ -32,7 +33,7 @@ fn counts(
     slot: u32,
     command: Command,
     told: Option<Chosen>,
-) -> Result<(), Fail>
+) -> Result<(), AllocError>
     requires { from < learner.old.learned.nodes }
     ensures { learner.new.learned.nodes ≡ learner.old.learned.nodes }
 {
@@ -46,10 +47,10 @@ fn believed(
     learner: &mut Learner,
     slot: u32,
     command: Command,
-) -> Result<Result<(), SlotFault>, Fail>
+) -> Result<Result<(), SlotFault>, AllocError>
     ensures { learner.new.learned.nodes ≡ learner.old.learned.nodes }
 {
-    Ok(learner.on_chosen(slot, command)?)
+    learner.on_chosen(slot, command)
 }
 
 /// The first slot that isn't known.
@@ -62,14 +63,22 @@ fn knows(learner: &Learner, slot: u32, command: &Command) -> bool {
     learner.log().get(slot) == Some(command)
 }
 
+/// Counts the same answer of node 1 of 3 three times, which completes nothing.
+fn counts_one_node_thrice(rt: &impl Abort, learner: &mut Learner) -> Result<(), AllocError>
+    requires { learner.old.learned.nodes ≡ 3 }
+    ensures { learner.new.learned.nodes ≡ 3 }
+{
+    let own = ballot(1, 0);
+    counts(rt, learner, 1, own, 0, CALL, None)?;
+    counts(rt, learner, 1, own, 0, CALL, None)?;
+    counts(rt, learner, 1, own, 0, CALL, None)
+}
+
 /// One answer three times is of one node.
 #[test]
 fn nodes_are_counted(rt: HostRuntime) -> Result<(), Fail> {
     let mut learner = Learner::new(rt.alloc(), 3)?;
-    let own = ballot(1, 0);
-    counts(&rt, &mut learner, 1, own, 0, CALL, None)?;
-    counts(&rt, &mut learner, 1, own, 0, CALL, None)?;
-    counts(&rt, &mut learner, 1, own, 0, CALL, None)?;
+    counts_one_node_thrice(&rt, &mut learner)?;
     assert!(rt; front(&learner) == 0);
     let told = Chosen {
         slot: 0,
@@ -80,44 +89,88 @@ fn nodes_are_counted(rt: HostRuntime) -> Result<(), Fail> {
     Ok(())
 }
 
+/// Counts the answers of five nodes at slot 0, in one ballot, of two, two and one to a command.
+fn splits_by_commands(rt: &impl Abort, learner: &mut Learner) -> Result<(), AllocError>
+    requires { learner.old.learned.nodes ≡ 5 }
+    ensures { learner.new.learned.nodes ≡ 5 }
+{
+    let own = ballot(1, 0);
+    counts(rt, learner, 0, own, 0, CALL, None)?;
+    counts(rt, learner, 1, own, 0, CALL, None)?;
+    counts(rt, learner, 2, own, 0, FOLD, None)?;
+    counts(rt, learner, 3, own, 0, FOLD, None)?;
+    counts(rt, learner, 4, own, 0, RAISE, None)
+}
+
+/// Counts the answers of five nodes at slot 1, of one command, of two, two and one to a ballot.
+fn splits_by_ballots(rt: &impl Abort, learner: &mut Learner) -> Result<(), AllocError>
+    requires { learner.old.learned.nodes ≡ 5 }
+{
+    let own = ballot(1, 0);
+    let second = ballot(2, 0);
+    counts(rt, learner, 0, own, 1, CALL, None)?;
+    counts(rt, learner, 1, own, 1, CALL, None)?;
+    counts(rt, learner, 2, second, 1, CALL, None)?;
+    counts(rt, learner, 3, second, 1, CALL, None)?;
+    counts(rt, learner, 4, ballot(2, 1), 1, CALL, None)
+}
+
 /// Five nodes that split into two, two and one choose nothing, be it by commands or by ballots.
 #[test]
 fn splits_choose_nothing(rt: HostRuntime) -> Result<(), Fail> {
     let mut learner = Learner::new(rt.alloc(), 5)?;
-    let own = ballot(1, 0);
-    counts(&rt, &mut learner, 0, own, 0, CALL, None)?;
-    counts(&rt, &mut learner, 1, own, 0, CALL, None)?;
-    counts(&rt, &mut learner, 2, own, 0, FOLD, None)?;
-    counts(&rt, &mut learner, 3, own, 0, FOLD, None)?;
-    counts(&rt, &mut learner, 4, own, 0, RAISE, None)?;
-    let second = ballot(2, 0);
-    counts(&rt, &mut learner, 0, own, 1, CALL, None)?;
-    counts(&rt, &mut learner, 1, own, 1, CALL, None)?;
-    counts(&rt, &mut learner, 2, second, 1, CALL, None)?;
-    counts(&rt, &mut learner, 3, second, 1, CALL, None)?;
-    counts(&rt, &mut learner, 4, ballot(2, 1), 1, CALL, None)?;
+    splits_by_commands(&rt, &mut learner)?;
+    splits_by_ballots(&rt, &mut learner)?;
     assert!(rt; front(&learner) == 0);
     Ok(())
+}
+
+/// Counts node 0 of 3 at slots 64 and 0, and believes another command at slot 0: the front passes it.
+fn passes_slot_0(rt: &impl Abort, learner: &mut Learner) -> Result<(), AllocError>
+    requires { learner.old.learned.nodes ≡ 3 }
+    ensures { learner.new.learned.nodes ≡ 3 }
+{
+    let own = ballot(4, 2);
+    counts(rt, learner, 0, own, 64, CALL, None)?;
+    counts(rt, learner, 0, own, 0, CALL, None)?;
+    assert!(rt; believed(learner, 0, FOLD)?.is_ok());
+    assert!(rt; front(learner) == 1);
+    Ok(())
+}
+
+/// Counts all of three nodes at slot 64, of which the second completes a quorum.
+fn completes_slot_64(rt: &impl Abort, learner: &mut Learner) -> Result<(), AllocError>
+    requires { learner.old.learned.nodes ≡ 3 }
+{
+    let own = ballot(4, 2);
+    counts(rt, learner, 1, own, 64, CALL, None)?;
+    let told = Chosen {
+        slot: 64,
+        command: CALL,
+    };
+    counts(rt, learner, 0, own, 64, CALL, Some(told))?;
+    counts(rt, learner, 2, own, 64, CALL, None)
 }
 
 /// The cell of slot 0 is that of slot 64 once the front has passed it.
 #[test]
 fn the_window_moves(rt: HostRuntime) -> Result<(), Fail> {
     let mut learner = Learner::new(rt.alloc(), 3)?;
-    let own = ballot(4, 2);
-    counts(&rt, &mut learner, 0, own, 64, CALL, None)?;
-    counts(&rt, &mut learner, 0, own, 0, CALL, None)?;
-    assert!(rt; believed(&mut learner, 0, FOLD)?.is_ok());
-    assert!(rt; front(&learner) == 1);
-    counts(&rt, &mut learner, 1, own, 64, CALL, None)?;
-    let told = Chosen {
-        slot: 64,
-        command: CALL,
-    };
-    counts(&rt, &mut learner, 0, own, 64, CALL, Some(told))?;
-    counts(&rt, &mut learner, 2, own, 64, CALL, None)?;
+    passes_slot_0(&rt, &mut learner)?;
+    completes_slot_64(&rt, &mut learner)?;
     assert!(rt; knows(&learner, 64, &CALL));
     assert!(rt; front(&learner) == 1);
+    Ok(())
+}
+
+/// Counts two of three nodes at slot 2, where another command is known: the second is refused, and then again.
+fn refuses_a_quorum(rt: &impl Abort, learner: &mut Learner) -> Result<(), AllocError>
+    requires { learner.old.learned.nodes ≡ 3 }
+{
+    let own = ballot(1, 1);
+    assert!(rt; answered(learner, 0, own, 2, CALL)?.is_ok());
+    assert!(rt; answered(learner, 1, own, 2, CALL)?.err() == Some(SlotFault::Conflict));
+    assert!(rt; answered(learner, 1, own, 2, CALL)?.err() == Some(SlotFault::Conflict));
     Ok(())
 }
 
@@ -126,20 +179,18 @@ fn the_window_moves(rt: HostRuntime) -> Result<(), Fail> {
 fn another_command_is_refused(rt: HostRuntime) -> Result<(), Fail> {
     let mut learner = Learner::new(rt.alloc(), 3)?;
     learner.reserve(4)?;
-    let own = ballot(1, 1);
     assert!(rt; believed(&mut learner, 2, FOLD)?.is_ok());
     assert!(rt; believed(&mut learner, 2, CALL)?.err() == Some(SlotFault::Conflict));
-    assert!(rt; answered(&mut learner, 0, own, 2, CALL)?.is_ok());
-    assert!(rt; answered(&mut learner, 1, own, 2, CALL)?.err() == Some(SlotFault::Conflict));
-    assert!(rt; answered(&mut learner, 1, own, 2, CALL)?.err() == Some(SlotFault::Conflict));
+    refuses_a_quorum(&rt, &mut learner)?;
     assert!(rt; knows(&learner, 2, &FOLD));
     Ok(())
 }
 
-/// Where there is room, calls want no memory.
-#[test]
-fn calls_with_room(rt: HostRuntime) -> Result<(), Fail> {
-    let mut learner = Learner::new(rt.alloc(), 3)?;
+/// Makes room and counts node 0 at slot 0.
+fn counts_with_room(rt: &impl Abort, learner: &mut Learner) -> Result<(), AllocError>
+    requires { learner.old.learned.nodes ≡ 3 }
+    ensures { learner.new.learned.nodes ≡ 3 }
+{
     learner.reserve(3)?;
     if learner
         .on_accepted_reserved(0, ballot(1, 0), 0, CALL)
@@ -147,11 +198,25 @@ fn calls_with_room(rt: HostRuntime) -> Result<(), Fail> {
     {
         panic!(rt; "nothing is known there");
     }
-    assert!(rt; answered(&mut learner, 2, ballot(1, 0), 0, CALL)?.is_ok());
+    Ok(())
+}
+
+/// Makes room and believes a command at slot 1.
+fn believes_with_room(rt: &impl Abort, learner: &mut Learner) -> Result<(), AllocError> {
     learner.reserve(1)?;
     if learner.on_chosen_reserved(1, FOLD).is_err() {
         panic!(rt; "nothing is known there");
     }
+    Ok(())
+}
+
+/// Where there is room, calls want no memory.
+#[test]
+fn calls_with_room(rt: HostRuntime) -> Result<(), Fail> {
+    let mut learner = Learner::new(rt.alloc(), 3)?;
+    counts_with_room(&rt, &mut learner)?;
+    assert!(rt; answered(&mut learner, 2, ballot(1, 0), 0, CALL)?.is_ok());
+    believes_with_room(&rt, &mut learner)?;
     assert!(rt; front(&learner) == 2);
     Ok(())
 }
