@@ -7,7 +7,7 @@ use acceptor::{AcceptAnswer, Acceptor, PrepareAnswer};
 use paxos_wire::{Ballot, Entries, Entry};
 use promise_store::{Disk, MemoryDisk, OnceDisk, StoreFault};
 use slot_log::Command;
-use std::alloc::Global;
+use std::alloc::{AllocError, Global};
 use std::process::Abort;
 use std::test::Fail;
 
@@ -70,6 +70,36 @@ fn accept_with_room<D: Disk>(
     Ok(acceptor.on_accept_reserved(ballot, slot, command)?)
 }
 
+/// A Prepare is answered so.
+fn prepares<D: Disk>(
+    rt: &impl Abort,
+    acceptor: &mut Acceptor<D>,
+    ballot: Ballot,
+    slot: u32,
+    expected: Result<PrepareAnswer, StoreFault>,
+)
+    requires ballot { IsBallot ballot }
+    requires slot { IsSlot slot }
+{
+    assert_eq!(rt; prepare(acceptor, ballot, slot), expected);
+}
+
+/// An Accept is answered so.
+fn accepts<D: Disk>(
+    rt: &impl Abort,
+    acceptor: &mut Acceptor<D>,
+    ballot: Ballot,
+    slot: u32,
+    command: Command,
+    expected: Result<AcceptAnswer, StoreFault>,
+)
+    requires ballot { IsBallot ballot }
+    requires slot { IsSlot slot }
+    requires command { IsInRange command }
+{
+    assert_eq!(rt; accept(acceptor, ballot, slot, command), expected);
+}
+
 /// The ballot that the acceptor has promised.
 fn promised<D: Disk>(acceptor: &Acceptor<D>) -> Ballot {
     acceptor.store().held().promised()
@@ -86,13 +116,13 @@ fn what_was_accepted_is_told(rt: HostRuntime) -> Result<(), Fail> {
         slot: 0,
         entries,
     };
-    assert_eq!(rt; prepare(&mut acceptor, FIRST, 0), Ok(promise));
+    prepares(&rt, &mut acceptor, FIRST, 0, Ok(promise));
     let accepted = AcceptAnswer::Accepted {
         ballot: FIRST,
         slot: 63,
         command: CALL,
     };
-    assert_eq!(rt; accept(&mut acceptor, FIRST, 63, CALL), Ok(accepted));
+    accepts(&rt, &mut acceptor, FIRST, 63, CALL, Ok(accepted));
     let accepted = AcceptAnswer::Accepted {
         ballot: FIRST,
         slot: 7,
@@ -115,27 +145,40 @@ fn what_was_accepted_is_told(rt: HostRuntime) -> Result<(), Fail> {
         entries,
     };
     let mut acceptor = opened(&rt, alloc, acceptor.close());
-    assert_eq!(rt; prepare(&mut acceptor, SECOND, 0), Ok(promise));
+    prepares(&rt, &mut acceptor, SECOND, 0, Ok(promise));
     assert_eq!(rt; promised(&acceptor), SECOND);
     Ok(())
+}
+
+/// What the acceptor of the first ballot answers at slot 7 once it accepted a command there.
+const ACCEPTED: AcceptAnswer = AcceptAnswer::Accepted {
+    ballot: FIRST,
+    slot: 7,
+    command: CALL,
+};
+
+/// The disk of an acceptor that accepted a command in the first ballot at slot 7.
+fn disk_with_one(rt: &impl Abort, alloc: Global) -> Result<MemoryDisk, AllocError> {
+    let mut acceptor = created(rt, alloc, MemoryDisk::new(alloc, &[])?);
+    accepts(rt, &mut acceptor, FIRST, 7, CALL, Ok(ACCEPTED));
+    Ok(acceptor.close())
+}
+
+/// The disk once another command was proposed in the first ballot at slot 7, which was answered with the one before.
+fn proposed_again(rt: &impl Abort, alloc: Global, disk: MemoryDisk) -> MemoryDisk {
+    let mut acceptor = opened(rt, alloc, disk);
+    accepts(rt, &mut acceptor, FIRST, 7, FOLD, Ok(ACCEPTED));
+    acceptor.close()
 }
 
 /// A ballot that is stored at its slot is answered with the command that is stored, and nothing is written.
 #[test]
 fn a_ballot_accepts_once_at_a_slot(rt: HostRuntime) -> Result<(), Fail> {
     let alloc = rt.alloc();
-    let mut acceptor = created(&rt, alloc, MemoryDisk::new(alloc, &[])?);
-    let accepted = AcceptAnswer::Accepted {
-        ballot: FIRST,
-        slot: 7,
-        command: CALL,
-    };
-    assert_eq!(rt; accept(&mut acceptor, FIRST, 7, CALL), Ok(accepted));
-    let disk = acceptor.close();
+    let disk = disk_with_one(&rt, alloc)?;
     let written = disk.bytes().to_vec(alloc)?;
-    let mut acceptor = opened(&rt, alloc, disk);
-    assert_eq!(rt; accept(&mut acceptor, FIRST, 7, FOLD), Ok(accepted));
-    assert_eq!(rt; acceptor.close().bytes(), written.as_slice());
+    let disk = proposed_again(&rt, alloc, disk);
+    assert_eq!(rt; disk.bytes(), written.as_slice());
     Ok(())
 }
 
@@ -148,7 +191,7 @@ fn refuses<D: Disk>(rt: &impl Abort, acceptor: &mut Acceptor<D>, ballot: Ballot)
         slot: 9,
         promised: SECOND,
     };
-    assert_eq!(rt; prepare(acceptor, ballot, 9), Ok(refused));
+    prepares(rt, acceptor, ballot, 9, Ok(refused));
 }
 
 /// Below what was promised nothing is accepted, and no ballot is promised that isn't above it.
@@ -164,16 +207,39 @@ fn what_was_promised_is_told_by_refusals(rt: HostRuntime) -> Result<(), Fail> {
         slot: 9,
         promised: SECOND,
     };
-    assert_eq!(rt; accept(&mut acceptor, FIRST, 9, CALL), Ok(refused));
+    accepts(&rt, &mut acceptor, FIRST, 9, CALL, Ok(refused));
     assert_eq!(rt; accept_with_room(&mut acceptor, FIRST, 9, CALL)?, refused);
     let accepted = AcceptAnswer::Accepted {
         ballot: THIRD,
         slot: 9,
         command: CALL,
     };
-    assert_eq!(rt; accept(&mut acceptor, THIRD, 9, CALL), Ok(accepted));
+    accepts(&rt, &mut acceptor, THIRD, 9, CALL, Ok(accepted));
     assert_eq!(rt; promised(&acceptor), THIRD);
     Ok(())
+}
+
+/// What is answered to an Accept, which is asked again where memory for its slot was refused: nothing has changed then.
+fn accept_at_last<D: Disk>(
+    rt: &impl Abort,
+    acceptor: &mut Acceptor<D>,
+) -> Result<AcceptAnswer, StoreFault> {
+    let answer = accept(acceptor, FIRST, 9, CALL);
+    if answer != Err(StoreFault::OutOfMemory) {
+        return answer;
+    }
+    assert!(rt; acceptor.store().held().find(9).is_none());
+    accept(acceptor, FIRST, 9, CALL)
+}
+
+/// An Accept is answered so at last; where the disk failed, the store is closed.
+fn accepts_at_last<D: Disk>(rt: &impl Abort, acceptor: &mut Acceptor<D>, accepted: AcceptAnswer) {
+    let answer = accept_at_last(rt, acceptor);
+    if answer == Err(StoreFault::Disk) {
+        accepts(rt, acceptor, FIRST, 9, CALL, Err(StoreFault::Closed));
+    } else {
+        assert_eq!(rt; answer, Ok(accepted));
+    }
 }
 
 /// Where memory for a slot was refused nothing has changed, and the same proposal is accepted then.
@@ -186,20 +252,46 @@ fn a_slot_wants_memory(rt: HostRuntime) -> Result<(), Fail> {
         slot: 9,
         command: CALL,
     };
-    let mut answer = accept(&mut acceptor, FIRST, 9, CALL);
-    if answer == Err(StoreFault::OutOfMemory) {
-        assert!(rt; acceptor.store().held().find(9).is_none());
-        answer = accept(&mut acceptor, FIRST, 9, CALL);
-    }
-    if answer == Err(StoreFault::Disk) {
-        assert_eq!(rt;
-            accept(&mut acceptor, FIRST, 9, CALL),
-            Err(StoreFault::Closed)
-        );
-        return Ok(());
-    }
-    assert_eq!(rt; answer, Ok(accepted));
+    accepts_at_last(&rt, &mut acceptor, accepted);
     Ok(())
+}
+
+/// The acceptor of what its disk has after a stop with this pick.
+fn stopped<D: Disk>(
+    rt: &impl Abort,
+    alloc: Global,
+    acceptor: Acceptor<D>,
+    pick: u64,
+) -> Acceptor<D> {
+    let mut disk = acceptor.close();
+    disk.stop(pick);
+    opened(rt, alloc, disk)
+}
+
+/// Whether the third ballot is promised; where the disk fails, the store is closed.
+fn promises<D: Disk>(rt: &impl Abort, acceptor: &mut Acceptor<D>) -> bool {
+    match prepare(acceptor, THIRD, 0) {
+        Ok(answer) => matches!(answer, PrepareAnswer::Promise { .. }),
+        Err(fault) => {
+            assert_eq!(rt; fault, StoreFault::Disk);
+            prepares(rt, acceptor, THIRD, 0, Err(StoreFault::Closed));
+            false
+        }
+    }
+}
+
+/// Whether a proposal below the third ballot is accepted; a refusal tells that ballot.
+fn accepts_below<D: Disk>(
+    rt: &impl Abort,
+    acceptor: &mut Acceptor<D>,
+) -> Result<bool, StoreFault> {
+    match accept(acceptor, FIRST, 0, CALL)? {
+        AcceptAnswer::Accepted { .. } => Ok(true),
+        AcceptAnswer::Refuse { promised, .. } => {
+            assert_eq!(rt; promised, THIRD);
+            Ok(false)
+        }
+    }
 }
 
 /// Whether a Prepare of a new store, on a disk that fails after so many calls of it, was promised; and whether a
@@ -213,24 +305,9 @@ fn left_of_a_prepare(
     requires { calls ≤ 4 }
 {
     let mut acceptor = created(rt, alloc, MemoryDisk::new(alloc, &[2 + calls])?);
-    let promised = match prepare(&mut acceptor, THIRD, 0) {
-        Ok(answer) => matches!(answer, PrepareAnswer::Promise { .. }),
-        Err(fault) => {
-            assert_eq!(rt; fault, StoreFault::Disk);
-            assert_eq!(rt; prepare(&mut acceptor, THIRD, 0), Err(StoreFault::Closed));
-            false
-        }
-    };
-    let mut disk = acceptor.close();
-    disk.stop(pick);
-    let mut acceptor = opened(rt, alloc, disk);
-    match accept(&mut acceptor, FIRST, 0, CALL)? {
-        AcceptAnswer::Accepted { .. } => Ok((promised, true)),
-        AcceptAnswer::Refuse { promised: told, .. } => {
-            assert_eq!(rt; told, THIRD);
-            Ok((promised, false))
-        }
-    }
+    let promised = promises(rt, &mut acceptor);
+    let mut acceptor = stopped(rt, alloc, acceptor, pick);
+    Ok((promised, accepts_below(rt, &mut acceptor)?))
 }
 
 /// A promise takes four calls of the disk: without the third it is in no image, after the fourth in each.
@@ -256,20 +333,103 @@ fn stops_in_a_promise(rt: HostRuntime) -> Result<(), Fail> {
     Ok(())
 }
 
+/// A closed store answers 64 to what is above its promise.
+fn is_closed<D: Disk>(rt: &impl Abort, acceptor: &mut Acceptor<D>) {
+    prepares(rt, acceptor, FOURTH, 0, Err(StoreFault::Closed));
+    accepts(rt, acceptor, FOURTH, 0, CALL, Err(StoreFault::Closed));
+}
+
 /// The acceptor behind a failed call: it answers 64 to what is above its promise, until its store is opened again.
 fn opened_again(
     rt: &impl Abort,
     alloc: Global,
     mut acceptor: Acceptor<OnceDisk>,
 ) -> Acceptor<OnceDisk> {
-    assert_eq!(rt; prepare(&mut acceptor, FOURTH, 0), Err(StoreFault::Closed));
-    assert_eq!(rt;
-        accept(&mut acceptor, FOURTH, 0, CALL),
-        Err(StoreFault::Closed)
-    );
-    let mut disk = acceptor.close();
-    disk.stop(0);
-    opened(rt, alloc, disk)
+    is_closed(rt, &mut acceptor);
+    stopped(rt, alloc, acceptor, 0)
+}
+
+/// Counts a fault, which is of the disk.
+fn count(rt: &impl Abort, fault: StoreFault, faults: &mut u32) {
+    assert_eq!(rt; fault, StoreFault::Disk);
+    *faults = faults.saturating_add(1);
+}
+
+/// The acceptor with a new store, which is created again where a call of the disk fails: that is counted.
+fn created_at_last(
+    rt: &impl Abort,
+    alloc: Global,
+    disk: OnceDisk,
+    faults: &mut u32,
+) -> Acceptor<OnceDisk> {
+    match journal::create(alloc, disk) {
+        Ok(store) => Acceptor::new(store),
+        Err((disk, _)) => {
+            *faults = faults.saturating_add(1);
+            created(rt, alloc, disk)
+        }
+    }
+}
+
+/// The third ballot is promised, or told by a refusal.
+fn has_promised<D: Disk>(
+    rt: &impl Abort,
+    acceptor: &mut Acceptor<D>,
+) -> Result<(), StoreFault> {
+    if let PrepareAnswer::Refuse { promised, .. } = prepare(acceptor, THIRD, 0)? {
+        assert_eq!(rt; promised, THIRD);
+    }
+    Ok(())
+}
+
+/// The acceptor after a promise of the third ballot, which is asked again where a call of the disk fails.
+fn promised_at_last(
+    rt: &impl Abort,
+    alloc: Global,
+    mut acceptor: Acceptor<OnceDisk>,
+    faults: &mut u32,
+) -> Result<Acceptor<OnceDisk>, StoreFault> {
+    let Err(fault) = prepare(&mut acceptor, THIRD, 0) else {
+        return Ok(acceptor);
+    };
+    count(rt, fault, faults);
+    let mut acceptor = opened_again(rt, alloc, acceptor);
+    has_promised(rt, &mut acceptor)?;
+    Ok(acceptor)
+}
+
+/// The acceptor after an accept in the third ballot, which is asked again where a call of the disk fails; until then a
+/// ballot below is refused.
+fn accepted_at_last(
+    rt: &impl Abort,
+    alloc: Global,
+    mut acceptor: Acceptor<OnceDisk>,
+    faults: &mut u32,
+) -> Acceptor<OnceDisk> {
+    let Err(fault) = accept(&mut acceptor, THIRD, 0, CALL) else {
+        return acceptor;
+    };
+    count(rt, fault, faults);
+    let refused = PrepareAnswer::Refuse {
+        ballot: FIRST,
+        slot: 0,
+        promised: THIRD,
+    };
+    prepares(rt, &mut acceptor, FIRST, 0, Ok(refused));
+    let mut acceptor = opened_again(rt, alloc, acceptor);
+    assert!(rt; accept(&mut acceptor, THIRD, 0, CALL).is_ok());
+    acceptor
+}
+
+/// The third ballot is promised, and what was accepted in it stays where another command is proposed.
+fn keeps_both<D: Disk>(rt: &impl Abort, acceptor: &mut Acceptor<D>) {
+    assert_eq!(rt; promised(acceptor), THIRD);
+    let accepted = AcceptAnswer::Accepted {
+        ballot: THIRD,
+        slot: 0,
+        command: CALL,
+    };
+    accepts(rt, acceptor, THIRD, 0, FOLD, Ok(accepted));
 }
 
 /// Each call of the disk fails alone, in create, a promise and an accept; behind it the same frame is answered again.
@@ -278,40 +438,10 @@ fn each_call_fails_once(rt: HostRuntime) -> Result<(), Fail> {
     let alloc = rt.alloc();
     let mut faults = 0u32;
     for call in 0..11u64 {
-        let mut acceptor = match journal::create(alloc, OnceDisk::new(alloc, call)) {
-            Ok(store) => Acceptor::new(store),
-            Err((disk, _)) => {
-                faults = faults.saturating_add(1);
-                created(&rt, alloc, disk)
-            }
-        };
-        if let Err(fault) = prepare(&mut acceptor, THIRD, 0) {
-            assert_eq!(rt; fault, StoreFault::Disk);
-            faults = faults.saturating_add(1);
-            acceptor = opened_again(&rt, alloc, acceptor);
-            if let PrepareAnswer::Refuse { promised, .. } = prepare(&mut acceptor, THIRD, 0)? {
-                assert_eq!(rt; promised, THIRD);
-            }
-        }
-        if let Err(fault) = accept(&mut acceptor, THIRD, 0, CALL) {
-            assert_eq!(rt; fault, StoreFault::Disk);
-            faults = faults.saturating_add(1);
-            let refused = PrepareAnswer::Refuse {
-                ballot: FIRST,
-                slot: 0,
-                promised: THIRD,
-            };
-            assert_eq!(rt; prepare(&mut acceptor, FIRST, 0), Ok(refused));
-            acceptor = opened_again(&rt, alloc, acceptor);
-            assert!(rt; accept(&mut acceptor, THIRD, 0, CALL).is_ok());
-        }
-        assert_eq!(rt; promised(&acceptor), THIRD);
-        let accepted = AcceptAnswer::Accepted {
-            ballot: THIRD,
-            slot: 0,
-            command: CALL,
-        };
-        assert_eq!(rt; accept(&mut acceptor, THIRD, 0, FOLD), Ok(accepted));
+        let acceptor = created_at_last(&rt, alloc, OnceDisk::new(alloc, call), &mut faults);
+        let acceptor = promised_at_last(&rt, alloc, acceptor, &mut faults)?;
+        let mut acceptor = accepted_at_last(&rt, alloc, acceptor, &mut faults);
+        keeps_both(&rt, &mut acceptor);
     }
     assert_eq!(rt; faults, 10);
     Ok(())
