@@ -1,10 +1,13 @@
+ghost use Rattle.std.specs.Prelude.{◌<◌};
+
 use crate::journal::{
     FIRST, JOURNAL, accept, answer, create, created, deal, disk_with, entry, has_both, next, open,
     opened, promise,
 };
+use crate::samples::prints;
 use paxos_wire::Ballot;
 use promise_store::{Call, Disk, MemoryDisk, OnceDisk, Store, StoreFault};
-use std::alloc::Global;
+use std::alloc::{AllocError, Global};
 use std::process::Abort;
 use std::test::Fail;
 
@@ -27,14 +30,14 @@ fn journal_byte_by_byte(rt: HostRuntime) -> Result<(), Fail> {
 }
 
 /// What a call of a disk did, as a line: a write with its offset and its bytes, or a sync.
-fn line(alloc: Global, call: &Call) -> Result<String, Fail> {
-    Ok(match call {
+fn line(alloc: Global, call: &Call) -> Result<String, AllocError> {
+    match call {
         Call::Wrote { at, bytes, done } => {
-            format!(in alloc; "wrote {at} {:?} {done}", bytes.as_slice())?
+            format!(in alloc; "wrote {at} {:?} {done}", bytes.as_slice())
         }
-        Call::Synced => format!(in alloc; "synced")?,
-        Call::Stopped { pick } => format!(in alloc; "stopped {pick}")?,
-    })
+        Call::Synced => format!(in alloc; "synced"),
+        Call::Stopped { pick } => format!(in alloc; "stopped {pick}"),
+    }
 }
 
 /// An append is a write of the record and a shut gate behind the gate, a sync, a write of the gate, and a sync.
@@ -61,6 +64,28 @@ fn the_four_calls_of_an_append(rt: HostRuntime) -> Result<(), Fail> {
     Ok(())
 }
 
+/// A new store of the disk that is opened again, unless one of the two fails.
+fn created_and_opened<D: Disk + Drop>(alloc: Global, disk: D) -> Option<Store<D>> {
+    let Ok(store) = create(alloc, disk) else {
+        return None;
+    };
+    let Ok(store) = open(alloc, store.close()) else {
+        return None;
+    };
+    Some(store)
+}
+
+/// Stores the promise of the first ballot; where that fails, the store is closed, and answers so.
+fn promise_or_close<D: Disk>(rt: &impl Abort, store: &mut Store<D>) {
+    assert!(rt; !store.is_closed());
+    if promise(store).is_err() {
+        assert!(rt; store.is_closed());
+        assert!(rt; store.failures() > 0);
+        assert!(rt; promise(store) == Err(StoreFault::Closed));
+        assert!(rt; entry(store, 0) == Err(StoreFault::Closed));
+    }
+}
+
 /// What is left of create, open and one promise of a disk that fails from its call of this number on, once it stopped
 /// with this pick: whether the promise is there; `None` where create or open failed.
 fn left_of_a_promise(
@@ -70,19 +95,10 @@ fn left_of_a_promise(
     pick: u64,
 ) -> Result<Option<bool>, Fail> {
     let disk = MemoryDisk::new(alloc, &[calls])?;
-    let Ok(store) = create(alloc, disk) else {
+    let Some(mut store) = created_and_opened(alloc, disk) else {
         return Ok(None);
     };
-    let Ok(mut store) = open(alloc, store.close()) else {
-        return Ok(None);
-    };
-    assert!(rt; !store.is_closed());
-    if promise(&mut store).is_err() {
-        assert!(rt; store.is_closed());
-        assert!(rt; store.failures() > 0);
-        assert!(rt; promise(&mut store) == Err(StoreFault::Closed));
-        assert!(rt; entry(&mut store, 0) == Err(StoreFault::Closed));
-    }
+    promise_or_close(rt, &mut store);
     let mut disk = store.close();
     disk.stop(pick);
     let store = opened(rt, alloc, disk);
@@ -167,16 +183,23 @@ fn malformed_journals(rt: HostRuntime) -> Result<(), Fail> {
     Ok(())
 }
 
+/// Stores a promise of the round after the slot, and that the deal was accepted in it at the slot.
+fn append_two<D: Disk>(rt: &impl Abort, store: &mut Store<D>, slot: u32) -> Result<(), StoreFault>
+    requires { slot < 10 }
+{
+    let ballot = Ballot {
+        round: slot + 1,
+        node: 0,
+    };
+    store.promise(ballot)?;
+    store.accept(ballot, slot, &deal(rt))
+}
+
 /// A journal of twenty records: promises of rounds 1 to 10, and accepts in them at slots 0 to 9.
 fn twenty(rt: &impl Abort, alloc: Global) -> Result<MemoryDisk, Fail> {
     let mut store = created(rt, alloc, MemoryDisk::new(alloc, &[])?);
     for slot in 0..10u32 {
-        let ballot = Ballot {
-            round: slot + 1,
-            node: 0,
-        };
-        store.promise(ballot)?;
-        store.accept(ballot, slot, &deal(rt))?;
+        append_two(rt, &mut store, slot)?;
     }
     Ok(store.close())
 }
@@ -270,6 +293,17 @@ fn opened_at_last<D: Disk>(rt: &impl Abort, alloc: Global, disk: D, faults: &mut
     }
 }
 
+/// The disk after an accept, and whether that was stored: where it wasn't, the disk is stopped and the fault counted.
+fn accept_or_stop<D: Disk>(rt: &impl Abort, mut store: Store<D>, faults: &mut u32) -> (D, bool) {
+    let is_stored = accept(rt, &mut store).is_ok();
+    let mut disk = store.close();
+    if !is_stored {
+        *faults = faults.saturating_add(1);
+        disk.stop(0);
+    }
+    (disk, is_stored)
+}
+
 /// Each call of create, an append and open fails alone; what then is opened is what was asked for, or what was before.
 #[test]
 fn each_call_fails_once(rt: HostRuntime) -> Result<(), Fail> {
@@ -279,13 +313,8 @@ fn each_call_fails_once(rt: HostRuntime) -> Result<(), Fail> {
         let disk = OnceDisk::new(alloc, call);
         assert!(rt; disk.bytes().is_empty());
         let disk = created_at_last(&rt, alloc, disk, &mut faults).close();
-        let mut store = opened_at_last(&rt, alloc, disk, &mut faults);
-        let is_stored = accept(&rt, &mut store).is_ok();
-        let mut disk = store.close();
-        if !is_stored {
-            faults = faults.saturating_add(1);
-            disk.stop(0);
-        }
+        let store = opened_at_last(&rt, alloc, disk, &mut faults);
+        let (disk, is_stored) = accept_or_stop(&rt, store, &mut faults);
         let mut store = opened_at_last(&rt, alloc, disk, &mut faults);
         let found = entry(&mut store, 0);
         if call == 0 || is_stored && found.is_ok() {
@@ -299,13 +328,7 @@ fn each_call_fails_once(rt: HostRuntime) -> Result<(), Fail> {
 #[test]
 fn faults_print_as_number_and_name(rt: HostRuntime) -> Result<(), Fail> {
     let alloc = rt.alloc();
-    assert_eq!(rt;
-        format!(in alloc; "{}", StoreFault::NoStore)?.as_str(),
-        "60 NoStore"
-    );
-    assert_eq!(rt;
-        format!(in alloc; "{}", StoreFault::Closed)?.as_str(),
-        "64 Closed"
-    );
+    prints(&rt, alloc, StoreFault::NoStore, "60 NoStore")?;
+    prints(&rt, alloc, StoreFault::Closed, "64 Closed")?;
     Ok(())
 }
