@@ -281,10 +281,7 @@ fn promises<D: Disk>(rt: &impl Abort, acceptor: &mut Acceptor<D>) -> bool {
 }
 
 /// Whether a proposal below the third ballot is accepted; a refusal tells that ballot.
-fn accepts_below<D: Disk>(
-    rt: &impl Abort,
-    acceptor: &mut Acceptor<D>,
-) -> Result<bool, StoreFault> {
+fn accepts_below<D: Disk>(rt: &impl Abort, acceptor: &mut Acceptor<D>) -> Result<bool, StoreFault> {
     match accept(acceptor, FIRST, 0, CALL)? {
         AcceptAnswer::Accepted { .. } => Ok(true),
         AcceptAnswer::Refuse { promised, .. } => {
@@ -372,10 +369,7 @@ fn created_at_last(
 }
 
 /// The third ballot is promised, or told by a refusal.
-fn has_promised<D: Disk>(
-    rt: &impl Abort,
-    acceptor: &mut Acceptor<D>,
-) -> Result<(), StoreFault> {
+fn has_promised<D: Disk>(rt: &impl Abort, acceptor: &mut Acceptor<D>) -> Result<(), StoreFault> {
     if let PrepareAnswer::Refuse { promised, .. } = prepare(acceptor, THIRD, 0)? {
         assert_eq!(rt; promised, THIRD);
     }

@@ -71,7 +71,22 @@ fn counts_one_node_thrice(rt: &impl Abort, learner: &mut Learner) -> Result<(), 
     let own = ballot(1, 0);
     counts(rt, learner, 1, own, 0, CALL, None)?;
     counts(rt, learner, 1, own, 0, CALL, None)?;
-    counts(rt, learner, 1, own, 0, CALL, None)
+    counts(rt, learner, 1, own, 0, CALL, None)?;
+    assert!(rt; front(learner) == 0);
+    Ok(())
+}
+
+/// Counts the same answer of node 2 of 3, which completes a quorum.
+fn counts_another_node(rt: &impl Abort, learner: &mut Learner) -> Result<(), AllocError>
+    requires { learner.old.learned.nodes ≡ 3 }
+{
+    let told = Chosen {
+        slot: 0,
+        command: CALL,
+    };
+    counts(rt, learner, 2, ballot(1, 0), 0, CALL, Some(told))?;
+    assert!(rt; front(learner) == 1);
+    Ok(())
 }
 
 /// One answer three times is of one node.
@@ -79,13 +94,7 @@ fn counts_one_node_thrice(rt: &impl Abort, learner: &mut Learner) -> Result<(), 
 fn nodes_are_counted(rt: HostRuntime) -> Result<(), Fail> {
     let mut learner = Learner::new(rt.alloc(), 3)?;
     counts_one_node_thrice(&rt, &mut learner)?;
-    assert!(rt; front(&learner) == 0);
-    let told = Chosen {
-        slot: 0,
-        command: CALL,
-    };
-    counts(&rt, &mut learner, 2, ballot(1, 0), 0, CALL, Some(told))?;
-    assert!(rt; front(&learner) == 1);
+    counts_another_node(&rt, &mut learner)?;
     Ok(())
 }
 
@@ -138,7 +147,7 @@ fn passes_slot_0(rt: &impl Abort, learner: &mut Learner) -> Result<(), AllocErro
     Ok(())
 }
 
-/// Counts all of three nodes at slot 64, of which the second completes a quorum.
+/// Counts the other two of three nodes at slot 64, and node 0 again between them, which completes a quorum.
 fn completes_slot_64(rt: &impl Abort, learner: &mut Learner) -> Result<(), AllocError>
     requires { learner.old.learned.nodes ≡ 3 }
 {
@@ -149,7 +158,10 @@ fn completes_slot_64(rt: &impl Abort, learner: &mut Learner) -> Result<(), Alloc
         command: CALL,
     };
     counts(rt, learner, 0, own, 64, CALL, Some(told))?;
-    counts(rt, learner, 2, own, 64, CALL, None)
+    counts(rt, learner, 2, own, 64, CALL, None)?;
+    assert!(rt; knows(learner, 64, &CALL));
+    assert!(rt; front(learner) == 1);
+    Ok(())
 }
 
 /// The cell of slot 0 is that of slot 64 once the front has passed it.
@@ -158,8 +170,16 @@ fn the_window_moves(rt: HostRuntime) -> Result<(), Fail> {
     let mut learner = Learner::new(rt.alloc(), 3)?;
     passes_slot_0(&rt, &mut learner)?;
     completes_slot_64(&rt, &mut learner)?;
-    assert!(rt; knows(&learner, 64, &CALL));
-    assert!(rt; front(&learner) == 1);
+    Ok(())
+}
+
+/// Believes a command at slot 2, where another is refused then.
+fn refuses_another_word(rt: &impl Abort, learner: &mut Learner) -> Result<(), AllocError>
+    ensures { learner.new.learned.nodes ≡ learner.old.learned.nodes }
+{
+    learner.reserve(4)?;
+    assert!(rt; believed(learner, 2, FOLD)?.is_ok());
+    assert!(rt; believed(learner, 2, CALL)?.err() == Some(SlotFault::Conflict));
     Ok(())
 }
 
@@ -171,6 +191,7 @@ fn refuses_a_quorum(rt: &impl Abort, learner: &mut Learner) -> Result<(), AllocE
     assert!(rt; answered(learner, 0, own, 2, CALL)?.is_ok());
     assert!(rt; answered(learner, 1, own, 2, CALL)?.err() == Some(SlotFault::Conflict));
     assert!(rt; answered(learner, 1, own, 2, CALL)?.err() == Some(SlotFault::Conflict));
+    assert!(rt; knows(learner, 2, &FOLD));
     Ok(())
 }
 
@@ -178,18 +199,14 @@ fn refuses_a_quorum(rt: &impl Abort, learner: &mut Learner) -> Result<(), AllocE
 #[test]
 fn another_command_is_refused(rt: HostRuntime) -> Result<(), Fail> {
     let mut learner = Learner::new(rt.alloc(), 3)?;
-    learner.reserve(4)?;
-    assert!(rt; believed(&mut learner, 2, FOLD)?.is_ok());
-    assert!(rt; believed(&mut learner, 2, CALL)?.err() == Some(SlotFault::Conflict));
+    refuses_another_word(&rt, &mut learner)?;
     refuses_a_quorum(&rt, &mut learner)?;
-    assert!(rt; knows(&learner, 2, &FOLD));
     Ok(())
 }
 
-/// Makes room and counts node 0 at slot 0.
+/// Makes room and counts two of three nodes at slot 0.
 fn counts_with_room(rt: &impl Abort, learner: &mut Learner) -> Result<(), AllocError>
     requires { learner.old.learned.nodes ≡ 3 }
-    ensures { learner.new.learned.nodes ≡ 3 }
 {
     learner.reserve(3)?;
     if learner
@@ -198,15 +215,17 @@ fn counts_with_room(rt: &impl Abort, learner: &mut Learner) -> Result<(), AllocE
     {
         panic!(rt; "nothing is known there");
     }
+    assert!(rt; answered(learner, 2, ballot(1, 0), 0, CALL)?.is_ok());
     Ok(())
 }
 
-/// Makes room and believes a command at slot 1.
+/// Makes room and believes a command at slot 1; the front passes both slots.
 fn believes_with_room(rt: &impl Abort, learner: &mut Learner) -> Result<(), AllocError> {
     learner.reserve(1)?;
     if learner.on_chosen_reserved(1, FOLD).is_err() {
         panic!(rt; "nothing is known there");
     }
+    assert!(rt; front(learner) == 2);
     Ok(())
 }
 
@@ -215,8 +234,6 @@ fn believes_with_room(rt: &impl Abort, learner: &mut Learner) -> Result<(), Allo
 fn calls_with_room(rt: HostRuntime) -> Result<(), Fail> {
     let mut learner = Learner::new(rt.alloc(), 3)?;
     counts_with_room(&rt, &mut learner)?;
-    assert!(rt; answered(&mut learner, 2, ballot(1, 0), 0, CALL)?.is_ok());
     believes_with_room(&rt, &mut learner)?;
-    assert!(rt; front(&learner) == 2);
     Ok(())
 }

@@ -85,7 +85,13 @@ fn a_window_of_64_slots(rt: HostRuntime) -> Result<(), Fail> {
 #[test]
 fn the_rounds_end(rt: HostRuntime) -> Result<(), Fail> {
     let mut proposer = Proposer::new(2, 5);
-    begins(&rt, &mut proposer, ballot(u32::MAX, 0), 7, Err(BallotsSpent));
+    begins(
+        &rt,
+        &mut proposer,
+        ballot(u32::MAX, 0),
+        7,
+        Err(BallotsSpent),
+    );
     assert_eq!(rt; BallotsSpent.code(), 70);
     assert_eq!(rt; ProposeFault::OutOfWindow.code(), 71);
     let last = Prepare {
