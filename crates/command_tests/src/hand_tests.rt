@@ -1,7 +1,9 @@
-use crate::test_streams::{L2, Listener, Reading, Talker, Writing};
-use std::alloc::Global;
+use crate::test_streams::{L2, Listener, Reading, Talker, Writing, ends_with, is_written, prints, reads_or_stops};
+use game_def::GameDef;
+use std::alloc::{AllocError, Global};
 use std::cell::Cell;
 use std::io::{ErrorKind, Read, Write};
+use std::process::Abort;
 use std::test::Fail;
 use streamed::{Ending, GameWord, MOST_READS, Stop, hand_run, run_script};
 
@@ -44,68 +46,82 @@ L SCORE:0|0:alice|bob
 
 /// Runs a script of one hand: how the run ends. The other tests call it, so that the contract of `hand_run` is read
 /// once.
-fn ran<R: Read, W: Write>(alloc: Global, reader: &mut R, writer: &mut W) -> Ending {
-    hand_run(alloc, L2, None, 1, reader, writer)
+fn ran<R: Read, W: Write>(alloc: Global, game: &[u8], reader: &mut R, writer: &mut W) -> Ending {
+    hand_run(alloc, game, None, 1, reader, writer)
+}
+
+/// Runs a script, for which this is to be written: how the run ends.
+fn ran_writing<R: Read>(rt: &impl Abort, alloc: Global, game: &[u8], reader: &mut R, text: &[u8]) -> Ending {
+    let mut written = Vec::new(alloc);
+    let ending = ran(alloc, game, reader, &mut written);
+    is_written(rt, &written, text);
+    ending
+}
+
+/// Runs a script, of whose answers a writer is to take this: how the run ends.
+fn ran_taking<R: Read>(rt: &impl Abort, alloc: Global, reader: &mut R, writer: Writing, taken: &[u8]) -> Ending {
+    let mut writer = writer;
+    let ending = ran(alloc, L2, reader, &mut writer);
+    is_written(rt, &writer.taken, taken);
+    ending
+}
+
+/// Runs two hands with their log: how the run ends.
+fn ran_with_log<W: Write>(alloc: Global, word: GameWord<'_>, writer: &mut W) -> Ending {
+    hand_run(alloc, L2, Some(word), 2, &mut &*TWO_HANDS, writer)
+}
+
+/// Runs a script that comes byte by byte, with four reads at most.
+fn run_by_four(alloc: Global, game: GameDef, bytes: &[u8]) -> Result<(), Stop> {
+    let mut written = Vec::new(alloc);
+    run_script(alloc, game, None, 1, 4, &mut Reading::new(bytes, 1), &mut written)
 }
 
 #[test]
-fn answers_a_script(rt: HostRuntime) -> Result<(), Fail> {
-    let mut written = Vec::new(rt.alloc());
-    let ending = ran(rt.alloc(), &mut &*SCRIPT, &mut written);
-    assert_eq!(rt; ending.status(), 0);
-    assert_eq!(rt; written.as_slice(), ANSWERS);
-    Ok(())
+fn answers_a_script(rt: HostRuntime) {
+    let ending = ran_writing(&rt, rt.alloc(), L2, &mut &*SCRIPT, ANSWERS);
+    ends_with(&rt, ending, 0);
 }
 
 #[test]
 fn prints_the_log_beside_the_answers(rt: HostRuntime) -> Result<(), Fail> {
-    let mut written = Vec::new(rt.alloc());
     let word = GameWord::new("l2.game").ok_or("a word with a game word's form")?;
-    let ending = hand_run(
-        rt.alloc(),
-        L2,
-        Some(word),
-        2,
-        &mut &*TWO_HANDS,
-        &mut written,
-    );
-    assert_eq!(rt; ending.status(), 0);
-    assert_eq!(rt; written.as_slice(), ANSWERS_AND_LOG);
+    let mut written = Vec::new(rt.alloc());
+    let ending = ran_with_log(rt.alloc(), word, &mut written);
+    ends_with(&rt, ending, 0);
+    is_written(&rt, &written, ANSWERS_AND_LOG);
     Ok(())
 }
 
 #[test]
 fn answers_a_script_in_any_pieces(rt: HostRuntime) {
     let mut reader = Reading::new(SCRIPT, 1).interrupted();
-    let mut writer = Writing::interrupted(rt.alloc());
-    let ending = ran(rt.alloc(), &mut reader, &mut writer);
+    let writer = Writing::interrupted(rt.alloc());
+    let ending = ran_taking(&rt, rt.alloc(), &mut reader, writer, ANSWERS);
     assert!(rt; matches!(ending, Ending::Done));
-    assert_eq!(rt; writer.taken.as_slice(), ANSWERS);
+}
+
+/// Runs a script whose reader fails so before its last two lines: the ending is to print this.
+fn keeps_answers(rt: &impl Abort, alloc: Global, kind: ErrorKind, text: &str) -> Result<(), AllocError> {
+    let mut reader = Reading::new(SCRIPT, 1).failing(6, kind);
+    let ending = ran_writing(rt, alloc, L2, &mut reader, &ANSWERS[..98]);
+    ends_with(rt, ending, 2);
+    prints(rt, alloc, ending, text)
 }
 
 #[test]
 fn keeps_what_was_answered_before_the_reader_fails(rt: HostRuntime) -> Result<(), Fail> {
-    for (kind, text) in [
-        (ErrorKind::BrokenPipe, "107 StreamFailed"),
-        (ErrorKind::OutOfMemory, "92 OutOfMemory"),
-    ] {
-        let mut reader = Reading::new(SCRIPT, 1).failing(6, kind);
-        let mut written = Vec::new(rt.alloc());
-        let ending = ran(rt.alloc(), &mut reader, &mut written);
-        assert_eq!(rt; ending.status(), 2);
-        assert_eq!(rt; format!(in rt.alloc(); "{ending}")?.as_str(), text);
-        assert_eq!(rt; written.as_slice(), &ANSWERS[..98]);
-    }
+    keeps_answers(&rt, rt.alloc(), ErrorKind::BrokenPipe, "107 StreamFailed")?;
+    keeps_answers(&rt, rt.alloc(), ErrorKind::OutOfMemory, "92 OutOfMemory")?;
     Ok(())
 }
 
 #[test]
 fn stops_where_the_writer_fails(rt: HostRuntime) {
     for failure in [ErrorKind::BrokenPipe, ErrorKind::OutOfMemory] {
-        let mut writer = Writing::failing(rt.alloc(), 60, failure);
-        let ending = ran(rt.alloc(), &mut &*SCRIPT, &mut writer);
+        let writer = Writing::failing(rt.alloc(), 60, failure);
+        let ending = ran_taking(&rt, rt.alloc(), &mut &*SCRIPT, writer, &ANSWERS[..60]);
         assert!(rt; matches!(ending, Ending::StreamFailed));
-        assert_eq!(rt; writer.taken.as_slice(), &ANSWERS[..60]);
     }
 }
 
@@ -113,7 +129,7 @@ fn stops_where_the_writer_fails(rt: HostRuntime) {
 fn stops_where_a_flush_fails(rt: HostRuntime) {
     for (flushes, written) in [(0, 0), (1, 48), (2, 98), (3, 114)] {
         let mut writer = Writing::failing_flush(rt.alloc(), flushes);
-        let ending = ran(rt.alloc(), &mut &*SCRIPT, &mut writer);
+        let ending = ran(rt.alloc(), L2, &mut &*SCRIPT, &mut writer);
         assert!(rt;
             matches!(ending, Ending::StreamFailed),
             "at flush {flushes}"
@@ -136,34 +152,24 @@ fn answers_each_line_before_the_next_is_awaited(rt: HostRuntime) {
         heard: Vec::new(rt.alloc()),
         flushed: &flushed,
     };
-    let ending = ran(rt.alloc(), &mut reader, &mut writer);
-    assert_eq!(rt; ending.status(), 0);
-    assert_eq!(rt; writer.heard.as_slice(), ANSWERS);
+    let ending = ran(rt.alloc(), L2, &mut reader, &mut writer);
+    ends_with(&rt, ending, 0);
+    is_written(&rt, &writer.heard, ANSWERS);
 }
 
 #[test]
 fn refuses_a_game(rt: HostRuntime) -> Result<(), Fail> {
-    let mut written = Vec::new(rt.alloc());
-    let ending = hand_run(rt.alloc(), b"", None, 1, &mut &*SCRIPT, &mut written);
-    assert_eq!(rt; ending.status(), 2);
-    assert_eq!(rt;
-        format!(in rt.alloc(); "{ending}")?.as_str(),
-        "10 NoGamedef 0"
-    );
-    assert!(rt; written.is_empty());
+    let ending = ran_writing(&rt, rt.alloc(), b"", &mut &*SCRIPT, b"");
+    ends_with(&rt, ending, 2);
+    prints(&rt, rt.alloc(), ending, "10 NoGamedef 0")?;
     Ok(())
 }
 
 #[test]
 fn reads_a_script_so_often_and_no_more(rt: HostRuntime) -> Result<(), Fail> {
     assert_eq!(rt; MOST_READS, 16_777_216);
-    for (bytes, is_read) in [(b"xxx".as_slice(), true), (b"xxxx".as_slice(), false)] {
-        let game = game_def::read(L2)?;
-        let mut reader = Reading::new(bytes, 1);
-        let mut written = Vec::new(rt.alloc());
-        let ran = run_script(rt.alloc(), game, None, 1, 4, &mut reader, &mut written);
-        assert_eq!(rt; ran.is_ok(), is_read);
-        assert_eq!(rt; matches!(ran, Err(Stop::StreamFailed)), !is_read);
-    }
+    let game = game_def::read(L2)?;
+    reads_or_stops(&rt, run_by_four(rt.alloc(), game, b"xxx"), true);
+    reads_or_stops(&rt, run_by_four(rt.alloc(), game, b"xxxx"), false);
     Ok(())
 }

@@ -1,9 +1,11 @@
 //! What the tests of all commands read from and write to: readers and writers that trickle, are interrupted,
-//! fail, or talk to each other; and the game and the match that they play.
+//! fail, or talk to each other; the game and the match that they play; and how a run ended.
 
-use std::alloc::Global;
+use std::alloc::{AllocError, Global};
 use std::cell::Cell;
 use std::io::{Error, ErrorKind, Read, Result as IoResult, Write};
+use std::process::Abort;
+use streamed::{Ending, Stop};
 
 pub(crate) const L2: &[u8] = b"GAMEDEF
 limit
@@ -219,4 +221,26 @@ impl Write for Listener<'_> {
         self.flushed.set(true);
         Ok(())
     }
+}
+
+/// Sees that this was written.
+pub(crate) fn is_written(rt: &impl Abort, written: &[u8], text: &[u8]) {
+    assert_eq!(rt; written, text);
+}
+
+/// Sees that a run ended with this status.
+pub(crate) fn ends_with(rt: &impl Abort, ending: Ending, status: u8) {
+    assert_eq!(rt; ending.status(), status);
+}
+
+/// Sees that a run's ending prints this.
+pub(crate) fn prints(rt: &impl Abort, alloc: Global, ending: Ending, text: &str) -> Result<(), AllocError> {
+    assert_eq!(rt; format!(in alloc; "{ending}")?.as_str(), text);
+    Ok(())
+}
+
+/// Sees whether all was read; where it wasn't, the run is to have stopped.
+pub(crate) fn reads_or_stops(rt: &impl Abort, ran: Result<(), Stop>, is_read: bool) {
+    assert_eq!(rt; ran.is_ok(), is_read);
+    assert_eq!(rt; matches!(ran, Err(Stop::StreamFailed)), !is_read);
 }
