@@ -1,4 +1,6 @@
-use crate::test_streams::{L2, Listener, Reading, Talker, Writing, ends_with, is_written, prints, reads_or_stops};
+use crate::test_streams::{
+    L2, Listener, Reading, Talker, Writing, ends_with, is_written, prints, reads_or_stops,
+};
 use game_def::GameDef;
 use std::alloc::{AllocError, Global};
 use std::cell::Cell;
@@ -51,7 +53,13 @@ fn ran<R: Read, W: Write>(alloc: Global, game: &[u8], reader: &mut R, writer: &m
 }
 
 /// Runs a script, for which this is to be written: how the run ends.
-fn ran_writing<R: Read>(rt: &impl Abort, alloc: Global, game: &[u8], reader: &mut R, text: &[u8]) -> Ending {
+fn ran_writing<R: Read>(
+    rt: &impl Abort,
+    alloc: Global,
+    game: &[u8],
+    reader: &mut R,
+    text: &[u8],
+) -> Ending {
     let mut written = Vec::new(alloc);
     let ending = ran(alloc, game, reader, &mut written);
     is_written(rt, &written, text);
@@ -59,7 +67,13 @@ fn ran_writing<R: Read>(rt: &impl Abort, alloc: Global, game: &[u8], reader: &mu
 }
 
 /// Runs a script, of whose answers a writer is to take this: how the run ends.
-fn ran_taking<R: Read>(rt: &impl Abort, alloc: Global, reader: &mut R, writer: Writing, taken: &[u8]) -> Ending {
+fn ran_taking<R: Read>(
+    rt: &impl Abort,
+    alloc: Global,
+    reader: &mut R,
+    writer: Writing,
+    taken: &[u8],
+) -> Ending {
     let mut writer = writer;
     let ending = ran(alloc, L2, reader, &mut writer);
     is_written(rt, &writer.taken, taken);
@@ -74,7 +88,15 @@ fn ran_with_log<W: Write>(alloc: Global, word: GameWord<'_>, writer: &mut W) -> 
 /// Runs a script that comes byte by byte, with four reads at most.
 fn run_by_four(alloc: Global, game: GameDef, bytes: &[u8]) -> Result<(), Stop> {
     let mut written = Vec::new(alloc);
-    run_script(alloc, game, None, 1, 4, &mut Reading::new(bytes, 1), &mut written)
+    run_script(
+        alloc,
+        game,
+        None,
+        1,
+        4,
+        &mut Reading::new(bytes, 1),
+        &mut written,
+    )
 }
 
 #[test]
@@ -102,7 +124,12 @@ fn answers_a_script_in_any_pieces(rt: HostRuntime) {
 }
 
 /// Runs a script whose reader fails so before its last two lines: the ending is to print this.
-fn keeps_answers(rt: &impl Abort, alloc: Global, kind: ErrorKind, text: &str) -> Result<(), AllocError> {
+fn keeps_answers(
+    rt: &impl Abort,
+    alloc: Global,
+    kind: ErrorKind,
+    text: &str,
+) -> Result<(), AllocError> {
     let mut reader = Reading::new(SCRIPT, 1).failing(6, kind);
     let ending = ran_writing(rt, alloc, L2, &mut reader, &ANSWERS[..98]);
     ends_with(rt, ending, 2);

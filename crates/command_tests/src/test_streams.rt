@@ -234,7 +234,12 @@ pub(crate) fn ends_with(rt: &impl Abort, ending: Ending, status: u8) {
 }
 
 /// Sees that a run's ending prints this.
-pub(crate) fn prints(rt: &impl Abort, alloc: Global, ending: Ending, text: &str) -> Result<(), AllocError> {
+pub(crate) fn prints(
+    rt: &impl Abort,
+    alloc: Global,
+    ending: Ending,
+    text: &str,
+) -> Result<(), AllocError> {
     assert_eq!(rt; format!(in alloc; "{ending}")?.as_str(), text);
     Ok(())
 }
