@@ -1,5 +1,8 @@
-use crate::test_streams::{L2, Listener, MATCH, Reading, Talker, Writing};
-use match_file::MatchFile;
+use crate::test_streams::{
+    L2, Listener, MATCH, Reading, Talker, Writing, config, ends_with, is_written, prints,
+    reads_or_stops,
+};
+use dealer_kind::Config;
 use match_runs::{play_match, play_run};
 use std::alloc::{AllocError, Global};
 use std::cell::Cell;
@@ -103,13 +106,20 @@ fn played(alloc: Global, file: &[u8], script: &[u8]) -> (Ending, Vec<u8>) {
     (ending, written)
 }
 
+/// Plays a script, for which this is to be written: how the run ends.
+fn ran_writing<R: Read>(rt: &impl Abort, alloc: Global, reader: &mut R, text: &[u8]) -> Ending {
+    let mut written = Vec::new(alloc);
+    let ending = ran(alloc, MATCH, reader, &mut written);
+    is_written(rt, &written, text);
+    ending
+}
+
 #[test]
 fn answers_a_script_of_nodes(rt: HostRuntime) {
-    for (script, answers) in [(CALM, CALM_ANSWERS), (STOPPED, STOPPED_ANSWERS)] {
-        let (ending, written) = played(rt.alloc(), MATCH, script);
-        assert_eq!(rt; ending.status(), 0);
-        assert_eq!(rt; written.as_slice(), answers);
-    }
+    let calm = ran_writing(&rt, rt.alloc(), &mut &*CALM, CALM_ANSWERS);
+    ends_with(&rt, calm, 0);
+    let stopped = ran_writing(&rt, rt.alloc(), &mut &*STOPPED, STOPPED_ANSWERS);
+    ends_with(&rt, stopped, 0);
 }
 
 #[test]
@@ -118,7 +128,7 @@ fn answers_a_script_of_nodes_in_any_pieces(rt: HostRuntime) {
     let mut writer = Writing::interrupted(rt.alloc());
     let ending = ran(rt.alloc(), MATCH, &mut reader, &mut writer);
     assert!(rt; matches!(ending, Ending::Done));
-    assert_eq!(rt; writer.taken.as_slice(), STOPPED_ANSWERS);
+    is_written(&rt, &writer.taken, STOPPED_ANSWERS);
 }
 
 #[test]
@@ -133,31 +143,41 @@ fn answers_each_line_of_nodes_before_the_next_is_awaited(rt: HostRuntime) {
         flushed: &flushed,
     };
     let ending = ran(rt.alloc(), MATCH, &mut reader, &mut writer);
-    assert_eq!(rt; ending.status(), 0);
-    assert_eq!(rt; writer.heard.as_slice(), STOPPED_ANSWERS);
+    ends_with(&rt, ending, 0);
+    is_written(&rt, &writer.heard, STOPPED_ANSWERS);
+}
+
+/// Plays a script of which all but `f` and its line feed is read, and then fails so: the ending is to print this.
+fn keeps_answers(
+    rt: &impl Abort,
+    alloc: Global,
+    kind: ErrorKind,
+    text: &str,
+) -> Result<(), AllocError> {
+    let answers = STOPPED_ANSWERS
+        .strip_suffix(b"E 110 BadScript\n")
+        .expect(rt, "answers to all lines");
+    let mut reader = Reading::new(STOPPED, 1).failing(2, kind);
+    let ending = ran_writing(rt, alloc, &mut reader, answers);
+    ends_with(rt, ending, 2);
+    prints(rt, alloc, ending, text)
+}
+
+/// Plays a script whose writer fails once it has taken so many bytes.
+fn stops_at(rt: &impl Abort, alloc: Global, most: usize) {
+    let mut writer = Writing::failing(alloc, most, ErrorKind::BrokenPipe);
+    let ending = ran(alloc, MATCH, &mut &*CALM, &mut writer);
+    assert!(rt; matches!(ending, Ending::StreamFailed), "at {most}");
+    assert!(rt; writer.taken.len() >= most, "at {most}");
+    assert!(rt; CALM_ANSWERS.starts_with(&writer.taken), "at {most}");
 }
 
 #[test]
 fn keeps_what_nodes_answered_before_a_stream_fails(rt: HostRuntime) -> Result<(), Fail> {
-    for (kind, text) in [
-        (ErrorKind::BrokenPipe, "107 StreamFailed"),
-        (ErrorKind::OutOfMemory, "92 OutOfMemory"),
-    ] {
-        // Of the script all but `f` and its line feed is read.
-        let mut reader = Reading::new(STOPPED, 1).failing(2, kind);
-        let mut written = Vec::new(rt.alloc());
-        let ending = ran(rt.alloc(), MATCH, &mut reader, &mut written);
-        assert_eq!(rt; ending.status(), 2);
-        assert_eq!(rt; format!(in rt.alloc(); "{ending}")?.as_str(), text);
-        let answers = STOPPED_ANSWERS.strip_suffix(b"E 110 BadScript\n");
-        assert_eq!(rt; Some(written.as_slice()), answers);
-    }
+    keeps_answers(&rt, rt.alloc(), ErrorKind::BrokenPipe, "107 StreamFailed")?;
+    keeps_answers(&rt, rt.alloc(), ErrorKind::OutOfMemory, "92 OutOfMemory")?;
     for most in 0..HEADERS.len() + 40 {
-        let mut writer = Writing::failing(rt.alloc(), most, ErrorKind::BrokenPipe);
-        let ending = ran(rt.alloc(), MATCH, &mut &*CALM, &mut writer);
-        assert!(rt; matches!(ending, Ending::StreamFailed), "at {most}");
-        assert!(rt; writer.taken.len() >= most, "at {most}");
-        assert!(rt; CALM_ANSWERS.starts_with(&writer.taken), "at {most}");
+        stops_at(&rt, rt.alloc(), most);
     }
     Ok(())
 }
@@ -179,18 +199,21 @@ fn stops_where_a_flush_of_answers_fails(rt: HostRuntime) {
     }
 }
 
+/// Plays a script that comes byte by byte, with four reads at most: the headers are to be written.
+fn play_by_four(rt: &impl Abort, alloc: Global, config: Config, bytes: &[u8]) -> Result<(), Stop> {
+    let mut written = Vec::new(alloc);
+    let ran = play_match(alloc, config, 4, &mut Reading::new(bytes, 1), &mut written);
+    is_written(rt, &written, HEADERS);
+    ran
+}
+
 #[test]
 fn reads_a_script_of_nodes_so_often_and_no_more(rt: HostRuntime) -> Result<(), Fail> {
     assert_eq!(rt; MOST_READS, 16_777_216);
-    for (bytes, is_read) in [(b"xxx".as_slice(), true), (b"xxxx".as_slice(), false)] {
-        let config = MatchFile::read(rt.alloc(), MATCH)?.config(rt.alloc(), Some(L2))?;
-        let mut reader = Reading::new(bytes, 1);
-        let mut written = Vec::new(rt.alloc());
-        let ran = play_match(rt.alloc(), config, 4, &mut reader, &mut written);
-        assert_eq!(rt; ran.is_ok(), is_read);
-        assert_eq!(rt; matches!(ran, Err(Stop::StreamFailed)), !is_read);
-        assert_eq!(rt; written.as_slice(), HEADERS);
-    }
+    let read = play_by_four(&rt, rt.alloc(), config(rt.alloc())?, b"xxx");
+    reads_or_stops(&rt, read, true);
+    let stopped = play_by_four(&rt, rt.alloc(), config(rt.alloc())?, b"xxxx");
+    reads_or_stops(&rt, stopped, false);
     Ok(())
 }
 

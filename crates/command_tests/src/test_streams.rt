@@ -1,10 +1,13 @@
 //! What the tests of all commands read from and write to: readers and writers that trickle, are interrupted,
 //! fail, or talk to each other; the game and the match that they play; and how a run ended.
 
+use dealer_kind::Config;
+use match_file::MatchFile;
 use std::alloc::{AllocError, Global};
 use std::cell::Cell;
 use std::io::{Error, ErrorKind, Read, Result as IoResult, Write};
 use std::process::Abort;
+use std::test::Fail;
 use streamed::{Ending, Stop};
 
 pub(crate) const L2: &[u8] = b"GAMEDEF
@@ -34,6 +37,11 @@ deals = [\"2d2h|3d3s/4c5c6c/7c/8d\"]
 [[node]]
 deals = [\"QcQd|JcJd/2s3c4d/9s/Th\"]
 ";
+
+/// The match, as its file and its game's have it.
+pub(crate) fn config(alloc: Global) -> Result<Config, Fail> {
+    Ok(MatchFile::read(alloc, MATCH)?.config(alloc, Some(L2))?)
+}
 
 /// Gives so many bytes at a time.
 #[derive(Drop)]
@@ -244,7 +252,7 @@ pub(crate) fn prints(
     Ok(())
 }
 
-/// Sees whether all was read; where it wasn't, the run is to have stopped.
+/// Sees that a run read all, or that it stopped before.
 pub(crate) fn reads_or_stops(rt: &impl Abort, ran: Result<(), Stop>, is_read: bool) {
     assert_eq!(rt; ran.is_ok(), is_read);
     assert_eq!(rt; matches!(ran, Err(Stop::StreamFailed)), !is_read);
