@@ -4,12 +4,11 @@ use crate::samples::two_hands;
 use dealer_node::NodeFault;
 use dealer_world::Cluster;
 use match_file::Outage;
-use match_links::{Links, MemoryLinks, Reached};
+use match_links::{Links, MemoryLinks, Reached, Told};
 use promise_store::{Disk, OnceDisk};
 use serving::{Outages, Place, ServeFault, Server, Turn};
-use std::alloc::Global;
+use std::alloc::{AllocError, Global};
 use std::process::Abort;
-use std::test::Fail;
 
 /// The header of a log of the match.
 const HEADER: &[u8] = b"# name/game/hands m1 l2.game 2\n";
@@ -22,7 +21,7 @@ SCORE:0|0:alice|bob
 ";
 
 /// The logs where node 0 is lost after the first deal: of node 0 the header alone.
-pub(crate) fn without_node_0(alloc: Global) -> Result<Vec<u8>, Fail> {
+pub(crate) fn without_node_0(alloc: Global) -> Result<Vec<u8>, AllocError> {
     let mut logs = HEADER.to_vec(alloc)?;
     logs.extend_from_slice(LOG)?;
     logs.extend_from_slice(LOG)?;
@@ -42,7 +41,7 @@ pub(crate) const ALICE: &[u8] = b"VERSION:2.0.0\r\nMATCHSTATE:1:1::|3d3s:f\r\n";
 const TURNS: u32 = 10_000;
 
 /// How a match ended.
-#[derive(Drop)]
+#[derive(Clone, Copy)]
 pub(crate) enum Ending {
     /// It was over; so many turns started a node.
     Over { starts: u64 },
@@ -52,6 +51,12 @@ pub(crate) enum Ending {
     Never,
 }
 
+/// Asserts that a new server awaits seats at node 0, and no seat beyond them.
+fn assert_places<D: Disk + Drop, L: Links + Drop>(rt: &impl Abort, server: &Server<D, L>) {
+    assert!(rt; server.place(0) == Some(Place::Awaited(0)));
+    assert!(rt; server.place(2).is_none());
+}
+
 /// A server of a new cluster over these disks, which awaits each seat at node 0; none where a node or a log refuses.
 pub(crate) fn server<D: Disk + Drop, L: Links + Drop>(
     rt: &impl Abort,
@@ -59,7 +64,7 @@ pub(crate) fn server<D: Disk + Drop, L: Links + Drop>(
     disks: Vec<D>,
     links: L,
     outages: Outages,
-) -> Result<Option<Server<D, L>>, Fail> {
+) -> Result<Option<Server<D, L>>, AllocError> {
     let config = two_hands(rt, alloc)?;
     assert!(rt; disks.len() == config.nodes());
     let Ok(cluster) = Cluster::new(alloc, config, disks) else {
@@ -68,8 +73,7 @@ pub(crate) fn server<D: Disk + Drop, L: Links + Drop>(
     let Ok(server) = Server::new(alloc, cluster, links, outages) else {
         return Ok(None);
     };
-    assert!(rt; server.place(0) == Some(Place::Awaited(0)));
-    assert!(rt; server.place(2).is_none());
+    assert_places(rt, &server);
     Ok(Some(server))
 }
 
@@ -111,27 +115,49 @@ pub(crate) struct Course {
     pub(crate) logs: Vec<u8>,
 }
 
+/// Puts a line that a seat was told behind a text, behind the digits of its node and its seat and with a line feed.
+fn put_told(text: &mut Vec<u8>, told: &Told) -> Result<(), AllocError> {
+    let node = b'0' + told.node.min(9);
+    let seat = b'0' + told.seat.min(9);
+    text.extend_from_slice(&[node, b' ', seat, b' '])?;
+    text.extend_from_slice(&told.line)?;
+    text.push(b'\n')?;
+    Ok(())
+}
+
 /// The lines that seats were told.
-fn told(alloc: Global, links: &MemoryLinks) -> Result<Vec<u8>, Fail> {
+fn told(alloc: Global, links: &MemoryLinks) -> Result<Vec<u8>, AllocError> {
     let mut all = Vec::new(alloc);
     for told in links.told().iter() {
-        all.push(b'0' + told.node.min(9))?;
-        all.push(b' ')?;
-        all.push(b'0' + told.seat.min(9))?;
-        all.push(b' ')?;
-        all.extend_from_slice(&told.line)?;
-        all.push(b'\n')?;
+        put_told(&mut all, told)?;
     }
     Ok(all)
 }
 
 /// The logs of three nodes, one behind the other.
-fn logs(alloc: Global, links: &MemoryLinks) -> Result<Vec<u8>, Fail> {
+fn logs(alloc: Global, links: &MemoryLinks) -> Result<Vec<u8>, AllocError> {
     let mut all = Vec::new(alloc);
     for node in 0..3 {
         all.extend_from_slice(links.log(node))?;
     }
     Ok(all)
+}
+
+/// What comes of a match that this server serves.
+fn course_of<D: Disk + Drop>(
+    alloc: Global,
+    server: &mut Server<D, MemoryLinks>,
+) -> Result<Course, AllocError> {
+    let ending = serve(server);
+    let failures = failures(server);
+    let links = server.links();
+    Ok(Course {
+        ending,
+        failures,
+        failed: links.failed(),
+        told: told(alloc, links)?,
+        logs: logs(alloc, links)?,
+    })
 }
 
 /// Serves a match over these disks and links to its end; none where no server could be made.
@@ -141,23 +167,15 @@ pub(crate) fn play<D: Disk + Drop>(
     disks: Vec<D>,
     links: MemoryLinks,
     outages: Outages,
-) -> Result<Option<Course>, Fail> {
+) -> Result<Option<Course>, AllocError> {
     let Some(mut server) = server(rt, alloc, disks, links, outages)? else {
         return Ok(None);
     };
-    let ending = serve(&mut server);
-    let links = server.links();
-    Ok(Some(Course {
-        ending,
-        failures: failures(&server),
-        failed: links.failed(),
-        told: told(alloc, links)?,
-        logs: logs(alloc, links)?,
-    }))
+    Ok(Some(course_of(alloc, &mut server)?))
 }
 
 /// The disks of three nodes, of which that of this one fails in its call of this number; with 0 none does.
-pub(crate) fn disks(alloc: Global, failing: usize, call: u64) -> Result<Vec<OnceDisk>, Fail> {
+pub(crate) fn disks(alloc: Global, failing: usize, call: u64) -> Result<Vec<OnceDisk>, AllocError> {
     let mut disks = Vec::new(alloc);
     for node in 0..3 {
         let call = if node == failing { call } else { 0 };
@@ -177,21 +195,25 @@ pub(crate) fn outage(
     node: usize,
     at: u64,
     back: Option<u64>,
-) -> Result<Outages, Fail> {
+) -> Result<Outages, AllocError> {
     let listed = vec![in alloc; Outage { node, at, back }]?;
     Ok(Outages::new(listed))
 }
 
-/// Both seats' bots at each node, twice: they send all their lines, of which those that are old are refused. The call of
-/// a link of this number fails; with 0 none does.
-pub(crate) fn bots_everywhere(alloc: Global, call: u64) -> Result<MemoryLinks, Fail> {
-    let mut links = MemoryLinks::new(alloc, 3, call)?;
-    for _ in 0..2 {
-        for node in 0..3 {
-            links.call(node, 0, ALICE)?;
-            links.call(node, 1, BOB)?;
-        }
+/// Both seats' bots call each node: they send all their lines, of which those that are old are refused.
+fn call_each(links: &mut MemoryLinks) -> Result<(), AllocError> {
+    for node in 0..3 {
+        links.call(node, 0, ALICE)?;
+        links.call(node, 1, BOB)?;
     }
+    Ok(())
+}
+
+/// Both seats' bots at each node, twice. The call of a link of this number fails; with 0 none does.
+pub(crate) fn bots_everywhere(alloc: Global, call: u64) -> Result<MemoryLinks, AllocError> {
+    let mut links = MemoryLinks::new(alloc, 3, call)?;
+    call_each(&mut links)?;
+    call_each(&mut links)?;
     Ok(links)
 }
 

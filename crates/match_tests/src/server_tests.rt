@@ -6,7 +6,7 @@ use dealer_node::NodeFault;
 use match_links::{MemoryLinks, Reached};
 use promise_store::{MemoryDisk, StoreFault};
 use serving::{Outages, ServeFault};
-use std::alloc::Global;
+use std::alloc::{AllocError, Global};
 use std::process::Abort;
 use std::test::Fail;
 
@@ -23,7 +23,7 @@ const TOLD: &[u8] = b"0 0 MATCHSTATE:0:0::TdAs|
 ";
 
 /// Both seats call node 0, and then node 1.
-fn bots_of_two_nodes(alloc: Global) -> Result<MemoryLinks, Fail> {
+fn bots_of_two_nodes(alloc: Global) -> Result<MemoryLinks, AllocError> {
     let mut links = MemoryLinks::new(alloc, 3, 0)?;
     links.call(0, 0, VERSION)?;
     links.call(0, 1, VERSION)?;
@@ -39,7 +39,7 @@ fn played(
     failing: (usize, u64),
     links: MemoryLinks,
     outages: Outages,
-) -> Result<Option<Course>, Fail> {
+) -> Result<Option<Course>, AllocError> {
     play(
         rt,
         alloc,
@@ -49,13 +49,33 @@ fn played(
     )
 }
 
+/// The same where both seats' bots are at each node and no link fails, without outages.
+fn played_everywhere(
+    rt: &impl Abort,
+    alloc: Global,
+    failing: (usize, u64),
+) -> Result<Option<Course>, AllocError> {
+    let links = bots_everywhere(alloc, 0)?;
+    played(rt, alloc, failing, links, no_outages(alloc))
+}
+
+/// The same where node 1 is out from the first command to the second; the call of a link of this number fails too.
+fn played_about_an_outage(
+    rt: &impl Abort,
+    alloc: Global,
+    failing: (usize, u64),
+    call: u64,
+) -> Result<Option<Course>, AllocError> {
+    let outages = outage(alloc, 1, 1, Some(2))?;
+    let links = bots_everywhere(alloc, call)?;
+    played(rt, alloc, failing, links, outages)
+}
+
 /// Where nothing fails the match is played at node 0. `tests/serve_growths` runs this test and refuses it memory: a turn
 /// that finds none is taken again, and a node whose disk finds none is started again.
 #[test]
 fn a_match_is_played_to_its_end(rt: HostRuntime) -> Result<(), Fail> {
-    let alloc = rt.alloc();
-    let links = bots_everywhere(alloc, 0)?;
-    let Some(course) = played(&rt, alloc, (0, 0), links, no_outages(alloc))? else {
+    let Some(course) = played_everywhere(&rt, rt.alloc(), (0, 0))? else {
         return Err(Fail::from(NodeFault::OutOfMemory));
     };
     assert_mended(&rt, &course, 0);
@@ -71,33 +91,40 @@ fn assert_mended(rt: &impl Abort, course: &Course, call: u64) {
     assert_logged(rt, course, call);
 }
 
-/// Node 0 is lost after the first deal; both seats go to node 1, and the match is played there to its end.
-#[test]
-fn a_match_outlives_a_node(rt: HostRuntime) -> Result<(), Fail> {
-    let alloc = rt.alloc();
+/// The match in which node 0 is lost after the first deal, and both seats go to node 1.
+fn played_without_node_0(rt: &impl Abort, alloc: Global) -> Result<Option<Course>, AllocError> {
     let outages = outage(alloc, 0, 1, None)?;
     let links = bots_of_two_nodes(alloc)?;
-    let course = played(&rt, alloc, (0, 0), links, outages)?.expect(&rt, "a server");
+    played(rt, alloc, (0, 0), links, outages)
+}
+
+/// Asserts that the match is over without a start, and that it was told and logged as it is without node 0.
+fn assert_outlived(rt: &impl Abort, alloc: Global, course: &Course) -> Result<(), AllocError> {
     assert!(rt; matches!(course.ending, Ending::Over { starts: 0 }));
     assert_eq!(rt; course.told.as_slice(), TOLD);
     assert_eq!(rt; course.logs.as_slice(), without_node_0(alloc)?.as_slice());
     Ok(())
 }
 
-/// A match whose links' call of this number fails, counted from 1: what that call was to reach. A seat's link that fails
-/// ends no match; one between nodes or to a port is 105, one to a log 106.
-fn fails_at(rt: &impl Abort, alloc: Global, call: u64) -> Result<Option<Reached>, Fail> {
-    let outages = outage(alloc, 1, 1, Some(2))?;
-    let links = bots_everywhere(alloc, call)?;
-    let Some(course) = played(rt, alloc, (0, 0), links, outages)? else {
-        // (the only fault of a new server, by its contract)
-        return Ok(Some(Reached::Log));
-    };
+/// Node 0 is lost after the first deal; both seats go to node 1, and the match is played there to its end.
+#[test]
+fn a_match_outlives_a_node(rt: HostRuntime) -> Result<(), Fail> {
+    let alloc = rt.alloc();
+    let course = played_without_node_0(&rt, alloc)?.expect(&rt, "a server");
+    Ok(assert_outlived(&rt, alloc, &course)?)
+}
+
+/// Asserts that the match is over and wholly logged.
+fn assert_over(rt: &impl Abort, course: &Course, call: u64) {
+    assert!(rt; matches!(course.ending, Ending::Over { .. }), "call {call}");
+    assert_logged(rt, course, call);
+}
+
+/// Asserts how a match ended whose links' call failed: a seat's link that fails ends no match; one between nodes or to
+/// a port is 105, one to a log 106.
+fn assert_ended(rt: &impl Abort, course: &Course, call: u64) {
     match course.failed {
-        None | Some(Reached::Seat) => {
-            assert!(rt; matches!(course.ending, Ending::Over { .. }), "call {call}");
-            assert_logged(rt, &course, call);
-        }
+        None | Some(Reached::Seat) => assert_over(rt, course, call),
         Some(Reached::Peer | Reached::Ports) => {
             assert!(rt; matches!(course.ending, Ending::Refused(ServeFault::LinkFailed)));
         }
@@ -105,6 +132,15 @@ fn fails_at(rt: &impl Abort, alloc: Global, call: u64) -> Result<Option<Reached>
             assert!(rt; matches!(course.ending, Ending::Refused(ServeFault::LogFailed)));
         }
     }
+}
+
+/// A match whose links' call of this number fails, counted from 1: what that call was to reach.
+fn fails_at(rt: &impl Abort, alloc: Global, call: u64) -> Result<Option<Reached>, AllocError> {
+    let Some(course) = played_about_an_outage(rt, alloc, (0, 0), call)? else {
+        // (the only fault of a new server, by its contract)
+        return Ok(Some(Reached::Log));
+    };
+    assert_ended(rt, &course, call);
     Ok(course.failed)
 }
 
@@ -136,9 +172,8 @@ fn each_call_of_a_link_fails_in_turn(rt: HostRuntime) -> Result<(), Fail> {
 
 /// A match in which this call of a node's disk fails: whether that was after the cluster was made. Then the node is
 /// stopped and started, once.
-fn fails_once(rt: &impl Abort, alloc: Global, node: usize, call: u64) -> Result<bool, Fail> {
-    let links = bots_everywhere(alloc, 0)?;
-    let Some(course) = played(rt, alloc, (node, call), links, no_outages(alloc))? else {
+fn fails_once(rt: &impl Abort, alloc: Global, node: usize, call: u64) -> Result<bool, AllocError> {
+    let Some(course) = played_everywhere(rt, alloc, (node, call))? else {
         return Ok(false);
     };
     assert_mended(rt, &course, call);
@@ -168,33 +203,53 @@ fn each_call_of_a_disk_fails_in_turn(rt: HostRuntime) -> Result<(), Fail> {
 fn each_call_of_a_disk_fails_about_an_outage(rt: HostRuntime) -> Result<(), Fail> {
     let alloc = rt.alloc();
     for call in 1..60u64 {
-        let links = bots_everywhere(alloc, 0)?;
-        let outages = outage(alloc, 1, 1, Some(2))?;
-        if let Some(course) = played(&rt, alloc, (1, call), links, outages)? {
-            assert!(rt; matches!(course.ending, Ending::Over { .. }), "call {call}");
-            assert_logged(&rt, &course, call);
+        if let Some(course) = played_about_an_outage(&rt, alloc, (1, call), 0)? {
+            assert_over(&rt, &course, call);
         }
     }
     Ok(())
 }
 
-/// A match over a disk of node 0 that fails from behind so many calls on: whether it did. Then its first fault has the
-/// node stopped and started, and the second ends the match.
-fn stays_broken(rt: &impl Abort, alloc: Global, calls: u64) -> Result<bool, Fail> {
+/// Adds the disk of a node.
+fn add_disk(alloc: Global, disks: &mut Vec<MemoryDisk>, fuses: &[u64]) -> Result<(), AllocError> {
+    let disk = MemoryDisk::new(alloc, fuses)?;
+    disks.push(disk)?;
+    Ok(())
+}
+
+/// The disks of three nodes, of which that of node 0 fails from behind so many calls on.
+fn broken_disks(alloc: Global, calls: u64) -> Result<Vec<MemoryDisk>, AllocError> {
     let mut disks = Vec::new(alloc);
-    disks.push(MemoryDisk::new(alloc, &[calls, 0])?)?;
-    disks.push(MemoryDisk::new(alloc, &[])?)?;
-    disks.push(MemoryDisk::new(alloc, &[])?)?;
+    add_disk(alloc, &mut disks, &[calls, 0])?;
+    add_disk(alloc, &mut disks, &[])?;
+    add_disk(alloc, &mut disks, &[])?;
+    Ok(disks)
+}
+
+/// The match over these disks.
+fn played_broken(rt: &impl Abort, alloc: Global, calls: u64) -> Result<Option<Course>, AllocError> {
+    let disks = broken_disks(alloc, calls)?;
     let links = bots_everywhere(alloc, 0)?;
-    let Some(course) = play(rt, alloc, disks, links, no_outages(alloc))? else {
-        return Ok(true);
-    };
+    play(rt, alloc, disks, links, no_outages(alloc))
+}
+
+/// Asserts that a match was ended by a broken disk, or that no call of a disk failed in it.
+fn assert_broken(rt: &impl Abort, course: &Course, calls: u64) {
     let broken = ServeFault::Node(NodeFault::Store(StoreFault::Disk));
     match course.ending {
         Ending::Over { .. } => assert_eq!(rt; course.failures, 0, "behind {calls} calls"),
         Ending::Refused(fault) => assert!(rt; fault == broken, "behind {calls} calls"),
         Ending::Never => assert!(rt; false, "behind {calls} calls"),
     }
+}
+
+/// A match over a disk of node 0 that fails from behind so many calls on: whether it did. Then its first fault has the
+/// node stopped and started, and the second ends the match.
+fn stays_broken(rt: &impl Abort, alloc: Global, calls: u64) -> Result<bool, AllocError> {
+    let Some(course) = played_broken(rt, alloc, calls)? else {
+        return Ok(true);
+    };
+    assert_broken(rt, &course, calls);
     Ok(course.failures > 0)
 }
 

@@ -1,7 +1,8 @@
 use crate::course::{ALICE, BOB, Ending, VERSION, disks, outage, serve, server, without_node_0};
 use match_links::TcpLinks;
-use serving::Turn;
-use std::alloc::Global;
+use promise_store::OnceDisk;
+use serving::{Server, Turn};
+use std::alloc::{AllocError, Global};
 use std::fs;
 use std::fs::File;
 use std::io::{Read, Write};
@@ -27,20 +28,29 @@ fn links(rt: &HostRuntime) -> Option<TcpLinks<'_>> {
 }
 
 /// The name of a node's log, which is this test's own by its port.
-fn log_path(rt: &HostRuntime, port: u16, node: u8) -> Result<String, Fail> {
-    Ok(format!(in rt.alloc(); "/tmp/serving_test_{port}_{node}.log")?)
+fn log_path(rt: &HostRuntime, port: u16, node: u8) -> Result<String, AllocError> {
+    format!(in rt.alloc(); "/tmp/serving_test_{port}_{node}.log")
+}
+
+/// Opens the log of a node.
+fn open_log(rt: &HostRuntime, path: &str) -> Result<File, Fail> {
+    Ok(File::options().append(true).create(true).open(rt, path)?)
 }
 
 /// Opens the logs of three nodes and gives them to the links.
 fn add_logs(rt: &HostRuntime, links: &mut TcpLinks<'_>, port: u16) -> Result<(), Fail> {
     for node in 0..3u8 {
         let path = log_path(rt, port, node)?;
-        let log = File::options()
-            .append(true)
-            .create(true)
-            .open(rt, path.as_str())?;
-        links.add_log(log)?;
+        links.add_log(open_log(rt, path.as_str())?)?;
     }
+    Ok(())
+}
+
+/// Puts a log behind others; its file is taken away.
+fn take_log(rt: &HostRuntime, path: &str, all: &mut Vec<u8>) -> Result<(), Fail> {
+    let log = fs::read(rt, path)?;
+    all.extend_from_slice(&log)?;
+    fs::remove_file(rt, path)?;
     Ok(())
 }
 
@@ -49,9 +59,7 @@ fn take_logs(rt: &HostRuntime, port: u16) -> Result<Vec<u8>, Fail> {
     let mut all = Vec::new(rt.alloc());
     for node in 0..3u8 {
         let path = log_path(rt, port, node)?;
-        let log = fs::read(rt, path.as_str())?;
-        all.extend_from_slice(&log)?;
-        fs::remove_file(rt, path.as_str())?;
+        take_log(rt, path.as_str(), &mut all)?;
     }
     Ok(all)
 }
@@ -72,6 +80,12 @@ fn clients(rt: &HostRuntime, links: &TcpLinks<'_>) -> Result<Vec<TcpStream>, Fai
     Ok(clients)
 }
 
+/// Opens the logs of these links, and then the clients that call them.
+fn open(rt: &HostRuntime, links: &mut TcpLinks<'_>, port: u16) -> Result<Vec<TcpStream>, Fail> {
+    add_logs(rt, links, port)?;
+    clients(rt, links)
+}
+
 /// All that a client gets, up to the end of its connection.
 fn heard(alloc: Global, client: &mut TcpStream) -> Result<Vec<u8>, Fail> {
     let mut lines = Vec::new(alloc);
@@ -79,13 +93,31 @@ fn heard(alloc: Global, client: &mut TcpStream) -> Result<Vec<u8>, Fail> {
     Ok(lines)
 }
 
-/// Serves the match in which node 0 is lost over these links.
-fn serve_over(rt: &impl Abort, alloc: Global, links: TcpLinks<'_>) -> Result<(), Fail> {
-    let outages = outage(alloc, 0, 1, None)?;
-    let made = server(rt, alloc, disks(alloc, 0, 0)?, links, outages)?;
-    let mut server = made.expect(rt, "a server");
-    assert!(rt; matches!(serve(&mut server), Ending::Over { starts: 0 }));
+/// Asserts that a server comes to the end of its match without a start, and stays there.
+fn assert_served(rt: &impl Abort, server: &mut Server<OnceDisk, TcpLinks<'_>>) {
+    assert!(rt; matches!(serve(server), Ending::Over { starts: 0 }));
     assert!(rt; server.turn() == Ok(Turn::Over));
+}
+
+/// Serves the match in which node 0 is lost over these links.
+fn serve_over(rt: &impl Abort, alloc: Global, links: TcpLinks<'_>) -> Result<(), AllocError> {
+    let outages = outage(alloc, 0, 1, None)?;
+    let disks = disks(alloc, 0, 0)?;
+    let mut server = server(rt, alloc, disks, links, outages)?.expect(rt, "a server");
+    assert_served(rt, &mut server);
+    Ok(())
+}
+
+/// Asserts that the logs are those of the match in which node 0 is lost.
+fn assert_logs(rt: &impl Abort, alloc: Global, logs: &[u8]) -> Result<(), AllocError> {
+    assert_eq!(rt; logs, without_node_0(alloc)?.as_slice());
+    Ok(())
+}
+
+/// Asserts what bob's client at node 1 got.
+fn assert_told(rt: &impl Abort, alloc: Global, clients: &mut [TcpStream]) -> Result<(), Fail> {
+    let bob = clients.get_mut(2).expect(rt, "bob's client at node 1");
+    assert_eq!(rt; heard(alloc, bob)?.as_slice(), TOLD);
     Ok(())
 }
 
@@ -94,12 +126,9 @@ fn serve_over(rt: &impl Abort, alloc: Global, links: TcpLinks<'_>) -> Result<(),
 fn a_match_outlives_a_node_over_sockets(rt: HostRuntime) -> Result<(), Fail> {
     let mut links = links(&rt).expect(&rt, "free ports");
     let port = links.seat_port(0, 0);
-    add_logs(&rt, &mut links, port)?;
-    let mut clients = clients(&rt, &links)?;
+    let mut clients = open(&rt, &mut links, port)?;
     serve_over(&rt, rt.alloc(), links)?;
     let logs = take_logs(&rt, port)?;
-    assert_eq!(rt; logs.as_slice(), without_node_0(rt.alloc())?.as_slice());
-    let bob = clients.get_mut(2).expect(&rt, "bob's client at node 1");
-    assert_eq!(rt; heard(rt.alloc(), bob)?.as_slice(), TOLD);
-    Ok(())
+    assert_logs(&rt, rt.alloc(), &logs)?;
+    assert_told(&rt, rt.alloc(), &mut clients)
 }
