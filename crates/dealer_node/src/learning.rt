@@ -15,7 +15,7 @@ ghost use Rattle.dealer_node.specs.Rooms.{Grows};
 ghost use Rattle.dealer_node.specs.Running.{IsRunning, IsTaken, TakesTurn, IsAt, AreInRange, GoesOn, CanLearn, Learns};
 
 use crate::applying::take_all;
-use crate::chosen::{ask, tell, told_slots};
+use crate::chosen_frames::{ask, tell, told_slots};
 use crate::made::Made;
 use crate::post::Post;
 use crate::reader::Reader;

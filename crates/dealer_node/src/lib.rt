@@ -23,7 +23,7 @@
 mod accepting;
 mod answering;
 mod applying;
-mod chosen;
+mod chosen_frames;
 mod fault;
 mod frame_call;
 mod frames;
@@ -45,7 +45,7 @@ mod readying;
 mod running;
 mod seat_fault;
 mod seats;
-mod seen;
+mod seen_ballot;
 mod sending;
 mod starting;
 mod texts;

@@ -16,7 +16,7 @@ ghost use Rattle.dealer_node.specs.Running.{IsRunning, IsTaken, Closes, IsAt, is
 use crate::made::Made;
 use crate::post::Post;
 use crate::running::Running;
-use crate::seen::higher;
+use crate::seen_ballot::higher;
 use crate::sending::send_to_others;
 use crate::values::{is_over, own_value};
 use paxos_wire::limits::SLOTS;

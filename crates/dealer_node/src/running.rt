@@ -18,7 +18,7 @@ use crate::limits::{TEXT_BYTES_OF_A_COMMAND, TEXTS_OF_A_COMMAND};
 use crate::made::{Made, Need};
 use crate::post::Post;
 use crate::seats::Seats;
-use crate::seen::seen_in;
+use crate::seen_ballot::seen_in;
 use learner::Learner;
 use paxos_wire::limits::MOST_SINGLE_FRAME;
 use paxos_wire::{Ballot, Message};

@@ -21,7 +21,7 @@ use crate::fault::NodeFault;
 use crate::made::Made;
 use crate::post::Post;
 use crate::running::Running;
-use crate::seen::higher;
+use crate::seen_ballot::higher;
 use crate::up::Up;
 use acceptor::PrepareAnswer;
 use paxos_wire::Ballot;

@@ -14,7 +14,7 @@
 
 mod checked;
 mod checking;
-mod dealt;
+mod dealt_hand;
 mod fault;
 mod fault_kind;
 mod fields;

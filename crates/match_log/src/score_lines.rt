@@ -3,7 +3,7 @@ ghost use Rattle.slot_log.specs.Dealer.{is_match_over};
 ghost use Rattle.match_log.specs.Lines.{score_line as line_of};
 ghost use Rattle.match_log.specs.Tally.{IsTallyOf};
 
-use crate::dealt::dealt_hand;
+use crate::dealt_hand::dealt_hand;
 use crate::fields::{put_names, put_values};
 use crate::score::Score;
 use crate::seat_names::SeatNames;

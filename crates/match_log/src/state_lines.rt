@@ -4,7 +4,7 @@ ghost use Rattle.slot_log.specs.Dealer.{finished_count, hand_at};
 ghost use Rattle.slot_log.specs.Hand.{Hand};
 ghost use Rattle.match_log.specs.Lines.{state_line as line_of};
 
-use crate::dealt::dealt_hand;
+use crate::dealt_hand::dealt_hand;
 use crate::fields::{put_names, put_shown, put_values};
 use crate::seat_names::SeatNames;
 use crate::settlement::payoffs;

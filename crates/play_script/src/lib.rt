@@ -13,12 +13,12 @@ mod bounds;
 mod number;
 mod order;
 mod reading;
-mod shown;
+mod shown_lines;
 mod word;
 
 pub use bad_script::BadScript;
 pub use bounds::Bounds;
 pub use order::Order;
 pub use reading::read;
-pub use shown::{put_fault, put_frame, put_log_line, put_seat_fault, put_seat_line};
+pub use shown_lines::{put_fault, put_frame, put_log_line, put_seat_fault, put_seat_line};
 pub use word::Word;

@@ -2,7 +2,7 @@ use Rattle.std.proofs.Common.{◌≡◌, ℕ, subst, arith}
 use Rattle.node_rules.specs.Learning.{telling_from}
 use Rattle.dealer_node.specs.Fitting.{AreMessages}
 use Rattle.dealer_node.proofs.Told.{nothing_told_yet, told_on, none_said, said_on}
-use Rattle.dealer_node.proofs.chosen.tell.Goals as goal
+use Rattle.dealer_node.proofs.chosen_frames.tell.Goals as goal
 
 pub loop-step-init : goal.loop-step-init
 loop-step-init c = record {

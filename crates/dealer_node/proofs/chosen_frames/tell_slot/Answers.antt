@@ -1,5 +1,5 @@
 use Rattle.dealer_node.proofs.Told.{told_none, told_some, said_none, said_some}
-use Rattle.dealer_node.proofs.chosen.tell_slot.Goals as goal
+use Rattle.dealer_node.proofs.chosen_frames.tell_slot.Goals as goal
 
 pub returns-in-None-clause-texts : goal.returns-in-None-clause-texts
 returns-in-None-clause-texts c = told_none c.args.frames.now.texts c.args.log.now.log c.args.to c.args.slot c.in-None.ensures

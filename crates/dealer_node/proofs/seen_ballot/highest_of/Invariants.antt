@@ -1,7 +1,7 @@
 use Rattle.std.proofs.Common.{◌≡◌, drop, map}
 use Rattle.paxos_wire.specs.declared.entry.Entry.{Entry}
 use Rattle.node_rules.specs.Rules.{highest}
-use Rattle.dealer_node.proofs.seen.highest_of.Given as goal
+use Rattle.dealer_node.proofs.seen_ballot.highest_of.Given as goal
 
 abbrev pub invariant-loop-entry : goal.invariant-loop-entry
 invariant-loop-entry l =

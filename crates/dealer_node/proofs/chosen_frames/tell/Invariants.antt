@@ -3,7 +3,7 @@ use Rattle.node_rules.specs.Learning.{telling_from}
 use Rattle.dealer_node.specs.Rooms.{Grows}
 use Rattle.dealer_node.specs.Turned.{posted}
 use Rattle.dealer_node.specs.Fitting.{AreMessages}
-use Rattle.dealer_node.proofs.chosen.tell.Given as goal
+use Rattle.dealer_node.proofs.chosen_frames.tell.Given as goal
 
 abbrev pub invariant-loop-step : goal.invariant-loop-step
 invariant-loop-step l = record {
