@@ -15,7 +15,6 @@ use std::marker::Model;
 ///
 /// The match has 1 to 10000 hands and a name for each seat of its game. The nodes are three or five; the list of one
 /// that lists its deals has a deal for the game's players for each hand.
-#[derive(Drop)]
 pub struct Config {
     game: GameDef,
     name: Name,
@@ -23,6 +22,20 @@ pub struct Config {
     names: SeatNames,
     hands: u32,
     sources: Vec<Source>,
+}
+
+/// By hand, so that letting one go is one call for whoever owns it (docs/ARCHITECTURE.md, Habits).
+impl Drop for Config {
+    fn drop(self) {
+        let Config {
+            game: _,
+            name: _,
+            game_word: _,
+            names: _,
+            hands: _,
+            sources: _,
+        } = self;
+    }
 }
 
 impl Model for Config {

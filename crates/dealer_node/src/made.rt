@@ -7,7 +7,6 @@ use crate::texts::{Texts, append_reserved};
 use std::alloc::{AllocError, Global};
 
 /// What a call makes for others, with the room that it made for it beforehand.
-#[derive(Drop)]
 pub(crate) struct Made {
     /// Frames, each with the node that it goes to.
     pub(crate) frames: Texts<u8>,
@@ -15,6 +14,17 @@ pub(crate) struct Made {
     pub(crate) shown: Texts<Reader>,
     /// Faults in what seats sent.
     pub(crate) faults: Vec<SeatFault>,
+}
+
+/// By hand, so that letting one go is one call for whoever owns it (docs/ARCHITECTURE.md, Habits).
+impl Drop for Made {
+    fn drop(self) {
+        let Made {
+            frames: _,
+            shown: _,
+            faults: _,
+        } = self;
+    }
 }
 
 /// For how much more a call makes room.

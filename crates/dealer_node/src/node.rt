@@ -35,7 +35,6 @@ use std::marker::Model;
 /// Contracts see it as a standing of the rules (`IsSeen`), and have for each call, whatever it answers, what it made of
 /// that standing (`Takes`): by Ok the turn of its rule; by 90, 92, 93 and 94 nothing has changed; by 91 and 95 the node
 /// is down; by every fault the `Out` is as it was.
-#[derive(Drop)]
 pub struct Node<D: Disk> {
     alloc: Global,
     post: Post,
@@ -45,6 +44,19 @@ pub struct Node<D: Disk> {
     disk: Option<D>,
     /// What it has while it runs.
     up: Option<Up<D>>,
+}
+
+/// By hand, so that letting one go is one call for whoever owns it (docs/ARCHITECTURE.md, Habits).
+impl<D: Disk + Drop> Drop for Node<D> {
+    fn drop(self) {
+        let Node {
+            alloc: _,
+            post: _,
+            blank: _,
+            disk: _,
+            up: _,
+        } = self;
+    }
 }
 
 impl<D: Disk> Model for Node<D> {

@@ -13,7 +13,6 @@ use std::marker::Model;
 
 /// Which node of which match a node is: what all nodes share, where its own deals come from, how many nodes there are,
 /// and its number.
-#[derive(Drop)]
 pub(crate) struct Post {
     game: GameDef,
     name: Name,
@@ -23,6 +22,22 @@ pub(crate) struct Post {
     source: Source,
     nodes: u8,
     node: u8,
+}
+
+/// By hand, so that letting one go is one call for whoever owns it (docs/ARCHITECTURE.md, Habits).
+impl Drop for Post {
+    fn drop(self) {
+        let Post {
+            game: _,
+            name: _,
+            game_word: _,
+            names: _,
+            hands: _,
+            source: _,
+            nodes: _,
+            node: _,
+        } = self;
+    }
 }
 
 impl Model for Post {

@@ -29,7 +29,6 @@ use std::alloc::{AllocError, Global};
 /// What a node that runs holds in memory; its store lies on the disk.
 ///
 /// Each method carries out a rule, or a part of one, for every standing that this is seen as.
-#[derive(Drop)]
 pub(crate) struct Running {
     /// The ballot that it prepares or leads.
     pub(crate) proposer: Proposer,
@@ -43,6 +42,20 @@ pub(crate) struct Running {
     pub(crate) seen: Ballot,
     /// The sessions of the seats.
     pub(crate) seats: Seats,
+}
+
+/// By hand, so that letting one go is one call for whoever owns it (docs/ARCHITECTURE.md, Habits).
+impl Drop for Running {
+    fn drop(self) {
+        let Running {
+            proposer: _,
+            learner: _,
+            table: _,
+            pending: _,
+            seen: _,
+            seats: _,
+        } = self;
+    }
 }
 
 /// How many commands are known beyond the front.

@@ -66,7 +66,6 @@ fn begins(is_up: bool, event: &Event, answer: Result<(), NodeFault>) -> bool
 }
 
 /// All nodes of a match, and the record of what they sent, were given and showed.
-#[derive(Drop)]
 pub struct Cluster<D: Disk + Drop> {
     alloc: Global,
     config: Config,
@@ -77,6 +76,19 @@ pub struct Cluster<D: Disk + Drop> {
     ghost count: { length nodes.items ≡ length config.sources },
     ghost posted: { ∥ ArePosted config nodes.items ∥₁ },
     ghost behind: { IsBehind D.Disk opened config nodes.items recording.all },
+}
+
+/// By hand, so that letting one go is one call for whoever owns it (docs/ARCHITECTURE.md, Habits).
+impl<D: Disk + Drop> Drop for Cluster<D> {
+    fn drop(self) {
+        let Cluster {
+            alloc: _,
+            config: _,
+            opened: _,
+            nodes: _,
+            recording: _,
+        } = self;
+    }
 }
 
 impl<D: Disk + Drop> Cluster<D> {

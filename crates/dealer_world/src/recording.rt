@@ -203,7 +203,6 @@ fn put_arrival(arrivals: &mut Arrivals, event: &Event, arrives: bool, sent_befor
 ///
 /// What the last call made stays as the node made it until the next call: then it is put away, behind what was put away
 /// before. So no room is made before it is known how much is wanted.
-#[derive(Drop)]
 pub(crate) struct Recording {
     frames: Frames,
     arrivals: Arrivals,
@@ -212,6 +211,20 @@ pub(crate) struct Recording {
     last: Out,
     /// Of which start of which node what the last call made is; none where it was put away.
     last_of: Option<Begun>,
+}
+
+/// By hand, so that letting one go is one call for whoever owns it (docs/ARCHITECTURE.md, Habits).
+impl Drop for Recording {
+    fn drop(self) {
+        let Recording {
+            frames: _,
+            arrivals: _,
+            starts: _,
+            pieces: _,
+            last: _,
+            last_of: _,
+        } = self;
+    }
 }
 
 impl Model for Recording {

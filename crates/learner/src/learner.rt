@@ -16,11 +16,21 @@ use std::marker::Model;
 ///
 /// Contracts see the count of nodes, what was counted and what is known, and for how many further calls there is room
 /// without further memory.
-#[derive(Drop)]
 pub struct Learner {
     nodes: u8,
     cells: Vec<Vec<Tally>>,
     log: SlotLog,
+}
+
+/// By hand, so that letting one go is one call for whoever owns it (docs/ARCHITECTURE.md, Habits).
+impl Drop for Learner {
+    fn drop(self) {
+        let Learner {
+            nodes: _,
+            cells: _,
+            log: _,
+        } = self;
+    }
 }
 
 impl Model for Learner {

@@ -38,7 +38,6 @@ pub struct Told {
 /// for each node. Nodes are counted from 0, to 4.
 ///
 /// Connections that wait at a node when its ports are closed go on waiting: they stand for bots that dial again.
-#[derive(Drop)]
 pub struct MemoryLinks {
     alloc: Global,
     callers: Callers,
@@ -57,6 +56,24 @@ pub struct MemoryLinks {
     passed: Passages,
     ghost lines: { AreTold told.items passed.items } by { told_prop told.items passed.items },
     ghost logged: { AreLogged (map (λ log. log.items) logs.items) passed.items } by { logged_prop (map (λ log. log.items) logs.items) passed.items },
+}
+
+/// By hand, so that letting one go is one call for whoever owns it (docs/ARCHITECTURE.md, Habits).
+impl Drop for MemoryLinks {
+    fn drop(self) {
+        let MemoryLinks {
+            alloc: _,
+            callers: _,
+            told: _,
+            logs: _,
+            wire: _,
+            ends: _,
+            closed: _,
+            left: _,
+            failed: _,
+            passed: _,
+        } = self;
+    }
 }
 
 /// Puts a line behind those that seats got; fails without memory for it.

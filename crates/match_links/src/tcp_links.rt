@@ -65,7 +65,6 @@ struct Pair {
 ///
 /// With n players and m nodes, seat s at node i is at the port `port + i * n + s`, and node i awaits the others at
 /// `port + m * n + i`. The seats' ports of a node are open while it runs.
-#[derive(Drop)]
 pub struct TcpLinks<'a> {
     rt: &'a HostRuntime,
     port: u16,
@@ -88,6 +87,26 @@ pub struct TcpLinks<'a> {
     ghost low: { port ≤ 65000 },
     ghost few_nodes: { nodes ≤ 5 },
     ghost few_players: { players ≤ 10 },
+}
+
+/// By hand, so that letting one go is one call for whoever owns it (docs/ARCHITECTURE.md, Habits).
+impl Drop for TcpLinks<'_> {
+    fn drop(self) {
+        let TcpLinks {
+            rt: _,
+            port: _,
+            nodes: _,
+            players: _,
+            ports: _,
+            callers: _,
+            doors: _,
+            pairs: _,
+            logs: _,
+            line: _,
+            failed: _,
+            passed: _,
+        } = self;
+    }
 }
 
 impl<'a> TcpLinks<'a> {

@@ -19,7 +19,6 @@ use std::alloc::{AllocError, Global};
 /// A cluster of nodes over disks in memory, which a script drives line by line.
 ///
 /// Contracts see the cluster, and which frames were ever delivered (`scene_of`).
-#[derive(Drop)]
 pub struct Playing {
     alloc: Global,
     cluster: Cluster<MemoryDisk>,
@@ -27,6 +26,17 @@ pub struct Playing {
     marks: Marks,
     ghost within: { length marks ≤ length (view_of cluster).all.sent },
     ghost promised: { IsPromised in_memory (view_of cluster) },
+}
+
+/// By hand, so that letting one go is one call for whoever owns it (docs/ARCHITECTURE.md, Habits).
+impl Drop for Playing {
+    fn drop(self) {
+        let Playing {
+            alloc: _,
+            cluster: _,
+            marks: _,
+        } = self;
+    }
 }
 
 /// New disks without fuses, one a node.

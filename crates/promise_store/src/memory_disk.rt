@@ -17,7 +17,6 @@ use std::alloc::{AllocError, Global};
 /// bytes, with zeros past the old end; 1 has the new bytes; 2 has the byte 1 throughout. What a failed sync left
 /// unsynced stays so until one succeeds. A write of no bytes does nothing, and takes no digit. A growth that is refused
 /// inside is a failure of the call; a stop, which can't fail, then changes no byte.
-#[derive(Drop)]
 pub struct MemoryDisk {
     medium: Medium,
     /// How many calls pass before all fail.
@@ -25,6 +24,18 @@ pub struct MemoryDisk {
     /// The same after each stop to come.
     fuses: Vec<u64>,
     next_fuse: usize,
+}
+
+/// By hand, so that letting one go is one call for whoever owns it (docs/ARCHITECTURE.md, Habits).
+impl Drop for MemoryDisk {
+    fn drop(self) {
+        let MemoryDisk {
+            medium: _,
+            left: _,
+            fuses: _,
+            next_fuse: _,
+        } = self;
+    }
 }
 
 /// Whether one call more passes.

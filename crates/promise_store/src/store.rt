@@ -27,7 +27,6 @@ use std::alloc::{AllocError, Global};
 /// also inside a call, what the disk then has opens to what was kept before that call or to that with what the call was
 /// to store, and to nothing else; after Ok to the latter alone. A store whose disk failed (63) answers 64 until it is
 /// opened again, which tells what was stored.
-#[derive(Drop)]
 pub struct Store<D: Disk> {
     disk: D,
     /// Where the gate behind the last record stands.
@@ -35,6 +34,18 @@ pub struct Store<D: Disk> {
     /// A call of the disk failed.
     closed: bool,
     held: Held,
+}
+
+/// By hand, so that letting one go is one call for whoever owns it (docs/ARCHITECTURE.md, Habits).
+impl<D: Disk + Drop> Drop for Store<D> {
+    fn drop(self) {
+        let Store {
+            disk: _,
+            gate: _,
+            closed: _,
+            held: _,
+        } = self;
+    }
 }
 
 impl<D: Disk> Store<D> {
@@ -115,7 +126,13 @@ impl<D: Disk> Store<D> {
     pub fn close(self) -> D
         ensures { result ≡ disk_of self }
     {
-        self.disk
+        let Store {
+            disk,
+            gate: _,
+            closed: _,
+            held: _,
+        } = self;
+        disk
     }
 
     /// Whether a call of the disk failed, so that each call of the store answers 64 until it is opened again.

@@ -23,7 +23,6 @@ use promise_store::Disk;
 use seat_session::SessionFault;
 
 /// What a server has besides its cluster: its links, and how far it is with all.
-#[derive(Drop)]
 pub(crate) struct Desk<L: Links + Drop> {
     pub(crate) links: L,
     pub(crate) progress: Progress,
@@ -33,6 +32,19 @@ pub(crate) struct Desk<L: Links + Drop> {
     pub(crate) last_node: u8,
     /// By what that call was refused.
     pub(crate) last_fault: Option<NodeFault>,
+}
+
+/// By hand, so that letting one go is one call for whoever owns it (docs/ARCHITECTURE.md, Habits).
+impl<L: Links + Drop> Drop for Desk<L> {
+    fn drop(self) {
+        let Desk {
+            links: _,
+            progress: _,
+            shown: _,
+            last_node: _,
+            last_fault: _,
+        } = self;
+    }
 }
 
 impl<L: Links + Drop> Desk<L> {

@@ -30,7 +30,6 @@ use std::alloc::Global;
 ///
 /// It changes the cluster by `Cluster::step` alone, so what is promised of a cluster's record holds of this one's,
 /// whatever the links answer.
-#[derive(Drop)]
 pub struct Server<D: Disk + Drop, L: Links + Drop> {
     alloc: Global,
     cluster: Cluster<D>,
@@ -40,6 +39,18 @@ pub struct Server<D: Disk + Drop, L: Links + Drop> {
     ghost waits: { ForSome waiting (IsWaiting (view_of cluster)) } by { waits_prop (view_of cluster) waiting },
     ghost promised: { IsPromised D.Disk (view_of cluster) },
     ghost shown: { desk.shown ≤ length (view_of cluster).all.shown },
+}
+
+/// By hand, so that letting one go is one call for whoever owns it (docs/ARCHITECTURE.md, Habits).
+impl<D: Disk + Drop, L: Links + Drop> Drop for Server<D, L> {
+    fn drop(self) {
+        let Server {
+            alloc: _,
+            cluster: _,
+            desk: _,
+            waiting: _,
+        } = self;
+    }
 }
 
 /// Whether the server goes on after a call of a node that was answered so: it was taken, or a frame was lost since its

@@ -15,10 +15,19 @@ use std::marker::Model;
 ///
 /// Contracts see the commands below the front, newest first, those that are known beyond it, by rising slots, and for
 /// how many further commands there is room without further memory.
-#[derive(Drop)]
 pub struct SlotLog {
     below: Vec<Command>,
     beyond: Vec<Known>,
+}
+
+/// By hand, so that letting one go is one call for whoever owns it (docs/ARCHITECTURE.md, Habits).
+impl Drop for SlotLog {
+    fn drop(self) {
+        let SlotLog {
+            below: _,
+            beyond: _,
+        } = self;
+    }
 }
 
 impl Model for SlotLog {

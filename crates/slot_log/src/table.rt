@@ -26,12 +26,23 @@ use std::marker::Model;
 ///
 /// Contracts see the game, the number of hands of the match, the hands dealt so far (newest first, each
 /// with its actions newest first), and for how many more hands there is room without further memory.
-#[derive(Drop)]
 pub struct Table {
     game: GameDef,
     count: u32,
     earlier: Vec<PlayedHand>,
     newest: Option<PlayedHand>,
+}
+
+/// By hand, so that letting one go is one call for whoever owns it (docs/ARCHITECTURE.md, Habits).
+impl Drop for Table {
+    fn drop(self) {
+        let Table {
+            game: _,
+            count: _,
+            earlier: _,
+            newest: _,
+        } = self;
+    }
 }
 
 impl Model for Table {
