@@ -46,49 +46,72 @@ pub(crate) struct CheckArguments<'a> {
 
 /// The program's command line.
 pub(crate) fn command<'a>(alloc: Global) -> Result<Command<'a>, AllocError> {
-    Command::new(alloc, "holdem_table")
+    let whole = Command::new(alloc, "holdem_table")
         .version("0.1.0")
         .about("Deals Texas hold'em by the ACPC dealer protocol 2.0.0, and checks logs")
         .after_help(AFTER_HELP)
-        .subcommand_required(true)
-        .subcommand(hand_command(alloc)?)?
-        .subcommand(play_command(alloc)?)?
-        .subcommand(check_command(alloc)?)?
-        .subcommand(init_command(alloc)?)?
-        .subcommand(serve_command(alloc)?)
+        .subcommand_required(true);
+    let whole = with(whole, hand_command(alloc))?;
+    let whole = with(whole, play_command(alloc))?;
+    let whole = with(whole, check_command(alloc))?;
+    let whole = with(whole, init_command(alloc))?;
+    with(whole, serve_command(alloc))
+}
+
+/// A command line with one more command, if that could be made.
+fn with<'a>(
+    whole: Command<'a>,
+    made: Result<Command<'a>, AllocError>,
+) -> Result<Command<'a>, AllocError> {
+    match made {
+        Ok(made) => whole.subcommand(made),
+        Err(refused) => Err(refused),
+    }
 }
 
 /// `hand GAME`, with `--hands N` and `--log`.
 fn hand_command<'a>(alloc: Global) -> Result<Command<'a>, AllocError> {
-    let hands = Arg::new(alloc, "hands")
+    Command::new(alloc, "hand")
+        .about("Plays a script of deals and actions, and prints each seat's lines")
+        .after_help(AFTER_HAND_HELP)
+        .arg(hands_option(alloc))?
+        .arg(log_option(alloc))?
+        .arg(game_argument(alloc))
+}
+
+/// `--hands N`.
+fn hands_option<'a>(alloc: Global) -> Arg<'a> {
+    Arg::new(alloc, "hands")
         .long("hands")
         .value_name("N")
         .value_parser(value_parser!(u32).range(1..=HANDS as i64))
         .default_value("1")
-        .help("The number of hands, 1 to 10000");
-    let log = Arg::new(alloc, "log")
+        .help("The number of hands, 1 to 10000")
+}
+
+/// `--log`.
+fn log_option<'a>(alloc: Global) -> Arg<'a> {
+    Arg::new(alloc, "log")
         .long("log")
         .action(ArgAction::SetTrue)
-        .help("Prints the match's log too, each line behind L");
-    Command::new(alloc, "hand")
-        .about("Plays a script of deals and actions, and prints each seat's lines")
-        .after_help(AFTER_HAND_HELP)
-        .arg(hands)?
-        .arg(log)?
-        .arg(game_argument(alloc))
+        .help("Prints the match's log too, each line behind L")
 }
 
 /// `check GAME LOG`.
 fn check_command<'a>(alloc: Global) -> Result<Command<'a>, AllocError> {
-    let log = Arg::new(alloc, "log")
-        .value_name("LOG")
-        .required(true)
-        .help("The log of a match of that game");
     Command::new(alloc, "check")
         .about("Checks the log of a match against the rules of its game")
         .after_help(AFTER_CHECK_HELP)
         .arg(game_argument(alloc))?
-        .arg(log)
+        .arg(log_argument(alloc))
+}
+
+/// LOG of `check`.
+fn log_argument<'a>(alloc: Global) -> Arg<'a> {
+    Arg::new(alloc, "log")
+        .value_name("LOG")
+        .required(true)
+        .help("The log of a match of that game")
 }
 
 /// `play MATCH`.

@@ -41,16 +41,37 @@ pub(crate) fn serve(rt: &HostRuntime, path: &str) -> Conclusion
 fn serve_match(rt: &HostRuntime, path: &str) -> Result<(), Unserved> {
     let text = read(rt, path)?;
     let file = MatchFile::read(rt.alloc(), &text)?;
-    let game = read(rt, file.game()?)?;
-    let config = file.config(rt.alloc(), Some(&game))?;
+    serve_file(rt, &file)
+}
+
+/// The steps of it once there is a match file to read them from.
+fn serve_file(rt: &HostRuntime, file: &MatchFile) -> Result<(), Unserved> {
+    let config = configure(rt, file)?;
     let service = file.service(rt.alloc(), config.nodes())?;
     let (stores, logs) = (service.stores, service.logs);
     let ports = seat_ports(&config, service.port);
     let mut server = begin(rt, config, service, ports)?;
-    match serve_run(rt.alloc(), &mut server, ports, &mut rt.stderr()) {
+    serve_seats(rt, &mut server, stores, logs, ports)
+}
+
+/// The match that a match file configures, whose game file is read.
+fn configure(rt: &HostRuntime, file: &MatchFile) -> Result<Config, Unserved> {
+    let game = read(rt, file.game()?)?;
+    Ok(file.config(rt.alloc(), Some(&game))?)
+}
+
+/// Serves the seats until the match is over. A note tells the port or the file where a turn failed.
+fn serve_seats(
+    rt: &HostRuntime,
+    server: &mut TcpServer<'_>,
+    stores: &str,
+    logs: &str,
+    ports: SeatPorts,
+) -> Result<(), Unserved> {
+    match serve_run(rt.alloc(), server, ports, &mut rt.stderr()) {
         Ok(()) => Ok(()),
         Err(fault) => {
-            note_failed(rt, &server, stores, logs, fault)?;
+            note_failed(rt, server, stores, logs, fault)?;
             Err(Unserved::Fault(fault))
         }
     }
@@ -118,20 +139,35 @@ fn begin<'a>(
 ) -> Result<TcpServer<'a>, Unserved>
     requires { service.port ≤ 65000 }
 {
+    let Service {
+        stores,
+        logs,
+        port,
+        outages,
+    } = service;
     let nodes = config.nodes();
     config.limits();
-    let mut links = bind(rt, service.port, nodes, config.game().players())?;
+    let mut links = bind(rt, port, nodes, config.game().players())?;
     tell_ports(rt.alloc(), &config, ports, &mut rt.stderr());
-    let disks = open_stores(rt, service.stores, nodes)?;
-    let cluster = match Cluster::open(rt.alloc(), config, disks) {
-        Ok(cluster) => cluster,
-        Err(fault) => return Err(unbegun(rt, service.stores, fault.into())),
-    };
-    open_logs(rt, &mut links, service.logs, nodes)?;
-    let outages = Outages::new(service.outages);
-    match Server::new(rt.alloc(), cluster, links, outages) {
+    let cluster = open_cluster(rt, config, stores)?;
+    open_logs(rt, &mut links, logs, nodes)?;
+    match Server::new(rt.alloc(), cluster, links, Outages::new(outages)) {
         Ok(server) => Ok(server),
-        Err(fault) => Err(unbegun(rt, service.logs, fault)),
+        Err(fault) => Err(unbegun(rt, logs, fault)),
+    }
+}
+
+/// Opens the stores, and starts the nodes over them.
+fn open_cluster(
+    rt: &HostRuntime,
+    config: Config,
+    folder: &str,
+) -> Result<Cluster<FileDisk>, Unserved> {
+    config.limits();
+    let disks = open_stores(rt, folder, config.nodes())?;
+    match Cluster::open(rt.alloc(), config, disks) {
+        Ok(cluster) => Ok(cluster),
+        Err(fault) => Err(unbegun(rt, folder, fault.into())),
     }
 }
 
