@@ -50,7 +50,7 @@ impl fmt::Display for Message {
     ghost output = { λ m. Some (message_line m) };
 
     fn fmt<W: fmt::Write>(&self, f: &mut fmt::Formatter<W>) -> fmt::Result {
-        match *self {
+        match self {
             Message::Prepare { ballot, slot } => write!(f, "Prepare {ballot} from {slot}"),
             Message::Promise {
                 ballot,
@@ -70,19 +70,19 @@ impl fmt::Display for Message {
                 ballot,
                 slot,
                 command,
-            } => write!(f, "Accept {ballot} at {slot}: {}", CommandLine(command)),
+            } => write!(f, "Accept {ballot} at {slot}: {}", CommandLine(*command)),
             Message::Accepted {
                 ballot,
                 slot,
                 command,
-            } => write!(f, "Accepted {ballot} at {slot}: {}", CommandLine(command)),
+            } => write!(f, "Accepted {ballot} at {slot}: {}", CommandLine(*command)),
             Message::Chosen { slot, command } => write!(
                 f,
                 "Chosen at {slot}: {}",
-                CommandLine(command)
+                CommandLine(*command)
             ),
             Message::Ask { slot } => write!(f, "Ask from {slot}"),
-            Message::Forward { command } => write!(f, "Forward {}", CommandLine(command)),
+            Message::Forward { command } => write!(f, "Forward {}", CommandLine(*command)),
         }
     }
 }
