@@ -1,5 +1,5 @@
 use crate::peer::{Peer, assert_sent, assert_shown};
-use crate::samples::{ACCEPT, ACCEPTED, PREPARE, PROMISE};
+use crate::samples::{ACCEPT, ACCEPTED, PREPARE, PROMISE, assert_same};
 use dealer_node::{NodeFault, Out, Reader};
 use promise_store::StoreFault;
 use std::alloc::Global;
@@ -41,7 +41,7 @@ fn assert_header(rt: &impl Abort, alloc: Global, peer: &mut Peer) {
     assert!(rt; peer.tick(&mut out) == Err(NodeFault::Down));
     assert_starts(rt, peer, &mut out);
     assert!(rt; peer.node.running());
-    assert_eq!(rt; peer.node.front(), 0);
+    assert_same(rt, peer.node.front(), 0);
     assert_shown(rt, &out, &[(Reader::Log, HEADER)]);
     assert_sent(rt, &out, &[]);
 }
@@ -103,7 +103,7 @@ fn assert_logs(rt: &impl Abort, alloc: Global, peer: &mut Peer) {
     assert_hears_1(rt, peer, DEALT, &mut out);
     assert_hears_1(rt, peer, FOLD, &mut out);
     assert_shown(rt, &out, &[(Reader::Log, HEADER), (Reader::Log, FOLDED)]);
-    assert_eq!(rt; peer.node.front(), 2);
+    assert_same(rt, peer.node.front(), 2);
 }
 
 /// A node that hears that a deal and a fold were chosen logs the hand.
@@ -154,7 +154,7 @@ fn start(rt: &impl Abort, alloc: Global, peer: &mut Peer) {
 fn assert_down(rt: &impl Abort, peer: &Peer, out: &Out) {
     assert_sent(rt, out, &[]);
     assert!(rt; !peer.node.running());
-    assert_eq!(rt; peer.node.failures(), 1);
+    assert_same(rt, peer.node.failures(), 1);
 }
 
 /// A tick of a node: whether its disk failed. Then the node is down, with 91 and 63; started again, it ticks.
@@ -188,6 +188,6 @@ fn a_failing_disk_takes_the_node_down(rt: HostRuntime) -> Result<(), Fail> {
             failed = failed.saturating_add(1);
         }
     }
-    assert_eq!(rt; failed, 4);
+    assert_same(&rt, failed, 4);
     Ok(())
 }

@@ -1,3 +1,4 @@
+use crate::samples::{assert_bytes, assert_same};
 use dealer_world::{Arrivals, Frames, What};
 use std::alloc::AllocError;
 use std::process::Abort;
@@ -14,22 +15,22 @@ fn keep_frames(frames: &mut Frames) -> Result<(), AllocError> {
 /// Asserts what is kept of the first frame.
 fn assert_first(rt: &impl Abort, frames: &Frames) {
     let first = frames.get(0).expect(rt, "the first frame");
-    assert_eq!(rt; first.from, 0);
-    assert_eq!(rt; first.to, 1);
-    assert_eq!(rt; first.bytes, [7u8, 8, 9].as_slice());
+    assert_same(rt, first.from, 0);
+    assert_same(rt, first.to, 1);
+    assert_bytes(rt, first.bytes, &[7, 8, 9]);
 }
 
 /// Asserts what is kept of the second frame, and that there is no third.
 fn assert_second(rt: &impl Abort, frames: &Frames) {
     let second = frames.get(1).expect(rt, "the second frame");
-    assert_eq!(rt; second.from, 2);
-    assert_eq!(rt; second.bytes, [5u8, 6].as_slice());
+    assert_same(rt, second.from, 2);
+    assert_bytes(rt, second.bytes, &[5, 6]);
     assert!(rt; frames.get(2).is_none());
 }
 
 /// Asserts that two frames are kept.
 fn assert_frames(rt: &impl Abort, frames: &Frames) {
-    assert_eq!(rt; frames.len(), 2);
+    assert_same(rt, frames.len(), 2);
     assert_first(rt, frames);
     assert_second(rt, frames);
 }
@@ -54,14 +55,14 @@ fn keep_arrivals(arrivals: &mut Arrivals) -> Result<(), AllocError> {
 /// Asserts what is kept of the line.
 fn assert_line(rt: &impl Abort, arrivals: &Arrivals) {
     let line = arrivals.get(1).expect(rt, "the line");
-    assert_eq!(rt; line.sent_before, 3);
-    assert_eq!(rt; line.bytes, [65u8, 10].as_slice());
+    assert_same(rt, line.sent_before, 3);
+    assert_bytes(rt, line.bytes, &[65, 10]);
     assert!(rt; matches!(line.what, What::Line { node: 0, seat: 1 }));
 }
 
 /// Asserts that the connection and the line are kept.
 fn assert_arrivals(rt: &impl Abort, arrivals: &Arrivals) {
-    assert_eq!(rt; arrivals.len(), 2);
+    assert_same(rt, arrivals.len(), 2);
     assert_line(rt, arrivals);
     assert!(rt; arrivals.get(2).is_none());
 }

@@ -1,7 +1,7 @@
 //! A match of one hand, played on a cluster one step at a time, and what is seen of it then.
 
 use crate::samples;
-use crate::samples::{deal, one_hand};
+use crate::samples::{assert_same, deal, one_hand};
 use dealer_node::NodeFault;
 use dealer_world::{Begun, Cluster, Event, What};
 use promise_store::{Disk, OnceDisk};
@@ -386,7 +386,7 @@ pub(crate) fn assert_letters(rt: &impl Abort, letters: &[Letter], due: &[Due<'_>
 
 /// Asserts how many frames reached a running node.
 pub(crate) fn assert_arrived(rt: &impl Abort, seen: &Seen, count: usize) {
-    assert_eq!(rt; seen.arrived.len(), count);
+    assert_same(rt, seen.arrived.len(), count);
 }
 
 /// Asserts the front of a node, and whose deal it has.

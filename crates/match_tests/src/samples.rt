@@ -1,10 +1,11 @@
-//! The matches that are played, of alice and bob, limit; and the frames of their first round.
+//! The matches that are played, of alice and bob, limit; the frames of their first round; and how values are compared.
 
 use card_core::Deal;
 use dealer_kind::{Config, Source};
 use match_log::{Name, SeatNames};
 use matchstate::read_deal;
 use std::alloc::{AllocError, Global};
+use std::fmt::Debug;
 use std::process::Abort;
 
 /// Two players, limit.
@@ -88,4 +89,16 @@ pub(crate) fn two_hands(rt: &impl Abort, alloc: Global) -> Result<Config, AllocE
         sources.push(Source::Listed(deals))?;
     }
     config(rt, alloc, 2, sources)
+}
+
+// What `assert_eq!` makes is proved anew wherever it stands, so it stands in the functions below.
+
+/// The two are equal; where they aren't, both are printed.
+pub(crate) fn assert_same<T: Copy + PartialEq + Debug>(rt: &impl Abort, found: T, due: T) {
+    assert_eq!(rt; found, due);
+}
+
+/// The same of bytes.
+pub(crate) fn assert_bytes(rt: &impl Abort, found: &[u8], due: &[u8]) {
+    assert_eq!(rt; found, due);
 }

@@ -2,6 +2,7 @@ use crate::course::{
     ALICE, BOB, Course, Ending, VERSION, assert_logged, bots_everywhere, disks, no_outages, outage,
     play, without_node_0,
 };
+use crate::samples::{assert_bytes, assert_same};
 use dealer_node::NodeFault;
 use match_links::{MemoryLinks, Reached};
 use promise_store::{MemoryDisk, StoreFault};
@@ -101,8 +102,12 @@ fn played_without_node_0(rt: &impl Abort, alloc: Global) -> Result<Option<Course
 /// Asserts that the match is over without a start, and that it was told and logged as it is without node 0.
 fn assert_outlived(rt: &impl Abort, alloc: Global, course: &Course) -> Result<(), AllocError> {
     assert!(rt; matches!(course.ending, Ending::Over { starts: 0 }));
-    assert_eq!(rt; course.told.as_slice(), TOLD);
-    assert_eq!(rt; course.logs.as_slice(), without_node_0(alloc)?.as_slice());
+    assert_bytes(rt, course.told.as_slice(), TOLD);
+    assert_bytes(
+        rt,
+        course.logs.as_slice(),
+        without_node_0(alloc)?.as_slice(),
+    );
     Ok(())
 }
 
@@ -161,7 +166,7 @@ fn each_call_of_a_link_fails_in_turn(rt: HostRuntime) -> Result<(), Fail> {
     let mut met = 0u8;
     for call in 1..2_000u64 {
         let Some(reached) = fails_at(&rt, alloc, call)? else {
-            assert_eq!(rt; met, 15);
+            assert_same(&rt, met, 15);
             return Ok(());
         };
         met |= bit(reached);

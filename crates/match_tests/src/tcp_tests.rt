@@ -1,4 +1,5 @@
 use crate::course::{ALICE, BOB, Ending, VERSION, disks, outage, serve, server, without_node_0};
+use crate::samples::assert_bytes;
 use match_links::TcpLinks;
 use promise_store::OnceDisk;
 use serving::{Server, Turn};
@@ -110,14 +111,14 @@ fn serve_over(rt: &impl Abort, alloc: Global, links: TcpLinks<'_>) -> Result<(),
 
 /// Asserts that the logs are those of the match in which node 0 is lost.
 fn assert_logs(rt: &impl Abort, alloc: Global, logs: &[u8]) -> Result<(), AllocError> {
-    assert_eq!(rt; logs, without_node_0(alloc)?.as_slice());
+    assert_bytes(rt, logs, without_node_0(alloc)?.as_slice());
     Ok(())
 }
 
 /// Asserts what bob's client at node 1 got.
 fn assert_told(rt: &impl Abort, alloc: Global, clients: &mut [TcpStream]) -> Result<(), Fail> {
     let bob = clients.get_mut(2).expect(rt, "bob's client at node 1");
-    assert_eq!(rt; heard(alloc, bob)?.as_slice(), TOLD);
+    assert_bytes(rt, heard(alloc, bob)?.as_slice(), TOLD);
     Ok(())
 }
 
