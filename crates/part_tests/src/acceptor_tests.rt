@@ -2,7 +2,7 @@ ghost use Rattle.std.specs.Prelude.{◌≤◌};
 ghost use Rattle.paxos_wire.specs.Fits.{IsBallot, IsInRange, IsSlot};
 
 use crate::journal::{self, FIRST};
-use crate::samples::{CALL, FOLD};
+use crate::samples::{CALL, FOLD, assert_bytes, assert_same};
 use acceptor::{AcceptAnswer, Acceptor, PrepareAnswer};
 use paxos_wire::{Ballot, Entries, Entry};
 use promise_store::{Disk, MemoryDisk, OnceDisk, StoreFault};
@@ -20,6 +20,15 @@ const FOURTH: Ballot = Ballot { round: 2, node: 1 };
 /// The acceptor of node 0 of 3 with a new store.
 fn created<D: Disk>(rt: &impl Abort, alloc: Global, disk: D) -> Acceptor<D> {
     Acceptor::new(journal::created(rt, alloc, disk))
+}
+
+/// The same on a disk in memory with these fuses, of which none burns in create.
+fn created_in_memory(
+    rt: &impl Abort,
+    alloc: Global,
+    fuses: &[u64],
+) -> Result<Acceptor<MemoryDisk>, AllocError> {
+    Ok(Acceptor::new(journal::created_in_memory(rt, alloc, fuses)?))
 }
 
 /// The same with the store that the disk has.
@@ -81,7 +90,7 @@ fn prepares<D: Disk>(
     requires ballot { IsBallot ballot }
     requires slot { IsSlot slot }
 {
-    assert_eq!(rt; prepare(acceptor, ballot, slot), expected);
+    assert_same(rt, prepare(acceptor, ballot, slot), expected);
 }
 
 /// An Accept is answered so.
@@ -97,7 +106,7 @@ fn accepts<D: Disk>(
     requires slot { IsSlot slot }
     requires command { IsInRange command }
 {
-    assert_eq!(rt; accept(acceptor, ballot, slot, command), expected);
+    assert_same(rt, accept(acceptor, ballot, slot, command), expected);
 }
 
 /// The ballot that the acceptor has promised.
@@ -105,48 +114,79 @@ fn promised<D: Disk>(acceptor: &Acceptor<D>) -> Ballot {
     acceptor.store().held().promised()
 }
 
+/// A Prepare from slot 0 on is answered with a promise that tells these entries.
+fn promises_and_tells<D: Disk>(
+    rt: &impl Abort,
+    acceptor: &mut Acceptor<D>,
+    ballot: Ballot,
+    entries: Entries,
+)
+    requires { IsBallot ballot }
+{
+    let promise = PrepareAnswer::Promise {
+        ballot,
+        slot: 0,
+        entries,
+    };
+    prepares(rt, acceptor, ballot, 0, Ok(promise));
+}
+
+/// The answer to an Accept in the first ballot that is taken.
+fn accepted_in_first(slot: u32, command: Command) -> AcceptAnswer {
+    AcceptAnswer::Accepted {
+        ballot: FIRST,
+        slot,
+        command,
+    }
+}
+
+/// Accepts commands at slots 63 and 7 in the first ballot; room is made for the second.
+fn accepts_two<D: Disk>(rt: &impl Abort, acceptor: &mut Acceptor<D>) -> Result<(), Fail> {
+    accepts(
+        rt,
+        acceptor,
+        FIRST,
+        63,
+        CALL,
+        Ok(accepted_in_first(63, CALL)),
+    );
+    let answer = accept_with_room(acceptor, FIRST, 7, FOLD)?;
+    assert_same(rt, answer, accepted_in_first(7, FOLD));
+    Ok(())
+}
+
+/// What is told of the two, by rising slots.
+fn told_of_two() -> Entries {
+    let mut entries = Entries::new();
+    entries.push(Entry {
+        slot: 7,
+        ballot: FIRST,
+        command: FOLD,
+    });
+    entries.push(Entry {
+        slot: 63,
+        ballot: FIRST,
+        command: CALL,
+    });
+    entries
+}
+
+/// The disk of a new acceptor that promised the first ballot, telling nothing, and accepted two commands in it.
+fn disk_with_two(rt: &impl Abort, alloc: Global) -> Result<MemoryDisk, Fail> {
+    let mut acceptor = created_in_memory(rt, alloc, &[])?;
+    promises_and_tells(rt, &mut acceptor, FIRST, Entries::new());
+    accepts_two(rt, &mut acceptor)?;
+    Ok(acceptor.close())
+}
+
 /// Two slots are accepted in one ballot, and told to the next.
 #[test]
 fn what_was_accepted_is_told(rt: HostRuntime) -> Result<(), Fail> {
     let alloc = rt.alloc();
-    let mut acceptor = created(&rt, alloc, MemoryDisk::new(alloc, &[])?);
-    let mut entries = Entries::new();
-    let promise = PrepareAnswer::Promise {
-        ballot: FIRST,
-        slot: 0,
-        entries,
-    };
-    prepares(&rt, &mut acceptor, FIRST, 0, Ok(promise));
-    let accepted = AcceptAnswer::Accepted {
-        ballot: FIRST,
-        slot: 63,
-        command: CALL,
-    };
-    accepts(&rt, &mut acceptor, FIRST, 63, CALL, Ok(accepted));
-    let accepted = AcceptAnswer::Accepted {
-        ballot: FIRST,
-        slot: 7,
-        command: FOLD,
-    };
-    assert_eq!(rt; accept_with_room(&mut acceptor, FIRST, 7, FOLD)?, accepted);
-    entries.push(Entry {
-        slot: 7,
-        ballot: FIRST,
-        command: FOLD,
-    });
-    entries.push(Entry {
-        slot: 63,
-        ballot: FIRST,
-        command: CALL,
-    });
-    let promise = PrepareAnswer::Promise {
-        ballot: SECOND,
-        slot: 0,
-        entries,
-    };
-    let mut acceptor = opened(&rt, alloc, acceptor.close());
-    prepares(&rt, &mut acceptor, SECOND, 0, Ok(promise));
-    assert_eq!(rt; promised(&acceptor), SECOND);
+    let disk = disk_with_two(&rt, alloc)?;
+    let mut acceptor = opened(&rt, alloc, disk);
+    promises_and_tells(&rt, &mut acceptor, SECOND, told_of_two());
+    assert_same(&rt, promised(&acceptor), SECOND);
     Ok(())
 }
 
@@ -159,7 +199,7 @@ const ACCEPTED: AcceptAnswer = AcceptAnswer::Accepted {
 
 /// The disk of an acceptor that accepted a command in the first ballot at slot 7.
 fn disk_with_one(rt: &impl Abort, alloc: Global) -> Result<MemoryDisk, AllocError> {
-    let mut acceptor = created(rt, alloc, MemoryDisk::new(alloc, &[])?);
+    let mut acceptor = created_in_memory(rt, alloc, &[])?;
     accepts(rt, &mut acceptor, FIRST, 7, CALL, Ok(ACCEPTED));
     Ok(acceptor.close())
 }
@@ -178,7 +218,7 @@ fn a_ballot_accepts_once_at_a_slot(rt: HostRuntime) -> Result<(), Fail> {
     let disk = disk_with_one(&rt, alloc)?;
     let written = disk.bytes().to_vec(alloc)?;
     let disk = proposed_again(&rt, alloc, disk);
-    assert_eq!(rt; disk.bytes(), written.as_slice());
+    assert_bytes(&rt, disk.bytes(), written.as_slice());
     Ok(())
 }
 
@@ -194,28 +234,44 @@ fn refuses<D: Disk>(rt: &impl Abort, acceptor: &mut Acceptor<D>, ballot: Ballot)
     prepares(rt, acceptor, ballot, 9, Ok(refused));
 }
 
-/// Below what was promised nothing is accepted, and no ballot is promised that isn't above it.
-#[test]
-fn what_was_promised_is_told_by_refusals(rt: HostRuntime) -> Result<(), Fail> {
-    let alloc = rt.alloc();
-    let mut acceptor = created(&rt, alloc, MemoryDisk::new(alloc, &[])?);
-    assert!(rt; prepare(&mut acceptor, SECOND, 0).is_ok());
-    refuses(&rt, &mut acceptor, FIRST);
-    refuses(&rt, &mut acceptor, SECOND);
+/// An Accept in the first ballot is refused there, with room and without.
+fn refuses_accepts<D: Disk>(rt: &impl Abort, acceptor: &mut Acceptor<D>) -> Result<(), Fail> {
     let refused = AcceptAnswer::Refuse {
         ballot: FIRST,
         slot: 9,
         promised: SECOND,
     };
-    accepts(&rt, &mut acceptor, FIRST, 9, CALL, Ok(refused));
-    assert_eq!(rt; accept_with_room(&mut acceptor, FIRST, 9, CALL)?, refused);
+    accepts(rt, acceptor, FIRST, 9, CALL, Ok(refused));
+    assert_same(rt, accept_with_room(acceptor, FIRST, 9, CALL)?, refused);
+    Ok(())
+}
+
+/// An Accept above what was promised is accepted, and its ballot promised.
+fn accepts_above<D: Disk>(rt: &impl Abort, acceptor: &mut Acceptor<D>) {
     let accepted = AcceptAnswer::Accepted {
         ballot: THIRD,
         slot: 9,
         command: CALL,
     };
-    accepts(&rt, &mut acceptor, THIRD, 9, CALL, Ok(accepted));
-    assert_eq!(rt; promised(&acceptor), THIRD);
+    accepts(rt, acceptor, THIRD, 9, CALL, Ok(accepted));
+    assert_same(rt, promised(acceptor), THIRD);
+}
+
+/// The second ballot is promised, and what isn't above it refused.
+fn promises_and_refuses<D: Disk>(rt: &impl Abort, acceptor: &mut Acceptor<D>) -> Result<(), Fail> {
+    assert!(rt; prepare(acceptor, SECOND, 0).is_ok());
+    refuses(rt, acceptor, FIRST);
+    refuses(rt, acceptor, SECOND);
+    refuses_accepts(rt, acceptor)
+}
+
+/// Below what was promised nothing is accepted, and no ballot is promised that isn't above it.
+#[test]
+fn what_was_promised_is_told_by_refusals(rt: HostRuntime) -> Result<(), Fail> {
+    let alloc = rt.alloc();
+    let mut acceptor = created_in_memory(&rt, alloc, &[])?;
+    promises_and_refuses(&rt, &mut acceptor)?;
+    accepts_above(&rt, &mut acceptor);
     Ok(())
 }
 
@@ -225,7 +281,7 @@ fn accept_at_last<D: Disk>(
     acceptor: &mut Acceptor<D>,
 ) -> Result<AcceptAnswer, StoreFault> {
     let answer = accept(acceptor, FIRST, 9, CALL);
-    if answer != Err(StoreFault::OutOfMemory) {
+    if !matches!(answer, Err(StoreFault::OutOfMemory)) {
         return answer;
     }
     assert!(rt; acceptor.store().held().find(9).is_none());
@@ -235,10 +291,10 @@ fn accept_at_last<D: Disk>(
 /// An Accept is answered so at last; where the disk failed, the store is closed.
 fn accepts_at_last<D: Disk>(rt: &impl Abort, acceptor: &mut Acceptor<D>, accepted: AcceptAnswer) {
     let answer = accept_at_last(rt, acceptor);
-    if answer == Err(StoreFault::Disk) {
+    if matches!(answer, Err(StoreFault::Disk)) {
         accepts(rt, acceptor, FIRST, 9, CALL, Err(StoreFault::Closed));
     } else {
-        assert_eq!(rt; answer, Ok(accepted));
+        assert_same(rt, answer, Ok(accepted));
     }
 }
 
@@ -246,7 +302,7 @@ fn accepts_at_last<D: Disk>(rt: &impl Abort, acceptor: &mut Acceptor<D>, accepte
 #[test]
 fn a_slot_wants_memory(rt: HostRuntime) -> Result<(), Fail> {
     let alloc = rt.alloc();
-    let mut acceptor = created(&rt, alloc, MemoryDisk::new(alloc, &[])?);
+    let mut acceptor = created_in_memory(&rt, alloc, &[])?;
     let accepted = AcceptAnswer::Accepted {
         ballot: FIRST,
         slot: 9,
@@ -273,7 +329,7 @@ fn promises<D: Disk>(rt: &impl Abort, acceptor: &mut Acceptor<D>) -> bool {
     match prepare(acceptor, THIRD, 0) {
         Ok(answer) => matches!(answer, PrepareAnswer::Promise { .. }),
         Err(fault) => {
-            assert_eq!(rt; fault, StoreFault::Disk);
+            assert_same(rt, fault, StoreFault::Disk);
             prepares(rt, acceptor, THIRD, 0, Err(StoreFault::Closed));
             false
         }
@@ -285,7 +341,7 @@ fn accepts_below<D: Disk>(rt: &impl Abort, acceptor: &mut Acceptor<D>) -> Result
     match accept(acceptor, FIRST, 0, CALL)? {
         AcceptAnswer::Accepted { .. } => Ok(true),
         AcceptAnswer::Refuse { promised, .. } => {
-            assert_eq!(rt; promised, THIRD);
+            assert_same(rt, promised, THIRD);
             Ok(false)
         }
     }
@@ -301,10 +357,34 @@ fn left_of_a_prepare(
 ) -> Result<(bool, bool), Fail>
     requires { calls ≤ 4 }
 {
-    let mut acceptor = created(rt, alloc, MemoryDisk::new(alloc, &[2 + calls])?);
+    let mut acceptor = created_in_memory(rt, alloc, &[2 + calls])?;
     let promised = promises(rt, &mut acceptor);
     let mut acceptor = stopped(rt, alloc, acceptor, pick);
     Ok((promised, accepts_below(rt, &mut acceptor)?))
+}
+
+/// This is left of a Prepare.
+fn is_left(
+    rt: &impl Abort,
+    alloc: Global,
+    calls: u64,
+    pick: u64,
+    expected: (bool, bool),
+) -> Result<(), Fail>
+    requires { calls ≤ 4 }
+{
+    assert_same(rt, left_of_a_prepare(rt, alloc, calls, pick)?, expected);
+    Ok(())
+}
+
+/// Whether a proposal below is accepted where the last or the last two calls of the promise failed.
+fn is_lost(rt: &impl Abort, alloc: Global, calls: u64, pick: u64) -> Result<bool, Fail>
+    requires { calls ≤ 4 }
+{
+    match left_of_a_prepare(rt, alloc, calls, pick)? {
+        (false, accepted) => Ok(accepted),
+        (true, _) => panic!(rt; "a promise that isn't stored"),
+    }
 }
 
 /// A promise takes four calls of the disk: without the third it is in no image, after the fourth in each.
@@ -314,16 +394,16 @@ fn stops_in_a_promise(rt: HostRuntime) -> Result<(), Fail> {
     let mut accepted = false;
     let mut refused = false;
     for pick in 0..9u64 {
-        assert_eq!(rt; left_of_a_prepare(&rt, alloc, 0, pick)?, (false, true));
-        assert_eq!(rt; left_of_a_prepare(&rt, alloc, 1, pick)?, (false, true));
+        is_left(&rt, alloc, 0, pick, (false, true))?;
+        is_left(&rt, alloc, 1, pick, (false, true))?;
         for calls in 2..4u64 {
-            match left_of_a_prepare(&rt, alloc, calls, pick)? {
-                (false, true) => accepted = true,
-                (false, false) => refused = true,
-                (true, _) => panic!(rt; "a promise that isn't stored"),
+            if is_lost(&rt, alloc, calls, pick)? {
+                accepted = true;
+            } else {
+                refused = true;
             }
         }
-        assert_eq!(rt; left_of_a_prepare(&rt, alloc, 4, pick)?, (true, false));
+        is_left(&rt, alloc, 4, pick, (true, false))?;
     }
     assert!(rt; accepted);
     assert!(rt; refused);
@@ -348,7 +428,7 @@ fn opened_again(
 
 /// Counts a fault, which is of the disk.
 fn count(rt: &impl Abort, fault: StoreFault, faults: &mut u32) {
-    assert_eq!(rt; fault, StoreFault::Disk);
+    assert_same(rt, fault, StoreFault::Disk);
     *faults = faults.saturating_add(1);
 }
 
@@ -371,7 +451,7 @@ fn created_at_last(
 /// The third ballot is promised, or told by a refusal.
 fn has_promised<D: Disk>(rt: &impl Abort, acceptor: &mut Acceptor<D>) -> Result<(), StoreFault> {
     if let PrepareAnswer::Refuse { promised, .. } = prepare(acceptor, THIRD, 0)? {
-        assert_eq!(rt; promised, THIRD);
+        assert_same(rt, promised, THIRD);
     }
     Ok(())
 }
@@ -417,7 +497,7 @@ fn accepted_at_last(
 
 /// The third ballot is promised, and what was accepted in it stays where another command is proposed.
 fn keeps_both<D: Disk>(rt: &impl Abort, acceptor: &mut Acceptor<D>) {
-    assert_eq!(rt; promised(acceptor), THIRD);
+    assert_same(rt, promised(acceptor), THIRD);
     let accepted = AcceptAnswer::Accepted {
         ballot: THIRD,
         slot: 0,
@@ -426,17 +506,28 @@ fn keeps_both<D: Disk>(rt: &impl Abort, acceptor: &mut Acceptor<D>) {
     accepts(rt, acceptor, THIRD, 0, FOLD, Ok(accepted));
 }
 
+/// The call of this number fails alone.
+fn fails_once(
+    rt: &impl Abort,
+    alloc: Global,
+    call: u64,
+    faults: &mut u32,
+) -> Result<(), StoreFault> {
+    let acceptor = created_at_last(rt, alloc, OnceDisk::new(alloc, call), faults);
+    let acceptor = promised_at_last(rt, alloc, acceptor, faults)?;
+    let mut acceptor = accepted_at_last(rt, alloc, acceptor, faults);
+    keeps_both(rt, &mut acceptor);
+    Ok(())
+}
+
 /// Each call of the disk fails alone, in create, a promise and an accept; behind it the same frame is answered again.
 #[test]
 fn each_call_fails_once(rt: HostRuntime) -> Result<(), Fail> {
     let alloc = rt.alloc();
     let mut faults = 0u32;
     for call in 0..11u64 {
-        let acceptor = created_at_last(&rt, alloc, OnceDisk::new(alloc, call), &mut faults);
-        let acceptor = promised_at_last(&rt, alloc, acceptor, &mut faults)?;
-        let mut acceptor = accepted_at_last(&rt, alloc, acceptor, &mut faults);
-        keeps_both(&rt, &mut acceptor);
+        fails_once(&rt, alloc, call, &mut faults)?;
     }
-    assert_eq!(rt; faults, 10);
+    assert_same(&rt, faults, 10);
     Ok(())
 }

@@ -5,19 +5,19 @@ ghost use Rattle.paxos_wire.specs.Fits.{IsInRange};
 use paxos_wire::{Ballot, read_command};
 use promise_store::{Disk, MemoryDisk, Store, StoreFault};
 use slot_log::Command;
-use std::alloc::Global;
+use std::alloc::{AllocError, Global};
 use std::process::Abort;
 use std::test::Fail;
 
 pub(crate) const FIRST: Ballot = Ballot { round: 1, node: 0 };
 
 /// `TdAs|8hTc/2c8c3h/9c/Kh` of hand 0.
-pub(crate) const DEAL: [u8; 15] = [
+static DEAL: [u8; 15] = [
     0x01, 0, 0, 0, 0, 0x09, 0x21, 0x33, 0x1a, 0x20, 0x00, 0x18, 0x06, 0x1c, 0x2e,
 ];
 
 /// Node 0 of 3 after a promise of (1, 0) and an accept of the deal in it at slot 0.
-pub(crate) const JOURNAL: [u8; 46] = [
+pub(crate) static JOURNAL: [u8; 46] = [
     0x48, 0x44, 0x4a, 0x31, 0, 3, 0, 0, 1, 0, 6, 1, 0, 0, 0, 1, 0, 1, 0, 25, 2, 0, 0, 0, 1, 0, 0,
     0, 0, 0, 0x01, 0, 0, 0, 0, 0x09, 0x21, 0x33, 0x1a, 0x20, 0x00, 0x18, 0x06, 0x1c, 0x2e, 0,
 ];
@@ -66,6 +66,15 @@ pub(crate) fn opened<D: Disk>(rt: &impl Abort, alloc: Global, disk: D) -> Store<
     }
 }
 
+/// A new store on a disk in memory with these fuses, of which none burns in create.
+pub(crate) fn created_in_memory(
+    rt: &impl Abort,
+    alloc: Global,
+    fuses: &[u64],
+) -> Result<Store<MemoryDisk>, AllocError> {
+    Ok(created(rt, alloc, MemoryDisk::new(alloc, fuses)?))
+}
+
 /// Stores the promise of the first ballot.
 pub(crate) fn promise<D: Disk>(store: &mut Store<D>) -> Result<(), StoreFault> {
     store.promise(FIRST)
@@ -74,6 +83,12 @@ pub(crate) fn promise<D: Disk>(store: &mut Store<D>) -> Result<(), StoreFault> {
 /// Stores that the deal was accepted in the first ballot at slot 0.
 pub(crate) fn accept<D: Disk>(rt: &impl Abort, store: &mut Store<D>) -> Result<(), StoreFault> {
     store.accept(FIRST, 0, &deal(rt))
+}
+
+/// Stores both, the promise and the accept.
+pub(crate) fn store_both<D: Disk>(rt: &impl Abort, store: &mut Store<D>) -> Result<(), StoreFault> {
+    promise(store)?;
+    accept(rt, store)
 }
 
 /// What was accepted at a slot.
@@ -90,12 +105,28 @@ pub(crate) fn has_both<D: Disk>(rt: &impl Abort, store: &mut Store<D>) -> Result
     Ok(store.held().promised() == FIRST && found == Some((FIRST, deal(rt))))
 }
 
-/// What opening a file as node 0 of 3 answers: the fault's number, or 0.
-pub(crate) fn answer(alloc: Global, bytes: &[u8]) -> Result<u8, Fail> {
-    match open(alloc, disk_with(alloc, bytes, &[])?) {
-        Ok(_) => Ok(0),
-        Err((_, fault)) => Ok(fault.code()),
+/// The store that is opened on the disk has both.
+pub(crate) fn keeps_both<D: Disk + Drop>(
+    rt: &impl Abort,
+    alloc: Global,
+    disk: D,
+) -> Result<(), Fail> {
+    let mut store = opened(rt, alloc, disk);
+    assert!(rt; has_both(rt, &mut store)?);
+    Ok(())
+}
+
+/// What opening a disk as node 0 of 3 answers: the fault's number, or 0.
+pub(crate) fn opening<D: Disk + Drop>(alloc: Global, disk: D) -> u8 {
+    match open(alloc, disk) {
+        Ok(_) => 0,
+        Err((_, fault)) => fault.code(),
     }
+}
+
+/// What opening a file of these bytes answers.
+pub(crate) fn answer(alloc: Global, bytes: &[u8]) -> Result<u8, Fail> {
+    Ok(opening(alloc, disk_with(alloc, bytes, &[])?))
 }
 
 /// A next number of the generator of Lehmer (multiplier 48271 modulo 2^31 - 1).

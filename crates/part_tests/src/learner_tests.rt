@@ -1,6 +1,6 @@
 ghost use Rattle.std.specs.Prelude.{◌≡◌, ◌<◌};
 
-use crate::samples::{CALL, FOLD, RAISE, ballot};
+use crate::samples::{CALL, FOLD, RAISE, assert_same, ballot};
 use learner::{Chosen, Learner};
 use paxos_wire::Ballot;
 use slot_log::{Command, SlotFault};
@@ -38,7 +38,23 @@ fn counts(
     ensures { learner.new.learned.nodes ≡ learner.old.learned.nodes }
 {
     let answer = answered(learner, from, ballot, slot, command)?;
-    assert!(rt; answer.ok() == Some(told));
+    assert_same(rt, answer.ok(), Some(told));
+    Ok(())
+}
+
+/// Counts a node's answer, which isn't refused.
+fn is_counted(
+    rt: &impl Abort,
+    learner: &mut Learner,
+    from: u8,
+    ballot: Ballot,
+    slot: u32,
+) -> Result<(), AllocError>
+    requires { from < learner.old.learned.nodes }
+    ensures { learner.new.learned.nodes ≡ learner.old.learned.nodes }
+{
+    let answer = answered(learner, from, ballot, slot, CALL)?;
+    assert!(rt; answer.is_ok());
     Ok(())
 }
 
@@ -51,6 +67,20 @@ fn believed(
     ensures { learner.new.learned.nodes ≡ learner.old.learned.nodes }
 {
     learner.on_chosen(slot, command)
+}
+
+/// Believes another node's word, which isn't refused.
+fn believes(
+    rt: &impl Abort,
+    learner: &mut Learner,
+    slot: u32,
+    command: Command,
+) -> Result<(), AllocError>
+    ensures { learner.new.learned.nodes ≡ learner.old.learned.nodes }
+{
+    let answer = believed(learner, slot, command)?;
+    assert!(rt; answer.is_ok());
+    Ok(())
 }
 
 /// The first slot that isn't known.
@@ -72,7 +102,7 @@ fn counts_one_node_thrice(rt: &impl Abort, learner: &mut Learner) -> Result<(), 
     counts(rt, learner, 1, own, 0, CALL, None)?;
     counts(rt, learner, 1, own, 0, CALL, None)?;
     counts(rt, learner, 1, own, 0, CALL, None)?;
-    assert!(rt; front(learner) == 0);
+    assert_same(rt, front(learner), 0);
     Ok(())
 }
 
@@ -85,7 +115,7 @@ fn counts_another_node(rt: &impl Abort, learner: &mut Learner) -> Result<(), All
         command: CALL,
     };
     counts(rt, learner, 2, ballot(1, 0), 0, CALL, Some(told))?;
-    assert!(rt; front(learner) == 1);
+    assert_same(rt, front(learner), 1);
     Ok(())
 }
 
@@ -130,7 +160,7 @@ fn splits_choose_nothing(rt: HostRuntime) -> Result<(), Fail> {
     let mut learner = Learner::new(rt.alloc(), 5)?;
     splits_by_commands(&rt, &mut learner)?;
     splits_by_ballots(&rt, &mut learner)?;
-    assert!(rt; front(&learner) == 0);
+    assert_same(&rt, front(&learner), 0);
     Ok(())
 }
 
@@ -142,8 +172,8 @@ fn passes_slot_0(rt: &impl Abort, learner: &mut Learner) -> Result<(), AllocErro
     let own = ballot(4, 2);
     counts(rt, learner, 0, own, 64, CALL, None)?;
     counts(rt, learner, 0, own, 0, CALL, None)?;
-    assert!(rt; believed(learner, 0, FOLD)?.is_ok());
-    assert!(rt; front(learner) == 1);
+    believes(rt, learner, 0, FOLD)?;
+    assert_same(rt, front(learner), 1);
     Ok(())
 }
 
@@ -160,7 +190,7 @@ fn completes_slot_64(rt: &impl Abort, learner: &mut Learner) -> Result<(), Alloc
     counts(rt, learner, 0, own, 64, CALL, Some(told))?;
     counts(rt, learner, 2, own, 64, CALL, None)?;
     assert!(rt; knows(learner, 64, &CALL));
-    assert!(rt; front(learner) == 1);
+    assert_same(rt, front(learner), 1);
     Ok(())
 }
 
@@ -178,8 +208,19 @@ fn refuses_another_word(rt: &impl Abort, learner: &mut Learner) -> Result<(), Al
     ensures { learner.new.learned.nodes ≡ learner.old.learned.nodes }
 {
     learner.reserve(4)?;
-    assert!(rt; believed(learner, 2, FOLD)?.is_ok());
-    assert!(rt; believed(learner, 2, CALL)?.err() == Some(SlotFault::Conflict));
+    believes(rt, learner, 2, FOLD)?;
+    let answer = believed(learner, 2, CALL)?;
+    assert_same(rt, answer.err(), Some(SlotFault::Conflict));
+    Ok(())
+}
+
+/// Node 1's answer at slot 2 is refused.
+fn refuses_the_second(rt: &impl Abort, learner: &mut Learner) -> Result<(), AllocError>
+    requires { learner.old.learned.nodes ≡ 3 }
+    ensures { learner.new.learned.nodes ≡ 3 }
+{
+    let answer = answered(learner, 1, ballot(1, 1), 2, CALL)?;
+    assert_same(rt, answer.err(), Some(SlotFault::Conflict));
     Ok(())
 }
 
@@ -187,10 +228,9 @@ fn refuses_another_word(rt: &impl Abort, learner: &mut Learner) -> Result<(), Al
 fn refuses_a_quorum(rt: &impl Abort, learner: &mut Learner) -> Result<(), AllocError>
     requires { learner.old.learned.nodes ≡ 3 }
 {
-    let own = ballot(1, 1);
-    assert!(rt; answered(learner, 0, own, 2, CALL)?.is_ok());
-    assert!(rt; answered(learner, 1, own, 2, CALL)?.err() == Some(SlotFault::Conflict));
-    assert!(rt; answered(learner, 1, own, 2, CALL)?.err() == Some(SlotFault::Conflict));
+    is_counted(rt, learner, 0, ballot(1, 1), 2)?;
+    refuses_the_second(rt, learner)?;
+    refuses_the_second(rt, learner)?;
     assert!(rt; knows(learner, 2, &FOLD));
     Ok(())
 }
@@ -215,8 +255,7 @@ fn counts_with_room(rt: &impl Abort, learner: &mut Learner) -> Result<(), AllocE
     {
         panic!(rt; "nothing is known there");
     }
-    assert!(rt; answered(learner, 2, ballot(1, 0), 0, CALL)?.is_ok());
-    Ok(())
+    is_counted(rt, learner, 2, ballot(1, 0), 0)
 }
 
 /// Makes room and believes a command at slot 1; the front passes both slots.
@@ -225,7 +264,7 @@ fn believes_with_room(rt: &impl Abort, learner: &mut Learner) -> Result<(), Allo
     if learner.on_chosen_reserved(1, FOLD).is_err() {
         panic!(rt; "nothing is known there");
     }
-    assert!(rt; front(learner) == 2);
+    assert_same(rt, front(learner), 2);
     Ok(())
 }
 

@@ -1,10 +1,10 @@
-//! The commands and ballots that tests of several parts are about, and how the print of a fault is compared.
+//! The commands and ballots that tests of several parts are about, and how values and the print of a fault are compared.
 
 use betting::Action;
 use paxos_wire::Ballot;
 use slot_log::Command;
 use std::alloc::{AllocError, Global};
-use std::fmt::Display;
+use std::fmt::{Debug, Display};
 use std::process::Abort;
 
 pub(crate) const CALL: Command = Command::Act {
@@ -29,14 +29,31 @@ pub(crate) fn ballot(round: u32, node: u8) -> Ballot {
     Ballot { round, node }
 }
 
+// What `assert_eq!` makes is proved anew wherever it stands, so it stands in the functions below.
+
+/// The two are equal; where they aren't, both are printed.
+pub(crate) fn assert_same<T: Copy + PartialEq + Debug>(rt: &impl Abort, found: T, expected: T) {
+    assert_eq!(rt; found, expected);
+}
+
+/// The same of bytes.
+pub(crate) fn assert_bytes(rt: &impl Abort, found: &[u8], expected: &[u8]) {
+    assert_eq!(rt; found, expected);
+}
+
+/// The same of texts.
+pub(crate) fn assert_text(rt: &impl Abort, found: &str, expected: &str) {
+    assert_eq!(rt; found, expected);
+}
+
 /// A fault prints as this text.
-pub(crate) fn prints<F: Display + Drop>(
+pub(crate) fn prints<F: Display>(
     rt: &impl Abort,
     alloc: Global,
-    fault: F,
+    fault: &F,
     text: &str,
 ) -> Result<(), AllocError> {
     let printed = format!(in alloc; "{fault}")?;
-    assert_eq!(rt; printed.as_str(), text);
+    assert_text(rt, printed.as_str(), text);
     Ok(())
 }
