@@ -1,3 +1,4 @@
+use crate::asserting::{holds, prints, same};
 use crate::samples::card;
 use card_core::{Card, Deal, DealFault, are_distinct};
 use std::process::Abort;
@@ -18,60 +19,107 @@ fn heads_up(rt: &impl Abort) -> [Card; 9] {
     ]
 }
 
+/// Cards by their letters, each with its number, its rank and its suit.
+static CARDS: [(&[u8; 2], u8, u8, u8); 4] = [
+    (b"2c", 0, 0, 0),
+    (b"3h", 6, 1, 2),
+    (b"Td", 33, 8, 1),
+    (b"As", 51, 12, 3),
+];
+
+/// Letters of no card.
+static NO_CARDS: [&[u8; 2]; 6] = [b"1c", b"tc", b"TC", b"cT", b"10", b"  "];
+
+/// Sees the card of two letters.
+fn is_card(rt: &impl Abort, text: &[u8; 2], number: u8, rank: u8, suit: u8) {
+    let card = card(rt, text);
+    same!(rt; card.number(), number);
+    same!(rt; card.rank(), rank);
+    same!(rt; card.suit(), suit);
+    same!(rt; card.text(), *text);
+}
+
 #[test]
 fn cards_have_the_protocols_letters(rt: HostRuntime) {
-    for (text, number, rank, suit) in [
-        (*b"2c", 0, 0, 0),
-        (*b"3h", 6, 1, 2),
-        (*b"Td", 33, 8, 1),
-        (*b"As", 51, 12, 3),
-    ] {
-        let card = card(&rt, &text);
-        assert_eq!(rt; card.number(), number);
-        assert_eq!(rt; card.rank(), rank);
-        assert_eq!(rt; card.suit(), suit);
-        assert_eq!(rt; card.text(), text);
+    for &(text, number, rank, suit) in &CARDS {
+        is_card(&rt, text, number, rank, suit);
     }
-    for text in [*b"1c", *b"tc", *b"TC", *b"cT", *b"10", *b"  "] {
-        assert!(rt; Card::from_text(text).is_none());
+    for &text in &NO_CARDS {
+        holds!(&rt; Card::from_text(*text).is_none());
     }
+}
+
+/// The deal of cards for two players.
+fn dealt(rt: &impl Abort, cards: &[Card; 9]) -> Deal {
+    Deal::new(2, cards).expect(rt, "a deal")
+}
+
+/// The same with the first two cards in the other order.
+fn turned(rt: &impl Abort, cards: &[Card; 9]) -> Deal {
+    let mut other_way = *cards;
+    other_way[0] = cards[1];
+    other_way[1] = cards[0];
+    dealt(rt, &other_way)
+}
+
+/// Sees the hole cards of a position.
+fn has_hole(rt: &impl Abort, deal: &Deal, position: usize, hole: &[Card]) {
+    assert!(rt; position < deal.players());
+    holds!(rt; deal.hole(position).as_slice() == hole);
+}
+
+/// Sees all that a position plays.
+fn has_seven(rt: &impl Abort, deal: &Deal, position: usize, seven: &[Card]) {
+    assert!(rt; position < deal.players());
+    holds!(rt; deal.seven(position).as_slice() == seven);
+}
+
+/// Sees the board.
+fn has_board(rt: &impl Abort, deal: &Deal, board: &[Card]) {
+    holds!(rt; deal.board().as_slice() == board);
+}
+
+/// Sees the places of two players' cards.
+fn lies_in_place(rt: &impl Abort, deal: &Deal, cards: &[Card]) {
+    assert_eq!(rt; cards.len(), 9);
+    has_hole(rt, deal, 0, &cards[..2]);
+    has_hole(rt, deal, 1, &cards[2..4]);
+    has_board(rt, deal, &cards[4..]);
+    has_seven(rt, deal, 1, &cards[2..]);
+}
+
+/// Sees that a deal is the same as itself, and not as another.
+fn is_itself_alone(rt: &impl Abort, deal: &Deal, other: &Deal) {
+    holds!(rt; deal.is_same(deal));
+    holds!(rt; !deal.is_same(other));
 }
 
 #[test]
 fn a_deal_lies_at_its_places(rt: HostRuntime) {
     let cards = heads_up(&rt);
-    let deal = Deal::new(2, &cards).expect(&rt, "a deal");
-    assert_eq!(rt; deal.players(), 2);
-    assert!(rt; deal.cards() == cards.as_slice());
-    assert!(rt; deal.hole(0) == [cards[0], cards[1]]);
-    assert!(rt; deal.hole(1) == [cards[2], cards[3]]);
-    assert!(rt; are_distinct(&cards));
-    assert!(rt; deal.board() == [cards[4], cards[5], cards[6], cards[7], cards[8]]);
-    let second = [
-        cards[2], cards[3], cards[4], cards[5], cards[6], cards[7], cards[8],
-    ];
-    assert!(rt; deal.seven(1) == second);
-    assert!(rt; deal.is_same(&deal));
-    let other_way = [
-        cards[1], cards[0], cards[2], cards[3], cards[4], cards[5], cards[6], cards[7], cards[8],
-    ];
-    let turned = Deal::new(2, &other_way).expect(&rt, "a deal");
-    assert!(rt; !deal.is_same(&turned));
+    let deal = dealt(&rt, &cards);
+    same!(&rt; deal.players(), 2);
+    holds!(&rt; deal.cards() == cards.as_slice());
+    lies_in_place(&rt, &deal, &cards);
+    holds!(&rt; are_distinct(&cards));
+    is_itself_alone(&rt, &deal, &turned(&rt, &cards));
+}
+
+/// The fault of cards that are no deal of two players.
+fn fault_of(rt: &impl Abort, cards: &[Card], case: &str) -> DealFault {
+    Deal::new(2, cards).expect_err(rt, case)
 }
 
 #[test]
 fn faults_print_their_number_and_name(rt: HostRuntime) -> Result<(), Fail> {
     let mut cards = heads_up(&rt);
     cards[8] = cards[0];
-    let repeated = Deal::new(2, &cards).expect_err(&rt, "a card twice");
-    let short = Deal::new(2, &cards[..8]).expect_err(&rt, "eight cards");
-    assert_eq!(rt; repeated, DealFault::Repeated);
-    assert_eq!(rt; repeated.code(), 2);
-    assert_eq!(rt;
-        format!(in rt.alloc(); "{repeated}")?.as_str(),
-        "2 Repeated"
-    );
-    assert_eq!(rt; short.code(), 1);
-    assert_eq!(rt; format!(in rt.alloc(); "{short}")?.as_str(), "1 WrongCount");
+    let repeated = fault_of(&rt, &cards, "a card twice");
+    let short = fault_of(&rt, &cards[..8], "eight cards");
+    same!(&rt; repeated, DealFault::Repeated);
+    same!(&rt; repeated.code(), 2);
+    prints(&rt, rt.alloc(), &repeated, "2 Repeated")?;
+    same!(&rt; short.code(), 1);
+    prints(&rt, rt.alloc(), &short, "1 WrongCount")?;
     Ok(())
 }

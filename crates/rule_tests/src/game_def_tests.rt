@@ -1,3 +1,4 @@
+use crate::asserting::{holds, prints, same};
 use crate::samples::{L2, L3, N2, N3, game};
 use game_def::*;
 use std::alloc::{AllocError, Global};
@@ -53,16 +54,16 @@ fn told(text: &[u8]) -> (u8, usize) {
 /// A seat's stack and its blind.
 fn assert_seat(rt: &impl Abort, game: &GameDef, position: usize, stack: u32, blind: u32) {
     assert!(rt; position < game.players());
-    assert_eq!(rt; game.stack(position), stack);
-    assert_eq!(rt; game.blind(position), blind);
+    same!(rt; game.stack(position), stack);
+    same!(rt; game.blind(position), blind);
 }
 
 /// The size of a round's raises, the first player to act in it and how many raises it has at most.
 fn assert_round(rt: &impl Abort, game: &GameDef, round: usize, said: (Option<u32>, usize, u8)) {
     assert!(rt; round < 4);
-    assert_eq!(rt; game.raise_size(round), said.0);
-    assert_eq!(rt; game.first_player(round), said.1);
-    assert_eq!(rt; game.max_raises(round), said.2);
+    same!(rt; game.raise_size(round), said.0);
+    same!(rt; game.first_player(round), said.1);
+    same!(rt; game.max_raises(round), said.2);
 }
 
 /// The seats' stacks and blinds.
@@ -84,8 +85,8 @@ fn assert_rounds(rt: &impl Abort, game: &GameDef, rounds: &[(Option<u32>, usize,
 fn limit_games(rt: HostRuntime) {
     let heads_up = game(&rt, L2);
     heads_up.limits();
-    assert!(rt; heads_up.is_limit());
-    assert_eq!(rt; heads_up.big_blind(), 10);
+    holds!(&rt; heads_up.is_limit());
+    same!(&rt; heads_up.big_blind(), 10);
     assert_seats(&rt, &heads_up, &[(2_147_483_647, 10), (2_147_483_647, 5)]);
     assert_rounds(
         &rt,
@@ -97,7 +98,7 @@ fn limit_games(rt: HostRuntime) {
             (Some(20), 0, 4),
         ],
     );
-    assert!(rt; game(&rt, L2_LOUD) == heads_up);
+    holds!(&rt; game(&rt, L2_LOUD) == heads_up);
 }
 
 #[test]
@@ -123,8 +124,8 @@ fn limit_games_of_three(rt: HostRuntime) {
 #[test]
 fn nolimit_games(rt: HostRuntime) {
     let heads_up = game(&rt, N2);
-    assert!(rt; !heads_up.is_limit());
-    assert_eq!(rt; heads_up.big_blind(), 100);
+    holds!(&rt; !heads_up.is_limit());
+    same!(&rt; heads_up.big_blind(), 100);
     assert_seats(&rt, &heads_up, &[(20_000, 100), (20_000, 50)]);
     assert_rounds(
         &rt,
@@ -154,88 +155,118 @@ fn nolimit_games_of_three(rt: HostRuntime) {
     );
 }
 
+/// Sees the number and the line of a text's fault, nothing for a game file.
+fn is_told(rt: &impl Abort, text: &[u8], code: u8, line: usize) {
+    same!(rt; told(text), (code, line));
+}
+
+/// Texts with a line at fault, the number of the fault and the line.
+static TEXTS: [(&[u8], u8, usize); 26] = [
+    (b"", 10, 0),
+    (b"\n# GAMEDEF", 10, 2),
+    (b"GAMEDEF x\n", 10, 1),
+    (b"\nlimit\nGAMEDEF\n", 10, 2),
+    (b"GAMEDEF\nlimit\n\n", 11, 3),
+    (b"GAMEDEF\nlimit\nnumPlayers = 2", 11, 3),
+    (b"GAMEDEF\nEND\n", 12, 2),
+    (b"GAMEDEF\nEND GAMEDEF x\n", 12, 2),
+    (b"GAMEDEF\n= 5\n", 12, 2),
+    (b"GAMEDEF\nlimit\nGAMEDEF\n", 12, 3),
+    (b"GAMEDEF\nstack5\nlimit x\n", 12, 2),
+    (b"GAMEDEF\nlimit\nNOLIMIT x\n", 19, 3),
+    (b"GAMEDEF\nstack 1\nblind 1\nStack 1 2\n", 19, 4),
+    (b"GAMEDEF\nlimit x\n", 13, 2),
+    (b"GAMEDEF\nstack 2147483648\n", 13, 2),
+    (b"GAMEDEF\nnumPlayers 12345678901\n", 13, 2),
+    (b"GAMEDEF\nfirstPlayer 0\n", 13, 2),
+    (b"GAMEDEF\nfirstPlayer 11\n", 13, 2),
+    (b"GAMEDEF\nmaxRaises 256\n", 13, 2),
+    (b"GAMEDEF\nblind = 10=5\n", 13, 2),
+    (b"GAMEDEF\nnumPlayers 2\r", 13, 2),
+    (b"GAMEDEF\nblind 1 1 1 1 1 1 1 1 1 1 1 x\n", 13, 2),
+    (b"GAMEDEF\nlimit 1\n", 14, 2),
+    (b"GAMEDEF\nstack =\n", 14, 2),
+    (b"GAMEDEF\nnumPlayers = 2 2\n", 14, 2),
+    (b"GAMEDEF\nblind 1 1 1 1 1 1 1 1 1 1 1\nx\n", 14, 2),
+];
+
 #[test]
 fn faults_of_lines(rt: HostRuntime) {
-    let cases: [(&[u8], u8, usize); 26] = [
-        (b"", 10, 0),
-        (b"\n# GAMEDEF", 10, 2),
-        (b"GAMEDEF x\n", 10, 1),
-        (b"\nlimit\nGAMEDEF\n", 10, 2),
-        (b"GAMEDEF\nlimit\n\n", 11, 3),
-        (b"GAMEDEF\nlimit\nnumPlayers = 2", 11, 3),
-        (b"GAMEDEF\nEND\n", 12, 2),
-        (b"GAMEDEF\nEND GAMEDEF x\n", 12, 2),
-        (b"GAMEDEF\n= 5\n", 12, 2),
-        (b"GAMEDEF\nlimit\nGAMEDEF\n", 12, 3),
-        (b"GAMEDEF\nstack5\nlimit x\n", 12, 2),
-        (b"GAMEDEF\nlimit\nNOLIMIT x\n", 19, 3),
-        (b"GAMEDEF\nstack 1\nblind 1\nStack 1 2\n", 19, 4),
-        (b"GAMEDEF\nlimit x\n", 13, 2),
-        (b"GAMEDEF\nstack 2147483648\n", 13, 2),
-        (b"GAMEDEF\nnumPlayers 12345678901\n", 13, 2),
-        (b"GAMEDEF\nfirstPlayer 0\n", 13, 2),
-        (b"GAMEDEF\nfirstPlayer 11\n", 13, 2),
-        (b"GAMEDEF\nmaxRaises 256\n", 13, 2),
-        (b"GAMEDEF\nblind = 10=5\n", 13, 2),
-        (b"GAMEDEF\nnumPlayers 2\r", 13, 2),
-        (b"GAMEDEF\nblind 1 1 1 1 1 1 1 1 1 1 1 x\n", 13, 2),
-        (b"GAMEDEF\nlimit 1\n", 14, 2),
-        (b"GAMEDEF\nstack =\n", 14, 2),
-        (b"GAMEDEF\nnumPlayers = 2 2\n", 14, 2),
-        (b"GAMEDEF\nblind 1 1 1 1 1 1 1 1 1 1 1\nx\n", 14, 2),
-    ];
-    for (text, code, line) in cases {
-        assert_eq!(rt; told(text), (code, line));
+    for &(text, code, line) in &TEXTS {
+        is_told(&rt, text, code, line);
     }
+}
+
+/// Lines in front of what every game needs, the number of the fault of the file that they make and its line.
+static FRONTS: [(&[u8], u8, usize); 13] = [
+    (b"nolimit\nblind 2 1\n", 0, 0),
+    (b"nolimit\nstack 100 100 100\nblind 2 1\n", 14, 3),
+    (b"blind 2 1 0\n", 14, 2),
+    (b"nolimit\nblind 2 1\nraiseSize 1 2 3\n", 14, 4),
+    (b"nolimit\nfirstPlayer 1 1 1\nblind 2 1\n", 14, 3),
+    (b"nolimit\nblind 2 1\nmaxRaises 1\n", 14, 4),
+    (b"nolimit\nfirstPlayer 3 1 1 1\n", 15, 3),
+    (b"nolimit\nblind 0 0\n", 16, 3),
+    (b"nolimit\n", 16, 9),
+    (b"nolimit\nstack 100 100\nblind 100 50\n", 17, 3),
+    (b"nolimit\nblind 2147483647 1\n", 17, 10),
+    (b"blind 2 1\n", 18, 9),
+    (b"blind 2 1\nraiseSize 2 2 0 4\n", 18, 3),
+];
+
+/// Files that lack something or say what no game has, and the line where it is told.
+static REQUIREMENTS: [(&[u8], usize); 8] = [
+    (b"GAMEDEF\nEND GAMEDEF", 2),
+    (b"GAMEDEF\nnumPlayers 11\n\nEND GAMEDEF", 2),
+    (b"GAMEDEF\nnumRounds 3\nnumPlayers 1\nEND GAMEDEF", 3),
+    (b"GAMEDEF\nnumRounds 3\nnumPlayers 10\nEND GAMEDEF", 2),
+    (
+        b"GAMEDEF\nnumPlayers 2\nnumRounds 4\nnumSuits 1\nEND GAMEDEF",
+        4,
+    ),
+    (
+        b"GAMEDEF\nnumPlayers 2\nnumRounds 4\nnumSuits 4\nnumRanks 12\nEND GAMEDEF",
+        5,
+    ),
+    (
+        b"GAMEDEF\nnumPlayers 2\nnumRounds 4\nnumSuits 4\nnumRanks 13\nnumHoleCards 4\nEND GAMEDEF",
+        6,
+    ),
+    (
+        b"GAMEDEF\nnumPlayers 2\nnumRounds 4\nnumSuits 4\nnumRanks 13\nnumHoleCards 2\nnumBoardCards 0 3 1\nEND GAMEDEF",
+        7,
+    ),
+];
+
+/// The same of the file of these lines.
+fn is_told_of_file(
+    rt: &impl Abort,
+    alloc: Global,
+    lines: &[u8],
+    code: u8,
+    line: usize,
+) -> Result<(), AllocError> {
+    let text = file(alloc, lines)?;
+    is_told(rt, &text, code, line);
+    Ok(())
 }
 
 #[test]
 fn faults_of_files(rt: HostRuntime) -> Result<(), Fail> {
-    let cases: [(&[u8], u8, usize); 13] = [
-        (b"nolimit\nblind 2 1\n", 0, 0),
-        (b"nolimit\nstack 100 100 100\nblind 2 1\n", 14, 3),
-        (b"blind 2 1 0\n", 14, 2),
-        (b"nolimit\nblind 2 1\nraiseSize 1 2 3\n", 14, 4),
-        (b"nolimit\nfirstPlayer 1 1 1\nblind 2 1\n", 14, 3),
-        (b"nolimit\nblind 2 1\nmaxRaises 1\n", 14, 4),
-        (b"nolimit\nfirstPlayer 3 1 1 1\n", 15, 3),
-        (b"nolimit\nblind 0 0\n", 16, 3),
-        (b"nolimit\n", 16, 9),
-        (b"nolimit\nstack 100 100\nblind 100 50\n", 17, 3),
-        (b"nolimit\nblind 2147483647 1\n", 17, 10),
-        (b"blind 2 1\n", 18, 9),
-        (b"blind 2 1\nraiseSize 2 2 0 4\n", 18, 3),
-    ];
-    for (lines, code, line) in cases {
-        let text = file(rt.alloc(), lines)?;
-        assert_eq!(rt; told(&text), (code, line));
+    for &(lines, code, line) in &FRONTS {
+        is_told_of_file(&rt, rt.alloc(), lines, code, line)?;
     }
-    let requirements: [(&[u8], usize); 8] = [
-        (b"GAMEDEF\nEND GAMEDEF", 2),
-        (b"GAMEDEF\nnumPlayers 11\n\nEND GAMEDEF", 2),
-        (b"GAMEDEF\nnumRounds 3\nnumPlayers 1\nEND GAMEDEF", 3),
-        (b"GAMEDEF\nnumRounds 3\nnumPlayers 10\nEND GAMEDEF", 2),
-        (
-            b"GAMEDEF\nnumPlayers 2\nnumRounds 4\nnumSuits 1\nEND GAMEDEF",
-            4,
-        ),
-        (
-            b"GAMEDEF\nnumPlayers 2\nnumRounds 4\nnumSuits 4\nnumRanks 12\nEND GAMEDEF",
-            5,
-        ),
-        (
-            b"GAMEDEF\nnumPlayers 2\nnumRounds 4\nnumSuits 4\nnumRanks 13\nnumHoleCards 4\nEND GAMEDEF",
-            6,
-        ),
-        (
-            b"GAMEDEF\nnumPlayers 2\nnumRounds 4\nnumSuits 4\nnumRanks 13\nnumHoleCards 2\nnumBoardCards 0 3 1\nEND GAMEDEF",
-            7,
-        ),
-    ];
-    for (text, line) in requirements {
-        assert_eq!(rt; told(text), (15, line));
+    for &(text, line) in &REQUIREMENTS {
+        is_told(&rt, text, 15, line);
     }
     Ok(())
+}
+
+/// Sees the kind of a fault, its number and its name.
+fn is_stack_below_blind(rt: &impl Abort, kind: FaultKind) {
+    holds!(rt; kind == FaultKind::StackBelowBlind);
+    same!(rt; kind.code(), 17);
+    same!(rt; kind.name(), "StackBelowBlind");
 }
 
 #[test]
@@ -254,12 +285,7 @@ numBoardCards = 0 3 1 1
 END GAMEDEF
 ";
     let fault = read(text).err().ok_or("a stack is the greatest blind")?;
-    assert!(rt; fault.kind == FaultKind::StackBelowBlind);
-    assert_eq!(rt; fault.kind.code(), 17);
-    assert_eq!(rt; fault.kind.name(), "StackBelowBlind");
-    assert_eq!(rt;
-        format!(in rt.alloc(); "{fault}")?.as_str(),
-        "17 StackBelowBlind 5"
-    );
+    is_stack_below_blind(&rt, fault.kind);
+    prints(&rt, rt.alloc(), &fault, "17 StackBelowBlind 5")?;
     Ok(())
 }

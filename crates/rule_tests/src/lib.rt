@@ -1,5 +1,6 @@
 //! Tests of cards, games, lines, logs and frames, by the public calls of their crates alone: from `card_core` to
-//! `match_file` and `play_script`, a module a crate, and `samples` with the games and cards that they share.
+//! `match_file` and `play_script`, a module a crate; `samples` has the games and cards that they share, and `asserting`
+//! the assertions.
 //!
 //! They stand in a crate of their own, which has nothing else: a crate with tests is proved twice, once without them and
 //! once with all of it, and each crate that is tested here is so proved once.
@@ -8,6 +9,8 @@
 //! says nothing of its own, so that what the prover knows there isn't carried through all tests.
 #![tactic(auto)]
 
+#[cfg(test)]
+mod asserting;
 #[cfg(test)]
 mod betting_tests;
 #[cfg(test)]

@@ -1,263 +1,416 @@
+ghost use Rattle.std.specs.Prelude.{◌≡◌};
+
+use crate::asserting::{holds, prints, same};
 use crate::samples::{L2, N2, game, ten_ace};
-use betting::Action;
+use betting::{Action, Play};
+use card_core::{Card, Deal};
 use game_def::GameDef;
 use matchstate::{
-    BettingText, LineFault, MOST_BETTING, MOST_LINE, betting_text, betting_text_reserved,
+    BettingText, LineFault, MOST_BETTING, MOST_LINE, View, betting_text, betting_text_reserved,
     position_of, read, read_action, read_answer, read_betting, read_deal, read_shown, seat_line,
     seat_line_reserved, seat_view, write, write_reserved,
 };
 use slot_log::{Command, Effect, Table};
-use std::alloc::Global;
+use std::alloc::{AllocError, Global};
 use std::process::Abort;
 use std::test::Fail;
+
+// Calls with long contracts stand in one function each: a contract is read anew wherever its call stands.
+
+/// What a command does.
+fn applied(table: &mut Table, command: &Command) -> Result<Effect, AllocError> {
+    table.apply(command)
+}
+
+/// Deals the first hand.
+fn deal(rt: &impl Abort, table: &mut Table) {
+    let deal = ten_ace(rt);
+    same!(rt; applied(table, &Command::Deal { hand: 0, deal }), Ok(Effect::Dealt));
+}
 
 /// The table of a limit match of two once its first hand is dealt.
 fn dealt(rt: &impl Abort, alloc: Global) -> Table {
     let mut table = Table::new(alloc, game(rt, L2), 1);
-    let deal = ten_ace(rt);
-    assert_eq!(rt;
-        table.apply(&Command::Deal { hand: 0, deal }),
-        Ok(Effect::Dealt)
-    );
+    deal(rt, &mut table);
     table
 }
 
 /// Takes an action of the first hand, its index counted from 0.
-fn take(table: &mut Table, index: u16, action: Action) -> Result<(), Fail> {
-    table.apply(&Command::Act {
-        hand: 0,
-        index,
-        action,
-    })?;
+fn take(table: &mut Table, index: u16, action: Action) -> Result<(), AllocError> {
+    let hand = 0;
+    applied(
+        table,
+        &Command::Act {
+            hand,
+            index,
+            action,
+        },
+    )?;
     Ok(())
+}
+
+/// What a line shows.
+fn view_of(rt: &impl Abort, line: &[u8], game: &GameDef) -> View
+    ensures { result.game ≡ game.now }
+{
+    read(line, game).ok().expect(rt, "a line")
+}
+
+/// The fault of a text that is no line.
+fn fault_of(text: &[u8], game: &GameDef) -> Option<LineFault> {
+    read(text, game).err()
+}
+
+/// The position of an answer's line, its hand and its action.
+fn answer_of(rt: &impl Abort, text: &[u8], game: &GameDef) -> (usize, u32, Action) {
+    let (view, action) = read_answer(text, game).ok().expect(rt, "an answer");
+    (view.position(), view.hand(), action)
+}
+
+/// The fault of a text that is no answer.
+fn answer_fault_of(text: &[u8], game: &GameDef) -> Option<LineFault> {
+    read_answer(text, game).err()
+}
+
+/// The play of a betting text.
+fn play_of(rt: &impl Abort, text: &[u8], game: &GameDef) -> Play {
+    read_betting(text, game).expect(rt, "a play")
+}
+
+/// Sees the line that is written of a view of this game.
+fn writes(
+    rt: &impl Abort,
+    alloc: Global,
+    view: &View,
+    game: &GameDef,
+    wanted: &[u8],
+) -> Result<(), AllocError>
+    requires { view.now.game ≡ game.now }
+{
+    let mut line = Vec::new(alloc);
+    write(&mut line, view, game)?;
+    holds!(rt; line.as_slice() == wanted);
+    Ok(())
+}
+
+/// Sees that a table has two players.
+fn is_of_two(rt: &impl Abort, table: &Table)
+    ensures { table.now.game.players ≡ 2 }
+{
+    assert_eq!(rt; table.game().players(), 2);
+}
+
+/// Sees the line of the second seat of a table of two.
+fn second_sees(
+    rt: &impl Abort,
+    alloc: Global,
+    table: &Table,
+    wanted: &[u8],
+) -> Result<(), AllocError> {
+    is_of_two(rt, table);
+    let view = seat_view(table, 1).expect(rt, "a view");
+    writes(rt, alloc, &view, table.game(), wanted)
 }
 
 #[test]
 fn a_seat_sees_its_own_cards(rt: HostRuntime) -> Result<(), Fail> {
     let table = dealt(&rt, rt.alloc());
-    assert_eq!(rt; table.game().players(), 2);
-    let view = seat_view(&table, 1).expect(&rt, "a view");
-    let mut line = Vec::new(rt.alloc());
-    write(&mut line, &view, table.game())?;
-    assert!(rt; line.as_slice() == &b"MATCHSTATE:1:0::|8hTc"[..]);
+    second_sees(&rt, rt.alloc(), &table, b"MATCHSTATE:1:0::|8hTc")?;
+    Ok(())
+}
+
+/// Raises and calls in the first round.
+fn raise_and_call(table: &mut Table) -> Result<(), AllocError> {
+    take(table, 0, Action::Raise(20))?;
+    take(table, 1, Action::Call)
+}
+
+/// Writes the lines of both seats of a table of two, the second into room that is made before.
+fn write_both(
+    rt: &impl Abort,
+    lines: &mut Vec<u8>,
+    table: &Table,
+    text: &[u8],
+) -> Result<(), AllocError> {
+    let betting = BettingText::newest(table);
+    holds!(rt; betting.as_bytes() == text);
+    is_of_two(rt, table);
+    seat_line(lines, table, 0, &betting)?;
+    lines.push(b'\n')?;
+    lines.reserve(MOST_LINE)?;
+    seat_line_reserved(lines, table, 1, &betting);
+    Ok(())
+}
+
+/// Sees the lines of both seats of a table of two, whose betting text is this.
+fn both_see(
+    rt: &impl Abort,
+    alloc: Global,
+    table: &Table,
+    text: &[u8],
+    wanted: &[u8],
+) -> Result<(), AllocError> {
+    let mut lines = Vec::new(alloc);
+    write_both(rt, &mut lines, table, text)?;
+    holds!(rt; lines.as_slice() == wanted);
     Ok(())
 }
 
 #[test]
 fn all_seats_share_one_betting_text(rt: HostRuntime) -> Result<(), Fail> {
     let mut table = dealt(&rt, rt.alloc());
-    take(&mut table, 0, Action::Raise(20))?;
-    take(&mut table, 1, Action::Call)?;
-    let betting = BettingText::newest(&table);
-    assert!(rt; betting.as_bytes() == &b"rc/"[..]);
-    assert_eq!(rt; table.game().players(), 2);
-    let mut lines = Vec::new(rt.alloc());
-    seat_line(&mut lines, &table, 0, &betting)?;
-    lines.push(b'\n')?;
-    lines.reserve(MOST_LINE)?;
-    seat_line_reserved(&mut lines, &table, 1, &betting);
-    assert!(rt;
-        lines.as_slice() == &b"MATCHSTATE:0:0:rc/:TdAs|/2c8c3h\nMATCHSTATE:1:0:rc/:|8hTc/2c8c3h"[..]
-    );
-    assert_eq!(rt; position_of(2, 1, 0), 1);
+    raise_and_call(&mut table)?;
+    let lines = b"MATCHSTATE:0:0:rc/:TdAs|/2c8c3h\nMATCHSTATE:1:0:rc/:|8hTc/2c8c3h";
+    both_see(&rt, rt.alloc(), &table, b"rc/", lines)?;
+    same!(&rt; position_of(2, 1, 0), 1);
+    Ok(())
+}
+
+/// Sees that a line is written as it was read, into room that is made for it.
+fn rewrites_in_room(
+    rt: &impl Abort,
+    alloc: Global,
+    text: &[u8],
+    game: &GameDef,
+) -> Result<(), AllocError> {
+    let view = view_of(rt, text, game);
+    let mut line = Vec::new(alloc);
+    line.reserve(MOST_LINE)?;
+    write_reserved(&mut line, &view, game);
+    holds!(rt; line.as_slice() == text);
+    Ok(())
+}
+
+/// Sees that the betting text of a play is this, written into room that is made for it.
+fn betting_in_room(
+    rt: &impl Abort,
+    alloc: Global,
+    play: &Play,
+    wanted: &[u8],
+) -> Result<(), AllocError> {
+    let mut text = Vec::new(alloc);
+    text.reserve(MOST_BETTING)?;
+    betting_text_reserved(&mut text, play);
+    holds!(rt; text.as_slice() == wanted);
     Ok(())
 }
 
 #[test]
 fn room_is_made_once_for_a_line(rt: HostRuntime) -> Result<(), Fail> {
     let game = game(&rt, L2);
-    let view = read(b"MATCHSTATE:0:0:rrrc/:TdAs|/2c8c3h", &game)
-        .ok()
-        .expect(&rt, "a line");
-    let mut line = Vec::new(rt.alloc());
-    line.reserve(MOST_LINE)?;
-    write_reserved(&mut line, &view, &game);
-    assert!(rt; line.as_slice() == &b"MATCHSTATE:0:0:rrrc/:TdAs|/2c8c3h"[..]);
-    let play = read_betting(b"rrrc/", &game).expect(&rt, "a play");
-    assert_eq!(rt; read_action(b"f", &play), Some(Action::Fold));
-    let mut text = Vec::new(rt.alloc());
-    text.reserve(MOST_BETTING)?;
-    betting_text_reserved(&mut text, &play);
-    assert!(rt; text.as_slice() == &b"rrrc/"[..]);
+    rewrites_in_room(&rt, rt.alloc(), b"MATCHSTATE:0:0:rrrc/:TdAs|/2c8c3h", &game)?;
+    let play = play_of(&rt, b"rrrc/", &game);
+    same!(&rt; read_action(b"f", &play), Some(Action::Fold));
+    betting_in_room(&rt, rt.alloc(), &play, b"rrrc/")?;
     Ok(())
 }
+
+/// Sees that a line is written as it was read.
+fn rewrites(rt: &impl Abort, alloc: Global, text: &[u8], game: &GameDef) -> Result<(), AllocError> {
+    let view = view_of(rt, text, game);
+    writes(rt, alloc, &view, game, text)
+}
+
+/// Lines that are written as they are read.
+static LINES: [&[u8]; 3] = [
+    b"MATCHSTATE:0:0:rrrc/:TdAs|/2c8c3h",
+    b"MATCHSTATE:1:0:f:|8hTc",
+    b"MATCHSTATE:0:0:rrrc/cc/cc/cc:TdAs|8hTc/2c8c3h/9c/Kh",
+];
 
 #[test]
 fn lines_read_as_they_are_written(rt: HostRuntime) -> Result<(), Fail> {
     let game = game(&rt, L2);
-    for text in [
-        &b"MATCHSTATE:0:0:rrrc/:TdAs|/2c8c3h"[..],
-        &b"MATCHSTATE:1:0:f:|8hTc"[..],
-        &b"MATCHSTATE:0:0:rrrc/cc/cc/cc:TdAs|8hTc/2c8c3h/9c/Kh"[..],
-    ] {
-        let view = read(text, &game).ok().expect(&rt, "a line");
-        let mut line = Vec::new(rt.alloc());
-        write(&mut line, &view, &game)?;
-        assert!(rt; line.as_slice() == text);
+    for &text in &LINES {
+        rewrites(&rt, rt.alloc(), text, &game)?;
     }
     Ok(())
 }
 
+/// Texts that are no lines, each with its fault.
+static NO_LINES: [(&[u8], LineFault); 11] = [
+    (b"HELLO:1:2:3:4", LineFault::NotMatchstate),
+    (b"HELLO", LineFault::NotMatchstate),
+    (b"MATCHSTATE:2:0:c/:|", LineFault::BadNumber),
+    (b"MATCHSTATE:2:0::TdAs|", LineFault::BadNumber),
+    (b"MATCHSTATE:0:10000::TdAs|", LineFault::BadNumber),
+    (b"MATCHSTATE::0::TdAs|", LineFault::BadNumber),
+    (b"MATCHSTATE:0:00::TdAs|", LineFault::BadNumber),
+    (b"MATCHSTATE:1:0:c/:|8hTc/2c8c3h", LineFault::BadBetting),
+    (b"MATCHSTATE:0:0:cc:TdAs|/2c8c3h", LineFault::BadBetting),
+    (b"MATCHSTATE:0:0::|8hTc", LineFault::BadCards),
+    (b"MATCHSTATE:0:0::TdTd|", LineFault::BadCards),
+];
+
 #[test]
 fn other_texts_are_no_lines(rt: HostRuntime) {
     let game = game(&rt, L2);
-    for (text, fault) in [
-        (&b"HELLO:1:2:3:4"[..], LineFault::NotMatchstate),
-        (&b"HELLO"[..], LineFault::NotMatchstate),
-        (&b"MATCHSTATE:2:0:c/:|"[..], LineFault::BadNumber),
-        (&b"MATCHSTATE:2:0::TdAs|"[..], LineFault::BadNumber),
-        (&b"MATCHSTATE:0:10000::TdAs|"[..], LineFault::BadNumber),
-        (&b"MATCHSTATE::0::TdAs|"[..], LineFault::BadNumber),
-        (&b"MATCHSTATE:0:00::TdAs|"[..], LineFault::BadNumber),
-        (
-            &b"MATCHSTATE:1:0:c/:|8hTc/2c8c3h"[..],
-            LineFault::BadBetting,
-        ),
-        (
-            &b"MATCHSTATE:0:0:cc:TdAs|/2c8c3h"[..],
-            LineFault::BadBetting,
-        ),
-        (&b"MATCHSTATE:0:0::|8hTc"[..], LineFault::BadCards),
-        (&b"MATCHSTATE:0:0::TdTd|"[..], LineFault::BadCards),
-    ] {
-        assert!(rt; read(text, &game).err() == Some(fault));
+    for &(text, fault) in &NO_LINES {
+        holds!(&rt; fault_of(text, &game) == Some(fault));
     }
 }
 
 #[test]
 fn amounts_have_no_leading_zeros(rt: HostRuntime) {
     let game = game(&rt, N2);
-    for text in [
-        &b"MATCHSTATE:0:0:r0200:TdAs|"[..],
-        &b"MATCHSTATE:0:0:r0:TdAs|"[..],
-    ] {
-        assert!(rt; read(text, &game).err() == Some(LineFault::BadBetting));
-    }
-    assert!(rt; read(b"MATCHSTATE:0:0:r200:TdAs|", &game).is_ok());
+    let zero_in_front = fault_of(b"MATCHSTATE:0:0:r0200:TdAs|", &game);
+    holds!(&rt; zero_in_front == Some(LineFault::BadBetting));
+    let zero = fault_of(b"MATCHSTATE:0:0:r0:TdAs|", &game);
+    holds!(&rt; zero == Some(LineFault::BadBetting));
+    holds!(&rt; fault_of(b"MATCHSTATE:0:0:r200:TdAs|", &game).is_none());
 }
 
 #[test]
 fn betting_reads_and_prints(rt: HostRuntime) -> Result<(), Fail> {
     let game = game(&rt, L2);
-    let play = read_betting(b"rrrc/cc/", &game).expect(&rt, "a play");
-    assert_eq!(rt; play.actions().len(), 6);
-    assert!(rt; play.actions().first() == Some(&Action::Raise(20)));
+    let play = play_of(&rt, b"rrrc/cc/", &game);
+    same!(&rt; play.actions().len(), 6);
+    holds!(&rt; play.actions().first() == Some(&Action::Raise(20)));
     let mut text = Vec::new(rt.alloc());
     betting_text(&mut text, &play)?;
-    assert!(rt; text.as_slice() == &b"rrrc/cc/"[..]);
+    holds!(&rt; text.as_slice() == &b"rrrc/cc/"[..]);
     Ok(())
+}
+
+/// A player's hole cards.
+fn hole(rt: &impl Abort, deal: &Deal, position: usize) -> [Card; 2] {
+    assert!(rt; position < deal.players());
+    deal.hole(position)
+}
+
+/// Sees that two deals have the same hole cards and the same flop.
+fn are_same_up_to_the_flop(rt: &impl Abort, deal: &Deal, whole: &Deal) {
+    let [first, second, third, _, _] = deal.board();
+    let [flop, _, last, _, _] = whole.board();
+    same!(rt; first, flop);
+    same!(rt; third, last);
+    assert_ne!(rt; first, second);
+    same!(rt; hole(rt, deal, 0), hole(rt, whole, 0));
+    same!(rt; hole(rt, deal, 1), hole(rt, whole, 1));
 }
 
 #[test]
 fn a_text_shows_a_deal_up_to_the_flop(rt: HostRuntime) {
     let deal = read_shown(b"TdAs|8hTc/2c8c3h", 2, 1).expect(&rt, "a deal");
     let whole = read_deal(b"TdAs|8hTc/2c8c3h/9c/Kh", 2).expect(&rt, "a deal");
-    let [first, second, third, _, _] = deal.board();
-    let [flop, _, last, _, _] = whole.board();
-    assert_eq!(rt; first, flop);
-    assert_eq!(rt; third, last);
-    assert_ne!(rt; first, second);
-    assert_eq!(rt; deal.hole(0), whole.hole(0));
-    assert_eq!(rt; deal.hole(1), whole.hole(1));
-    assert_eq!(rt; read_shown(b"TdAs|8hTc/2c8c3h", 2, 2), None);
-    assert_eq!(rt; read_shown(b"TdAs|8hTd", 2, 0), None);
+    are_same_up_to_the_flop(&rt, &deal, &whole);
+    same!(&rt; read_shown(b"TdAs|8hTc/2c8c3h", 2, 2), None);
+    same!(&rt; read_shown(b"TdAs|8hTd", 2, 0), None);
 }
+
+/// Answers in the first hand, each with its position and its action.
+static ANSWERS: [(&[u8], usize, Action); 4] = [
+    (b"MATCHSTATE:1:0::|8hTc:c", 1, Action::Call),
+    (b"MATCHSTATE:1:0::|8hTc:r", 1, Action::Raise(20)),
+    (b"MATCHSTATE:0:0:c:TdAs|:f", 0, Action::Fold),
+    (b"MATCHSTATE:0:0:rrr:TdAs|:r", 0, Action::Raise(0)),
+];
 
 #[test]
 fn answers_read_as_views_and_actions(rt: HostRuntime) {
     let game = game(&rt, L2);
-    for (text, position, action) in [
-        (&b"MATCHSTATE:1:0::|8hTc:c"[..], 1, Action::Call),
-        (&b"MATCHSTATE:1:0::|8hTc:r"[..], 1, Action::Raise(20)),
-        (&b"MATCHSTATE:0:0:c:TdAs|:f"[..], 0, Action::Fold),
-        (&b"MATCHSTATE:0:0:rrr:TdAs|:r"[..], 0, Action::Raise(0)),
-    ] {
-        let (view, read) = read_answer(text, &game).ok().expect(&rt, "an answer");
-        assert_eq!(rt; view.position(), position);
-        assert_eq!(rt; view.hand(), 0);
-        assert_eq!(rt; read, action);
+    for &(text, position, action) in &ANSWERS {
+        let (seen, hand, read) = answer_of(&rt, text, &game);
+        same!(&rt; seen, position);
+        same!(&rt; hand, 0);
+        same!(&rt; read, action);
     }
 }
+
+/// Texts that are no answers, each with its fault.
+static NO_ANSWERS: [(&[u8], LineFault); 9] = [
+    (b"HELLO", LineFault::NotMatchstate),
+    (b"MATCHSTATE:1:0::|8hTc", LineFault::NotMatchstate),
+    (b"MATCHSTATE:1:0::|8hTc:c:c", LineFault::NotMatchstate),
+    (b"MATCHSTATE:2:0::|8hTc:c", LineFault::BadNumber),
+    (b"MATCHSTATE:1:0:x:|8hTc:c", LineFault::BadBetting),
+    (b"MATCHSTATE:0:0::|8hTc:x", LineFault::BadCards),
+    (b"MATCHSTATE:1:0::|8hTc:x", LineFault::BadAction),
+    (b"MATCHSTATE:1:0::|8hTc:r20", LineFault::BadAction),
+    (b"MATCHSTATE:1:0::|8hTc:", LineFault::BadAction),
+];
 
 #[test]
 fn other_texts_are_no_answers(rt: HostRuntime) {
     let game = game(&rt, L2);
-    for (text, fault) in [
-        (&b"HELLO"[..], LineFault::NotMatchstate),
-        (&b"MATCHSTATE:1:0::|8hTc"[..], LineFault::NotMatchstate),
-        (&b"MATCHSTATE:1:0::|8hTc:c:c"[..], LineFault::NotMatchstate),
-        (&b"MATCHSTATE:2:0::|8hTc:c"[..], LineFault::BadNumber),
-        (&b"MATCHSTATE:1:0:x:|8hTc:c"[..], LineFault::BadBetting),
-        (&b"MATCHSTATE:0:0::|8hTc:x"[..], LineFault::BadCards),
-        (&b"MATCHSTATE:1:0::|8hTc:x"[..], LineFault::BadAction),
-        (&b"MATCHSTATE:1:0::|8hTc:r20"[..], LineFault::BadAction),
-        (&b"MATCHSTATE:1:0::|8hTc:"[..], LineFault::BadAction),
-    ] {
-        assert!(rt; read_answer(text, &game).err() == Some(fault));
+    for &(text, fault) in &NO_ANSWERS {
+        holds!(&rt; answer_fault_of(text, &game) == Some(fault));
     }
 }
+
+/// Answers of a no-limit game, each with the amount that it raises to.
+static RAISES: [(&[u8], u32); 3] = [
+    (b"MATCHSTATE:1:0::|8hTc:r0", 0),
+    (b"MATCHSTATE:1:0::|8hTc:r200", 200),
+    (b"MATCHSTATE:1:0::|8hTc:r4294967295", 4294967295),
+];
+
+/// The same with texts that are no amounts.
+static NO_RAISES: [&[u8]; 3] = [
+    b"MATCHSTATE:1:0::|8hTc:r",
+    b"MATCHSTATE:1:0::|8hTc:r0200",
+    b"MATCHSTATE:1:0::|8hTc:r4294967296",
+];
 
 #[test]
 fn raises_of_a_no_limit_game_have_an_amount(rt: HostRuntime) {
     let game = game(&rt, N2);
-    for (text, amount) in [
-        (&b"MATCHSTATE:1:0::|8hTc:r0"[..], 0),
-        (&b"MATCHSTATE:1:0::|8hTc:r200"[..], 200),
-        (&b"MATCHSTATE:1:0::|8hTc:r4294967295"[..], 4294967295),
-    ] {
-        let (_, action) = read_answer(text, &game).ok().expect(&rt, "an answer");
-        assert_eq!(rt; action, Action::Raise(amount));
+    for &(text, amount) in &RAISES {
+        let (_, _, action) = answer_of(&rt, text, &game);
+        same!(&rt; action, Action::Raise(amount));
     }
-    for text in [
-        &b"MATCHSTATE:1:0::|8hTc:r"[..],
-        &b"MATCHSTATE:1:0::|8hTc:r0200"[..],
-        &b"MATCHSTATE:1:0::|8hTc:r4294967296"[..],
-    ] {
-        assert!(rt; read_answer(text, &game).err() == Some(LineFault::BadAction));
+    for &text in &NO_RAISES {
+        holds!(&rt; answer_fault_of(text, &game) == Some(LineFault::BadAction));
     }
+}
+
+/// Sees that a view shows the first player's hole cards of a deal, and the flop.
+fn shows_the_flop(rt: &impl Abort, view: &View, deal: &Deal) {
+    same!(rt; view.hole(0), Some(hole(rt, deal, 0)));
+    same!(rt; view.hole(1), None);
+    same!(rt; view.hole(2), None);
+    let [first, second, third, _, _] = deal.board();
+    same!(rt; view.board(), [Some(first), Some(second), Some(third), None, None]);
 }
 
 #[test]
 fn a_view_shows_its_cards(rt: HostRuntime) {
     let game = game(&rt, L2);
-    let deal = read_deal(b"TdAs|8hTc/2c8c3h/9c/Kh", 2).expect(&rt, "a deal");
-    let view = read(b"MATCHSTATE:0:0:rrrc/:TdAs|/2c8c3h", &game)
-        .ok()
-        .expect(&rt, "a line");
-    assert_eq!(rt; view.hole(0), Some(deal.hole(0)));
-    assert_eq!(rt; view.hole(1), None);
-    assert_eq!(rt; view.hole(2), None);
-    let [first, second, third, _, _] = deal.board();
-    assert_eq!(rt;
-        view.board(),
-        [Some(first), Some(second), Some(third), None, None]
-    );
-    assert_eq!(rt; view.actions().len(), 4);
+    let view = view_of(&rt, b"MATCHSTATE:0:0:rrrc/:TdAs|/2c8c3h", &game);
+    shows_the_flop(&rt, &view, &ten_ace(&rt));
+    same!(&rt; view.actions().len(), 4);
+}
+
+/// Lines, and whether they show the same as the first of them.
+static SHOWN: [(&[u8], bool); 6] = [
+    (b"MATCHSTATE:0:0:rrrc/:TdAs|/2c8c3h", true),
+    (b"MATCHSTATE:1:0:rrrc/:|TdAs/2c8c3h", false),
+    (b"MATCHSTATE:0:1:rrrc/:TdAs|/2c8c3h", false),
+    (b"MATCHSTATE:0:0:rrc/:TdAs|/2c8c3h", false),
+    (b"MATCHSTATE:0:0:rrrc/:TdAh|/2c8c3h", false),
+    (b"MATCHSTATE:0:0:rrrc/:TdAs|/2c8c3d", false),
+];
+
+/// Whether a line shows the same as a view of this game.
+fn shows_same(rt: &impl Abort, view: &View, line: &[u8], game: &GameDef) -> bool
+    requires { view.now.game ≡ game.now }
+{
+    let other = view_of(rt, line, game);
+    view.is_same(&other)
 }
 
 #[test]
 fn views_differ_in_what_they_show(rt: HostRuntime) {
     let game = game(&rt, L2);
-    let view = read(b"MATCHSTATE:0:0:rrrc/:TdAs|/2c8c3h", &game)
-        .ok()
-        .expect(&rt, "a line");
-    for (text, same) in [
-        (&b"MATCHSTATE:0:0:rrrc/:TdAs|/2c8c3h"[..], true),
-        (&b"MATCHSTATE:1:0:rrrc/:|TdAs/2c8c3h"[..], false),
-        (&b"MATCHSTATE:0:1:rrrc/:TdAs|/2c8c3h"[..], false),
-        (&b"MATCHSTATE:0:0:rrc/:TdAs|/2c8c3h"[..], false),
-        (&b"MATCHSTATE:0:0:rrrc/:TdAh|/2c8c3h"[..], false),
-        (&b"MATCHSTATE:0:0:rrrc/:TdAs|/2c8c3d"[..], false),
-    ] {
-        let other = read(text, &game).ok().expect(&rt, "a line");
-        assert!(rt; view.is_same(&other) == same);
+    let view = view_of(&rt, b"MATCHSTATE:0:0:rrrc/:TdAs|/2c8c3h", &game);
+    for &(text, same) in &SHOWN {
+        holds!(&rt; shows_same(&rt, &view, text, &game) == same);
     }
 }
 
 #[test]
 fn faults_print_their_number_and_name(rt: HostRuntime) -> Result<(), Fail> {
-    assert_eq!(rt; LineFault::BadAction.code(), 44);
-    let text = format!(in rt.alloc(); "{}", LineFault::BadAction)?;
-    assert_eq!(rt; text.as_str(), "44 BadAction");
+    same!(&rt; LineFault::BadAction.code(), 44);
+    prints(&rt, rt.alloc(), &LineFault::BadAction, "44 BadAction")?;
     Ok(())
 }

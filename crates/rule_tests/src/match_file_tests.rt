@@ -1,3 +1,4 @@
+use crate::asserting::{holds, same};
 use crate::samples::{L2, ten_ace};
 use card_core::Deal;
 use dealer_kind::Config;
@@ -92,27 +93,27 @@ fn with(alloc: Global, text: &str, old: &str, new: &str) -> Result<String, Alloc
 
 /// Sees the hands, the name and the game of the match that is listed.
 fn says_what_is_listed(rt: &impl Abort, config: &Config) {
-    assert_eq!(rt; config.hands(), 1);
-    assert!(rt; config.name().as_bytes() == b"m1".as_slice());
-    assert!(rt; config.game_word() == b"l2.game".as_slice());
+    same!(rt; config.hands(), 1);
+    holds!(rt; config.name().as_bytes() == b"m1".as_slice());
+    holds!(rt; config.game_word() == b"l2.game".as_slice());
 }
 
 /// Sees the players of the match that is listed.
 fn seats_who_is_listed(rt: &impl Abort, config: &Config) {
     let names = config.names().as_slice();
     assert_eq!(rt; names.len(), 2);
-    assert!(rt; names[1].as_bytes() == b"bob".as_slice());
+    holds!(rt; names[1].as_bytes() == b"bob".as_slice());
 }
 
 /// Sees what a node of a match deals in the first hand.
 fn deals(rt: &impl Abort, config: &Config, node: usize, deal: Deal) {
     assert!(rt; node < config.nodes());
-    assert_eq!(rt; config.source(node).deal(0, 2), Some(deal));
+    same!(rt; config.source(node).deal(0, 2), Some(deal));
 }
 
 /// Sees the nodes of the match that is listed: one deals what is written, the others what their seeds draw.
 fn deals_what_is_listed(rt: &impl Abort, config: &Config) {
-    assert_eq!(rt; config.nodes(), 3);
+    same!(rt; config.nodes(), 3);
     deals(rt, config, 0, ten_ace(rt));
     deals(rt, config, 1, deck_draw::draw(0, 0, 2));
     deals(rt, config, 2, deck_draw::draw(9223372036854775807, 0, 2));
@@ -122,7 +123,7 @@ fn deals_what_is_listed(rt: &impl Abort, config: &Config) {
 fn a_match_is_what_its_files_say(rt: HostRuntime) {
     let alloc = rt.alloc();
     let file = file(alloc, LISTED.as_bytes()).expect(&rt, "a file");
-    assert_eq!(rt; file.game().expect(&rt, "a game"), "l2.game");
+    same!(&rt; file.game().expect(&rt, "a game"), "l2.game");
     let config = file.config(alloc, Some(L2)).expect(&rt, "a match");
     says_what_is_listed(&rt, &config);
     seats_who_is_listed(&rt, &config);
@@ -175,22 +176,42 @@ fn each_key_is_told_where_it_is_wrong(rt: HostRuntime) -> Result<(), Fail> {
     Ok(())
 }
 
+/// Games of the match with no hands, and what is told of it.
+static GAMES: [(Option<&[u8]>, &str); 3] = [
+    (None, "104 Unreadable"),
+    (Some(LOW_STACK), "102 Game 17 StackBelowBlind 5"),
+    (Some(L2), "101 BadEntry hands"),
+];
+
+/// Sees what is told of a text's match with this game.
+fn is_told(
+    rt: &impl Abort,
+    alloc: Global,
+    text: &[u8],
+    game: Option<&[u8]>,
+    expected: &str,
+    case: &str,
+) -> Result<(), AllocError> {
+    let fault = fault_of(alloc, text, game);
+    prints(rt, alloc, fault, expected, case)
+}
+
 #[test]
 fn the_first_fault_is_told(rt: HostRuntime) -> Result<(), Fail> {
     let alloc = rt.alloc();
     let no_hands = with(alloc, LISTED, "hands = 1", "hands = 0")?;
-    for (game, expected) in [
-        (None, "104 Unreadable"),
-        (Some(LOW_STACK), "102 Game 17 StackBelowBlind 5"),
-        (Some(L2), "101 BadEntry hands"),
-    ] {
-        let fault = fault_of(alloc, no_hands.as_bytes(), game);
-        prints(&rt, alloc, fault, expected, "no hands")?;
+    for &(game, expected) in &GAMES {
+        is_told(&rt, alloc, no_hands.as_bytes(), game, expected, "no hands")?;
     }
-    let fault = fault_of(alloc, b"", None);
-    prints(&rt, alloc, fault, "101 BadEntry name", "no text")?;
-    let fault = fault_of(alloc, b"name = \"\xff\"", None);
-    prints(&rt, alloc, fault, "100 NotToml", "no UTF-8")?;
+    is_told(&rt, alloc, b"", None, "101 BadEntry name", "no text")?;
+    is_told(
+        &rt,
+        alloc,
+        b"name = \"\xff\"",
+        None,
+        "100 NotToml",
+        "no UTF-8",
+    )?;
     Ok(())
 }
 
@@ -207,7 +228,7 @@ fn a_game_that_is_no_text_is_told(rt: HostRuntime) -> Result<(), Fail> {
     let fault = fault_of(alloc, no_game.as_bytes(), None);
     prints(&rt, alloc, fault, "101 BadEntry game", "no game")?;
     let fault = fault_of_game(&rt, alloc, no_game.as_bytes());
-    assert_eq!(rt; fault, Some(MatchFault::BadEntry(Key::Game)));
+    same!(&rt; fault, Some(MatchFault::BadEntry(Key::Game)));
     Ok(())
 }
 
@@ -227,10 +248,10 @@ const OUTAGES: [Outage; 2] = [
 
 /// Sees that a match is served as the file says.
 fn is_as_said(rt: &impl Abort, service: &Service) {
-    assert_eq!(rt; service.stores, "stores");
-    assert_eq!(rt; service.logs, "a folder");
-    assert_eq!(rt; service.port, 2000);
-    assert!(rt; service.outages.as_slice() == OUTAGES.as_slice());
+    same!(rt; service.stores, "stores");
+    same!(rt; service.logs, "a folder");
+    same!(rt; service.port, 2000);
+    holds!(rt; service.outages.as_slice() == OUTAGES.as_slice());
 }
 
 /// Sees what a file says for serving, with three nodes.
@@ -242,7 +263,7 @@ fn says_what_is_served(rt: &impl Abort, alloc: Global, file: &MatchFile) {
 #[test]
 fn what_is_served_is_what_the_file_says(rt: HostRuntime) {
     let file = file(rt.alloc(), SERVED.as_bytes()).expect(&rt, "a file");
-    assert_eq!(rt; file.stores().expect(&rt, "a folder"), "stores");
+    same!(&rt; file.stores().expect(&rt, "a folder"), "stores");
     says_what_is_served(&rt, rt.alloc(), &file);
 }
 
@@ -303,17 +324,34 @@ fn ends_with_a_name(alloc: Global, text: &[u8]) -> bool {
     }
 }
 
+/// A text with one bit changed of the byte at a place.
+fn with_changed_bit(alloc: Global, text: &[u8], place: usize) -> Result<Vec<u8>, AllocError> {
+    let mut changed = text.to_vec(alloc)?;
+    if place < changed.len() {
+        changed[place] ^= 1 << (place % 8);
+    }
+    Ok(changed)
+}
+
+/// Sees that a text ends with a name that is cut at a place, or has a bit changed there.
+fn ends_with_a_name_when_damaged(
+    rt: &impl Abort,
+    alloc: Global,
+    text: &[u8],
+    place: usize,
+) -> Result<(), AllocError> {
+    assert!(rt; place < text.len());
+    holds!(rt; ends_with_a_name(alloc, &text[..place]));
+    let changed = with_changed_bit(alloc, text, place)?;
+    holds!(rt; ends_with_a_name(alloc, &changed));
+    Ok(())
+}
+
 #[test]
 fn a_damaged_file_ends_with_a_name(rt: HostRuntime) -> Result<(), Fail> {
-    let alloc = rt.alloc();
     let text = LISTED.as_bytes();
-    for end in 0..text.len() {
-        assert!(rt; ends_with_a_name(alloc, &text[..end]));
-        let mut changed = text.to_vec(alloc)?;
-        if end < changed.len() {
-            changed[end] ^= 1 << (end % 8);
-        }
-        assert!(rt; ends_with_a_name(alloc, &changed));
+    for place in 0..text.len() {
+        ends_with_a_name_when_damaged(&rt, rt.alloc(), text, place)?;
     }
     Ok(())
 }
@@ -346,6 +384,6 @@ fn random_text(rt: &impl Abort, alloc: Global, seed: u64) -> Vec<u8> {
 fn random_texts_end_with_a_name(rt: HostRuntime) {
     for seed in 0..1000u64 {
         let text = random_text(&rt, rt.alloc(), seed);
-        assert!(rt; ends_with_a_name(rt.alloc(), &text));
+        holds!(&rt; ends_with_a_name(rt.alloc(), &text));
     }
 }

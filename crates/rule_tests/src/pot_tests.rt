@@ -1,8 +1,10 @@
 ghost use Rattle.std.specs.Prelude.{◌<◌};
 
+use crate::asserting::same;
 use card_core::Card;
 use hand_rank::{HandValue, value_of_five};
 use side_pots::settle;
+use std::process::Abort;
 
 /// A pair and the cards six, five and four: the higher the rank of the pair, the better the hand.
 fn pair_of(rank: u8) -> HandValue
@@ -17,45 +19,65 @@ fn pair_of(rank: u8) -> HandValue
     ])
 }
 
-#[test]
-fn one_pot_and_two_pots(rt: HostRuntime) {
-    let [twos, kings, aces] = [pair_of(0), pair_of(11), pair_of(12)];
-    // 5, 10 and 10 chips, the first player having folded: one pot of 25
-    let one_pot = settle(&[5, 10, 10], &[true, false, false], &[twos, kings, kings]);
-    assert_eq!(rt; one_pot.as_slice(), [-5, 3, 2].as_slice());
-    // pots of 450 and 1700
-    let two_pots = settle(
+/// 5, 10 and 10 chips, the first player having folded: one pot of 25.
+fn one_pot(rt: &impl Abort, twos: HandValue, kings: HandValue) {
+    let payoffs = settle(&[5, 10, 10], &[true, false, false], &[twos, kings, kings]);
+    same!(rt; payoffs.as_slice(), [-5, 3, 2].as_slice());
+}
+
+/// Pots of 450 and 1700.
+fn two_pots(rt: &impl Abort, twos: HandValue, aces: HandValue, kings: HandValue) {
+    let payoffs = settle(
         &[1000, 150, 1000],
         &[false, false, false],
         &[twos, aces, kings],
     );
-    assert_eq!(rt; two_pots.as_slice(), [-1000, 300, 700].as_slice());
+    same!(rt; payoffs.as_slice(), [-1000, 300, 700].as_slice());
 }
 
 #[test]
-fn ties_over_several_pots(rt: HostRuntime) {
+fn one_pot_and_two_pots(rt: HostRuntime) {
     let [twos, kings, aces] = [pair_of(0), pair_of(11), pair_of(12)];
-    // 3, 5 and 5 chips and the folded player's 2: a pot of 11, split 4, 4 and 3, and one of 4
+    one_pot(&rt, twos, kings);
+    two_pots(&rt, twos, aces, kings);
+}
+
+/// 3, 5 and 5 chips and the folded player's 2: a pot of 11, split 4, 4 and 3, and one of 4.
+fn two_tied_pots(rt: &impl Abort, kings: HandValue, aces: HandValue) {
     let tied = settle(
         &[3, 5, 5, 2],
         &[false, false, false, true],
         &[kings, kings, kings, aces],
     );
-    assert_eq!(rt; tied.as_slice(), [1, 1, 0, -2].as_slice());
-    // the folded player's 4 chips make a pot of 19 odd
+    same!(rt; tied.as_slice(), [1, 1, 0, -2].as_slice());
+}
+
+/// The folded player's 4 chips make a pot of 19 odd.
+fn odd_pot(rt: &impl Abort, aces: HandValue, twos: HandValue) {
     let odd = settle(
         &[5, 4, 5, 5],
         &[false, true, false, false],
         &[aces, aces, aces, twos],
     );
-    assert_eq!(rt; odd.as_slice(), [5, -4, 4, -5].as_slice());
-    // equal parts in a pot that two levels make
+    same!(rt; odd.as_slice(), [5, -4, 4, -5].as_slice());
+}
+
+/// Equal parts in a pot that two levels make.
+fn whole_pot(rt: &impl Abort, aces: HandValue, kings: HandValue) {
     let whole = settle(
         &[1, 2, 2, 2, 2],
         &[true, true, false, false, false],
         &[aces, aces, kings, kings, kings],
     );
-    assert_eq!(rt; whole.as_slice(), [-1, -2, 1, 1, 1].as_slice());
+    same!(rt; whole.as_slice(), [-1, -2, 1, 1, 1].as_slice());
+}
+
+#[test]
+fn ties_over_several_pots(rt: HostRuntime) {
+    let [twos, kings, aces] = [pair_of(0), pair_of(11), pair_of(12)];
+    two_tied_pots(&rt, kings, aces);
+    odd_pot(&rt, aces, twos);
+    whole_pot(&rt, aces, kings);
 }
 
 #[test]
@@ -75,10 +97,7 @@ fn ten_players(rt: HostRuntime) {
     ];
     // ten pots, each to the player who put in the least of those who compete for it, but for the last two
     let ten_stacks = settle(&spent, &[false; 10], &values);
-    assert_eq!(rt;
-        ten_stacks.as_slice(),
-        [90, 70, 50, 30, 10, -10, -30, -50, -90, -70].as_slice()
-    );
+    same!(&rt; ten_stacks.as_slice(), [90, 70, 50, 30, 10, -10, -30, -50, -90, -70].as_slice());
 }
 
 #[test]
@@ -89,8 +108,5 @@ fn greatest_amounts(rt: HostRuntime) {
         &[true, false, true],
         &[pair_of(12), pair_of(0), pair_of(12)],
     );
-    assert_eq!(rt;
-        all.as_slice(),
-        [-2147483647, 4294967294, -2147483647].as_slice()
-    );
+    same!(&rt; all.as_slice(), [-2147483647, 4294967294, -2147483647].as_slice());
 }

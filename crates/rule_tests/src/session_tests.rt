@@ -1,6 +1,7 @@
-use crate::samples::{L2, game};
+use crate::asserting::{holds, prints, same};
+use crate::samples::{L2, game, ten_ace};
 use betting::{ActFault, Action};
-use matchstate::{LineFault, read_deal};
+use matchstate::LineFault;
 use seat_session::{Said, Session, SessionFault, line_feeds};
 use slot_log::{Command, Table};
 use std::alloc::{AllocError, Global};
@@ -18,19 +19,30 @@ fn apply(table: &mut Table, command: &Command) -> Result<(), AllocError> {
     Ok(())
 }
 
-/// A match of one hand after these actions in it.
-fn table_after(rt: &impl Abort, alloc: Global, actions: &[Action]) -> Result<Table, Fail> {
-    let game = game(rt, L2);
-    let mut table = Table::new(alloc, game, 1);
-    let deal = read_deal(b"TdAs|8hTc/2c8c3h/9c/Kh", 2).expect(rt, "a deal");
+/// Deals the first hand: where memory is refused, there is some the second time.
+fn deal(rt: &impl Abort, table: &mut Table) -> Result<(), AllocError> {
+    let deal = ten_ace(rt);
     let dealing = Command::Deal { hand: 0, deal };
-    if apply(&mut table, &dealing).is_err() {
-        apply(&mut table, &dealing)?;
+    match apply(table, &dealing) {
+        Ok(()) => Ok(()),
+        Err(_) => apply(table, &dealing),
     }
+}
+
+/// Takes actions in the first hand.
+fn take_all(rt: &impl Abort, table: &mut Table, actions: &[Action]) -> Result<(), AllocError> {
     for (index, action) in actions.iter().enumerate() {
         assert!(rt; index < 256);
-        apply(&mut table, &act(index as u16, *action))?;
+        apply(table, &act(index as u16, *action))?;
     }
+    Ok(())
+}
+
+/// A match of one hand after these actions in it.
+fn table_after(rt: &impl Abort, alloc: Global, actions: &[Action]) -> Result<Table, AllocError> {
+    let mut table = Table::new(alloc, game(rt, L2), 1);
+    deal(rt, &mut table)?;
+    take_all(rt, &mut table, actions)?;
     Ok(table)
 }
 
@@ -49,12 +61,23 @@ fn ask(rt: &impl Abort, session: &mut Session, table: &Table) -> Option<Answer> 
 
 /// Sees that a session answers this.
 fn answers(rt: &impl Abort, session: &mut Session, table: &Table, wanted: Option<Answer>) {
-    assert!(rt; ask(rt, session, table) == wanted);
+    holds!(rt; ask(rt, session, table) == wanted);
 }
 
 /// Gives a session a piece.
 fn feed(session: &mut Session, piece: &[u8]) -> Result<(), AllocError> {
     session.feed(piece)
+}
+
+/// Gives a session a greeting, and tells whether it answers it.
+fn greet(
+    rt: &impl Abort,
+    session: &mut Session,
+    table: &Table,
+    greeting: &[u8],
+) -> Result<bool, AllocError> {
+    feed(session, greeting)?;
+    Ok(ask(rt, session, table).is_some())
 }
 
 /// Whether a session answers a greeting, and what it answers to the bytes behind it, which come at once.
@@ -67,13 +90,26 @@ fn answer_at_once(
     bytes: &[u8],
 ) -> Result<(bool, Option<Answer>), AllocError> {
     let mut session = Session::new(alloc, seat);
-    feed(&mut session, greeting)?;
-    let greeted = ask(rt, &mut session, table).is_some();
+    let greeted = greet(rt, &mut session, table, greeting)?;
     feed(&mut session, bytes)?;
     Ok((greeted, ask(rt, &mut session, table)))
 }
 
-/// The same where the bytes behind the greeting come one at a time: nothing is answered before the last byte.
+/// Gives a session bytes one at a time: nothing is answered before the last byte.
+fn feed_bytewise(
+    rt: &impl Abort,
+    session: &mut Session,
+    table: &Table,
+    bytes: &[u8],
+) -> Result<(), AllocError> {
+    for byte in bytes {
+        holds!(rt; ask(rt, session, table).is_none());
+        feed(session, &[*byte])?;
+    }
+    Ok(())
+}
+
+/// The same where the bytes behind the greeting come one at a time.
 fn answer_bytewise(
     rt: &impl Abort,
     alloc: Global,
@@ -83,12 +119,8 @@ fn answer_bytewise(
     bytes: &[u8],
 ) -> Result<(bool, Option<Answer>), AllocError> {
     let mut session = Session::new(alloc, seat);
-    feed(&mut session, greeting)?;
-    let greeted = ask(rt, &mut session, table).is_some();
-    for byte in bytes {
-        assert!(rt; ask(rt, &mut session, table).is_none());
-        feed(&mut session, &[*byte])?;
-    }
+    let greeted = greet(rt, &mut session, table, greeting)?;
+    feed_bytewise(rt, &mut session, table, bytes)?;
     Ok((greeted, ask(rt, &mut session, table)))
 }
 
@@ -104,7 +136,7 @@ fn answer_to(
 ) -> Result<Answer, Fail> {
     let at_once = answer_at_once(rt, alloc, table, seat, greeting, bytes)?;
     let bytewise = answer_bytewise(rt, alloc, table, seat, greeting, bytes)?;
-    assert!(rt; at_once == bytewise);
+    holds!(rt; at_once == bytewise);
     let (_, answer) = at_once;
     Ok(answer.ok_or("no answer")?)
 }
@@ -137,115 +169,173 @@ fn refuses(
     Ok(())
 }
 
-/// Whether a session is ready after this first line; else it is closed.
-fn is_greeted(rt: &impl Abort, alloc: Global, table: &Table, line: &[u8]) -> Result<bool, Fail> {
-    match answer_to(rt, alloc, table, 1, b"", line)? {
-        Ok(said) => {
-            assert!(rt; said == Said::Ready, "at {line:?}");
-            Ok(true)
-        }
-        Err(fault) => {
-            assert!(rt; fault == SessionFault::BadVersion, "at {line:?}");
-            Ok(false)
-        }
-    }
+/// Sees whether a session is ready after this first line; else it is closed.
+fn greets(
+    rt: &impl Abort,
+    alloc: Global,
+    table: &Table,
+    line: &[u8],
+    ready: bool,
+) -> Result<(), Fail> {
+    let wanted = if ready {
+        Ok(Said::Ready)
+    } else {
+        Err(SessionFault::BadVersion)
+    };
+    let answer = answer_to(rt, alloc, table, 1, b"", line)?;
+    assert!(rt; answer == wanted, "at {line:?}");
+    Ok(())
 }
 
 const GREETING: &[u8] = b"VERSION:2.0.0\r\n";
 
+/// First lines, and whether a session is ready after them.
+static FIRST_LINES: [(&[u8], bool); 8] = [
+    (b"VERSION:2.0.0\r\n", true),
+    (b"# hello\r\n;\nVERSION:2.0.7\n", true),
+    (b"VERSION:2.0.012345678\n", true),
+    (b"VERSION:2.1.0\n", false),
+    (b"VERSION:2.0.\n", false),
+    (b"VERSION:2.0.0123456789\n", false),
+    (b"MATCHSTATE:1:0::|8hTc:c\n", false),
+    (b"\n", false),
+];
+
 #[test]
 fn first_lines(rt: HostRuntime) -> Result<(), Fail> {
     let table = table_after(&rt, rt.alloc(), &[])?;
-    for (line, ready) in [
-        (&b"VERSION:2.0.0\r\n"[..], true),
-        (&b"# hello\r\n;\nVERSION:2.0.7\n"[..], true),
-        (&b"VERSION:2.0.012345678\n"[..], true),
-        (&b"VERSION:2.1.0\n"[..], false),
-        (&b"VERSION:2.0.\n"[..], false),
-        (&b"VERSION:2.0.0123456789\n"[..], false),
-        (&b"MATCHSTATE:1:0::|8hTc:c\n"[..], false),
-        (&b"\n"[..], false),
-    ] {
-        let greeted = is_greeted(&rt, rt.alloc(), &table, line)?;
-        assert!(rt; greeted == ready, "at {line:?}");
+    for &(line, ready) in &FIRST_LINES {
+        greets(&rt, rt.alloc(), &table, line, ready)?;
     }
     Ok(())
 }
 
+/// Calls of the first player to act, each of which is the act of a call.
+static CALLS: [&[u8]; 2] = [
+    b"MATCHSTATE:1:0::|8hTc:c\r\n",
+    b"# call\n;\r\nMATCHSTATE:1:0::|8hTc:c\n",
+];
+
 #[test]
 fn acts(rt: HostRuntime) -> Result<(), Fail> {
-    let alloc = rt.alloc();
-    let table = table_after(&rt, alloc, &[])?;
-    acts_by(
-        &rt,
-        alloc,
-        &table,
-        1,
-        b"MATCHSTATE:1:0::|8hTc:c\r\n",
-        act(0, Action::Call),
-    )?;
-    let line = b"# call\n;\r\nMATCHSTATE:1:0::|8hTc:c\n";
-    acts_by(&rt, alloc, &table, 1, line, act(0, Action::Call))?;
-    let table = table_after(&rt, alloc, &[Action::Call])?;
+    let dealt = table_after(&rt, rt.alloc(), &[])?;
+    for &line in &CALLS {
+        acts_by(&rt, rt.alloc(), &dealt, 1, line, act(0, Action::Call))?;
+    }
+    let called = table_after(&rt, rt.alloc(), &[Action::Call])?;
     let line = b"MATCHSTATE:0:0:c:TdAs|:c\r\n";
-    acts_by(&rt, alloc, &table, 0, line, act(1, Action::Call))
+    acts_by(&rt, rt.alloc(), &called, 0, line, act(1, Action::Call))
 }
 
 const ACTIONS: [Action; 3] = [Action::Raise(20), Action::Raise(30), Action::Raise(40)];
 
-#[test]
-fn faults(rt: HostRuntime) -> Result<(), Fail> {
-    let not_current = SessionFault::NotCurrent;
-    let no_turn = SessionFault::NotYourTurn;
-    let no_action = SessionFault::Malformed(LineFault::BadAction);
-    let no_line = SessionFault::Malformed(LineFault::NotMatchstate);
-    let dealt = table_after(&rt, rt.alloc(), &[])?;
-    for (seat, line, fault) in [
-        (1, &b"MATCHSTATE:1:0::|8hTc:x\r\n"[..], no_action),
-        (1, &b"MATCHSTATE:1:0::|8hTc:r20\r\n"[..], no_action),
-        (1, &b"HELLO\r\n"[..], no_line),
-        (1, &b"MATCHSTATE:0:0::TdAs|:c\r\n"[..], not_current),
-        (0, &b"MATCHSTATE:0:0::TdAs|:c\r\n"[..], no_turn),
-    ] {
-        refuses(&rt, rt.alloc(), &dealt, seat, line, fault)?;
-    }
-    let no_fold = SessionFault::Illegal(ActFault::FoldNotFacing);
-    let called = table_after(&rt, rt.alloc(), &[Action::Call])?;
-    for (seat, line, fault) in [
-        (1, &b"MATCHSTATE:1:0::|8hTc:c\n"[..], not_current),
-        (0, &b"MATCHSTATE:0:0:c:TdAs|:f\r\n"[..], no_fold),
-    ] {
-        refuses(&rt, rt.alloc(), &called, seat, line, fault)?;
+const NO_ACTION: SessionFault = SessionFault::Malformed(LineFault::BadAction);
+
+const NO_LINE: SessionFault = SessionFault::Malformed(LineFault::NotMatchstate);
+
+const NO_FOLD: SessionFault = SessionFault::Illegal(ActFault::FoldNotFacing);
+
+/// Lines of seats once a hand is dealt, each with its fault.
+static DEALT_FAULTS: [(usize, &[u8], SessionFault); 5] = [
+    (1, b"MATCHSTATE:1:0::|8hTc:x\r\n", NO_ACTION),
+    (1, b"MATCHSTATE:1:0::|8hTc:r20\r\n", NO_ACTION),
+    (1, b"HELLO\r\n", NO_LINE),
+    (1, b"MATCHSTATE:0:0::TdAs|:c\r\n", SessionFault::NotCurrent),
+    (0, b"MATCHSTATE:0:0::TdAs|:c\r\n", SessionFault::NotYourTurn),
+];
+
+/// The same once the first player has called.
+static CALLED_FAULTS: [(usize, &[u8], SessionFault); 2] = [
+    (1, b"MATCHSTATE:1:0::|8hTc:c\n", SessionFault::NotCurrent),
+    (0, b"MATCHSTATE:0:0:c:TdAs|:f\r\n", NO_FOLD),
+];
+
+/// Sees the faults of lines at a table.
+fn refuses_all(
+    rt: &impl Abort,
+    alloc: Global,
+    table: &Table,
+    faults: &[(usize, &[u8], SessionFault)],
+) -> Result<(), Fail> {
+    for &(seat, line, fault) in faults {
+        refuses(rt, alloc, table, seat, line, fault)?;
     }
     Ok(())
+}
+
+#[test]
+fn faults(rt: HostRuntime) -> Result<(), Fail> {
+    let dealt = table_after(&rt, rt.alloc(), &[])?;
+    refuses_all(&rt, rt.alloc(), &dealt, &DEALT_FAULTS)?;
+    let called = table_after(&rt, rt.alloc(), &[Action::Call])?;
+    refuses_all(&rt, rt.alloc(), &called, &CALLED_FAULTS)
+}
+
+/// Sees the fault of a line of the second seat before the first deal.
+fn refuses_undealt(
+    rt: &impl Abort,
+    alloc: Global,
+    line: &[u8],
+    fault: SessionFault,
+) -> Result<(), Fail> {
+    let undealt = Table::new(alloc, game(rt, L2), 1);
+    refuses(rt, alloc, &undealt, 1, line, fault)
+}
+
+/// Sees the fault of a seat's line after these actions in the first hand.
+fn refuses_after(
+    rt: &impl Abort,
+    alloc: Global,
+    actions: &[Action],
+    seat: usize,
+    line: &[u8],
+    fault: SessionFault,
+) -> Result<(), Fail> {
+    let table = table_after(rt, alloc, actions)?;
+    refuses(rt, alloc, &table, seat, line, fault)
 }
 
 #[test]
 fn faults_at_other_tables(rt: HostRuntime) -> Result<(), Fail> {
     let alloc = rt.alloc();
-    let game = game(&rt, L2);
-    let undealt = Table::new(alloc, game, 1);
     let line = b"MATCHSTATE:1:0::|8hTc:c\n";
-    refuses(&rt, alloc, &undealt, 1, line, SessionFault::NotCurrent)?;
-    let raised = table_after(&rt, alloc, &ACTIONS)?;
+    refuses_undealt(&rt, alloc, line, SessionFault::NotCurrent)?;
     let line = b"MATCHSTATE:0:0:rrr:TdAs|:r\r\n";
     let no_raise = SessionFault::Illegal(ActFault::TooManyRaises);
-    refuses(&rt, alloc, &raised, 0, line, no_raise)?;
-    let folded = table_after(&rt, alloc, &[Action::Fold])?;
+    refuses_after(&rt, alloc, &ACTIONS, 0, line, no_raise)?;
     let line = b"MATCHSTATE:1:0:f:|8hTc:c\r\n";
-    refuses(&rt, alloc, &folded, 1, line, SessionFault::NotYourTurn)
+    refuses_after(
+        &rt,
+        alloc,
+        &[Action::Fold],
+        1,
+        line,
+        SessionFault::NotYourTurn,
+    )
+}
+
+/// Gives a session a comment of 4096 bytes into room that is made for it.
+fn feed_comment(session: &mut Session) -> Result<(), AllocError> {
+    session.reserve(4097)?;
+    session.feed_reserved(b"#");
+    session.feed_reserved(&[b'x'; 4095]);
+    Ok(())
+}
+
+/// Sees that a session skips the comment, and is ready behind it.
+fn skips_comment(rt: &impl Abort, session: &mut Session, table: &Table) -> Result<(), AllocError> {
+    feed_comment(session)?;
+    answers(rt, session, table, None);
+    feed(session, b"\nVERSION:2.0.0\n")?;
+    answers(rt, session, table, Some(Ok(Said::Ready)));
+    Ok(())
 }
 
 #[test]
 fn a_comment_of_4096_bytes_is_skipped(rt: HostRuntime) -> Result<(), Fail> {
     let table = table_after(&rt, rt.alloc(), &[])?;
     let mut session = Session::new(rt.alloc(), 1);
-    session.reserve(4097)?;
-    session.feed_reserved(b"#");
-    session.feed_reserved(&[b'x'; 4095]);
-    answers(&rt, &mut session, &table, None);
-    feed(&mut session, b"\nVERSION:2.0.0\n")?;
-    answers(&rt, &mut session, &table, Some(Ok(Said::Ready)));
+    skips_comment(&rt, &mut session, &table)?;
     Ok(())
 }
 
@@ -256,92 +346,109 @@ fn is_closed_by(
     session: &mut Session,
     bytes: &[u8],
     fault: SessionFault,
-) -> Result<(), Fail> {
+) -> Result<(), AllocError> {
     feed(session, bytes)?;
     answers(rt, session, table, Some(Err(fault)));
-    assert!(rt; session.is_closed());
+    holds!(rt; session.is_closed());
     feed(session, b"\nVERSION:2.0.0\n")?;
     answers(rt, session, table, Some(Err(fault)));
     Ok(())
+}
+
+/// Sees that a ready session is closed by a line that is too long.
+fn is_closed_by_length(
+    rt: &impl Abort,
+    table: &Table,
+    session: &mut Session,
+) -> Result<(), AllocError> {
+    feed(session, GREETING)?;
+    answers(rt, session, table, Some(Ok(Said::Ready)));
+    is_closed_by(rt, table, session, &[b'#'; 4097], SessionFault::LineTooLong)
 }
 
 #[test]
 fn closed_sessions(rt: HostRuntime) -> Result<(), Fail> {
     let table = table_after(&rt, rt.alloc(), &[])?;
     let mut long = Session::new(rt.alloc(), 1);
-    feed(&mut long, GREETING)?;
-    answers(&rt, &mut long, &table, Some(Ok(Said::Ready)));
-    is_closed_by(
-        &rt,
-        &table,
-        &mut long,
-        &[b'#'; 4097],
-        SessionFault::LineTooLong,
-    )?;
+    is_closed_by_length(&rt, &table, &mut long)?;
     let mut refused = Session::new(rt.alloc(), 1);
     let line = b"VERSION:1.0.0\n";
-    is_closed_by(&rt, &table, &mut refused, line, SessionFault::BadVersion)
+    is_closed_by(&rt, &table, &mut refused, line, SessionFault::BadVersion)?;
+    Ok(())
+}
+
+/// Sees how many line feeds wait, and that a session answers where some do.
+fn answers_waiting(rt: &impl Abort, session: &mut Session, table: &Table, waiting: usize) {
+    holds!(rt; session.line_feeds() == waiting);
+    let answered = ask(rt, session, table).is_some();
+    holds!(rt; answered == (waiting > 0));
 }
 
 #[test]
 fn each_answer_takes_a_line_feed(rt: HostRuntime) -> Result<(), Fail> {
-    let table = table_after(&rt, rt.alloc(), &[])?;
     let piece = b"VERSION:2.0.0\r\n# one\nHELLO\nMATCH";
-    assert!(rt; line_feeds(piece) == 3);
+    holds!(&rt; line_feeds(piece) == 3);
+    let table = table_after(&rt, rt.alloc(), &[])?;
     let mut session = Session::new(rt.alloc(), 1);
     feed(&mut session, piece)?;
     for waiting in [3, 2, 0] {
-        assert!(rt; session.line_feeds() == waiting);
-        let answered = ask(&rt, &mut session, &table).is_some();
-        assert!(rt; answered == (waiting > 0));
+        answers_waiting(&rt, &mut session, &table, waiting);
     }
     Ok(())
 }
+
+/// Gives a session a piece: where memory is refused, there is some the second time.
+fn feed_twice(rt: &impl Abort, session: &mut Session, piece: &[u8]) {
+    if feed(session, piece).is_err() {
+        assert!(rt; feed(session, piece).is_ok(), "the second time");
+    }
+}
+
+/// Makes room in a session: where memory is refused, there is some the second time.
+fn reserve_twice(rt: &impl Abort, session: &mut Session, more: usize) {
+    if session.reserve(more).is_err() {
+        assert!(rt; session.reserve(more).is_ok(), "the second time");
+    }
+}
+
+/// Sees that a session is ready, then calls, and then has nothing more to say.
+fn is_ready_and_calls(rt: &impl Abort, session: &mut Session, table: &Table) {
+    let called = Ok(Said::Act(act(0, Action::Call)));
+    answers(rt, session, table, Some(Ok(Said::Ready)));
+    answers(rt, session, table, Some(called));
+    answers(rt, session, table, None);
+}
+
+/// A greeting and a call, in pieces.
+static PIECES: [&[u8]; 3] = [b"VERSION:2", b".0.0\nMATCHSTATE:1:0::|", b"8hTc:c\n"];
 
 #[test]
 fn refused_memory_changes_nothing(rt: HostRuntime) -> Result<(), Fail> {
     let table = table_after(&rt, rt.alloc(), &[])?;
     let mut session = Session::new(rt.alloc(), 1);
-    for piece in [
-        &b"VERSION:2"[..],
-        &b".0.0\nMATCHSTATE:1:0::|"[..],
-        &b"8hTc:c\n"[..],
-    ] {
-        if feed(&mut session, piece).is_err() {
-            assert!(rt; feed(&mut session, piece).is_ok(), "the second time");
-        }
+    for &piece in &PIECES {
+        feed_twice(&rt, &mut session, piece);
     }
-    if session.reserve(5000).is_err() {
-        assert!(rt; session.reserve(5000).is_ok(), "the second time");
-    }
-    let called = Ok(Said::Act(act(0, Action::Call)));
-    answers(&rt, &mut session, &table, Some(Ok(Said::Ready)));
-    answers(&rt, &mut session, &table, Some(called));
-    answers(&rt, &mut session, &table, None);
+    reserve_twice(&rt, &mut session, 5000);
+    is_ready_and_calls(&rt, &mut session, &table);
     Ok(())
 }
 
-/// Sees what is printed of a fault.
-fn prints(rt: &impl Abort, alloc: Global, fault: SessionFault, text: &str) -> Result<(), Fail> {
-    assert_eq!(rt; format!(in alloc; "{fault}")?.as_str(), text);
-    Ok(())
-}
+/// Faults of sessions, and what is printed of them.
+static PRINTED: [(SessionFault, &str); 3] = [
+    (NO_ACTION, "82 Malformed 44 BadAction"),
+    (
+        SessionFault::Illegal(ActFault::TooManyRaises),
+        "85 Illegal 22 TooManyRaises",
+    ),
+    (SessionFault::BadVersion, "80 BadVersion"),
+];
 
 #[test]
 fn faults_print(rt: HostRuntime) -> Result<(), Fail> {
-    assert_eq!(rt; SessionFault::LineTooLong.code(), 81);
-    for (fault, text) in [
-        (
-            SessionFault::Malformed(LineFault::BadAction),
-            "82 Malformed 44 BadAction",
-        ),
-        (
-            SessionFault::Illegal(ActFault::TooManyRaises),
-            "85 Illegal 22 TooManyRaises",
-        ),
-        (SessionFault::BadVersion, "80 BadVersion"),
-    ] {
-        prints(&rt, rt.alloc(), fault, text)?;
+    same!(&rt; SessionFault::LineTooLong.code(), 81);
+    for &(fault, text) in &PRINTED {
+        prints(&rt, rt.alloc(), &fault, text)?;
     }
     Ok(())
 }

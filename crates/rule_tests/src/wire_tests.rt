@@ -1,3 +1,7 @@
+ghost use Rattle.std.specs.Prelude.{IfSome};
+ghost use Rattle.paxos_wire.specs.Fits.{Fits};
+
+use crate::asserting::{holds, prints, same};
 use betting::Action;
 use paxos_wire::{
     Ballot, Entries, Entry, Feed, FrameFault, Message, ballot_bytes, command_bytes, decode, encode,
@@ -27,6 +31,9 @@ const PROMISE: [u8; 40] = [
     0x21, 0x33, 0x1a, 0x20, 0, 0x18, 6, 0x1c, 0x2e,
 ];
 
+/// These four frames.
+static FRAMES: [&[u8]; 4] = [&PREPARE, &ACCEPT, &FORWARD, &PROMISE];
+
 /// Prepare of (1, 0) at slot 0.
 fn prepare() -> Message {
     Message::Prepare {
@@ -35,19 +42,16 @@ fn prepare() -> Message {
     }
 }
 
-#[test]
-fn frames_read_and_write_alike(rt: HostRuntime) -> Result<(), Fail> {
-    for frame in [&PREPARE[..], &ACCEPT[..], &FORWARD[..], &PROMISE[..]] {
-        let message = decode(frame).ok().ok_or("the bytes are a frame")?;
-        let mut out = Vec::new(rt.alloc());
-        encode(&mut out, &message)?;
-        assert!(rt; out.as_slice() == frame);
-        assert_eq!(rt; frame_len(&message), frame.len());
-        out.reserve(frame_len(&message))?;
-        encode_reserved(&mut out, &message);
-        assert_eq!(rt; out.len(), 2 * frame.len());
+// Calls with long contracts stand in one function each: a contract is read anew wherever its call stands.
+
+/// The message of a frame.
+fn message_of(frame: &[u8]) -> Option<Message>
+    ensures { IfSome result (λ message. Fits message) }
+{
+    match decode(frame) {
+        Ok(message) => Some(message),
+        Err(_) => None,
     }
-    Ok(())
 }
 
 /// The fault of bytes that are no frame.
@@ -58,38 +62,113 @@ fn fault_of(bytes: &[u8]) -> Option<FrameFault> {
     }
 }
 
+/// Sees that a message is written as a frame.
+fn writes(
+    rt: &impl Abort,
+    out: &mut Vec<u8>,
+    message: &Message,
+    frame: &[u8],
+) -> Result<(), AllocError>
+    requires { Fits message.now }
+{
+    encode(out, message)?;
+    holds!(rt; out.as_slice() == frame);
+    Ok(())
+}
+
+/// Writes a message into room that is made for its frame, which has so many bytes.
+fn write_in_room(
+    rt: &impl Abort,
+    out: &mut Vec<u8>,
+    message: &Message,
+    length: usize,
+) -> Result<(), AllocError>
+    requires { Fits message.now }
+{
+    same!(rt; frame_len(message), length);
+    out.reserve(frame_len(message))?;
+    encode_reserved(out, message);
+    Ok(())
+}
+
+/// Sees that a frame is written as it is read.
+fn rewrites(rt: &impl Abort, alloc: Global, frame: &[u8]) -> Result<(), Fail> {
+    let message = message_of(frame).ok_or("the bytes are a frame")?;
+    let mut out = Vec::new(alloc);
+    writes(rt, &mut out, &message, frame)?;
+    write_in_room(rt, &mut out, &message, frame.len())?;
+    same!(rt; out.len(), 2 * frame.len());
+    Ok(())
+}
+
+#[test]
+fn frames_read_and_write_alike(rt: HostRuntime) -> Result<(), Fail> {
+    for &frame in &FRAMES {
+        rewrites(&rt, rt.alloc(), frame)?;
+    }
+    Ok(())
+}
+
+/// Bytes that are no frame, each with its fault.
+static NO_FRAMES: [(&[u8], FrameFault); 10] = [
+    (&[0, 0, 0, 2, 2, 1], FrameFault::BadVersion),
+    (&[0, 0, 0, 2, 1, 9], FrameFault::BadKind),
+    (&[0, 0, 0, 2, 1, 1], FrameFault::BadBody),
+    // no round, no node, no slot, and no last byte
+    (
+        &[0, 0, 0, 11, 1, 1, 0, 0, 0, 0, 0, 0, 0, 0, 0],
+        FrameFault::BadBody,
+    ),
+    (
+        &[0, 0, 0, 11, 1, 1, 0, 0, 0, 1, 5, 0, 0, 0, 0],
+        FrameFault::BadBody,
+    ),
+    (
+        &[0, 0, 0, 11, 1, 1, 0, 0, 0, 1, 0, 0, 0x3d, 9, 0],
+        FrameFault::BadBody,
+    ),
+    (
+        &[0, 0, 0, 11, 1, 1, 0, 0, 0, 1, 0, 0, 0, 0],
+        FrameFault::BadBody,
+    ),
+    (&[0, 0, 0], FrameFault::TooShort),
+    (&[0, 0, 0, 1, 1], FrameFault::TooShort),
+    (&[0, 0, 0x10, 1], FrameFault::TooLong),
+];
+
 #[test]
 fn frames_at_fault(rt: HostRuntime) {
-    let no_round = [0, 0, 0, 11, 1, 1, 0, 0, 0, 0, 0, 0, 0, 0, 0];
-    let no_node = [0, 0, 0, 11, 1, 1, 0, 0, 0, 1, 5, 0, 0, 0, 0];
-    let no_slot = [0, 0, 0, 11, 1, 1, 0, 0, 0, 1, 0, 0, 0x3d, 9, 0];
-    for (bytes, fault) in [
-        (&[0, 0, 0, 2, 2, 1][..], FrameFault::BadVersion),
-        (&[0, 0, 0, 2, 1, 9][..], FrameFault::BadKind),
-        (&[0, 0, 0, 2, 1, 1][..], FrameFault::BadBody),
-        (&no_round[..], FrameFault::BadBody),
-        (&no_node[..], FrameFault::BadBody),
-        (&no_slot[..], FrameFault::BadBody),
-        (&[0, 0, 0][..], FrameFault::TooShort),
-        (&[0, 0, 0, 1, 1][..], FrameFault::TooShort),
-        (&[0, 0, 0x10, 1][..], FrameFault::TooLong),
-        (&PREPARE[..14], FrameFault::BadBody),
-    ] {
-        assert_eq!(rt; fault_of(bytes), Some(fault));
+    for &(bytes, fault) in &NO_FRAMES {
+        same!(&rt; fault_of(bytes), Some(fault));
     }
 }
 
+/// A deal for ten players at a slot, as a Promise tells of it.
+fn put_deal(bytes: &mut Vec<u8>, slot: u8) -> Result<(), AllocError> {
+    bytes.extend_from_slice(&[0, 0, 0, slot, 0, 0, 0, 1, 0, 1, 0, 0, 0, 0, 25])?;
+    for card in 0..25u8 {
+        bytes.push(card)?;
+    }
+    Ok(())
+}
+
 /// A Promise of (2, 2) from slot 0 with a deal for ten players at each of its 64 slots.
-fn full_promise(alloc: Global) -> Result<Vec<u8>, Fail> {
-    let mut bytes = Vec::new(alloc);
-    bytes.extend_from_slice(&[0, 0, 0x0a, 0x0c, 1, 2, 0, 0, 0, 2, 2, 0, 0, 0, 0, 64])?;
+fn full_promise(alloc: Global) -> Result<Vec<u8>, AllocError> {
+    let front = [0, 0, 0x0a, 0x0c, 1, 2, 0, 0, 0, 2, 2, 0, 0, 0, 0, 64];
+    let mut bytes = Vec::from_slice(alloc, &front)?;
     for slot in 0..64u8 {
-        bytes.extend_from_slice(&[0, 0, 0, slot, 0, 0, 0, 1, 0, 1, 0, 0, 0, 0, 25])?;
-        for card in 0..25u8 {
-            bytes.push(card)?;
-        }
+        put_deal(&mut bytes, slot)?;
     }
     Ok(bytes)
+}
+
+/// Sees that a feed has this message next, and nothing behind it.
+fn ends_with(rt: &impl Abort, feed: &mut Feed, whole: &Message) {
+    match feed.next() {
+        Some(Ok(message)) => holds!(rt; message == *whole),
+        _ => assert!(rt; false),
+    }
+    holds!(rt; feed.next().is_none());
 }
 
 /// Sees that a frame that comes in two pieces is read as this message once the second is there, and nothing else is.
@@ -101,35 +180,42 @@ fn reads_in_pieces(
     whole: &Message,
 ) -> Result<(), AllocError> {
     let mut feed = Feed::new(alloc);
-    feed.feed(front)?;
-    assert!(rt; feed.next().is_none());
+    wants_more(rt, &mut feed, front)?;
     feed.feed(behind)?;
-    match feed.next() {
-        Some(Ok(message)) => assert!(rt; message == *whole),
-        _ => assert!(rt; false),
+    ends_with(rt, &mut feed, whole);
+    Ok(())
+}
+
+/// Sees that a message is written as these bytes, and read as the same wherever they are cut.
+fn reads_cut_anywhere(
+    rt: &impl Abort,
+    alloc: Global,
+    bytes: &[u8],
+    whole: &Message,
+) -> Result<(), AllocError>
+    requires { Fits whole.now }
+{
+    let mut out = Vec::new(alloc);
+    writes(rt, &mut out, whole, bytes)?;
+    for cut in 0..bytes.len() {
+        reads_in_pieces(rt, alloc, &bytes[..cut], &bytes[cut..], whole)?;
     }
-    assert!(rt; feed.next().is_none());
     Ok(())
 }
 
 #[test]
 fn the_longest_promise_reads_the_same_cut_at_any_place(rt: HostRuntime) -> Result<(), Fail> {
     let bytes = full_promise(rt.alloc())?;
-    assert_eq!(rt; bytes.len(), 4 + 2572);
-    let whole = decode(&bytes).ok().ok_or("the bytes are a frame")?;
-    let mut out = Vec::new(rt.alloc());
-    encode(&mut out, &whole)?;
-    assert!(rt; out.as_slice() == bytes.as_slice());
-    for cut in 0..bytes.len() {
-        reads_in_pieces(&rt, rt.alloc(), &bytes[..cut], &bytes[cut..], &whole)?;
-    }
+    same!(&rt; bytes.len(), 4 + 2572);
+    let whole = message_of(&bytes).ok_or("the bytes are a frame")?;
+    reads_cut_anywhere(&rt, rt.alloc(), &bytes, &whole)?;
     Ok(())
 }
 
 /// Gives a feed a piece that ends no frame.
 fn wants_more(rt: &impl Abort, feed: &mut Feed, piece: &[u8]) -> Result<(), AllocError> {
     feed.feed(piece)?;
-    assert!(rt; feed.next().is_none());
+    holds!(rt; feed.next().is_none());
     Ok(())
 }
 
@@ -141,7 +227,7 @@ fn is_at_fault(
     fault: FrameFault,
 ) -> Result<(), AllocError> {
     feed.feed(piece)?;
-    assert!(rt; feed.next() == Some(Err(fault)));
+    holds!(rt; feed.next() == Some(Err(fault)));
     Ok(())
 }
 
@@ -150,34 +236,50 @@ fn feed_all_but_one(rt: &impl Abort, feed: &mut Feed) -> Result<(), AllocError> 
     for _ in 0..4095u16 {
         feed.feed(&[1])?;
     }
-    assert!(rt; feed.next().is_none());
+    holds!(rt; feed.next().is_none());
     Ok(())
+}
+
+/// Gives a feed a frame of the greatest length, all of which is there but in the end.
+fn feeds_the_longest(rt: &impl Abort, feed: &mut Feed) -> Result<(), AllocError> {
+    wants_more(rt, feed, &[0, 0, 0x10])?;
+    wants_more(rt, feed, &[0])?;
+    feed_all_but_one(rt, feed)?;
+    is_at_fault(rt, feed, &[1], FrameFault::BadBody)
 }
 
 #[test]
 fn lengths_at_their_limits(rt: HostRuntime) -> Result<(), Fail> {
     let mut feed = Feed::new(rt.alloc());
-    wants_more(&rt, &mut feed, &[0, 0, 0x10])?;
-    wants_more(&rt, &mut feed, &[0])?;
-    feed_all_but_one(&rt, &mut feed)?;
-    is_at_fault(&rt, &mut feed, &[1], FrameFault::BadBody)?;
+    feeds_the_longest(&rt, &mut feed)?;
     Ok(())
+}
+
+/// Gives a feed a length that is too great, and a frame behind it.
+fn stays_at_fault(rt: &impl Abort, long: &mut Feed) -> Result<(), AllocError> {
+    is_at_fault(rt, long, &[0, 0, 0x10, 1], FrameFault::TooLong)?;
+    is_at_fault(rt, long, &PREPARE, FrameFault::TooLong)
 }
 
 #[test]
 fn a_length_above_the_limit_stays_at_fault(rt: HostRuntime) -> Result<(), Fail> {
     let mut long = Feed::new(rt.alloc());
-    is_at_fault(&rt, &mut long, &[0, 0, 0x10, 1], FrameFault::TooLong)?;
-    is_at_fault(&rt, &mut long, &PREPARE, FrameFault::TooLong)?;
+    stays_at_fault(&rt, &mut long)?;
+    Ok(())
+}
+
+/// Gives a feed a frame in room that is reserved for it.
+fn feeds_in_room(rt: &impl Abort, feed: &mut Feed) -> Result<(), AllocError> {
+    feed.reserve(PREPARE.len())?;
+    feed.feed_reserved(&PREPARE);
+    holds!(rt; feed.next() == Some(Ok(prepare())));
     Ok(())
 }
 
 #[test]
 fn a_piece_goes_into_room_that_was_reserved(rt: HostRuntime) -> Result<(), Fail> {
     let mut feed = Feed::new(rt.alloc());
-    feed.reserve(PREPARE.len())?;
-    feed.feed_reserved(&PREPARE);
-    assert!(rt; feed.next() == Some(Ok(prepare())));
+    feeds_in_room(&rt, &mut feed)?;
     Ok(())
 }
 
@@ -200,8 +302,8 @@ fn a_stream_in_pieces(rt: HostRuntime) -> Result<(), Fail> {
     ];
     let pieces = owned(rt.alloc(), &pieces)?;
     let (messages, fault) = read_stream(rt.alloc(), &pieces)?;
-    assert_eq!(rt; messages.len(), 2);
-    assert!(rt; fault == Some(FrameFault::BadKind));
+    same!(&rt; messages.len(), 2);
+    holds!(&rt; fault == Some(FrameFault::BadKind));
     Ok(())
 }
 
@@ -229,41 +331,54 @@ fn write_record_reserved(out: &mut Vec<u8>) -> Result<(), AllocError> {
     Ok(())
 }
 
+/// Writes it in both ways.
+fn write_both(out: &mut Vec<u8>) -> Result<(), AllocError> {
+    write_record(out)?;
+    write_record_reserved(out)
+}
+
+/// Sees that bytes are those of the command.
+fn reads_command(rt: &impl Abort, bytes: &[u8]) {
+    holds!(rt; read_command(bytes).is_some());
+    holds!(rt; command_bytes(&CALL).as_slice() == bytes);
+}
+
 /// Sees that bytes are those of the ballot and of the command behind it.
 fn reads_record(rt: &impl Abort, bytes: &[u8]) {
     let (read, rest) = read_ballot(bytes).expect(rt, "a ballot is in front");
-    assert_eq!(rt; read, BALLOT);
-    assert!(rt; rest.len() == 12);
-    assert!(rt; read_command(rest).is_some());
-    assert!(rt; bytes.starts_with(&ballot_bytes(BALLOT)));
-    assert!(rt; command_bytes(&CALL).as_slice() == rest);
+    same!(rt; read, BALLOT);
+    holds!(rt; rest.len() == 12);
+    reads_command(rt, rest);
+    holds!(rt; bytes.starts_with(&ballot_bytes(BALLOT)));
+}
+
+/// Sees that bytes are those of the record.
+fn is_record(rt: &impl Abort, bytes: &[u8]) {
+    holds!(rt; bytes == [0, 0, 0, 1, 0, 2, 0, 0, 0, 0, 0, 0, 1, 0, 0, 0, 0].as_slice());
+    reads_record(rt, bytes);
+}
+
+/// Sees that bytes are those of two records that are alike.
+fn is_twice_the_same(rt: &impl Abort, bytes: &[u8]) {
+    assert_eq!(rt; bytes.len(), 34);
+    holds!(rt; bytes[..17] == bytes[17..]);
 }
 
 #[test]
 fn ballots_and_commands_of_a_record(rt: HostRuntime) -> Result<(), Fail> {
     let mut out = Vec::new(rt.alloc());
-    write_record(&mut out)?;
-    write_record_reserved(&mut out)?;
-    assert_eq!(rt; out.len(), 34);
-    assert!(rt; out[..17] == out[17..]);
+    write_both(&mut out)?;
+    is_twice_the_same(&rt, &out);
     out.truncate(17);
-    assert!(rt; out.as_slice() == [0, 0, 0, 1, 0, 2, 0, 0, 0, 0, 0, 0, 1, 0, 0, 0, 0].as_slice());
-    reads_record(&rt, &out);
+    is_record(&rt, &out);
     Ok(())
 }
 
 #[test]
 fn slots_of_a_record(rt: HostRuntime) {
-    assert!(rt; slot_bytes(3_999_999)[..] == [0, 0x3d, 8, 0xff][..]);
-    assert!(rt; read_slot(&[0, 0x3d, 8, 0xff]).is_some());
-    assert!(rt; read_slot(&[0, 0x3d, 9, 0]).is_none());
-}
-
-/// Sees what is printed of a message.
-fn prints(rt: &impl Abort, alloc: Global, message: &Message, line: &str) -> Result<(), AllocError> {
-    let printed = format!(in alloc; "{message}")?;
-    assert_eq!(rt; printed.as_str(), line);
-    Ok(())
+    holds!(&rt; slot_bytes(3_999_999)[..] == [0, 0x3d, 8, 0xff][..]);
+    holds!(&rt; read_slot(&[0, 0x3d, 8, 0xff]).is_some());
+    holds!(&rt; read_slot(&[0, 0x3d, 9, 0]).is_none());
 }
 
 /// Sees what is printed of the message of these bytes.
@@ -273,18 +388,21 @@ fn prints_frame(
     frame: &[u8],
     line: &str,
 ) -> Result<(), AllocError> {
-    let message = decode(frame).ok().expect(rt, "the bytes are a frame");
+    let message = message_of(frame).expect(rt, "the bytes are a frame");
     prints(rt, alloc, &message, line)
 }
+
+/// Frames, and what is printed of their messages.
+static PRINTED: [(&[u8], &str); 3] = [
+    (&ACCEPT, "Accept (1, 0) at 0: deal of hand 0"),
+    (&FORWARD, "Forward act 0 of hand 0: call"),
+    (&PROMISE, "Promise (2, 2) from 0: 1 accepted"),
+];
 
 #[test]
 fn messages_print_on_one_line(rt: HostRuntime) -> Result<(), Fail> {
     prints(&rt, rt.alloc(), &prepare(), "Prepare (1, 0) from 0")?;
-    for (frame, line) in [
-        (&ACCEPT[..], "Accept (1, 0) at 0: deal of hand 0"),
-        (&FORWARD[..], "Forward act 0 of hand 0: call"),
-        (&PROMISE[..], "Promise (2, 2) from 0: 1 accepted"),
-    ] {
+    for &(frame, line) in &PRINTED {
         prints_frame(&rt, rt.alloc(), frame, line)?;
     }
     Ok(())
@@ -293,15 +411,15 @@ fn messages_print_on_one_line(rt: HostRuntime) -> Result<(), Fail> {
 #[test]
 fn a_fault_prints_its_number_and_name(rt: HostRuntime) -> Result<(), Fail> {
     let fault = FrameFault::BadBody;
-    assert_eq!(rt; fault.code(), 54);
-    assert_eq!(rt; format!(in rt.alloc(); "{fault}")?.as_str(), "54 BadBody");
+    same!(&rt; fault.code(), 54);
+    prints(&rt, rt.alloc(), &fault, "54 BadBody")?;
     Ok(())
 }
 
 #[test]
 fn entries_are_kept_in_order(rt: HostRuntime) {
     let mut entries = Entries::new();
-    assert!(rt; entries.is_empty());
+    holds!(&rt; entries.is_empty());
     let entry = Entry {
         slot: 3,
         ballot: Ballot { round: 1, node: 0 },
@@ -313,5 +431,5 @@ fn entries_are_kept_in_order(rt: HostRuntime) {
     };
     entries.push(entry);
     assert_eq!(rt; entries.len(), 1);
-    assert_eq!(rt; entries.as_slice()[0].slot, 3);
+    same!(&rt; entries.as_slice()[0].slot, 3);
 }
