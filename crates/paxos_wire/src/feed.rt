@@ -76,7 +76,7 @@ fn front_end(bytes: &[u8]) -> Option<usize>
 }
 
 /// What stands in front, and how many bytes of it there are; `None` while it isn't whole.
-fn read_front(bytes: &[u8]) -> Option<(Result<Message, FrameFault>, usize)>
+fn frame_in_front(bytes: &[u8]) -> Option<(Result<Message, FrameFault>, usize)>
     ensures partial { IsNone result ↔ IsPartial bytes.now }
     ensures end { IfSome result (λ x. x.1 ≤ length bytes.now) }
     ensures found { IfSome result (λ x. IfOk x.0 (λ m. IsMessage m × (bytes.now ≡ frame m ++ drop x.1 bytes.now))) }
@@ -165,7 +165,7 @@ impl Feed {
             return Some(Err(fault));
         }
         let (_, waiting) = self.bytes.split_at(self.taken);
-        match read_front(waiting) {
+        match frame_in_front(waiting) {
             None => None,
             Some((Ok(message), end)) => {
                 self.taken = skip(&mut self.bytes, self.taken, end);
