@@ -1,6 +1,10 @@
 -- A text as lines, and a line as words.
-use Rattle.std.specs.Prelude.{ℕ, ◌-◌, Bool, true, false, ◌==◌, ◌||◌, List, [], ◌∷◌, length, take, slice_index, if◌then◌else◌}
-use Rattle.std.specs.List.{slice_split, onto_first}
+use Rattle.std.specs.Prelude.{◌≢◌, ℕ, ◌-◌, Bool, true, false, ◌==◌, ◌||◌, List, [], ◌∷◌, length, take, slice_index, if◌then◌else◌}
+use Rattle.std.specs.List.{AllByRecursion, slice_split, onto_first}
+
+-- no line feed stands among the bytes
+abbrev pub HasNoFeed : List ℕ → Type 0
+HasNoFeed bytes = AllByRecursion (λ byte. byte ≢ 10) bytes
 
 -- a line without the CR at its end
 abbrev pub without_cr : List ℕ → List ℕ

@@ -151,10 +151,10 @@ wanted_so_often n [] ranks = []
 wanted_so_often n (size ∷ sizes) [] = []
 wanted_so_often n (size ∷ sizes) (rank ∷ ranks) = cond (eqb size n) (rank ∷ wanted_so_often n sizes ranks) (wanted_so_often n sizes ranks)
 
--- a rank is one of a list
-abbrev pub IsIn : ℕ → List ℕ → Type 0
-IsIn rank [] = ⊥
-IsIn rank (x ∷ xs) = (rank ≡ x) ⊎ IsIn rank xs
+-- one of the list's
+abbrev pub IsIn : {X : Type 0} → X → List X → Type 0
+IsIn x [] = ⊥
+IsIn x (y ∷ ys) = (x ≡ y) ⊎ IsIn x ys
 
 pub wanted_is_in : (n : ℕ) (sizes ranks : List ℕ) (other : ℕ) → wanted sizes ranks other ≡ suc n → IsIn other (wanted_so_often (suc n) sizes ranks)
 wanted_is_in n [] ranks other e = absurd (omega arith)

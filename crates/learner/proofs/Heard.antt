@@ -1,6 +1,5 @@
 -- What becomes of a learner, case by case.
 use Rattle.std.proofs.Common.{ℕ, ◌≡◌, Bool, true, false, Option, Result, Ok, Err, refl, ap, if◌then◌else◌}
-use Rattle.std.specs.Prelude.{OnErr}
 use Rattle.paxos_wire.specs.declared.ballot.Ballot.{Ballot}
 use Rattle.slot_log.specs.declared.command.Command.{Command}
 use Rattle.slot_log.specs.declared.slot_fault.SlotFault.{SlotFault}
@@ -12,10 +11,6 @@ use Rattle.learner.specs.Learning.{Learned, is_open, is_other, completes, answer
 pub is_refused : (x : Bool) (e : SlotFault) → ◌≡◌ {A = Result (Unit {0}) SlotFault} (Err e) (if x then Err Conflict else Ok tt) → x ≡ true
 is_refused true e h = refl
 is_refused false e h = absurd (cc)
-
-pub on_err : {T E : Type 0} {P : Type 0} (r : Result T E) → P → OnErr r P
-on_err (Ok x) p = tt
-on_err (Err e) p = p
 
 refused_by : (l : Learned) (from : ℕ) (b : Ballot) (slot : ℕ) (c : Command) (f : SlotFault) (x : Bool) → is_open l.log slot ≡ true → completes l from b slot c ≡ true → is_other (known_at l.log slot) c ≡ x
     → ◌≡◌ {A = Result (Unit {0}) SlotFault} (Err f) (if x then Err Conflict else Ok tt) → ◌≡◌ {A = Result (Option Chosen) SlotFault} (Err f) (answer_to l from b slot c)

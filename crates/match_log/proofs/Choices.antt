@@ -4,6 +4,7 @@ use Rattle.std.specs.List.{sum_by}
 use Rattle.std.proofs.lemmas.Bool.{cases_eq, eq-eqb, cond-true}
 use Rattle.std.proofs.lemmas.List.Sums.{sum_by-cons, sum_by-append}
 use Rattle.hand_rank.proofs.Permutations.{one_if_same}
+pub use Rattle.hand_rank.proofs.Picks.{IsIn}
 use Rattle.match_log.specs.BestFive.{choices}
 
 -- how often a number comes
@@ -13,11 +14,6 @@ times k xs = sum_by (one_if_same k) xs
 -- each number comes as often in both
 abbrev pub SameCounts : List ℕ → List ℕ → Type 0
 SameCounts xs ys = (k : ℕ) → times k xs ≡ times k ys
-
--- one of the list's
-abbrev pub IsIn : {X : Type 0} → X → List X → Type 0
-IsIn x [] = ⊥
-IsIn x (y ∷ ys) = (x ≡ y) ⊎ IsIn x ys
 
 pub in_left : {X : Type 0} (x : X) (xs ys : List X) → IsIn x xs → IsIn x (xs ++ ys)
 in_left x [] ys h = absurd h

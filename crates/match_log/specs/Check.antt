@@ -4,6 +4,7 @@ use Rattle.std.specs.Fmt.{signed_decimal}
 use Rattle.std.specs.List.{AllByRecursion}
 use Rattle.std.specs.Str.Parse.{digits_value}
 use Rattle.game_def.specs.Game.{Game}
+use Rattle.game_def.specs.Text.{HasNoFeed}
 use Rattle.card_core.specs.Deal.{IsDeal, player_count}
 use Rattle.betting.specs.Legal.{Legal}
 use Rattle.betting.specs.Text.{text}
@@ -72,7 +73,7 @@ pub record HasHands (game : Game) (bytes : List ℕ) (title : Title) (names : Li
 pub record BeginsLine (letters rest : List ℕ) : Type 0 where
   pub line : List ℕ
   pub behind : List ℕ
-  pub one_line : AllByRecursion (λ byte. byte ≢ 10) line
+  pub one_line : HasNoFeed line
   pub whole : rest ≡ letters ++ (line ++ 10 ∷ behind)
 
 -- the names of a line are the seats' by position in a hand of its own number; the first line may have any

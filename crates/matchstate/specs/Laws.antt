@@ -6,6 +6,7 @@ use Rattle.game_def.specs.Game.{Game}
 use Rattle.betting.specs.declared.action.Action.{Action}
 use Rattle.betting.specs.Text.{text}
 use Rattle.card_core.specs.Deal.{hole_of}
+pub use Rattle.slot_log.specs.Beginnings.{IsBeginning}
 use Rattle.slot_log.specs.Hand.{Hand}
 use Rattle.slot_log.specs.Dealer.{hands_of, hand_at}
 use Rattle.slot_log.specs.declared.command.Command.{Command}
@@ -13,10 +14,6 @@ use Rattle.slot_log.specs.declared.command.Command.TheVariants.{Deal, Act}
 use Rattle.matchstate.specs.Cards.{boards_of}
 use Rattle.matchstate.specs.View.{View, sees, rounds_seen, position_of, seat_view}
 use Rattle.matchstate.specs.Line.{line, line_text}
-
--- a list is a beginning of another (newest first): the other has more in front of it
-abbrev pub IsBeginning : {A : Type 0} → List A → List A → Type 0
-IsBeginning {A} earlier later = (newer : List A) × (later ≡ newer ++ earlier)
 
 -- a text begins another
 abbrev pub IsTextBeginning : List ℕ → List ℕ → Type 0

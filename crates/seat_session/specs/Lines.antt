@@ -1,11 +1,7 @@
 -- Lines on a stream of bytes. A line feed (10) ends a line; a carriage return (13) right before it belongs
 -- to the line's end. A client's line has at most 4096 bytes before its line feed.
-use Rattle.std.specs.Prelude.{◌≡◌, ◌≢◌, ℕ, ◌≤◌, List, [], ◌∷◌, ◌++◌, length, if◌then◌else◌, ◌==◌}
-use Rattle.std.specs.List.{AllByRecursion}
-
--- no line feed stands among the bytes
-abbrev pub HasNoFeed : List ℕ → Type 0
-HasNoFeed bytes = AllByRecursion (λ byte. byte ≢ 10) bytes
+use Rattle.std.specs.Prelude.{◌≡◌, ℕ, ◌≤◌, List, [], ◌∷◌, ◌++◌, length, if◌then◌else◌, ◌==◌}
+pub use Rattle.game_def.specs.Text.{HasNoFeed}
 
 -- what a line says: its bytes without a carriage return at their end
 abbrev pub text_of : List ℕ → List ℕ

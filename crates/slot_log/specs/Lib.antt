@@ -9,3 +9,4 @@ pub mod Fault
 pub mod Slots
 pub mod SlotsInside
 pub mod SlotLaws
+pub mod Beginnings

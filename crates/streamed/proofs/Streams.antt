@@ -1,6 +1,6 @@
 -- A piece more of the bytes that are written, and a fact that holds whatever a call answers.
 use Rattle.std.proofs.Common.{◌≡◌, ℕ, ◌+◌, ◌-◌, ◌≤◌, List, ◌++◌, length, take, drop, sym, ◌∙◌, ap, arith}
-use Rattle.std.specs.Prelude.{Result, Ok, Err, OnOk, OnErr}
+use Rattle.std.specs.Prelude.{Result, Ok, Err, OnOk}
 use Rattle.std.proofs.lemmas.List.{take_all, length-drop, length-take-le, take-append-drop}
 use Rattle.std.proofs.Math.Seq.{take-append-add}
 
@@ -11,10 +11,6 @@ take_part n count xs within =
     let front : length (take n xs) ≡ n = length-take-le n xs within in
     ap (take (n + count)) (sym (take-append-drop n xs)) ∙ ap (λ m. take (m + count) (take n xs ++ drop n xs)) (sym front)
     ∙ take-append-add (take n xs) (drop n xs) count ∙ ap (λ z. take n xs ++ take count z) (sym left)
-
-pub on_err : {A E : Type 0} (r : Result A E) (P : Type 0) → P → OnErr r P
-on_err (Ok a) P p = tt
-on_err (Err e) P p = p
 
 pub on_ok : {A E : Type 0} (r : Result A E) (P : Type 0) → P → OnOk r P
 on_ok (Ok a) P p = p

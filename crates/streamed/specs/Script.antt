@@ -1,15 +1,12 @@
 -- Scripts of the command `hand`, and what it writes for them.
-use Rattle.std.specs.Prelude.{◌≡◌, ◌≢◌, ℕ, List, [], ◌∷◌, ◌++◌, reverse, Option}
+use Rattle.std.specs.Prelude.{◌≡◌, ℕ, List, [], ◌∷◌, ◌++◌, reverse, Option}
 use Rattle.std.specs.List.{AllByRecursion, flat_map}
 use Rattle.game_def.specs.Game.{Game}
+pub use Rattle.game_def.specs.Text.{HasNoFeed}
 use Rattle.slot_log.specs.Dealer.{hands_of}
 use Rattle.streamed.specs.Answer.{Says, answer}
 use Rattle.streamed.specs.Told.{commands_of, names_of}
 use Rattle.streamed.specs.declared.script_line.ScriptLine.{ScriptLine}
-
--- no line feed stands among the bytes
-abbrev pub HasNoFeed : List ℕ → Type 0
-HasNoFeed bytes = AllByRecursion (λ byte. byte ≢ 10) bytes
 
 -- the whole lines of a script, newest first, each ended by a line feed, and a rest without one
 pub record AreLines (bytes : List ℕ) (lines : List (List ℕ)) (rest : List ℕ) : Type 0 where

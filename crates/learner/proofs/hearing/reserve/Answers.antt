@@ -1,7 +1,7 @@
 use Rattle.std.proofs.Common.{◌≤◌, ◌∙◌, arith, length-set}
 use Rattle.learner.specs.Cells.{spares, least}
 use Rattle.learner.proofs.Cells.{tallies_same, room_same, room_more, room_all, room_below}
-use Rattle.learner.proofs.Heard.{on_err}
+use Rattle.slot_log.proofs.Results.{on_err}
 use Rattle.learner.proofs.hearing.reserve.Goals as goal
 
 pub returns-in_err-reserve-clause-tallies : goal.returns-in_err-reserve-clause-tallies

@@ -3,12 +3,13 @@ use Rattle.std.proofs.Common.{take, drop, sym, subst, arith, List, ℕ}
 use Rattle.std.proofs.lemmas.List.{take-append-drop}
 use Rattle.std.specs.Io.KnownBytes.{Appends}
 use Rattle.std.proofs.KnownBytes.{Appends-kept, Appends-trans}
-use Rattle.streamed.proofs.Streams.{take_part, on_err}
+use Rattle.streamed.proofs.Streams.{take_part}
+use Rattle.slot_log.proofs.Results.{on_err}
 use Rattle.streamed.proofs.stream.send.Goals as goal
 
 pub returns-in_err-sent-clause-err : goal.returns-in_err-sent-clause-err
 returns-in_err-sent-clause-err g c =
-    on_err c.from_residual.result _ (
+    on_err c.from_residual.result (
       take c.loop.sent c.args.bytes.now,
       drop c.loop.sent c.args.bytes.now,
       sym (take-append-drop c.loop.sent c.args.bytes.now),

@@ -1,6 +1,6 @@
 use Rattle.std.proofs.Common.{arith}
 use Rattle.learner.proofs.Rooms.{room_kept, room_wanting}
-use Rattle.learner.proofs.Heard.{on_err}
+use Rattle.slot_log.proofs.Results.{on_err}
 use Rattle.learner.proofs.learner.Learner.reserve.Goals as goal
 
 pub returns-in_err-reserve-clause-kept : goal.returns-in_err-reserve-clause-kept

@@ -1,11 +1,11 @@
 use Rattle.std.proofs.Common.{[], ◌∷◌, ◌++◌, ◌∙◌, ap}
 use Rattle.std.proofs.lemmas.Result.{on_ok_weaker, on_err_weaker}
-use Rattle.streamed.proofs.Streams.{on_err}
+use Rattle.slot_log.proofs.Results.{on_err}
 use Rattle.match_runs.proofs.Scripting.{answers_as, plays_so_far, play_line_answered, play_line_begun}
 use Rattle.match_runs.proofs.scripted.Scripted.end_line.Goals as goal
 
 pub returns-in_err-answer-clause-err : goal.returns-in_err-answer-clause-err
-returns-in_err-answer-clause-err g c = on_err c.from_residual.result _ (λ plan start seen reaches. plays_so_far plan start _ seen (10 ∷ []) c.args.self.now reaches)
+returns-in_err-answer-clause-err g c = on_err c.from_residual.result (λ plan start seen reaches. plays_so_far plan start _ seen (10 ∷ []) c.args.self.now reaches)
 
 pub returns-clause-ok : goal.returns-clause-ok
 returns-clause-ok g c =

@@ -1,12 +1,12 @@
 use Rattle.std.proofs.Common.{◌+◌, ◌++◌, take, drop, subst, List, ℕ, arith}
 use Rattle.match_runs.specs.Scripted.{BeginsPlay}
-use Rattle.streamed.proofs.Streams.{on_err}
+use Rattle.slot_log.proofs.Results.{on_err}
 use Rattle.streamed.proofs.Progress.{piece_split}
 use Rattle.match_runs.proofs.Scripting.{plays_still}
 use Rattle.match_runs.proofs.scripted.Scripted.take_piece.Goals as goal
 
 pub returns-in_err-take_byte-clause-err : goal.returns-in_err-take_byte-clause-err
-returns-in_err-take_byte-clause-err g c = on_err c.from_residual.result _ (λ plan start seen reaches.
+returns-in_err-take_byte-clause-err g c = on_err c.from_residual.result (λ plan start seen reaches.
     let i = c.loop-byte.byte-index in
     let piece = c.args.piece.now in
     let begun = c.in_err-take_byte.ensures.err plan start (seen ++ take i piece) (c.loop-byte.invariant plan start seen reaches) in

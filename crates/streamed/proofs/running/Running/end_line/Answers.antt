@@ -1,11 +1,11 @@
 use Rattle.std.proofs.Common.{[], ◌∷◌}
 use Rattle.std.proofs.lemmas.Result.{on_ok_weaker, on_err_weaker}
-use Rattle.streamed.proofs.Streams.{on_err}
+use Rattle.slot_log.proofs.Results.{on_err}
 use Rattle.streamed.proofs.Progress.{begins_so_far, line_taken, line_answered, line_begun}
 use Rattle.streamed.proofs.running.Running.end_line.Goals as goal
 
 pub returns-in_err-take-clause-err : goal.returns-in_err-take-clause-err
-returns-in_err-take-clause-err g c = on_err c.from_residual.result _ (λ game count log start seen shows. begins_so_far game count log start _ seen (10 ∷ []) c.args.self.now shows)
+returns-in_err-take-clause-err g c = on_err c.from_residual.result (λ game count log start seen shows. begins_so_far game count log start _ seen (10 ∷ []) c.args.self.now shows)
 
 pub returns-clause-ok : goal.returns-clause-ok
 returns-clause-ok g c =
