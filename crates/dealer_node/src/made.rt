@@ -28,7 +28,7 @@ impl Drop for Made {
 }
 
 /// For how much more a call makes room.
-#[derive(Clone, Copy, Debug)]
+#[derive(Clone, Copy)]
 pub(crate) struct Need {
     pub(crate) frames: usize,
     pub(crate) frame_bytes: usize,

@@ -19,7 +19,7 @@ pub enum What {
 }
 
 /// What reached a node, and how many frames had been sent before.
-#[derive(Clone, Copy, Debug, Drop)]
+#[derive(Clone, Copy, Drop)]
 pub(crate) struct Came {
     pub(crate) what: What,
     pub(crate) sent_before: usize,

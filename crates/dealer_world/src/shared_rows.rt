@@ -12,7 +12,7 @@ const LAST_TEXTS: usize = 8;
 const MOST_TEXTS: usize = 0x1_0000_0000;
 
 /// A row's mark, and the number of its text.
-#[derive(Clone, Copy, Debug, Drop)]
+#[derive(Clone, Copy, Drop)]
 pub(crate) struct Numbered<T> {
     pub(crate) mark: T,
     pub(crate) text: u32,

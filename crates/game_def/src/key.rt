@@ -6,7 +6,7 @@ use crate::limits::MOST_CHIPS;
 use card_core::limits::PLAYERS;
 
 /// What a line of a game file sets.
-#[derive(Clone, Copy, Debug, PartialEq, Eq)]
+#[derive(Clone, Copy, PartialEq, Eq)]
 pub(crate) enum Key {
     Limit,
     Nolimit,

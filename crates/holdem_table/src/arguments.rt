@@ -23,7 +23,7 @@ pub(crate) enum Task<'a> {
 }
 
 /// What `hand` is asked for.
-#[derive(Debug, Drop)]
+#[derive(Drop)]
 pub(crate) struct HandArguments<'a> {
     /// The word that names the game file.
     pub(crate) game: &'a str,
@@ -36,7 +36,7 @@ pub(crate) struct HandArguments<'a> {
 }
 
 /// What `check` is asked for.
-#[derive(Clone, Copy, Debug)]
+#[derive(Clone, Copy)]
 pub(crate) struct CheckArguments<'a> {
     /// The word that names the game file.
     pub(crate) game: &'a str,

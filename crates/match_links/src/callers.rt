@@ -8,7 +8,7 @@ use crate::links::LinkFault;
 use std::alloc::{AllocError, Global};
 
 /// A connection of a seat to a node, and what it sends before it ends.
-#[derive(Debug, Drop)]
+#[derive(Drop)]
 pub(crate) struct Caller {
     node: u8,
     seat: u8,
@@ -34,7 +34,7 @@ impl Caller {
     }
 }
 
-#[derive(Clone, Copy, Debug, PartialEq, Eq)]
+#[derive(Clone, Copy, PartialEq, Eq)]
 pub(crate) enum State {
     Waiting,
     Open,

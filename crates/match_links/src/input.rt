@@ -8,7 +8,7 @@ use std::io;
 use std::io::Read;
 
 /// What came of a connection and isn't read yet.
-#[derive(Debug, Drop)]
+#[derive(Drop)]
 pub(crate) struct Input {
     bytes: Vec<u8>,
 }

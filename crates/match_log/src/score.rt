@@ -11,7 +11,7 @@ use std::marker::Model;
 ///
 /// 64 bits hold it: no payoff is further from 0 than ten stacks of 2147483647 chips, and a match has at
 /// most 10000 hands.
-#[derive(Debug, Drop)]
+#[derive(Drop)]
 pub(crate) struct Score {
     totals: [i64; PLAYERS],
     hands: u32,

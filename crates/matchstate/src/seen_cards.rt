@@ -8,7 +8,7 @@ use card_core::limits::{CARDS, PLAYERS};
 
 /// The cards that a line shows: two for each position that is seen, and three, one and one for the later
 /// rounds that have begun.
-#[derive(Clone, Copy, Debug)]
+#[derive(Clone, Copy)]
 pub(crate) struct SeenCards {
     pub(crate) holes: [Option<[Card; 2]>; PLAYERS],
     pub(crate) flop: Option<[Card; 3]>,

@@ -5,7 +5,7 @@ use paxos_wire::limits::{BALLOT_BYTES, MOST_COMMAND, SLOT_BYTES};
 use slot_log::Command;
 
 /// What an append stores.
-#[derive(Clone, Copy, Debug, PartialEq, Eq)]
+#[derive(Clone, Copy)]
 pub enum Record {
     /// The ballot was promised.
     Promised(Ballot),

@@ -1,5 +1,5 @@
 /// What stands at the front of a stream of lines.
-#[derive(Clone, Copy, Debug)]
+#[derive(Clone, Copy)]
 pub(crate) enum Front<'a> {
     /// Less than a whole line, and no more bytes than a line may have.
     Partial,

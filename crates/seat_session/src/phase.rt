@@ -1,7 +1,7 @@
 use crate::session_fault::SessionFault;
 
 /// What a session waits for.
-#[derive(Clone, Copy, Debug)]
+#[derive(Clone, Copy)]
 pub(crate) enum Phase {
     /// The line that names the protocol's version.
     Greeting,

@@ -7,7 +7,7 @@ use arrayvec::ArrayVec;
 use card_core::limits::PLAYERS;
 
 /// Where each seat is; seats and nodes are counted from 0.
-#[derive(Debug, Drop)]
+#[derive(Drop)]
 pub(crate) struct Places {
     all: ArrayVec<Place, PLAYERS>,
 }

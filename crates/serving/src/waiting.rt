@@ -5,7 +5,7 @@ use crate::turn::Turn;
 use dealer_world::Event;
 
 /// An event that is to be given to the cluster; of a frame its number too, counted from 0 in the order of sending.
-#[derive(Debug, Drop)]
+#[derive(Drop)]
 pub(crate) struct Waiting {
     pub(crate) event: Event,
     pub(crate) number: usize,

@@ -2,7 +2,7 @@ use match_log::SeatNames;
 use slot_log::Command;
 
 /// What a script line says.
-#[derive(Debug, Drop)]
+#[derive(Drop)]
 pub(crate) enum ScriptLine {
     /// The seats' names, once, before all else.
     Names(SeatNames),

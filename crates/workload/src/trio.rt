@@ -24,7 +24,7 @@ const OUT: u32 = 20;
 const BACK: u32 = 60;
 
 /// A frame on its way: whence, whereto, and where its bytes stand.
-#[derive(Clone, Copy, Debug, Drop)]
+#[derive(Clone, Copy, Drop)]
 struct Sent {
     from: u8,
     to: u8,
