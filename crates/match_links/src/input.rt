@@ -3,6 +3,7 @@ ghost use Rattle.match_links.specs.Pieces.{part_len, is_whole};
 
 use crate::limits::PIECE;
 use crate::piece::{first_line_feed, piece_len};
+use byte_queue::remove_front;
 use std::alloc::{AllocError, Global};
 use std::io;
 use std::io::Read;
@@ -66,14 +67,4 @@ pub(crate) fn give(bytes: &[u8], piece: &mut [u8]) -> usize
     let count = piece_len(bytes).min(piece.len());
     piece[..count].copy_from_slice(&bytes[..count]);
     count
-}
-
-/// Takes so many bytes away from the front.
-fn remove_front(bytes: &mut Vec<u8>, count: usize)
-    requires { count ≤ vec_len bytes.old }
-    ensures { bytes.new.items ≡ drop count bytes.old.items }
-{
-    let left = bytes.len() - count;
-    bytes.as_mut_slice().copy_within(count.., 0);
-    bytes.truncate(left);
 }

@@ -5,7 +5,6 @@ pub mod Kinds
 pub mod Reading
 pub mod Faults
 pub mod Stream
-pub mod Incoming
 pub mod FeedInside
 pub mod Lines
 pub mod Order

@@ -1,4 +1,4 @@
-ghost use Rattle.std.specs.Prelude.{◌≡◌, ◌<◌, ◌≤◌, ◌+◌, ◌++◌, ◌↔◌, ℕ, [], List, length, take, drop, vec_len, vec_capacity, Some, Ok, IsNone, IfSome, IfOk, IfErr, OnOk, OnErr};
+ghost use Rattle.std.specs.Prelude.{◌≡◌, ◌<◌, ◌≤◌, ◌+◌, ◌++◌, ◌↔◌, ℕ, [], List, length, drop, Some, Ok, IsNone, IfSome, IfOk, IfErr, OnOk, OnErr};
 ghost use Rattle.paxos_wire.specs.declared.message.Message.{Message};
 ghost use Rattle.paxos_wire.specs.Fits.{IsMessage};
 ghost use Rattle.paxos_wire.specs.Spelling.{frame};
@@ -9,8 +9,8 @@ use crate::decoding::message_of_frame;
 use crate::fault::FrameFault;
 use crate::limits::{LEAST_LENGTH, LENGTH_BYTES, MOST_LENGTH};
 use crate::message::Message;
+use byte_queue::ByteQueue;
 use byteorder::{BigEndian, ByteOrder};
-use slot_log::remove_front;
 use std::alloc::{AllocError, Global};
 use std::marker::Model;
 
@@ -20,40 +20,20 @@ use std::marker::Model;
 /// come without taking memory.
 #[derive(Drop)]
 pub struct Feed {
-    bytes: Vec<u8>,
-    taken: usize,
+    queue: ByteQueue,
     fault: Option<FrameFault>,
 }
 
 impl Model for Feed {
-    ghost use Rattle.std.specs.Prelude.{◌-◌, drop, vec_len, vec_capacity};
-    ghost use Rattle.paxos_wire.specs.Incoming.{Incoming};
+    ghost use Rattle.byte_queue.specs.Queued.{Queued};
 
-    ghost Value = { Incoming };
+    ghost Value = { Queued };
 
     ghost use Rattle.paxos_wire.specs.FeedInside.{IsKept};
 
-    ghost view = { λ f. record { waiting = drop f.taken f.bytes.items; room = vec_capacity f.bytes - (vec_len f.bytes - f.taken) } };
+    ghost view = { λ f. f.queue };
 
     ghost invariant = { IsKept };
-}
-
-/// How many bytes in front count as taken once `count` more are: past the most that one frame can need,
-/// they are removed.
-fn skip(bytes: &mut Vec<u8>, taken: usize, count: usize) -> usize
-    requires { taken + count ≤ length bytes.old.items }
-    ensures rest { drop result bytes.new.items ≡ drop (taken + count) bytes.old.items }
-    ensures within { result ≤ length bytes.new.items }
-    ensures left { vec_len bytes.new + (taken + count) ≡ vec_len bytes.old + result }
-    ensures capacity { vec_capacity bytes.new ≡ vec_capacity bytes.old }
-    ensures most { result ≤ LENGTH_BYTES + MOST_LENGTH }
-{
-    let all = taken + count;
-    if all <= LENGTH_BYTES + MOST_LENGTH {
-        return all;
-    }
-    remove_front(bytes, all);
-    0
 }
 
 /// Where the frame in front ends, or the length that no frame may have; `None` while it isn't whole.
@@ -94,8 +74,7 @@ impl Feed {
         ensures { result.waiting ≡ [] }
     {
         Feed {
-            bytes: Vec::new(alloc),
-            taken: 0,
+            queue: ByteQueue::new(alloc),
             fault: None,
         }
     }
@@ -112,9 +91,7 @@ impl Feed {
         if self.fault.is_some() {
             return Ok(());
         }
-        self.reserve(piece.len())?;
-        self.feed_reserved(piece);
-        Ok(())
+        self.queue.push(piece)
     }
 
     /// Makes room for so many bytes more, so that `feed_reserved` takes no memory for them. An `Err` changes nothing.
@@ -126,9 +103,7 @@ impl Feed {
         // It fails only where the room is missing.
         ensures full { OnErr result (self.old.room < more) }
     {
-        remove_front(&mut self.bytes, self.taken);
-        self.taken = 0;
-        self.bytes.reserve(more)
+        self.queue.reserve(more)
     }
 
     /// Takes the next piece of the stream into room that was reserved for it; a stream at fault takes no more.
@@ -140,9 +115,7 @@ impl Feed {
         if self.fault.is_some() {
             return;
         }
-        remove_front(&mut self.bytes, self.taken);
-        self.taken = 0;
-        self.bytes.extend_from_slice(piece).unwrap();
+        self.queue.push_reserved(piece);
     }
 
     /// The next message, or the fault in front (50 to 54), told again from then on.
@@ -164,11 +137,10 @@ impl Feed {
         if let Some(fault) = self.fault {
             return Some(Err(fault));
         }
-        let (_, waiting) = self.bytes.split_at(self.taken);
-        match frame_in_front(waiting) {
+        match frame_in_front(self.queue.waiting()) {
             None => None,
             Some((Ok(message), end)) => {
-                self.taken = skip(&mut self.bytes, self.taken, end);
+                self.queue.skip(end);
                 Some(Ok(message))
             }
             Some((Err(fault), _)) => {

@@ -1,4 +1,3 @@
-pub mod Buffered
 pub mod Front
 pub mod Lines
 pub mod Version

@@ -6,8 +6,8 @@ ghost use Rattle.seat_session.specs.Front.{IsFrontOf};
 
 use crate::feeds::line_feeds;
 use crate::front::Front;
+use byte_queue::ByteQueue;
 use matchstate::{MOST_LINE, cut};
-use slot_log::remove_front;
 use std::alloc::{AllocError, Global};
 use std::marker::Model;
 
@@ -20,19 +20,15 @@ const LONGEST_LINE: usize = MOST_LINE;
 /// Contracts see the bytes that weren't taken yet, in order, and the room for more.
 #[derive(Drop)]
 pub(crate) struct LineBuffer {
-    bytes: Vec<u8>,
-    taken: usize,
+    queue: ByteQueue,
 }
 
 impl Model for LineBuffer {
-    ghost use Rattle.std.specs.Prelude.{◌-◌, ◌≤◌, drop, vec_len, vec_capacity};
-    ghost use Rattle.seat_session.specs.Buffered.{Buffered};
+    ghost use Rattle.byte_queue.specs.Queued.{Queued};
 
-    ghost Value = { Buffered };
+    ghost Value = { Queued };
 
-    ghost view = { λ b. record { waiting = drop b.taken b.bytes.items; room = vec_capacity b.bytes - (vec_len b.bytes - b.taken) } };
-
-    ghost invariant = { λ b. b.taken ≤ vec_len b.bytes };
+    ghost view = { λ b. b.queue };
 }
 
 impl LineBuffer {
@@ -41,8 +37,7 @@ impl LineBuffer {
         ensures { result.waiting ≡ [] }
     {
         LineBuffer {
-            bytes: Vec::new(alloc),
-            taken: 0,
+            queue: ByteQueue::new(alloc),
         }
     }
 
@@ -54,9 +49,7 @@ impl LineBuffer {
         ensures err { OnErr result (self.new ≡ self.old) }
         ensures full { OnErr result (self.old.room < length piece.now) }
     {
-        self.reserve(piece.len())?;
-        self.feed_reserved(piece);
-        Ok(())
+        self.queue.push(piece)
     }
 
     /// Makes room for so many bytes more, so that `feed_reserved` takes no memory for them. An `Err`
@@ -68,9 +61,7 @@ impl LineBuffer {
         ensures err { OnErr result (self.new ≡ self.old) }
         ensures full { OnErr result (self.old.room < more) }
     {
-        remove_front(&mut self.bytes, self.taken);
-        self.taken = 0;
-        self.bytes.reserve(more)
+        self.queue.reserve(more)
     }
 
     /// Takes the next piece of the stream into room that was reserved for it.
@@ -79,9 +70,7 @@ impl LineBuffer {
         ensures waiting { self.new.waiting ≡ self.old.waiting ++ piece.now }
         ensures room { self.old.room ≤ self.new.room + length piece.now }
     {
-        remove_front(&mut self.bytes, self.taken);
-        self.taken = 0;
-        self.bytes.extend_from_slice(piece).unwrap();
+        self.queue.push_reserved(piece);
     }
 
     /// How many line feeds stand among the bytes that weren't taken yet.
@@ -110,7 +99,7 @@ impl LineBuffer {
         ensures room { self.old.room ≤ self.new.room }
     {
         if let Some(place) = first_feed(self.waiting()) {
-            self.taken += place + 1;
+            self.queue.skip(place + 1);
         }
     }
 
@@ -129,7 +118,7 @@ impl LineBuffer {
     fn waiting(&self) -> &[u8]
         ensures { result.now ≡ self.now.waiting }
     {
-        &self.bytes[self.taken..]
+        self.queue.waiting()
     }
 
     /// Drops all bytes.
@@ -137,8 +126,7 @@ impl LineBuffer {
         ensures waiting { self.new.waiting ≡ [] }
         ensures room { self.old.room ≤ self.new.room }
     {
-        self.bytes.clear();
-        self.taken = 0;
+        self.queue.clear();
     }
 }
 

@@ -4,7 +4,7 @@ ghost use Rattle.slot_log.specs.SlotsInside.{run_of};
 ghost use Rattle.slot_log.specs.Slots.{Log, find, known_by, with_known, settled};
 
 use crate::command::Command;
-use crate::removal::remove_front;
+use byte_queue::remove_front;
 
 /// A command that is known at a slot.
 #[derive(Clone, Copy, Debug, Drop)]

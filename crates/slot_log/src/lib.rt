@@ -7,7 +7,6 @@
 //! `Effect`. The readers `deal` and `play` give each hand; `finished`, `running` and `over` tell how far the match
 //! is. `SlotLog` begins empty: `put` makes a command known at its slot, and `commands` are those below `front`, the
 //! first slot that isn't known. Calls with `reserved` in their name take no memory, once `reserve` made the room.
-//! `remove_front` is there for every vector that is used up from its front: the log's, and those of bytes above.
 //!
 //! The test `a_match_of_two_hands` of `rule_tests` plays a match, `slots_are_known_one_by_one` fills a log. A command
 //! that doesn't fit is no fault, and the effect says its `Reason`; faults are `SlotFault`, 30 and 31, which change
@@ -21,7 +20,6 @@ pub mod laws;
 pub mod limits;
 mod played_hand;
 mod reason;
-mod removal;
 mod slot_fault;
 mod slots;
 mod table;
@@ -29,7 +27,6 @@ mod table;
 pub use command::Command;
 pub use effect::Effect;
 pub use reason::Reason;
-pub use removal::remove_front;
 pub use slot_fault::SlotFault;
 pub use slots::SlotLog;
 pub use table::Table;

@@ -1,29 +1,29 @@
 use Rattle.std.proofs.lemmas.Grind.{common_steps, elements}
-use Rattle.std.proofs.Common.{◌∙◌, ap, subst, refl, drop, List, ℕ, arith}
-use Rattle.paxos_wire.specs.Incoming.{Incoming}
+use Rattle.std.proofs.Common.{◌∙◌, ap, subst, refl, List, ℕ, arith}
+use Rattle.byte_queue.specs.Queued.{Queued}
 use Rattle.paxos_wire.specs.Stream.{IsFaulty}
 use Rattle.paxos_wire.proofs.StreamLaws.{not_partial}
 use Rattle.paxos_wire.proofs.feed.Feed.next.Goals as goal
 
 pub returns-in-Some-clause-only : goal.returns-in-Some-clause-only
 returns-in-Some-clause-only c =
-    let faulty = rw c.in-Some.is at c.self.invariant.faulty in
-    let waiting_is = ap (λ (f : Incoming). f.waiting) c.self.view_is in
+    let faulty = rw c.in-Some.is at c.self.invariant in
+    let waiting_is = ap (λ (f : Queued). f.waiting) c.self.view_is in
     λ m rest fits e. absurd (faulty.none m rest fits (waiting_is ∙ e))
 
 pub returns-in-Some-clause-fault : goal.returns-in-Some-clause-fault
 returns-in-Some-clause-fault c =
-    let faulty = rw c.in-Some.is at c.self.invariant.faulty in
-    (subst (λ (b : List ℕ). IsFaulty b c.in-Some.fault) (ap (λ (f : Incoming). f.waiting) c.self.view_is) faulty, refl)
+    let faulty = rw c.in-Some.is at c.self.invariant in
+    (subst (λ (b : List ℕ). IsFaulty b c.in-Some.fault) (ap (λ (f : Queued). f.waiting) c.self.view_is) faulty, refl)
 
 pub returns-in-None-clause-only : goal.returns-in-None-clause-only
 returns-in-None-clause-only c =
-    let waiting = c.split_at.ensures.back ∙ ap (drop c.self.inside.taken) c.deref.ensures.value ∙ ap (λ (f : Incoming). f.waiting) c.self.view_is in
-    λ m rest fits e. absurd (not_partial m c.split_at.result.1.now rest fits (waiting ∙ e) (c.in-None.ensures.partial.0 refl))
+    let waiting = c.waiting.ensures ∙ ap (λ (f : Queued). f.waiting) c.self.view_is in
+    λ m rest fits e. absurd (not_partial m c.waiting.result.now rest fits (waiting ∙ e) (c.in-None.ensures.partial.0 refl))
 
 pub returns-in-Some-Err-default-clause-fault : goal.returns-in-Some-Err-default-clause-fault
 returns-in-Some-Err-default-clause-fault c =
-    let waiting = c.split_at.ensures.back ∙ ap (drop c.self.inside.taken) c.deref.ensures.value ∙ ap (λ (f : Incoming). f.waiting) c.self.view_is in
+    let waiting = c.waiting.ensures ∙ ap (λ (f : Queued). f.waiting) c.self.view_is in
     let faulty = rw c.in-Some-Err-default.field-0-0-is at c.in-Some-Err-default.ensures.fault in
     (subst (λ (b : List ℕ). IsFaulty b c.in-Some-Err-default.fault) waiting faulty, c.self.view_is)
 

@@ -1,6 +1,5 @@
-use Rattle.std.proofs.Common.{◌≡◌, ◌+◌, ◌∙◌, sym, ap, drop}
-use Rattle.std.proofs.lemmas.List.{drop-drop}
-use Rattle.seat_session.specs.Buffered.{Buffered}
+use Rattle.std.proofs.Common.{◌≡◌, ◌+◌, ◌∙◌, ap, drop}
+use Rattle.byte_queue.specs.Queued.{Queued}
 use Rattle.seat_session.specs.Lines.{HasNoFeed, Breaks}
 use Rattle.seat_session.proofs.LineLemmas.{drop_line, not_clear, one_break}
 use Rattle.seat_session.proofs.line_buffer.LineBuffer.take_line.Goals as goal
@@ -12,8 +11,8 @@ returns-in-Some-clause-taken c line rest breaks =
     let place = c.in-Some.place in
     let here : Breaks waiting found.0 found.1 = rw (← c.waiting.ensures) found.2 in
     let left : drop (place + 1) waiting ≡ rest = drop_line waiting found.0 found.1 place here found.3 ∙ (one_break waiting found.0 found.1 line rest here breaks).1 in
-    let shown : drop c.self.inside.taken c.self.inside.bytes.items ≡ waiting = ap (λ (b : Buffered). b.waiting) c.self.view_is in
-    sym (drop-drop (place + 1) c.self.inside.taken c.self.inside.bytes.items) ∙ ap (drop (place + 1)) shown ∙ left
+    let shown : c.self.inside.queue.waiting ≡ waiting = ap (λ (b : Queued). b.waiting) c.self.view_is in
+    c.skip.ensures.waiting ∙ ap (drop (place + 1)) shown ∙ left
 
 pub returns-in-Some-clause-none : goal.returns-in-Some-clause-none
 returns-in-Some-clause-none c clear =
