@@ -1,0 +1,114 @@
+"""What the scripts know of the crates: what they stand on, where their refused edits stand, and the minutes that they take."""
+import os
+import re
+from pathlib import Path
+
+TOP = Path(__file__).resolve().parent.parent
+PAGE = TOP / "docs/ARCHITECTURE.md"
+TIMES = TOP / "out/times.md"
+BESIDE = TOP / "wrong-bodies"
+TABLE = re.compile(r"^\| crate \|.*(?:\n\|.*)*\n?", re.M)
+# The columns of processor minutes, in both tables: what proving a crate and its tests took, and what its edits took.
+KINDS = ("minutes of proofs", "of edits")
+# What out/times.md says of a run that did not prove and try everything.
+PARTLY = ("kept from earlier runs", "it failed")
+# What a check of a crate is given of the memory, in bytes. Nearly all take at most 3 GB; the tests of the commands, which
+# are the largest, were seen to take 5.4.
+MEMORY = 5_000_000_000
+
+
+def crates():
+    """The crates in the order of crates.txt, each with the crates that it names."""
+    found = [line.partition(":") for line in (TOP / "crates.txt").read_text().splitlines() if ":" in line]
+    named = {head.split()[0]: rest.split() for head, _, rest in found}
+    return {name: [it for it in below if it in named] for name, below in named.items()}
+
+
+def places(name):
+    """The folders of a crate's refused edits: those that the gate tries, and those beside it."""
+    return TOP / "crates" / name / "must-fail", BESIDE / name
+
+
+def edits(folder):
+    """The refused edits in a folder."""
+    return sorted(folder.glob("*.edit"))
+
+
+def stale(edit):
+    """Why an edit can't be applied to its crate, none if it can: as the kit reads it, a pair of lines after another."""
+    crate = TOP / "crates" / (edit.parent.parent.name if edit.parent.name == "must-fail" else edit.parent.name)
+    texts, path, old, pairs = {}, None, None, 0
+    for line in edit.read_text(encoding="utf-8", errors="replace").split("\n"):
+        if line.startswith("file: "):
+            path = line[len("file: ") :].strip()
+            if not path.startswith(("src/", "specs/", "proofs/")) or not (crate / path).is_file():
+                return f"no file of the crate's src/, specs/ or proofs/: {path}"
+            texts.setdefault(path, (crate / path).read_text(encoding="utf-8"))
+        elif line.startswith("old: "):
+            old = line[len("old: ") :]
+        elif line.startswith("new:"):
+            if not path or not old:
+                return "a line 'new:' stands before any 'file:' or 'old:'"
+            count, new = texts[path].count(old), re.sub("^ ", "", line[len("new:") :])
+            if count != 1 or new == old:
+                return f"an old text stands in {path} {count} times, and not once: {old.strip()}" if count != 1 else "it changes nothing"
+            texts[path] = texts[path].replace(old, new)
+            old, pairs = None, pairs + 1
+    return None if pairs else "it has no pair of lines 'old:' and 'new:'"
+
+
+def faults(folder):
+    """The files in a folder of a crate's refused edits that can't be applied or are no edits, each with why."""
+    for file in sorted(folder.iterdir()) if folder.is_dir() else []:
+        is_edit = file.is_file() and re.fullmatch(r"[\w-][\w.-]*\.edit", file.name, re.A)
+        why = stale(file) if is_edit else "no name of an edit: letters, digits, _, - and ., and .edit at the end"
+        if why:
+            yield file.relative_to(TOP), why
+
+
+def strangers():
+    """What stands in wrong-bodies/ and is no folder of a crate's edits, each with why."""
+    names = crates()
+    for file in sorted(BESIDE.iterdir()) if BESIDE.is_dir() else []:
+        if file.name not in names and file.suffix != ".md":
+            yield file.relative_to(TOP), "crates.txt names no such crate"
+
+
+def figures(text):
+    """The processor minutes in the table of a text, by crate and kind, as far as they stand in it."""
+    found = TABLE.search(text)
+    lines = [[cell.strip(" `") for cell in line.strip("|").split("|")] for line in found[0].splitlines()] if found else [[]]
+    rows = [dict(zip(lines[0], line)) for line in lines[2:]]
+    return {row["crate"]: {kind: float(row[kind]) for kind in KINDS if re.fullmatch(r"\d+(\.\d+)?", row.get(kind, ""))} for row in rows}
+
+
+def in_page():
+    """The minutes that docs/ARCHITECTURE.md tells."""
+    return figures(PAGE.read_text())
+
+
+def measured():
+    """The minutes that the last ./check here measured; none if it left out what earlier runs had passed, or failed."""
+    text = TIMES.read_text() if TIMES.is_file() else ""
+    return {} if any(words in text for words in PARTLY) else figures(text)
+
+
+def lanes():
+    """How many checks run side by side: as many as there are processors, where memory allows, or as RT_JOBS says.
+
+    By itself `rt` sets aside two to seven times what a large crate's check takes, and lets processors idle for that.
+    """
+    given = os.environ.get("RT_JOBS", "")
+    if given.isdigit() and int(given) > 0:
+        return int(given)
+    processors = len(os.sched_getaffinity(0))
+    try:
+        free = int(re.search(r"^MemAvailable:\s+(\d+) kB$", Path("/proc/meminfo").read_text(), re.M)[1]) * 1024
+    except (OSError, TypeError):
+        return processors
+    return min(processors, max(1, free // MEMORY))
+
+
+def surroundings():
+    """The variables that `rt` is run with."""
+    return {**os.environ, "RT_JOBS": str(lanes())}
