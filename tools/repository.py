@@ -78,7 +78,7 @@ def figures(text):
     """The processor minutes in the table of a text, by crate and kind, as far as they stand in it."""
     found = TABLE.search(text)
     lines = [[cell.strip(" `") for cell in line.strip("|").split("|")] for line in found[0].splitlines()] if found else [[]]
-    rows = [dict(zip(lines[0], line)) for line in lines[2:]]
+    rows = [dict(zip(lines[0], line)) for line in lines[2:] if line[0] != "together"]
     return {row["crate"]: {kind: float(row[kind]) for kind in KINDS if re.fullmatch(r"\d+(\.\d+)?", row.get(kind, ""))} for row in rows}
 
 
