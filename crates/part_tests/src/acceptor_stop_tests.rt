@@ -1,13 +1,9 @@
-ghost use Rattle.std.specs.Prelude.{◌≤◌};
-
-use crate::acceptors::{
-    THIRD, accept, accepts, created, created_in_memory, opened, prepare, prepares, promised,
-};
+use crate::acceptors::{THIRD, accept, accepts, created, opened, prepare, prepares, promised};
 use crate::journal::{self, FIRST};
 use crate::samples::{CALL, FOLD, assert_same};
 use acceptor::{AcceptAnswer, Acceptor, PrepareAnswer};
 use paxos_wire::Ballot;
-use promise_store::{Disk, OnceDisk, StoreFault};
+use promise_store::{Disk, MemoryDisk, OnceDisk, StoreFault};
 use std::alloc::Global;
 use std::process::Abort;
 use std::test::Fail;
@@ -49,20 +45,41 @@ fn accepts_below<D: Disk>(rt: &impl Abort, acceptor: &mut Acceptor<D>) -> Result
     }
 }
 
-/// Whether a Prepare of a new store, on a disk that fails after so many calls of it, was promised; and whether a
-/// proposal below it is accepted after the disk stopped with this pick.
+/// The acceptor of a new store that is opened again on the disk, unless one of the two fails.
+fn created_and_opened<D: Disk + Drop>(alloc: Global, disk: D) -> Option<Acceptor<D>> {
+    let Ok(store) = journal::create(alloc, disk) else {
+        return None;
+    };
+    let Ok(store) = journal::open(alloc, store.close()) else {
+        return None;
+    };
+    Some(Acceptor::new(store))
+}
+
+/// What is left of a Prepare: whether it was promised, and once the disk stopped with a pick, whether the promise is there
+/// and whether a proposal below it is accepted.
+type Left = (bool, bool, bool);
+
+/// What is left of create, open and a Prepare on a disk that fails from its call of this number on, and stops with this
+/// pick; `None` where create or open failed.
 fn left_of_a_prepare(
     rt: &impl Abort,
     alloc: Global,
     calls: u64,
     pick: u64,
-) -> Result<(bool, bool), Fail>
-    requires { calls ≤ 4 }
-{
-    let mut acceptor = created_in_memory(rt, alloc, &[2 + calls])?;
-    let promised = promises(rt, &mut acceptor);
+) -> Result<Option<Left>, Fail> {
+    let disk = MemoryDisk::new(alloc, &[calls])?;
+    let Some(mut acceptor) = created_and_opened(alloc, disk) else {
+        return Ok(None);
+    };
+    let is_promised = promises(rt, &mut acceptor);
     let mut acceptor = stopped(rt, alloc, acceptor, pick);
-    Ok((promised, accepts_below(rt, &mut acceptor)?))
+    let is_there = promised(&acceptor) == THIRD;
+    Ok(Some((
+        is_promised,
+        is_there,
+        accepts_below(rt, &mut acceptor)?,
+    )))
 }
 
 /// This is left of a Prepare.
@@ -71,44 +88,51 @@ fn is_left(
     alloc: Global,
     calls: u64,
     pick: u64,
-    expected: (bool, bool),
-) -> Result<(), Fail>
-    requires { calls ≤ 4 }
-{
+    expected: Option<Left>,
+) -> Result<(), Fail> {
     assert_same(rt, left_of_a_prepare(rt, alloc, calls, pick)?, expected);
     Ok(())
 }
 
-/// Whether a proposal below is accepted where the last or the last two calls of the promise failed.
-fn is_lost(rt: &impl Abort, alloc: Global, calls: u64, pick: u64) -> Result<bool, Fail>
-    requires { calls ≤ 4 }
-{
+/// Without the third call of a promise none is there, and after its fourth one is.
+fn is_left_for_certain(rt: &impl Abort, alloc: Global, pick: u64) -> Result<(), Fail> {
+    for calls in 0..6u64 {
+        is_left(rt, alloc, calls, pick, None)?;
+    }
+    is_left(rt, alloc, 6, pick, Some((false, false, true)))?;
+    is_left(rt, alloc, 7, pick, Some((false, false, true)))?;
+    is_left(rt, alloc, 10, pick, Some((true, true, false)))
+}
+
+/// Between the two it depends on the pick: where it isn't there a proposal below is accepted.
+fn is_kept(rt: &impl Abort, alloc: Global, calls: u64, pick: u64) -> Result<bool, Fail> {
     match left_of_a_prepare(rt, alloc, calls, pick)? {
-        (false, accepted) => Ok(accepted),
-        (true, _) => panic!(rt; "a promise that isn't stored"),
+        Some((false, is_there, is_accepted)) => {
+            assert!(rt; is_there != is_accepted);
+            Ok(is_there)
+        }
+        _ => panic!(rt; "a promise that isn't stored"),
     }
 }
 
-/// A promise takes four calls of the disk: without the third it is in no image, after the fourth in each.
+/// Create takes two calls of the disk, open four here, and a promise four.
 #[test]
 fn stops_in_a_promise(rt: HostRuntime) -> Result<(), Fail> {
     let alloc = rt.alloc();
-    let mut accepted = false;
-    let mut refused = false;
+    let mut kept = false;
+    let mut lost = false;
     for pick in 0..9u64 {
-        is_left(&rt, alloc, 0, pick, (false, true))?;
-        is_left(&rt, alloc, 1, pick, (false, true))?;
-        for calls in 2..4u64 {
-            if is_lost(&rt, alloc, calls, pick)? {
-                accepted = true;
+        is_left_for_certain(&rt, alloc, pick)?;
+        for calls in 8..10u64 {
+            if is_kept(&rt, alloc, calls, pick)? {
+                kept = true;
             } else {
-                refused = true;
+                lost = true;
             }
         }
-        is_left(&rt, alloc, 4, pick, (true, false))?;
     }
-    assert!(rt; accepted);
-    assert!(rt; refused);
+    assert!(rt; kept);
+    assert!(rt; lost);
     Ok(())
 }
 
@@ -143,9 +167,25 @@ fn created_at_last(
 ) -> Acceptor<OnceDisk> {
     match journal::create(alloc, disk) {
         Ok(store) => Acceptor::new(store),
-        Err((disk, _)) => {
-            *faults = faults.saturating_add(1);
+        Err((disk, fault)) => {
+            count(rt, fault, faults);
             created(rt, alloc, disk)
+        }
+    }
+}
+
+/// The acceptor with its store opened again, once more where a call of the disk fails: that is counted.
+fn opened_at_last(
+    rt: &impl Abort,
+    alloc: Global,
+    acceptor: Acceptor<OnceDisk>,
+    faults: &mut u32,
+) -> Acceptor<OnceDisk> {
+    match journal::open(alloc, acceptor.close()) {
+        Ok(store) => Acceptor::new(store),
+        Err((disk, fault)) => {
+            count(rt, fault, faults);
+            opened(rt, alloc, disk)
         }
     }
 }
@@ -215,21 +255,26 @@ fn fails_once(
     call: u64,
     faults: &mut u32,
 ) -> Result<(), StoreFault> {
-    let acceptor = created_at_last(rt, alloc, OnceDisk::new(alloc, call), faults);
+    let disk = OnceDisk::new(alloc, call);
+    assert!(rt; disk.bytes().is_empty());
+    let acceptor = created_at_last(rt, alloc, disk, faults);
+    let acceptor = opened_at_last(rt, alloc, acceptor, faults);
     let acceptor = promised_at_last(rt, alloc, acceptor, faults)?;
-    let mut acceptor = accepted_at_last(rt, alloc, acceptor, faults);
+    let acceptor = accepted_at_last(rt, alloc, acceptor, faults);
+    let mut acceptor = opened_at_last(rt, alloc, acceptor, faults);
     keeps_both(rt, &mut acceptor);
     Ok(())
 }
 
-/// Each call of the disk fails alone, in create, a promise and an accept; behind it the same frame is answered again.
+/// Each call of the disk fails alone, in create, open, a promise, an accept and the next open; behind it the same is asked
+/// again, and answered.
 #[test]
 fn each_call_fails_once(rt: HostRuntime) -> Result<(), Fail> {
     let alloc = rt.alloc();
     let mut faults = 0u32;
-    for call in 0..11u64 {
+    for call in 0..19u64 {
         fails_once(&rt, alloc, call, &mut faults)?;
     }
-    assert_same(&rt, faults, 10);
+    assert_same(&rt, faults, 18);
     Ok(())
 }

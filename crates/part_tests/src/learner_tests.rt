@@ -1,278 +1,240 @@
-ghost use Rattle.std.specs.Prelude.{◌≡◌, ◌<◌};
+ghost use Rattle.std.specs.Prelude.{◌≡◌};
 
-use crate::samples::{CALL, FOLD, RAISE, assert_same, ballot};
+use crate::samples::{act, assert_same};
+use betting::Action;
 use learner::{Chosen, Learner};
 use paxos_wire::Ballot;
 use slot_log::{Command, SlotFault};
-use std::alloc::AllocError;
+use std::alloc::{AllocError, Global};
 use std::process::Abort;
 use std::test::Fail;
 
+/// What comes to a learner: a node's answer that it accepted in a ballot, or another node's word of what was chosen.
+#[derive(Clone, Copy)]
+enum Said {
+    Accepted(u8, Ballot),
+    Chosen,
+}
+
+/// What a call answers: what it completes, if anything, or why it is refused.
+type Answer = Result<Option<Chosen>, SlotFault>;
+
+/// What comes, of which slot and act, whether that completes a quorum for the act at the slot or why it is refused, and the
+/// first slot that isn't known then.
+type Call = (Said, u32, Action, Result<bool, SlotFault>, u32);
+
 // Each call of a learner stands in one function here: what a contract says is read anew wherever its call stands.
 
-/// What a node's answer comes to.
-fn answered(
-    learner: &mut Learner,
-    from: u8,
-    ballot: Ballot,
-    slot: u32,
-    command: Command,
-) -> Result<Result<Option<Chosen>, SlotFault>, AllocError>
-    requires { from < learner.old.learned.nodes }
-    ensures { learner.new.learned.nodes ≡ learner.old.learned.nodes }
-{
-    learner.on_accepted(from, ballot, slot, command)
-}
-
-/// Counts a node's answer, which completes just what is told here.
-fn counts(
+/// What a learner of so many nodes answers.
+fn answer(
     rt: &impl Abort,
     learner: &mut Learner,
-    from: u8,
-    ballot: Ballot,
+    nodes: u8,
+    said: Said,
     slot: u32,
     command: Command,
-    told: Option<Chosen>,
-) -> Result<(), AllocError>
-    requires { from < learner.old.learned.nodes }
-    ensures { learner.new.learned.nodes ≡ learner.old.learned.nodes }
+) -> Result<Answer, AllocError>
+    requires { learner.old.learned.nodes ≡ nodes }
+    ensures { learner.new.learned.nodes ≡ nodes }
 {
-    let answer = answered(learner, from, ballot, slot, command)?;
-    assert_same(rt, answer.ok(), Some(told));
-    Ok(())
+    match said {
+        Said::Accepted(from, ballot) => {
+            assert!(rt; from < nodes);
+            learner.on_accepted(from, ballot, slot, command)
+        }
+        Said::Chosen => match learner.on_chosen(slot, command)? {
+            Ok(()) => Ok(Ok(None)),
+            Err(fault) => Ok(Err(fault)),
+        },
+    }
 }
 
-/// Counts a node's answer, which isn't refused.
-fn is_counted(
+/// The same where room is made before.
+fn answer_in_room(
     rt: &impl Abort,
     learner: &mut Learner,
-    from: u8,
-    ballot: Ballot,
-    slot: u32,
-) -> Result<(), AllocError>
-    requires { from < learner.old.learned.nodes }
-    ensures { learner.new.learned.nodes ≡ learner.old.learned.nodes }
-{
-    let answer = answered(learner, from, ballot, slot, CALL)?;
-    assert!(rt; answer.is_ok());
-    Ok(())
-}
-
-/// What another node's word comes to.
-fn believed(
-    learner: &mut Learner,
+    nodes: u8,
+    said: Said,
     slot: u32,
     command: Command,
-) -> Result<Result<(), SlotFault>, AllocError>
-    ensures { learner.new.learned.nodes ≡ learner.old.learned.nodes }
+) -> Result<Answer, AllocError>
+    requires { learner.old.learned.nodes ≡ nodes }
+    ensures { learner.new.learned.nodes ≡ nodes }
 {
-    learner.on_chosen(slot, command)
+    learner.reserve(1)?;
+    match said {
+        Said::Accepted(from, ballot) => {
+            assert!(rt; from < nodes);
+            Ok(learner.on_accepted_reserved(from, ballot, slot, command))
+        }
+        Said::Chosen => match learner.on_chosen_reserved(slot, command) {
+            Ok(()) => Ok(Ok(None)),
+            Err(fault) => Ok(Err(fault)),
+        },
+    }
 }
 
-/// Believes another node's word, which isn't refused.
-fn believes(
+/// The answer to a call: what it completes at its slot, if anything, or why it is refused.
+fn answer_of(slot: u32, command: Command, completes: Result<bool, SlotFault>) -> Answer {
+    match completes {
+        Ok(true) => Ok(Some(Chosen { slot, command })),
+        Ok(false) => Ok(None),
+        Err(fault) => Err(fault),
+    }
+}
+
+/// Sees what is answered to a call, and the front then.
+fn answers(
     rt: &impl Abort,
     learner: &mut Learner,
-    slot: u32,
-    command: Command,
+    nodes: u8,
+    call: Call,
+    in_room: bool,
 ) -> Result<(), AllocError>
-    ensures { learner.new.learned.nodes ≡ learner.old.learned.nodes }
+    requires { learner.old.learned.nodes ≡ nodes }
+    ensures { learner.new.learned.nodes ≡ nodes }
 {
-    let answer = believed(learner, slot, command)?;
-    assert!(rt; answer.is_ok());
-    Ok(())
-}
-
-/// The first slot that isn't known.
-fn front(learner: &Learner) -> u32 {
-    learner.log().front()
-}
-
-/// Whether the command is known at the slot.
-fn knows(learner: &Learner, slot: u32, command: &Command) -> bool {
-    learner.log().get(slot) == Some(command)
-}
-
-/// Counts the same answer of node 1 of 3 three times, which completes nothing.
-fn counts_one_node_thrice(rt: &impl Abort, learner: &mut Learner) -> Result<(), AllocError>
-    requires { learner.old.learned.nodes ≡ 3 }
-    ensures { learner.new.learned.nodes ≡ 3 }
-{
-    let own = ballot(1, 0);
-    counts(rt, learner, 1, own, 0, CALL, None)?;
-    counts(rt, learner, 1, own, 0, CALL, None)?;
-    counts(rt, learner, 1, own, 0, CALL, None)?;
-    assert_same(rt, front(learner), 0);
-    Ok(())
-}
-
-/// Counts the same answer of node 2 of 3, which completes a quorum.
-fn counts_another_node(rt: &impl Abort, learner: &mut Learner) -> Result<(), AllocError>
-    requires { learner.old.learned.nodes ≡ 3 }
-{
-    let told = Chosen {
-        slot: 0,
-        command: CALL,
+    let (said, slot, action, wanted, front) = call;
+    let command = act(action);
+    let answer = if in_room {
+        answer_in_room(rt, learner, nodes, said, slot, command)?
+    } else {
+        answer(rt, learner, nodes, said, slot, command)?
     };
-    counts(rt, learner, 2, ballot(1, 0), 0, CALL, Some(told))?;
-    assert_same(rt, front(learner), 1);
+    assert_same(rt, answer, answer_of(slot, command, wanted));
+    assert_same(rt, learner.log().front(), front);
     Ok(())
 }
+
+/// Sees what is answered to calls.
+fn answers_all(
+    rt: &impl Abort,
+    learner: &mut Learner,
+    nodes: u8,
+    calls: &[Call],
+    in_room: bool,
+) -> Result<(), AllocError>
+    requires { learner.old.learned.nodes ≡ nodes }
+{
+    for at in 0..calls.len() {
+        answers(rt, learner, nodes, calls[at], in_room)?;
+    }
+    Ok(())
+}
+
+/// Sees what a learner of so many nodes answers to calls, and the act that it knows at a slot then; none where nothing is.
+fn learns(
+    rt: &impl Abort,
+    alloc: Global,
+    nodes: u8,
+    calls: &[Call],
+    known: (u32, Option<Action>),
+) -> Result<(), AllocError> {
+    assert!(rt; nodes <= 5);
+    let mut learner = Learner::new(alloc, nodes)?;
+    answers_all(rt, &mut learner, nodes, calls, false)?;
+    knows(rt, &learner, known);
+    Ok(())
+}
+
+/// Sees the act that is known at a slot; none where nothing is.
+fn knows(rt: &impl Abort, learner: &Learner, known: (u32, Option<Action>)) {
+    let (slot, action) = known;
+    assert_same(rt, learner.log().get(slot).copied(), action.map(act));
+}
+
+const FIRST: Ballot = Ballot { round: 1, node: 0 };
+
+const BESIDE: Ballot = Ballot { round: 1, node: 1 };
+
+const SECOND: Ballot = Ballot { round: 2, node: 0 };
+
+const THIRD: Ballot = Ballot { round: 2, node: 1 };
+
+const FOURTH: Ballot = Ballot { round: 4, node: 2 };
+
+/// The same answer of node 1 of 3 three times, which completes nothing, and that of node 2, which completes a quorum.
+static ONE_NODE_THRICE: [Call; 4] = [
+    (Said::Accepted(1, FIRST), 0, Action::Call, Ok(false), 0),
+    (Said::Accepted(1, FIRST), 0, Action::Call, Ok(false), 0),
+    (Said::Accepted(1, FIRST), 0, Action::Call, Ok(false), 0),
+    (Said::Accepted(2, FIRST), 0, Action::Call, Ok(true), 1),
+];
 
 /// One answer three times is of one node.
 #[test]
 fn nodes_are_counted(rt: HostRuntime) -> Result<(), Fail> {
-    let mut learner = Learner::new(rt.alloc(), 3)?;
-    counts_one_node_thrice(&rt, &mut learner)?;
-    counts_another_node(&rt, &mut learner)?;
+    learns(&rt, rt.alloc(), 3, &ONE_NODE_THRICE, (0, Some(Action::Call)))?;
     Ok(())
 }
 
-/// Counts the answers of five nodes at slot 0, in one ballot, of two, two and one to a command.
-fn splits_by_commands(rt: &impl Abort, learner: &mut Learner) -> Result<(), AllocError>
-    requires { learner.old.learned.nodes ≡ 5 }
-    ensures { learner.new.learned.nodes ≡ 5 }
-{
-    let own = ballot(1, 0);
-    counts(rt, learner, 0, own, 0, CALL, None)?;
-    counts(rt, learner, 1, own, 0, CALL, None)?;
-    counts(rt, learner, 2, own, 0, FOLD, None)?;
-    counts(rt, learner, 3, own, 0, FOLD, None)?;
-    counts(rt, learner, 4, own, 0, RAISE, None)
-}
-
-/// Counts the answers of five nodes at slot 1, of one command, of two, two and one to a ballot.
-fn splits_by_ballots(rt: &impl Abort, learner: &mut Learner) -> Result<(), AllocError>
-    requires { learner.old.learned.nodes ≡ 5 }
-{
-    let own = ballot(1, 0);
-    let second = ballot(2, 0);
-    counts(rt, learner, 0, own, 1, CALL, None)?;
-    counts(rt, learner, 1, own, 1, CALL, None)?;
-    counts(rt, learner, 2, second, 1, CALL, None)?;
-    counts(rt, learner, 3, second, 1, CALL, None)?;
-    counts(rt, learner, 4, ballot(2, 1), 1, CALL, None)
-}
+/// The answers of five nodes, of two, two and one to a command at slot 0, and to a ballot at slot 1.
+static SPLITS: [Call; 10] = [
+    (Said::Accepted(0, FIRST), 0, Action::Call, Ok(false), 0),
+    (Said::Accepted(1, FIRST), 0, Action::Call, Ok(false), 0),
+    (Said::Accepted(2, FIRST), 0, Action::Fold, Ok(false), 0),
+    (Said::Accepted(3, FIRST), 0, Action::Fold, Ok(false), 0),
+    (Said::Accepted(4, FIRST), 0, Action::Raise(20), Ok(false), 0),
+    (Said::Accepted(0, FIRST), 1, Action::Call, Ok(false), 0),
+    (Said::Accepted(1, FIRST), 1, Action::Call, Ok(false), 0),
+    (Said::Accepted(2, SECOND), 1, Action::Call, Ok(false), 0),
+    (Said::Accepted(3, SECOND), 1, Action::Call, Ok(false), 0),
+    (Said::Accepted(4, THIRD), 1, Action::Call, Ok(false), 0),
+];
 
 /// Five nodes that split into two, two and one choose nothing, be it by commands or by ballots.
 #[test]
 fn splits_choose_nothing(rt: HostRuntime) -> Result<(), Fail> {
-    let mut learner = Learner::new(rt.alloc(), 5)?;
-    splits_by_commands(&rt, &mut learner)?;
-    splits_by_ballots(&rt, &mut learner)?;
-    assert_same(&rt, front(&learner), 0);
+    learns(&rt, rt.alloc(), 5, &SPLITS, (1, None))?;
     Ok(())
 }
 
-/// Counts node 0 of 3 at slots 64 and 0, and believes another command at slot 0: the front passes it.
-fn passes_slot_0(rt: &impl Abort, learner: &mut Learner) -> Result<(), AllocError>
-    requires { learner.old.learned.nodes ≡ 3 }
-    ensures { learner.new.learned.nodes ≡ 3 }
-{
-    let own = ballot(4, 2);
-    counts(rt, learner, 0, own, 64, CALL, None)?;
-    counts(rt, learner, 0, own, 0, CALL, None)?;
-    believes(rt, learner, 0, FOLD)?;
-    assert_same(rt, front(learner), 1);
-    Ok(())
-}
-
-/// Counts the other two of three nodes at slot 64, and node 0 again between them, which completes a quorum.
-fn completes_slot_64(rt: &impl Abort, learner: &mut Learner) -> Result<(), AllocError>
-    requires { learner.old.learned.nodes ≡ 3 }
-{
-    let own = ballot(4, 2);
-    counts(rt, learner, 1, own, 64, CALL, None)?;
-    let told = Chosen {
-        slot: 64,
-        command: CALL,
-    };
-    counts(rt, learner, 0, own, 64, CALL, Some(told))?;
-    counts(rt, learner, 2, own, 64, CALL, None)?;
-    assert!(rt; knows(learner, 64, &CALL));
-    assert_same(rt, front(learner), 1);
-    Ok(())
-}
+/// Node 0 of 3 at slots 64 and 0, and the word of another command at slot 0, which the front passes; then the other two
+/// nodes at slot 64, and node 0 again between them, which completes a quorum.
+static WINDOW: [Call; 6] = [
+    (Said::Accepted(0, FOURTH), 64, Action::Call, Ok(false), 0),
+    (Said::Accepted(0, FOURTH), 0, Action::Call, Ok(false), 0),
+    (Said::Chosen, 0, Action::Fold, Ok(false), 1),
+    (Said::Accepted(1, FOURTH), 64, Action::Call, Ok(false), 1),
+    (Said::Accepted(0, FOURTH), 64, Action::Call, Ok(true), 1),
+    (Said::Accepted(2, FOURTH), 64, Action::Call, Ok(false), 1),
+];
 
 /// The cell of slot 0 is that of slot 64 once the front has passed it.
 #[test]
 fn the_window_moves(rt: HostRuntime) -> Result<(), Fail> {
-    let mut learner = Learner::new(rt.alloc(), 3)?;
-    passes_slot_0(&rt, &mut learner)?;
-    completes_slot_64(&rt, &mut learner)?;
+    learns(&rt, rt.alloc(), 3, &WINDOW, (64, Some(Action::Call)))?;
     Ok(())
 }
 
-/// Believes a command at slot 2, where another is refused then.
-fn refuses_another_word(rt: &impl Abort, learner: &mut Learner) -> Result<(), AllocError>
-    ensures { learner.new.learned.nodes ≡ learner.old.learned.nodes }
-{
-    learner.reserve(4)?;
-    believes(rt, learner, 2, FOLD)?;
-    let answer = believed(learner, 2, CALL)?;
-    assert_same(rt, answer.err(), Some(SlotFault::Conflict));
-    Ok(())
-}
-
-/// Node 1's answer at slot 2 is refused.
-fn refuses_the_second(rt: &impl Abort, learner: &mut Learner) -> Result<(), AllocError>
-    requires { learner.old.learned.nodes ≡ 3 }
-    ensures { learner.new.learned.nodes ≡ 3 }
-{
-    let answer = answered(learner, 1, ballot(1, 1), 2, CALL)?;
-    assert_same(rt, answer.err(), Some(SlotFault::Conflict));
-    Ok(())
-}
-
-/// Counts two of three nodes at slot 2, where another command is known: the second is refused, and then again.
-fn refuses_a_quorum(rt: &impl Abort, learner: &mut Learner) -> Result<(), AllocError>
-    requires { learner.old.learned.nodes ≡ 3 }
-{
-    is_counted(rt, learner, 0, ballot(1, 1), 2)?;
-    refuses_the_second(rt, learner)?;
-    refuses_the_second(rt, learner)?;
-    assert!(rt; knows(learner, 2, &FOLD));
-    Ok(())
-}
+/// The word of a command at slot 2, where another word is refused then, and the answer that would complete a quorum for
+/// another command, each time.
+static CONFLICTS: [Call; 5] = [
+    (Said::Chosen, 2, Action::Fold, Ok(false), 0),
+    (Said::Chosen, 2, Action::Call, Err(SlotFault::Conflict), 0),
+    (Said::Accepted(0, BESIDE), 2, Action::Call, Ok(false), 0),
+    (Said::Accepted(1, BESIDE), 2, Action::Call, Err(SlotFault::Conflict), 0),
+    (Said::Accepted(1, BESIDE), 2, Action::Call, Err(SlotFault::Conflict), 0),
+];
 
 /// Another command than the one that is known is refused, and nothing has changed.
 #[test]
 fn another_command_is_refused(rt: HostRuntime) -> Result<(), Fail> {
-    let mut learner = Learner::new(rt.alloc(), 3)?;
-    refuses_another_word(&rt, &mut learner)?;
-    refuses_a_quorum(&rt, &mut learner)?;
+    learns(&rt, rt.alloc(), 3, &CONFLICTS, (2, Some(Action::Fold)))?;
     Ok(())
 }
 
-/// Makes room and counts two of three nodes at slot 0.
-fn counts_with_room(rt: &impl Abort, learner: &mut Learner) -> Result<(), AllocError>
-    requires { learner.old.learned.nodes ≡ 3 }
-{
-    learner.reserve(3)?;
-    if learner
-        .on_accepted_reserved(0, ballot(1, 0), 0, CALL)
-        .is_err()
-    {
-        panic!(rt; "nothing is known there");
-    }
-    is_counted(rt, learner, 2, ballot(1, 0), 0)
-}
-
-/// Makes room and believes a command at slot 1; the front passes both slots.
-fn believes_with_room(rt: &impl Abort, learner: &mut Learner) -> Result<(), AllocError> {
-    learner.reserve(1)?;
-    if learner.on_chosen_reserved(1, FOLD).is_err() {
-        panic!(rt; "nothing is known there");
-    }
-    assert_same(rt, front(learner), 2);
-    Ok(())
-}
+/// The answers of two of three nodes at slot 0, and the word of a command at slot 1: the front passes both.
+static IN_ROOM: [Call; 3] = [
+    (Said::Accepted(0, FIRST), 0, Action::Call, Ok(false), 0),
+    (Said::Accepted(2, FIRST), 0, Action::Call, Ok(true), 1),
+    (Said::Chosen, 1, Action::Fold, Ok(false), 2),
+];
 
 /// Where there is room, calls want no memory.
 #[test]
 fn calls_with_room(rt: HostRuntime) -> Result<(), Fail> {
     let mut learner = Learner::new(rt.alloc(), 3)?;
-    counts_with_room(&rt, &mut learner)?;
-    believes_with_room(&rt, &mut learner)?;
+    answers_all(&rt, &mut learner, 3, &IN_ROOM, true)?;
     Ok(())
 }

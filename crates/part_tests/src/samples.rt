@@ -1,7 +1,6 @@
-//! The commands and ballots that tests of several parts are about, and how values and the print of a fault are compared.
+//! The commands that tests of several parts are about, and how values and the print of a fault are compared.
 
 use betting::Action;
-use paxos_wire::Ballot;
 use slot_log::Command;
 use std::alloc::{AllocError, Global};
 use std::fmt::{Debug, Display};
@@ -19,14 +18,13 @@ pub(crate) const FOLD: Command = Command::Act {
     action: Action::Fold,
 };
 
-pub(crate) const RAISE: Command = Command::Act {
-    hand: 0,
-    index: 0,
-    action: Action::Raise(20),
-};
-
-pub(crate) fn ballot(round: u32, node: u8) -> Ballot {
-    Ballot { round, node }
+/// The first act of the first hand, for tables, which can't have a command.
+pub(crate) fn act(action: Action) -> Command {
+    Command::Act {
+        hand: 0,
+        index: 0,
+        action,
+    }
 }
 
 // What `assert_eq!` makes is proved anew wherever it stands, so it stands in the functions below.

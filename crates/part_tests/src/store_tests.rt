@@ -1,12 +1,12 @@
 ghost use Rattle.std.specs.Prelude.{◌≡◌, ◌≤◌, ◌<◌, length};
 
 use crate::journal::{
-    FIRST, JOURNAL, accept, answer, create, created, created_in_memory, deal, disk_with, entry,
-    has_both, keeps_both, next, open, opened, promise, store_both,
+    FIRST, JOURNAL, accept, answer, created, created_in_memory, deal, disk_with, entry, has_both,
+    keeps_both, next, opened, promise, store_both,
 };
 use crate::samples::{assert_bytes, assert_same, assert_text, prints};
 use paxos_wire::Ballot;
-use promise_store::{Call, Disk, MemoryDisk, OnceDisk, Store, StoreFault};
+use promise_store::{Call, Disk, MemoryDisk, Store, StoreFault};
 use std::alloc::{AllocError, Global};
 use std::process::Abort;
 use std::test::Fail;
@@ -97,103 +97,21 @@ fn the_four_calls_of_an_append(rt: HostRuntime) -> Result<(), Fail> {
     Ok(())
 }
 
-/// A new store of the disk that is opened again, unless one of the two fails.
-fn created_and_opened<D: Disk + Drop>(alloc: Global, disk: D) -> Option<Store<D>> {
-    let Ok(store) = create(alloc, disk) else {
-        return None;
-    };
-    let Ok(store) = open(alloc, store.close()) else {
-        return None;
-    };
-    Some(store)
-}
-
-/// Stores the promise of the first ballot; where that fails, the store is closed, and answers so.
-fn promise_or_close<D: Disk>(rt: &impl Abort, store: &mut Store<D>) {
+/// The fourth call of an accept fails: the store is closed, and answers so.
+fn is_closed_in_an_accept<D: Disk>(rt: &impl Abort, store: &mut Store<D>) {
     assert!(rt; !store.is_closed());
-    if promise(store).is_err() {
-        assert!(rt; store.is_closed());
-        assert!(rt; store.failures() > 0);
-        assert_same(rt, promise(store), Err(StoreFault::Closed));
-        assert_same(rt, entry(store, 0), Err(StoreFault::Closed));
-    }
-}
-
-/// What is left of create, open and one promise of a disk that fails from its call of this number on, once it stopped
-/// with this pick: whether the promise is there; `None` where create or open failed.
-fn left_of_a_promise(
-    rt: &impl Abort,
-    alloc: Global,
-    calls: u64,
-    pick: u64,
-) -> Result<Option<bool>, Fail> {
-    let disk = MemoryDisk::new(alloc, &[calls])?;
-    let Some(mut store) = created_and_opened(alloc, disk) else {
-        return Ok(None);
-    };
-    promise_or_close(rt, &mut store);
-    let mut disk = store.close();
-    disk.stop(pick);
-    let store = opened(rt, alloc, disk);
-    Ok(Some(store.held().promised() == FIRST))
-}
-
-/// This is left of a promise.
-fn is_left(
-    rt: &impl Abort,
-    alloc: Global,
-    calls: u64,
-    pick: u64,
-    expected: Option<bool>,
-) -> Result<(), Fail> {
-    assert_same(rt, left_of_a_promise(rt, alloc, calls, pick)?, expected);
-    Ok(())
-}
-
-/// Without the third call of a promise none is there, and after its fourth one is.
-fn is_left_for_certain(rt: &impl Abort, alloc: Global, pick: u64) -> Result<(), Fail> {
-    for calls in 0..6u64 {
-        is_left(rt, alloc, calls, pick, None)?;
-    }
-    is_left(rt, alloc, 6, pick, Some(false))?;
-    is_left(rt, alloc, 7, pick, Some(false))?;
-    is_left(rt, alloc, 10, pick, Some(true))
-}
-
-/// Between the two it depends on the pick.
-fn is_kept(rt: &impl Abort, alloc: Global, calls: u64, pick: u64) -> Result<bool, Fail> {
-    match left_of_a_promise(rt, alloc, calls, pick)? {
-        Some(is_there) => Ok(is_there),
-        None => panic!(rt; "neither"),
-    }
-}
-
-/// Create takes two calls, open four here, and a promise four.
-#[test]
-fn stops_in_a_promise(rt: HostRuntime) -> Result<(), Fail> {
-    let alloc = rt.alloc();
-    let mut kept = false;
-    let mut lost = false;
-    for pick in 0..9u64 {
-        is_left_for_certain(&rt, alloc, pick)?;
-        for calls in 8..10u64 {
-            if is_kept(&rt, alloc, calls, pick)? {
-                kept = true;
-            } else {
-                lost = true;
-            }
-        }
-    }
-    assert!(rt; kept);
-    assert!(rt; lost);
-    Ok(())
+    assert_same(rt, accept(rt, store), Err(StoreFault::Disk));
+    assert!(rt; store.is_closed());
+    assert!(rt; store.failures() > 0);
+    assert_same(rt, promise(store), Err(StoreFault::Closed));
+    assert_same(rt, entry(store, 0), Err(StoreFault::Closed));
 }
 
 /// The disk after a stop with this pick between the third and the fourth call of an accept.
 fn stopped_in_an_accept(rt: &impl Abort, alloc: Global, pick: u64) -> Result<MemoryDisk, Fail> {
     let mut store = created_in_memory(rt, alloc, &[9])?;
     promise(&mut store)?;
-    assert_same(rt, accept(rt, &mut store), Err(StoreFault::Disk));
+    is_closed_in_an_accept(rt, &mut store);
     let mut disk = store.close();
     disk.stop(pick);
     Ok(disk)
@@ -228,33 +146,36 @@ fn answers(rt: &impl Abort, alloc: Global, bytes: &[u8], code: u8) -> Result<(),
     Ok(())
 }
 
-/// The header of node 0 of 3 with a gate, and what isn't that header.
-fn headers(rt: &impl Abort, alloc: Global) -> Result<(), Fail> {
-    answers(rt, alloc, &[], 60)?;
-    answers(rt, alloc, &JOURNAL[..7], 61)?;
-    answers(rt, alloc, &JOURNAL[..8], 61)?;
-    answers(rt, alloc, &[0x48, 0x44, 0x4a, 0x31, 1, 3, 0, 0, 0], 61)?;
-    answers(rt, alloc, &[0x48, 0x44, 0x4a, 0x31, 0, 5, 0, 0, 0], 61)?;
-    answers(rt, alloc, &[0x48, 0x44, 0x4a, 0x31, 0, 3, 0, 0, 0], 0)
-}
-
-/// An open gate before no record.
-fn open_gates(rt: &impl Abort, alloc: Global) -> Result<(), Fail> {
-    let no_gate = [
-        0x48, 0x44, 0x4a, 0x31, 0, 3, 0, 0, 1, 0, 6, 1, 0, 0, 0, 1, 0,
-    ];
-    answers(rt, alloc, &no_gate, 62)?;
-    let too_long = [
-        0x48, 0x44, 0x4a, 0x31, 0, 3, 0, 0, 1, 0, 7, 1, 0, 0, 0, 1, 0, 0,
-    ];
-    answers(rt, alloc, &too_long, 62)
-}
+/// Files, and what opening them answers: none, the header of node 0 of 3 with a gate and what isn't that header, and open
+/// gates before no record.
+static FILES: [(&[u8], u8); 8] = [
+    (&[], 60),
+    (&[0x48, 0x44, 0x4a, 0x31, 0, 3, 0], 61),
+    (&[0x48, 0x44, 0x4a, 0x31, 0, 3, 0, 0], 61),
+    (&[0x48, 0x44, 0x4a, 0x31, 1, 3, 0, 0, 0], 61),
+    (&[0x48, 0x44, 0x4a, 0x31, 0, 5, 0, 0, 0], 61),
+    (&[0x48, 0x44, 0x4a, 0x31, 0, 3, 0, 0, 0], 0),
+    // no next gate, and a length that is too great
+    (
+        &[
+            0x48, 0x44, 0x4a, 0x31, 0, 3, 0, 0, 1, 0, 6, 1, 0, 0, 0, 1, 0,
+        ],
+        62,
+    ),
+    (
+        &[
+            0x48, 0x44, 0x4a, 0x31, 0, 3, 0, 0, 1, 0, 7, 1, 0, 0, 0, 1, 0, 0,
+        ],
+        62,
+    ),
+];
 
 #[test]
 fn malformed_journals(rt: HostRuntime) -> Result<(), Fail> {
     let alloc = rt.alloc();
-    headers(&rt, alloc)?;
-    open_gates(&rt, alloc)?;
+    for &(bytes, code) in &FILES {
+        answers(&rt, alloc, bytes, code)?;
+    }
     let mut shut = JOURNAL;
     shut[17] = 2;
     keeps_promise_alone(&rt, alloc, disk_with(alloc, &shut, &[])?)
@@ -399,67 +320,6 @@ fn changed_journals(rt: HostRuntime) -> Result<(), Fail> {
         opens_with_others(&rt, alloc, journal.as_mut_slice(), at, &mut seed)?;
     }
     Ok(())
-}
-
-/// A new store on a disk of whose calls one fails at most: where that one is met, it is counted and all is done again.
-fn created_at_last<D: Disk>(rt: &impl Abort, alloc: Global, disk: D, faults: &mut u32) -> Store<D> {
-    match create(alloc, disk) {
-        Ok(store) => store,
-        Err((disk, fault)) => {
-            assert_same(rt, fault, StoreFault::Disk);
-            *faults = faults.saturating_add(1);
-            created(rt, alloc, disk)
-        }
-    }
-}
-
-/// The store of such a disk.
-fn opened_at_last<D: Disk>(rt: &impl Abort, alloc: Global, disk: D, faults: &mut u32) -> Store<D> {
-    match open(alloc, disk) {
-        Ok(store) => store,
-        Err((disk, fault)) => {
-            assert_same(rt, fault, StoreFault::Disk);
-            *faults = faults.saturating_add(1);
-            opened(rt, alloc, disk)
-        }
-    }
-}
-
-/// The disk after an accept, and whether that was stored: where it wasn't, the disk is stopped and the fault counted.
-fn accept_or_stop<D: Disk>(rt: &impl Abort, mut store: Store<D>, faults: &mut u32) -> (D, bool) {
-    let is_stored = accept(rt, &mut store).is_ok();
-    let mut disk = store.close();
-    if !is_stored {
-        *faults = faults.saturating_add(1);
-        disk.stop(0);
-    }
-    (disk, is_stored)
-}
-
-/// A new store, an accept and two opens of a disk of whose calls this one fails. What then is there is what was asked
-/// for, or what was before.
-fn fails_once(rt: &impl Abort, alloc: Global, call: u64, faults: &mut u32) {
-    let disk = OnceDisk::new(alloc, call);
-    assert!(rt; disk.bytes().is_empty());
-    let disk = created_at_last(rt, alloc, disk, faults).close();
-    let store = opened_at_last(rt, alloc, disk, faults);
-    let (disk, is_stored) = accept_or_stop(rt, store, faults);
-    let mut store = opened_at_last(rt, alloc, disk, faults);
-    let found = entry(&mut store, 0);
-    if call == 0 || is_stored && found.is_ok() {
-        assert_same(rt, found, Ok(Some((FIRST, deal(rt)))));
-    }
-}
-
-/// Each call of create, an append and open fails alone; what then is opened is what was asked for, or what was before.
-#[test]
-fn each_call_fails_once(rt: HostRuntime) {
-    let alloc = rt.alloc();
-    let mut faults = 0u32;
-    for call in 0..13u64 {
-        fails_once(&rt, alloc, call, &mut faults);
-    }
-    assert_same(&rt, faults, 12);
 }
 
 #[test]

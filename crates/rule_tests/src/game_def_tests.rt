@@ -81,78 +81,70 @@ fn assert_rounds(rt: &impl Abort, game: &GameDef, rounds: &[(Option<u32>, usize,
     }
 }
 
-#[test]
-fn limit_games(rt: HostRuntime) {
-    let heads_up = game(&rt, L2);
-    heads_up.limits();
-    holds!(&rt; heads_up.is_limit());
-    same!(&rt; heads_up.big_blind(), 10);
-    assert_seats(&rt, &heads_up, &[(2_147_483_647, 10), (2_147_483_647, 5)]);
-    assert_rounds(
-        &rt,
-        &heads_up,
-        &[
-            (Some(10), 1, 3),
-            (Some(10), 0, 4),
-            (Some(20), 0, 4),
-            (Some(20), 0, 4),
-        ],
-    );
-    holds!(&rt; game(&rt, L2_LOUD) == heads_up);
+/// What a game's file says: whether it has limits, its greatest blind, each position's stack and blind, and each round's
+/// size of raises, first player to act and most raises.
+struct Said {
+    file: &'static [u8],
+    is_limit: bool,
+    big_blind: u32,
+    seats: &'static [(u32, u32)],
+    rounds: [(Option<u32>, usize, u8); 4],
+}
+
+/// The sample games, the first of them also in capitals.
+static GAMES: [Said; 5] = [
+    Said {
+        file: L2,
+        is_limit: true,
+        big_blind: 10,
+        seats: &[(2_147_483_647, 10), (2_147_483_647, 5)],
+        rounds: [(Some(10), 1, 3), (Some(10), 0, 4), (Some(20), 0, 4), (Some(20), 0, 4)],
+    },
+    Said {
+        file: L2_LOUD,
+        is_limit: true,
+        big_blind: 10,
+        seats: &[(2_147_483_647, 10), (2_147_483_647, 5)],
+        rounds: [(Some(10), 1, 3), (Some(10), 0, 4), (Some(20), 0, 4), (Some(20), 0, 4)],
+    },
+    Said {
+        file: L3,
+        is_limit: true,
+        big_blind: 10,
+        seats: &[(2_147_483_647, 5), (2_147_483_647, 10), (2_147_483_647, 0)],
+        rounds: [(Some(10), 2, 3), (Some(10), 0, 4), (Some(20), 0, 4), (Some(20), 0, 4)],
+    },
+    Said {
+        file: N2,
+        is_limit: false,
+        big_blind: 100,
+        seats: &[(20_000, 100), (20_000, 50)],
+        rounds: [(None, 1, 255), (None, 0, 255), (None, 0, 255), (None, 0, 255)],
+    },
+    Said {
+        file: N3,
+        is_limit: false,
+        big_blind: 100,
+        seats: &[(1000, 50), (150, 100), (5000, 0)],
+        rounds: [(None, 2, 255), (None, 0, 255), (None, 0, 255), (None, 0, 255)],
+    },
+];
+
+/// Sees that a game is what its file says.
+fn is_said(rt: &impl Abort, game: &GameDef, said: &Said) {
+    game.limits();
+    same!(rt; game.is_limit(), said.is_limit);
+    same!(rt; game.big_blind(), said.big_blind);
+    assert_seats(rt, game, said.seats);
+    assert_rounds(rt, game, &said.rounds);
 }
 
 #[test]
-fn limit_games_of_three(rt: HostRuntime) {
-    let three = game(&rt, L3);
-    assert_seats(
-        &rt,
-        &three,
-        &[(2_147_483_647, 5), (2_147_483_647, 10), (2_147_483_647, 0)],
-    );
-    assert_rounds(
-        &rt,
-        &three,
-        &[
-            (Some(10), 2, 3),
-            (Some(10), 0, 4),
-            (Some(20), 0, 4),
-            (Some(20), 0, 4),
-        ],
-    );
-}
-
-#[test]
-fn nolimit_games(rt: HostRuntime) {
-    let heads_up = game(&rt, N2);
-    holds!(&rt; !heads_up.is_limit());
-    same!(&rt; heads_up.big_blind(), 100);
-    assert_seats(&rt, &heads_up, &[(20_000, 100), (20_000, 50)]);
-    assert_rounds(
-        &rt,
-        &heads_up,
-        &[
-            (None, 1, 255),
-            (None, 0, 255),
-            (None, 0, 255),
-            (None, 0, 255),
-        ],
-    );
-}
-
-#[test]
-fn nolimit_games_of_three(rt: HostRuntime) {
-    let three = game(&rt, N3);
-    assert_seats(&rt, &three, &[(1000, 50), (150, 100), (5000, 0)]);
-    assert_rounds(
-        &rt,
-        &three,
-        &[
-            (None, 2, 255),
-            (None, 0, 255),
-            (None, 0, 255),
-            (None, 0, 255),
-        ],
-    );
+fn games_are_what_their_files_say(rt: HostRuntime) {
+    for said in &GAMES {
+        is_said(&rt, &game(&rt, said.file), said);
+    }
+    holds!(&rt; game(&rt, L2_LOUD) == game(&rt, L2));
 }
 
 /// Sees the number and the line of a text's fault, nothing for a game file.
@@ -160,8 +152,9 @@ fn is_told(rt: &impl Abort, text: &[u8], code: u8, line: usize) {
     same!(rt; told(text), (code, line));
 }
 
-/// Texts with a line at fault, the number of the fault and the line.
-static TEXTS: [(&[u8], u8, usize); 26] = [
+/// Texts with a line at fault, and files that lack something or say what no game has, with the number of the fault and its
+/// line.
+static TEXTS: [(&[u8], u8, usize); 34] = [
     (b"", 10, 0),
     (b"\n# GAMEDEF", 10, 2),
     (b"GAMEDEF x\n", 10, 1),
@@ -188,14 +181,47 @@ static TEXTS: [(&[u8], u8, usize); 26] = [
     (b"GAMEDEF\nstack =\n", 14, 2),
     (b"GAMEDEF\nnumPlayers = 2 2\n", 14, 2),
     (b"GAMEDEF\nblind 1 1 1 1 1 1 1 1 1 1 1\nx\n", 14, 2),
+    (
+        b"GAMEDEF\nEND GAMEDEF",
+        15,
+        2,
+    ),
+    (
+        b"GAMEDEF\nnumPlayers 11\n\nEND GAMEDEF",
+        15,
+        2,
+    ),
+    (
+        b"GAMEDEF\nnumRounds 3\nnumPlayers 1\nEND GAMEDEF",
+        15,
+        3,
+    ),
+    (
+        b"GAMEDEF\nnumRounds 3\nnumPlayers 10\nEND GAMEDEF",
+        15,
+        2,
+    ),
+    (
+        b"GAMEDEF\nnumPlayers 2\nnumRounds 4\nnumSuits 1\nEND GAMEDEF",
+        15,
+        4,
+    ),
+    (
+        b"GAMEDEF\nnumPlayers 2\nnumRounds 4\nnumSuits 4\nnumRanks 12\nEND GAMEDEF",
+        15,
+        5,
+    ),
+    (
+        b"GAMEDEF\nnumPlayers 2\nnumRounds 4\nnumSuits 4\nnumRanks 13\nnumHoleCards 4\nEND GAMEDEF",
+        15,
+        6,
+    ),
+    (
+        b"GAMEDEF\nnumPlayers 2\nnumRounds 4\nnumSuits 4\nnumRanks 13\nnumHoleCards 2\nnumBoardCards 0 3 1\nEND GAMEDEF",
+        15,
+        7,
+    ),
 ];
-
-#[test]
-fn faults_of_lines(rt: HostRuntime) {
-    for &(text, code, line) in &TEXTS {
-        is_told(&rt, text, code, line);
-    }
-}
 
 /// Lines in front of what every game needs, the number of the fault of the file that they make and its line.
 static FRONTS: [(&[u8], u8, usize); 13] = [
@@ -214,30 +240,6 @@ static FRONTS: [(&[u8], u8, usize); 13] = [
     (b"blind 2 1\nraiseSize 2 2 0 4\n", 18, 3),
 ];
 
-/// Files that lack something or say what no game has, and the line where it is told.
-static REQUIREMENTS: [(&[u8], usize); 8] = [
-    (b"GAMEDEF\nEND GAMEDEF", 2),
-    (b"GAMEDEF\nnumPlayers 11\n\nEND GAMEDEF", 2),
-    (b"GAMEDEF\nnumRounds 3\nnumPlayers 1\nEND GAMEDEF", 3),
-    (b"GAMEDEF\nnumRounds 3\nnumPlayers 10\nEND GAMEDEF", 2),
-    (
-        b"GAMEDEF\nnumPlayers 2\nnumRounds 4\nnumSuits 1\nEND GAMEDEF",
-        4,
-    ),
-    (
-        b"GAMEDEF\nnumPlayers 2\nnumRounds 4\nnumSuits 4\nnumRanks 12\nEND GAMEDEF",
-        5,
-    ),
-    (
-        b"GAMEDEF\nnumPlayers 2\nnumRounds 4\nnumSuits 4\nnumRanks 13\nnumHoleCards 4\nEND GAMEDEF",
-        6,
-    ),
-    (
-        b"GAMEDEF\nnumPlayers 2\nnumRounds 4\nnumSuits 4\nnumRanks 13\nnumHoleCards 2\nnumBoardCards 0 3 1\nEND GAMEDEF",
-        7,
-    ),
-];
-
 /// The same of the file of these lines.
 fn is_told_of_file(
     rt: &impl Abort,
@@ -252,12 +254,12 @@ fn is_told_of_file(
 }
 
 #[test]
-fn faults_of_files(rt: HostRuntime) -> Result<(), Fail> {
+fn faults_of_lines_and_files(rt: HostRuntime) -> Result<(), Fail> {
+    for &(text, code, line) in &TEXTS {
+        is_told(&rt, text, code, line);
+    }
     for &(lines, code, line) in &FRONTS {
         is_told_of_file(&rt, rt.alloc(), lines, code, line)?;
-    }
-    for &(text, line) in &REQUIREMENTS {
-        is_told(&rt, text, 15, line);
     }
     Ok(())
 }

@@ -1,6 +1,6 @@
-ghost use Rattle.std.specs.Prelude.{◌≡◌};
+ghost use Rattle.std.specs.Prelude.{◌≡◌, ◌<◌};
 
-use crate::asserting::{holds, prints, same};
+use crate::asserting::{holds, same};
 use crate::samples::{L2, N2, game, ten_ace};
 use betting::{Action, Play};
 use card_core::{Card, Deal};
@@ -61,15 +61,15 @@ fn fault_of(text: &[u8], game: &GameDef) -> Option<LineFault> {
     read(text, game).err()
 }
 
-/// The position of an answer's line, its hand and its action.
-fn answer_of(rt: &impl Abort, text: &[u8], game: &GameDef) -> (usize, u32, Action) {
-    let (view, action) = read_answer(text, game).ok().expect(rt, "an answer");
-    (view.position(), view.hand(), action)
-}
-
-/// The fault of a text that is no answer.
-fn answer_fault_of(text: &[u8], game: &GameDef) -> Option<LineFault> {
-    read_answer(text, game).err()
+/// The position of an answer's line and its action, in the first hand; or why a text is no answer.
+fn answer_of(
+    rt: &impl Abort,
+    text: &[u8],
+    game: &GameDef,
+) -> Result<(usize, Action), LineFault> {
+    let (view, action) = read_answer(text, game)?;
+    same!(rt; view.hand(), 0);
+    Ok((view.position(), action))
 }
 
 /// The play of a betting text.
@@ -77,7 +77,7 @@ fn play_of(rt: &impl Abort, text: &[u8], game: &GameDef) -> Play {
     read_betting(text, game).expect(rt, "a play")
 }
 
-/// Sees the line that is written of a view of this game.
+/// Sees the line that is written of a view of this game, and what is written into room that is made for it.
 fn writes(
     rt: &impl Abort,
     alloc: Global,
@@ -90,6 +90,10 @@ fn writes(
     let mut line = Vec::new(alloc);
     write(&mut line, view, game)?;
     holds!(rt; line.as_slice() == wanted);
+    line.clear();
+    line.reserve(MOST_LINE)?;
+    write_reserved(&mut line, view, game);
+    holds!(rt; line.as_slice() == wanted);
     Ok(())
 }
 
@@ -100,23 +104,19 @@ fn is_of_two(rt: &impl Abort, table: &Table)
     assert_eq!(rt; table.game().players(), 2);
 }
 
-/// Sees the line of the second seat of a table of two.
-fn second_sees(
+/// Sees the line of a seat's view at a table of two.
+fn sees(
     rt: &impl Abort,
     alloc: Global,
     table: &Table,
+    seat: usize,
     wanted: &[u8],
-) -> Result<(), AllocError> {
+) -> Result<(), AllocError>
+    requires { seat < 2 }
+{
     is_of_two(rt, table);
-    let view = seat_view(table, 1).expect(rt, "a view");
+    let view = seat_view(table, seat).expect(rt, "a view");
     writes(rt, alloc, &view, table.game(), wanted)
-}
-
-#[test]
-fn a_seat_sees_its_own_cards(rt: HostRuntime) -> Result<(), Fail> {
-    let table = dealt(&rt, rt.alloc());
-    second_sees(&rt, rt.alloc(), &table, b"MATCHSTATE:1:0::|8hTc")?;
-    Ok(())
 }
 
 /// Raises and calls in the first round.
@@ -125,83 +125,53 @@ fn raise_and_call(table: &mut Table) -> Result<(), AllocError> {
     take(table, 1, Action::Call)
 }
 
-/// Writes the lines of both seats of a table of two, the second into room that is made before.
-fn write_both(
+/// Sees the lines of both seats of a table of two that are written of one betting text, the second into room that is made
+/// before.
+fn share(
     rt: &impl Abort,
     lines: &mut Vec<u8>,
     table: &Table,
     text: &[u8],
+    wanted: &[&[u8]; 2],
 ) -> Result<(), AllocError> {
     let betting = BettingText::newest(table);
     holds!(rt; betting.as_bytes() == text);
     is_of_two(rt, table);
     seat_line(lines, table, 0, &betting)?;
-    lines.push(b'\n')?;
+    holds!(rt; lines.as_slice() == wanted[0]);
+    lines.clear();
     lines.reserve(MOST_LINE)?;
     seat_line_reserved(lines, table, 1, &betting);
+    holds!(rt; lines.as_slice() == wanted[1]);
     Ok(())
 }
 
-/// Sees the lines of both seats of a table of two, whose betting text is this.
+/// Sees the betting text of a table of two, and the lines of both seats.
 fn both_see(
     rt: &impl Abort,
     alloc: Global,
     table: &Table,
     text: &[u8],
-    wanted: &[u8],
+    wanted: &[&[u8]; 2],
 ) -> Result<(), AllocError> {
+    sees(rt, alloc, table, 0, wanted[0])?;
+    sees(rt, alloc, table, 1, wanted[1])?;
     let mut lines = Vec::new(alloc);
-    write_both(rt, &mut lines, table, text)?;
-    holds!(rt; lines.as_slice() == wanted);
-    Ok(())
+    share(rt, &mut lines, table, text, wanted)
 }
 
 #[test]
-fn all_seats_share_one_betting_text(rt: HostRuntime) -> Result<(), Fail> {
+fn seats_see_their_own_cards(rt: HostRuntime) -> Result<(), Fail> {
     let mut table = dealt(&rt, rt.alloc());
+    let lines: [&[u8]; 2] = [b"MATCHSTATE:0:0::TdAs|", b"MATCHSTATE:1:0::|8hTc"];
+    both_see(&rt, rt.alloc(), &table, b"", &lines)?;
     raise_and_call(&mut table)?;
-    let lines = b"MATCHSTATE:0:0:rc/:TdAs|/2c8c3h\nMATCHSTATE:1:0:rc/:|8hTc/2c8c3h";
-    both_see(&rt, rt.alloc(), &table, b"rc/", lines)?;
+    let lines: [&[u8]; 2] = [
+        b"MATCHSTATE:0:0:rc/:TdAs|/2c8c3h",
+        b"MATCHSTATE:1:0:rc/:|8hTc/2c8c3h",
+    ];
+    both_see(&rt, rt.alloc(), &table, b"rc/", &lines)?;
     same!(&rt; position_of(2, 1, 0), 1);
-    Ok(())
-}
-
-/// Sees that a line is written as it was read, into room that is made for it.
-fn rewrites_in_room(
-    rt: &impl Abort,
-    alloc: Global,
-    text: &[u8],
-    game: &GameDef,
-) -> Result<(), AllocError> {
-    let view = view_of(rt, text, game);
-    let mut line = Vec::new(alloc);
-    line.reserve(MOST_LINE)?;
-    write_reserved(&mut line, &view, game);
-    holds!(rt; line.as_slice() == text);
-    Ok(())
-}
-
-/// Sees that the betting text of a play is this, written into room that is made for it.
-fn betting_in_room(
-    rt: &impl Abort,
-    alloc: Global,
-    play: &Play,
-    wanted: &[u8],
-) -> Result<(), AllocError> {
-    let mut text = Vec::new(alloc);
-    text.reserve(MOST_BETTING)?;
-    betting_text_reserved(&mut text, play);
-    holds!(rt; text.as_slice() == wanted);
-    Ok(())
-}
-
-#[test]
-fn room_is_made_once_for_a_line(rt: HostRuntime) -> Result<(), Fail> {
-    let game = game(&rt, L2);
-    rewrites_in_room(&rt, rt.alloc(), b"MATCHSTATE:0:0:rrrc/:TdAs|/2c8c3h", &game)?;
-    let play = play_of(&rt, b"rrrc/", &game);
-    same!(&rt; read_action(b"f", &play), Some(Action::Fold));
-    betting_in_room(&rt, rt.alloc(), &play, b"rrrc/")?;
     Ok(())
 }
 
@@ -227,7 +197,7 @@ fn lines_read_as_they_are_written(rt: HostRuntime) -> Result<(), Fail> {
     Ok(())
 }
 
-/// Texts that are no lines, each with its fault.
+/// Texts of a limit game that are no lines, each with its fault.
 static NO_LINES: [(&[u8], LineFault); 11] = [
     (b"HELLO:1:2:3:4", LineFault::NotMatchstate),
     (b"HELLO", LineFault::NotMatchstate),
@@ -242,33 +212,49 @@ static NO_LINES: [(&[u8], LineFault); 11] = [
     (b"MATCHSTATE:0:0::TdTd|", LineFault::BadCards),
 ];
 
+/// Amounts in the lines of a no-limit game, and the faults of those that are none.
+static AMOUNTS: [(&[u8], Option<LineFault>); 3] = [
+    (b"MATCHSTATE:0:0:r0200:TdAs|", Some(LineFault::BadBetting)),
+    (b"MATCHSTATE:0:0:r0:TdAs|", Some(LineFault::BadBetting)),
+    (b"MATCHSTATE:0:0:r200:TdAs|", None),
+];
+
 #[test]
 fn other_texts_are_no_lines(rt: HostRuntime) {
-    let game = game(&rt, L2);
+    let limit = game(&rt, L2);
     for &(text, fault) in &NO_LINES {
-        holds!(&rt; fault_of(text, &game) == Some(fault));
+        same!(&rt; fault_of(text, &limit), Some(fault));
+    }
+    let no_limit = game(&rt, N2);
+    for &(text, fault) in &AMOUNTS {
+        same!(&rt; fault_of(text, &no_limit), fault);
     }
 }
 
-#[test]
-fn amounts_have_no_leading_zeros(rt: HostRuntime) {
-    let game = game(&rt, N2);
-    let zero_in_front = fault_of(b"MATCHSTATE:0:0:r0200:TdAs|", &game);
-    holds!(&rt; zero_in_front == Some(LineFault::BadBetting));
-    let zero = fault_of(b"MATCHSTATE:0:0:r0:TdAs|", &game);
-    holds!(&rt; zero == Some(LineFault::BadBetting));
-    holds!(&rt; fault_of(b"MATCHSTATE:0:0:r200:TdAs|", &game).is_none());
+/// Sees that the betting text of a play is this, also where it is written into room that is made for it.
+fn prints_betting(
+    rt: &impl Abort,
+    alloc: Global,
+    play: &Play,
+    wanted: &[u8],
+) -> Result<(), AllocError> {
+    let mut text = Vec::new(alloc);
+    betting_text(&mut text, play)?;
+    holds!(rt; text.as_slice() == wanted);
+    text.clear();
+    text.reserve(MOST_BETTING)?;
+    betting_text_reserved(&mut text, play);
+    holds!(rt; text.as_slice() == wanted);
+    Ok(())
 }
 
 #[test]
 fn betting_reads_and_prints(rt: HostRuntime) -> Result<(), Fail> {
-    let game = game(&rt, L2);
-    let play = play_of(&rt, b"rrrc/cc/", &game);
+    let play = play_of(&rt, b"rrrc/cc/", &game(&rt, L2));
     same!(&rt; play.actions().len(), 6);
     holds!(&rt; play.actions().first() == Some(&Action::Raise(20)));
-    let mut text = Vec::new(rt.alloc());
-    betting_text(&mut text, &play)?;
-    holds!(&rt; text.as_slice() == &b"rrrc/cc/"[..]);
+    same!(&rt; read_action(b"f", &play), Some(Action::Fold));
+    prints_betting(&rt, rt.alloc(), &play, b"rrrc/cc/")?;
     Ok(())
 }
 
@@ -298,70 +284,44 @@ fn a_text_shows_a_deal_up_to_the_flop(rt: HostRuntime) {
     same!(&rt; read_shown(b"TdAs|8hTd", 2, 0), None);
 }
 
-/// Answers in the first hand, each with its position and its action.
-static ANSWERS: [(&[u8], usize, Action); 4] = [
-    (b"MATCHSTATE:1:0::|8hTc:c", 1, Action::Call),
-    (b"MATCHSTATE:1:0::|8hTc:r", 1, Action::Raise(20)),
-    (b"MATCHSTATE:0:0:c:TdAs|:f", 0, Action::Fold),
-    (b"MATCHSTATE:0:0:rrr:TdAs|:r", 0, Action::Raise(0)),
+/// Texts of a limit game: answers in the first hand, each with its position and its action, and what is none.
+static ANSWERS: [(&[u8], Result<(usize, Action), LineFault>); 13] = [
+    (b"MATCHSTATE:1:0::|8hTc:c", Ok((1, Action::Call))),
+    (b"MATCHSTATE:1:0::|8hTc:r", Ok((1, Action::Raise(20)))),
+    (b"MATCHSTATE:0:0:c:TdAs|:f", Ok((0, Action::Fold))),
+    (b"MATCHSTATE:0:0:rrr:TdAs|:r", Ok((0, Action::Raise(0)))),
+    (b"HELLO", Err(LineFault::NotMatchstate)),
+    (b"MATCHSTATE:1:0::|8hTc", Err(LineFault::NotMatchstate)),
+    (b"MATCHSTATE:1:0::|8hTc:c:c", Err(LineFault::NotMatchstate)),
+    (b"MATCHSTATE:2:0::|8hTc:c", Err(LineFault::BadNumber)),
+    (b"MATCHSTATE:1:0:x:|8hTc:c", Err(LineFault::BadBetting)),
+    (b"MATCHSTATE:0:0::|8hTc:x", Err(LineFault::BadCards)),
+    (b"MATCHSTATE:1:0::|8hTc:x", Err(LineFault::BadAction)),
+    (b"MATCHSTATE:1:0::|8hTc:r20", Err(LineFault::BadAction)),
+    (b"MATCHSTATE:1:0::|8hTc:", Err(LineFault::BadAction)),
+];
+
+/// Raises of a no-limit game, which have an amount, and what is none.
+static RAISES: [(&[u8], Result<(usize, Action), LineFault>); 6] = [
+    (b"MATCHSTATE:1:0::|8hTc:r0", Ok((1, Action::Raise(0)))),
+    (b"MATCHSTATE:1:0::|8hTc:r200", Ok((1, Action::Raise(200)))),
+    (b"MATCHSTATE:1:0::|8hTc:r4294967295", Ok((1, Action::Raise(4294967295)))),
+    (b"MATCHSTATE:1:0::|8hTc:r", Err(LineFault::BadAction)),
+    (b"MATCHSTATE:1:0::|8hTc:r0200", Err(LineFault::BadAction)),
+    (b"MATCHSTATE:1:0::|8hTc:r4294967296", Err(LineFault::BadAction)),
 ];
 
 #[test]
 fn answers_read_as_views_and_actions(rt: HostRuntime) {
-    let game = game(&rt, L2);
-    for &(text, position, action) in &ANSWERS {
-        let (seen, hand, read) = answer_of(&rt, text, &game);
-        same!(&rt; seen, position);
-        same!(&rt; hand, 0);
-        same!(&rt; read, action);
+    let limit = game(&rt, L2);
+    for &(text, wanted) in &ANSWERS {
+        same!(&rt; answer_of(&rt, text, &limit), wanted);
     }
-}
-
-/// Texts that are no answers, each with its fault.
-static NO_ANSWERS: [(&[u8], LineFault); 9] = [
-    (b"HELLO", LineFault::NotMatchstate),
-    (b"MATCHSTATE:1:0::|8hTc", LineFault::NotMatchstate),
-    (b"MATCHSTATE:1:0::|8hTc:c:c", LineFault::NotMatchstate),
-    (b"MATCHSTATE:2:0::|8hTc:c", LineFault::BadNumber),
-    (b"MATCHSTATE:1:0:x:|8hTc:c", LineFault::BadBetting),
-    (b"MATCHSTATE:0:0::|8hTc:x", LineFault::BadCards),
-    (b"MATCHSTATE:1:0::|8hTc:x", LineFault::BadAction),
-    (b"MATCHSTATE:1:0::|8hTc:r20", LineFault::BadAction),
-    (b"MATCHSTATE:1:0::|8hTc:", LineFault::BadAction),
-];
-
-#[test]
-fn other_texts_are_no_answers(rt: HostRuntime) {
-    let game = game(&rt, L2);
-    for &(text, fault) in &NO_ANSWERS {
-        holds!(&rt; answer_fault_of(text, &game) == Some(fault));
+    let no_limit = game(&rt, N2);
+    for &(text, wanted) in &RAISES {
+        same!(&rt; answer_of(&rt, text, &no_limit), wanted);
     }
-}
-
-/// Answers of a no-limit game, each with the amount that it raises to.
-static RAISES: [(&[u8], u32); 3] = [
-    (b"MATCHSTATE:1:0::|8hTc:r0", 0),
-    (b"MATCHSTATE:1:0::|8hTc:r200", 200),
-    (b"MATCHSTATE:1:0::|8hTc:r4294967295", 4294967295),
-];
-
-/// The same with texts that are no amounts.
-static NO_RAISES: [&[u8]; 3] = [
-    b"MATCHSTATE:1:0::|8hTc:r",
-    b"MATCHSTATE:1:0::|8hTc:r0200",
-    b"MATCHSTATE:1:0::|8hTc:r4294967296",
-];
-
-#[test]
-fn raises_of_a_no_limit_game_have_an_amount(rt: HostRuntime) {
-    let game = game(&rt, N2);
-    for &(text, amount) in &RAISES {
-        let (_, _, action) = answer_of(&rt, text, &game);
-        same!(&rt; action, Action::Raise(amount));
-    }
-    for &text in &NO_RAISES {
-        holds!(&rt; answer_fault_of(text, &game) == Some(LineFault::BadAction));
-    }
+    same!(&rt; LineFault::BadAction.code(), 44);
 }
 
 /// Sees that a view shows the first player's hole cards of a deal, and the flop.
@@ -371,14 +331,6 @@ fn shows_the_flop(rt: &impl Abort, view: &View, deal: &Deal) {
     same!(rt; view.hole(2), None);
     let [first, second, third, _, _] = deal.board();
     same!(rt; view.board(), [Some(first), Some(second), Some(third), None, None]);
-}
-
-#[test]
-fn a_view_shows_its_cards(rt: HostRuntime) {
-    let game = game(&rt, L2);
-    let view = view_of(&rt, b"MATCHSTATE:0:0:rrrc/:TdAs|/2c8c3h", &game);
-    shows_the_flop(&rt, &view, &ten_ace(&rt));
-    same!(&rt; view.actions().len(), 4);
 }
 
 /// Lines, and whether they show the same as the first of them.
@@ -400,17 +352,12 @@ fn shows_same(rt: &impl Abort, view: &View, line: &[u8], game: &GameDef) -> bool
 }
 
 #[test]
-fn views_differ_in_what_they_show(rt: HostRuntime) {
+fn views_show_their_cards_and_differ_in_what_they_show(rt: HostRuntime) {
     let game = game(&rt, L2);
     let view = view_of(&rt, b"MATCHSTATE:0:0:rrrc/:TdAs|/2c8c3h", &game);
+    shows_the_flop(&rt, &view, &ten_ace(&rt));
+    same!(&rt; view.actions().len(), 4);
     for &(text, same) in &SHOWN {
         holds!(&rt; shows_same(&rt, &view, text, &game) == same);
     }
-}
-
-#[test]
-fn faults_print_their_number_and_name(rt: HostRuntime) -> Result<(), Fail> {
-    same!(&rt; LineFault::BadAction.code(), 44);
-    prints(&rt, rt.alloc(), &LineFault::BadAction, "44 BadAction")?;
-    Ok(())
 }

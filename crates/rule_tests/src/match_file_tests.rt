@@ -2,7 +2,7 @@ use crate::asserting::{holds, same};
 use crate::samples::{L2, ten_ace};
 use card_core::Deal;
 use dealer_kind::Config;
-use match_file::{Key, MatchFault, MatchFile, Outage, Service};
+use match_file::{MatchFault, MatchFile, Outage, Service};
 use std::alloc::{AllocError, Global};
 use std::process::Abort;
 use std::test::Fail;
@@ -130,14 +130,22 @@ fn a_match_is_what_its_files_say(rt: HostRuntime) {
     deals_what_is_listed(&rt, &config);
 }
 
-/// The fault of the match that is listed, with one line in place of another.
-fn fault_with(alloc: Global, old: &str, new: &str) -> Result<Option<MatchFault>, AllocError> {
+/// Sees what is told of the match that is listed, with one line in place of another and this game.
+fn is_told_with(
+    rt: &impl Abort,
+    alloc: Global,
+    old: &str,
+    new: &str,
+    game: Option<&[u8]>,
+    expected: &str,
+) -> Result<(), AllocError> {
     let text = with(alloc, LISTED, old, new)?;
-    Ok(fault_of(alloc, text.as_bytes(), Some(L2)))
+    let fault = fault_of(alloc, text.as_bytes(), game);
+    prints(rt, alloc, fault, expected, new)
 }
 
-/// A line of the match that is listed, another in its place, and what is told of that.
-static LISTED_CHANGES: [(&str, &str, &str); 22] = [
+/// A line of the match that is listed, another in its place, and what is told of that with its game.
+static LISTED_CHANGES: [(&str, &str, &str); 23] = [
     ("name = \"m1\"", "name = \"\"", "101 BadEntry name"),
     ("name = \"m1\"", "name = 1", "101 BadEntry name"),
     ("name = \"m1\"\n", "", "101 BadEntry name"),
@@ -154,6 +162,7 @@ static LISTED_CHANGES: [(&str, &str, &str); 22] = [
     ("seed = 0", "seed = 0\ndeals = []", "101 BadEntry node"),
     ("seed = 0", "", "101 BadEntry node"),
     ("[[node]]\nseed = 0\n", "", "101 BadEntry node"),
+    ("seed = 0\n", "seed = 0\n[[node]]\nseed = 3\n", "101 BadEntry node"),
     ("8hTc/", "TdTc/", "101 BadEntry node"),
     ("/Kh\"]", "/Kh\", \"TdAs|8hTc\"]", "101 BadEntry node"),
     ("name = \"m1\"", "name = \"m1", "100 NotToml"),
@@ -166,69 +175,37 @@ static LISTED_CHANGES: [(&str, &str, &str); 22] = [
     ("/Kh\"]", "/Kh\", \"2d2h|3d3s/4c5c6c/7c/8d\"]", ""),
 ];
 
-#[test]
-fn each_key_is_told_where_it_is_wrong(rt: HostRuntime) -> Result<(), Fail> {
-    let alloc = rt.alloc();
-    for &(old, new, expected) in &LISTED_CHANGES {
-        let fault = fault_with(alloc, old, new)?;
-        prints(&rt, alloc, fault, expected, old)?;
-    }
-    Ok(())
-}
-
-/// Games of the match with no hands, and what is told of it.
-static GAMES: [(Option<&[u8]>, &str); 3] = [
-    (None, "104 Unreadable"),
-    (Some(LOW_STACK), "102 Game 17 StackBelowBlind 5"),
-    (Some(L2), "101 BadEntry hands"),
+/// Lines in place of another, games, and what is told first.
+static FIRST_FAULTS: [(&str, &str, Option<&[u8]>, &str); 4] = [
+    ("hands = 1", "hands = 0", None, "104 Unreadable"),
+    ("hands = 1", "hands = 0", Some(LOW_STACK), "102 Game 17 StackBelowBlind 5"),
+    ("hands = 1", "hands = 0", Some(L2), "101 BadEntry hands"),
+    ("\"l2.game\"", "7", None, "101 BadEntry game"),
 ];
 
-/// Sees what is told of a text's match with this game.
-fn is_told(
-    rt: &impl Abort,
-    alloc: Global,
-    text: &[u8],
-    game: Option<&[u8]>,
-    expected: &str,
-    case: &str,
-) -> Result<(), AllocError> {
-    let fault = fault_of(alloc, text, game);
-    prints(rt, alloc, fault, expected, case)
-}
-
 #[test]
-fn the_first_fault_is_told(rt: HostRuntime) -> Result<(), Fail> {
-    let alloc = rt.alloc();
-    let no_hands = with(alloc, LISTED, "hands = 1", "hands = 0")?;
-    for &(game, expected) in &GAMES {
-        is_told(&rt, alloc, no_hands.as_bytes(), game, expected, "no hands")?;
+fn each_key_is_told_where_it_is_wrong(rt: HostRuntime) -> Result<(), Fail> {
+    for &(old, new, expected) in &LISTED_CHANGES {
+        is_told_with(&rt, rt.alloc(), old, new, Some(L2), expected)?;
     }
-    is_told(&rt, alloc, b"", None, "101 BadEntry name", "no text")?;
-    is_told(
-        &rt,
-        alloc,
-        b"name = \"\xff\"",
-        None,
-        "100 NotToml",
-        "no UTF-8",
-    )?;
+    for &(old, new, game, expected) in &FIRST_FAULTS {
+        is_told_with(&rt, rt.alloc(), old, new, game, expected)?;
+    }
     Ok(())
 }
 
-/// The fault of the game's name in a file of this text.
-fn fault_of_game(rt: &impl Abort, alloc: Global, text: &[u8]) -> Option<MatchFault> {
-    let file = file(alloc, text).expect(rt, "a file");
-    file.game().err()
-}
+/// Texts that say no match, and what is told of them without a game.
+static NO_MATCHES: [(&[u8], &str); 2] = [
+    (b"", "101 BadEntry name"),
+    (b"name = \"\xff\"", "100 NotToml"),
+];
 
 #[test]
-fn a_game_that_is_no_text_is_told(rt: HostRuntime) -> Result<(), Fail> {
-    let alloc = rt.alloc();
-    let no_game = with(alloc, LISTED, "\"l2.game\"", "7")?;
-    let fault = fault_of(alloc, no_game.as_bytes(), None);
-    prints(&rt, alloc, fault, "101 BadEntry game", "no game")?;
-    let fault = fault_of_game(&rt, alloc, no_game.as_bytes());
-    same!(&rt; fault, Some(MatchFault::BadEntry(Key::Game)));
+fn texts_that_say_no_match_are_told(rt: HostRuntime) -> Result<(), Fail> {
+    for &(text, expected) in &NO_MATCHES {
+        let fault = fault_of(rt.alloc(), text, None);
+        prints(&rt, rt.alloc(), fault, expected, "no match")?;
+    }
     Ok(())
 }
 
@@ -267,14 +244,17 @@ fn what_is_served_is_what_the_file_says(rt: HostRuntime) {
     says_what_is_served(&rt, rt.alloc(), &file);
 }
 
-/// The fault of what is said for serving, with one line in place of another.
-fn fault_of_service_with(
+/// Sees what is told of what is said for serving, with one line in place of another.
+fn is_told_of_service_with(
+    rt: &impl Abort,
     alloc: Global,
     old: &str,
     new: &str,
-) -> Result<Option<MatchFault>, AllocError> {
+    expected: &str,
+) -> Result<(), AllocError> {
     let text = with(alloc, SERVED, old, new)?;
-    Ok(fault_of_service(alloc, text.as_bytes()))
+    let fault = fault_of_service(alloc, text.as_bytes());
+    prints(rt, alloc, fault, expected, new)
 }
 
 /// A line of what is said for serving, another in its place, and what is told of that.
@@ -308,10 +288,8 @@ static SERVED_CHANGES: [(&str, &str, &str); 17] = [
 
 #[test]
 fn each_key_of_serving_is_told(rt: HostRuntime) -> Result<(), Fail> {
-    let alloc = rt.alloc();
     for &(old, new, expected) in &SERVED_CHANGES {
-        let fault = fault_of_service_with(alloc, old, new)?;
-        prints(&rt, alloc, fault, expected, new)?;
+        is_told_of_service_with(&rt, rt.alloc(), old, new, expected)?;
     }
     Ok(())
 }

@@ -1,33 +1,19 @@
 ghost use Rattle.std.specs.Prelude.{◌≡◌, ◌≤◌, length};
 
 use crate::asserting::{holds, prints, same};
-use crate::samples::{L2, L3, N2, N3, game, ten_ace};
+use crate::samples::{L2, L3, N2, N3, game};
 use betting::{Action, Play};
 use card_core::Deal;
 use game_def::GameDef;
 use match_log::{
     LogFault, LogFaultKind, Name, SeatNames, check, further_lines, header, is_game_word,
-    put_fronted, score_line, state_line,
+    score_line, state_line,
 };
 use matchstate::{read_betting, read_deal};
 use slot_log::{Command, Table};
 use std::alloc::{AllocError, Global};
 use std::process::Abort;
 use std::test::Fail;
-
-fn seats(rt: &impl Abort, text: &[u8], players: usize) -> SeatNames
-    requires least { 2 ≤ players }
-    requires most { players ≤ 10 }
-{
-    SeatNames::read(text, players).expect(rt, "names")
-}
-
-fn cards(rt: &impl Abort, text: &[u8], players: usize) -> Deal
-    requires least { 2 ≤ players }
-    requires most { players ≤ 10 }
-{
-    read_deal(text, players).expect(rt, "a deal")
-}
 
 // Calls with long contracts stand in one function each: a contract is read anew wherever its call stands.
 
@@ -57,14 +43,25 @@ fn read(betting: &[u8], game: &GameDef) -> Option<Play> {
     read_betting(betting, game)
 }
 
-/// Deals a hand and plays it.
-fn play(table: &mut Table, hand: u32, deal: Deal, betting: &[u8]) -> Result<(), AllocError> {
+/// The deal of a text.
+fn cards(rt: &impl Abort, text: &[u8], players: usize) -> Deal {
+    assert!(rt; 2 <= players && players <= 10);
+    read_deal(text, players).expect(rt, "a deal")
+}
+
+/// Deals a hand and plays it, by the texts of its cards and of its betting.
+fn play(rt: &impl Abort, table: &mut Table, hand: u32, texts: &Hand) -> Result<(), AllocError> {
     let game = *table.game();
+    let deal = cards(rt, texts.0, game.players());
     apply(table, &Command::Deal { hand, deal })?;
-    match read(betting, &game) {
-        Some(play) => take_all(table, hand, play.actions()),
-        None => Ok(()),
-    }
+    let play = read(texts.1, &game).expect(rt, "a play");
+    take_all(table, hand, play.actions())
+}
+
+/// The names of a game's seats.
+fn seats(rt: &impl Abort, text: &[u8], players: usize) -> SeatNames {
+    assert!(rt; 2 <= players && players <= 10);
+    SeatNames::read(text, players).expect(rt, "names")
 }
 
 /// Sees that there are as many names as seats.
@@ -74,242 +71,185 @@ fn name_all_seats(rt: &impl Abort, names: &SeatNames, table: &Table)
     assert_eq!(rt; names.as_slice().len(), table.game().players());
 }
 
-/// A hand's line.
-fn hand_line(
+/// Puts the header of a match of this game and so many hands.
+fn put_header(
     rt: &impl Abort,
-    alloc: Global,
+    log: &mut Vec<u8>,
+    game: &[u8],
+    hands: u32,
+) -> Result<(), AllocError> {
+    let name = Name::new(b"m").expect(rt, "a name");
+    assert!(rt; is_game_word(game));
+    header(log, name.as_bytes(), game, hands)
+}
+
+/// Puts what the log has further.
+fn put_further(
+    rt: &impl Abort,
+    log: &mut Vec<u8>,
+    table: &Table,
+    names: &SeatNames,
+) -> Result<(), AllocError> {
+    name_all_seats(rt, names, table);
+    further_lines(log, table, names)
+}
+
+/// Puts a hand's line.
+fn put_hand(
+    rt: &impl Abort,
+    log: &mut Vec<u8>,
     table: &Table,
     hand: u32,
     names: &SeatNames,
-    expected: &[u8],
 ) -> Result<(), AllocError> {
     name_all_seats(rt, names, table);
     assert!(rt; hand < table.finished());
-    let mut out = Vec::new(alloc);
-    state_line(&mut out, table, hand, names)?;
-    holds!(rt; out.as_slice() == expected);
-    Ok(())
+    state_line(log, table, hand, names)
 }
 
-/// Sees the line of the one hand of a match.
-fn one_hand(
+/// Puts the line of the score.
+fn put_score(
     rt: &impl Abort,
-    alloc: Global,
-    game: GameDef,
-    names: &SeatNames,
-    deal: Deal,
-    betting: &[u8],
-    expected: &[u8],
-) -> Result<(), AllocError> {
-    let mut table = Table::new(alloc, game, 1);
-    play(&mut table, 0, deal, betting)?;
-    hand_line(rt, alloc, &table, 0, names, expected)
-}
-
-#[test]
-fn the_middle_pot_goes_to_the_short_stack(rt: HostRuntime) -> Result<(), Fail> {
-    one_hand(
-        &rt,
-        rt.alloc(),
-        game(&rt, N3),
-        &seats(&rt, b"alice|bob|carol", 3),
-        cards(&rt, b"2c7d|AsAh|KsKh/3d8h9c/Jd/4s", 3),
-        b"ccr150r200c/r1000c//",
-        b"STATE:0:ccr150r200c/r1000c//:2c7d|AsAh|KsKh/3d8h9c/Jd/4s:-1000|300|700:alice|bob|carol\n",
-    )?;
-    Ok(())
-}
-
-#[test]
-fn all_chips_go_in_at_once(rt: HostRuntime) -> Result<(), Fail> {
-    one_hand(
-        &rt,
-        rt.alloc(),
-        game(&rt, N2),
-        &seats(&rt, b"alice|bob", 2),
-        ten_ace(&rt),
-        b"r20000c///",
-        b"STATE:0:r20000c///:TdAs|8hTc/2c8c3h/9c/Kh:-20000|20000:alice|bob\n",
-    )?;
-    Ok(())
-}
-
-/// Deals two hands, each of which is folded.
-fn fold_two_hands(rt: &impl Abort, table: &mut Table) -> Result<(), AllocError> {
-    play(table, 0, ten_ace(rt), b"f")?;
-    let second = cards(rt, b"2d2h|3d3s/4c5c6c/7c/8d", 2);
-    play(table, 1, second, b"f")
-}
-
-/// Sees the line of the score of a match.
-fn has_score(
-    rt: &impl Abort,
-    alloc: Global,
+    log: &mut Vec<u8>,
     table: &Table,
     names: &SeatNames,
-    expected: &[u8],
 ) -> Result<(), AllocError> {
     name_all_seats(rt, names, table);
     assert!(rt; table.over());
-    let mut out = Vec::new(alloc);
-    score_line(&mut out, table, names)?;
-    holds!(rt; out.as_slice() == expected);
-    Ok(())
+    score_line(log, table, names)
 }
 
-/// Sees the lines that a match adds to its log with its last hand.
-fn ends_with(
+/// Plays the hands of a match, and puts what the log gets of each.
+fn play_all(
     rt: &impl Abort,
-    alloc: Global,
-    table: &Table,
+    log: &mut Vec<u8>,
+    table: &mut Table,
     names: &SeatNames,
-    expected: &[u8],
+    hands: &[Hand],
 ) -> Result<(), AllocError> {
-    name_all_seats(rt, names, table);
-    let mut out = Vec::new(alloc);
-    further_lines(&mut out, table, names)?;
-    holds!(rt; out.as_slice() == expected);
+    for (hand, texts) in hands.iter().enumerate() {
+        assert!(rt; hand < 10_000);
+        play(rt, table, hand as u32, texts)?;
+        put_further(rt, log, table, names)?;
+    }
     Ok(())
 }
 
-/// Sees the lines of two hands that were folded.
-fn two_hands(
+/// Puts the lines of the hands of a match that is over, and its score.
+fn put_lines(
     rt: &impl Abort,
-    alloc: Global,
+    log: &mut Vec<u8>,
     table: &Table,
     names: &SeatNames,
 ) -> Result<(), AllocError> {
-    let first = b"STATE:0:f:TdAs|8hTc:5|-5:alice|bob\n";
-    let second = b"STATE:1:f:2d2h|3d3s:5|-5:bob|alice\n";
-    hand_line(rt, alloc, table, 0, names, first)?;
-    hand_line(rt, alloc, table, 1, names, second)?;
-    has_score(rt, alloc, table, names, b"SCORE:0|0:alice|bob\n")?;
-    let further = b"STATE:1:f:2d2h|3d3s:5|-5:bob|alice\nSCORE:0|0:alice|bob\n";
-    ends_with(rt, alloc, table, names, further)
+    for hand in 0..table.finished() {
+        put_hand(rt, log, table, hand, names)?;
+    }
+    put_score(rt, log, table, names)
 }
 
-#[test]
-fn a_match_of_two_hands(rt: HostRuntime) -> Result<(), Fail> {
-    let names = seats(&rt, b"alice|bob", 2);
-    let mut table = Table::new(rt.alloc(), game(&rt, L2), 2);
-    fold_two_hands(&rt, &mut table)?;
-    two_hands(&rt, rt.alloc(), &table, &names)?;
+/// Puts the log of a match twice: hand by hand, and once it is over.
+fn put_log_twice(
+    rt: &impl Abort,
+    log: &mut Vec<u8>,
+    table: &mut Table,
+    played: &Match,
+) -> Result<(), AllocError> {
+    let names = seats(rt, played.names, table.game().players());
+    put_header(rt, log, played.word, table.hands())?;
+    play_all(rt, log, table, &names, played.hands)?;
+    put_header(rt, log, played.word, table.hands())?;
+    put_lines(rt, log, table, &names)
+}
+
+/// A hand: the texts of its deal and of its betting.
+type Hand = (&'static [u8], &'static [u8]);
+
+/// A match, and its log.
+struct Match {
+    game: &'static [u8],
+    /// The word that its log says of the game.
+    word: &'static [u8],
+    names: &'static [u8],
+    hands: &'static [Hand],
+    log: &'static [u8],
+}
+
+/// Sees that bytes are a log twice.
+fn is_twice(rt: &impl Abort, bytes: &[u8], log: &[u8]) {
+    holds!(rt; bytes.len() == 2 * log.len());
+    holds!(rt; bytes.starts_with(log));
+    holds!(rt; bytes.ends_with(log));
+}
+
+/// Sees the log of a match, in which `check` finds nothing wrong.
+fn has_log(rt: &impl Abort, alloc: Global, played: &Match) -> Result<(), AllocError> {
+    let game = game(rt, played.game);
+    let count = played.hands.len();
+    assert!(rt; 1 <= count && count <= 10_000);
+    let mut table = Table::new(alloc, game, count as u32);
+    let mut bytes = Vec::new(alloc);
+    put_log_twice(rt, &mut bytes, &mut table, played)?;
+    is_twice(rt, &bytes, played.log);
+    is_told(rt, played.log, &game, Ok(()));
     Ok(())
 }
 
-#[test]
-fn a_log_begins_with_its_header(rt: HostRuntime) -> Result<(), Fail> {
-    let name = Name::new(b"m").expect(&rt, "a name");
-    assert!(rt; is_game_word(b"l2.game"));
-    let mut out = Vec::new(rt.alloc());
-    header(&mut out, name.as_bytes(), b"l2.game", 2)?;
-    holds!(&rt; out.as_slice() == b"# name/game/hands m l2.game 2\n".as_slice());
-    Ok(())
+/// Sees what is told of a log.
+fn is_told(rt: &impl Abort, log: &[u8], game: &GameDef, verdict: Result<(), LogFault>) {
+    same!(rt; check(log, game), verdict);
 }
 
-/// Whether a text has two players' names.
-fn are_names(text: &[u8]) -> bool {
-    SeatNames::read(text, 2).is_some()
-}
+const DEAL: &[u8] = b"TdAs|8hTc/2c8c3h/9c/Kh";
 
-/// Texts that have no two names, or no names.
-static NO_NAMES: [&[u8]; 5] = [
-    b"alice",
-    b"alice|alice",
-    b"alice|bob|carol",
-    b"alice|",
-    b"alice|b b",
+/// Matches of one hand that is folded and of two, and of hands whose pots are split, taken by two, and won all in.
+static MATCHES: [Match; 5] = [
+    Match {
+        game: L2,
+        word: b"l2.game",
+        names: b"alice|bob",
+        hands: &[(DEAL, b"f")],
+        log: b"# name/game/hands m l2.game 1\nSTATE:0:f:TdAs|8hTc:5|-5:alice|bob\nSCORE:5|-5:alice|bob\n",
+    },
+    Match {
+        game: L2,
+        word: b"l2.game",
+        names: b"alice|bob",
+        hands: &[(DEAL, b"f"), (b"2d2h|3d3s/4c5c6c/7c/8d", b"f")],
+        log: b"# name/game/hands m l2.game 2\nSTATE:0:f:TdAs|8hTc:5|-5:alice|bob\nSTATE:1:f:2d2h|3d3s:5|-5:bob|alice\nSCORE:0|0:alice|bob\n",
+    },
+    Match {
+        game: L3,
+        word: b"l3.game",
+        names: b"alice|bob|carol",
+        hands: &[(b"2c3d|4c5d|6c7d/TsJsQs/Ks/As", b"cfc/cc/cc/cc")],
+        log: b"# name/game/hands m l3.game 1\nSTATE:0:cfc/cc/cc/cc:2c3d|4c5d|6c7d/TsJsQs/Ks/As:-5|3|2:alice|bob|carol\nSCORE:-5|3|2:alice|bob|carol\n",
+    },
+    Match {
+        game: N3,
+        word: b"n3.game",
+        names: b"alice|bob|carol",
+        hands: &[(
+            b"2c7d|AsAh|KsKh/3d8h9c/Jd/4s",
+            b"ccr150r200c/r1000c//",
+        )],
+        log: b"# name/game/hands m n3.game 1\nSTATE:0:ccr150r200c/r1000c//:2c7d|AsAh|KsKh/3d8h9c/Jd/4s:-1000|300|700:alice|bob|carol\nSCORE:-1000|300|700:alice|bob|carol\n",
+    },
+    Match {
+        game: N2,
+        word: b"n2.game",
+        names: b"alice|bob",
+        hands: &[(DEAL, b"r20000c///")],
+        log: b"# name/game/hands m n2.game 1\nSTATE:0:r20000c///:TdAs|8hTc/2c8c3h/9c/Kh:-20000|20000:alice|bob\nSCORE:-20000|20000:alice|bob\n",
+    },
 ];
 
 #[test]
-fn each_seat_has_a_name_of_its_own(rt: HostRuntime) {
-    for &text in &NO_NAMES {
-        holds!(&rt; !are_names(text));
+fn matches_are_told_by_their_logs(rt: HostRuntime) -> Result<(), Fail> {
+    for played in &MATCHES {
+        has_log(&rt, rt.alloc(), played)?;
     }
-    holds!(&rt; are_names(b"alice|bob"));
-}
-
-/// Whether a text is a name.
-fn is_name(text: &[u8]) -> bool {
-    Name::new(text).is_some()
-}
-
-#[test]
-fn names_are_short_and_plain(rt: HostRuntime) {
-    holds!(&rt; is_name(b"a.B-c_9"));
-    holds!(&rt; !is_name(b""));
-    holds!(&rt; !is_name(b"a b"));
-    holds!(&rt; !is_name(&[b'x'; 33]));
-}
-
-/// Whether a text is a game's word.
-fn is_word(text: &[u8]) -> bool {
-    is_game_word(text)
-}
-
-#[test]
-fn game_words_are_printable_without_space(rt: HostRuntime) {
-    holds!(&rt; is_word(b"!holdem.limit.2p.game~"));
-    holds!(&rt; is_word(&[b'x'; 200]));
-    holds!(&rt; !is_word(&[b'x'; 201]));
-    holds!(&rt; !is_word(b""));
-    holds!(&rt; !is_word(b"l2 game"));
-    holds!(&rt; !is_word(b"l2\x7f"));
-}
-
-#[test]
-fn faults_say_their_line(rt: HostRuntime) -> Result<(), Fail> {
-    let fault = LogFault {
-        kind: LogFaultKind::WrongValues,
-        line: 2,
-    };
-    same!(&rt; fault.code(), 48);
-    prints(&rt, rt.alloc(), &fault, "48 WrongValues 2")?;
     Ok(())
-}
-
-/// Whether a log is told to be one of this game's.
-fn is_log(rt: &impl Abort, game_file: &[u8], log: &[u8]) -> bool {
-    check(log, &game(rt, game_file)).is_ok()
-}
-
-/// Whether a log is told to be wrong at this line, by this fault.
-fn is_wrong(rt: &impl Abort, log: &[u8], line: usize, kind: LogFaultKind) -> bool {
-    match check(log, &game(rt, L2)) {
-        Ok(()) => false,
-        Err(fault) => fault == LogFault { kind, line },
-    }
-}
-
-/// Whole logs, each with its game's file.
-static LOGS: [(&[u8], &[u8]); 5] = [
-    (
-        L2,
-        b"# name/game/hands m l2.game 1\nSTATE:0:f:TdAs|8hTc:5|-5:alice|bob\nSCORE:5|-5:alice|bob\n",
-    ),
-    (
-        L2,
-        b"# name/game/hands m l2.game 2\nSTATE:0:f:TdAs|8hTc:5|-5:alice|bob\nSTATE:1:f:2d2h|3d3s:5|-5:bob|alice\nSCORE:0|0:alice|bob\n",
-    ),
-    (
-        L3,
-        b"# name/game/hands m l3.game 1\nSTATE:0:cfc/cc/cc/cc:2c3d|4c5d|6c7d/TsJsQs/Ks/As:-5|3|2:alice|bob|carol\nSCORE:-5|3|2:alice|bob|carol\n",
-    ),
-    (
-        N3,
-        b"# name/game/hands m n3.game 1\nSTATE:0:ccr150r200c/r1000c//:2c7d|AsAh|KsKh/3d8h9c/Jd/4s:-1000|300|700:alice|bob|carol\nSCORE:-1000|300|700:alice|bob|carol\n",
-    ),
-    (
-        N2,
-        b"# name/game/hands m n2.game 1\nSTATE:0:r20000c///:TdAs|8hTc/2c8c3h/9c/Kh:-20000|20000:alice|bob\nSCORE:-20000|20000:alice|bob\n",
-    ),
-];
-
-#[test]
-fn whole_logs_are_right(rt: HostRuntime) {
-    for &(game_file, log) in &LOGS {
-        holds!(&rt; is_log(&rt, game_file, log));
-    }
 }
 
 /// Logs that are wrong, each with the first line at fault and its fault.
@@ -348,18 +288,61 @@ static WRONG_LOGS: [(&[u8], usize, LogFaultKind); 7] = [
 ];
 
 #[test]
-fn the_first_line_at_fault_is_told(rt: HostRuntime) {
+fn the_first_line_at_fault_is_told(rt: HostRuntime) -> Result<(), Fail> {
+    let game = game(&rt, L2);
     for &(log, line, kind) in &WRONG_LOGS {
-        holds!(&rt; is_wrong(&rt, log, line, kind));
+        is_told(&rt, log, &game, Err(LogFault { kind, line }));
+    }
+    let fault = LogFault {
+        kind: LogFaultKind::WrongValues,
+        line: 2,
+    };
+    same!(&rt; fault.code(), 48);
+    prints(&rt, rt.alloc(), &fault, "48 WrongValues 2")?;
+    Ok(())
+}
+
+/// Texts, and whether they have two players' names.
+static TWO_NAMES: [(&[u8], bool); 6] = [
+    (b"alice|bob", true),
+    (b"alice", false),
+    (b"alice|alice", false),
+    (b"alice|bob|carol", false),
+    (b"alice|", false),
+    (b"alice|b b", false),
+];
+
+/// Texts, and whether they are a name.
+static NAMES: [(&[u8], bool); 4] = [
+    (b"a.B-c_9", true),
+    (b"", false),
+    (b"a b", false),
+    (&[b'x'; 33], false),
+];
+
+/// Texts, and whether they are a game's word.
+static WORDS: [(&[u8], bool); 6] = [
+    (b"!holdem.limit.2p.game~", true),
+    (&[b'x'; 200], true),
+    (&[b'x'; 201], false),
+    (b"", false),
+    (b"l2 game", false),
+    (b"l2\x7f", false),
+];
+
+#[test]
+fn each_seat_has_a_name_of_its_own(rt: HostRuntime) {
+    for &(text, are_names) in &TWO_NAMES {
+        holds!(&rt; SeatNames::read(text, 2).is_some() == are_names);
     }
 }
 
 #[test]
-fn a_log_is_printed_among_other_lines(rt: HostRuntime) -> Result<(), Fail> {
-    let mut printed = Vec::new(rt.alloc());
-    put_fronted(&mut printed, b"1 L ", b"# name/game/hands m l2.game 1\n")?;
-    put_fronted(&mut printed, b"2 L ", b"STATE:0\nSCORE:1|-1:a|b\n")?;
-    holds!(&rt; printed.as_slice()
-            == b"1 L # name/game/hands m l2.game 1\n2 L STATE:0\n2 L SCORE:1|-1:a|b\n".as_slice());
-    Ok(())
+fn names_and_words_are_short_and_plain(rt: HostRuntime) {
+    for &(text, is_name) in &NAMES {
+        holds!(&rt; Name::new(text).is_some() == is_name);
+    }
+    for &(text, is_word) in &WORDS {
+        holds!(&rt; is_game_word(text) == is_word);
+    }
 }

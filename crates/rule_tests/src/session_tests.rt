@@ -1,4 +1,4 @@
-use crate::asserting::{holds, prints, same};
+use crate::asserting::{holds, same};
 use crate::samples::{L2, game, ten_ace};
 use betting::{ActFault, Action};
 use matchstate::LineFault;
@@ -19,18 +19,17 @@ fn apply(table: &mut Table, command: &Command) -> Result<(), AllocError> {
     Ok(())
 }
 
-/// Deals the first hand: where memory is refused, there is some the second time.
-fn deal(rt: &impl Abort, table: &mut Table) -> Result<(), AllocError> {
+/// Deals the first hand and takes these actions in it; does nothing where there are none.
+fn play(
+    rt: &impl Abort,
+    table: &mut Table,
+    actions: Option<&[Action]>,
+) -> Result<(), AllocError> {
+    let Some(actions) = actions else {
+        return Ok(());
+    };
     let deal = ten_ace(rt);
-    let dealing = Command::Deal { hand: 0, deal };
-    match apply(table, &dealing) {
-        Ok(()) => Ok(()),
-        Err(_) => apply(table, &dealing),
-    }
-}
-
-/// Takes actions in the first hand.
-fn take_all(rt: &impl Abort, table: &mut Table, actions: &[Action]) -> Result<(), AllocError> {
+    apply(table, &Command::Deal { hand: 0, deal })?;
     for (index, action) in actions.iter().enumerate() {
         assert!(rt; index < 256);
         apply(table, &act(index as u16, *action))?;
@@ -38,11 +37,10 @@ fn take_all(rt: &impl Abort, table: &mut Table, actions: &[Action]) -> Result<()
     Ok(())
 }
 
-/// A match of one hand after these actions in it.
-fn table_after(rt: &impl Abort, alloc: Global, actions: &[Action]) -> Result<Table, AllocError> {
+/// A match of one hand that was dealt.
+fn dealt(rt: &impl Abort, alloc: Global) -> Result<Table, AllocError> {
     let mut table = Table::new(alloc, game(rt, L2), 1);
-    deal(rt, &mut table)?;
-    take_all(rt, &mut table, actions)?;
+    play(rt, &mut table, Some(&[]))?;
     Ok(table)
 }
 
@@ -54,45 +52,29 @@ fn act(index: u16, action: Action) -> Command {
     }
 }
 
-fn ask(rt: &impl Abort, session: &mut Session, table: &Table) -> Option<Answer> {
-    assert!(rt; session.seat() < table.game().players());
-    session.next(table)
-}
-
-/// Sees that a session answers this.
-fn answers(rt: &impl Abort, session: &mut Session, table: &Table, wanted: Option<Answer>) {
-    holds!(rt; ask(rt, session, table) == wanted);
-}
-
 /// Gives a session a piece.
 fn feed(session: &mut Session, piece: &[u8]) -> Result<(), AllocError> {
     session.feed(piece)
 }
 
-/// Gives a session a greeting, and tells whether it answers it.
+/// Sees that a session answers this.
+fn answers(rt: &impl Abort, session: &mut Session, table: &Table, wanted: Option<Answer>) {
+    assert!(rt; session.seat() < table.game().players());
+    same!(rt; session.next(table), wanted);
+}
+
+/// Sees that a session gets ready, where it is greeted.
 fn greet(
     rt: &impl Abort,
     session: &mut Session,
     table: &Table,
-    greeting: &[u8],
-) -> Result<bool, AllocError> {
-    feed(session, greeting)?;
-    Ok(ask(rt, session, table).is_some())
-}
-
-/// Whether a session answers a greeting, and what it answers to the bytes behind it, which come at once.
-fn answer_at_once(
-    rt: &impl Abort,
-    alloc: Global,
-    table: &Table,
-    seat: usize,
-    greeting: &[u8],
-    bytes: &[u8],
-) -> Result<(bool, Option<Answer>), AllocError> {
-    let mut session = Session::new(alloc, seat);
-    let greeted = greet(rt, &mut session, table, greeting)?;
-    feed(&mut session, bytes)?;
-    Ok((greeted, ask(rt, &mut session, table)))
+    is_greeted: bool,
+) -> Result<(), AllocError> {
+    if is_greeted {
+        feed(session, GREETING)?;
+        answers(rt, session, table, Some(Ok(Said::Ready)));
+    }
+    Ok(())
 }
 
 /// Gives a session bytes one at a time: nothing is answered before the last byte.
@@ -103,215 +85,133 @@ fn feed_bytewise(
     bytes: &[u8],
 ) -> Result<(), AllocError> {
     for byte in bytes {
-        holds!(rt; ask(rt, session, table).is_none());
+        answers(rt, session, table, None);
         feed(session, &[*byte])?;
     }
     Ok(())
 }
 
-/// The same where the bytes behind the greeting come one at a time.
-fn answer_bytewise(
+/// What is answered: that the seat is ready, a call with its index, or a fault.
+#[derive(Clone, Copy)]
+enum Wanted {
+    Ready,
+    Call(u16),
+    Fault(SessionFault),
+}
+
+/// The answer that is wanted.
+fn answer_of(wanted: Wanted) -> Answer {
+    match wanted {
+        Wanted::Ready => Ok(Said::Ready),
+        Wanted::Call(index) => Ok(Said::Act(act(index, Action::Call))),
+        Wanted::Fault(fault) => Err(fault),
+    }
+}
+
+/// What a seat says: the actions of the first hand before, where it is dealt, the seat, whether it has greeted, its bytes,
+/// and what is answered.
+type Speech = (Option<&'static [Action]>, usize, bool, &'static [u8], Wanted);
+
+/// Sees what a session answers to bytes that come at once.
+fn answers_at_once(
     rt: &impl Abort,
     alloc: Global,
     table: &Table,
-    seat: usize,
-    greeting: &[u8],
-    bytes: &[u8],
-) -> Result<(bool, Option<Answer>), AllocError> {
-    let mut session = Session::new(alloc, seat);
-    let greeted = greet(rt, &mut session, table, greeting)?;
+    said: &Speech,
+) -> Result<(), AllocError> {
+    let (_, seat, is_greeted, bytes, wanted) = said;
+    let mut session = Session::new(alloc, *seat);
+    greet(rt, &mut session, table, *is_greeted)?;
+    feed(&mut session, bytes)?;
+    answers(rt, &mut session, table, Some(answer_of(*wanted)));
+    Ok(())
+}
+
+/// Sees that another session answers the same where they come one at a time.
+fn answers_bytewise(
+    rt: &impl Abort,
+    alloc: Global,
+    table: &Table,
+    said: &Speech,
+) -> Result<(), AllocError> {
+    let (_, seat, is_greeted, bytes, wanted) = said;
+    let mut session = Session::new(alloc, *seat);
+    greet(rt, &mut session, table, *is_greeted)?;
     feed_bytewise(rt, &mut session, table, bytes)?;
-    Ok((greeted, ask(rt, &mut session, table)))
-}
-
-/// What a session answers to these bytes, which come at once and then, to another session, one at a time:
-/// both answer the same.
-fn answer_to(
-    rt: &impl Abort,
-    alloc: Global,
-    table: &Table,
-    seat: usize,
-    greeting: &[u8],
-    bytes: &[u8],
-) -> Result<Answer, Fail> {
-    let at_once = answer_at_once(rt, alloc, table, seat, greeting, bytes)?;
-    let bytewise = answer_bytewise(rt, alloc, table, seat, greeting, bytes)?;
-    holds!(rt; at_once == bytewise);
-    let (_, answer) = at_once;
-    Ok(answer.ok_or("no answer")?)
-}
-
-/// Sees that these bytes are this act, of a session that is ready.
-fn acts_by(
-    rt: &impl Abort,
-    alloc: Global,
-    table: &Table,
-    seat: usize,
-    bytes: &[u8],
-    wanted: Command,
-) -> Result<(), Fail> {
-    let answer = answer_to(rt, alloc, table, seat, GREETING, bytes)?;
-    assert!(rt; answer == Ok(Said::Act(wanted)), "at {bytes:?}");
+    answers(rt, &mut session, table, Some(answer_of(*wanted)));
     Ok(())
 }
 
-/// Sees that a session that is ready has this fault for these bytes.
-fn refuses(
-    rt: &impl Abort,
-    alloc: Global,
-    table: &Table,
-    seat: usize,
-    bytes: &[u8],
-    wanted: SessionFault,
-) -> Result<(), Fail> {
-    let answer = answer_to(rt, alloc, table, seat, GREETING, bytes)?;
-    assert!(rt; answer == Err(wanted), "at {bytes:?}");
-    Ok(())
-}
-
-/// Sees whether a session is ready after this first line; else it is closed.
-fn greets(
-    rt: &impl Abort,
-    alloc: Global,
-    table: &Table,
-    line: &[u8],
-    ready: bool,
-) -> Result<(), Fail> {
-    let wanted = if ready {
-        Ok(Said::Ready)
-    } else {
-        Err(SessionFault::BadVersion)
-    };
-    let answer = answer_to(rt, alloc, table, 1, b"", line)?;
-    assert!(rt; answer == wanted, "at {line:?}");
-    Ok(())
+/// Sees what is answered to a seat.
+fn is_answered(rt: &impl Abort, alloc: Global, said: &Speech) -> Result<(), AllocError> {
+    let mut table = Table::new(alloc, game(rt, L2), 1);
+    play(rt, &mut table, said.0)?;
+    answers_at_once(rt, alloc, &table, said)?;
+    answers_bytewise(rt, alloc, &table, said)
 }
 
 const GREETING: &[u8] = b"VERSION:2.0.0\r\n";
 
-/// First lines, and whether a session is ready after them.
-static FIRST_LINES: [(&[u8], bool); 8] = [
-    (b"VERSION:2.0.0\r\n", true),
-    (b"# hello\r\n;\nVERSION:2.0.7\n", true),
-    (b"VERSION:2.0.012345678\n", true),
-    (b"VERSION:2.1.0\n", false),
-    (b"VERSION:2.0.\n", false),
-    (b"VERSION:2.0.0123456789\n", false),
-    (b"MATCHSTATE:1:0::|8hTc:c\n", false),
-    (b"\n", false),
+/// A hand that was dealt and in which nobody has acted.
+const DEALT: Option<&[Action]> = Some(&[]);
+
+const CALLED: Option<&[Action]> = Some(&[Action::Call]);
+
+const RAISED: Option<&[Action]> = Some(&[Action::Raise(20), Action::Raise(30), Action::Raise(40)]);
+
+const FOLDED: Option<&[Action]> = Some(&[Action::Fold]);
+
+const READY: Wanted = Wanted::Ready;
+
+const FIRST_CALL: Wanted = Wanted::Call(0);
+
+const SECOND_CALL: Wanted = Wanted::Call(1);
+
+const BAD_VERSION: Wanted = Wanted::Fault(SessionFault::BadVersion);
+
+const NO_ACTION: Wanted = Wanted::Fault(SessionFault::Malformed(LineFault::BadAction));
+
+const NO_LINE: Wanted = Wanted::Fault(SessionFault::Malformed(LineFault::NotMatchstate));
+
+const NOT_CURRENT: Wanted = Wanted::Fault(SessionFault::NotCurrent);
+
+const NOT_YOUR_TURN: Wanted = Wanted::Fault(SessionFault::NotYourTurn);
+
+const NO_FOLD: Wanted = Wanted::Fault(SessionFault::Illegal(ActFault::FoldNotFacing));
+
+const NO_RAISE: Wanted = Wanted::Fault(SessionFault::Illegal(ActFault::TooManyRaises));
+
+/// First lines, acts, and each fault of a line.
+static SPEECHES: [Speech; 21] = [
+    (DEALT, 1, false, b"VERSION:2.0.0\r\n", READY),
+    (DEALT, 1, false, b"# hello\r\n;\nVERSION:2.0.7\n", READY),
+    (DEALT, 1, false, b"VERSION:2.0.012345678\n", READY),
+    (DEALT, 1, false, b"VERSION:2.1.0\n", BAD_VERSION),
+    (DEALT, 1, false, b"VERSION:2.0.\n", BAD_VERSION),
+    (DEALT, 1, false, b"VERSION:2.0.0123456789\n", BAD_VERSION),
+    (DEALT, 1, false, b"MATCHSTATE:1:0::|8hTc:c\n", BAD_VERSION),
+    (DEALT, 1, false, b"\n", BAD_VERSION),
+    (DEALT, 1, true, b"MATCHSTATE:1:0::|8hTc:c\r\n", FIRST_CALL),
+    (DEALT, 1, true, b"# call\n;\r\nMATCHSTATE:1:0::|8hTc:c\n", FIRST_CALL),
+    (CALLED, 0, true, b"MATCHSTATE:0:0:c:TdAs|:c\r\n", SECOND_CALL),
+    (DEALT, 1, true, b"MATCHSTATE:1:0::|8hTc:x\r\n", NO_ACTION),
+    (DEALT, 1, true, b"MATCHSTATE:1:0::|8hTc:r20\r\n", NO_ACTION),
+    (DEALT, 1, true, b"HELLO\r\n", NO_LINE),
+    (DEALT, 1, true, b"MATCHSTATE:0:0::TdAs|:c\r\n", NOT_CURRENT),
+    (DEALT, 0, true, b"MATCHSTATE:0:0::TdAs|:c\r\n", NOT_YOUR_TURN),
+    (CALLED, 1, true, b"MATCHSTATE:1:0::|8hTc:c\n", NOT_CURRENT),
+    (CALLED, 0, true, b"MATCHSTATE:0:0:c:TdAs|:f\r\n", NO_FOLD),
+    (None, 1, true, b"MATCHSTATE:1:0::|8hTc:c\n", NOT_CURRENT),
+    (RAISED, 0, true, b"MATCHSTATE:0:0:rrr:TdAs|:r\r\n", NO_RAISE),
+    (FOLDED, 1, true, b"MATCHSTATE:1:0:f:|8hTc:c\r\n", NOT_YOUR_TURN),
 ];
 
 #[test]
-fn first_lines(rt: HostRuntime) -> Result<(), Fail> {
-    let table = table_after(&rt, rt.alloc(), &[])?;
-    for &(line, ready) in &FIRST_LINES {
-        greets(&rt, rt.alloc(), &table, line, ready)?;
+fn lines_of_seats_are_answered(rt: HostRuntime) -> Result<(), Fail> {
+    for said in &SPEECHES {
+        is_answered(&rt, rt.alloc(), said)?;
     }
     Ok(())
-}
-
-/// Calls of the first player to act, each of which is the act of a call.
-static CALLS: [&[u8]; 2] = [
-    b"MATCHSTATE:1:0::|8hTc:c\r\n",
-    b"# call\n;\r\nMATCHSTATE:1:0::|8hTc:c\n",
-];
-
-#[test]
-fn acts(rt: HostRuntime) -> Result<(), Fail> {
-    let dealt = table_after(&rt, rt.alloc(), &[])?;
-    for &line in &CALLS {
-        acts_by(&rt, rt.alloc(), &dealt, 1, line, act(0, Action::Call))?;
-    }
-    let called = table_after(&rt, rt.alloc(), &[Action::Call])?;
-    let line = b"MATCHSTATE:0:0:c:TdAs|:c\r\n";
-    acts_by(&rt, rt.alloc(), &called, 0, line, act(1, Action::Call))
-}
-
-const ACTIONS: [Action; 3] = [Action::Raise(20), Action::Raise(30), Action::Raise(40)];
-
-const NO_ACTION: SessionFault = SessionFault::Malformed(LineFault::BadAction);
-
-const NO_LINE: SessionFault = SessionFault::Malformed(LineFault::NotMatchstate);
-
-const NO_FOLD: SessionFault = SessionFault::Illegal(ActFault::FoldNotFacing);
-
-/// Lines of seats once a hand is dealt, each with its fault.
-static DEALT_FAULTS: [(usize, &[u8], SessionFault); 5] = [
-    (1, b"MATCHSTATE:1:0::|8hTc:x\r\n", NO_ACTION),
-    (1, b"MATCHSTATE:1:0::|8hTc:r20\r\n", NO_ACTION),
-    (1, b"HELLO\r\n", NO_LINE),
-    (1, b"MATCHSTATE:0:0::TdAs|:c\r\n", SessionFault::NotCurrent),
-    (0, b"MATCHSTATE:0:0::TdAs|:c\r\n", SessionFault::NotYourTurn),
-];
-
-/// The same once the first player has called.
-static CALLED_FAULTS: [(usize, &[u8], SessionFault); 2] = [
-    (1, b"MATCHSTATE:1:0::|8hTc:c\n", SessionFault::NotCurrent),
-    (0, b"MATCHSTATE:0:0:c:TdAs|:f\r\n", NO_FOLD),
-];
-
-/// Sees the faults of lines at a table.
-fn refuses_all(
-    rt: &impl Abort,
-    alloc: Global,
-    table: &Table,
-    faults: &[(usize, &[u8], SessionFault)],
-) -> Result<(), Fail> {
-    for &(seat, line, fault) in faults {
-        refuses(rt, alloc, table, seat, line, fault)?;
-    }
-    Ok(())
-}
-
-#[test]
-fn faults(rt: HostRuntime) -> Result<(), Fail> {
-    let dealt = table_after(&rt, rt.alloc(), &[])?;
-    refuses_all(&rt, rt.alloc(), &dealt, &DEALT_FAULTS)?;
-    let called = table_after(&rt, rt.alloc(), &[Action::Call])?;
-    refuses_all(&rt, rt.alloc(), &called, &CALLED_FAULTS)
-}
-
-/// Sees the fault of a line of the second seat before the first deal.
-fn refuses_undealt(
-    rt: &impl Abort,
-    alloc: Global,
-    line: &[u8],
-    fault: SessionFault,
-) -> Result<(), Fail> {
-    let undealt = Table::new(alloc, game(rt, L2), 1);
-    refuses(rt, alloc, &undealt, 1, line, fault)
-}
-
-/// Sees the fault of a seat's line after these actions in the first hand.
-fn refuses_after(
-    rt: &impl Abort,
-    alloc: Global,
-    actions: &[Action],
-    seat: usize,
-    line: &[u8],
-    fault: SessionFault,
-) -> Result<(), Fail> {
-    let table = table_after(rt, alloc, actions)?;
-    refuses(rt, alloc, &table, seat, line, fault)
-}
-
-#[test]
-fn faults_at_other_tables(rt: HostRuntime) -> Result<(), Fail> {
-    let alloc = rt.alloc();
-    let line = b"MATCHSTATE:1:0::|8hTc:c\n";
-    refuses_undealt(&rt, alloc, line, SessionFault::NotCurrent)?;
-    let line = b"MATCHSTATE:0:0:rrr:TdAs|:r\r\n";
-    let no_raise = SessionFault::Illegal(ActFault::TooManyRaises);
-    refuses_after(&rt, alloc, &ACTIONS, 0, line, no_raise)?;
-    let line = b"MATCHSTATE:1:0:f:|8hTc:c\r\n";
-    refuses_after(
-        &rt,
-        alloc,
-        &[Action::Fold],
-        1,
-        line,
-        SessionFault::NotYourTurn,
-    )
 }
 
 /// Gives a session a comment of 4096 bytes into room that is made for it.
@@ -331,19 +231,11 @@ fn skips_comment(rt: &impl Abort, session: &mut Session, table: &Table) -> Resul
     Ok(())
 }
 
-#[test]
-fn a_comment_of_4096_bytes_is_skipped(rt: HostRuntime) -> Result<(), Fail> {
-    let table = table_after(&rt, rt.alloc(), &[])?;
-    let mut session = Session::new(rt.alloc(), 1);
-    skips_comment(&rt, &mut session, &table)?;
-    Ok(())
-}
-
 /// Sees that a session that gets these bytes is closed by a fault, and answers it to what comes behind, too.
 fn is_closed_by(
     rt: &impl Abort,
-    table: &Table,
     session: &mut Session,
+    table: &Table,
     bytes: &[u8],
     fault: SessionFault,
 ) -> Result<(), AllocError> {
@@ -355,100 +247,54 @@ fn is_closed_by(
     Ok(())
 }
 
-/// Sees that a ready session is closed by a line that is too long.
-fn is_closed_by_length(
-    rt: &impl Abort,
-    table: &Table,
-    session: &mut Session,
-) -> Result<(), AllocError> {
-    feed(session, GREETING)?;
-    answers(rt, session, table, Some(Ok(Said::Ready)));
-    is_closed_by(rt, table, session, &[b'#'; 4097], SessionFault::LineTooLong)
-}
-
 #[test]
-fn closed_sessions(rt: HostRuntime) -> Result<(), Fail> {
-    let table = table_after(&rt, rt.alloc(), &[])?;
-    let mut long = Session::new(rt.alloc(), 1);
-    is_closed_by_length(&rt, &table, &mut long)?;
-    let mut refused = Session::new(rt.alloc(), 1);
-    let line = b"VERSION:1.0.0\n";
-    is_closed_by(&rt, &table, &mut refused, line, SessionFault::BadVersion)?;
+fn a_comment_of_4096_bytes_is_skipped_and_a_longer_one_closes(
+    rt: HostRuntime,
+) -> Result<(), Fail> {
+    let table = dealt(&rt, rt.alloc())?;
+    let mut session = Session::new(rt.alloc(), 1);
+    skips_comment(&rt, &mut session, &table)?;
+    let fault = SessionFault::LineTooLong;
+    same!(&rt; fault.code(), 81);
+    is_closed_by(&rt, &mut session, &table, &[b'#'; 4097], fault)?;
     Ok(())
 }
 
-/// Sees how many line feeds wait, and that a session answers where some do.
-fn answers_waiting(rt: &impl Abort, session: &mut Session, table: &Table, waiting: usize) {
-    holds!(rt; session.line_feeds() == waiting);
-    let answered = ask(rt, session, table).is_some();
-    holds!(rt; answered == (waiting > 0));
+#[test]
+fn another_version_closes(rt: HostRuntime) -> Result<(), Fail> {
+    let table = dealt(&rt, rt.alloc())?;
+    let mut session = Session::new(rt.alloc(), 1);
+    let fault = SessionFault::BadVersion;
+    is_closed_by(&rt, &mut session, &table, b"VERSION:1.0.0\n", fault)?;
+    Ok(())
+}
+
+/// Sees how many line feeds wait, and what the session answers.
+fn answers_waiting(
+    rt: &impl Abort,
+    session: &mut Session,
+    table: &Table,
+    waiting: usize,
+    wanted: Option<Answer>,
+) {
+    same!(rt; session.line_feeds(), waiting);
+    answers(rt, session, table, wanted);
+}
+
+/// Sees that the version is answered, then the line behind a comment, and not the last one, which isn't whole.
+fn answers_in_turn(rt: &impl Abort, session: &mut Session, table: &Table) {
+    answers_waiting(rt, session, table, 3, Some(answer_of(READY)));
+    answers_waiting(rt, session, table, 2, Some(answer_of(NO_LINE)));
+    answers_waiting(rt, session, table, 0, None);
 }
 
 #[test]
 fn each_answer_takes_a_line_feed(rt: HostRuntime) -> Result<(), Fail> {
     let piece = b"VERSION:2.0.0\r\n# one\nHELLO\nMATCH";
-    holds!(&rt; line_feeds(piece) == 3);
-    let table = table_after(&rt, rt.alloc(), &[])?;
+    same!(&rt; line_feeds(piece), 3);
+    let table = dealt(&rt, rt.alloc())?;
     let mut session = Session::new(rt.alloc(), 1);
     feed(&mut session, piece)?;
-    for waiting in [3, 2, 0] {
-        answers_waiting(&rt, &mut session, &table, waiting);
-    }
-    Ok(())
-}
-
-/// Gives a session a piece: where memory is refused, there is some the second time.
-fn feed_twice(rt: &impl Abort, session: &mut Session, piece: &[u8]) {
-    if feed(session, piece).is_err() {
-        assert!(rt; feed(session, piece).is_ok(), "the second time");
-    }
-}
-
-/// Makes room in a session: where memory is refused, there is some the second time.
-fn reserve_twice(rt: &impl Abort, session: &mut Session, more: usize) {
-    if session.reserve(more).is_err() {
-        assert!(rt; session.reserve(more).is_ok(), "the second time");
-    }
-}
-
-/// Sees that a session is ready, then calls, and then has nothing more to say.
-fn is_ready_and_calls(rt: &impl Abort, session: &mut Session, table: &Table) {
-    let called = Ok(Said::Act(act(0, Action::Call)));
-    answers(rt, session, table, Some(Ok(Said::Ready)));
-    answers(rt, session, table, Some(called));
-    answers(rt, session, table, None);
-}
-
-/// A greeting and a call, in pieces.
-static PIECES: [&[u8]; 3] = [b"VERSION:2", b".0.0\nMATCHSTATE:1:0::|", b"8hTc:c\n"];
-
-#[test]
-fn refused_memory_changes_nothing(rt: HostRuntime) -> Result<(), Fail> {
-    let table = table_after(&rt, rt.alloc(), &[])?;
-    let mut session = Session::new(rt.alloc(), 1);
-    for &piece in &PIECES {
-        feed_twice(&rt, &mut session, piece);
-    }
-    reserve_twice(&rt, &mut session, 5000);
-    is_ready_and_calls(&rt, &mut session, &table);
-    Ok(())
-}
-
-/// Faults of sessions, and what is printed of them.
-static PRINTED: [(SessionFault, &str); 3] = [
-    (NO_ACTION, "82 Malformed 44 BadAction"),
-    (
-        SessionFault::Illegal(ActFault::TooManyRaises),
-        "85 Illegal 22 TooManyRaises",
-    ),
-    (SessionFault::BadVersion, "80 BadVersion"),
-];
-
-#[test]
-fn faults_print(rt: HostRuntime) -> Result<(), Fail> {
-    same!(&rt; SessionFault::LineTooLong.code(), 81);
-    for &(fault, text) in &PRINTED {
-        prints(&rt, rt.alloc(), &fault, text)?;
-    }
+    answers_in_turn(&rt, &mut session, &table);
     Ok(())
 }

@@ -4,7 +4,7 @@ ghost use Rattle.paxos_wire.specs.Fits.{Fits};
 use crate::asserting::{holds, prints, same};
 use betting::Action;
 use paxos_wire::{
-    Ballot, Entries, Entry, Feed, FrameFault, Message, ballot_bytes, command_bytes, decode, encode,
+    Ballot, Feed, FrameFault, Message, ballot_bytes, command_bytes, decode, encode,
     encode_reserved, frame_len, read_ballot, read_command, read_slot, read_stream, slot_bytes,
     write_ballot, write_ballot_reserved, write_command, write_command_reserved,
 };
@@ -31,8 +31,13 @@ const PROMISE: [u8; 40] = [
     0x21, 0x33, 0x1a, 0x20, 0, 0x18, 6, 0x1c, 0x2e,
 ];
 
-/// These four frames.
-static FRAMES: [&[u8]; 4] = [&PREPARE, &ACCEPT, &FORWARD, &PROMISE];
+/// These four frames, and what is printed of their messages.
+static FRAMES: [(&[u8], &str); 4] = [
+    (&PREPARE, "Prepare (1, 0) from 0"),
+    (&ACCEPT, "Accept (1, 0) at 0: deal of hand 0"),
+    (&FORWARD, "Forward act 0 of hand 0: call"),
+    (&PROMISE, "Promise (2, 2) from 0: 1 accepted"),
+];
 
 /// Prepare of (1, 0) at slot 0.
 fn prepare() -> Message {
@@ -91,55 +96,65 @@ fn write_in_room(
     Ok(())
 }
 
-/// Sees that a frame is written as it is read.
-fn rewrites(rt: &impl Abort, alloc: Global, frame: &[u8]) -> Result<(), Fail> {
-    let message = message_of(frame).ok_or("the bytes are a frame")?;
+/// Sees that a frame is written as it is read, and what is printed of its message.
+fn rewrites_and_prints(
+    rt: &impl Abort,
+    alloc: Global,
+    frame: &[u8],
+    line: &str,
+) -> Result<(), AllocError> {
+    let message = message_of(frame).expect(rt, "the bytes are a frame");
     let mut out = Vec::new(alloc);
     writes(rt, &mut out, &message, frame)?;
     write_in_room(rt, &mut out, &message, frame.len())?;
     same!(rt; out.len(), 2 * frame.len());
-    Ok(())
+    prints(rt, alloc, &message, line)
 }
 
 #[test]
-fn frames_read_and_write_alike(rt: HostRuntime) -> Result<(), Fail> {
-    for &frame in &FRAMES {
-        rewrites(&rt, rt.alloc(), frame)?;
+fn frames_read_and_write_alike_and_print_on_one_line(rt: HostRuntime) -> Result<(), Fail> {
+    for &(frame, line) in &FRAMES {
+        rewrites_and_prints(&rt, rt.alloc(), frame, line)?;
     }
     Ok(())
 }
 
-/// Bytes that are no frame, each with its fault.
-static NO_FRAMES: [(&[u8], FrameFault); 10] = [
-    (&[0, 0, 0, 2, 2, 1], FrameFault::BadVersion),
-    (&[0, 0, 0, 2, 1, 9], FrameFault::BadKind),
-    (&[0, 0, 0, 2, 1, 1], FrameFault::BadBody),
+/// Bytes that are no frame, each with its fault and the fault's number.
+static NO_FRAMES: [(&[u8], FrameFault, u8); 10] = [
+    (&[0, 0, 0, 2, 2, 1], FrameFault::BadVersion, 52),
+    (&[0, 0, 0, 2, 1, 9], FrameFault::BadKind, 53),
+    (&[0, 0, 0, 2, 1, 1], FrameFault::BadBody, 54),
     // no round, no node, no slot, and no last byte
     (
         &[0, 0, 0, 11, 1, 1, 0, 0, 0, 0, 0, 0, 0, 0, 0],
         FrameFault::BadBody,
+        54,
     ),
     (
         &[0, 0, 0, 11, 1, 1, 0, 0, 0, 1, 5, 0, 0, 0, 0],
         FrameFault::BadBody,
+        54,
     ),
     (
         &[0, 0, 0, 11, 1, 1, 0, 0, 0, 1, 0, 0, 0x3d, 9, 0],
         FrameFault::BadBody,
+        54,
     ),
     (
         &[0, 0, 0, 11, 1, 1, 0, 0, 0, 1, 0, 0, 0, 0],
         FrameFault::BadBody,
+        54,
     ),
-    (&[0, 0, 0], FrameFault::TooShort),
-    (&[0, 0, 0, 1, 1], FrameFault::TooShort),
-    (&[0, 0, 0x10, 1], FrameFault::TooLong),
+    (&[0, 0, 0], FrameFault::TooShort, 50),
+    (&[0, 0, 0, 1, 1], FrameFault::TooShort, 50),
+    (&[0, 0, 0x10, 1], FrameFault::TooLong, 51),
 ];
 
 #[test]
 fn frames_at_fault(rt: HostRuntime) {
-    for &(bytes, fault) in &NO_FRAMES {
+    for &(bytes, fault, code) in &NO_FRAMES {
         same!(&rt; fault_of(bytes), Some(fault));
+        same!(&rt; fault.code(), code);
     }
 }
 
@@ -219,67 +234,68 @@ fn wants_more(rt: &impl Abort, feed: &mut Feed, piece: &[u8]) -> Result<(), Allo
     Ok(())
 }
 
-/// Gives a feed a piece that it is at fault behind.
-fn is_at_fault(
+/// What a feed answers to a piece.
+#[derive(Clone, Copy)]
+enum Next {
+    /// Nothing, since more is to come.
+    Nothing,
+    /// Prepare of (1, 0) at slot 0.
+    Prepare,
+    Fault(FrameFault),
+}
+
+/// Sees what a feed answers to a piece, which comes into room that is made for it.
+fn answers(
     rt: &impl Abort,
     feed: &mut Feed,
     piece: &[u8],
-    fault: FrameFault,
+    wanted: Next,
 ) -> Result<(), AllocError> {
-    feed.feed(piece)?;
-    holds!(rt; feed.next() == Some(Err(fault)));
+    feed.reserve(piece.len())?;
+    feed.feed_reserved(piece);
+    let wanted = match wanted {
+        Next::Nothing => None,
+        Next::Prepare => Some(Ok(prepare())),
+        Next::Fault(fault) => Some(Err(fault)),
+    };
+    holds!(rt; feed.next() == wanted);
     Ok(())
 }
 
-/// Gives a feed that has a length in front all bytes of its frame but one.
-fn feed_all_but_one(rt: &impl Abort, feed: &mut Feed) -> Result<(), AllocError> {
-    for _ in 0..4095u16 {
-        feed.feed(&[1])?;
+/// Pieces, and what a feed answers to each.
+type Pieces = &'static [(&'static [u8], Next)];
+
+/// Sees what a feed answers to pieces.
+fn answers_all(rt: &impl Abort, feed: &mut Feed, pieces: Pieces) -> Result<(), AllocError> {
+    for &(piece, wanted) in pieces {
+        answers(rt, feed, piece, wanted)?;
     }
-    holds!(rt; feed.next().is_none());
     Ok(())
 }
 
-/// Gives a feed a frame of the greatest length, all of which is there but in the end.
-fn feeds_the_longest(rt: &impl Abort, feed: &mut Feed) -> Result<(), AllocError> {
-    wants_more(rt, feed, &[0, 0, 0x10])?;
-    wants_more(rt, feed, &[0])?;
-    feed_all_but_one(rt, feed)?;
-    is_at_fault(rt, feed, &[1], FrameFault::BadBody)
-}
+/// A frame of the greatest length, which is at fault once its last byte is there; a length above the limit, at fault at
+/// once and from then on; and a whole frame.
+static FEEDS: [Pieces; 3] = [
+    &[
+        (&[0, 0, 0x10], Next::Nothing),
+        (&[0], Next::Nothing),
+        (&[1; 4095], Next::Nothing),
+        (&[1], Next::Fault(FrameFault::BadBody)),
+    ],
+    &[
+        (&[0, 0, 0x10], Next::Nothing),
+        (&[1], Next::Fault(FrameFault::TooLong)),
+        (&PREPARE, Next::Fault(FrameFault::TooLong)),
+    ],
+    &[(&PREPARE, Next::Prepare)],
+];
 
 #[test]
 fn lengths_at_their_limits(rt: HostRuntime) -> Result<(), Fail> {
-    let mut feed = Feed::new(rt.alloc());
-    feeds_the_longest(&rt, &mut feed)?;
-    Ok(())
-}
-
-/// Gives a feed a length that is too great, and a frame behind it.
-fn stays_at_fault(rt: &impl Abort, long: &mut Feed) -> Result<(), AllocError> {
-    is_at_fault(rt, long, &[0, 0, 0x10, 1], FrameFault::TooLong)?;
-    is_at_fault(rt, long, &PREPARE, FrameFault::TooLong)
-}
-
-#[test]
-fn a_length_above_the_limit_stays_at_fault(rt: HostRuntime) -> Result<(), Fail> {
-    let mut long = Feed::new(rt.alloc());
-    stays_at_fault(&rt, &mut long)?;
-    Ok(())
-}
-
-/// Gives a feed a frame in room that is reserved for it.
-fn feeds_in_room(rt: &impl Abort, feed: &mut Feed) -> Result<(), AllocError> {
-    feed.reserve(PREPARE.len())?;
-    feed.feed_reserved(&PREPARE);
-    holds!(rt; feed.next() == Some(Ok(prepare())));
-    Ok(())
-}
-
-#[test]
-fn a_piece_goes_into_room_that_was_reserved(rt: HostRuntime) -> Result<(), Fail> {
-    let mut feed = Feed::new(rt.alloc());
-    feeds_in_room(&rt, &mut feed)?;
+    for &pieces in &FEEDS {
+        let mut feed = Feed::new(rt.alloc());
+        answers_all(&rt, &mut feed, pieces)?;
+    }
     Ok(())
 }
 
@@ -331,45 +347,31 @@ fn write_record_reserved(out: &mut Vec<u8>) -> Result<(), AllocError> {
     Ok(())
 }
 
-/// Writes it in both ways.
-fn write_both(out: &mut Vec<u8>) -> Result<(), AllocError> {
-    write_record(out)?;
-    write_record_reserved(out)
+/// The bytes of the two.
+const RECORD: [u8; 17] = [0, 0, 0, 1, 0, 2, 0, 0, 0, 0, 0, 0, 1, 0, 0, 0, 0];
+
+/// Sees that bytes are those of the ballot and of the command behind it.
+fn is_record(rt: &impl Abort, bytes: &[u8]) {
+    holds!(rt; bytes == RECORD.as_slice());
+    let (read, rest) = read_ballot(bytes).expect(rt, "a ballot is in front");
+    same!(rt; read, BALLOT);
+    holds!(rt; bytes.starts_with(&ballot_bytes(BALLOT)));
+    is_command(rt, rest);
 }
 
 /// Sees that bytes are those of the command.
-fn reads_command(rt: &impl Abort, bytes: &[u8]) {
+fn is_command(rt: &impl Abort, bytes: &[u8]) {
     holds!(rt; read_command(bytes).is_some());
     holds!(rt; command_bytes(&CALL).as_slice() == bytes);
-}
-
-/// Sees that bytes are those of the ballot and of the command behind it.
-fn reads_record(rt: &impl Abort, bytes: &[u8]) {
-    let (read, rest) = read_ballot(bytes).expect(rt, "a ballot is in front");
-    same!(rt; read, BALLOT);
-    holds!(rt; rest.len() == 12);
-    reads_command(rt, rest);
-    holds!(rt; bytes.starts_with(&ballot_bytes(BALLOT)));
-}
-
-/// Sees that bytes are those of the record.
-fn is_record(rt: &impl Abort, bytes: &[u8]) {
-    holds!(rt; bytes == [0, 0, 0, 1, 0, 2, 0, 0, 0, 0, 0, 0, 1, 0, 0, 0, 0].as_slice());
-    reads_record(rt, bytes);
-}
-
-/// Sees that bytes are those of two records that are alike.
-fn is_twice_the_same(rt: &impl Abort, bytes: &[u8]) {
-    assert_eq!(rt; bytes.len(), 34);
-    holds!(rt; bytes[..17] == bytes[17..]);
 }
 
 #[test]
 fn ballots_and_commands_of_a_record(rt: HostRuntime) -> Result<(), Fail> {
     let mut out = Vec::new(rt.alloc());
-    write_both(&mut out)?;
-    is_twice_the_same(&rt, &out);
-    out.truncate(17);
+    write_record(&mut out)?;
+    is_record(&rt, &out);
+    out.clear();
+    write_record_reserved(&mut out)?;
     is_record(&rt, &out);
     Ok(())
 }
@@ -379,57 +381,4 @@ fn slots_of_a_record(rt: HostRuntime) {
     holds!(&rt; slot_bytes(3_999_999)[..] == [0, 0x3d, 8, 0xff][..]);
     holds!(&rt; read_slot(&[0, 0x3d, 8, 0xff]).is_some());
     holds!(&rt; read_slot(&[0, 0x3d, 9, 0]).is_none());
-}
-
-/// Sees what is printed of the message of these bytes.
-fn prints_frame(
-    rt: &impl Abort,
-    alloc: Global,
-    frame: &[u8],
-    line: &str,
-) -> Result<(), AllocError> {
-    let message = message_of(frame).expect(rt, "the bytes are a frame");
-    prints(rt, alloc, &message, line)
-}
-
-/// Frames, and what is printed of their messages.
-static PRINTED: [(&[u8], &str); 3] = [
-    (&ACCEPT, "Accept (1, 0) at 0: deal of hand 0"),
-    (&FORWARD, "Forward act 0 of hand 0: call"),
-    (&PROMISE, "Promise (2, 2) from 0: 1 accepted"),
-];
-
-#[test]
-fn messages_print_on_one_line(rt: HostRuntime) -> Result<(), Fail> {
-    prints(&rt, rt.alloc(), &prepare(), "Prepare (1, 0) from 0")?;
-    for &(frame, line) in &PRINTED {
-        prints_frame(&rt, rt.alloc(), frame, line)?;
-    }
-    Ok(())
-}
-
-#[test]
-fn a_fault_prints_its_number_and_name(rt: HostRuntime) -> Result<(), Fail> {
-    let fault = FrameFault::BadBody;
-    same!(&rt; fault.code(), 54);
-    prints(&rt, rt.alloc(), &fault, "54 BadBody")?;
-    Ok(())
-}
-
-#[test]
-fn entries_are_kept_in_order(rt: HostRuntime) {
-    let mut entries = Entries::new();
-    holds!(&rt; entries.is_empty());
-    let entry = Entry {
-        slot: 3,
-        ballot: Ballot { round: 1, node: 0 },
-        command: Command::Act {
-            hand: 0,
-            index: 0,
-            action: Action::Fold,
-        },
-    };
-    entries.push(entry);
-    assert_eq!(rt; entries.len(), 1);
-    same!(&rt; entries.as_slice()[0].slot, 3);
 }
