@@ -74,6 +74,26 @@ fn answer_in_room(
     }
 }
 
+/// What is answered, in room that is made before or not.
+fn answer_to(
+    rt: &impl Abort,
+    learner: &mut Learner,
+    nodes: u8,
+    said: Said,
+    slot: u32,
+    command: Command,
+    in_room: bool,
+) -> Result<Answer, AllocError>
+    requires { learner.old.learned.nodes ≡ nodes }
+    ensures { learner.new.learned.nodes ≡ nodes }
+{
+    if in_room {
+        answer_in_room(rt, learner, nodes, said, slot, command)
+    } else {
+        answer(rt, learner, nodes, said, slot, command)
+    }
+}
+
 /// The answer to a call: what it completes at its slot, if anything, or why it is refused.
 fn answer_of(slot: u32, command: Command, completes: Result<bool, SlotFault>) -> Answer {
     match completes {
@@ -96,12 +116,8 @@ fn answers(
 {
     let (said, slot, action, wanted, front) = call;
     let command = act(action);
-    let answer = if in_room {
-        answer_in_room(rt, learner, nodes, said, slot, command)?
-    } else {
-        answer(rt, learner, nodes, said, slot, command)?
-    };
-    assert_same(rt, answer, answer_of(slot, command, wanted));
+    let found = answer_to(rt, learner, nodes, said, slot, command, in_room)?;
+    assert_same(rt, found, answer_of(slot, command, wanted));
     assert_same(rt, learner.log().front(), front);
     Ok(())
 }

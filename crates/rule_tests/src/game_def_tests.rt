@@ -91,8 +91,8 @@ struct Said {
     rounds: [(Option<u32>, usize, u8); 4],
 }
 
-/// The sample games, the first of them also in capitals.
-static GAMES: [Said; 5] = [
+/// The sample games with limits, the first of them also in capitals.
+static LIMIT_GAMES: [Said; 3] = [
     Said {
         file: L2,
         is_limit: true,
@@ -114,6 +114,10 @@ static GAMES: [Said; 5] = [
         seats: &[(2_147_483_647, 5), (2_147_483_647, 10), (2_147_483_647, 0)],
         rounds: [(Some(10), 2, 3), (Some(10), 0, 4), (Some(20), 0, 4), (Some(20), 0, 4)],
     },
+];
+
+/// The sample games without.
+static NOLIMIT_GAMES: [Said; 2] = [
     Said {
         file: N2,
         is_limit: false,
@@ -140,8 +144,15 @@ fn is_said(rt: &impl Abort, game: &GameDef, said: &Said) {
 }
 
 #[test]
-fn games_are_what_their_files_say(rt: HostRuntime) {
-    for said in &GAMES {
+fn nolimit_games(rt: HostRuntime) {
+    for said in &NOLIMIT_GAMES {
+        is_said(&rt, &game(&rt, said.file), said);
+    }
+}
+
+#[test]
+fn limit_games(rt: HostRuntime) {
+    for said in &LIMIT_GAMES {
         is_said(&rt, &game(&rt, said.file), said);
     }
     holds!(&rt; game(&rt, L2_LOUD) == game(&rt, L2));

@@ -20,6 +20,8 @@ mod draw_tests;
 #[cfg(test)]
 mod game_def_tests;
 #[cfg(test)]
+mod kind_tests;
+#[cfg(test)]
 mod line_tests;
 #[cfg(test)]
 mod match_file_tests;

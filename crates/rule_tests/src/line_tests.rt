@@ -161,7 +161,7 @@ fn both_see(
 }
 
 #[test]
-fn seats_see_their_own_cards(rt: HostRuntime) -> Result<(), Fail> {
+fn all_seats_share_one_betting_text(rt: HostRuntime) -> Result<(), Fail> {
     let mut table = dealt(&rt, rt.alloc());
     let lines: [&[u8]; 2] = [b"MATCHSTATE:0:0::TdAs|", b"MATCHSTATE:1:0::|8hTc"];
     both_see(&rt, rt.alloc(), &table, b"", &lines)?;

@@ -150,6 +150,14 @@ fn is_answered(rt: &impl Abort, alloc: Global, said: &Speech) -> Result<(), Allo
     answers_bytewise(rt, alloc, &table, said)
 }
 
+/// Sees what is answered to each.
+fn are_answered(rt: &impl Abort, alloc: Global, speeches: &[Speech]) -> Result<(), AllocError> {
+    for said in speeches {
+        is_answered(rt, alloc, said)?;
+    }
+    Ok(())
+}
+
 const GREETING: &[u8] = b"VERSION:2.0.0\r\n";
 
 /// A hand that was dealt and in which nobody has acted.
@@ -181,8 +189,8 @@ const NO_FOLD: Wanted = Wanted::Fault(SessionFault::Illegal(ActFault::FoldNotFac
 
 const NO_RAISE: Wanted = Wanted::Fault(SessionFault::Illegal(ActFault::TooManyRaises));
 
-/// First lines, acts, and each fault of a line.
-static SPEECHES: [Speech; 21] = [
+/// First lines.
+static FIRST_LINES: [Speech; 8] = [
     (DEALT, 1, false, b"VERSION:2.0.0\r\n", READY),
     (DEALT, 1, false, b"# hello\r\n;\nVERSION:2.0.7\n", READY),
     (DEALT, 1, false, b"VERSION:2.0.012345678\n", READY),
@@ -191,9 +199,29 @@ static SPEECHES: [Speech; 21] = [
     (DEALT, 1, false, b"VERSION:2.0.0123456789\n", BAD_VERSION),
     (DEALT, 1, false, b"MATCHSTATE:1:0::|8hTc:c\n", BAD_VERSION),
     (DEALT, 1, false, b"\n", BAD_VERSION),
+];
+
+#[test]
+fn first_lines(rt: HostRuntime) -> Result<(), Fail> {
+    are_answered(&rt, rt.alloc(), &FIRST_LINES)?;
+    Ok(())
+}
+
+/// Lines that are acts.
+static ACTS: [Speech; 3] = [
     (DEALT, 1, true, b"MATCHSTATE:1:0::|8hTc:c\r\n", FIRST_CALL),
     (DEALT, 1, true, b"# call\n;\r\nMATCHSTATE:1:0::|8hTc:c\n", FIRST_CALL),
     (CALLED, 0, true, b"MATCHSTATE:0:0:c:TdAs|:c\r\n", SECOND_CALL),
+];
+
+#[test]
+fn acts(rt: HostRuntime) -> Result<(), Fail> {
+    are_answered(&rt, rt.alloc(), &ACTS)?;
+    Ok(())
+}
+
+/// Lines at fault.
+static FAULTS: [Speech; 10] = [
     (DEALT, 1, true, b"MATCHSTATE:1:0::|8hTc:x\r\n", NO_ACTION),
     (DEALT, 1, true, b"MATCHSTATE:1:0::|8hTc:r20\r\n", NO_ACTION),
     (DEALT, 1, true, b"HELLO\r\n", NO_LINE),
@@ -207,10 +235,8 @@ static SPEECHES: [Speech; 21] = [
 ];
 
 #[test]
-fn lines_of_seats_are_answered(rt: HostRuntime) -> Result<(), Fail> {
-    for said in &SPEECHES {
-        is_answered(&rt, rt.alloc(), said)?;
-    }
+fn faults(rt: HostRuntime) -> Result<(), Fail> {
+    are_answered(&rt, rt.alloc(), &FAULTS)?;
     Ok(())
 }
 

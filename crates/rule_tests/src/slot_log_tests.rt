@@ -82,7 +82,16 @@ fn tells(rt: &impl Abort, table: &Table, command: &Command, effect: Effect) {
     holds!(rt; table.reason(command) == reason);
 }
 
-/// Takes a step of a match, in room that is made for it or not.
+/// What it does, in room that is made for it or not.
+fn done(table: &mut Table, command: &Command, in_room: bool) -> Result<Effect, AllocError> {
+    if in_room {
+        applied_in_room(table, command)
+    } else {
+        applied(table, command)
+    }
+}
+
+/// Takes a step of a match.
 fn takes(
     rt: &impl Abort,
     table: &mut Table,
@@ -91,12 +100,8 @@ fn takes(
     in_room: bool,
 ) -> Result<(), AllocError> {
     tells(rt, table, command, effect);
-    let done = if in_room {
-        applied_in_room(table, command)?
-    } else {
-        applied(table, command)?
-    };
-    same!(rt; done, effect);
+    let found = done(table, command, in_room)?;
+    same!(rt; found, effect);
     Ok(())
 }
 

@@ -4,7 +4,7 @@ ghost use Rattle.paxos_wire.specs.Fits.{Fits};
 use crate::asserting::{holds, prints, same};
 use betting::Action;
 use paxos_wire::{
-    Ballot, Feed, FrameFault, Message, ballot_bytes, command_bytes, decode, encode,
+    Ballot, Entries, Entry, Feed, FrameFault, Message, ballot_bytes, command_bytes, decode, encode,
     encode_reserved, frame_len, read_ballot, read_command, read_slot, read_stream, slot_bytes,
     write_ballot, write_ballot_reserved, write_command, write_command_reserved,
 };
@@ -112,7 +112,7 @@ fn rewrites_and_prints(
 }
 
 #[test]
-fn frames_read_and_write_alike_and_print_on_one_line(rt: HostRuntime) -> Result<(), Fail> {
+fn frames_read_and_write_alike(rt: HostRuntime) -> Result<(), Fail> {
     for &(frame, line) in &FRAMES {
         rewrites_and_prints(&rt, rt.alloc(), frame, line)?;
     }
@@ -244,6 +244,15 @@ enum Next {
     Fault(FrameFault),
 }
 
+/// The answer that is wanted.
+fn answer_of(wanted: Next) -> Option<Result<Message, FrameFault>> {
+    match wanted {
+        Next::Nothing => None,
+        Next::Prepare => Some(Ok(prepare())),
+        Next::Fault(fault) => Some(Err(fault)),
+    }
+}
+
 /// Sees what a feed answers to a piece, which comes into room that is made for it.
 fn answers(
     rt: &impl Abort,
@@ -253,29 +262,25 @@ fn answers(
 ) -> Result<(), AllocError> {
     feed.reserve(piece.len())?;
     feed.feed_reserved(piece);
-    let wanted = match wanted {
-        Next::Nothing => None,
-        Next::Prepare => Some(Ok(prepare())),
-        Next::Fault(fault) => Some(Err(fault)),
-    };
-    holds!(rt; feed.next() == wanted);
+    holds!(rt; feed.next() == answer_of(wanted));
     Ok(())
 }
 
 /// Pieces, and what a feed answers to each.
 type Pieces = &'static [(&'static [u8], Next)];
 
-/// Sees what a feed answers to pieces.
-fn answers_all(rt: &impl Abort, feed: &mut Feed, pieces: Pieces) -> Result<(), AllocError> {
+/// Sees what a new feed answers to pieces.
+fn feeds(rt: &impl Abort, alloc: Global, pieces: &[(&[u8], Next)]) -> Result<(), AllocError> {
+    let mut feed = Feed::new(alloc);
     for &(piece, wanted) in pieces {
-        answers(rt, feed, piece, wanted)?;
+        answers(rt, &mut feed, piece, wanted)?;
     }
     Ok(())
 }
 
-/// A frame of the greatest length, which is at fault once its last byte is there; a length above the limit, at fault at
-/// once and from then on; and a whole frame.
-static FEEDS: [Pieces; 3] = [
+/// A frame of the greatest length, which is at fault once its last byte is there, and a length above the limit, at fault
+/// at once and from then on.
+static LENGTHS: [Pieces; 2] = [
     &[
         (&[0, 0, 0x10], Next::Nothing),
         (&[0], Next::Nothing),
@@ -287,15 +292,19 @@ static FEEDS: [Pieces; 3] = [
         (&[1], Next::Fault(FrameFault::TooLong)),
         (&PREPARE, Next::Fault(FrameFault::TooLong)),
     ],
-    &[(&PREPARE, Next::Prepare)],
 ];
 
 #[test]
 fn lengths_at_their_limits(rt: HostRuntime) -> Result<(), Fail> {
-    for &pieces in &FEEDS {
-        let mut feed = Feed::new(rt.alloc());
-        answers_all(&rt, &mut feed, pieces)?;
+    for &pieces in &LENGTHS {
+        feeds(&rt, rt.alloc(), pieces)?;
     }
+    Ok(())
+}
+
+#[test]
+fn a_piece_goes_into_room_that_was_reserved(rt: HostRuntime) -> Result<(), Fail> {
+    feeds(&rt, rt.alloc(), &[(&PREPARE, Next::Prepare)])?;
     Ok(())
 }
 
@@ -381,4 +390,22 @@ fn slots_of_a_record(rt: HostRuntime) {
     holds!(&rt; slot_bytes(3_999_999)[..] == [0, 0x3d, 8, 0xff][..]);
     holds!(&rt; read_slot(&[0, 0x3d, 8, 0xff]).is_some());
     holds!(&rt; read_slot(&[0, 0x3d, 9, 0]).is_none());
+}
+
+#[test]
+fn entries_are_kept_in_order(rt: HostRuntime) {
+    let mut entries = Entries::new();
+    holds!(&rt; entries.is_empty());
+    let entry = Entry {
+        slot: 3,
+        ballot: Ballot { round: 1, node: 0 },
+        command: Command::Act {
+            hand: 0,
+            index: 0,
+            action: Action::Fold,
+        },
+    };
+    entries.push(entry);
+    assert_eq!(rt; entries.len(), 1);
+    same!(&rt; entries.as_slice()[0].slot, 3);
 }
