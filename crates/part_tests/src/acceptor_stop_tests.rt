@@ -75,11 +75,7 @@ fn left_of_a_prepare(
     let is_promised = promises(rt, &mut acceptor);
     let mut acceptor = stopped(rt, alloc, acceptor, pick);
     let is_there = promised(&acceptor) == THIRD;
-    Ok(Some((
-        is_promised,
-        is_there,
-        accepts_below(rt, &mut acceptor)?,
-    )))
+    Ok(Some((is_promised, is_there, accepts_below(rt, &mut acceptor)?)))
 }
 
 /// This is left of a Prepare.

@@ -180,7 +180,13 @@ static ONE_NODE_THRICE: [Call; 4] = [
 /// One answer three times is of one node.
 #[test]
 fn nodes_are_counted(rt: HostRuntime) -> Result<(), Fail> {
-    learns(&rt, rt.alloc(), 3, &ONE_NODE_THRICE, (0, Some(Action::Call)))?;
+    learns(
+        &rt,
+        rt.alloc(),
+        3,
+        &ONE_NODE_THRICE,
+        (0, Some(Action::Call)),
+    )?;
     Ok(())
 }
 
@@ -229,8 +235,20 @@ static CONFLICTS: [Call; 5] = [
     (Said::Chosen, 2, Action::Fold, Ok(false), 0),
     (Said::Chosen, 2, Action::Call, Err(SlotFault::Conflict), 0),
     (Said::Accepted(0, BESIDE), 2, Action::Call, Ok(false), 0),
-    (Said::Accepted(1, BESIDE), 2, Action::Call, Err(SlotFault::Conflict), 0),
-    (Said::Accepted(1, BESIDE), 2, Action::Call, Err(SlotFault::Conflict), 0),
+    (
+        Said::Accepted(1, BESIDE),
+        2,
+        Action::Call,
+        Err(SlotFault::Conflict),
+        0,
+    ),
+    (
+        Said::Accepted(1, BESIDE),
+        2,
+        Action::Call,
+        Err(SlotFault::Conflict),
+        0,
+    ),
 ];
 
 /// Another command than the one that is known is refused, and nothing has changed.

@@ -134,7 +134,14 @@ const FIRST: Ballot = Ballot { round: 1, node: 0 };
 /// it; idle it proposes nothing.
 static WINDOW: [Step; 8] = [
     (
-        Call::Begin(Ballot { round: 0, node: 0 }, 0, Ok(Prepare { ballot: FIRST, slot: 0 })),
+        Call::Begin(
+            Ballot { round: 0, node: 0 },
+            0,
+            Ok(Prepare {
+                ballot: FIRST,
+                slot: 0,
+            }),
+        ),
         Some(FIRST),
         false,
     ),
@@ -146,7 +153,11 @@ static WINDOW: [Step; 8] = [
         true,
     ),
     (Call::Propose(63, Action::Call, Ok(None)), Some(FIRST), true),
-    (Call::Propose(64, Action::Call, Err(ProposeFault::OutOfWindow)), Some(FIRST), true),
+    (
+        Call::Propose(64, Action::Call, Err(ProposeFault::OutOfWindow)),
+        Some(FIRST),
+        true,
+    ),
     (Call::Idle, None, false),
     (Call::Propose(64, Action::Call, Ok(None)), None, false),
 ];
@@ -158,13 +169,37 @@ fn a_window_of_64_slots(rt: HostRuntime) {
 }
 
 /// The ballot of the last round of node 2.
-const LAST: Ballot = Ballot { round: u32::MAX, node: 2 };
+const LAST: Ballot = Ballot {
+    round: u32::MAX,
+    node: 2,
+};
 
 /// No ballot is begun above one of the last round, and one of the last above one of the round before.
 static ROUNDS: [Step; 2] = [
-    (Call::Begin(Ballot { round: 4294967295, node: 0 }, 7, Err(BallotsSpent)), None, false),
     (
-        Call::Begin(Ballot { round: 4294967294, node: 0 }, 7, Ok(Prepare { ballot: LAST, slot: 7 })),
+        Call::Begin(
+            Ballot {
+                round: 4294967295,
+                node: 0,
+            },
+            7,
+            Err(BallotsSpent),
+        ),
+        None,
+        false,
+    ),
+    (
+        Call::Begin(
+            Ballot {
+                round: 4294967294,
+                node: 0,
+            },
+            7,
+            Ok(Prepare {
+                ballot: LAST,
+                slot: 7,
+            }),
+        ),
         Some(LAST),
         false,
     ),
@@ -183,32 +218,64 @@ const SEVENTH: Ballot = Ballot { round: 7, node: 4 };
 /// the votes that the quorum's promises tell of the greatest ballot's is proposed, and at slot 4 the own command.
 static VOTES: [Step; 8] = [
     (
-        Call::Begin(Ballot { round: 6, node: 1 }, 3, Ok(Prepare { ballot: SEVENTH, slot: 3 })),
+        Call::Begin(
+            Ballot { round: 6, node: 1 },
+            3,
+            Ok(Prepare {
+                ballot: SEVENTH,
+                slot: 3,
+            }),
+        ),
         Some(SEVENTH),
         false,
     ),
     (
-        Call::Promise(4, SEVENTH, 3, Some((Ballot { round: 2, node: 0 }, Action::Fold))),
+        Call::Promise(
+            4,
+            SEVENTH,
+            3,
+            Some((Ballot { round: 2, node: 0 }, Action::Fold)),
+        ),
         Some(SEVENTH),
         false,
     ),
     (
-        Call::Promise(0, SEVENTH, 3, Some((Ballot { round: 4, node: 1 }, Action::Call))),
+        Call::Promise(
+            0,
+            SEVENTH,
+            3,
+            Some((Ballot { round: 4, node: 1 }, Action::Call)),
+        ),
         Some(SEVENTH),
         false,
     ),
     (
-        Call::Promise(0, SEVENTH, 3, Some((Ballot { round: 5, node: 1 }, Action::Fold))),
+        Call::Promise(
+            0,
+            SEVENTH,
+            3,
+            Some((Ballot { round: 5, node: 1 }, Action::Fold)),
+        ),
         Some(SEVENTH),
         false,
     ),
     (
-        Call::Promise(1, SEVENTH, 3, Some((Ballot { round: 3, node: 2 }, Action::Fold))),
+        Call::Promise(
+            1,
+            SEVENTH,
+            3,
+            Some((Ballot { round: 3, node: 2 }, Action::Fold)),
+        ),
         Some(SEVENTH),
         true,
     ),
     (
-        Call::Promise(2, SEVENTH, 3, Some((Ballot { round: 6, node: 1 }, Action::Fold))),
+        Call::Promise(
+            2,
+            SEVENTH,
+            3,
+            Some((Ballot { round: 6, node: 1 }, Action::Fold)),
+        ),
         Some(SEVENTH),
         true,
     ),
@@ -238,7 +305,14 @@ const SECOND: Ballot = Ballot { round: 2, node: 0 };
 /// promise of it makes nothing be proposed then.
 static REFUSALS: [Step; 7] = [
     (
-        Call::Begin(Ballot { round: 1, node: 1 }, 0, Ok(Prepare { ballot: SECOND, slot: 0 })),
+        Call::Begin(
+            Ballot { round: 1, node: 1 },
+            0,
+            Ok(Prepare {
+                ballot: SECOND,
+                slot: 0,
+            }),
+        ),
         Some(SECOND),
         false,
     ),

@@ -98,21 +98,36 @@ static LIMIT_GAMES: [Said; 3] = [
         is_limit: true,
         big_blind: 10,
         seats: &[(2_147_483_647, 10), (2_147_483_647, 5)],
-        rounds: [(Some(10), 1, 3), (Some(10), 0, 4), (Some(20), 0, 4), (Some(20), 0, 4)],
+        rounds: [
+            (Some(10), 1, 3),
+            (Some(10), 0, 4),
+            (Some(20), 0, 4),
+            (Some(20), 0, 4),
+        ],
     },
     Said {
         file: L2_LOUD,
         is_limit: true,
         big_blind: 10,
         seats: &[(2_147_483_647, 10), (2_147_483_647, 5)],
-        rounds: [(Some(10), 1, 3), (Some(10), 0, 4), (Some(20), 0, 4), (Some(20), 0, 4)],
+        rounds: [
+            (Some(10), 1, 3),
+            (Some(10), 0, 4),
+            (Some(20), 0, 4),
+            (Some(20), 0, 4),
+        ],
     },
     Said {
         file: L3,
         is_limit: true,
         big_blind: 10,
         seats: &[(2_147_483_647, 5), (2_147_483_647, 10), (2_147_483_647, 0)],
-        rounds: [(Some(10), 2, 3), (Some(10), 0, 4), (Some(20), 0, 4), (Some(20), 0, 4)],
+        rounds: [
+            (Some(10), 2, 3),
+            (Some(10), 0, 4),
+            (Some(20), 0, 4),
+            (Some(20), 0, 4),
+        ],
     },
 ];
 
@@ -123,14 +138,24 @@ static NOLIMIT_GAMES: [Said; 2] = [
         is_limit: false,
         big_blind: 100,
         seats: &[(20_000, 100), (20_000, 50)],
-        rounds: [(None, 1, 255), (None, 0, 255), (None, 0, 255), (None, 0, 255)],
+        rounds: [
+            (None, 1, 255),
+            (None, 0, 255),
+            (None, 0, 255),
+            (None, 0, 255),
+        ],
     },
     Said {
         file: N3,
         is_limit: false,
         big_blind: 100,
         seats: &[(1000, 50), (150, 100), (5000, 0)],
-        rounds: [(None, 2, 255), (None, 0, 255), (None, 0, 255), (None, 0, 255)],
+        rounds: [
+            (None, 2, 255),
+            (None, 0, 255),
+            (None, 0, 255),
+            (None, 0, 255),
+        ],
     },
 ];
 
@@ -192,26 +217,10 @@ static TEXTS: [(&[u8], u8, usize); 34] = [
     (b"GAMEDEF\nstack =\n", 14, 2),
     (b"GAMEDEF\nnumPlayers = 2 2\n", 14, 2),
     (b"GAMEDEF\nblind 1 1 1 1 1 1 1 1 1 1 1\nx\n", 14, 2),
-    (
-        b"GAMEDEF\nEND GAMEDEF",
-        15,
-        2,
-    ),
-    (
-        b"GAMEDEF\nnumPlayers 11\n\nEND GAMEDEF",
-        15,
-        2,
-    ),
-    (
-        b"GAMEDEF\nnumRounds 3\nnumPlayers 1\nEND GAMEDEF",
-        15,
-        3,
-    ),
-    (
-        b"GAMEDEF\nnumRounds 3\nnumPlayers 10\nEND GAMEDEF",
-        15,
-        2,
-    ),
+    (b"GAMEDEF\nEND GAMEDEF", 15, 2),
+    (b"GAMEDEF\nnumPlayers 11\n\nEND GAMEDEF", 15, 2),
+    (b"GAMEDEF\nnumRounds 3\nnumPlayers 1\nEND GAMEDEF", 15, 3),
+    (b"GAMEDEF\nnumRounds 3\nnumPlayers 10\nEND GAMEDEF", 15, 2),
     (
         b"GAMEDEF\nnumPlayers 2\nnumRounds 4\nnumSuits 1\nEND GAMEDEF",
         15,

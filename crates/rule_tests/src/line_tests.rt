@@ -62,11 +62,7 @@ fn fault_of(text: &[u8], game: &GameDef) -> Option<LineFault> {
 }
 
 /// The position of an answer's line and its action, in the first hand; or why a text is no answer.
-fn answer_of(
-    rt: &impl Abort,
-    text: &[u8],
-    game: &GameDef,
-) -> Result<(usize, Action), LineFault> {
+fn answer_of(rt: &impl Abort, text: &[u8], game: &GameDef) -> Result<(usize, Action), LineFault> {
     let (view, action) = read_answer(text, game)?;
     same!(rt; view.hand(), 0);
     Ok((view.position(), action))
@@ -305,10 +301,16 @@ static ANSWERS: [(&[u8], Result<(usize, Action), LineFault>); 13] = [
 static RAISES: [(&[u8], Result<(usize, Action), LineFault>); 6] = [
     (b"MATCHSTATE:1:0::|8hTc:r0", Ok((1, Action::Raise(0)))),
     (b"MATCHSTATE:1:0::|8hTc:r200", Ok((1, Action::Raise(200)))),
-    (b"MATCHSTATE:1:0::|8hTc:r4294967295", Ok((1, Action::Raise(4294967295)))),
+    (
+        b"MATCHSTATE:1:0::|8hTc:r4294967295",
+        Ok((1, Action::Raise(4294967295))),
+    ),
     (b"MATCHSTATE:1:0::|8hTc:r", Err(LineFault::BadAction)),
     (b"MATCHSTATE:1:0::|8hTc:r0200", Err(LineFault::BadAction)),
-    (b"MATCHSTATE:1:0::|8hTc:r4294967296", Err(LineFault::BadAction)),
+    (
+        b"MATCHSTATE:1:0::|8hTc:r4294967296",
+        Err(LineFault::BadAction),
+    ),
 ];
 
 #[test]

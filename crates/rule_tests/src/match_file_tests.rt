@@ -162,7 +162,11 @@ static LISTED_CHANGES: [(&str, &str, &str); 23] = [
     ("seed = 0", "seed = 0\ndeals = []", "101 BadEntry node"),
     ("seed = 0", "", "101 BadEntry node"),
     ("[[node]]\nseed = 0\n", "", "101 BadEntry node"),
-    ("seed = 0\n", "seed = 0\n[[node]]\nseed = 3\n", "101 BadEntry node"),
+    (
+        "seed = 0\n",
+        "seed = 0\n[[node]]\nseed = 3\n",
+        "101 BadEntry node",
+    ),
     ("8hTc/", "TdTc/", "101 BadEntry node"),
     ("/Kh\"]", "/Kh\", \"TdAs|8hTc\"]", "101 BadEntry node"),
     ("name = \"m1\"", "name = \"m1", "100 NotToml"),
@@ -178,7 +182,12 @@ static LISTED_CHANGES: [(&str, &str, &str); 23] = [
 /// Lines in place of another, games, and what is told first.
 static FIRST_FAULTS: [(&str, &str, Option<&[u8]>, &str); 4] = [
     ("hands = 1", "hands = 0", None, "104 Unreadable"),
-    ("hands = 1", "hands = 0", Some(LOW_STACK), "102 Game 17 StackBelowBlind 5"),
+    (
+        "hands = 1",
+        "hands = 0",
+        Some(LOW_STACK),
+        "102 Game 17 StackBelowBlind 5",
+    ),
     ("hands = 1", "hands = 0", Some(L2), "101 BadEntry hands"),
     ("\"l2.game\"", "7", None, "101 BadEntry game"),
 ];

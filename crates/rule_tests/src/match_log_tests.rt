@@ -237,10 +237,7 @@ static MATCHES: [Match; 4] = [
         game: N3,
         word: b"n3.game",
         names: b"alice|bob|carol",
-        hands: &[(
-            b"2c7d|AsAh|KsKh/3d8h9c/Jd/4s",
-            b"ccr150r200c/r1000c//",
-        )],
+        hands: &[(b"2c7d|AsAh|KsKh/3d8h9c/Jd/4s", b"ccr150r200c/r1000c//")],
         log: b"# name/game/hands m n3.game 1\nSTATE:0:ccr150r200c/r1000c//:2c7d|AsAh|KsKh/3d8h9c/Jd/4s:-1000|300|700:alice|bob|carol\nSCORE:-1000|300|700:alice|bob|carol\n",
     },
     Match {

@@ -20,11 +20,7 @@ fn apply(table: &mut Table, command: &Command) -> Result<(), AllocError> {
 }
 
 /// Deals the first hand and takes these actions in it; does nothing where there are none.
-fn play(
-    rt: &impl Abort,
-    table: &mut Table,
-    actions: Option<&[Action]>,
-) -> Result<(), AllocError> {
+fn play(rt: &impl Abort, table: &mut Table, actions: Option<&[Action]>) -> Result<(), AllocError> {
     let Some(actions) = actions else {
         return Ok(());
     };
@@ -110,7 +106,13 @@ fn answer_of(wanted: Wanted) -> Answer {
 
 /// What a seat says: the actions of the first hand before, where it is dealt, the seat, whether it has greeted, its bytes,
 /// and what is answered.
-type Speech = (Option<&'static [Action]>, usize, bool, &'static [u8], Wanted);
+type Speech = (
+    Option<&'static [Action]>,
+    usize,
+    bool,
+    &'static [u8],
+    Wanted,
+);
 
 /// Sees what a session answers to bytes that come at once.
 fn answers_at_once(
@@ -210,8 +212,20 @@ fn first_lines(rt: HostRuntime) -> Result<(), Fail> {
 /// Lines that are acts.
 static ACTS: [Speech; 3] = [
     (DEALT, 1, true, b"MATCHSTATE:1:0::|8hTc:c\r\n", FIRST_CALL),
-    (DEALT, 1, true, b"# call\n;\r\nMATCHSTATE:1:0::|8hTc:c\n", FIRST_CALL),
-    (CALLED, 0, true, b"MATCHSTATE:0:0:c:TdAs|:c\r\n", SECOND_CALL),
+    (
+        DEALT,
+        1,
+        true,
+        b"# call\n;\r\nMATCHSTATE:1:0::|8hTc:c\n",
+        FIRST_CALL,
+    ),
+    (
+        CALLED,
+        0,
+        true,
+        b"MATCHSTATE:0:0:c:TdAs|:c\r\n",
+        SECOND_CALL,
+    ),
 ];
 
 #[test]
@@ -226,12 +240,24 @@ static FAULTS: [Speech; 10] = [
     (DEALT, 1, true, b"MATCHSTATE:1:0::|8hTc:r20\r\n", NO_ACTION),
     (DEALT, 1, true, b"HELLO\r\n", NO_LINE),
     (DEALT, 1, true, b"MATCHSTATE:0:0::TdAs|:c\r\n", NOT_CURRENT),
-    (DEALT, 0, true, b"MATCHSTATE:0:0::TdAs|:c\r\n", NOT_YOUR_TURN),
+    (
+        DEALT,
+        0,
+        true,
+        b"MATCHSTATE:0:0::TdAs|:c\r\n",
+        NOT_YOUR_TURN,
+    ),
     (CALLED, 1, true, b"MATCHSTATE:1:0::|8hTc:c\n", NOT_CURRENT),
     (CALLED, 0, true, b"MATCHSTATE:0:0:c:TdAs|:f\r\n", NO_FOLD),
     (None, 1, true, b"MATCHSTATE:1:0::|8hTc:c\n", NOT_CURRENT),
     (RAISED, 0, true, b"MATCHSTATE:0:0:rrr:TdAs|:r\r\n", NO_RAISE),
-    (FOLDED, 1, true, b"MATCHSTATE:1:0:f:|8hTc:c\r\n", NOT_YOUR_TURN),
+    (
+        FOLDED,
+        1,
+        true,
+        b"MATCHSTATE:1:0:f:|8hTc:c\r\n",
+        NOT_YOUR_TURN,
+    ),
 ];
 
 #[test]
@@ -274,9 +300,7 @@ fn is_closed_by(
 }
 
 #[test]
-fn a_comment_of_4096_bytes_is_skipped_and_a_longer_one_closes(
-    rt: HostRuntime,
-) -> Result<(), Fail> {
+fn a_comment_of_4096_bytes_is_skipped_and_a_longer_one_closes(rt: HostRuntime) -> Result<(), Fail> {
     let table = dealt(&rt, rt.alloc())?;
     let mut session = Session::new(rt.alloc(), 1);
     skips_comment(&rt, &mut session, &table)?;

@@ -168,9 +168,19 @@ static TWO_HANDS: [Step; 13] = [
     (0, Said::Act(6, Action::Call), Effect::Acted, RUNS),
     (0, Said::Act(7, Action::Call), Effect::Acted, RUNS),
     (0, Said::Act(8, Action::Call), Effect::Acted, RUNS),
-    (0, Said::Act(9, Action::Call), Effect::HandOver, (1, 1, false, false)),
+    (
+        0,
+        Said::Act(9, Action::Call),
+        Effect::HandOver,
+        (1, 1, false, false),
+    ),
     (1, Said::Second, Effect::Dealt, (2, 1, true, false)),
-    (1, Said::Act(0, Action::Fold), Effect::MatchOver, (2, 2, false, true)),
+    (
+        1,
+        Said::Act(0, Action::Fold),
+        Effect::MatchOver,
+        (2, 2, false, true),
+    ),
 ];
 
 /// Sees that every finished hand is kept.
@@ -204,19 +214,39 @@ const OVER: Course = (1, 1, false, true);
 /// The steps of a match of one hand, and what does nothing between them: one at a time before the deal, once the hand
 /// is dealt, once the first player has called, and once the match is over.
 static ONE_HAND: [Step; 14] = [
-    (0, Said::Act(0, Action::Call), Effect::None(Reason::NoHand), UNDEALT),
+    (
+        0,
+        Said::Act(0, Action::Call),
+        Effect::None(Reason::NoHand),
+        UNDEALT,
+    ),
     (1, Said::Second, Effect::None(Reason::WrongHand), UNDEALT),
     (0, Said::OfThree, Effect::None(Reason::WrongCards), UNDEALT),
     (0, Said::First, Effect::Dealt, RUNS),
     (0, Said::First, Effect::None(Reason::HandRunning), RUNS),
     (1, Said::Second, Effect::None(Reason::HandRunning), RUNS),
     (0, Said::Act(0, Action::Call), Effect::Acted, RUNS),
-    (0, Said::Act(0, Action::Call), Effect::None(Reason::WrongIndex), RUNS),
-    (1, Said::Act(0, Action::Call), Effect::None(Reason::WrongHand), RUNS),
+    (
+        0,
+        Said::Act(0, Action::Call),
+        Effect::None(Reason::WrongIndex),
+        RUNS,
+    ),
+    (
+        1,
+        Said::Act(0, Action::Call),
+        Effect::None(Reason::WrongHand),
+        RUNS,
+    ),
     (0, Said::Act(1, Action::Fold), NO_FOLD, RUNS),
     (0, Said::Act(1, Action::Raise(20)), Effect::Acted, RUNS),
     (0, Said::Act(2, Action::Fold), Effect::MatchOver, OVER),
-    (0, Said::Act(3, Action::Call), Effect::None(Reason::MatchDone), OVER),
+    (
+        0,
+        Said::Act(3, Action::Call),
+        Effect::None(Reason::MatchDone),
+        OVER,
+    ),
     (1, Said::Second, Effect::None(Reason::MatchDone), OVER),
 ];
 
@@ -265,12 +295,7 @@ fn has_known(rt: &impl Abort, log: &SlotLog, front: u32, known: &[bool; 6]) {
 type Put = (u32, u16, Action, Result<(), SlotFault>, u32, [bool; 6]);
 
 /// Puts acts into a log.
-fn puts(
-    rt: &impl Abort,
-    log: &mut SlotLog,
-    acts: &[Put],
-    in_room: bool,
-) -> Result<(), AllocError> {
+fn puts(rt: &impl Abort, log: &mut SlotLog, acts: &[Put], in_room: bool) -> Result<(), AllocError> {
     for (slot, index, action, answer, front, known) in acts {
         same!(rt; put(log, *slot, act(0, *index, *action), in_room)?, *answer);
         has_known(rt, log, *front, known);
@@ -280,14 +305,42 @@ fn puts(
 
 /// Acts that are known behind the front.
 static BEHIND: [Put; 2] = [
-    (3, 3, Action::Call, Ok(()), 0, [false, false, false, true, false, false]),
-    (1, 1, Action::Call, Ok(()), 0, [false, true, false, true, false, false]),
+    (
+        3,
+        3,
+        Action::Call,
+        Ok(()),
+        0,
+        [false, false, false, true, false, false],
+    ),
+    (
+        1,
+        1,
+        Action::Call,
+        Ok(()),
+        0,
+        [false, true, false, true, false, false],
+    ),
 ];
 
 /// Acts at the front then.
 static AT_FRONT: [Put; 2] = [
-    (0, 0, Action::Call, Ok(()), 2, [true, true, false, true, false, false]),
-    (2, 2, Action::Call, Ok(()), 4, [true, true, true, true, false, false]),
+    (
+        0,
+        0,
+        Action::Call,
+        Ok(()),
+        2,
+        [true, true, false, true, false, false],
+    ),
+    (
+        2,
+        2,
+        Action::Call,
+        Ok(()),
+        4,
+        [true, true, true, true, false, false],
+    ),
 ];
 
 #[test]
@@ -306,13 +359,27 @@ const TWO: [bool; 6] = [true, false, true, false, false, false];
 
 /// Acts at the slots 0 and 2, where the same can then be put again and nothing else, and at the slots from the last on.
 static AGAIN: [Put; 8] = [
-    (0, 0, Action::Call, Ok(()), 1, [true, false, false, false, false, false]),
+    (
+        0,
+        0,
+        Action::Call,
+        Ok(()),
+        1,
+        [true, false, false, false, false, false],
+    ),
     (2, 2, Action::Call, Ok(()), 1, TWO),
     (0, 0, Action::Call, Ok(()), 1, TWO),
     (0, 0, Action::Fold, Err(SlotFault::Conflict), 1, TWO),
     (2, 2, Action::Call, Ok(()), 1, TWO),
     (2, 2, Action::Fold, Err(SlotFault::Conflict), 1, TWO),
-    (4_000_000, 0, Action::Call, Err(SlotFault::SlotsSpent), 1, TWO),
+    (
+        4_000_000,
+        0,
+        Action::Call,
+        Err(SlotFault::SlotsSpent),
+        1,
+        TWO,
+    ),
     (3_999_999, 0, Action::Call, Ok(()), 1, TWO),
 ];
 

@@ -254,12 +254,7 @@ fn answer_of(wanted: Next) -> Option<Result<Message, FrameFault>> {
 }
 
 /// Sees what a feed answers to a piece, which comes into room that is made for it.
-fn answers(
-    rt: &impl Abort,
-    feed: &mut Feed,
-    piece: &[u8],
-    wanted: Next,
-) -> Result<(), AllocError> {
+fn answers(rt: &impl Abort, feed: &mut Feed, piece: &[u8], wanted: Next) -> Result<(), AllocError> {
     feed.reserve(piece.len())?;
     feed.feed_reserved(piece);
     holds!(rt; feed.next() == answer_of(wanted));
