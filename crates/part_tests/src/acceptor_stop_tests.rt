@@ -210,6 +210,21 @@ fn promised_at_last(
     Ok(acceptor)
 }
 
+/// A Prepare of the first ballot is refused by the third.
+fn refuses_below<D: Disk>(rt: &impl Abort, acceptor: &mut Acceptor<D>) {
+    let refused = PrepareAnswer::Refuse {
+        ballot: FIRST,
+        slot: 0,
+        promised: THIRD,
+    };
+    prepares(rt, acceptor, FIRST, 0, Ok(refused));
+}
+
+/// An Accept in the third ballot is answered.
+fn accepts_again<D: Disk>(rt: &impl Abort, acceptor: &mut Acceptor<D>) {
+    assert!(rt; accept(acceptor, THIRD, 0, CALL).is_ok());
+}
+
 /// The acceptor after an accept in the third ballot, which is asked again where a call of the disk fails; until then a
 /// ballot below is refused.
 fn accepted_at_last(
@@ -222,14 +237,9 @@ fn accepted_at_last(
         return acceptor;
     };
     count(rt, fault, faults);
-    let refused = PrepareAnswer::Refuse {
-        ballot: FIRST,
-        slot: 0,
-        promised: THIRD,
-    };
-    prepares(rt, &mut acceptor, FIRST, 0, Ok(refused));
+    refuses_below(rt, &mut acceptor);
     let mut acceptor = opened_again(rt, alloc, acceptor);
-    assert!(rt; accept(&mut acceptor, THIRD, 0, CALL).is_ok());
+    accepts_again(rt, &mut acceptor);
     acceptor
 }
 

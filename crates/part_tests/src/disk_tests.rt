@@ -204,7 +204,7 @@ fn reads_agree<F: Disk, M: Disk>(
     let read = on_file.read(at, &mut bytes[..count]);
     assert_same(rt, read, in_memory.read(at, &mut other[..count]));
     if read.is_ok() {
-        assert_eq!(rt; bytes, other);
+        assert_bytes(rt, &bytes, &other);
     }
 }
 

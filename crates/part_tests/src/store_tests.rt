@@ -4,10 +4,10 @@ use crate::journal::{
     FIRST, JOURNAL, accept, answer, created, created_in_memory, deal, disk_with, entry, has_both,
     keeps_both, next, opened, promise, store_both,
 };
-use crate::samples::{assert_bytes, assert_same, assert_text, prints};
+use crate::samples::{assert_bytes, assert_same, prints};
 use paxos_wire::Ballot;
 use promise_store::{Call, Disk, MemoryDisk, Store, StoreFault};
-use std::alloc::{AllocError, Global};
+use std::alloc::Global;
 use std::process::Abort;
 use std::test::Fail;
 
@@ -19,13 +19,18 @@ fn is_placed<D: Disk>(rt: &impl Abort, store: &Store<D>) -> Result<(), Fail> {
     Ok(())
 }
 
+/// The store has both, and nothing else.
+fn has_both_alone<D: Disk>(rt: &impl Abort, store: &mut Store<D>) -> Result<(), Fail> {
+    assert!(rt; has_both(rt, store)?);
+    assert!(rt; entry(store, 1)?.is_none());
+    Ok(())
+}
+
 /// Stores both; there is nothing else.
 fn stores_both<D: Disk>(rt: &impl Abort, store: &mut Store<D>) -> Result<(), Fail> {
     store_both(rt, store)?;
     is_placed(rt, store)?;
-    assert!(rt; has_both(rt, store)?);
-    assert!(rt; entry(store, 1)?.is_none());
-    Ok(())
+    has_both_alone(rt, store)
 }
 
 /// The disk of a new store that stored both.
@@ -43,21 +48,13 @@ fn journal_byte_by_byte(rt: HostRuntime) -> Result<(), Fail> {
     keeps_both(&rt, alloc, disk)
 }
 
-/// What a call of a disk did, as a line: a write with its offset and its bytes, or a sync.
-fn line(alloc: Global, call: &Call) -> Result<String, AllocError> {
+/// What a call of a disk wrote: where, which bytes, and whether all of it; nothing of a sync.
+fn written<'a>(rt: &impl Abort, call: &'a Call) -> Option<(usize, &'a [u8], bool)> {
     match call {
-        Call::Wrote { at, bytes, done } => {
-            format!(in alloc; "wrote {at} {:?} {done}", bytes.as_slice())
-        }
-        Call::Synced => format!(in alloc; "synced"),
-        Call::Stopped { pick } => format!(in alloc; "stopped {pick}"),
+        Call::Wrote { at, bytes, done } => Some((*at, bytes.as_slice(), *done)),
+        Call::Synced => None,
+        Call::Stopped { .. } => panic!(rt; "a stop"),
     }
-}
-
-/// The call prints as this line.
-fn is_told(rt: &impl Abort, alloc: Global, call: &Call, expected: &str) -> Result<(), AllocError> {
-    assert_text(rt, line(alloc, call)?.as_str(), expected);
-    Ok(())
 }
 
 /// The disk of a new store with a promise of the first ballot; before there was no call.
@@ -69,23 +66,22 @@ fn disk_with_a_promise(rt: &impl Abort, alloc: Global) -> Result<MemoryDisk, Fai
     Ok(store.close())
 }
 
-/// The calls of a create and of an append.
-static CALLS: [&str; 6] = [
-    "wrote 0 [72, 68, 74, 49, 0, 3, 0, 0, 0] true",
-    "synced",
-    "wrote 9 [0, 6, 1, 0, 0, 0, 1, 0, 0] true",
-    "synced",
-    "wrote 8 [1] true",
-    "synced",
+/// What the calls of a create and of an append write; nothing of a sync.
+static CALLS: [Option<(usize, &[u8], bool)>; 6] = [
+    Some((0, &[72, 68, 74, 49, 0, 3, 0, 0, 0], true)),
+    None,
+    Some((9, &[0, 6, 1, 0, 0, 0, 1, 0, 0], true)),
+    None,
+    Some((8, &[1], true)),
+    None,
 ];
 
-/// The calls print as those of a create and of an append.
-fn are_told(rt: &impl Abort, alloc: Global, calls: &[Call]) -> Result<(), AllocError> {
-    assert_same(rt, calls.len(), CALLS.len());
-    for (call, expected) in calls.iter().zip(CALLS.iter()) {
-        is_told(rt, alloc, call, expected)?;
+/// The calls are those of a create and of an append.
+fn are_told(rt: &impl Abort, calls: &[Call]) {
+    assert_eq!(rt; calls.len(), CALLS.len());
+    for at in 0..CALLS.len() {
+        assert_same(rt, written(rt, &calls[at]), CALLS[at]);
     }
-    Ok(())
 }
 
 /// An append is a write of the record and a shut gate behind the gate, a sync, a write of the gate, and a sync.
@@ -93,16 +89,24 @@ fn are_told(rt: &impl Abort, alloc: Global, calls: &[Call]) -> Result<(), AllocE
 fn the_four_calls_of_an_append(rt: HostRuntime) -> Result<(), Fail> {
     let alloc = rt.alloc();
     let disk = disk_with_a_promise(&rt, alloc)?;
-    are_told(&rt, alloc, disk.calls())?;
+    are_told(&rt, disk.calls());
     Ok(())
+}
+
+/// The store is closed by a failure of its disk, or isn't.
+fn is_closed<D: Disk>(rt: &impl Abort, store: &Store<D>, closed: bool) {
+    assert_same(
+        rt,
+        (store.is_closed(), store.failures() > 0),
+        (closed, closed),
+    );
 }
 
 /// The fourth call of an accept fails: the store is closed, and answers so.
 fn is_closed_in_an_accept<D: Disk>(rt: &impl Abort, store: &mut Store<D>) {
-    assert!(rt; !store.is_closed());
+    is_closed(rt, store, false);
     assert_same(rt, accept(rt, store), Err(StoreFault::Disk));
-    assert!(rt; store.is_closed());
-    assert!(rt; store.failures() > 0);
+    is_closed(rt, store, true);
     assert_same(rt, promise(store), Err(StoreFault::Closed));
     assert_same(rt, entry(store, 0), Err(StoreFault::Closed));
 }
@@ -170,15 +174,20 @@ static FILES: [(&[u8], u8); 8] = [
     ),
 ];
 
+/// A gate of another value than 1 before the accept is shut.
+fn opens_shut(rt: &impl Abort, alloc: Global) -> Result<(), Fail> {
+    let mut shut = JOURNAL;
+    shut[17] = 2;
+    keeps_promise_alone(rt, alloc, disk_with(alloc, &shut, &[])?)
+}
+
 #[test]
 fn malformed_journals(rt: HostRuntime) -> Result<(), Fail> {
     let alloc = rt.alloc();
     for &(bytes, code) in &FILES {
         answers(&rt, alloc, bytes, code)?;
     }
-    let mut shut = JOURNAL;
-    shut[17] = 2;
-    keeps_promise_alone(&rt, alloc, disk_with(alloc, &shut, &[])?)
+    opens_shut(&rt, alloc)
 }
 
 /// Stores a promise of the round after the slot, and that the deal was accepted in it at the slot.
@@ -309,17 +318,22 @@ fn opens_with_others(
     Ok(())
 }
 
+/// A journal with each byte changed to sixteen others.
+fn opens_each_changed(rt: &impl Abort, alloc: Global, journal: &mut [u8]) -> Result<(), Fail> {
+    let mut seed = 7;
+    for at in 0..journal.len() {
+        opens_with_others(rt, alloc, journal, at, &mut seed)?;
+    }
+    Ok(())
+}
+
 /// A journal of twenty records, cut short at each byte, and with each byte changed to sixteen others.
 #[test]
 fn changed_journals(rt: HostRuntime) -> Result<(), Fail> {
     let alloc = rt.alloc();
     let mut journal = twenty(&rt, alloc)?.bytes().to_vec(alloc)?;
     opens_cut_short(&rt, alloc, journal.as_slice())?;
-    let mut seed = 7;
-    for at in 0..journal.len() {
-        opens_with_others(&rt, alloc, journal.as_mut_slice(), at, &mut seed)?;
-    }
-    Ok(())
+    opens_each_changed(&rt, alloc, journal.as_mut_slice())
 }
 
 #[test]
