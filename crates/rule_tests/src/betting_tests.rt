@@ -51,6 +51,26 @@ numBoardCards = 0 3 1 1
 END GAMEDEF
 ";
 
+/// A step of a hand: an action, or what is seen of the hand between two.
+#[derive(Clone, Copy)]
+enum Step {
+    Takes(Action),
+    /// An action that isn't allowed, and why.
+    Refuses(Action, ActFault),
+    /// The same told before, and nothing of an action that is allowed.
+    Tells(Action, Option<ActFault>),
+    ToAct(Option<usize>),
+    /// What the player to act may raise to.
+    Range(Option<(u32, u32)>),
+    Round(usize),
+    Finished(bool),
+    Spent(&'static [u32]),
+    Folded(&'static [bool]),
+    Unfolded(usize),
+    /// How many slashes stand behind each action.
+    Slashes(&'static [u8]),
+}
+
 // Calls with long contracts stand in one function each: a contract is read anew wherever its call stands.
 
 /// What comes of an action.
@@ -58,151 +78,160 @@ fn acted(play: &mut Play, action: Action) -> Result<(), ActFault> {
     play.act(action)
 }
 
-/// Takes actions, each of which is allowed.
-fn take_all(rt: &impl Abort, play: &mut Play, actions: &[Action]) {
-    for action in actions {
-        same!(rt; acted(play, *action), Ok(()));
-    }
-}
-
-/// Sees that an action isn't allowed, and why.
-fn refuses(rt: &impl Abort, play: &mut Play, action: Action, fault: ActFault) {
-    same!(rt; acted(play, action), Err(fault));
-}
-
-/// Sees what a player may raise to.
-fn assert_range(rt: &impl Abort, play: &Play, range: Option<(u32, u32)>) {
-    same!(rt; play.raise_range(), range);
-}
-
-/// Sees who is to act.
-fn assert_to_act(rt: &impl Abort, play: &Play, position: Option<usize>) {
-    same!(rt; play.to_act(), position);
-}
-
-/// Sees which round it is.
-fn assert_round(rt: &impl Abort, play: &Play, round: usize) {
-    same!(rt; play.round(), round);
-}
-
-/// Sees that a hand is over in this round.
-fn assert_finished(rt: &impl Abort, play: &Play, round: usize) {
-    holds!(rt; play.finished());
-    assert_round(rt, play, round);
-}
-
-fn assert_spent(rt: &impl Abort, play: &Play, amounts: &[u32]) {
+fn has_spent(rt: &impl Abort, play: &Play, amounts: &[u32]) {
     assert_eq!(rt; play.players(), amounts.len());
     for position in 0..play.players() {
         same!(rt; play.spent(position), amounts[position]);
     }
 }
 
-/// Two calls, after which the second player may raise all in.
-fn call_twice(rt: &impl Abort, play: &mut Play) {
-    assert_to_act(rt, play, Some(2));
-    take_all(rt, play, &[Action::Call, Action::Call]);
-    assert_to_act(rt, play, Some(1));
-    assert_range(rt, play, Some((150, 150)));
-    refuses(rt, play, Action::Fold, ActFault::FoldNotFacing);
-}
-
-/// The short all-in, and a raise behind it.
-fn raise_behind_all_in(rt: &impl Abort, play: &mut Play) {
-    take_all(rt, play, &[Action::Raise(150)]);
-    assert_range(rt, play, Some((200, 5000)));
-    refuses(rt, play, Action::Raise(199), ActFault::RaiseTooSmall(200));
-    refuses(rt, play, Action::Raise(5001), ActFault::RaiseTooLarge(5000));
-    take_all(rt, play, &[Action::Raise(200), Action::Call]);
-    assert_round(rt, play, 1);
-}
-
-/// A second all-in, which nobody can raise.
-fn raise_all_in(rt: &impl Abort, play: &mut Play) {
-    take_all(rt, play, &[Action::Raise(1000)]);
-    same!(rt; play.fault(Action::Raise(2000)), Some(ActFault::NobodyToCall));
-    assert_range(rt, play, None);
-    holds!(rt; !play.finished());
-}
-
-/// Sees the actions of the whole hand, `ccr150r200c/r1000c//`.
-fn assert_whole(rt: &impl Abort, play: &Play) {
-    same!(rt; play.actions().len(), 7);
-    holds!(rt; play.slashes() == [0, 0, 0, 0, 1, 0, 2].as_slice());
-    assert_spent(rt, play, &[1000, 150, 1000]);
-}
-
-#[test]
-fn a_short_all_in_opens_the_betting_again(rt: HostRuntime) {
-    let mut play = Play::new(&game(&rt, N3));
-    call_twice(&rt, &mut play);
-    raise_behind_all_in(&rt, &mut play);
-    raise_all_in(&rt, &mut play);
-    take_all(&rt, &mut play, &[Action::Call]);
-    assert_finished(&rt, &play, 3);
-    assert_whole(&rt, &play);
-    refuses(&rt, &mut play, Action::Call, ActFault::Finished);
-}
-
-/// Sees who of three players has given the hand up.
-fn assert_folded(rt: &impl Abort, play: &Play, gone: [bool; 3]) {
-    assert_eq!(rt; play.players(), 3);
-    for position in 0..3 {
+/// Sees who has given the hand up.
+fn has_folded(rt: &impl Abort, play: &Play, gone: &[bool]) {
+    assert_eq!(rt; play.players(), gone.len());
+    for position in 0..play.players() {
         same!(rt; play.folded(position), gone[position]);
     }
 }
 
+/// Sees the slashes behind each action of a hand.
+fn has_slashes(rt: &impl Abort, play: &Play, slashes: &[u8]) {
+    holds!(rt; play.slashes() == slashes);
+    same!(rt; play.actions().len(), slashes.len());
+}
+
+/// Goes a step of a hand.
+fn goes(rt: &impl Abort, play: &mut Play, step: Step) {
+    match step {
+        Step::Takes(action) => same!(rt; acted(play, action), Ok(())),
+        Step::Refuses(action, fault) => same!(rt; acted(play, action), Err(fault)),
+        Step::Tells(action, fault) => same!(rt; play.fault(action), fault),
+        Step::ToAct(position) => same!(rt; play.to_act(), position),
+        Step::Range(range) => same!(rt; play.raise_range(), range),
+        Step::Round(round) => same!(rt; play.round(), round),
+        Step::Finished(is_finished) => same!(rt; play.finished(), is_finished),
+        Step::Spent(amounts) => has_spent(rt, play, amounts),
+        Step::Folded(gone) => has_folded(rt, play, gone),
+        Step::Unfolded(count) => same!(rt; play.unfolded(), count),
+        Step::Slashes(slashes) => has_slashes(rt, play, slashes),
+    }
+}
+
+/// Goes the steps of a hand.
+fn goes_all(rt: &impl Abort, play: &mut Play, steps: &[Step]) {
+    for step in steps {
+        goes(rt, play, *step);
+    }
+}
+
+/// Two calls, after which the second player may raise all in; the short all-in, and a raise behind it; and a second all-in,
+/// which nobody can raise: `ccr150r200c/r1000c//`.
+static SHORT_ALL_IN: [Step; 23] = [
+    Step::ToAct(Some(2)),
+    Step::Takes(Action::Call),
+    Step::Takes(Action::Call),
+    Step::ToAct(Some(1)),
+    Step::Range(Some((150, 150))),
+    Step::Refuses(Action::Fold, ActFault::FoldNotFacing),
+    Step::Takes(Action::Raise(150)),
+    Step::Range(Some((200, 5000))),
+    Step::Refuses(Action::Raise(199), ActFault::RaiseTooSmall(200)),
+    Step::Refuses(Action::Raise(5001), ActFault::RaiseTooLarge(5000)),
+    Step::Takes(Action::Raise(200)),
+    Step::Takes(Action::Call),
+    Step::Round(1),
+    Step::Takes(Action::Raise(1000)),
+    Step::Tells(Action::Raise(2000), Some(ActFault::NobodyToCall)),
+    Step::Range(None),
+    Step::Finished(false),
+    Step::Takes(Action::Call),
+    Step::Finished(true),
+    Step::Round(3),
+    Step::Slashes(&[0, 0, 0, 0, 1, 0, 2]),
+    Step::Spent(&[1000, 150, 1000]),
+    Step::Refuses(Action::Call, ActFault::Finished),
+];
+
+#[test]
+fn a_short_all_in_opens_the_betting_again(rt: HostRuntime) {
+    let mut play = Play::new(&game(&rt, N3));
+    goes_all(&rt, &mut play, &SHORT_ALL_IN);
+}
+
+static FOLDS: [Step; 8] = [
+    Step::Takes(Action::Raise(300)),
+    Step::Takes(Action::Fold),
+    Step::Takes(Action::Fold),
+    Step::Finished(true),
+    Step::Round(0),
+    Step::Spent(&[50, 100, 300]),
+    Step::Folded(&[true, true, false]),
+    Step::Unfolded(1),
+];
+
 #[test]
 fn folds_end_the_hand_in_their_round(rt: HostRuntime) {
     let mut play = Play::new(&game(&rt, N3));
-    let actions = [Action::Raise(300), Action::Fold, Action::Fold];
-    take_all(&rt, &mut play, &actions);
-    assert_finished(&rt, &play, 0);
-    assert_spent(&rt, &play, &[50, 100, 300]);
-    assert_folded(&rt, &play, [true, true, false]);
-    same!(&rt; play.unfolded(), 1);
+    goes_all(&rt, &mut play, &FOLDS);
 }
+
+static LIMIT_RAISES: [Step; 8] = [
+    Step::Range(Some((20, 20))),
+    Step::Takes(Action::Raise(20)),
+    Step::Range(Some((25, 25))),
+    Step::Takes(Action::Raise(25)),
+    Step::Refuses(Action::Raise(25), ActFault::NobodyToCall),
+    Step::Takes(Action::Call),
+    Step::Finished(true),
+    Step::Round(3),
+];
 
 #[test]
 fn limit_raises_have_one_amount(rt: HostRuntime) {
     let mut play = Play::new(&game(&rt, LIMIT));
-    assert_range(&rt, &play, Some((20, 20)));
-    take_all(&rt, &mut play, &[Action::Raise(20)]);
-    assert_range(&rt, &play, Some((25, 25)));
-    take_all(&rt, &mut play, &[Action::Raise(25)]);
-    refuses(&rt, &mut play, Action::Raise(25), ActFault::NobodyToCall);
-    take_all(&rt, &mut play, &[Action::Call]);
-    assert_finished(&rt, &play, 3);
+    goes_all(&rt, &mut play, &LIMIT_RAISES);
 }
+
+static MOST_RAISES: [Step; 8] = [
+    Step::Takes(Action::Raise(20)),
+    Step::Takes(Action::Raise(30)),
+    Step::Takes(Action::Raise(40)),
+    Step::Refuses(Action::Raise(50), ActFault::TooManyRaises),
+    Step::Takes(Action::Call),
+    Step::Round(1),
+    Step::ToAct(Some(0)),
+    Step::Takes(Action::Raise(50)),
+];
 
 #[test]
 fn a_round_has_its_most_raises(rt: HostRuntime) {
     let mut play = Play::new(&game(&rt, L2));
-    let raises = [Action::Raise(20), Action::Raise(30), Action::Raise(40)];
-    take_all(&rt, &mut play, &raises);
-    refuses(&rt, &mut play, Action::Raise(50), ActFault::TooManyRaises);
-    take_all(&rt, &mut play, &[Action::Call]);
-    assert_round(&rt, &play, 1);
-    assert_to_act(&rt, &play, Some(0));
-    take_all(&rt, &mut play, &[Action::Raise(50)]);
+    goes_all(&rt, &mut play, &MOST_RAISES);
 }
+
+static ANSWERS: [Step; 3] = [
+    Step::Refuses(Action::Raise(130), ActFault::RoundFull),
+    Step::Takes(Action::Call),
+    Step::Round(1),
+];
 
 #[test]
 fn a_round_has_room_for_the_answers(rt: HostRuntime) {
     let mut play = Play::new(&game(&rt, SMALL_BLINDS));
     for step in 2..65 {
-        take_all(&rt, &mut play, &[Action::Raise(2 * step)]);
+        goes(&rt, &mut play, Step::Takes(Action::Raise(2 * step)));
     }
-    refuses(&rt, &mut play, Action::Raise(130), ActFault::RoundFull);
-    take_all(&rt, &mut play, &[Action::Call]);
-    assert_round(&rt, &play, 1);
+    goes_all(&rt, &mut play, &ANSWERS);
 }
+
+static ONE_RAISE: [Step; 2] = [
+    Step::ToAct(Some(1)),
+    Step::Range(Some((2_147_483_647, 2_147_483_647))),
+];
 
 #[test]
 fn the_greatest_blind_leaves_one_raise(rt: HostRuntime) {
-    let play = Play::new(&game(&rt, GREATEST_BLIND));
-    assert_to_act(&rt, &play, Some(1));
-    assert_range(&rt, &play, Some((2_147_483_647, 2_147_483_647)));
+    let mut play = Play::new(&game(&rt, GREATEST_BLIND));
+    goes_all(&rt, &mut play, &ONE_RAISE);
 }
 
 /// Faults of actions, their numbers and what is printed of them.
