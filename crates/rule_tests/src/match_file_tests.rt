@@ -1,5 +1,5 @@
 use crate::asserting::{holds, same};
-use crate::samples::{L2, ten_ace};
+use crate::samples::{L2, next, ten_ace, with_changed_bit};
 use card_core::Deal;
 use dealer_kind::Config;
 use match_file::{MatchFault, MatchFile, Outage, Service};
@@ -311,15 +311,6 @@ fn ends_with_a_name(alloc: Global, text: &[u8]) -> bool {
     }
 }
 
-/// A text with one bit changed of the byte at a place.
-fn with_changed_bit(alloc: Global, text: &[u8], place: usize) -> Result<Vec<u8>, AllocError> {
-    let mut changed = text.to_vec(alloc)?;
-    if place < changed.len() {
-        changed[place] ^= 1 << (place % 8);
-    }
-    Ok(changed)
-}
-
 /// Sees that a text ends with a name that is cut at a place, or has a bit changed there.
 fn ends_with_a_name_when_damaged(
     rt: &impl Abort,
@@ -341,13 +332,6 @@ fn a_damaged_file_ends_with_a_name(rt: HostRuntime) -> Result<(), Fail> {
         ends_with_a_name_when_damaged(&rt, rt.alloc(), text, place)?;
     }
     Ok(())
-}
-
-/// The next of numbers that look random (Knuth's linear congruence).
-fn next(state: u64) -> u64 {
-    state
-        .wrapping_mul(6364136223846793005)
-        .wrapping_add(1442695040888963407)
 }
 
 /// Random bytes, a third of them from an alphabet of what TOML is made of.

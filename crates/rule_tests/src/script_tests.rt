@@ -1,4 +1,5 @@
 use crate::asserting::{holds, same};
+use crate::samples::{next, with_changed_bit};
 use play_script::{
     BadScript, Bounds, Order, put_fault, put_frame, put_log_line, put_seat_fault, put_seat_line,
     read,
@@ -144,13 +145,6 @@ fn what_comes_is_printed(rt: HostRuntime) -> Result<(), Fail> {
     Ok(())
 }
 
-/// The next of numbers that look random (Knuth's linear congruence).
-fn next(state: u64) -> u64 {
-    state
-        .wrapping_mul(6364136223846793005)
-        .wrapping_add(1442695040888963407)
-}
-
 /// Whether a line ends with an order within its bounds, or with the fault.
 fn is_named(line: &[u8]) -> bool {
     match read(line, BOUNDS) {
@@ -165,15 +159,6 @@ fn is_named(line: &[u8]) -> bool {
         Ok(Order::Line { node, seat, .. }) => node < BOUNDS.nodes && seat < BOUNDS.seats,
         Err(fault) => fault.code() == 110,
     }
-}
-
-/// A line with one bit changed of the byte at a place.
-fn with_changed_bit(alloc: Global, line: &[u8], place: usize) -> Result<Vec<u8>, AllocError> {
-    let mut changed = line.to_vec(alloc)?;
-    if place < changed.len() {
-        changed[place] ^= 1 << (place % 8);
-    }
-    Ok(changed)
 }
 
 /// Sees that a line ends with a name that is cut at a place, or has a bit changed there.
