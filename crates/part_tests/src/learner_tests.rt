@@ -94,12 +94,22 @@ fn answer_to(
     }
 }
 
-/// The answer to a call: what it completes at its slot, if anything, or why it is refused.
-fn answer_of(slot: u32, command: Command, completes: Result<bool, SlotFault>) -> Answer {
-    match completes {
-        Ok(true) => Ok(Some(Chosen { slot, command })),
-        Ok(false) => Ok(None),
-        Err(fault) => Err(fault),
+/// Sees whether an answer tells the act as chosen at the slot, or why it is refused.
+fn is_answer(
+    rt: &impl Abort,
+    found: &Answer,
+    slot: u32,
+    action: Action,
+    completes: Result<bool, SlotFault>,
+) {
+    match found {
+        Ok(Some(chosen)) => {
+            assert_same(rt, completes, Ok(true));
+            assert_same(rt, chosen.slot, slot);
+            assert!(rt; chosen.command == act(action));
+        }
+        Ok(None) => assert_same(rt, completes, Ok(false)),
+        Err(fault) => assert_same(rt, completes, Err(*fault)),
     }
 }
 
@@ -115,9 +125,8 @@ fn answers(
     ensures { learner.new.learned.nodes ≡ nodes }
 {
     let (said, slot, action, wanted, front) = call;
-    let command = act(action);
-    let found = answer_to(rt, learner, nodes, said, slot, command, in_room)?;
-    assert_same(rt, found, answer_of(slot, command, wanted));
+    let found = answer_to(rt, learner, nodes, said, slot, act(action), in_room)?;
+    is_answer(rt, &found, slot, action, wanted);
     assert_same(rt, learner.log().front(), front);
     Ok(())
 }
