@@ -1,17 +1,7 @@
-use card_core::Deal;
+use crate::asserting::same;
 use deck_draw::draw;
-
-/// Whether a text has a deal's cards in order; bars and slashes only part them.
-fn is_written(text: &str, deal: &Deal) -> bool {
-    let mut letters = text.bytes().filter(|byte| *byte != b'|' && *byte != b'/');
-    for card in deal.cards() {
-        let [rank, suit] = card.text();
-        if letters.next() != Some(rank) || letters.next() != Some(suit) {
-            return false;
-        }
-    }
-    letters.next().is_none()
-}
+use matchstate::read_deal;
+use std::process::Abort;
 
 /// A seed, a hand, the number of players, and the known deal of them.
 static KNOWN: [(u64, u32, usize, &str); 12] = [
@@ -64,13 +54,15 @@ static KNOWN: [(u64, u32, usize, &str); 12] = [
     ),
 ];
 
+/// Sees the deal of a seed and a hand, by its text.
+fn draws(rt: &impl Abort, seed: u64, hand: u32, players: usize, text: &str) {
+    assert!(rt; 2 <= players && players <= 10);
+    same!(rt; Some(draw(seed, hand, players)), read_deal(text.as_bytes(), players));
+}
+
 #[test]
 fn decks_are_the_known_ones(rt: HostRuntime) {
     for &(seed, hand, players, text) in &KNOWN {
-        assert!(rt; 2 <= players && players <= 10);
-        assert!(rt;
-            is_written(text, &draw(seed, hand, players)),
-            "seed {seed}, hand {hand}, {players} players"
-        );
+        draws(&rt, seed, hand, players, text);
     }
 }
