@@ -165,7 +165,10 @@ fn learns(
 /// Sees the act that is known at a slot; none where nothing is.
 fn knows(rt: &impl Abort, learner: &Learner, known: (u32, Option<Action>)) {
     let (slot, action) = known;
-    assert_same(rt, learner.log().get(slot).copied(), action.map(act));
+    match (learner.log().get(slot), action) {
+        (Some(command), Some(action)) => assert!(rt; *command == act(action)),
+        (found, _) => assert_same(rt, (found.is_some(), action.is_some()), (false, false)),
+    }
 }
 
 const FIRST: Ballot = Ballot { round: 1, node: 0 };

@@ -43,11 +43,19 @@ fn file(alloc: Global, lines: &[u8]) -> Result<Vec<u8>, AllocError> {
     Ok(text)
 }
 
+/// The fault of a text; none of a game file.
+fn fault_of(text: &[u8]) -> Option<GameFault> {
+    match read(text) {
+        Ok(_) => None,
+        Err(fault) => Some(fault),
+    }
+}
+
 /// The number and the line of a text's fault; nothing for a game file.
 fn told(text: &[u8]) -> (u8, usize) {
-    match read(text) {
-        Ok(_) => (0, 0),
-        Err(fault) => (fault.code(), fault.line),
+    match fault_of(text) {
+        Some(fault) => (fault.code(), fault.line),
+        None => (0, 0),
     }
 }
 
@@ -306,7 +314,7 @@ numHoleCards = 2
 numBoardCards = 0 3 1 1
 END GAMEDEF
 ";
-    let fault = read(text).err().ok_or("a stack is the greatest blind")?;
+    let fault = fault_of(text).ok_or("a stack is the greatest blind")?;
     is_stack_below_blind(&rt, fault.kind);
     prints(&rt, rt.alloc(), &fault, "17 StackBelowBlind 5")?;
     Ok(())

@@ -45,19 +45,28 @@ fn file(alloc: Global, text: &[u8]) -> Result<MatchFile, MatchFault> {
     MatchFile::read(alloc, text)
 }
 
+/// The fault of a file's match: none where there is one.
+fn fault_of_config(alloc: Global, file: &MatchFile, game: Option<&[u8]>) -> Option<MatchFault> {
+    file.config(alloc, game).err()
+}
+
 /// The fault of a text's match: none where there is one.
 fn fault_of(alloc: Global, text: &[u8], game: Option<&[u8]>) -> Option<MatchFault> {
-    let config = match file(alloc, text) {
-        Ok(file) => file.config(alloc, game),
-        Err(fault) => Err(fault),
-    };
-    config.err()
+    match file(alloc, text) {
+        Ok(file) => fault_of_config(alloc, &file, game),
+        Err(fault) => Some(fault),
+    }
+}
+
+/// The fault of what a file says for serving, with three nodes: none where it is served.
+fn fault_of_file(alloc: Global, file: &MatchFile) -> Option<MatchFault> {
+    file.service(alloc, 3).err()
 }
 
 /// The fault of what a text says for serving, with three nodes: none where it is served.
 fn fault_of_service(alloc: Global, text: &[u8]) -> Option<MatchFault> {
     match file(alloc, text) {
-        Ok(file) => file.service(alloc, 3).err(),
+        Ok(file) => fault_of_file(alloc, &file),
         Err(fault) => Some(fault),
     }
 }
