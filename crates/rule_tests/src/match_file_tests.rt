@@ -92,11 +92,16 @@ fn prints(
     Ok(())
 }
 
+/// Three texts behind one another.
+fn joined(alloc: Global, front: &str, new: &str, behind: &str) -> Result<String, AllocError> {
+    format!(in alloc; "{front}{new}{behind}")
+}
+
 /// The text with one line in place of another.
 fn with(alloc: Global, text: &str, old: &str, new: &str) -> Result<String, AllocError> {
     match text.split_once(old) {
-        Some((front, behind)) => format!(in alloc; "{front}{new}{behind}"),
-        None => format!(in alloc; "{text}"),
+        Some((front, behind)) => joined(alloc, front, new, behind),
+        None => joined(alloc, text, "", ""),
     }
 }
 
@@ -316,7 +321,7 @@ fn each_key_of_serving_is_told(rt: HostRuntime) -> Result<(), Fail> {
 fn ends_with_a_name(alloc: Global, text: &[u8]) -> bool {
     match fault_of(alloc, text, Some(L2)) {
         None => true,
-        Some(fault) => [100, 101].contains(&fault.code()),
+        Some(fault) => matches!(fault.code(), 100 | 101),
     }
 }
 

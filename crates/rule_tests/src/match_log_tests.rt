@@ -335,19 +335,29 @@ static WORDS: [(&[u8], bool); 6] = [
     (b"l2\x7f", false),
 ];
 
+/// Whether a text has two players' names.
+fn has_names(text: &[u8]) -> bool {
+    SeatNames::read(text, 2).is_some()
+}
+
+/// Whether a text is a name.
+fn has_name(text: &[u8]) -> bool {
+    Name::new(text).is_some()
+}
+
 #[test]
 fn each_seat_has_a_name_of_its_own(rt: HostRuntime) {
     for &(text, are_names) in &TWO_NAMES {
-        holds!(&rt; SeatNames::read(text, 2).is_some() == are_names);
+        same!(&rt; has_names(text), are_names);
     }
 }
 
 #[test]
 fn names_and_words_are_short_and_plain(rt: HostRuntime) {
     for &(text, is_name) in &NAMES {
-        holds!(&rt; Name::new(text).is_some() == is_name);
+        same!(&rt; has_name(text), is_name);
     }
     for &(text, is_word) in &WORDS {
-        holds!(&rt; is_game_word(text) == is_word);
+        same!(&rt; is_game_word(text), is_word);
     }
 }
