@@ -1,5 +1,6 @@
 use crate::test_streams::{
-    L2, Listener, Reading, Talker, Writing, ends_with, is_written, prints, reads_or_stops,
+    Gives, L2, Listener, Reading, Run, Takes, Talker, Writing, ends, ends_with, is_begun,
+    is_written, reads_or_stops,
 };
 use game_def::GameDef;
 use std::alloc::{AllocError, Global};
@@ -52,32 +53,13 @@ fn ran<R: Read, W: Write>(alloc: Global, game: &[u8], reader: &mut R, writer: &m
     hand_run(alloc, game, None, 1, reader, writer)
 }
 
-/// Runs a script, for which this is to be written: how the run ends.
-fn ran_writing<R: Read>(
-    rt: &impl Abort,
-    alloc: Global,
-    game: &[u8],
-    reader: &mut R,
-    text: &[u8],
-) -> Ending {
-    let mut written = Vec::new(alloc);
-    let ending = ran(alloc, game, reader, &mut written);
-    is_written(rt, &written, text);
-    ending
-}
-
-/// Runs a script, of whose answers a writer is to take this: how the run ends.
-fn ran_taking<R: Read>(
-    rt: &impl Abort,
-    alloc: Global,
-    reader: &mut R,
-    writer: Writing,
-    taken: &[u8],
-) -> Ending {
-    let mut writer = writer;
-    let ending = ran(alloc, L2, reader, &mut writer);
-    is_written(rt, &writer.taken, taken);
-    ending
+/// Runs the script over such a reader and writer: the run ends as is due.
+fn is_run(rt: &impl Abort, alloc: Global, run: &Run) -> Result<(), AllocError> {
+    let &(gives, takes, count, text) = run;
+    let mut writer = Writing::new(alloc, takes);
+    let ending = ran(alloc, L2, &mut Reading::new(SCRIPT, gives), &mut writer);
+    is_begun(rt, &writer.taken, ANSWERS, count);
+    ends(rt, alloc, ending, text)
 }
 
 /// Runs two hands with their log: how the run ends.
@@ -87,22 +69,22 @@ fn ran_with_log<W: Write>(alloc: Global, word: GameWord<'_>, writer: &mut W) -> 
 
 /// Runs a script that comes byte by byte, with four reads at most.
 fn run_by_four(alloc: Global, game: GameDef, bytes: &[u8]) -> Result<(), Stop> {
-    let mut written = Vec::new(alloc);
-    run_script(
-        alloc,
-        game,
-        None,
-        1,
-        4,
-        &mut Reading::new(bytes, 1),
-        &mut written,
-    )
+    let mut reader = Reading::new(bytes, Gives::OneByOne);
+    run_script(alloc, game, None, 1, 4, &mut reader, &mut Vec::new(alloc))
 }
 
+/// The script, at once and in pieces.
+static ANSWERED: [Run; 2] = [
+    (Gives::Whole, Takes::All, ANSWERS.len(), ""),
+    (Gives::InPieces, Takes::InPieces, ANSWERS.len(), ""),
+];
+
 #[test]
-fn answers_a_script(rt: HostRuntime) {
-    let ending = ran_writing(&rt, rt.alloc(), L2, &mut &*SCRIPT, ANSWERS);
-    ends_with(&rt, ending, 0);
+fn answers_a_script(rt: HostRuntime) -> Result<(), Fail> {
+    for run in &ANSWERED {
+        is_run(&rt, rt.alloc(), run)?;
+    }
+    Ok(())
 }
 
 #[test]
@@ -115,57 +97,44 @@ fn prints_the_log_beside_the_answers(rt: HostRuntime) -> Result<(), Fail> {
     Ok(())
 }
 
-#[test]
-fn answers_a_script_in_any_pieces(rt: HostRuntime) {
-    let mut reader = Reading::new(SCRIPT, 1).interrupted();
-    let writer = Writing::interrupted(rt.alloc());
-    let ending = ran_taking(&rt, rt.alloc(), &mut reader, writer, ANSWERS);
-    assert!(rt; matches!(ending, Ending::Done));
-}
+/// A reader that fails before the last two lines, a writer that does behind 60 bytes, and flushes that fail.
+static STOPPED: [Run; 8] = [
+    (
+        Gives::Until(6, ErrorKind::BrokenPipe),
+        Takes::All,
+        98,
+        "107 StreamFailed",
+    ),
+    (
+        Gives::Until(6, ErrorKind::OutOfMemory),
+        Takes::All,
+        98,
+        "92 OutOfMemory",
+    ),
+    (
+        Gives::Whole,
+        Takes::Until(60, ErrorKind::BrokenPipe),
+        60,
+        "107 StreamFailed",
+    ),
+    (
+        Gives::Whole,
+        Takes::Until(60, ErrorKind::OutOfMemory),
+        60,
+        "107 StreamFailed",
+    ),
+    (Gives::Whole, Takes::Flushes(0), 0, "107 StreamFailed"),
+    (Gives::Whole, Takes::Flushes(1), 48, "107 StreamFailed"),
+    (Gives::Whole, Takes::Flushes(2), 98, "107 StreamFailed"),
+    (Gives::Whole, Takes::Flushes(3), 114, "107 StreamFailed"),
+];
 
-/// Runs a script whose reader fails so before its last two lines: the ending is to print this.
-fn keeps_answers(
-    rt: &impl Abort,
-    alloc: Global,
-    kind: ErrorKind,
-    text: &str,
-) -> Result<(), AllocError> {
-    let mut reader = Reading::new(SCRIPT, 1).failing(6, kind);
-    let ending = ran_writing(rt, alloc, L2, &mut reader, &ANSWERS[..98]);
-    ends_with(rt, ending, 2);
-    prints(rt, alloc, ending, text)
-}
-
 #[test]
-fn keeps_what_was_answered_before_the_reader_fails(rt: HostRuntime) -> Result<(), Fail> {
-    keeps_answers(&rt, rt.alloc(), ErrorKind::BrokenPipe, "107 StreamFailed")?;
-    keeps_answers(&rt, rt.alloc(), ErrorKind::OutOfMemory, "92 OutOfMemory")?;
+fn keeps_what_was_answered_before_a_stream_fails(rt: HostRuntime) -> Result<(), Fail> {
+    for run in &STOPPED {
+        is_run(&rt, rt.alloc(), run)?;
+    }
     Ok(())
-}
-
-#[test]
-fn stops_where_the_writer_fails(rt: HostRuntime) {
-    for failure in [ErrorKind::BrokenPipe, ErrorKind::OutOfMemory] {
-        let writer = Writing::failing(rt.alloc(), 60, failure);
-        let ending = ran_taking(&rt, rt.alloc(), &mut &*SCRIPT, writer, &ANSWERS[..60]);
-        assert!(rt; matches!(ending, Ending::StreamFailed));
-    }
-}
-
-#[test]
-fn stops_where_a_flush_fails(rt: HostRuntime) {
-    for (flushes, written) in [(0, 0), (1, 48), (2, 98), (3, 114)] {
-        let mut writer = Writing::failing_flush(rt.alloc(), flushes);
-        let ending = ran(rt.alloc(), L2, &mut &*SCRIPT, &mut writer);
-        assert!(rt;
-            matches!(ending, Ending::StreamFailed),
-            "at flush {flushes}"
-        );
-        assert!(rt;
-            writer.taken.as_slice() == &ANSWERS[..written],
-            "at flush {flushes}"
-        );
-    }
 }
 
 #[test]
@@ -186,9 +155,10 @@ fn answers_each_line_before_the_next_is_awaited(rt: HostRuntime) {
 
 #[test]
 fn refuses_a_game(rt: HostRuntime) -> Result<(), Fail> {
-    let ending = ran_writing(&rt, rt.alloc(), b"", &mut &*SCRIPT, b"");
-    ends_with(&rt, ending, 2);
-    prints(&rt, rt.alloc(), ending, "10 NoGamedef 0")?;
+    let mut written = Vec::new(rt.alloc());
+    let ending = ran(rt.alloc(), b"", &mut &*SCRIPT, &mut written);
+    is_written(&rt, &written, b"");
+    ends(&rt, rt.alloc(), ending, "10 NoGamedef 0")?;
     Ok(())
 }
 

@@ -1,6 +1,6 @@
 use crate::test_streams::{
-    L2, Listener, MATCH, Reading, Talker, Writing, config, ends_with, is_written, prints,
-    reads_or_stops,
+    Gives, L2, Listener, MATCH, Reading, Run, Takes, Talker, Writing, config, ends, ends_with,
+    is_begun, is_written, reads_or_stops,
 };
 use dealer_kind::Config;
 use match_runs::{play_match, play_run};
@@ -100,35 +100,41 @@ fn ran<R: Read, W: Write>(alloc: Global, file: &[u8], reader: &mut R, writer: &m
 }
 
 /// What is written for a match file and a script, and how the run ends.
-fn played(alloc: Global, file: &[u8], script: &[u8]) -> (Ending, Vec<u8>) {
-    let mut written = Vec::new(alloc);
-    let ending = ran(alloc, file, &mut &*script, &mut written);
-    (ending, written)
+fn played(alloc: Global, file: &[u8], script: &[u8], written: &mut Vec<u8>) -> Ending {
+    ran(alloc, file, &mut &*script, written)
 }
 
-/// Plays a script, for which this is to be written: how the run ends.
-fn ran_writing<R: Read>(rt: &impl Abort, alloc: Global, reader: &mut R, text: &[u8]) -> Ending {
-    let mut written = Vec::new(alloc);
-    let ending = ran(alloc, MATCH, reader, &mut written);
-    is_written(rt, &written, text);
-    ending
+/// Plays a script over such a reader and writer: the run ends as is due.
+fn is_run(
+    rt: &impl Abort,
+    alloc: Global,
+    script: &[u8],
+    answers: &[u8],
+    run: &Run,
+) -> Result<(), AllocError> {
+    let &(gives, takes, count, text) = run;
+    let mut writer = Writing::new(alloc, takes);
+    let ending = ran(alloc, MATCH, &mut Reading::new(script, gives), &mut writer);
+    is_begun(rt, &writer.taken, answers, count);
+    ends(rt, alloc, ending, text)
 }
+
+/// A script that is answered at once.
+static CALMLY_ANSWERED: Run = (Gives::Whole, Takes::All, CALM_ANSWERS.len(), "");
+
+/// A script that is answered at once and in pieces.
+static ANSWERED: [Run; 2] = [
+    (Gives::Whole, Takes::All, STOPPED_ANSWERS.len(), ""),
+    (Gives::InPieces, Takes::InPieces, STOPPED_ANSWERS.len(), ""),
+];
 
 #[test]
-fn answers_a_script_of_nodes(rt: HostRuntime) {
-    let calm = ran_writing(&rt, rt.alloc(), &mut &*CALM, CALM_ANSWERS);
-    ends_with(&rt, calm, 0);
-    let stopped = ran_writing(&rt, rt.alloc(), &mut &*STOPPED, STOPPED_ANSWERS);
-    ends_with(&rt, stopped, 0);
-}
-
-#[test]
-fn answers_a_script_of_nodes_in_any_pieces(rt: HostRuntime) {
-    let mut reader = Reading::new(STOPPED, 1).interrupted();
-    let mut writer = Writing::interrupted(rt.alloc());
-    let ending = ran(rt.alloc(), MATCH, &mut reader, &mut writer);
-    assert!(rt; matches!(ending, Ending::Done));
-    is_written(&rt, &writer.taken, STOPPED_ANSWERS);
+fn answers_a_script_of_nodes(rt: HostRuntime) -> Result<(), Fail> {
+    is_run(&rt, rt.alloc(), CALM, CALM_ANSWERS, &CALMLY_ANSWERED)?;
+    for run in &ANSWERED {
+        is_run(&rt, rt.alloc(), STOPPED, STOPPED_ANSWERS, run)?;
+    }
+    Ok(())
 }
 
 #[test]
@@ -147,74 +153,84 @@ fn answers_each_line_of_nodes_before_the_next_is_awaited(rt: HostRuntime) {
     is_written(&rt, &writer.heard, STOPPED_ANSWERS);
 }
 
-/// Plays a script of which all but `f` and its line feed is read, and then fails so: the ending is to print this.
-fn keeps_answers(
-    rt: &impl Abort,
-    alloc: Global,
-    kind: ErrorKind,
-    text: &str,
-) -> Result<(), AllocError> {
-    let answers = STOPPED_ANSWERS
-        .strip_suffix(b"E 110 BadScript\n")
-        .expect(rt, "answers to all lines");
-    let mut reader = Reading::new(STOPPED, 1).failing(2, kind);
-    let ending = ran_writing(rt, alloc, &mut reader, answers);
-    ends_with(rt, ending, 2);
-    prints(rt, alloc, ending, text)
+/// A reader that fails before `f` and its line feed, and flushes that fail: the headers are flushed once they are
+/// written, and so is the answer to each line, empty or not.
+static FAILED: [Run; 7] = [
+    (
+        Gives::Until(2, ErrorKind::BrokenPipe),
+        Takes::All,
+        STOPPED_ANSWERS.len() - b"E 110 BadScript\n".len(),
+        "107 StreamFailed",
+    ),
+    (
+        Gives::Until(2, ErrorKind::OutOfMemory),
+        Takes::All,
+        STOPPED_ANSWERS.len() - b"E 110 BadScript\n".len(),
+        "92 OutOfMemory",
+    ),
+    (Gives::Whole, Takes::Flushes(0), 105, "107 StreamFailed"),
+    (Gives::Whole, Takes::Flushes(1), 105, "107 StreamFailed"),
+    (Gives::Whole, Takes::Flushes(2), 105, "107 StreamFailed"),
+    (Gives::Whole, Takes::Flushes(3), 191, "107 StreamFailed"),
+    (Gives::Whole, Takes::Flushes(4), 236, "107 StreamFailed"),
+];
+
+/// Sees that a beginning of the answers was taken, of so many bytes or a few more.
+fn is_taken(rt: &impl Abort, taken: &[u8], most: usize) {
+    assert!(rt; taken.len() >= most, "at {most}");
+    assert!(rt; STOPPED_ANSWERS.starts_with(taken), "at {most}");
 }
 
 /// Plays a script whose writer fails once it has taken so many bytes.
-fn stops_at(rt: &impl Abort, alloc: Global, most: usize) {
-    let mut writer = Writing::failing(alloc, most, ErrorKind::BrokenPipe);
-    let ending = ran(alloc, MATCH, &mut &*CALM, &mut writer);
-    assert!(rt; matches!(ending, Ending::StreamFailed), "at {most}");
-    assert!(rt; writer.taken.len() >= most, "at {most}");
-    assert!(rt; CALM_ANSWERS.starts_with(&writer.taken), "at {most}");
+fn stops_at(rt: &impl Abort, alloc: Global, most: usize) -> Result<(), AllocError> {
+    let mut writer = Writing::new(alloc, Takes::Until(most, ErrorKind::BrokenPipe));
+    let ending = ran(alloc, MATCH, &mut &*STOPPED, &mut writer);
+    is_taken(rt, &writer.taken, most);
+    ends(rt, alloc, ending, "107 StreamFailed")
 }
 
 #[test]
 fn keeps_what_nodes_answered_before_a_stream_fails(rt: HostRuntime) -> Result<(), Fail> {
-    keeps_answers(&rt, rt.alloc(), ErrorKind::BrokenPipe, "107 StreamFailed")?;
-    keeps_answers(&rt, rt.alloc(), ErrorKind::OutOfMemory, "92 OutOfMemory")?;
+    for run in &FAILED {
+        is_run(&rt, rt.alloc(), STOPPED, STOPPED_ANSWERS, run)?;
+    }
     for most in 0..HEADERS.len() + 40 {
-        stops_at(&rt, rt.alloc(), most);
+        stops_at(&rt, rt.alloc(), most)?;
     }
     Ok(())
 }
 
-#[test]
-fn stops_where_a_flush_of_answers_fails(rt: HostRuntime) {
-    // The headers are flushed once they are written, and so is the answer to each line, empty or not.
-    for (flushes, written) in [(0, 105), (1, 105), (2, 105), (3, 191), (4, 236)] {
-        let mut writer = Writing::failing_flush(rt.alloc(), flushes);
-        let ending = ran(rt.alloc(), MATCH, &mut &*CALM, &mut writer);
-        assert!(rt;
-            matches!(ending, Ending::StreamFailed),
-            "at flush {flushes}"
-        );
-        assert!(rt;
-            writer.taken.as_slice() == &CALM_ANSWERS[..written],
-            "at flush {flushes}"
-        );
-    }
-}
-
 /// Plays a script that comes byte by byte, with four reads at most: the headers are to be written.
 fn play_by_four(rt: &impl Abort, alloc: Global, config: Config, bytes: &[u8]) -> Result<(), Stop> {
+    let mut reader = Reading::new(bytes, Gives::OneByOne);
     let mut written = Vec::new(alloc);
-    let ran = play_match(alloc, config, 4, &mut Reading::new(bytes, 1), &mut written);
+    let ran = play_match(alloc, config, 4, &mut reader, &mut written);
     is_written(rt, &written, HEADERS);
     ran
+}
+
+/// Plays such a script: whether all of it is read.
+fn is_read_by_four(
+    rt: &impl Abort,
+    alloc: Global,
+    bytes: &[u8],
+    is_read: bool,
+) -> Result<(), Fail> {
+    let config = config(alloc)?;
+    reads_or_stops(rt, play_by_four(rt, alloc, config, bytes), is_read);
+    Ok(())
 }
 
 #[test]
 fn reads_a_script_of_nodes_so_often_and_no_more(rt: HostRuntime) -> Result<(), Fail> {
     assert_eq!(rt; MOST_READS, 16_777_216);
-    let read = play_by_four(&rt, rt.alloc(), config(rt.alloc())?, b"xxx");
-    reads_or_stops(&rt, read, true);
-    let stopped = play_by_four(&rt, rt.alloc(), config(rt.alloc())?, b"xxxx");
-    reads_or_stops(&rt, stopped, false);
-    Ok(())
+    is_read_by_four(&rt, rt.alloc(), b"xxx", true)?;
+    is_read_by_four(&rt, rt.alloc(), b"xxxx", false)
+}
+
+/// Sees that this holds of the text that has this number.
+fn holds(rt: &impl Abort, number: u64, is_so: bool) {
+    assert!(rt; is_so, "number {number}");
 }
 
 /// Whether a run was refused its match file or its game, by a fault that has a name, and wrote nothing.
@@ -225,43 +241,54 @@ fn is_refused(ending: Ending, written: &[u8]) -> bool {
     }
 }
 
-/// Plays a match file with a short script: whether it was refused. If it wasn't, headers are written.
-fn refuses(rt: &impl Abort, alloc: Global, file: &[u8]) -> bool {
-    let (ending, written) = played(alloc, file, b"tick 0\n");
-    if is_refused(ending, &written) {
-        return true;
-    }
-    assert!(rt; matches!(ending, Ending::Done));
-    assert!(rt; written.starts_with(b"0 L # name/game/hands "));
-    false
+/// Whether all was done, and headers were written before anything else.
+fn is_begun_with_headers(ending: Ending, written: &[u8]) -> bool {
+    matches!(ending, Ending::Done) && written.starts_with(b"0 L # name/game/hands ")
 }
 
+/// Plays a match file with a short script: whether it was refused. If it wasn't, headers are written.
+fn refuses(rt: &impl Abort, alloc: Global, file: &[u8]) -> bool {
+    let mut written = Vec::new(alloc);
+    let ending = played(alloc, file, b"tick 0\n", &mut written);
+    let refused = is_refused(ending, &written);
+    assert!(rt; refused || is_begun_with_headers(ending, &written));
+    refused
+}
+
+/// The text with one bit changed in the byte at this place.
+fn changed(alloc: Global, text: &[u8], place: usize) -> Result<Vec<u8>, AllocError> {
+    let mut changed = text.to_vec(alloc)?;
+    if let Some(byte) = changed.get_mut(place) {
+        *byte ^= 1 << (place % 8);
+    }
+    Ok(changed)
+}
+
+/// All that ends before the last node's deals do is refused; the last line feed may be missing.
 #[test]
 fn a_damaged_match_file_is_played_or_refused(rt: HostRuntime) -> Result<(), Fail> {
-    let alloc = rt.alloc();
     for place in 0..MATCH.len() {
-        // All that ends before the last node's deals do is refused; the last line feed may be missing.
         let is_short = place < MATCH.len() - 1;
-        assert!(rt;
-            refuses(&rt, alloc, &MATCH[..place]) == is_short,
-            "at {place}"
-        );
-        let mut changed = MATCH.to_vec(alloc)?;
-        if place < changed.len() {
-            changed[place] ^= 1 << (place % 8);
-        }
-        refuses(&rt, alloc, &changed);
+        let is_refused = refuses(&rt, rt.alloc(), &MATCH[..place]);
+        holds(&rt, place as u64, is_refused == is_short);
+        refuses(&rt, rt.alloc(), &changed(rt.alloc(), MATCH, place)?);
     }
     Ok(())
+}
+
+/// Whether all was done, and what was written is a beginning of the answers, with the headers.
+fn is_answered_so_far(ending: Ending, written: &[u8]) -> bool {
+    matches!(ending, Ending::Done)
+        && written.starts_with(HEADERS)
+        && STOPPED_ANSWERS.starts_with(written)
 }
 
 #[test]
 fn a_script_cut_short_is_answered_as_far_as_it_goes(rt: HostRuntime) {
     for end in 0..STOPPED.len() {
-        let (ending, written) = played(rt.alloc(), MATCH, &STOPPED[..end]);
-        assert!(rt; matches!(ending, Ending::Done), "at {end}");
-        assert!(rt; written.starts_with(HEADERS), "at {end}");
-        assert!(rt; STOPPED_ANSWERS.starts_with(&written), "at {end}");
+        let mut written = Vec::new(rt.alloc());
+        let ending = played(rt.alloc(), MATCH, &STOPPED[..end], &mut written);
+        holds(&rt, end as u64, is_answered_so_far(ending, &written));
     }
 }
 
@@ -294,14 +321,19 @@ fn begins_with_number(line: &[u8]) -> bool {
     }
 }
 
+/// Plays the script of this number: all is done, and answers are written.
+fn answers(rt: &impl Abort, alloc: Global, script: &[u8], number: u64) {
+    let mut written = Vec::new(alloc);
+    let ending = played(alloc, MATCH, script, &mut written);
+    let is_done = matches!(ending, Ending::Done);
+    holds(rt, number, is_done && are_answers(&written));
+}
+
 #[test]
 fn a_damaged_script_is_answered(rt: HostRuntime) -> Result<(), Fail> {
     for place in 0..STOPPED.len() {
-        let mut changed = STOPPED.to_vec(rt.alloc())?;
-        changed[place] ^= 1 << (place % 8);
-        let (ending, written) = played(rt.alloc(), MATCH, &changed);
-        assert!(rt; matches!(ending, Ending::Done), "at {place}");
-        assert!(rt; are_answers(&written), "at {place}");
+        let script = changed(rt.alloc(), STOPPED, place)?;
+        answers(&rt, rt.alloc(), &script, place as u64);
     }
     Ok(())
 }
@@ -364,9 +396,7 @@ fn random_text(alloc: Global, seed: u64) -> Result<Vec<u8>, AllocError> {
 fn answers_random_scripts(rt: &impl Abort, alloc: Global, seeds: Range<u64>) -> Result<(), Fail> {
     for seed in seeds {
         let script = random_text(alloc, seed)?;
-        let (ending, written) = played(alloc, MATCH, &script);
-        assert!(rt; matches!(ending, Ending::Done), "seed {seed}");
-        assert!(rt; are_answers(&written), "seed {seed}");
+        answers(rt, alloc, &script, seed);
     }
     Ok(())
 }
@@ -382,12 +412,18 @@ fn further_random_scripts_are_answered(rt: HostRuntime) -> Result<(), Fail> {
     answers_random_scripts(&rt, rt.alloc(), 500..1000)
 }
 
+/// Plays the match file of this number: it is refused.
+fn is_file_refused(rt: &impl Abort, alloc: Global, file: &[u8], number: u64) {
+    let mut written = Vec::new(alloc);
+    let ending = played(alloc, file, STOPPED, &mut written);
+    holds(rt, number, is_refused(ending, &written));
+}
+
 #[test]
 fn random_match_files_are_refused(rt: HostRuntime) -> Result<(), Fail> {
     for seed in 0..1000u64 {
         let file = random_text(rt.alloc(), seed)?;
-        let (ending, written) = played(rt.alloc(), &file, STOPPED);
-        assert!(rt; is_refused(ending, &written), "seed {seed}");
+        is_file_refused(&rt, rt.alloc(), &file, seed);
     }
     Ok(())
 }

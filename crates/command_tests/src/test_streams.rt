@@ -43,49 +43,33 @@ pub(crate) fn config(alloc: Global) -> Result<Config, Fail> {
     Ok(MatchFile::read(alloc, MATCH)?.config(alloc, Some(L2))?)
 }
 
-/// Gives so many bytes at a time.
+/// How a reader gives its bytes.
+#[derive(Clone, Copy)]
+pub(crate) enum Gives {
+    /// As many as are asked for.
+    Whole,
+    OneByOne,
+    /// One by one, and every second read is interrupted, the first one too.
+    InPieces,
+    /// One by one, until so many are left; then reads fail so.
+    Until(usize, ErrorKind),
+}
+
+/// Gives these bytes so.
 #[derive(Drop)]
 pub(crate) struct Reading<'a> {
     rest: &'a [u8],
-    most: usize,
-    /// How many bytes are left where reads begin to fail, and how they fail.
-    failure: Option<(usize, ErrorKind)>,
-    /// Whether every second read is interrupted, and whether the next one is.
-    interrupts: bool,
+    gives: Gives,
+    /// Whether the read before was interrupted.
     interrupted: bool,
 }
 
 impl<'a> Reading<'a> {
-    /// Gives at most `most` bytes with each read.
-    pub(crate) fn new(rest: &'a [u8], most: usize) -> Reading<'a> {
+    pub(crate) fn new(rest: &'a [u8], gives: Gives) -> Reading<'a> {
         Reading {
             rest,
-            most,
-            failure: None,
-            interrupts: false,
+            gives,
             interrupted: false,
-        }
-    }
-
-    /// Fails so, from where so many bytes are left.
-    pub(crate) fn failing(self, left: usize, kind: ErrorKind) -> Reading<'a> {
-        Reading {
-            rest: self.rest,
-            most: self.most,
-            failure: Some((left, kind)),
-            interrupts: self.interrupts,
-            interrupted: self.interrupted,
-        }
-    }
-
-    /// Is interrupted at every second read, the first one too.
-    pub(crate) fn interrupted(self) -> Reading<'a> {
-        Reading {
-            rest: self.rest,
-            most: self.most,
-            failure: self.failure,
-            interrupts: true,
-            interrupted: true,
         }
     }
 
@@ -93,86 +77,83 @@ impl<'a> Reading<'a> {
     pub(crate) fn left(&self) -> usize {
         self.rest.len()
     }
-}
 
-impl Read for Reading<'_> {
-    fn read(&mut self, buf: &mut [u8]) -> IoResult<usize> {
-        if self.interrupts && self.interrupted {
-            self.interrupted = false;
-            return Err(Error::from(ErrorKind::Interrupted));
-        }
-        self.interrupted = true;
-        if let Some((left, kind)) = self.failure {
-            if self.rest.len() <= left {
-                return Err(Error::from(kind));
-            }
-        }
-        let count = buf.len().min(self.most);
+    /// Gives one byte, where there is one and room for it.
+    fn read_one(&mut self, buf: &mut [u8]) -> IoResult<usize> {
+        let count = buf.len().min(1);
         self.rest.read(&mut buf[..count])
     }
 }
 
-/// Takes up to three bytes at a time.
+impl Read for Reading<'_> {
+    fn read(&mut self, buf: &mut [u8]) -> IoResult<usize> {
+        match self.gives {
+            Gives::Whole => self.rest.read(buf),
+            Gives::OneByOne => self.read_one(buf),
+            Gives::InPieces => {
+                self.interrupted = !self.interrupted;
+                if self.interrupted {
+                    return Err(Error::from(ErrorKind::Interrupted));
+                }
+                self.read_one(buf)
+            }
+            Gives::Until(left, kind) => {
+                if self.rest.len() <= left {
+                    return Err(Error::from(kind));
+                }
+                self.read_one(buf)
+            }
+        }
+    }
+}
+
+/// How a writer takes bytes, up to three at a time.
+#[derive(Clone, Copy)]
+pub(crate) enum Takes {
+    All,
+    /// All, and every second write is interrupted, the first one too.
+    InPieces,
+    /// Once so many were taken, writes fail so.
+    Until(usize, ErrorKind),
+    /// All, and once so many flushes were made, flushes fail.
+    Flushes(u32),
+}
+
+/// Takes bytes so.
 #[derive(Drop)]
 pub(crate) struct Writing {
     pub(crate) taken: Vec<u8>,
-    /// Where so many bytes were taken, writes fail, and how they fail.
-    most: usize,
-    failure: ErrorKind,
-    /// Once so many flushes were made, flushes fail.
-    flushes: u32,
-    /// Whether every second write is interrupted, and whether the next one is.
-    interrupts: bool,
+    takes: Takes,
+    /// Whether the write before was interrupted.
     interrupted: bool,
 }
 
 impl Writing {
-    /// Fails so once so many bytes were taken.
-    pub(crate) fn failing(alloc: Global, most: usize, failure: ErrorKind) -> Writing {
+    pub(crate) fn new(alloc: Global, takes: Takes) -> Writing {
         Writing {
             taken: Vec::new(alloc),
-            most,
-            failure,
-            flushes: u32::MAX,
-            interrupts: false,
+            takes,
             interrupted: false,
         }
     }
 
-    /// Takes all bytes, and fails at the flush after so many.
-    pub(crate) fn failing_flush(alloc: Global, flushes: u32) -> Writing {
-        Writing {
-            taken: Vec::new(alloc),
-            most: usize::MAX,
-            failure: ErrorKind::BrokenPipe,
-            flushes,
-            interrupts: false,
-            interrupted: false,
-        }
-    }
-
-    /// Takes all bytes, and is interrupted at every second write, the first one too.
-    pub(crate) fn interrupted(alloc: Global) -> Writing {
-        Writing {
-            taken: Vec::new(alloc),
-            most: usize::MAX,
-            failure: ErrorKind::BrokenPipe,
-            flushes: u32::MAX,
-            interrupts: true,
-            interrupted: true,
+    /// How the next write fails, if it does.
+    fn failure(&mut self) -> Option<ErrorKind> {
+        match self.takes {
+            Takes::InPieces => {
+                self.interrupted = !self.interrupted;
+                self.interrupted.then_some(ErrorKind::Interrupted)
+            }
+            Takes::Until(most, kind) => (self.taken.len() >= most).then_some(kind),
+            Takes::All | Takes::Flushes(_) => None,
         }
     }
 }
 
 impl Write for Writing {
     fn write(&mut self, buf: &[u8]) -> IoResult<usize> {
-        if self.interrupts && self.interrupted {
-            self.interrupted = false;
-            return Err(Error::from(ErrorKind::Interrupted));
-        }
-        self.interrupted = true;
-        if self.taken.len() >= self.most {
-            return Err(Error::from(self.failure));
+        if let Some(kind) = self.failure() {
+            return Err(Error::from(kind));
         }
         let count = buf.len().min(3);
         self.taken.extend_from_slice(&buf[..count])?;
@@ -180,11 +161,14 @@ impl Write for Writing {
     }
 
     fn flush(&mut self) -> IoResult<()> {
-        if self.flushes == 0 {
-            return Err(Error::from(ErrorKind::StorageFull));
+        match self.takes {
+            Takes::Flushes(0) => Err(Error::from(ErrorKind::StorageFull)),
+            Takes::Flushes(left) => {
+                self.takes = Takes::Flushes(left - 1);
+                Ok(())
+            }
+            _ => Ok(()),
         }
-        self.flushes -= 1;
-        Ok(())
     }
 }
 
@@ -231,9 +215,18 @@ impl Write for Listener<'_> {
     }
 }
 
+/// How a run's reader gives and its writer takes, how many bytes of its answers are taken, and what its ending prints.
+pub(crate) type Run = (Gives, Takes, usize, &'static str);
+
 /// Sees that this was written.
 pub(crate) fn is_written(rt: &impl Abort, written: &[u8], text: &[u8]) {
     assert_eq!(rt; written, text);
+}
+
+/// Sees that so many bytes of an answer were written.
+pub(crate) fn is_begun(rt: &impl Abort, written: &[u8], answers: &[u8], count: usize) {
+    let begun = answers.get(..count).expect(rt, "an answer so long");
+    is_written(rt, written, begun);
 }
 
 /// Sees that a run ended with this status.
@@ -250,6 +243,17 @@ pub(crate) fn prints(
 ) -> Result<(), AllocError> {
     assert_eq!(rt; format!(in alloc; "{ending}")?.as_str(), text);
     Ok(())
+}
+
+/// Sees that a run ended with this fault and status 2; with no text, that all was done.
+pub(crate) fn ends(
+    rt: &impl Abort,
+    alloc: Global,
+    ending: Ending,
+    text: &str,
+) -> Result<(), AllocError> {
+    ends_with(rt, ending, if text.is_empty() { 0 } else { 2 });
+    prints(rt, alloc, ending, text)
 }
 
 /// Sees that a run read all, or that it stopped before.
