@@ -43,29 +43,37 @@ node 0: started
 /// The disks of three nodes; the call of the first one's of this number fails, counted from 1.
 fn disks(alloc: Global, call: u64) -> Result<Vec<OnceDisk>, AllocError> {
     let mut disks = Vec::new(alloc);
-    disks.push(OnceDisk::new(alloc, call))?;
-    disks.push(OnceDisk::new(alloc, 0))?;
-    disks.push(OnceDisk::new(alloc, 0))?;
+    for node in 0..3 {
+        let call = if node == 0 { call } else { 0 };
+        disks.push(OnceDisk::new(alloc, call))?;
+    }
     Ok(disks)
 }
 
-/// A match of new nodes, one whose disk's call of this number fails, counted from 1; none where it fails before the
-/// match begins.
+/// New nodes over these disks; none where one fails before the match begins.
+fn cluster<D: Disk + Drop>(
+    rt: &impl Abort,
+    alloc: Global,
+    disks: Vec<D>,
+) -> Result<Option<Cluster<D>>, Fail> {
+    let config = config(alloc)?;
+    assert!(rt; disks.len() == config.nodes());
+    Ok(Cluster::new(alloc, config, disks).ok())
+}
+
+/// A match of new nodes, of which the first one's disk fails in its call of this number, counted from 1; none where that
+/// is before the match begins, or a log refuses.
 fn server(
     rt: &impl Abort,
     alloc: Global,
     call: u64,
     links: MemoryLinks,
-    outages: Vec<Outage>,
+    outages: Outages,
 ) -> Result<Option<Server<OnceDisk, MemoryLinks>>, Fail> {
-    let disks = disks(alloc, call)?;
-    assert!(rt; disks.len() == 3);
-    let config = config(alloc)?;
-    assert!(rt; config.nodes() == 3);
-    let Ok(cluster) = Cluster::new(alloc, config, disks) else {
-        return Ok(None);
-    };
-    Ok(Server::new(alloc, cluster, links, Outages::new(outages)).ok())
+    match cluster(rt, alloc, disks(alloc, call)?)? {
+        None => Ok(None),
+        Some(cluster) => Ok(Server::new(alloc, cluster, links, outages).ok()),
+    }
 }
 
 /// Serves a match: how that ends. Here alone `serve_run` is called, so that its contract is read once.
@@ -94,11 +102,6 @@ fn links(alloc: Global, call: u64) -> Result<MemoryLinks, AllocError> {
     Ok(links)
 }
 
-/// Whether a part stands in a text.
-fn has(text: &[u8], part: &[u8]) -> bool {
-    (0..text.len()).any(|place| text[place..].starts_with(part))
-}
-
 /// One bot of alice's at node 0, and two of bob's: one at node 0, which only greets, and one at node 1.
 fn few_links(alloc: Global) -> Result<MemoryLinks, AllocError> {
     let mut links = MemoryLinks::new(alloc, 3, 0)?;
@@ -109,119 +112,127 @@ fn few_links(alloc: Global) -> Result<MemoryLinks, AllocError> {
 }
 
 /// Node 0 stops at the first command, for good.
-fn one_outage(alloc: Global) -> Result<Vec<Outage>, AllocError> {
-    let mut outages = Vec::new(alloc);
-    outages.push(Outage {
+fn one_outage(alloc: Global) -> Result<Outages, AllocError> {
+    let node_0 = Outage {
         node: 0,
         at: 1,
         back: None,
-    })?;
-    Ok(outages)
+    };
+    Ok(Outages::new(vec![in alloc; node_0]?))
 }
 
-/// Serves a match whose notes are to be these.
-fn is_served(
-    rt: &impl Abort,
-    alloc: Global,
-    server: &mut Server<OnceDisk, MemoryLinks>,
-    text: &[u8],
-) {
+/// What came of a match that was served.
+#[derive(Drop)]
+struct Served {
+    ended: Result<(), ServeFault>,
+    /// What the one call of a link that failed was to reach; none where none did.
+    failed: Option<Reached>,
+    notes: Vec<u8>,
+}
+
+/// What comes of a match that this server serves.
+fn served<D: Disk + Drop>(alloc: Global, server: &mut Server<D, MemoryLinks>) -> Served {
     let mut notes = Vec::new(alloc);
-    assert!(rt; ran(alloc, server, &mut notes).is_ok());
-    is_written(rt, &notes, text);
+    let ended = ran(alloc, server, &mut notes);
+    Served {
+        ended,
+        failed: server.links().failed(),
+        notes,
+    }
+}
+
+/// What comes of the match in which node 0 is lost and bob has two bots.
+fn served_without_node_0(rt: &impl Abort, alloc: Global) -> Result<Served, Fail> {
+    let links = few_links(alloc)?;
+    let server = server(rt, alloc, 0, links, one_outage(alloc)?)?;
+    Ok(served(alloc, &mut server.expect(rt, "a server")))
 }
 
 #[test]
 fn a_served_match_is_told_in_notes(rt: HostRuntime) -> Result<(), Fail> {
-    let alloc = rt.alloc();
-    let server = server(&rt, alloc, 0, few_links(alloc)?, one_outage(alloc)?)?;
-    is_served(&rt, alloc, &mut server.expect(&rt, "a server"), NOTES);
+    let served = served_without_node_0(&rt, rt.alloc())?;
+    assert!(rt; served.ended.is_ok());
+    is_written(&rt, &served.notes, NOTES);
     Ok(())
 }
 
+/// What comes of a match in which the call of node 0's disk, or of a link, of this number fails, counted from 1; with 0
+/// none does. None where no server could be made.
+fn served_failing(
+    rt: &impl Abort,
+    alloc: Global,
+    disk_call: u64,
+    link_call: u64,
+) -> Result<Option<Served>, Fail> {
+    let links = links(alloc, link_call)?;
+    match server(rt, alloc, disk_call, links, Outages::new(Vec::new(alloc)))? {
+        None => Ok(None),
+        Some(mut server) => Ok(Some(served(alloc, &mut server))),
+    }
+}
+
+/// Whether a part stands in a text.
+fn has(text: &[u8], part: &[u8]) -> bool {
+    (0..text.len()).any(|place| text[place..].starts_with(part))
+}
+
+/// Sees that this holds of the match in which the call of this number fails.
+fn holds(rt: &impl Abort, call: u64, is_so: bool) {
+    assert!(rt; is_so, "call {call}");
+}
+
 /// Whether the notes of a match that was served to its end tell of a store that was repaired.
-fn tells_repair(rt: &impl Abort, call: u64, notes: &[u8]) -> bool {
-    assert!(rt; notes.ends_with(b"\nSCORE:5|-5:alice|bob\n"), "call {call}");
-    let is_repaired = has(notes, REPAIR);
-    assert!(rt; is_repaired == has(notes, b"91 Store"), "call {call}");
+fn tells_repair(rt: &impl Abort, call: u64, served: &Served) -> bool {
+    let is_repaired = has(&served.notes, REPAIR);
+    holds(rt, call, served.ended.is_ok());
+    holds(rt, call, served.notes.ends_with(b"\nSCORE:5|-5:alice|bob\n"));
+    holds(rt, call, is_repaired == has(&served.notes, b"91 Store"));
     is_repaired
 }
 
 /// Serves a match to its end, though a disk's call of this number fails: whether that is told.
-fn serves_and_repairs(
-    rt: &impl Abort,
-    alloc: Global,
-    server: &mut Server<OnceDisk, MemoryLinks>,
-    call: u64,
-) -> bool {
-    let mut notes = Vec::new(alloc);
-    let served = ran(alloc, server, &mut notes);
-    assert!(rt; served.is_ok(), "call {call}");
-    tells_repair(rt, call, &notes)
-}
-
-/// The same, of a server that ends with the call.
-fn is_repaired(
-    rt: &impl Abort,
-    alloc: Global,
-    server: Server<OnceDisk, MemoryLinks>,
-    call: u64,
-) -> bool {
-    let mut server = server;
-    serves_and_repairs(rt, alloc, &mut server, call)
+fn is_repaired(rt: &impl Abort, alloc: Global, call: u64) -> Result<bool, Fail> {
+    match served_failing(rt, alloc, call, 0)? {
+        None => Ok(false),
+        Some(served) => Ok(tells_repair(rt, call, &served)),
+    }
 }
 
 #[test]
 fn a_store_that_fails_once_is_told(rt: HostRuntime) -> Result<(), Fail> {
-    let alloc = rt.alloc();
     let mut told = 0u32;
     for call in 1..40u64 {
-        let server = server(&rt, alloc, call, links(alloc, 0)?, Vec::new(alloc))?;
-        if let Some(server) = server {
-            told = told.saturating_add(u32::from(is_repaired(&rt, alloc, server, call)));
-        }
+        let is_told = is_repaired(&rt, rt.alloc(), call)?;
+        told = told.saturating_add(u32::from(is_told));
     }
     assert!(rt; told > 5);
     Ok(())
 }
 
-/// Serves a match of whose links the call of this number fails: whether that was a call of a log, which ends it.
-fn serves_to_a_fault(
-    rt: &impl Abort,
-    alloc: Global,
-    server: &mut Server<OnceDisk, MemoryLinks>,
-    call: u64,
-) -> bool {
-    let mut notes = Vec::new(alloc);
-    let served = ran(alloc, server, &mut notes);
-    if server.links().failed() != Some(Reached::Log) {
+/// Whether it was a call of a log that failed, which ends the match without a score.
+fn tells_lost_log(rt: &impl Abort, call: u64, served: &Served) -> bool {
+    if served.failed != Some(Reached::Log) {
         return false;
     }
-    assert!(rt; served == Err(ServeFault::LogFailed), "call {call}");
-    assert!(rt; !has(&notes, b"SCORE"), "call {call}");
+    holds(rt, call, served.ended == Err(ServeFault::LogFailed));
+    holds(rt, call, !has(&served.notes, b"SCORE"));
     true
 }
 
-/// The same, of a server that ends with the call.
-fn is_ended(
-    rt: &impl Abort,
-    alloc: Global,
-    server: Server<OnceDisk, MemoryLinks>,
-    call: u64,
-) -> bool {
-    let mut server = server;
-    serves_to_a_fault(rt, alloc, &mut server, call)
+/// Serves a match of whose links the call of this number fails: whether that was a call of a log.
+fn is_ended(rt: &impl Abort, alloc: Global, call: u64) -> Result<bool, Fail> {
+    match served_failing(rt, alloc, 0, call)? {
+        None => Ok(false),
+        Some(served) => Ok(tells_lost_log(rt, call, &served)),
+    }
 }
 
 #[test]
 fn a_log_that_fails_ends_serve(rt: HostRuntime) -> Result<(), Fail> {
-    let alloc = rt.alloc();
     let mut told = 0u32;
     for call in 1..60u64 {
-        let server = server(&rt, alloc, 0, links(alloc, call)?, Vec::new(alloc))?;
-        if let Some(server) = server {
-            told = told.saturating_add(u32::from(is_ended(&rt, alloc, server, call)));
-        }
+        let is_told = is_ended(&rt, rt.alloc(), call)?;
+        told = told.saturating_add(u32::from(is_told));
     }
     assert!(rt; told > 1);
     Ok(())

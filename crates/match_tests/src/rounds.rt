@@ -1,7 +1,8 @@
-//! A match of one hand, played on a cluster one step at a time, and what is seen of it then.
+//! A match of one hand, played on a cluster one step at a time, and what is due of it then.
 
 use crate::samples;
-use crate::samples::{assert_same, deal, one_hand};
+use crate::samples::{assert_bytes, assert_same, deal, one_hand};
+use card_core::Deal;
 use dealer_node::NodeFault;
 use dealer_world::{Begun, Cluster, Event, What};
 use promise_store::{Disk, OnceDisk};
@@ -25,27 +26,22 @@ pub(crate) enum Step<'a> {
     Stop(u8),
 }
 
-/// A frame, and what of it is told: whence, whereto, its bytes.
-#[derive(Drop)]
-pub(crate) struct Letter {
-    pub(crate) from: u8,
-    pub(crate) to: u8,
-    pub(crate) bytes: Vec<u8>,
-    /// How many frames had been sent before it came; of one that was sent 0.
-    pub(crate) sent_before: usize,
-}
+/// A frame that is due: its number, which way it goes, its bytes, and how many had been sent before it came.
+pub(crate) type Due<'a> = (usize, (u8, u8), &'a [u8], usize);
 
-/// What is seen of a cluster.
-#[derive(Drop)]
-pub(crate) struct Seen {
-    /// The front of each node, and whose deal it has on its table for the hand.
-    pub(crate) nodes: Vec<(u32, Option<usize>)>,
-    /// All frames that were sent.
-    pub(crate) sent: Vec<Letter>,
-    /// All frames that reached a running node.
-    pub(crate) arrived: Vec<Letter>,
-    /// The log of node 1's first start and of its second, if there was one, each behind the word `log: `.
-    pub(crate) logs: [Vec<u8>; 2],
+/// What is done with a new cluster, and what is due of it then.
+pub(crate) struct Course<'a> {
+    /// How many nodes it has.
+    pub(crate) nodes: usize,
+    pub(crate) steps: &'a [Step<'a>],
+    /// Frames, by their numbers among all that were sent; none of them says what had been sent before.
+    pub(crate) sent: &'a [Due<'a>],
+    /// Frames, by their numbers among all that reached a running node.
+    pub(crate) arrived: &'a [Due<'a>],
+    /// How many frames reached a running node.
+    pub(crate) arrivals: usize,
+    /// Nodes, each with its front, and whose deal it has on its table for the hand.
+    pub(crate) fronts: &'a [(usize, u32, Option<usize>)],
 }
 
 /// The kinds of the frames of a round, as the byte behind a frame's length and version tells them.
@@ -141,17 +137,20 @@ fn round<D: Disk + Drop>(
     Ok(())
 }
 
+/// The frames of the first round of node 0 with node 1.
+fn frames_of_first_round(alloc: Global) -> Result<[Vec<u8>; 4], AllocError> {
+    Ok([
+        samples::PREPARE.to_vec(alloc)?,
+        samples::PROMISE.to_vec(alloc)?,
+        samples::ACCEPT.to_vec(alloc)?,
+        samples::ACCEPTED.to_vec(alloc)?,
+    ])
+}
+
 /// Gives a tick of node 0 and the frames of its first round with node 1 at once.
-fn run_first_round<D: Disk + Drop>(
-    rt: &impl Abort,
-    alloc: Global,
-    cluster: &mut Cluster<D>,
-) -> Result<(), NodeFault> {
+fn run_at_once<D: Disk + Drop>(rt: &impl Abort, cluster: &mut Cluster<D>, frames: [Vec<u8>; 4]) {
     assert!(rt; cluster.node_count() == 3);
-    let prepare = samples::PREPARE.to_vec(alloc)?;
-    let promise = samples::PROMISE.to_vec(alloc)?;
-    let accept = samples::ACCEPT.to_vec(alloc)?;
-    let accepted = samples::ACCEPTED.to_vec(alloc)?;
+    let [prepare, promise, accept, accepted] = frames;
     let events = [
         Event::Tick { node: 0 },
         Event::Frame {
@@ -176,6 +175,15 @@ fn run_first_round<D: Disk + Drop>(
         },
     ];
     assert!(rt; cluster.run(&events).is_ok());
+}
+
+/// Gives a tick of node 0 and its first round with node 1 at once.
+fn run_first_round<D: Disk + Drop>(
+    rt: &impl Abort,
+    alloc: Global,
+    cluster: &mut Cluster<D>,
+) -> Result<(), NodeFault> {
+    run_at_once(rt, cluster, frames_of_first_round(alloc)?);
     Ok(())
 }
 
@@ -195,115 +203,6 @@ fn take<D: Disk + Drop>(
     }
 }
 
-/// The front of a node, and whose deal it has on its table for the hand; none where it has none.
-fn node_seen<D: Disk + Drop>(
-    rt: &impl Abort,
-    cluster: &Cluster<D>,
-    node: usize,
-) -> (u32, Option<usize>) {
-    assert!(rt; node < cluster.node_count());
-    let front = cluster.node(node).front();
-    let owner = match cluster.node(node).table().deal(0) {
-        None => None,
-        Some(dealt) => (0..5).find(|owner| dealt.is_same(&deal(rt, *owner))),
-    };
-    (front, owner)
-}
-
-/// What is told of a frame.
-fn letter_of(
-    alloc: Global,
-    way: (u8, u8),
-    bytes: &[u8],
-    sent_before: usize,
-) -> Result<Letter, AllocError> {
-    let bytes = bytes.to_vec(alloc)?;
-    Ok(Letter {
-        from: way.0,
-        to: way.1,
-        bytes,
-        sent_before,
-    })
-}
-
-/// All frames that were sent.
-fn sent<D: Disk + Drop>(alloc: Global, cluster: &Cluster<D>) -> Result<Vec<Letter>, AllocError> {
-    let mut all = Vec::new(alloc);
-    for number in 0..cluster.frame_count() {
-        if let Some(frame) = cluster.frame(number) {
-            all.push(letter_of(alloc, (frame.from, frame.to), frame.bytes, 0)?)?;
-        }
-    }
-    Ok(all)
-}
-
-/// All frames that reached a running node.
-fn arrived<D: Disk + Drop>(alloc: Global, cluster: &Cluster<D>) -> Result<Vec<Letter>, AllocError> {
-    let mut all = Vec::new(alloc);
-    for number in 0..cluster.arrival_count() {
-        if let Some(arrival) = cluster.arrival(number) {
-            if let What::Frame { from, to } = arrival.what {
-                let came = letter_of(alloc, (from, to), arrival.bytes, arrival.sent_before)?;
-                all.push(came)?;
-            }
-        }
-    }
-    Ok(all)
-}
-
-/// The log of a start of node 1, counted from 0, behind a word.
-fn log_of<D: Disk + Drop>(
-    alloc: Global,
-    cluster: &Cluster<D>,
-    start: usize,
-) -> Result<Vec<u8>, AllocError> {
-    let mut log = b"log: ".to_vec(alloc)?;
-    cluster.put_log(Begun { node: 1, start }, &mut log)?;
-    Ok(log)
-}
-
-/// The front of each node, and whose deal it has.
-fn nodes_seen<D: Disk + Drop>(
-    rt: &impl Abort,
-    alloc: Global,
-    cluster: &Cluster<D>,
-) -> Result<Vec<(u32, Option<usize>)>, AllocError> {
-    let mut nodes = Vec::new(alloc);
-    for node in 0..cluster.node_count() {
-        nodes.push(node_seen(rt, cluster, node))?;
-    }
-    Ok(nodes)
-}
-
-/// What is seen of a cluster.
-fn look<D: Disk + Drop>(
-    rt: &impl Abort,
-    alloc: Global,
-    cluster: &Cluster<D>,
-) -> Result<Seen, AllocError> {
-    let nodes = nodes_seen(rt, alloc, cluster)?;
-    let sent = sent(alloc, cluster)?;
-    let arrived = arrived(alloc, cluster)?;
-    let logs = [log_of(alloc, cluster, 0)?, log_of(alloc, cluster, 1)?];
-    Ok(Seen {
-        nodes,
-        sent,
-        arrived,
-        logs,
-    })
-}
-
-/// A new cluster over these disks.
-fn cluster_over<D: Disk + Drop>(
-    rt: &impl Abort,
-    alloc: Global,
-    disks: Vec<D>,
-) -> Result<Cluster<D>, NodeFault> {
-    let config = one_hand(rt, alloc, disks.len())?;
-    assert!(rt; disks.len() == config.nodes());
-    Cluster::new(alloc, config, disks)
-}
-
 /// Does these steps, one after another; none of them is refused.
 fn take_all<D: Disk + Drop>(
     rt: &impl Abort,
@@ -317,26 +216,106 @@ fn take_all<D: Disk + Drop>(
     Ok(())
 }
 
-/// What is seen of a cluster after these steps.
-fn seen_after<D: Disk + Drop>(
+/// Asserts that a frame that was sent is as it is due.
+fn assert_sent<D: Disk + Drop>(rt: &impl Abort, cluster: &Cluster<D>, due: &Due<'_>) {
+    let (number, way, bytes, _) = *due;
+    let frame = cluster.frame(number).expect(rt, "a frame that was sent");
+    assert_same(rt, (frame.from, frame.to), way);
+    assert_bytes(rt, frame.bytes, bytes);
+}
+
+/// Asserts that a frame that reached a running node is as it is due.
+fn assert_arrived<D: Disk + Drop>(rt: &impl Abort, cluster: &Cluster<D>, due: &Due<'_>) {
+    let (number, (sender, receiver), bytes, sent_before) = *due;
+    let arrival = cluster.arrival(number).expect(rt, "a frame that came");
+    assert!(rt; matches!(arrival.what, What::Frame { from, to } if from == sender && to == receiver));
+    assert_bytes(rt, arrival.bytes, bytes);
+    assert_same(rt, arrival.sent_before, sent_before);
+}
+
+/// Asserts that a node has the deal of this owner, or none.
+fn assert_deal(rt: &impl Abort, dealt: Option<&Deal>, owner: Option<usize>) {
+    match (dealt, owner) {
+        (None, None) => {}
+        (Some(dealt), Some(owner)) => assert!(rt; dealt.is_same(&deal(rt, owner))),
+        _ => assert!(rt; false),
+    }
+}
+
+/// Asserts the front of a node, and whose deal it has on its table for the hand.
+fn assert_node<D: Disk + Drop>(
+    rt: &impl Abort,
+    cluster: &Cluster<D>,
+    due: &(usize, u32, Option<usize>),
+) {
+    let (node, front, owner) = *due;
+    assert!(rt; node < cluster.node_count());
+    let node = cluster.node(node);
+    assert_same(rt, node.front(), front);
+    assert_deal(rt, node.table().deal(0), owner);
+}
+
+/// Asserts what is due of a cluster.
+fn assert_due<D: Disk + Drop>(rt: &impl Abort, cluster: &Cluster<D>, course: &Course<'_>) {
+    for due in course.sent.iter() {
+        assert_sent(rt, cluster, due);
+    }
+    for due in course.arrived.iter() {
+        assert_arrived(rt, cluster, due);
+    }
+    for due in course.fronts.iter() {
+        assert_node(rt, cluster, due);
+    }
+    assert_same(rt, cluster.arrival_count(), course.arrivals);
+}
+
+/// Asserts the log of a start of node 1, counted from 0, which is put behind a word.
+fn assert_log<D: Disk + Drop>(
+    rt: &impl Abort,
+    alloc: Global,
+    cluster: &Cluster<D>,
+    start: usize,
+    due: &[u8],
+) -> Result<(), AllocError> {
+    let mut log = b"log: ".to_vec(alloc)?;
+    cluster.put_log(Begun { node: 1, start }, &mut log)?;
+    assert_bytes(rt, &log, due);
+    Ok(())
+}
+
+/// Asserts both logs of node 1: that of its start is the header, since no hand is over, and that of a start that never
+/// was is empty.
+fn assert_logs<D: Disk + Drop>(
+    rt: &impl Abort,
+    alloc: Global,
+    cluster: &Cluster<D>,
+) -> Result<(), AllocError> {
+    assert_log(rt, alloc, cluster, 0, b"log: # name/game/hands m1 l2.game 1\n")?;
+    assert_log(rt, alloc, cluster, 1, b"log: ")
+}
+
+/// Takes the steps of a course, and asserts what is due then.
+fn run<D: Disk + Drop>(
     rt: &impl Abort,
     alloc: Global,
     cluster: &mut Cluster<D>,
-    steps: &[Step<'_>],
-) -> Result<Seen, NodeFault> {
-    take_all(rt, alloc, cluster, steps)?;
-    Ok(look(rt, alloc, cluster)?)
+    course: &Course<'_>,
+) -> Result<(), NodeFault> {
+    take_all(rt, alloc, cluster, course.steps)?;
+    assert_due(rt, cluster, course);
+    assert_logs(rt, alloc, cluster)?;
+    Ok(())
 }
 
-/// What is seen of a new cluster over these disks after these steps.
-fn played_over<D: Disk + Drop>(
+/// A new cluster over these disks.
+fn cluster_over<D: Disk + Drop>(
     rt: &impl Abort,
     alloc: Global,
     disks: Vec<D>,
-    steps: &[Step<'_>],
-) -> Result<Seen, NodeFault> {
-    let mut cluster = cluster_over(rt, alloc, disks)?;
-    seen_after(rt, alloc, &mut cluster, steps)
+) -> Result<Cluster<D>, NodeFault> {
+    let config = one_hand(rt, alloc, disks.len())?;
+    assert!(rt; disks.len() == config.nodes());
+    Cluster::new(alloc, config, disks)
 }
 
 /// So many disks in memory that never fail.
@@ -348,48 +327,14 @@ fn disks(alloc: Global, nodes: usize) -> Result<Vec<OnceDisk>, AllocError> {
     Ok(disks)
 }
 
-/// What is seen of a new cluster of so many nodes over disks in memory that never fail, after these steps.
-pub(crate) fn played(
+/// A course of a new cluster over disks in memory that never fail: what is due comes of it.
+pub(crate) fn assert_course(
     rt: &impl Abort,
     alloc: Global,
-    nodes: usize,
-    steps: &[Step<'_>],
-) -> Result<Seen, Fail> {
-    let disks = disks(alloc, nodes)?;
-    Ok(played_over(rt, alloc, disks, steps)?)
-}
-
-/// A frame that is due: its number, which way it goes, its bytes, and how many had been sent before it came.
-pub(crate) type Due<'a> = (usize, (u8, u8), &'a [u8], usize);
-
-/// Asserts that the frame of this number goes this way, has these bytes, and came, if it did, when so many had been sent.
-fn assert_letter(
-    rt: &impl Abort,
-    letters: &[Letter],
-    number: usize,
-    way: (u8, u8),
-    bytes: &[u8],
-    sent_before: usize,
-) {
-    let letter = letters.get(number).expect(rt, "a frame of this number");
-    assert!(rt; (letter.from, letter.to) == way, "frame {number}");
-    assert_eq!(rt; letter.bytes.as_slice(), bytes, "frame {number}");
-    assert_eq!(rt; letter.sent_before, sent_before, "frame {number}");
-}
-
-/// Asserts that these frames are as they are due.
-pub(crate) fn assert_letters(rt: &impl Abort, letters: &[Letter], due: &[Due<'_>]) {
-    for (number, way, bytes, sent_before) in due.iter() {
-        assert_letter(rt, letters, *number, *way, bytes, *sent_before);
-    }
-}
-
-/// Asserts how many frames reached a running node.
-pub(crate) fn assert_arrived(rt: &impl Abort, seen: &Seen, count: usize) {
-    assert_same(rt, seen.arrived.len(), count);
-}
-
-/// Asserts the front of a node, and whose deal it has.
-pub(crate) fn assert_node(rt: &impl Abort, seen: &Seen, node: usize, due: (u32, Option<usize>)) {
-    assert!(rt; seen.nodes.get(node).copied() == Some(due));
+    course: &Course<'_>,
+) -> Result<(), Fail> {
+    let disks = disks(alloc, course.nodes)?;
+    let mut cluster = cluster_over(rt, alloc, disks)?;
+    run(rt, alloc, &mut cluster, course)?;
+    Ok(())
 }
