@@ -1,5 +1,5 @@
 use crate::test_streams::{
-    Gives, L2, Reading, Run, Takes, Writing, ends, ends_with, is_begun, is_written, reads_or_stops,
+    Gives, L2, Reading, Run, Takes, Writing, ends, is_begun, is_same, is_written, reads_or_stops,
 };
 use std::alloc::{AllocError, Global};
 use std::io::{ErrorKind, Read, Write};
@@ -50,7 +50,7 @@ fn tells_the_first_line_at_fault(rt: HostRuntime) {
     let mut written = Vec::new(rt.alloc());
     let ending = ran(rt.alloc(), L2, &mut &*WRONG_LOG, &mut written);
     is_written(&rt, &written, b"no 2 48 WrongValues\n");
-    ends_with(&rt, ending, 1);
+    is_same(&rt, ending.status(), 1);
 }
 
 /// A log that can't be read to its end, and a verdict that is refused in its midst or at its flush.
@@ -97,7 +97,7 @@ fn reads_no_log_of_a_refused_game(rt: HostRuntime) -> Result<(), Fail> {
     let ending = ran(rt.alloc(), b"", &mut reader, &mut written);
     is_written(&rt, &written, b"");
     ends(&rt, rt.alloc(), ending, "10 NoGamedef 0")?;
-    assert_eq!(rt; reader.left(), LOG.len());
+    is_same(&rt, reader.left(), LOG.len());
     Ok(())
 }
 

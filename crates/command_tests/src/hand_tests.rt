@@ -1,5 +1,5 @@
 use crate::test_streams::{
-    Gives, L2, Listener, Reading, Run, Takes, Talker, Writing, ends, ends_with, is_begun,
+    Gives, L2, Listener, Reading, Run, Takes, Talker, Writing, ends, is_begun, is_same,
     is_written, reads_or_stops,
 };
 use game_def::GameDef;
@@ -92,7 +92,7 @@ fn prints_the_log_beside_the_answers(rt: HostRuntime) -> Result<(), Fail> {
     let word = GameWord::new("l2.game").ok_or("a word with a game word's form")?;
     let mut written = Vec::new(rt.alloc());
     let ending = ran_with_log(rt.alloc(), word, &mut written);
-    ends_with(&rt, ending, 0);
+    is_same(&rt, ending.status(), 0);
     is_written(&rt, &written, ANSWERS_AND_LOG);
     Ok(())
 }
@@ -149,7 +149,7 @@ fn answers_each_line_before_the_next_is_awaited(rt: HostRuntime) {
         flushed: &flushed,
     };
     let ending = ran(rt.alloc(), L2, &mut reader, &mut writer);
-    ends_with(&rt, ending, 0);
+    is_same(&rt, ending.status(), 0);
     is_written(&rt, &writer.heard, ANSWERS);
 }
 
@@ -164,7 +164,7 @@ fn refuses_a_game(rt: HostRuntime) -> Result<(), Fail> {
 
 #[test]
 fn reads_a_script_so_often_and_no_more(rt: HostRuntime) -> Result<(), Fail> {
-    assert_eq!(rt; MOST_READS, 16_777_216);
+    is_same(&rt, MOST_READS, 16_777_216);
     let game = game_def::read(L2)?;
     reads_or_stops(&rt, run_by_four(rt.alloc(), game, b"xxx"), true);
     reads_or_stops(&rt, run_by_four(rt.alloc(), game, b"xxxx"), false);

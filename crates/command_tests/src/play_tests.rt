@@ -1,6 +1,6 @@
 use crate::test_streams::{
-    Gives, L2, Listener, MATCH, Reading, Run, Takes, Talker, Writing, config, ends, ends_with,
-    is_begun, is_written, reads_or_stops,
+    Gives, L2, Listener, MATCH, Reading, Run, Takes, Talker, Writing, config, ends, holds,
+    is_begun, is_same, is_written, reads_or_stops,
 };
 use dealer_kind::Config;
 use match_runs::{play_match, play_run};
@@ -149,7 +149,7 @@ fn answers_each_line_of_nodes_before_the_next_is_awaited(rt: HostRuntime) {
         flushed: &flushed,
     };
     let ending = ran(rt.alloc(), MATCH, &mut reader, &mut writer);
-    ends_with(&rt, ending, 0);
+    is_same(&rt, ending.status(), 0);
     is_written(&rt, &writer.heard, STOPPED_ANSWERS);
 }
 
@@ -177,8 +177,8 @@ static FAILED: [Run; 7] = [
 
 /// Sees that a beginning of the answers was taken, of so many bytes or a few more.
 fn is_taken(rt: &impl Abort, taken: &[u8], most: usize) {
-    assert!(rt; taken.len() >= most, "at {most}");
-    assert!(rt; STOPPED_ANSWERS.starts_with(taken), "at {most}");
+    holds(rt, most as u64, taken.len() >= most);
+    holds(rt, most as u64, STOPPED_ANSWERS.starts_with(taken));
 }
 
 /// Plays a script whose writer fails once it has taken so many bytes.
@@ -223,14 +223,9 @@ fn is_read_by_four(
 
 #[test]
 fn reads_a_script_of_nodes_so_often_and_no_more(rt: HostRuntime) -> Result<(), Fail> {
-    assert_eq!(rt; MOST_READS, 16_777_216);
+    is_same(&rt, MOST_READS, 16_777_216);
     is_read_by_four(&rt, rt.alloc(), b"xxx", true)?;
     is_read_by_four(&rt, rt.alloc(), b"xxxx", false)
-}
-
-/// Sees that this holds of the text that has this number.
-fn holds(rt: &impl Abort, number: u64, is_so: bool) {
-    assert!(rt; is_so, "number {number}");
 }
 
 /// Whether a run was refused its match file or its game, by a fault that has a name, and wrote nothing.

@@ -1,6 +1,6 @@
 //! `serve_run` over links and disks in memory: the notes of a match, and of what fails in it.
 
-use crate::test_streams::{config, is_written};
+use crate::test_streams::{config, holds, is_same, is_written, prints};
 use dealer_node::NodeFault;
 use dealer_world::Cluster;
 use match_file::Outage;
@@ -61,16 +61,15 @@ fn cluster<D: Disk + Drop>(
     Ok(Cluster::new(alloc, config, disks).ok())
 }
 
-/// A match of new nodes, of which the first one's disk fails in its call of this number, counted from 1; none where that
-/// is before the match begins, or a log refuses.
-fn server(
+/// A server of a new cluster over these disks; none where a node or a log refuses.
+fn server<D: Disk + Drop, L: Links + Drop>(
     rt: &impl Abort,
     alloc: Global,
-    call: u64,
-    links: MemoryLinks,
+    disks: Vec<D>,
+    links: L,
     outages: Outages,
-) -> Result<Option<Server<OnceDisk, MemoryLinks>>, Fail> {
-    match cluster(rt, alloc, disks(alloc, call)?)? {
+) -> Result<Option<Server<D, L>>, Fail> {
+    match cluster(rt, alloc, disks)? {
         None => Ok(None),
         Some(cluster) => Ok(Server::new(alloc, cluster, links, outages).ok()),
     }
@@ -123,7 +122,7 @@ fn one_outage(alloc: Global) -> Result<Outages, AllocError> {
 
 /// What came of a match that was served.
 #[derive(Drop)]
-struct Served {
+struct Course {
     ended: Result<(), ServeFault>,
     /// What the one call of a link that failed was to reach; none where none did.
     failed: Option<Reached>,
@@ -131,28 +130,42 @@ struct Served {
 }
 
 /// What comes of a match that this server serves.
-fn served<D: Disk + Drop>(alloc: Global, server: &mut Server<D, MemoryLinks>) -> Served {
+fn course_of<D: Disk + Drop>(alloc: Global, server: &mut Server<D, MemoryLinks>) -> Course {
     let mut notes = Vec::new(alloc);
     let ended = ran(alloc, server, &mut notes);
-    Served {
+    Course {
         ended,
         failed: server.links().failed(),
         notes,
     }
 }
 
+/// Serves a match over these disks and links to its end; none where no server could be made.
+fn serve<D: Disk + Drop>(
+    rt: &impl Abort,
+    alloc: Global,
+    disks: Vec<D>,
+    links: MemoryLinks,
+    outages: Outages,
+) -> Result<Option<Course>, Fail> {
+    match server(rt, alloc, disks, links, outages)? {
+        None => Ok(None),
+        Some(mut server) => Ok(Some(course_of(alloc, &mut server))),
+    }
+}
+
 /// What comes of the match in which node 0 is lost and bob has two bots.
-fn served_without_node_0(rt: &impl Abort, alloc: Global) -> Result<Served, Fail> {
+fn served_without_node_0(rt: &impl Abort, alloc: Global) -> Result<Option<Course>, Fail> {
+    let disks = disks(alloc, 0)?;
     let links = few_links(alloc)?;
-    let server = server(rt, alloc, 0, links, one_outage(alloc)?)?;
-    Ok(served(alloc, &mut server.expect(rt, "a server")))
+    serve(rt, alloc, disks, links, one_outage(alloc)?)
 }
 
 #[test]
 fn a_served_match_is_told_in_notes(rt: HostRuntime) -> Result<(), Fail> {
-    let served = served_without_node_0(&rt, rt.alloc())?;
-    assert!(rt; served.ended.is_ok());
-    is_written(&rt, &served.notes, NOTES);
+    let course = served_without_node_0(&rt, rt.alloc())?.expect(&rt, "a server");
+    holds(&rt, 0, course.ended.is_ok());
+    is_written(&rt, &course.notes, NOTES);
     Ok(())
 }
 
@@ -163,12 +176,10 @@ fn served_failing(
     alloc: Global,
     disk_call: u64,
     link_call: u64,
-) -> Result<Option<Served>, Fail> {
+) -> Result<Option<Course>, Fail> {
+    let disks = disks(alloc, disk_call)?;
     let links = links(alloc, link_call)?;
-    match server(rt, alloc, disk_call, links, Outages::new(Vec::new(alloc)))? {
-        None => Ok(None),
-        Some(mut server) => Ok(Some(served(alloc, &mut server))),
-    }
+    serve(rt, alloc, disks, links, Outages::new(Vec::new(alloc)))
 }
 
 /// Whether a part stands in a text.
@@ -176,17 +187,12 @@ fn has(text: &[u8], part: &[u8]) -> bool {
     (0..text.len()).any(|place| text[place..].starts_with(part))
 }
 
-/// Sees that this holds of the match in which the call of this number fails.
-fn holds(rt: &impl Abort, call: u64, is_so: bool) {
-    assert!(rt; is_so, "call {call}");
-}
-
 /// Whether the notes of a match that was served to its end tell of a store that was repaired.
-fn tells_repair(rt: &impl Abort, call: u64, served: &Served) -> bool {
-    let is_repaired = has(&served.notes, REPAIR);
-    holds(rt, call, served.ended.is_ok());
-    holds(rt, call, served.notes.ends_with(b"\nSCORE:5|-5:alice|bob\n"));
-    holds(rt, call, is_repaired == has(&served.notes, b"91 Store"));
+fn tells_repair(rt: &impl Abort, call: u64, course: &Course) -> bool {
+    let is_repaired = has(&course.notes, REPAIR);
+    holds(rt, call, course.ended.is_ok());
+    holds(rt, call, course.notes.ends_with(b"\nSCORE:5|-5:alice|bob\n"));
+    holds(rt, call, is_repaired == has(&course.notes, b"91 Store"));
     is_repaired
 }
 
@@ -194,7 +200,7 @@ fn tells_repair(rt: &impl Abort, call: u64, served: &Served) -> bool {
 fn is_repaired(rt: &impl Abort, alloc: Global, call: u64) -> Result<bool, Fail> {
     match served_failing(rt, alloc, call, 0)? {
         None => Ok(false),
-        Some(served) => Ok(tells_repair(rt, call, &served)),
+        Some(course) => Ok(tells_repair(rt, call, &course)),
     }
 }
 
@@ -210,12 +216,12 @@ fn a_store_that_fails_once_is_told(rt: HostRuntime) -> Result<(), Fail> {
 }
 
 /// Whether it was a call of a log that failed, which ends the match without a score.
-fn tells_lost_log(rt: &impl Abort, call: u64, served: &Served) -> bool {
-    if served.failed != Some(Reached::Log) {
+fn tells_lost_log(rt: &impl Abort, call: u64, course: &Course) -> bool {
+    if course.failed != Some(Reached::Log) {
         return false;
     }
-    holds(rt, call, served.ended == Err(ServeFault::LogFailed));
-    holds(rt, call, !has(&served.notes, b"SCORE"));
+    holds(rt, call, course.ended == Err(ServeFault::LogFailed));
+    holds(rt, call, !has(&course.notes, b"SCORE"));
     true
 }
 
@@ -223,7 +229,7 @@ fn tells_lost_log(rt: &impl Abort, call: u64, served: &Served) -> bool {
 fn is_ended(rt: &impl Abort, alloc: Global, call: u64) -> Result<bool, Fail> {
     match served_failing(rt, alloc, 0, call)? {
         None => Ok(false),
-        Some(served) => Ok(tells_lost_log(rt, call, &served)),
+        Some(course) => Ok(tells_lost_log(rt, call, &course)),
     }
 }
 
@@ -241,22 +247,18 @@ fn a_log_that_fails_ends_serve(rt: HostRuntime) -> Result<(), Fail> {
 /// Sees that a fault of a server ends the program with status 1, and prints this.
 fn concludes(rt: &impl Abort, alloc: Global, why: Unserved, text: &str) -> Result<(), AllocError> {
     let conclusion: Conclusion = why.conclusion();
-    assert_eq!(rt; conclusion.status(), 1);
-    assert_eq!(rt; format!(in alloc; "{conclusion}")?.as_str(), text);
-    Ok(())
+    is_same(rt, conclusion.status(), 1);
+    prints(rt, alloc, &conclusion, text)
 }
 
 #[test]
 fn faults_of_a_server_end_the_program_with_status_1(rt: HostRuntime) -> Result<(), Fail> {
+    let alloc = rt.alloc();
     let spent = ServeFault::Node(NodeFault::Spent);
-    assert_eq!(rt; ServeFault::LogFailed.code(), 106);
-    assert_eq!(rt; spent.code(), 93);
-    for (why, text) in [
-        (Unserved::from(AllocError), "92 OutOfMemory"),
-        (Unserved::from(ServeFault::LogFailed), "106 LogFailed"),
-        (Unserved::from(spent), "93 Spent"),
-    ] {
-        concludes(&rt, rt.alloc(), why, text)?;
-    }
+    is_same(&rt, ServeFault::LogFailed.code(), 106);
+    is_same(&rt, spent.code(), 93);
+    concludes(&rt, alloc, AllocError.into(), "92 OutOfMemory")?;
+    concludes(&rt, alloc, ServeFault::LogFailed.into(), "106 LogFailed")?;
+    concludes(&rt, alloc, spent.into(), "93 Spent")?;
     Ok(())
 }

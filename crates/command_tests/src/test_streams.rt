@@ -5,6 +5,7 @@ use dealer_kind::Config;
 use match_file::MatchFile;
 use std::alloc::{AllocError, Global};
 use std::cell::Cell;
+use std::fmt::{Debug, Display};
 use std::io::{Error, ErrorKind, Read, Result as IoResult, Write};
 use std::process::Abort;
 use std::test::Fail;
@@ -78,32 +79,34 @@ impl<'a> Reading<'a> {
         self.rest.len()
     }
 
-    /// Gives one byte, where there is one and room for it.
-    fn read_one(&mut self, buf: &mut [u8]) -> IoResult<usize> {
-        let count = buf.len().min(1);
-        self.rest.read(&mut buf[..count])
+    /// How the next read fails, if it does.
+    fn failure(&mut self) -> Option<ErrorKind> {
+        match self.gives {
+            Gives::InPieces => {
+                self.interrupted = !self.interrupted;
+                self.interrupted.then_some(ErrorKind::Interrupted)
+            }
+            Gives::Until(left, kind) => (self.rest.len() <= left).then_some(kind),
+            Gives::Whole | Gives::OneByOne => None,
+        }
+    }
+
+    /// How many bytes a read gives at most.
+    fn most(&self) -> usize {
+        match self.gives {
+            Gives::Whole => usize::MAX,
+            _ => 1,
+        }
     }
 }
 
 impl Read for Reading<'_> {
     fn read(&mut self, buf: &mut [u8]) -> IoResult<usize> {
-        match self.gives {
-            Gives::Whole => self.rest.read(buf),
-            Gives::OneByOne => self.read_one(buf),
-            Gives::InPieces => {
-                self.interrupted = !self.interrupted;
-                if self.interrupted {
-                    return Err(Error::from(ErrorKind::Interrupted));
-                }
-                self.read_one(buf)
-            }
-            Gives::Until(left, kind) => {
-                if self.rest.len() <= left {
-                    return Err(Error::from(kind));
-                }
-                self.read_one(buf)
-            }
+        if let Some(kind) = self.failure() {
+            return Err(Error::from(kind));
         }
+        let count = buf.len().min(self.most());
+        self.rest.read(&mut buf[..count])
     }
 }
 
@@ -164,7 +167,7 @@ impl Write for Writing {
         match self.takes {
             Takes::Flushes(0) => Err(Error::from(ErrorKind::StorageFull)),
             Takes::Flushes(left) => {
-                self.takes = Takes::Flushes(left - 1);
+                self.takes = Takes::Flushes(left.saturating_sub(1));
                 Ok(())
             }
             _ => Ok(()),
@@ -218,31 +221,38 @@ impl Write for Listener<'_> {
 /// How a run's reader gives and its writer takes, how many bytes of its answers are taken, and what its ending prints.
 pub(crate) type Run = (Gives, Takes, usize, &'static str);
 
+// What `assert_eq!` and `format!` make is proved anew wherever they stand, so they stand in the functions below.
+
+/// Sees that the two are equal.
+pub(crate) fn is_same<T: Copy + PartialEq + Debug>(rt: &impl Abort, found: T, due: T) {
+    assert_eq!(rt; found, due);
+}
+
 /// Sees that this was written.
 pub(crate) fn is_written(rt: &impl Abort, written: &[u8], text: &[u8]) {
     assert_eq!(rt; written, text);
 }
 
-/// Sees that so many bytes of an answer were written.
-pub(crate) fn is_begun(rt: &impl Abort, written: &[u8], answers: &[u8], count: usize) {
-    let begun = answers.get(..count).expect(rt, "an answer so long");
-    is_written(rt, written, begun);
-}
-
-/// Sees that a run ended with this status.
-pub(crate) fn ends_with(rt: &impl Abort, ending: Ending, status: u8) {
-    assert_eq!(rt; ending.status(), status);
-}
-
-/// Sees that a run's ending prints this.
-pub(crate) fn prints(
+/// Sees what is printed of a value.
+pub(crate) fn prints<T: Display>(
     rt: &impl Abort,
     alloc: Global,
-    ending: Ending,
+    shown: &T,
     text: &str,
 ) -> Result<(), AllocError> {
-    assert_eq!(rt; format!(in alloc; "{ending}")?.as_str(), text);
+    assert_eq!(rt; format!(in alloc; "{shown}")?.as_str(), text);
     Ok(())
+}
+
+/// Sees that this holds of the case of this number.
+pub(crate) fn holds(rt: &impl Abort, number: u64, is_so: bool) {
+    assert!(rt; is_so, "number {number}");
+}
+
+/// Sees that so many bytes of the answers were written.
+pub(crate) fn is_begun(rt: &impl Abort, written: &[u8], answers: &[u8], count: usize) {
+    let begun = answers.get(..count).expect(rt, "answers so long");
+    is_written(rt, written, begun);
 }
 
 /// Sees that a run ended with this fault and status 2; with no text, that all was done.
@@ -252,12 +262,12 @@ pub(crate) fn ends(
     ending: Ending,
     text: &str,
 ) -> Result<(), AllocError> {
-    ends_with(rt, ending, if text.is_empty() { 0 } else { 2 });
-    prints(rt, alloc, ending, text)
+    is_same(rt, ending.status(), if text.is_empty() { 0 } else { 2 });
+    prints(rt, alloc, &ending, text)
 }
 
 /// Sees that a run read all, or that it stopped before.
 pub(crate) fn reads_or_stops(rt: &impl Abort, ran: Result<(), Stop>, is_read: bool) {
-    assert_eq!(rt; ran.is_ok(), is_read);
-    assert_eq!(rt; matches!(ran, Err(Stop::StreamFailed)), !is_read);
+    is_same(rt, ran.is_ok(), is_read);
+    is_same(rt, matches!(ran, Err(Stop::StreamFailed)), !is_read);
 }

@@ -1,6 +1,6 @@
 //! A match of two hands that is served, and what came of it.
 
-use crate::samples::two_hands;
+use crate::samples::{assert_bytes_of, assert_holds, two_hands};
 use dealer_node::NodeFault;
 use dealer_world::Cluster;
 use match_file::Outage;
@@ -52,12 +52,26 @@ pub(crate) enum Ending {
 }
 
 /// Asserts that a new server awaits seats at node 0, and no seat beyond them.
-fn assert_places<D: Disk + Drop, L: Links + Drop>(rt: &impl Abort, server: &Server<D, L>) {
+pub(crate) fn assert_places<D: Disk + Drop, L: Links + Drop>(
+    rt: &impl Abort,
+    server: &Server<D, L>,
+) {
     assert!(rt; server.place(0) == Some(Place::Awaited(0)));
     assert!(rt; server.place(2).is_none());
 }
 
-/// A server of a new cluster over these disks, which awaits each seat at node 0; none where a node or a log refuses.
+/// A new cluster over these disks; none where a node refuses.
+fn cluster<D: Disk + Drop>(
+    rt: &impl Abort,
+    alloc: Global,
+    disks: Vec<D>,
+) -> Result<Option<Cluster<D>>, AllocError> {
+    let config = two_hands(rt, alloc)?;
+    assert!(rt; disks.len() == config.nodes());
+    Ok(Cluster::new(alloc, config, disks).ok())
+}
+
+/// A server of a new cluster over these disks; none where a node or a log refuses.
 pub(crate) fn server<D: Disk + Drop, L: Links + Drop>(
     rt: &impl Abort,
     alloc: Global,
@@ -65,16 +79,10 @@ pub(crate) fn server<D: Disk + Drop, L: Links + Drop>(
     links: L,
     outages: Outages,
 ) -> Result<Option<Server<D, L>>, AllocError> {
-    let config = two_hands(rt, alloc)?;
-    assert!(rt; disks.len() == config.nodes());
-    let Ok(cluster) = Cluster::new(alloc, config, disks) else {
-        return Ok(None);
-    };
-    let Ok(server) = Server::new(alloc, cluster, links, outages) else {
-        return Ok(None);
-    };
-    assert_places(rt, &server);
-    Ok(Some(server))
+    match cluster(rt, alloc, disks)? {
+        None => Ok(None),
+        Some(cluster) => Ok(Server::new(alloc, cluster, links, outages).ok()),
+    }
 }
 
 /// Lets a server take turns until all is over or a fault comes. A turn that found no memory is taken again.
@@ -145,9 +153,11 @@ fn logs(alloc: Global, links: &MemoryLinks) -> Result<Vec<u8>, AllocError> {
 
 /// What comes of a match that this server serves.
 fn course_of<D: Disk + Drop>(
+    rt: &impl Abort,
     alloc: Global,
     server: &mut Server<D, MemoryLinks>,
 ) -> Result<Course, AllocError> {
+    assert_places(rt, server);
     let ending = serve(server);
     let failures = failures(server);
     let links = server.links();
@@ -168,10 +178,10 @@ pub(crate) fn play<D: Disk + Drop>(
     links: MemoryLinks,
     outages: Outages,
 ) -> Result<Option<Course>, AllocError> {
-    let Some(mut server) = server(rt, alloc, disks, links, outages)? else {
-        return Ok(None);
-    };
-    Ok(Some(course_of(alloc, &mut server)?))
+    match server(rt, alloc, disks, links, outages)? {
+        None => Ok(None),
+        Some(mut server) => Ok(Some(course_of(rt, alloc, &mut server)?)),
+    }
 }
 
 /// The disks of three nodes, of which that of this one fails in its call of this number; with 0 none does.
@@ -220,8 +230,8 @@ pub(crate) fn bots_everywhere(alloc: Global, call: u64) -> Result<MemoryLinks, A
 /// Asserts that all three nodes have the whole log.
 pub(crate) fn assert_logged(rt: &impl Abort, course: &Course, call: u64) {
     let each = LOG.len();
-    assert_eq!(rt; course.logs.len(), 3 * each, "call {call}");
+    assert_holds(rt, call, course.logs.len() == 3 * each);
     for log in course.logs.chunks(each) {
-        assert_eq!(rt; log, LOG, "call {call}");
+        assert_bytes_of(rt, call, log, LOG);
     }
 }

@@ -19,27 +19,20 @@ pub(crate) struct Peer {
 }
 
 impl Peer {
-    /// A node that is down, over an empty disk whose call of this number fails; with 0 none does.
-    fn new(rt: &impl Abort, alloc: Global, call: u64) -> Result<Peer, NodeFault> {
+    /// A node that is down, over an empty disk in memory.
+    fn new(rt: &impl Abort, alloc: Global) -> Result<Peer, NodeFault> {
         let config = one_hand(rt, alloc, 3)?;
         assert!(rt; config.nodes() == 3);
         assert!(rt; config.game().players() == 2);
-        let node = Node::new(alloc, &config, 0, OnceDisk::new(alloc, call))?;
+        let node = Node::new(alloc, &config, 0, OnceDisk::new(alloc, 0))?;
         Ok(Peer { node })
     }
 
-    /// The same with a new store, which is made once more where the disk failed.
-    pub(crate) fn created(rt: &impl Abort, alloc: Global, call: u64) -> Result<Peer, Fail> {
-        let mut peer = Peer::new(rt, alloc, call)?;
-        peer.create_at_last(rt);
+    /// The same with a new store.
+    pub(crate) fn created(rt: &impl Abort, alloc: Global) -> Result<Peer, Fail> {
+        let mut peer = Peer::new(rt, alloc)?;
+        peer.create(rt)?;
         Ok(peer)
-    }
-
-    /// Makes a new store, once more where the disk failed.
-    fn create_at_last(&mut self, rt: &impl Abort) {
-        if self.create(rt).is_err() {
-            assert!(rt; self.create(rt).is_ok());
-        }
     }
 
     /// Makes a new store.
@@ -61,11 +54,6 @@ impl Peer {
     /// Gives the node the bytes of a frame of node 1.
     pub(crate) fn hear_1(&mut self, bytes: &[u8], out: &mut Out) -> Result<(), NodeFault> {
         self.node.on_frame(1, bytes, out)
-    }
-
-    /// Gives the node the bytes of a frame of node 2.
-    pub(crate) fn hear_2(&mut self, bytes: &[u8], out: &mut Out) -> Result<(), NodeFault> {
-        self.node.on_frame(2, bytes, out)
     }
 
     /// Connects bob's seat, 1.

@@ -228,7 +228,9 @@ fn assert_sent<D: Disk + Drop>(rt: &impl Abort, cluster: &Cluster<D>, due: &Due<
 fn assert_arrived<D: Disk + Drop>(rt: &impl Abort, cluster: &Cluster<D>, due: &Due<'_>) {
     let (number, (sender, receiver), bytes, sent_before) = *due;
     let arrival = cluster.arrival(number).expect(rt, "a frame that came");
-    assert!(rt; matches!(arrival.what, What::Frame { from, to } if from == sender && to == receiver));
+    assert!(rt;
+        matches!(arrival.what, What::Frame { from, to } if from == sender && to == receiver)
+    );
     assert_bytes(rt, arrival.bytes, bytes);
     assert_same(rt, arrival.sent_before, sent_before);
 }
@@ -290,7 +292,13 @@ fn assert_logs<D: Disk + Drop>(
     alloc: Global,
     cluster: &Cluster<D>,
 ) -> Result<(), AllocError> {
-    assert_log(rt, alloc, cluster, 0, b"log: # name/game/hands m1 l2.game 1\n")?;
+    assert_log(
+        rt,
+        alloc,
+        cluster,
+        0,
+        b"log: # name/game/hands m1 l2.game 1\n",
+    )?;
     assert_log(rt, alloc, cluster, 1, b"log: ")
 }
 
@@ -318,6 +326,17 @@ fn cluster_over<D: Disk + Drop>(
     Cluster::new(alloc, config, disks)
 }
 
+/// A course of a new cluster over these disks: what is due comes of it.
+fn run_over<D: Disk + Drop>(
+    rt: &impl Abort,
+    alloc: Global,
+    disks: Vec<D>,
+    course: &Course<'_>,
+) -> Result<(), NodeFault> {
+    let mut cluster = cluster_over(rt, alloc, disks)?;
+    run(rt, alloc, &mut cluster, course)
+}
+
 /// So many disks in memory that never fail.
 fn disks(alloc: Global, nodes: usize) -> Result<Vec<OnceDisk>, AllocError> {
     let mut disks = Vec::new(alloc);
@@ -334,7 +353,5 @@ pub(crate) fn assert_course(
     course: &Course<'_>,
 ) -> Result<(), Fail> {
     let disks = disks(alloc, course.nodes)?;
-    let mut cluster = cluster_over(rt, alloc, disks)?;
-    run(rt, alloc, &mut cluster, course)?;
-    Ok(())
+    Ok(run_over(rt, alloc, disks, course)?)
 }

@@ -91,7 +91,7 @@ pub(crate) fn two_hands(rt: &impl Abort, alloc: Global) -> Result<Config, AllocE
     config(rt, alloc, 2, sources)
 }
 
-// What `assert_eq!` makes is proved anew wherever it stands, so it stands in the functions below.
+// What `assert_eq!` and a printed number make is proved anew wherever they stand, so they stand in the functions below.
 
 /// The two are equal; where they aren't, both are printed.
 pub(crate) fn assert_same<T: Copy + PartialEq + Debug>(rt: &impl Abort, found: T, due: T) {
@@ -101,4 +101,14 @@ pub(crate) fn assert_same<T: Copy + PartialEq + Debug>(rt: &impl Abort, found: T
 /// The same of bytes.
 pub(crate) fn assert_bytes(rt: &impl Abort, found: &[u8], due: &[u8]) {
     assert_eq!(rt; found, due);
+}
+
+/// The same of bytes in the match of this number.
+pub(crate) fn assert_bytes_of(rt: &impl Abort, number: u64, found: &[u8], due: &[u8]) {
+    assert_eq!(rt; found, due, "number {number}");
+}
+
+/// This holds of the match of this number.
+pub(crate) fn assert_holds(rt: &impl Abort, number: u64, holds: bool) {
+    assert!(rt; holds, "number {number}");
 }

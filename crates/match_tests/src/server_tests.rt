@@ -2,7 +2,7 @@ use crate::course::{
     ALICE, BOB, Course, Ending, VERSION, assert_logged, bots_everywhere, disks, no_outages, outage,
     play, without_node_0,
 };
-use crate::samples::{assert_bytes, assert_same};
+use crate::samples::{assert_bytes, assert_holds, assert_same};
 use dealer_node::NodeFault;
 use match_links::{MemoryLinks, Reached};
 use promise_store::{MemoryDisk, StoreFault};
@@ -76,19 +76,22 @@ fn played_about_an_outage(
 /// that finds none is taken again, and a node whose disk finds none is started again.
 #[test]
 fn a_match_is_played_to_its_end(rt: HostRuntime) -> Result<(), Fail> {
-    let Some(course) = played_everywhere(&rt, rt.alloc(), (0, 0))? else {
-        return Err(Fail::from(NodeFault::OutOfMemory));
-    };
-    assert_mended(&rt, &course, 0);
-    Ok(())
+    match played_everywhere(&rt, rt.alloc(), (0, 0))? {
+        None => Err(Fail::from(NodeFault::OutOfMemory)),
+        Some(course) => {
+            assert_mended(&rt, &course, 0);
+            Ok(())
+        }
+    }
 }
 
 /// Asserts that the match is over and wholly logged, and that a node was started for each call of a disk that failed.
 fn assert_mended(rt: &impl Abort, course: &Course, call: u64) {
-    match course.ending {
-        Ending::Over { starts } => assert_eq!(rt; starts, course.failures, "call {call}"),
-        Ending::Refused(_) | Ending::Never => assert!(rt; false, "call {call}"),
-    }
+    let is_mended = match course.ending {
+        Ending::Over { starts } => starts == course.failures,
+        Ending::Refused(_) | Ending::Never => false,
+    };
+    assert_holds(rt, call, is_mended);
     assert_logged(rt, course, call);
 }
 
@@ -121,32 +124,39 @@ fn a_match_outlives_a_node(rt: HostRuntime) -> Result<(), Fail> {
 
 /// Asserts that the match is over and wholly logged.
 fn assert_over(rt: &impl Abort, course: &Course, call: u64) {
-    assert!(rt; matches!(course.ending, Ending::Over { .. }), "call {call}");
+    assert_holds(rt, call, matches!(course.ending, Ending::Over { .. }));
     assert_logged(rt, course, call);
 }
 
+/// Asserts that a match was ended by this fault.
+fn assert_refused(rt: &impl Abort, course: &Course, call: u64, due: ServeFault) {
+    let is_due = match course.ending {
+        Ending::Refused(fault) => fault == due,
+        Ending::Over { .. } | Ending::Never => false,
+    };
+    assert_holds(rt, call, is_due);
+}
+
 /// Asserts how a match ended whose links' call failed: a seat's link that fails ends no match; one between nodes or to
-/// a port is 105, one to a log 106.
-fn assert_ended(rt: &impl Abort, course: &Course, call: u64) {
+/// a port is 105, one to a log 106. What that call was to reach.
+fn assert_ended(rt: &impl Abort, course: &Course, call: u64) -> Option<Reached> {
     match course.failed {
         None | Some(Reached::Seat) => assert_over(rt, course, call),
         Some(Reached::Peer | Reached::Ports) => {
-            assert!(rt; matches!(course.ending, Ending::Refused(ServeFault::LinkFailed)));
+            assert_refused(rt, course, call, ServeFault::LinkFailed);
         }
-        Some(Reached::Log) => {
-            assert!(rt; matches!(course.ending, Ending::Refused(ServeFault::LogFailed)));
-        }
+        Some(Reached::Log) => assert_refused(rt, course, call, ServeFault::LogFailed),
     }
+    course.failed
 }
 
 /// A match whose links' call of this number fails, counted from 1: what that call was to reach.
 fn fails_at(rt: &impl Abort, alloc: Global, call: u64) -> Result<Option<Reached>, AllocError> {
-    let Some(course) = played_about_an_outage(rt, alloc, (0, 0), call)? else {
+    match played_about_an_outage(rt, alloc, (0, 0), call)? {
         // (the only fault of a new server, by its contract)
-        return Ok(Some(Reached::Log));
-    };
-    assert_ended(rt, &course, call);
-    Ok(course.failed)
+        None => Ok(Some(Reached::Log)),
+        Some(course) => Ok(assert_ended(rt, &course, call)),
+    }
 }
 
 /// A bit for each kind of link.
@@ -175,30 +185,40 @@ fn each_call_of_a_link_fails_in_turn(rt: HostRuntime) -> Result<(), Fail> {
     Ok(())
 }
 
+/// Asserts that a match was mended: whether a call of a disk failed in it, once.
+fn failed_once(rt: &impl Abort, course: &Course, call: u64) -> bool {
+    assert_mended(rt, course, call);
+    course.failures == 1
+}
+
 /// A match in which this call of a node's disk fails: whether that was after the cluster was made. Then the node is
 /// stopped and started, once.
 fn fails_once(rt: &impl Abort, alloc: Global, node: usize, call: u64) -> Result<bool, AllocError> {
-    let Some(course) = played_everywhere(rt, alloc, (node, call))? else {
-        return Ok(false);
-    };
-    assert_mended(rt, &course, call);
-    Ok(course.failures == 1)
+    match played_everywhere(rt, alloc, (node, call))? {
+        None => Ok(false),
+        Some(course) => Ok(failed_once(rt, &course, call)),
+    }
+}
+
+/// Each call of a node's disk fails in turn, up to the first that isn't made: a node promises at least once, which is
+/// one append.
+fn fails_in_turn(rt: &impl Abort, alloc: Global, node: usize) -> Result<(), AllocError> {
+    let mut failed = 0u32;
+    for call in 1..80u64 {
+        if fails_once(rt, alloc, node, call)? {
+            failed = failed.saturating_add(1);
+        }
+    }
+    assert!(rt; failed >= 4);
+    assert!(rt; !fails_once(rt, alloc, node, 80)?);
+    Ok(())
 }
 
 /// A node whose disk fails once is stopped and started, and the match goes on.
 #[test]
 fn each_call_of_a_disk_fails_in_turn(rt: HostRuntime) -> Result<(), Fail> {
-    let alloc = rt.alloc();
     for node in 0..3 {
-        let mut failed = 0u32;
-        for call in 1..80u64 {
-            if fails_once(&rt, alloc, node, call)? {
-                failed = failed.saturating_add(1);
-            }
-        }
-        // (each node promises at least once, which is one append)
-        assert!(rt; failed >= 4, "node {node}");
-        assert!(rt; !fails_once(&rt, alloc, node, 80)?, "node {node}");
+        fails_in_turn(&rt, rt.alloc(), node)?;
     }
     Ok(())
 }
@@ -238,24 +258,23 @@ fn played_broken(rt: &impl Abort, alloc: Global, calls: u64) -> Result<Option<Co
     play(rt, alloc, disks, links, no_outages(alloc))
 }
 
-/// Asserts that a match was ended by a broken disk, or that no call of a disk failed in it.
-fn assert_broken(rt: &impl Abort, course: &Course, calls: u64) {
+/// Asserts that a match was ended by a broken disk, or that no call of a disk failed in it: whether one did.
+fn assert_broken(rt: &impl Abort, course: &Course, calls: u64) -> bool {
     let broken = ServeFault::Node(NodeFault::Store(StoreFault::Disk));
     match course.ending {
-        Ending::Over { .. } => assert_eq!(rt; course.failures, 0, "behind {calls} calls"),
-        Ending::Refused(fault) => assert!(rt; fault == broken, "behind {calls} calls"),
-        Ending::Never => assert!(rt; false, "behind {calls} calls"),
+        Ending::Over { .. } => assert_holds(rt, calls, course.failures == 0),
+        Ending::Refused(_) | Ending::Never => assert_refused(rt, course, calls, broken),
     }
+    course.failures > 0
 }
 
 /// A match over a disk of node 0 that fails from behind so many calls on: whether it did. Then its first fault has the
 /// node stopped and started, and the second ends the match.
 fn stays_broken(rt: &impl Abort, alloc: Global, calls: u64) -> Result<bool, AllocError> {
-    let Some(course) = played_broken(rt, alloc, calls)? else {
-        return Ok(true);
-    };
-    assert_broken(rt, &course, calls);
-    Ok(course.failures > 0)
+    match played_broken(rt, alloc, calls)? {
+        None => Ok(true),
+        Some(course) => Ok(assert_broken(rt, &course, calls)),
+    }
 }
 
 /// A node whose disk fails for good ends the match, from whichever call on that is.

@@ -1,4 +1,6 @@
-use crate::course::{ALICE, BOB, Ending, VERSION, disks, outage, serve, server, without_node_0};
+use crate::course::{
+    ALICE, BOB, Ending, VERSION, assert_places, disks, outage, serve, server, without_node_0,
+};
 use crate::samples::assert_bytes;
 use match_links::TcpLinks;
 use promise_store::OnceDisk;
@@ -96,6 +98,7 @@ fn heard(alloc: Global, client: &mut TcpStream) -> Result<Vec<u8>, Fail> {
 
 /// Asserts that a server comes to the end of its match without a start, and stays there.
 fn assert_served(rt: &impl Abort, server: &mut Server<OnceDisk, TcpLinks<'_>>) {
+    assert_places(rt, server);
     assert!(rt; matches!(serve(server), Ending::Over { starts: 0 }));
     assert!(rt; server.turn() == Ok(Turn::Over));
 }
