@@ -1,6 +1,6 @@
 use crate::test_streams::{
-    Gives, L2, Listener, Reading, Run, Takes, Talker, Writing, ends, is_begun, is_same,
-    is_written, reads_or_stops,
+    Gives, L2, Listener, Reading, Run, Takes, Talker, Writing, ends, is_begun, is_same, is_written,
+    reads_or_stops,
 };
 use game_def::GameDef;
 use std::alloc::{AllocError, Global};

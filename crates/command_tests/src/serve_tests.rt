@@ -191,7 +191,11 @@ fn has(text: &[u8], part: &[u8]) -> bool {
 fn tells_repair(rt: &impl Abort, call: u64, course: &Course) -> bool {
     let is_repaired = has(&course.notes, REPAIR);
     holds(rt, call, course.ended.is_ok());
-    holds(rt, call, course.notes.ends_with(b"\nSCORE:5|-5:alice|bob\n"));
+    holds(
+        rt,
+        call,
+        course.notes.ends_with(b"\nSCORE:5|-5:alice|bob\n"),
+    );
     holds(rt, call, is_repaired == has(&course.notes, b"91 Store"));
     is_repaired
 }
