@@ -31,30 +31,11 @@ fn is_checked(rt: &impl Abort, alloc: Global, run: &Run) -> Result<(), AllocErro
     ends(rt, alloc, ending, text)
 }
 
-/// The log, at once and in pieces.
-static CHECKED: [Run; 2] = [
+/// The log at once and in pieces, one that can't be read to its end, and a verdict that is refused in its midst or at its
+/// flush.
+static CHECKED: [Run; 7] = [
     (Gives::Whole, Takes::All, 4, ""),
     (Gives::InPieces, Takes::InPieces, 4, ""),
-];
-
-#[test]
-fn says_yes_of_a_log(rt: HostRuntime) -> Result<(), Fail> {
-    for run in &CHECKED {
-        is_checked(&rt, rt.alloc(), run)?;
-    }
-    Ok(())
-}
-
-#[test]
-fn tells_the_first_line_at_fault(rt: HostRuntime) {
-    let mut written = Vec::new(rt.alloc());
-    let ending = ran(rt.alloc(), L2, &mut &*WRONG_LOG, &mut written);
-    is_written(&rt, &written, b"no 2 48 WrongValues\n");
-    is_same(&rt, ending.status(), 1);
-}
-
-/// A log that can't be read to its end, and a verdict that is refused in its midst or at its flush.
-static STOPPED: [Run; 5] = [
     (
         Gives::Until(6, ErrorKind::BrokenPipe),
         Takes::All,
@@ -82,23 +63,37 @@ static STOPPED: [Run; 5] = [
     (Gives::Whole, Takes::Flushes(0), 4, "107 StreamFailed"),
 ];
 
+/// As far as the streams go.
 #[test]
-fn stops_where_a_stream_of_check_fails(rt: HostRuntime) -> Result<(), Fail> {
-    for run in &STOPPED {
+fn says_yes_of_a_log(rt: HostRuntime) -> Result<(), Fail> {
+    for run in &CHECKED {
         is_checked(&rt, rt.alloc(), run)?;
     }
     Ok(())
 }
 
 #[test]
-fn reads_no_log_of_a_refused_game(rt: HostRuntime) -> Result<(), Fail> {
-    let mut reader = Reading::new(LOG, Gives::Whole);
+fn tells_the_first_line_at_fault(rt: HostRuntime) {
     let mut written = Vec::new(rt.alloc());
-    let ending = ran(rt.alloc(), b"", &mut reader, &mut written);
-    is_written(&rt, &written, b"");
-    ends(&rt, rt.alloc(), ending, "10 NoGamedef 0")?;
-    is_same(&rt, reader.left(), LOG.len());
-    Ok(())
+    let ending = ran(rt.alloc(), L2, &mut &*WRONG_LOG, &mut written);
+    is_written(&rt, &written, b"no 2 48 WrongValues\n");
+    is_same(&rt, ending.status(), 1);
+}
+
+/// Checks the log of a game that is refused: how the run ends. Nothing is read or written.
+fn refused(rt: &impl Abort, alloc: Global) -> Ending {
+    let mut reader = &*LOG;
+    let mut written = Vec::new(alloc);
+    let ending = ran(alloc, b"", &mut reader, &mut written);
+    is_written(rt, &written, b"");
+    is_written(rt, reader, LOG);
+    ending
+}
+
+#[test]
+fn reads_no_log_of_a_refused_game(rt: HostRuntime) -> Result<(), Fail> {
+    let ending = refused(&rt, rt.alloc());
+    Ok(ends(&rt, rt.alloc(), ending, "10 NoGamedef 0")?)
 }
 
 /// Reads bytes one by one, with four reads at most.

@@ -122,12 +122,31 @@ fn is_run(
 /// A script that is answered at once.
 static CALMLY_ANSWERED: Run = (Gives::Whole, Takes::All, CALM_ANSWERS.len(), "");
 
-/// A script that is answered at once and in pieces.
-static ANSWERED: [Run; 2] = [
+/// A script that is answered at once and in pieces; a reader that fails before `f` and its line feed; and flushes that
+/// fail: the headers are flushed once they are written, and so is the answer to each line, empty or not.
+static ANSWERED: [Run; 9] = [
     (Gives::Whole, Takes::All, STOPPED_ANSWERS.len(), ""),
     (Gives::InPieces, Takes::InPieces, STOPPED_ANSWERS.len(), ""),
+    (
+        Gives::Until(2, ErrorKind::BrokenPipe),
+        Takes::All,
+        STOPPED_ANSWERS.len() - b"E 110 BadScript\n".len(),
+        "107 StreamFailed",
+    ),
+    (
+        Gives::Until(2, ErrorKind::OutOfMemory),
+        Takes::All,
+        STOPPED_ANSWERS.len() - b"E 110 BadScript\n".len(),
+        "92 OutOfMemory",
+    ),
+    (Gives::Whole, Takes::Flushes(0), 105, "107 StreamFailed"),
+    (Gives::Whole, Takes::Flushes(1), 105, "107 StreamFailed"),
+    (Gives::Whole, Takes::Flushes(2), 105, "107 StreamFailed"),
+    (Gives::Whole, Takes::Flushes(3), 191, "107 StreamFailed"),
+    (Gives::Whole, Takes::Flushes(4), 236, "107 StreamFailed"),
 ];
 
+/// As far as the streams go.
 #[test]
 fn answers_a_script_of_nodes(rt: HostRuntime) -> Result<(), Fail> {
     is_run(&rt, rt.alloc(), CALM, CALM_ANSWERS, &CALMLY_ANSWERED)?;
@@ -153,28 +172,6 @@ fn answers_each_line_of_nodes_before_the_next_is_awaited(rt: HostRuntime) {
     is_written(&rt, &writer.heard, STOPPED_ANSWERS);
 }
 
-/// A reader that fails before `f` and its line feed, and flushes that fail: the headers are flushed once they are
-/// written, and so is the answer to each line, empty or not.
-static FAILED: [Run; 7] = [
-    (
-        Gives::Until(2, ErrorKind::BrokenPipe),
-        Takes::All,
-        STOPPED_ANSWERS.len() - b"E 110 BadScript\n".len(),
-        "107 StreamFailed",
-    ),
-    (
-        Gives::Until(2, ErrorKind::OutOfMemory),
-        Takes::All,
-        STOPPED_ANSWERS.len() - b"E 110 BadScript\n".len(),
-        "92 OutOfMemory",
-    ),
-    (Gives::Whole, Takes::Flushes(0), 105, "107 StreamFailed"),
-    (Gives::Whole, Takes::Flushes(1), 105, "107 StreamFailed"),
-    (Gives::Whole, Takes::Flushes(2), 105, "107 StreamFailed"),
-    (Gives::Whole, Takes::Flushes(3), 191, "107 StreamFailed"),
-    (Gives::Whole, Takes::Flushes(4), 236, "107 StreamFailed"),
-];
-
 /// Sees that a beginning of the answers was taken, of so many bytes or a few more.
 fn is_taken(rt: &impl Abort, taken: &[u8], most: usize) {
     holds(rt, most as u64, taken.len() >= most);
@@ -190,10 +187,7 @@ fn stops_at(rt: &impl Abort, alloc: Global, most: usize) -> Result<(), AllocErro
 }
 
 #[test]
-fn keeps_what_nodes_answered_before_a_stream_fails(rt: HostRuntime) -> Result<(), Fail> {
-    for run in &FAILED {
-        is_run(&rt, rt.alloc(), STOPPED, STOPPED_ANSWERS, run)?;
-    }
+fn keeps_what_nodes_answered_before_the_writer_fails(rt: HostRuntime) -> Result<(), Fail> {
     for most in 0..HEADERS.len() + 40 {
         stops_at(&rt, rt.alloc(), most)?;
     }

@@ -74,11 +74,6 @@ impl<'a> Reading<'a> {
         }
     }
 
-    /// How many bytes weren't read.
-    pub(crate) fn left(&self) -> usize {
-        self.rest.len()
-    }
-
     /// How the next read fails, if it does.
     fn failure(&mut self) -> Option<ErrorKind> {
         match self.gives {
