@@ -50,17 +50,6 @@ fn disks(alloc: Global, call: u64) -> Result<Vec<OnceDisk>, AllocError> {
     Ok(disks)
 }
 
-/// New nodes over these disks; none where one fails before the match begins.
-fn cluster<D: Disk + Drop>(
-    rt: &impl Abort,
-    alloc: Global,
-    disks: Vec<D>,
-) -> Result<Option<Cluster<D>>, Fail> {
-    let config = config(alloc)?;
-    assert!(rt; disks.len() == config.nodes());
-    Ok(Cluster::new(alloc, config, disks).ok())
-}
-
 /// A server of a new cluster over these disks; none where a node or a log refuses.
 fn server<D: Disk + Drop, L: Links + Drop>(
     rt: &impl Abort,
@@ -69,10 +58,12 @@ fn server<D: Disk + Drop, L: Links + Drop>(
     links: L,
     outages: Outages,
 ) -> Result<Option<Server<D, L>>, Fail> {
-    match cluster(rt, alloc, disks)? {
-        None => Ok(None),
-        Some(cluster) => Ok(Server::new(alloc, cluster, links, outages).ok()),
-    }
+    let config = config(alloc)?;
+    assert!(rt; disks.len() == config.nodes());
+    let Ok(cluster) = Cluster::new(alloc, config, disks) else {
+        return Ok(None);
+    };
+    Ok(Server::new(alloc, cluster, links, outages).ok())
 }
 
 /// Serves a match: how that ends. Here alone `serve_run` is called, so that its contract is read once.

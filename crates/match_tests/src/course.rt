@@ -60,17 +60,6 @@ pub(crate) fn assert_places<D: Disk + Drop, L: Links + Drop>(
     assert!(rt; server.place(2).is_none());
 }
 
-/// A new cluster over these disks; none where a node refuses.
-fn cluster<D: Disk + Drop>(
-    rt: &impl Abort,
-    alloc: Global,
-    disks: Vec<D>,
-) -> Result<Option<Cluster<D>>, AllocError> {
-    let config = two_hands(rt, alloc)?;
-    assert!(rt; disks.len() == config.nodes());
-    Ok(Cluster::new(alloc, config, disks).ok())
-}
-
 /// A server of a new cluster over these disks; none where a node or a log refuses.
 pub(crate) fn server<D: Disk + Drop, L: Links + Drop>(
     rt: &impl Abort,
@@ -79,10 +68,12 @@ pub(crate) fn server<D: Disk + Drop, L: Links + Drop>(
     links: L,
     outages: Outages,
 ) -> Result<Option<Server<D, L>>, AllocError> {
-    match cluster(rt, alloc, disks)? {
-        None => Ok(None),
-        Some(cluster) => Ok(Server::new(alloc, cluster, links, outages).ok()),
-    }
+    let config = two_hands(rt, alloc)?;
+    assert!(rt; disks.len() == config.nodes());
+    let Ok(cluster) = Cluster::new(alloc, config, disks) else {
+        return Ok(None);
+    };
+    Ok(Server::new(alloc, cluster, links, outages).ok())
 }
 
 /// Lets a server take turns until all is over or a fault comes. A turn that found no memory is taken again.
