@@ -99,7 +99,7 @@ fn ran<R: Read, W: Write>(alloc: Global, file: &[u8], reader: &mut R, writer: &m
     play_run(alloc, file, Some(L2), reader, writer)
 }
 
-/// What is written for a match file and a script, and how the run ends.
+/// Plays a match file and a script at once: how the run ends.
 fn played(alloc: Global, file: &[u8], script: &[u8], written: &mut Vec<u8>) -> Ending {
     ran(alloc, file, &mut &*script, written)
 }

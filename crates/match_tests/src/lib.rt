@@ -4,7 +4,7 @@
 //! once with all of it, and what is tested here (`dealer_node`, `dealer_world`, `serving`) is so proved once.
 //!
 //! - `samples` has the matches that are played: alice and bob, limit, one hand or two.
-//! - `peer` and `node_tests`: one node of three, what it sends and shows, and its disk that fails.
+//! - `peer` and `node_tests`: one node of three, what it sends and shows, and which seats are connected to it.
 //! - `rounds`, `record_tests` and `choice_tests`: all nodes of a match, step by step, and the record of them.
 //! - `course` and `server_tests`: a match that is served over links in memory, whose calls fail in turn, and over disks
 //!   whose calls do; `tcp_tests`: the same match over sockets and files.
