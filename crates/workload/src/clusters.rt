@@ -7,6 +7,7 @@
 ghost use Rattle.std.specs.Prelude.{◌≡◌, length};
 
 use crate::driving::print_answers;
+use crate::stores;
 use dealer_kind::{Config, Source};
 use dealer_node::NodeFault;
 use dealer_world::Cluster;
@@ -164,19 +165,13 @@ fn files<R: AllocGlobal + Files<File = File>>(
 ) -> io::Result<Vec<FileDisk>> {
     let mut disks = Vec::new(rt.alloc());
     for path in line.split(' ').skip(FRONT) {
-        let file = File::options()
-            .read(true)
-            .write(true)
-            .create(is_new)
-            .truncate(is_new)
-            .open(rt, path)?;
-        disks.push(FileDisk::new(file))?;
+        disks.push(stores::open(rt, path, is_new)?)?;
     }
     Ok(disks)
 }
 
 /// What the nodes' disks are.
-#[derive(Clone, Copy, Debug, PartialEq, Eq)]
+#[derive(Clone, Copy)]
 pub enum Disks {
     /// In memory, with fuses.
     Fused,

@@ -14,7 +14,7 @@ ghost use Rattle.dealer_world.specs.Stepping.{IsFor};
 
 use crate::frames::from_hexadecimal;
 use crate::telling::{put_event, put_frames_from};
-use dealer_node::NodeFault;
+use dealer_node::{NodeFault, is_out_of_memory};
 use dealer_world::{Cluster, Event};
 use play_script::{Bounds, Order, put_fault, read};
 use playing::put_piece;
@@ -27,16 +27,34 @@ pub fn print_answers<D: Disk + Drop, R: Input + Print + AllocGlobal>(
     rt: &R,
     cluster: &mut Cluster<D>,
 ) -> io::Result<()> {
-    let alloc = rt.alloc();
-    let mut text = Vec::new(alloc);
-    put_record(&mut text, cluster)?;
-    print_text(rt, &text)?;
-    for line in rt.lines(alloc) {
-        text.clear();
-        answer(alloc, cluster, line?.as_str(), &mut text)?;
-        print_text(rt, &text)?;
+    let mut text = Vec::new(rt.alloc());
+    print_record(rt, cluster, &mut text)?;
+    for line in rt.lines(rt.alloc()) {
+        print_answer(rt, cluster, line?.as_str(), &mut text)?;
     }
     Ok(())
+}
+
+/// Prints what a cluster sent and showed so far, by a buffer.
+fn print_record<D: Disk + Drop>(
+    rt: &impl Print,
+    cluster: &Cluster<D>,
+    text: &mut Vec<u8>,
+) -> io::Result<()> {
+    put_record(text, cluster)?;
+    print_text(rt, text)
+}
+
+/// Does what a line says, and prints what comes of it, by a buffer.
+fn print_answer<D: Disk + Drop, R: Print + AllocGlobal>(
+    rt: &R,
+    cluster: &mut Cluster<D>,
+    line: &str,
+    text: &mut Vec<u8>,
+) -> io::Result<()> {
+    text.clear();
+    answer(rt.alloc(), cluster, line, text)?;
+    print_text(rt, text)
 }
 
 /// Prints a text of whole lines.
@@ -103,26 +121,32 @@ fn ordered<D: Disk + Drop>(
     cluster: &Cluster<D>,
     order: Order<'_>,
 ) -> Result<Option<Event>, AllocError> {
-    let event = match order {
-        Order::Tick { node } => Event::Tick { node: byte(node) },
-        Order::Deliver { frame } => return sent_frame(alloc, cluster, frame),
-        Order::Flush { .. } => return Ok(None),
-        Order::Connect { node, seat } => Event::Connect {
+    match order {
+        Order::Deliver { frame } => sent_frame(alloc, cluster, frame),
+        Order::Line { node, seat, text } => said(alloc, byte(node), byte(seat), text),
+        order => Ok(ordered_without_bytes(order)),
+    }
+}
+
+/// The event that a line of `play` says which holds no bytes.
+fn ordered_without_bytes(order: Order<'_>) -> Option<Event> {
+    match order {
+        Order::Tick { node } => Some(Event::Tick { node: byte(node) }),
+        Order::Connect { node, seat } => Some(Event::Connect {
             node: byte(node),
             seat: byte(seat),
-        },
-        Order::Drop { node, seat } => Event::Drop {
+        }),
+        Order::Drop { node, seat } => Some(Event::Drop {
             node: byte(node),
             seat: byte(seat),
-        },
-        Order::Line { node, seat, text } => said(alloc, byte(node), byte(seat), text)?,
-        Order::Stop { node, pick } => Event::Stop {
+        }),
+        Order::Stop { node, pick } => Some(Event::Stop {
             node: byte(node),
             pick,
-        },
-        Order::Start { node } => Event::Start { node: byte(node) },
-    };
-    Ok(Some(event))
+        }),
+        Order::Start { node } => Some(Event::Start { node: byte(node) }),
+        Order::Deliver { .. } | Order::Flush { .. } | Order::Line { .. } => None,
+    }
 }
 
 /// A number of a node or a seat, which is below ten, in a byte.
@@ -131,10 +155,10 @@ fn byte(number: usize) -> u8 {
 }
 
 /// A line of a seat, with its end behind it.
-fn said(alloc: Global, node: u8, seat: u8, text: &[u8]) -> Result<Event, AllocError> {
+fn said(alloc: Global, node: u8, seat: u8, text: &[u8]) -> Result<Option<Event>, AllocError> {
     let mut bytes = text.to_vec(alloc)?;
     bytes.extend_from_slice(b"\r\n")?;
-    Ok(Event::Line { node, seat, bytes })
+    Ok(Some(Event::Line { node, seat, bytes }))
 }
 
 /// The delivery of the frame of this number.
@@ -155,19 +179,20 @@ fn sent_frame<D: Disk + Drop>(
 
 /// The frame that the words `I J HEX` say.
 fn told_frame(alloc: Global, words: &str) -> Result<Option<Event>, AllocError> {
-    let Some((from, behind)) = words.split_once(' ') else {
-        return Ok(None);
-    };
-    let Some((to, digits)) = behind.split_once(' ') else {
-        return Ok(None);
-    };
-    let (Ok(from), Ok(to)) = (from.parse(), to.parse()) else {
+    let Some((from, to, digits)) = told_words(words) else {
         return Ok(None);
     };
     match from_hexadecimal(alloc, digits.as_bytes())? {
         Some(bytes) => Ok(Some(Event::Frame { from, to, bytes })),
         None => Ok(None),
     }
+}
+
+/// The numbers of two nodes, and what stands behind them.
+fn told_words(words: &str) -> Option<(u8, u8, &str)> {
+    let (from, behind) = words.split_once(' ')?;
+    let (to, digits) = behind.split_once(' ')?;
+    Some((from.parse().ok()?, to.parse().ok()?, digits))
 }
 
 /// Whether an event names nodes and seats that there are.
@@ -209,7 +234,7 @@ fn put_outcome<D: Disk + Drop>(
     first: usize,
     answer: Result<(), NodeFault>,
 ) -> Result<(), AllocError> {
-    if answer != Err(NodeFault::OutOfMemory) {
+    if !is_out_of_memory(answer) {
         put_frames_from(out, cluster, first)?;
         put_event(out, node, cluster.last())?;
     }

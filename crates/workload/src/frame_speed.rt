@@ -46,10 +46,15 @@ fn encoded(alloc: Global) -> Result<u64, AllocError> {
 
 /// Reads a frame many times, and prints how often it was read.
 pub fn print_decoded(rt: &(impl Print + AllocGlobal)) -> io::Result<()> {
-    let mut frame = Vec::new(rt.alloc());
+    let read = times_read(rt.alloc())?;
+    println!(rt; "decoded: {read} frames")
+}
+
+/// How often the frame was read.
+fn times_read(alloc: Global) -> Result<u32, AllocError> {
+    let mut frame = Vec::new(alloc);
     encode(&mut frame, &proposal(1))?;
-    let read = decoded(frame.as_slice());
-    rt.println(format_args!("decoded: {read} frames"))
+    Ok(decoded(&frame))
 }
 
 /// How often a frame reads as a message.

@@ -1,24 +1,28 @@
 ghost use Rattle.std.specs.Prelude.{◌<◌, IfSome};
+ghost use Rattle.paxos_wire.specs.Fits.{Fits};
 
-use paxos_wire::{decode, encode};
+use crate::verdicts::Verdicts;
+use paxos_wire::{FrameFault, Message, decode, encode};
 use std::alloc::{AllocError, Global};
 use std::io;
 
 /// Reads lines of a frame's bytes in hexadecimal and `ok` or the fault, and prints for how many of them reading answers
 /// that, and encodes a message to the same bytes again.
 pub fn print_checked(rt: &(impl Input + Print + AllocGlobal)) -> io::Result<()> {
-    let mut right = 0u64;
-    let mut wrong = 0u64;
+    let mut verdicts = Verdicts::none();
     for line in rt.lines(rt.alloc()) {
-        let line = line?;
-        if is_right(rt.alloc(), line.as_str())? {
-            right = right.wrapping_add(1);
-        } else {
-            wrong = wrong.wrapping_add(1);
-            println!(rt; "wrong: {line}")?;
-        }
+        verdicts.count(is_right_or_told(rt, line?.as_str())?);
     }
-    rt.println(format_args!("frames: {right} right, {wrong} wrong"))
+    verdicts.print(rt, "frames")
+}
+
+/// Whether a line's frame reads as the line says. A line that is wrong is printed.
+fn is_right_or_told(rt: &(impl Print + AllocGlobal), line: &str) -> io::Result<bool> {
+    let is_right = is_right(rt.alloc(), line)?;
+    if !is_right {
+        println!(rt; "wrong: {line}")?;
+    }
+    Ok(is_right)
 }
 
 /// Whether a line's frame reads as the line says.
@@ -35,16 +39,24 @@ fn is_right(alloc: Global, line: &str) -> Result<bool, AllocError> {
 /// Whether bytes read as `ok`, and are encoded so again, or as a fault.
 fn reads_as(alloc: Global, bytes: &[u8], answer: &str) -> Result<bool, AllocError> {
     match decode(bytes) {
-        Ok(message) => {
-            let mut again = Vec::new(alloc);
-            encode(&mut again, &message)?;
-            Ok(answer == "ok" && again.as_slice() == bytes)
-        }
-        Err(fault) => {
-            let text = format!(in alloc; "{fault}")?;
-            Ok(text.as_str() == answer)
-        }
+        Ok(message) => Ok(is_encoded_so(alloc, &message, bytes)? && answer == "ok"),
+        Err(fault) => is_named_so(alloc, fault, answer),
     }
+}
+
+/// Whether a message is encoded to these bytes.
+fn is_encoded_so(alloc: Global, message: &Message, bytes: &[u8]) -> Result<bool, AllocError>
+    requires { Fits message.now }
+{
+    let mut again = Vec::new(alloc);
+    encode(&mut again, message)?;
+    Ok(again.as_slice() == bytes)
+}
+
+/// Whether a fault is printed so.
+fn is_named_so(alloc: Global, fault: FrameFault, answer: &str) -> Result<bool, AllocError> {
+    let text = format!(in alloc; "{fault}")?;
+    Ok(text.as_str() == answer)
 }
 
 /// The bytes that pairs of digits write; none where there are other characters, or a digit alone.

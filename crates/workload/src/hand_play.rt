@@ -21,7 +21,7 @@ END GAMEDEF
 const ACTIONS: u32 = 20_000_000;
 
 /// What the players do.
-#[derive(Clone, Copy, Debug, PartialEq, Eq)]
+#[derive(Clone, Copy, Debug)]
 pub enum Policy {
     /// Call whatever comes: eight actions a hand.
     Call,
@@ -31,11 +31,15 @@ pub enum Policy {
 
 /// Prints how many hands and actions were played.
 pub fn print_played(rt: &impl Print, policy: Policy) -> io::Result<()> {
-    let Ok(game) = game_def::read(GAME) else {
-        return rt.println("the game was refused");
-    };
-    let (hands, actions) = play_hands(&game, policy);
-    rt.println(format_args!("{policy:?}: {actions} actions in {hands} hands"))
+    match game_def::read(GAME) {
+        Ok(game) => print_counts(rt, policy, play_hands(&game, policy)),
+        Err(_) => rt.println("the game was refused"),
+    }
+}
+
+/// Prints how many hands and actions were played by a policy.
+fn print_counts(rt: &impl Print, policy: Policy, (hands, actions): (u32, u32)) -> io::Result<()> {
+    println!(rt; "{policy:?}: {actions} actions in {hands} hands")
 }
 
 /// Plays hands until there were enough actions, and counts both.

@@ -28,6 +28,7 @@ mod taking;
 mod task;
 mod telling;
 mod trio;
+mod verdicts;
 
 use clusters::Disks;
 use hand_play::Policy;
@@ -41,12 +42,20 @@ use trio::Course;
 fn main(rt: HostRuntime) -> io::Result<()> {
     let words = env::args(&rt)?;
     for word in words.skip(1) {
-        match Task::named(word.as_str()) {
-            Some(task) => run(&rt, task)?,
-            None => println!(rt; "unknown: {word}")?,
-        }
+        run_named(&rt, word.as_str())?;
     }
     Ok(())
+}
+
+/// Runs the task of a name.
+fn run_named(
+    rt: &(impl Input + Print + AllocGlobal + Files<File = File>),
+    name: &str,
+) -> io::Result<()> {
+    match Task::named(name) {
+        Some(task) => run(rt, task),
+        None => println!(rt; "unknown: {name}"),
+    }
 }
 
 /// Runs one task and prints what it found.

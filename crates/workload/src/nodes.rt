@@ -15,13 +15,17 @@ pub fn print_played(
     hands: u32,
     course: Course,
 ) -> io::Result<()> {
-    let alloc = rt.alloc();
-    let Some(config) = config(alloc, hands)? else {
+    let Some(config) = config(rt.alloc(), hands)? else {
         return rt.println("the match was refused");
     };
-    let Some(counts) = played(alloc, &config, matches, course)? else {
-        return rt.println("a node wasn't made");
-    };
+    match played(rt.alloc(), &config, matches, course)? {
+        Some(counts) => print_counts(rt, &counts),
+        None => rt.println("a node wasn't made"),
+    }
+}
+
+/// Prints what was counted.
+fn print_counts(rt: &impl Print, counts: &Counts) -> io::Result<()> {
     let Counts {
         commands,
         frames,
@@ -31,7 +35,7 @@ pub fn print_played(
         wrong,
     } = counts;
     println!(rt; "nodes: {commands:?} commands, {frames} frames, sum {sum:x}")?;
-    rt.println(format_args!("refused {refused}, failed {failed}, wrong {wrong}"))
+    println!(rt; "refused {refused}, failed {failed}, wrong {wrong}")
 }
 
 /// What is counted over so many matches; none where a node isn't made.
@@ -50,13 +54,22 @@ fn played(
         wrong: 0,
     };
     for _ in 0..matches {
-        let mut trio = Trio::new(alloc, course, counts)?;
-        if !trio.begin(config)? {
+        if !play_one(alloc, config, course, &mut counts)? {
             return Ok(None);
         }
-        trio.play()?;
-        trio.count_commands();
-        counts = trio.counts;
     }
     Ok(Some(counts))
+}
+
+/// Plays a match and counts on. An `Ok` of false: a node isn't made.
+fn play_one(
+    alloc: Global,
+    config: &Config,
+    course: Course,
+    counts: &mut Counts,
+) -> Result<bool, AllocError> {
+    let mut trio = Trio::new(alloc, course, *counts);
+    let played = trio.play_match(config);
+    *counts = trio.counts;
+    played
 }

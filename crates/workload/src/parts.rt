@@ -97,15 +97,20 @@ fn slots_chosen(alloc: Global) -> Result<u32, AllocError> {
 /// Refuses many proposals below what was promised, on a disk in memory, and prints a sum of the rounds refused.
 pub fn print_refusals(rt: &(impl Print + AllocGlobal)) -> io::Result<()> {
     let disk = MemoryDisk::new(rt.alloc(), &[])?;
-    let rounds = match Store::create(rt.alloc(), disk, 0, NODES) {
-        Ok(store) => rounds_refused(Acceptor::new(store)),
+    let rounds = rounds_on(rt.alloc(), disk);
+    println!(rt; "refusals: {REFUSALS} proposals, rounds sum to {rounds}")
+}
+
+/// The sum of the rounds of the proposals that were refused by an acceptor on this disk.
+fn rounds_on(alloc: Global, disk: MemoryDisk) -> u64 {
+    match Store::create(alloc, disk, 0, NODES) {
+        Ok(store) => rounds_refused(&mut Acceptor::new(store)),
         Err(_) => 0,
-    };
-    rt.println(format_args!("refusals: {REFUSALS} proposals, rounds sum to {rounds}"))
+    }
 }
 
 /// The sum of the rounds of the proposals that were refused, of drawn ballots below the promised one.
-fn rounds_refused(mut acceptor: Acceptor<MemoryDisk>) -> u64 {
+fn rounds_refused(acceptor: &mut Acceptor<MemoryDisk>) -> u64 {
     let promised = Ballot { round: 4, node: 0 };
     if acceptor.on_prepare(promised, 0).is_err() {
         return 0;

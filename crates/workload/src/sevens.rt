@@ -17,7 +17,7 @@ const SEED: u64 = 7;
 const ACE: u8 = 51;
 
 /// Which body ranks the hands.
-#[derive(Clone, Copy, Debug, PartialEq, Eq)]
+#[derive(Clone, Copy)]
 pub enum Body {
     /// The one that counts ranks.
     Counts,

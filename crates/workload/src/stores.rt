@@ -15,22 +15,30 @@ const PATH: &str = "workload.journal";
 /// How many promises are stored for timing.
 const APPENDS: u32 = 2000;
 
+/// A file as a disk, made anew or as it is; where it is to be as it is, it has to be there.
+pub fn open<R: Files<File = File>>(rt: &R, path: &str, is_new: bool) -> io::Result<FileDisk> {
+    let mut options = File::options();
+    let options = options.read(true).write(true);
+    let file = options.create(is_new).truncate(is_new).open(rt, path)?;
+    Ok(FileDisk::new(file))
+}
+
 /// Makes a store on the file, appends so many promises, and prints how many were stored.
 pub fn print_appended<R: Print + AllocGlobal + Files<File = File>>(
     rt: &R,
     count: u32,
 ) -> io::Result<()> {
-    let file = File::options()
-        .read(true)
-        .write(true)
-        .create(true)
-        .truncate(true)
-        .open(rt, PATH)?;
-    let stored = match Store::create(rt.alloc(), FileDisk::new(file), 0, 3) {
+    let disk = open(rt, PATH, true)?;
+    let stored = appended(rt.alloc(), disk, count);
+    println!(rt; "appends: {stored} stored")
+}
+
+/// How many of so many promises were stored by a store that was made on this disk.
+fn appended(alloc: Global, disk: FileDisk, count: u32) -> u32 {
+    match Store::create(alloc, disk, 0, 3) {
         Ok(mut store) => promises(&mut store, count),
         Err(_) => 0,
-    };
-    rt.println(format_args!("appends: {stored} stored"))
+    }
 }
 
 /// How many promises of rising rounds were stored.
@@ -60,10 +68,17 @@ pub fn print_written<R: Print + AllocGlobal + Files<File = File>>(
 ) -> io::Result<()>
     requires { slots ≤ 1000000 }
 {
+    let length = written(rt, slots)?;
+    println!(rt; "journal: {slots} records, {length} bytes")
+}
+
+/// How long the journal is that was written.
+fn written<R: AllocGlobal + Files<File = File>>(rt: &R, slots: u32) -> io::Result<usize>
+    requires { slots ≤ 1000000 }
+{
     let bytes = journal(rt.alloc(), slots)?;
     fs::write(rt, PATH, bytes.as_slice())?;
-    let length = bytes.len();
-    rt.println(format_args!("journal: {slots} records, {length} bytes"))
+    Ok(bytes.len())
 }
 
 /// The journal of node 0 of 3 with an accept of a call at each of so many slots.
@@ -93,10 +108,15 @@ pub fn print_opened<R: Print + AllocGlobal + Files<File = File>>(
     rt: &R,
     slots: u32,
 ) -> io::Result<()> {
-    let file = File::options().read(true).write(true).open(rt, PATH)?;
-    let has_last = match Store::open(rt.alloc(), FileDisk::new(file), 0, 3) {
-        Ok(store) => store.held().find(slots.saturating_sub(1)).is_some(),
+    let disk = open(rt, PATH, false)?;
+    let has_last = has_entry(rt.alloc(), disk, slots.saturating_sub(1));
+    println!(rt; "opened: the last of {slots} is there: {has_last}")
+}
+
+/// Whether the store on a disk has an entry for a slot.
+fn has_entry(alloc: Global, disk: FileDisk, slot: u32) -> bool {
+    match Store::open(alloc, disk, 0, 3) {
+        Ok(store) => store.held().find(slot).is_some(),
         Err(_) => false,
-    };
-    rt.println(format_args!("opened: the last of {slots} is there: {has_last}"))
+    }
 }

@@ -3,10 +3,10 @@
 use crate::peer::{Event, Peer};
 use dealer_node::{NodeFault, Out};
 use promise_store::StoreFault;
-use std::alloc::Global;
+use slot_log::Command;
 
 /// What was counted over all matches.
-#[derive(Clone, Copy, Debug)]
+#[derive(Clone, Copy)]
 pub struct Counts {
     /// How many commands each node knew at the end of its match.
     pub commands: [u64; 3],
@@ -23,30 +23,35 @@ pub struct Counts {
 
 /// Lets a node take an event. A call that finds no memory changes nothing, and is made again; where its disk fails the
 /// node is started again, its seats sit down, and the call is made again.
-pub fn take(
-    alloc: Global,
-    peer: &mut Peer,
-    event: Event<'_>,
-    seated: bool,
-    counts: &mut Counts,
-) -> Out {
-    let mut out = Out::new(alloc);
+pub fn take(peer: &mut Peer, event: Event<'_>, seated: bool, out: &mut Out, counts: &mut Counts) {
     let before = peer.shown();
-    let mut answer = peer.step(event, &mut out);
-    if answer == Err(NodeFault::OutOfMemory) {
-        counts.refused = counts.refused.wrapping_add(1);
-        if peer.shown() != before || out.frames().next().is_some() || out.shown().next().is_some() {
-            counts.wrong = counts.wrong.wrapping_add(1);
+    let answer = match peer.step(event, out) {
+        Err(NodeFault::OutOfMemory) => {
+            count_refused(peer, before, out, counts);
+            peer.step(event, out)
         }
-        answer = peer.step(event, &mut out);
-    } else if answer == Err(NodeFault::Store(StoreFault::Disk)) {
-        counts.failed = counts.failed.wrapping_add(1);
-        answer = take_again(peer, event, seated, &mut out);
-    }
+        Err(NodeFault::Store(StoreFault::Disk)) => {
+            counts.failed = counts.failed.wrapping_add(1);
+            take_again(peer, event, seated, out)
+        }
+        answer => answer,
+    };
     if answer.is_err() {
         counts.wrong = counts.wrong.wrapping_add(1);
     }
-    out
+}
+
+/// Counts a call that found no memory, and whether it changed what a node shows or told anything.
+fn count_refused(
+    peer: &Peer,
+    before: (bool, u32, Option<Command>),
+    out: &Out,
+    counts: &mut Counts,
+) {
+    counts.refused = counts.refused.wrapping_add(1);
+    if peer.shown() != before || out.frames().next().is_some() || out.shown().next().is_some() {
+        counts.wrong = counts.wrong.wrapping_add(1);
+    }
 }
 
 /// Starts a node whose disk failed, lets its seats sit down where it has any, and lets it take the same event.

@@ -1,5 +1,5 @@
 /// What can be run.
-#[derive(Clone, Copy, Debug, PartialEq, Eq)]
+#[derive(Clone, Copy)]
 pub enum Task {
     /// Counts the five-card hands of the pack by category.
     FiveCardHands,
@@ -59,39 +59,46 @@ pub enum Task {
     OpenLong,
 }
 
+/// The names of all that can be run.
+static NAMES: [(&str, Task); 28] = [
+    ("five-card-hands", Task::FiveCardHands),
+    ("best-of-seven", Task::BestOfSeven),
+    ("sevens-by-counts", Task::SevensByCounts),
+    ("sevens-by-fives", Task::SevensByFives),
+    ("sevens", Task::Sevens),
+    ("draws", Task::Draws),
+    ("decks", Task::Decks),
+    ("short-hands", Task::ShortHands),
+    ("long-hands", Task::LongHands),
+    ("encode", Task::Encode),
+    ("decode", Task::Decode),
+    ("frames", Task::Frames),
+    ("promises", Task::Promises),
+    ("answers", Task::Answers),
+    ("refusals", Task::Refusals),
+    ("nodes", Task::Nodes),
+    ("nodes-short", Task::NodesShort),
+    ("creations", Task::Creations),
+    ("fused-cluster", Task::FusedCluster),
+    ("failing-cluster", Task::FailingCluster),
+    ("new-file-cluster", Task::NewFileCluster),
+    ("file-cluster", Task::FileCluster),
+    ("store-append", Task::Append),
+    ("store-appends", Task::Appends),
+    ("store-short", Task::ShortJournal),
+    ("store-long", Task::LongJournal),
+    ("store-open-short", Task::OpenShort),
+    ("store-open-long", Task::OpenLong),
+];
+
 impl Task {
     /// The task of a name.
     pub fn named(name: &str) -> Option<Task> {
-        match name {
-            "five-card-hands" => Some(Task::FiveCardHands),
-            "best-of-seven" => Some(Task::BestOfSeven),
-            "sevens-by-counts" => Some(Task::SevensByCounts),
-            "sevens-by-fives" => Some(Task::SevensByFives),
-            "sevens" => Some(Task::Sevens),
-            "draws" => Some(Task::Draws),
-            "decks" => Some(Task::Decks),
-            "short-hands" => Some(Task::ShortHands),
-            "long-hands" => Some(Task::LongHands),
-            "encode" => Some(Task::Encode),
-            "decode" => Some(Task::Decode),
-            "frames" => Some(Task::Frames),
-            "promises" => Some(Task::Promises),
-            "answers" => Some(Task::Answers),
-            "refusals" => Some(Task::Refusals),
-            "nodes" => Some(Task::Nodes),
-            "nodes-short" => Some(Task::NodesShort),
-            "creations" => Some(Task::Creations),
-            "fused-cluster" => Some(Task::FusedCluster),
-            "failing-cluster" => Some(Task::FailingCluster),
-            "new-file-cluster" => Some(Task::NewFileCluster),
-            "file-cluster" => Some(Task::FileCluster),
-            "store-append" => Some(Task::Append),
-            "store-appends" => Some(Task::Appends),
-            "store-short" => Some(Task::ShortJournal),
-            "store-long" => Some(Task::LongJournal),
-            "store-open-short" => Some(Task::OpenShort),
-            "store-open-long" => Some(Task::OpenLong),
-            _ => None,
+        for (known, task) in &NAMES {
+            if *known == name {
+                return Some(*task);
+            }
         }
+        None
     }
 }
