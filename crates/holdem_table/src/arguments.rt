@@ -4,6 +4,7 @@ use crate::help::{
     AFTER_CHECK_HELP, AFTER_HAND_HELP, AFTER_HELP, AFTER_INIT_HELP, AFTER_PLAY_HELP,
     AFTER_SERVE_HELP,
 };
+use clap::builder::ValueParser;
 use clap::{Arg, ArgAction, ArgMatches, Command, value_parser};
 use slot_log::limits::HANDS;
 use std::alloc::{AllocError, Global};
@@ -44,39 +45,152 @@ pub(crate) struct CheckArguments<'a> {
     pub(crate) log: &'a str,
 }
 
-/// The program's command line.
-pub(crate) fn command<'a>(alloc: Global) -> Result<Command<'a>, AllocError> {
-    let whole = Command::new(alloc, "holdem_table")
-        .version("0.1.0")
-        .about("Deals Texas hold'em by the ACPC dealer protocol 2.0.0, and checks logs")
-        .after_help(AFTER_HELP)
-        .subcommand_required(true);
-    let whole = with(whole, hand_command(alloc))?;
-    let whole = with(whole, play_command(alloc))?;
-    let whole = with(whole, check_command(alloc))?;
-    let whole = with(whole, init_command(alloc))?;
-    with(whole, serve_command(alloc))
+/// A command of the program.
+#[derive(Clone, Copy)]
+enum Verb {
+    Hand,
+    Play,
+    Check,
+    Init,
+    Serve,
 }
 
-/// A command line with one more command, if that could be made.
-fn with<'a>(
-    whole: Command<'a>,
-    made: Result<Command<'a>, AllocError>,
-) -> Result<Command<'a>, AllocError> {
-    match made {
-        Ok(made) => whole.subcommand(made),
-        Err(refused) => Err(refused),
+/// The program's commands, in the order of help.
+const VERBS: [Verb; 5] = [Verb::Hand, Verb::Play, Verb::Check, Verb::Init, Verb::Serve];
+
+impl Verb {
+    /// The word that asks for it.
+    fn name<'a>(self) -> &'a str {
+        match self {
+            Verb::Hand => "hand",
+            Verb::Play => "play",
+            Verb::Check => "check",
+            Verb::Init => "init",
+            Verb::Serve => "serve",
+        }
+    }
+
+    /// What it does, in a line of help.
+    fn about<'a>(self) -> &'a str {
+        match self {
+            Verb::Hand => "Plays a script of deals and actions, and prints each seat's lines",
+            Verb::Play => "Runs all nodes of a match over a script, and prints all they send",
+            Verb::Check => "Checks the log of a match against the rules of its game",
+            Verb::Init => "Makes the empty stores of a match's nodes",
+            Verb::Serve => "Deals a match to its seats over TCP",
+        }
+    }
+
+    /// What its help says behind the arguments.
+    fn after_help<'a>(self) -> &'a str {
+        match self {
+            Verb::Hand => AFTER_HAND_HELP,
+            Verb::Play => AFTER_PLAY_HELP,
+            Verb::Check => AFTER_CHECK_HELP,
+            Verb::Init => AFTER_INIT_HELP,
+            Verb::Serve => AFTER_SERVE_HELP,
+        }
+    }
+
+    /// What stands behind its name, in the order of help.
+    fn places(self) -> &'static [Place] {
+        match self {
+            Verb::Hand => &[Place::Hands, Place::LogFlag, Place::Game],
+            Verb::Check => &[Place::Game, Place::Log],
+            Verb::Play | Verb::Init | Verb::Serve => &[Place::Match],
+        }
     }
 }
 
-/// `hand GAME`, with `--hands N` and `--log`.
-fn hand_command<'a>(alloc: Global) -> Result<Command<'a>, AllocError> {
-    Command::new(alloc, "hand")
-        .about("Plays a script of deals and actions, and prints each seat's lines")
-        .after_help(AFTER_HAND_HELP)
-        .arg(hands_option(alloc))?
-        .arg(log_option(alloc))?
-        .arg(game_argument(alloc))
+/// What stands behind a command's name.
+#[derive(Clone, Copy)]
+enum Place {
+    /// `--hands N`.
+    Hands,
+    /// `--log`.
+    LogFlag,
+    /// GAME.
+    Game,
+    /// LOG.
+    Log,
+    /// MATCH.
+    Match,
+}
+
+/// The program's command line.
+pub(crate) fn command<'a>(alloc: Global) -> Result<Command<'a>, AllocError> {
+    let mut commands = Vec::new(alloc);
+    add_commands(alloc, &mut commands)?;
+    whole(alloc).subcommands(commands)
+}
+
+/// The program's command line without its commands.
+fn whole<'a>(alloc: Global) -> Command<'a> {
+    Command::new(alloc, "holdem_table")
+        .version("0.1.0")
+        .about("Deals Texas hold'em by the ACPC dealer protocol 2.0.0, and checks logs")
+        .after_help(AFTER_HELP)
+        .subcommand_required(true)
+}
+
+/// Adds the program's commands.
+fn add_commands<'a>(alloc: Global, commands: &mut Vec<Command<'a>>) -> Result<(), AllocError> {
+    for verb in VERBS {
+        commands.reserve(1)?;
+        commands.push_reserved(command_of(alloc, verb)?);
+    }
+    Ok(())
+}
+
+/// One of the program's commands.
+fn command_of<'a>(alloc: Global, verb: Verb) -> Result<Command<'a>, AllocError> {
+    let mut arguments = Vec::new(alloc);
+    add_arguments(alloc, verb.places(), &mut arguments)?;
+    bare(alloc, verb).args(arguments)
+}
+
+/// A command without what stands behind its name.
+fn bare<'a>(alloc: Global, verb: Verb) -> Command<'a> {
+    Command::new(alloc, verb.name())
+        .about(verb.about())
+        .after_help(verb.after_help())
+}
+
+/// Adds what stands behind a command's name.
+fn add_arguments<'a>(
+    alloc: Global,
+    places: &[Place],
+    arguments: &mut Vec<Arg<'a>>,
+) -> Result<(), AllocError> {
+    for place in places {
+        arguments.reserve(1)?;
+        arguments.push_reserved(argument_at(alloc, *place));
+    }
+    Ok(())
+}
+
+/// What clap is told of a place.
+fn argument_at<'a>(alloc: Global, place: Place) -> Arg<'a> {
+    match place {
+        Place::Hands => hands_option(alloc),
+        Place::LogFlag => log_option(alloc),
+        Place::Game => word_at(
+            alloc,
+            "game",
+            "GAME",
+            "The game file, in the ACPC game definition format",
+        ),
+        Place::Log => word_at(alloc, "log", "LOG", "The log of a match of that game"),
+        Place::Match => word_at(alloc, "match", "MATCH", "The match file"),
+    }
+}
+
+/// A word that has to be there.
+fn word_at<'a>(alloc: Global, id: &'a str, name: &'a str, help: &'a str) -> Arg<'a> {
+    Arg::new(alloc, id)
+        .value_name(name)
+        .required(true)
+        .help(help)
 }
 
 /// `--hands N`.
@@ -84,9 +198,14 @@ fn hands_option<'a>(alloc: Global) -> Arg<'a> {
     Arg::new(alloc, "hands")
         .long("hands")
         .value_name("N")
-        .value_parser(value_parser!(u32).range(1..=HANDS as i64))
+        .value_parser(hands_parser())
         .default_value("1")
         .help("The number of hands, 1 to 10000")
+}
+
+/// What reads the N of `--hands`.
+fn hands_parser<'a>() -> ValueParser<'a> {
+    value_parser!(u32).range(1..=HANDS as i64)
 }
 
 /// `--log`.
@@ -97,83 +216,33 @@ fn log_option<'a>(alloc: Global) -> Arg<'a> {
         .help("Prints the match's log too, each line behind L")
 }
 
-/// `check GAME LOG`.
-fn check_command<'a>(alloc: Global) -> Result<Command<'a>, AllocError> {
-    Command::new(alloc, "check")
-        .about("Checks the log of a match against the rules of its game")
-        .after_help(AFTER_CHECK_HELP)
-        .arg(game_argument(alloc))?
-        .arg(log_argument(alloc))
-}
-
-/// LOG of `check`.
-fn log_argument<'a>(alloc: Global) -> Arg<'a> {
-    Arg::new(alloc, "log")
-        .value_name("LOG")
-        .required(true)
-        .help("The log of a match of that game")
-}
-
-/// `play MATCH`.
-fn play_command<'a>(alloc: Global) -> Result<Command<'a>, AllocError> {
-    Command::new(alloc, "play")
-        .about("Runs all nodes of a match over a script, and prints all they send")
-        .after_help(AFTER_PLAY_HELP)
-        .arg(match_argument(alloc))
-}
-
-/// `init MATCH`.
-fn init_command<'a>(alloc: Global) -> Result<Command<'a>, AllocError> {
-    Command::new(alloc, "init")
-        .about("Makes the empty stores of a match's nodes")
-        .after_help(AFTER_INIT_HELP)
-        .arg(match_argument(alloc))
-}
-
-/// `serve MATCH`.
-fn serve_command<'a>(alloc: Global) -> Result<Command<'a>, AllocError> {
-    Command::new(alloc, "serve")
-        .about("Deals a match to its seats over TCP")
-        .after_help(AFTER_SERVE_HELP)
-        .arg(match_argument(alloc))
-}
-
-/// MATCH, the same of `play`, `init` and `serve`.
-fn match_argument<'a>(alloc: Global) -> Arg<'a> {
-    Arg::new(alloc, "match")
-        .value_name("MATCH")
-        .required(true)
-        .help("The match file")
-}
-
-/// GAME, the same of `hand` and `check`.
-fn game_argument<'a>(alloc: Global) -> Arg<'a> {
-    Arg::new(alloc, "game")
-        .value_name("GAME")
-        .required(true)
-        .help("The game file, in the ACPC game definition format")
-}
-
 /// What a command line asks for. The `Err` is `WrongWords`: no command is named, or one with a word missing
 /// (which the command line's reader refuses by itself), or the log is asked for of a game whose word can't
 /// stand in a log.
 pub(crate) fn requested<'a>(matches: &ArgMatches<'a>) -> Result<Task<'a>, Ending> {
-    if let Some(matches) = matches.subcommand_matches("hand") {
-        return hand_task(matches);
+    match matches.subcommand() {
+        Some((name, matches)) => named(name, matches),
+        None => Err(Ending::WrongWords(WrongWords::Incomplete)),
     }
-    if let Some(matches) = matches.subcommand_matches("check") {
-        return check_task(matches);
+}
+
+/// What the command of this name is asked for.
+fn named<'a>(name: &str, matches: &ArgMatches<'a>) -> Result<Task<'a>, Ending> {
+    match name {
+        "hand" => hand_task(matches),
+        "check" => check_task(matches),
+        _ => match_task(name, word(matches, "match")?),
     }
-    if let Some(matches) = matches.subcommand_matches("play") {
-        return Ok(Task::Play(word(matches, "match")?));
+}
+
+/// What the command of this name is asked for, of this match file.
+fn match_task<'a>(name: &str, file: &'a str) -> Result<Task<'a>, Ending> {
+    match name {
+        "play" => Ok(Task::Play(file)),
+        "init" => Ok(Task::Init(file)),
+        "serve" => Ok(Task::Serve(file)),
+        _ => Err(Ending::WrongWords(WrongWords::Incomplete)),
     }
-    if let Some(matches) = matches.subcommand_matches("init") {
-        return Ok(Task::Init(word(matches, "match")?));
-    }
-    if let Some(matches) = matches.subcommand_matches("serve") {
-        return Ok(Task::Serve(word(matches, "match")?));
-    }
-    Err(Ending::WrongWords(WrongWords::Incomplete))
 }
 
 /// GAME and LOG of `check`.

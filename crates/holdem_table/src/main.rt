@@ -60,15 +60,20 @@ fn no_words(error: &io::Error) -> Ending {
 /// Runs what the words ask for.
 fn run(rt: &HostRuntime, words: &[String]) -> Conclusion {
     match matches(rt, words) {
-        Ok(matches) => match requested(&matches) {
-            Ok(Task::Hand(arguments)) => Conclusion::Ended(hand(rt, arguments)),
-            Ok(Task::Check(arguments)) => Conclusion::Ended(check(rt, arguments)),
-            Ok(Task::Play(path)) => Conclusion::Ended(play(rt, path)),
-            Ok(Task::Init(path)) => Conclusion::Ended(init(rt, path)),
-            Ok(Task::Serve(path)) => serve(rt, path),
-            Err(ending) => Conclusion::Ended(ending),
-        },
+        Ok(matches) => run_requested(rt, &matches),
         Err(error) => Conclusion::Ended(show(rt, &error)),
+    }
+}
+
+/// Runs what the words in their places ask for.
+fn run_requested(rt: &HostRuntime, matches: &ArgMatches<'_>) -> Conclusion {
+    match requested(matches) {
+        Ok(Task::Hand(arguments)) => Conclusion::Ended(hand(rt, arguments)),
+        Ok(Task::Check(arguments)) => Conclusion::Ended(check(rt, arguments)),
+        Ok(Task::Play(path)) => Conclusion::Ended(play(rt, path)),
+        Ok(Task::Init(path)) => Conclusion::Ended(init(rt, path)),
+        Ok(Task::Serve(path)) => serve(rt, path),
+        Err(ending) => Conclusion::Ended(ending),
     }
 }
 
@@ -109,14 +114,18 @@ fn hand(rt: &HostRuntime, arguments: HandArguments<'_>) -> Ending {
 
 /// Runs `play` over standard input and output.
 fn play(rt: &HostRuntime, path: &str) -> Ending {
-    let file = match read_file(rt, path) {
-        Ok(file) => file,
-        Err(ending) => return ending,
-    };
-    match read_game(rt, &file) {
+    match read_file(rt, path) {
+        Ok(file) => play_file(rt, &file),
+        Err(ending) => ending,
+    }
+}
+
+/// Runs `play` of this match file.
+fn play_file(rt: &HostRuntime, file: &[u8]) -> Ending {
+    match read_game(rt, file) {
         Ok(game) => play_run(
             rt.alloc(),
-            &file,
+            file,
             game.as_deref(),
             &mut rt.reader(),
             &mut io::writer(rt),
@@ -128,11 +137,15 @@ fn play(rt: &HostRuntime, path: &str) -> Ending {
 /// The game file that a match file names; none where it names none, or where that can't be read. The `Err` is
 /// `OutOfMemory`.
 fn read_game(rt: &HostRuntime, file: &[u8]) -> Result<Option<Vec<u8>>, Ending> {
-    let file = match MatchFile::read(rt.alloc(), file) {
-        Ok(file) => file,
-        Err(MatchFault::OutOfMemory) => return Err(Ending::OutOfMemory),
-        Err(_) => return Ok(None),
-    };
+    match MatchFile::read(rt.alloc(), file) {
+        Ok(file) => read_game_of(rt, &file),
+        Err(MatchFault::OutOfMemory) => Err(Ending::OutOfMemory),
+        Err(_) => Ok(None),
+    }
+}
+
+/// The same of a match file that was read.
+fn read_game_of(rt: &HostRuntime, file: &MatchFile) -> Result<Option<Vec<u8>>, Ending> {
     let Ok(name) = file.game() else {
         return Ok(None);
     };
