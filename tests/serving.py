@@ -1,4 +1,5 @@
-"""What tests/serve stands on: a match with its files in a folder of its own, its players, and clients that aren't any."""
+"""What tests/serve and tests/waits stand on: a match with its files in a folder of its own, its players, and clients
+that aren't any."""
 import importlib.machinery
 import importlib.util
 import os
@@ -12,21 +13,28 @@ import sys
 import tempfile
 import threading
 import time
+import traceback
 from pathlib import Path
 
 sys.dont_write_bytecode = True
 TOP = Path(__file__).resolve().parent.parent
 sys.path.insert(0, str(TOP / "examples/bots"))
 
+import player
 from player import dial, play
+from table import Game, turn_of
 
 # The longest wait for anything that has to happen, and how long is waited for what must not, in seconds.
 WAIT, QUIET = 40, 0.4
+# How long a player goes on dialling who never got a line, in seconds.
+FIRST_LINE = 10
 # When all tests have to be done; nothing that has to happen is waited for beyond it.
 END = [None]
 # Where nothing waits for a disk, if there is such a place.
 FAST = "/dev/shm" if os.access("/dev/shm", os.W_OK) else None
-NAMES = ["alice", "bob", "carol"]
+NAMES = ["alice", "bob", "carol", "dave", "erin", "frank", "grace", "heidi", "ivan", "judy"]
+# The players of tests go home soon after a match; those of examples/bots, run by their commands, take their time.
+player.PAUSE, player.ROUNDS = 0.01, 10
 
 
 def loaded(path):
@@ -92,7 +100,7 @@ class Match:
         self.starter = []
         self.game = (TOP / "examples" / game).read_text() if game.endswith(".game") else game
         self.word = game if game.endswith(".game") else "test.game"
-        self.players = 3 if game == "n3.game" else 2
+        self.players = Game(self.game).players
         self.nodes, self.process = len(sources), None
         self.port = free_ports(self.nodes * (self.players + 1))
         (self.folder / self.word).write_text(self.game)
@@ -197,7 +205,9 @@ class Player(threading.Thread):
         self.start()
 
     def run(self):
-        play(self.ports, self.take, self.node)
+        until = time.monotonic() + FIRST_LINE
+        while not self.lines and time.monotonic() < until:
+            play(self.ports, self.take, self.node)
 
     def take(self, line):
         self.lines.append(line)
@@ -273,6 +283,66 @@ class Client:
 
     def close(self):
         self.connection.close()
+
+
+def calls(match):
+    """The answers of a player who calls."""
+    game = Game(match.game)
+    return lambda line: "c" if turn_of(game, line) else None
+
+
+def folds(match):
+    """The answers of a player who folds where he can, and else calls."""
+    game = Game(match.game)
+
+    def answer(line):
+        betting = turn_of(game, line)
+        return None if betting is None else "f" if betting.may_fold() else "c"
+
+    return answer
+
+
+def follow(client, answer):
+    """Answers what a client gets until its connection ends."""
+    line = client.line()
+    while line is not None:
+        if answer(line):
+            client.send(f"{line}:{answer(line)}\r\n")
+        line = client.line()
+
+
+def faults(function):
+    """What a test found, in words; nothing where it passed. Its matches' programs are killed, and their folders go."""
+    try:
+        want(time.monotonic() < END[0], "the tests took too long")
+        function()
+        return None
+    except Wrong as why:
+        return str(why)
+    except Exception:
+        return traceback.format_exc()
+    finally:
+        while Match.made:
+            Match.made.pop().remove()
+
+
+def run_all(name, about, tests, most, words):
+    """Runs the tests of a script that is to take so many seconds at most, and tells what they found. Its words may name
+    another program than the built one."""
+    if words[:1] in (["-h"], ["--help"]):
+        print(about.strip())
+        return 0
+    if words:
+        Match.program = Path(words[0]).resolve()
+    END[0], failed = time.monotonic() + most, 0
+    for function in tests:
+        begun = time.monotonic()
+        found = faults(function)
+        title = function.__name__.replace("_", " ")
+        print(f"{name}: {time.monotonic() - begun:5.1f} s  {title}" + (f": {found}" if found else ""), flush=True)
+        failed += found is not None
+    print(f"{len(tests) - failed} passed, {failed} failed")
+    return 1 if failed else 0
 
 
 socket.setdefaulttimeout(WAIT)

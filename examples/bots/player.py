@@ -1,12 +1,13 @@
-"""A player's way to the dealer, whatever he plays."""
+"""A player's way to the dealer, whatever he plays. docs/BOTS.md says why it goes so."""
 import argparse
 import socket
 import sys
 import time
 from pathlib import Path
 
-# How long the first connection is waited for, and how long after each refusal it is tried again, in seconds.
-PATIENCE, PAUSE = 10, 0.05
+# How long the player pauses after a round in which all nodes turned him away, in seconds, and how many such rounds in a
+# row he takes for the end of the match: some ten seconds where they all refuse him.
+PAUSE, ROUNDS = 0.2, 50
 
 
 def dial(port):
@@ -15,22 +16,12 @@ def dial(port):
         connection = socket.create_connection(("127.0.0.1", port))
     except OSError:
         return None
-    if connection.getsockname() == connection.getpeername():
+    if connection.getsockname()[1] == port:
         # Where nobody listens the system may connect a socket to itself.
         connection.close()
         return None
     connection.setsockopt(socket.IPPROTO_TCP, socket.TCP_NODELAY, 1)
     return connection
-
-
-def dial_at_first(port):
-    """The first connection of a match, which the dealer may be just about to await."""
-    until = time.monotonic() + PATIENCE
-    while True:
-        connection = dial(port)
-        if connection is not None or time.monotonic() > until:
-            return connection
-        time.sleep(PAUSE)
 
 
 def send(connection, line):
@@ -51,32 +42,35 @@ def received(connection):
         pass
 
 
-def sit(connection, answer):
-    """Answers the lines of a node until the connection ends."""
+def sit(port, answer):
+    """Answers the lines that come at a port until the connection ends. It says whether any came: where none did, the
+    node has turned the player away."""
+    connection = dial(port)
+    if connection is None:
+        return False
+    is_heard = False
     with connection:
         send(connection, "VERSION:2.0.0")
         for line in received(connection):
+            is_heard = True
             action = answer(line)
             if action is not None:
                 send(connection, f"{line}:{action}")
+    return is_heard
 
 
 def play(ports, answer, node=0):
-    """Plays a match at a seat whose ports these are, by node: begins at node 0, and after an end or a refusal goes on at
-    the next node, round the table of nodes. Where they all refuse one after the other the match is over, or the dealer
-    isn't running: either way a start of the dealer is answered by a new start of the player.
+    """Plays a match at a seat whose ports these are, by node. Begins at node 0, and goes on at the next node, round the
+    table of nodes, where the connection has ended or the node has turned the player away. Where all nodes do so, round
+    after round, the match is over, or the dealer isn't running.
 
     `answer` gives an action for a line, or none; it is asked again for a line that comes again."""
-    refusals = 0
-    connection = dial_at_first(ports[node])
-    while refusals < len(ports):
-        if connection is None:
-            refusals += 1
-        else:
-            refusals = 0
-            sit(connection, answer)
+    turned_away = 0
+    while turned_away < ROUNDS * len(ports):
+        if turned_away and turned_away % len(ports) == 0:
+            time.sleep(PAUSE)
+        turned_away = 0 if sit(ports[node], answer) else turned_away + 1
         node = (node + 1) % len(ports)
-        connection = dial(ports[node])
 
 
 def arguments(about, *more):

@@ -1,5 +1,5 @@
 //! Tests of the commands `hand`, `check`, `play` and `serve`, over readers and writers of these tests (`test_streams`), links
-//! in memory of `match_links` and disks in memory of `promise_store`.
+//! in memory of `match_links`, which may be slow (`slow_links`), and disks in memory of `promise_store`.
 //!
 //! They go through the public calls of `streamed` and `match_runs` alone. A crate that has tests is proved once by itself
 //! and once with them; this one has nothing but tests, so they are proved once, beside the program and not before it.
@@ -13,5 +13,7 @@ mod hand_tests;
 mod play_tests;
 #[cfg(test)]
 mod serve_tests;
+#[cfg(test)]
+mod slow_links;
 #[cfg(test)]
 mod test_streams;

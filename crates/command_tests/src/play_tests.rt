@@ -178,20 +178,30 @@ fn is_taken(rt: &impl Abort, taken: &[u8], most: usize) {
     holds(rt, most as u64, STOPPED_ANSWERS.starts_with(taken));
 }
 
-/// Plays a script whose writer fails once it has taken so many bytes.
-fn stops_at(rt: &impl Abort, alloc: Global, most: usize) -> Result<(), AllocError> {
+/// Plays a script whose writer fails once it has taken so many bytes: whether it did. Where it didn't, all was done.
+fn stops_at(rt: &impl Abort, alloc: Global, most: usize) -> Result<bool, AllocError> {
     let mut writer = Writing::new(alloc, Takes::Until(most, ErrorKind::BrokenPipe));
     let ending = ran(alloc, MATCH, &mut &*STOPPED, &mut writer);
     is_taken(rt, &writer.taken, most);
-    ends(rt, alloc, ending, "107 StreamFailed")
+    if writer.has_failed {
+        ends(rt, alloc, ending, "107 StreamFailed")?;
+    } else {
+        is_written(rt, &writer.taken, STOPPED_ANSWERS);
+        ends(rt, alloc, ending, "")?;
+    }
+    Ok(writer.has_failed)
 }
 
+/// The writer fails behind each byte in turn, up to the last: then all of it is written.
 #[test]
 fn keeps_what_nodes_answered_before_the_writer_fails(rt: HostRuntime) -> Result<(), Fail> {
-    for most in 0..HEADERS.len() + 40 {
-        stops_at(&rt, rt.alloc(), most)?;
+    for most in 0..10_000usize {
+        if !stops_at(&rt, rt.alloc(), most)? {
+            assert!(rt; most > HEADERS.len());
+            return Ok(());
+        }
     }
-    Ok(())
+    panic!(rt; "answers without end")
 }
 
 /// Plays a script that comes byte by byte, with four reads at most: the headers are to be written.

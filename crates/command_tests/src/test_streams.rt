@@ -124,6 +124,8 @@ pub(crate) struct Writing {
     takes: Takes,
     /// Whether the write before was interrupted.
     interrupted: bool,
+    /// Whether a write failed for good.
+    pub(crate) has_failed: bool,
 }
 
 impl Writing {
@@ -132,6 +134,7 @@ impl Writing {
             taken: Vec::new(alloc),
             takes,
             interrupted: false,
+            has_failed: false,
         }
     }
 
@@ -142,7 +145,10 @@ impl Writing {
                 self.interrupted = !self.interrupted;
                 self.interrupted.then_some(ErrorKind::Interrupted)
             }
-            Takes::Until(most, kind) => (self.taken.len() >= most).then_some(kind),
+            Takes::Until(most, kind) => {
+                self.has_failed = self.taken.len() >= most;
+                self.has_failed.then_some(kind)
+            }
             Takes::All | Takes::Flushes(_) => None,
         }
     }

@@ -7,7 +7,7 @@ use Rattle.paxos_wire.specs.Faults.{reading}
 use Rattle.paxos_wire.proofs.FrameLaws.{frame_again}
 use Rattle.promise_store.specs.declared.disk.Disk.{Ghosts}
 use Rattle.promise_store.specs.declared.fault.StoreFault.TheVariants.{Disk}
-use Rattle.promise_store.specs.Disks.{Within, Elapses, Rose}
+use Rattle.promise_store.specs.Disks.{Within, Elapses, Rose, Picks}
 use Rattle.promise_store.specs.Keeping.{Leaves, LeavesDuring}
 use Rattle.protocol_model.specs.Sets.{In}
 use Rattle.protocol_model.specs.Stores.{Store, empty_store}
@@ -30,8 +30,8 @@ use Rattle.dealer_node.specs.Nodes.{Node}
 use Rattle.dealer_node.specs.NodeInside.{node_of, IsKept}
 use Rattle.dealer_node.specs.Running.{IsAt}
 use Rattle.dealer_node.specs.Scenes.{IsTableOf}
-use Rattle.dealer_node.specs.Seeing.{is_up, runs, disk_by, downed, IsSeenBy, IsSeen, begun_by, begun_of, count_by, failures_of}
-use Rattle.dealer_node.specs.Taking.{refusal_fault, MayBegin, MayFail, Takes}
+use Rattle.dealer_node.specs.Seeing.{is_up, runs, disk_by, disk_in, downed, IsSeenBy, IsSeen, begun_by, begun_of, seen_by, picked_by, count_by, failures_of}
+use Rattle.dealer_node.specs.Taking.{refusal_fault, MayBegin, MayFail, Takes, StopsBy}
 use Rattle.dealer_node.proofs.Worked.{nothing_more}
 
 pub read_back : (frames : List Frame) → AreMessages frames → (one : Frame) → In one frames → reading (frame one.message) ≡ Ok one.message
@@ -320,6 +320,16 @@ module _ {D : Type 0} (g : Ghosts D) where
       let same : noted i.post i.blank (Some left) None ≡ noted old.post old.blank (Some left) None = ap (λ (n : Node D). noted n.post n.blank (Some left) None) view in
       let found : disk_by old.up old.disk ≡ Some disk = sym (ap (λ (n : Node D). n.disk) view) ∙ has in
       subst N (sym (next ∙ same)) (stop_by old.post old.blank old.disk old.up disk left s told leaves fewer time found seen)
+
+  -- and its disk has what was picked of it
+  pub picked_at : (old : Node D) (i j : Inside D) (disk left : D) (pick : ℕ)
+      → node_of i ≡ downed old → i.disk ≡ Some disk → node_of j ≡ noted i.post i.blank (Some left) None
+      → Picks (g.picked disk pick) (g.seen disk) (g.seen left) (g.count disk) (g.count left) → StopsBy g pick old (node_of j)
+  picked_at old i j disk left pick view has next picks =
+      let found : disk_in old ≡ Some disk = sym (ap (λ (n : Node D). n.disk) view) ∙ has in
+      let O : Option D → Type 0 = λ d. Picks (picked_by g d pick) (seen_by g d) (g.seen left) (count_by g d) (g.count left) in
+      let N : Node D → Type 0 = λ n. StopsBy g pick old n in
+      subst N (sym next) (subst O (sym found) picks)
 
   pub no_disk : (i : Inside D) → IsKept i → i.up ≡ None → i.disk ≡ None → ⊥
   no_disk i kept up none =

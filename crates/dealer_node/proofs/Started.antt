@@ -1,6 +1,6 @@
 -- What a start makes of a node.
-use Rattle.std.proofs.Common.{◌≡◌, ℕ, inl, inr, Bool, true, false, List, [], ◌∷◌, Result, Ok, Err, refl, sym, ap, subst, ◌∙◌}
-use Rattle.std.specs.Prelude.{◌⊎◌, Option, Some, None, is_some}
+use Rattle.std.proofs.Common.{◌≡◌, ℕ, inl, inr, Bool, true, false, List, [], ◌∷◌, Result, Ok, Err, refl, sym, ap, subst, ◌∙◌, arith}
+use Rattle.std.specs.Prelude.{◌⊎◌, Option, Some, None, is_some, IsSome}
 use Rattle.promise_store.specs.declared.disk.Disk.{Ghosts}
 use Rattle.promise_store.specs.declared.fault.StoreFault.{StoreFault}
 use Rattle.promise_store.specs.declared.fault.StoreFault.TheVariants.{Disk}
@@ -27,13 +27,14 @@ use Rattle.dealer_node.specs.Posts.{Post, place_at}
 use Rattle.dealer_node.specs.Turned.{told_of}
 use Rattle.dealer_node.specs.Fitting.{AreMessages}
 use Rattle.dealer_node.specs.Running.{IsRunning}
-use Rattle.dealer_node.specs.Working.{head_of}
-use Rattle.dealer_node.specs.Starting.{Starts, StaysDown}
+use Rattle.dealer_node.specs.Working.{head_of, disk_under}
+use Rattle.dealer_node.specs.Starting.{Starts, StaysDown, Finds}
 use Rattle.dealer_node.specs.declared.node.Node.TheInside.{Inside}
 use Rattle.dealer_node.specs.Nodes.{Node}
-use Rattle.dealer_node.specs.NodeInside.{node_of}
-use Rattle.dealer_node.specs.Seeing.{post_in, bytes_of, IsSeen}
-use Rattle.dealer_node.specs.Taking.{IsStart, Takes}
+use Rattle.dealer_node.specs.NodeInside.{node_of, IsKept}
+use Rattle.dealer_node.specs.Scenes.{IsTableOf}
+use Rattle.dealer_node.specs.Seeing.{post_in, disk_by, disk_in, bytes_of, IsSeen}
+use Rattle.dealer_node.specs.Taking.{IsStart, Takes, FindsStore, OnlyReadsDisk}
 use Rattle.dealer_node.proofs.Messages.{no_messages}
 use Rattle.dealer_node.proofs.Worked.{memory_took, nothing_more}
 use Rattle.dealer_node.proofs.Settled.{noted, read_back, turn_down, may_down, down_by, up_took, seen_at}
@@ -235,6 +236,41 @@ module _ {D : Type 0} (g : Ghosts D) where
       let U : Option (Up D) → Type 0 = λ u. (found : Store) × Takes g (Start found) s now (noted g i.post i.blank (Some left) u) earlier earlier (Err why) in
       let T : Told → Type 0 = λ t. (found : Store) × Takes g (Start found) s now (noted g i.post i.blank (Some left) i.up) earlier t (Err why) in
       subst T (sym same) (subst U (sym (no_up i.up down)) (subst P (down_now now i disk view down has) (down_unstarted i.post i.blank disk left s earlier why (seen_down now i disk s view down has seen) stays)))
+
+  -- ---- its disk
+
+  same_reads : (disk : D) → OnlyReads g disk disk
+  same_reads disk = record { seen = refl; begun = refl; images = λ image at. at; during = λ t image was. inl was; counts = omega arith }
+
+  there_reads : (now : Node D) (disk : Option D) → disk_in now ≡ disk → IsSome disk → OnlyReadsDisk g now now
+  there_reads now None is there = absurd (cc)
+  there_reads now (Some disk) is there = record { before = disk; after = disk; was = is; is = is; reads = same_reads disk }
+
+  -- a node that stayed as it is has its disk as it was
+  pub stays_reads : (now : Node D) (i : Inside D) → node_of i ≡ now → IsKept i → OnlyReadsDisk g now now
+  stays_reads now i view kept = there_reads now (disk_by i.up i.disk) (ap disk_in (sym view)) kept.has_disk
+
+  pub started_reads : (now : Node D) (i : Inside D) (disk : D) (other : Option D) (up : Up D) → node_of i ≡ now → is_some i.up ≡ false → i.disk ≡ Some disk → OnlyReads g disk (disk_under up)
+      → OnlyReadsDisk g now (noted g i.post i.blank other (Some up))
+  started_reads now i disk other up view down has reads =
+      record { before = disk; after = disk_under up; was = ap disk_in (sym (down_now now i disk view down has)); is = refl; reads = reads }
+
+  pub unstarted_reads : (now : Node D) (i : Inside D) (disk left : D) → node_of i ≡ now → is_some i.up ≡ false → i.disk ≡ Some disk → OnlyReads g disk left
+      → OnlyReadsDisk g now (noted g i.post i.blank (Some left) i.up)
+  unstarted_reads now i disk left view down has reads = record {
+    before = disk;
+    after = left;
+    was = ap disk_in (sym (down_now now i disk view down has));
+    is = ap (λ (u : Option (Up D)). disk_by u (Some left)) (no_up i.up down);
+    reads = reads;
+  }
+
+  -- what the store was found to be is what the bytes of the node's disk stand for
+  pub started_finds : (now : Node D) (i : Inside D) (disk : D) (other : Option D) (up : Up D) → node_of i ≡ now → is_some i.up ≡ false → i.disk ≡ Some disk
+      → IsTableOf i.post.setting [] i.blank → Finds g i.post disk up → FindsStore g now (noted g i.post i.blank other (Some up))
+  started_finds now i disk other up view down has blank finds =
+      let P : Node D → Type 0 = λ n. FindsStore g n (noted g i.post i.blank other (Some up)) in
+      subst P (down_now now i disk view down has) (record { held = finds.held; stands = finds.stands; seen = record { by = finds.now; blank = blank } })
 
   -- what was made behind nothing stands behind what was there
   pub starts_behind : (post : Post) (store begun : Store) (disk : D) (up : Up D) (earlier later out behind : Told) → earlier ≡ nothing_told → behind ≡ both_told out later

@@ -75,6 +75,14 @@ module _ {D : Type 0} (g : Ghosts D) where
   abbrev pub bytes_of : Node D → List ℕ
   bytes_of node = seen_by (disk_in node)
 
+  -- what a stop leaves by its pick
+  abbrev pub picked_by : Option D → ℕ → List ℕ
+  picked_by None pick = []
+  picked_by (Some disk) pick = g.picked disk pick
+
+  abbrev pub picked_of : Node D → ℕ → List ℕ
+  picked_of node = picked_by (disk_in node)
+
   -- how many of its calls have failed
   abbrev pub count_by : Option D → ℕ
   count_by None = 0

@@ -1,7 +1,8 @@
 -- What a start makes of a node that is down.
-use Rattle.std.specs.Prelude.{◌≡◌, ◌⊎◌, ◌≤◌}
+use Rattle.std.specs.Prelude.{◌≡◌, ◌⊎◌}
 use Rattle.promise_store.specs.declared.disk.Disk.{Ghosts}
 use Rattle.promise_store.specs.declared.fault.StoreFault.TheVariants.{Disk}
+use Rattle.promise_store.specs.Holding.{StandsFor}
 use Rattle.promise_store.specs.Keeping.{Leaves, LeavesDuring}
 use Rattle.protocol_model.specs.Stores.{Store}
 use Rattle.node_rules.specs.Standings.{started}
@@ -31,7 +32,8 @@ module _ {D : Type 0} (g : Ghosts D) where
     pub moments : LeavesDuring g (head_of post) store begun before after
     pub fault : (why ≡ fault.OutOfMemory) ⊎ (why ≡ fault.Store Disk)
 
-  -- what holds of a disk that was opened, whatever it is
-  pub record GoesOver (before after : D) : Type 0 where
-    pub begun_same : g.begun after ≡ g.begun before
-    pub counts : g.count before ≤ g.count after
+  -- it runs with the store that the bytes of its disk stood for
+  pub record Finds (post : Post) (disk : D) (up : Up D) : Type 0 where
+    pub held : Store
+    pub stands : StandsFor (head_of post) (g.seen disk) held
+    pub now : IsUp g post up (started (place_at post) held)

@@ -1,16 +1,17 @@
 -- What a call makes of a node, however it ends.
-use Rattle.std.specs.Prelude.{◌≡◌, ◌≢◌, ◌⊎◌, ◌≤◌, Bool, true, false, List, [], map, Result, Ok, Err, IsErr}
+use Rattle.std.specs.Prelude.{◌≡◌, ◌≢◌, ◌⊎◌, ℕ, ◌≤◌, Bool, true, false, List, [], map, Some, Result, Ok, Err, IsErr}
 use Rattle.promise_store.specs.declared.disk.Disk.{Ghosts}
 use Rattle.promise_store.specs.declared.fault.StoreFault.{StoreFault}
 use Rattle.promise_store.specs.declared.fault.StoreFault.TheVariants.{Disk, OutOfMemory}
-use Rattle.promise_store.specs.Disks.{During, Rose}
+use Rattle.promise_store.specs.Disks.{During, Rose, Picks}
 use Rattle.promise_store.specs.Holding.{StandsFor}
+use Rattle.promise_store.specs.Settled.{OnlyReads}
 use Rattle.acceptor.specs.Taken.{IsFault}
 use Rattle.paxos_wire.specs.Spelling.{frame}
 use Rattle.paxos_wire.specs.Faults.{reading}
 use Rattle.protocol_model.specs.Sets.{In}
 use Rattle.protocol_model.specs.Stores.{Store}
-use Rattle.node_rules.specs.Standings.{Place, Standing}
+use Rattle.node_rules.specs.Standings.{Place, Standing, started}
 use Rattle.node_rules.specs.Sending.{Frame}
 use Rattle.node_rules.specs.Showing.{Piece, SeatFault}
 use Rattle.node_rules.specs.Turns.{Turn, Refusal, Down, Spent, BadFrame, Conflict}
@@ -26,7 +27,7 @@ use Rattle.dealer_node.specs.Posts.{place_at}
 use Rattle.dealer_node.specs.Turned.{posted, printed, fault_of}
 use Rattle.dealer_node.specs.Working.{IsDone, AreStill}
 use Rattle.dealer_node.specs.Handling.{HasNoEffect}
-use Rattle.dealer_node.specs.Seeing.{head_of, post_in, runs, disk_in, IsSeen, begun_of, failures_of, since_of}
+use Rattle.dealer_node.specs.Seeing.{head_of, post_in, runs, disk_in, IsSeen, begun_of, bytes_of, picked_of, failures_of, since_of}
 
 -- ---- what it answers
 
@@ -139,3 +140,23 @@ module _ {D : Type 0} (g : Ghosts D) where
     pub rose : answer ≡ Err (fault.Store Disk) → Rose (failures_of g old) (failures_of g new)
     -- by a fault nothing is sent, shown or told
     pub unmade : IsErr answer → later ≡ earlier
+
+  -- ---- the disk at a start and at a stop
+
+  -- the node runs, with the store that its disk's bytes stand for
+  pub record FindsStore (old new : Node D) : Type 0 where
+    pub held : Store
+    pub stands : StandsFor (head_of (post_in old)) (bytes_of g old) held
+    pub seen : IsSeen g new (started (place_at (post_in old)) held)
+
+  -- the node has its disk, which was only read or synced meanwhile
+  pub record OnlyReadsDisk (old new : Node D) : Type 0 where
+    pub before : D
+    pub after : D
+    pub was : disk_in old ≡ Some before
+    pub is : disk_in new ≡ Some after
+    pub reads : OnlyReads g before after
+
+  -- the disk was stopped, and has what was picked; or a call of it failed, and a read gives what it gave before
+  abbrev pub StopsBy : ℕ → Node D → Node D → Type 0
+  StopsBy pick old new = Picks (picked_of g old pick) (bytes_of g old) (bytes_of g new) (failures_of g old) (failures_of g new)

@@ -1,4 +1,4 @@
-ghost use Rattle.std.specs.Prelude.{◌≡◌, ℕ, ◌<◌, ◌≤◌, true, false, List, [], Option, IsTrue, IsErr, Ok, Err, IfOk, IfErr, IfSome, OnOk, length};
+ghost use Rattle.std.specs.Prelude.{◌≡◌, ℕ, ◌<◌, ◌≤◌, true, false, List, [], Option, IsTrue, IsErr, Ok, Err, IfOk, IfErr, IfSome, OnOk, length, option_map};
 ghost use Rattle.protocol_model.specs.Stores.{Store as Kept, empty_store};
 ghost use Rattle.node_rules.specs.Standings.{Standing, applied, front_of, place_of, stopped};
 ghost use Rattle.node_rules.specs.Showing.{is_connected as is_talk_ready};
@@ -79,7 +79,7 @@ impl<D: Disk + Drop> Node<D> {
     ghost use Rattle.dealer_node.specs.Seeing.{post_in, runs, disk_in, IsSeen, begun_of, bytes_of, failures_of, images_of, since_of, downed, settled};
     ghost use Rattle.promise_store.specs.Refusals.{Refuses};
     ghost use Rattle.dealer_node.specs.Working.{head_of};
-    ghost use Rattle.dealer_node.specs.Taking.{Takes, StaysItself, AnswersRightly, LeavesDisk, IsOfStart};
+    ghost use Rattle.dealer_node.specs.Taking.{Takes, StaysItself, AnswersRightly, LeavesDisk, IsOfStart, FindsStore, OnlyReadsDisk, StopsBy};
 
     /// The node of this number, counted from 0, of a match, over this disk. It is down. An `Err` comes only where
     /// memory was refused.
@@ -133,10 +133,13 @@ impl<D: Disk + Drop> Node<D> {
     /// Starts the node: it opens its store, begins a log with its header, and asks the others for what was chosen where
     /// its store has a promise. A node that runs stays as it is.
     ///
-    /// Refused are 91 where the store can't be opened, and 92; then the node stays down.
+    /// Whatever it answers, its disk was only synced and read. Refused are 91 where the store can't be opened, and 92;
+    /// then the node stays down.
     pub fn start(&mut self, out: &mut Out) -> Result<(), NodeFault>
         ensures taken { (s : Standing) → IsTrue D.is_honest → IsSeen D.Disk self.old s
             → (found : Kept) × Takes D.Disk (Start found) s self.old self.new out.old out.new result }
+        ensures found { IsTrue D.is_honest → runs self.old ≡ false → OnOk result (FindsStore D.Disk self.old self.new) }
+        ensures reads { OnlyReadsDisk D.Disk self.old self.new }
         ensures stays { StaysItself D.Disk self.old self.new out.old out.new result }
         ensures running { runs self.old ≡ true → (self.new ≡ self.old) × (out.new ≡ out.old) × (result ≡ Ok tt) }
         ensures down { IsErr result → runs self.new ≡ false }
@@ -271,7 +274,7 @@ impl<D: Disk + Drop> Node<D> {
         ensures stays { StaysItself D.Disk self.old self.new nothing_told nothing_told (Ok tt) }
         ensures down { runs self.new ≡ false }
         ensures disk { IsTrue D.is_honest → images_of D.Disk self.old (bytes_of D.Disk self.new) }
-        ensures failures { failures_of D.Disk self.new ≡ failures_of D.Disk self.old }
+        ensures picked { IsTrue D.is_honest → StopsBy D.Disk pick self.old self.new }
     {
         what_is_kept_is_left::<D>();
         self.go_down();
@@ -341,6 +344,17 @@ impl<D: Disk + Drop> Node<D> {
             (Some(up), _) => up.acceptor.store().failures(),
             (None, Some(disk)) => disk.failures(),
             (None, None) => 0,
+        }
+    }
+
+    /// The node's disk. Each node has one.
+    pub fn disk(&self) -> Option<&D>
+        ensures { option_map (λ disk. disk.now) result ≡ disk_in self.now }
+    {
+        match (&self.up, &self.disk) {
+            (Some(up), _) => Some(up.acceptor.store().disk()),
+            (None, Some(disk)) => Some(disk),
+            (None, None) => None,
         }
     }
 

@@ -1,7 +1,9 @@
 -- A run of the rules is behind a cluster whose nodes haven't been started yet.
-use Rattle.std.proofs.Common.{◌≡◌, ℕ, suc, ◌+◌, true, false, List, [], ◌∷◌, map, length, get_or, refl, ap, sym, ◌∙◌, subst, arith}
+use Rattle.std.proofs.Common.{◌≡◌, ℕ, suc, ◌+◌, ◌<◌, inl, true, false, List, [], ◌∷◌, map, length, get_or, refl, ap, sym, ◌∙◌, subst, arith}
 use Rattle.std.proofs.Math.Logic.{∥∥₁_map}
 use Rattle.promise_store.specs.declared.disk.Disk.{Ghosts}
+use Rattle.promise_store.specs.Journals.{header}
+use Rattle.promise_store.specs.Holding.{StandsFor}
 use Rattle.protocol_model.specs.Stores.{Store, empty_store}
 use Rattle.dealer_kind.specs.Plans.{Plan, IsPlan}
 use Rattle.node_rules.specs.Standings.{Standing, place_of, stopped}
@@ -11,8 +13,8 @@ use Rattle.dealer_world.specs.Records.{no_record}
 use Rattle.dealer_world.specs.Headline.{Era}
 use Rattle.dealer_world.specs.Behind.{EachNode}
 use Rattle.dealer_world.specs.RuleRuns.{State, IsCreated, AreReopened, RunsTo, fresh, opened}
-use Rattle.dealer_world.specs.Ruling.{ArePosted, AreSeen, AreLeft, IsBehind}
-use Rattle.dealer_world.specs.Beginning.{IsCreatedAt, IsReopenedAt, AreEach}
+use Rattle.dealer_world.specs.Ruling.{ArePosted, AreSeen, AreRuled, AreLeft, Leaves, IsBehind, new_stores, a_run}
+use Rattle.dealer_world.specs.Beginning.{IsCreatedAt, IsReopenedAt, HaveStores, AreEach}
 
 -- ---- of a new match
 
@@ -81,8 +83,38 @@ module _ {D : Type 0} (g : Ghosts D) where
   pub reopened_posted : (plan : Plan) (nodes : List (Node D)) → AreEach (IsReopenedAt g plan) nodes → ∥ ArePosted plan nodes ∥₁
   reopened_posted plan nodes each = ∣ (λ i d less. (each i d less).placed) ∣₁
 
-  pub reopened_behind : (plan : Plan) (nodes : List (Node D)) → IsPlan plan → AreEach (IsReopenedAt g plan) nodes → IsBehind g true plan nodes no_record
-  reopened_behind plan nodes is_plan each before goes honest = ∥∥₁_map goes (λ left.
+  -- over files of new stores
+  created_files_seen : (plan : Plan) (k : ℕ) (nodes : List (Node D)) → AreEach (λ i. IsReopenedAt g plan (k + i)) nodes
+      → ((i : ℕ) → i < length (map (begun_of g) nodes) → StandsFor (header (k + i) (length plan.sources)) (get_or (map (begun_of g) nodes) i []) empty_store) → AreSeen g nodes (created plan k nodes)
+  created_files_seen plan k [] each have = tt
+  created_files_seen plan k (node ∷ nodes) each have =
+      let e : k + 0 ≡ k = omega arith in
+      let stands : StandsFor (header k (length plan.sources)) (begun_of g node) empty_store =
+      subst (λ j. StandsFor (header j (length plan.sources)) (begun_of g node) empty_store) e (have 0 (omega arith)) in (
+        (first_of (IsReopenedAt g plan) k node nodes each).seen empty_store empty_store (inl stands),
+        created_files_seen plan (k + 1) nodes (rest_of (IsReopenedAt g plan) k node nodes each) (λ i less.
+            let f : k + suc i ≡ (k + 1) + i = omega arith in
+            subst (λ j. StandsFor (header j (length plan.sources)) (get_or (map (begun_of g) nodes) i []) empty_store) f (have (suc i) (omega arith))),
+      )
+
+  -- they go on from no era, as those of a new match
+  created_files_ruled : (plan : Plan) (nodes : List (Node D)) → IsPlan plan → length nodes ≡ length plan.sources → AreEach (IsReopenedAt g plan) nodes
+      → HaveStores (length plan.sources) (map (begun_of g) nodes) (λ i. empty_store) → AreRuled g plan [] nodes no_record
+  created_files_ruled plan nodes is_plan count each have =
+      let files = map (begun_of g) nodes in
+      let state : State = record { standings = created plan 0 nodes; now = no_record } in
+      record {
+        standings = created plan 0 nodes;
+        seen = created_files_seen plan 0 nodes (from_0 g (IsReopenedAt g plan) nodes each) (λ i less.
+            let e : i ≡ 0 + i = omega arith in subst (λ j. StandsFor (header j (length plan.sources)) (get_or files i []) empty_store) e (have i less));
+        runs = fresh plan.sources state is_plan refl (record { count = created_count plan 0 nodes ∙ count; each = created_each plan 0 nodes; empty = refl });
+      }
+
+  by_left : (plan : Plan) (nodes : List (Node D)) (before : List Era) → IsPlan plan → length nodes ≡ length plan.sources → AreEach (IsReopenedAt g plan) nodes
+      → Leaves plan.setting (length plan.sources) before (map (begun_of g) nodes) → AreRuled g plan before nodes no_record
+  by_left plan nodes before is_plan count each (new_stores none files_are have) =
+      subst (λ (eras : List Era). AreRuled g plan eras nodes no_record) (sym none) (created_files_ruled plan nodes is_plan count each have)
+  by_left plan nodes before is_plan count each (a_run left) =
       let standings = reopened plan left.begun 0 left.old.standings in
       let state : State = record { standings = standings; now = no_record } in
       record {
@@ -91,4 +123,7 @@ module _ {D : Type 0} (g : Ghosts D) where
         runs = subst (λ (eras : List Era). RunsTo plan.setting (length plan.sources) eras plan.sources state) (sym left.are)
             (opened left.before left.sources left.old left.latest left.begun plan.sources state left.runs left.ends left.same left.unforged is_plan refl
             (are_reopened plan left.begun 0 left.old.standings) refl);
-      })
+      }
+
+  pub reopened_behind : (plan : Plan) (nodes : List (Node D)) → IsPlan plan → length nodes ≡ length plan.sources → AreEach (IsReopenedAt g plan) nodes → IsBehind g true plan nodes no_record
+  reopened_behind plan nodes is_plan count each before goes honest = ∥∥₁_map goes (λ left. by_left plan nodes before is_plan count each left)

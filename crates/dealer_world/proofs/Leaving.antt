@@ -14,10 +14,10 @@ use Rattle.dealer_node.specs.Seeing.{post_in, IsSeen, begun_of, images_of, head_
 use Rattle.dealer_world.specs.Headline.{Era}
 use Rattle.dealer_world.specs.Behind.{EachNode}
 use Rattle.dealer_world.specs.RuleRuns.{at_rest}
-use Rattle.dealer_world.specs.Ruling.{ArePosted, AreSeen, AreRuled, AreLeft, Leaves, GoesOn, IsBehind}
+use Rattle.dealer_world.specs.Ruling.{ArePosted, AreSeen, AreRuled, AreLeft, Leaves, new_stores, a_run, GoesOn, IsBehind}
 use Rattle.dealer_world.specs.Stepping.{View}
 use Rattle.dealer_world.specs.Promise.{era_of, HasNoForged, GoesOnFrom}
-use Rattle.dealer_world.specs.Beginning.{AreImages}
+use Rattle.dealer_world.specs.Beginning.{AreImages, HaveStores}
 use Rattle.dealer_world.proofs.Keeping.{each_from}
 use Rattle.dealer_world.proofs.Ruled.{same_count, seen_at}
 
@@ -73,7 +73,7 @@ module _ {D : Type 0} (g : Ghosts D) where
       let standings = ruled.standings in
       let begun = begun_by standings d in
       let size = same_count g view.nodes standings ruled.seen in
-      record {
+      a_run (record {
         before = eras;
         latest = era_of view;
         are = refl;
@@ -87,7 +87,7 @@ module _ {D : Type 0} (g : Ghosts D) where
         held = left_from (length view.config.sources) begun d 0 files standings (count ∙ size)
             (λ i less. let e : i ≡ 0 + i = omega arith in
             subst (λ j. IsLeftBy (length view.config.sources) j (get_or standings i d).store (begun j) (get_or files i [])) e (each i (subst (λ n. i < n) (sym size) less)));
-      }
+      })
 
   left_at_rest : (view : View (Node D)) (eras : List Era) (files : List (List ℕ)) → ImagesAreSeen → ArePosted view.config view.nodes → AreImages g view.nodes files → HasNoForged view
       → AreRuled g view.config eras view.nodes view.all → Leaves view.config.setting (length view.config.sources) (era_of view ∷ eras) files
@@ -101,6 +101,14 @@ module _ {D : Type 0} (g : Ghosts D) where
       by_nodes [] is i less = let size : length view.nodes ≡ 0 = ap length (sym is) in absurd (omega (arith, size, less))
       by_nodes (node ∷ nodes) is i less =
           all_left view.config view.nodes ruled.standings files node (stopped (place_of view.config 0) empty_store empty_store) i law posted ruled.seen less (images.each i node less)
+
+  -- over new stores a cluster goes on from no era
+  pub goes_on_fresh : (now : View (Node D)) (files : List (List ℕ)) (plan : Plan) → now.opened ≡ true → now.config ≡ plan → map (begun_of g) now.nodes ≡ files → length files ≡ length plan.sources
+      → HaveStores (length plan.sources) files (λ i. empty_store) → GoesOnFrom g now []
+  goes_on_fresh now files plan opened config begun count have =
+      subst (λ b. GoesOn b now.config.setting (length now.config.sources) [] (map (begun_of g) now.nodes)) (sym opened)
+      (subst (λ (fs : List (List ℕ)). ∥ Leaves now.config.setting (length now.config.sources) [] fs ∥₁) (sym begun)
+      (subst (λ (p : Plan). ∥ Leaves p.setting (length p.sources) [] files ∥₁) (sym config) ∣ (new_stores refl count have) ∣₁))
 
   -- a cluster of the same match goes on from what this one leaves
   pub goes_on : (view now : View (Node D)) (eras : List Era) → ImagesAreSeen → ∥ ArePosted view.config view.nodes ∥₁ → IsBehind g view.opened view.config view.nodes view.all

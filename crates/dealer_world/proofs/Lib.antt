@@ -22,6 +22,8 @@ mod Ruled
 mod Giving
 mod Advancing
 mod Answering
+mod Reached
+mod Opened
 mod CalmCluster
 mod Founding
 mod Wanting
@@ -29,4 +31,7 @@ mod Started
 mod Leaving
 mod Stopping
 mod Promising
+pub mod Forging
 pub mod Examples
+mod ListExamples
+mod LeftExamples

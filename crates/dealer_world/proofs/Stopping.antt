@@ -24,7 +24,7 @@ use Rattle.dealer_world.specs.Calls.{nothing_made}
 use Rattle.dealer_world.specs.Views.{grown}
 use Rattle.dealer_world.specs.RuleRuns.{in_a_call}
 use Rattle.dealer_world.specs.Events.{node_of, call_of}
-use Rattle.dealer_world.specs.Ruling.{ArePosted, AreRuled, Leaves, GoesOn, IsBehind}
+use Rattle.dealer_world.specs.Ruling.{ArePosted, AreRuled, Leaves, a_run, GoesOn, IsBehind}
 use Rattle.dealer_world.specs.Stepping.{View, Stepped}
 use Rattle.dealer_world.specs.Promise.{IsForMatch, era_of, with_brought, HasNoForged, GoesOnFrom}
 use Rattle.dealer_world.specs.Beginning.{AreImagesDuring}
@@ -73,7 +73,7 @@ module _ {D : Type 0} (g : Ghosts D) where
       let begun = begun_with standings d i next in
       let size = same_count g view.nodes standings ruled.seen in
       let less : i < length standings = subst (λ m. i < m) size (node_in view.config view.nodes e nodes_are is_for) in
-      record {
+      a_run (record {
         before = eras;
         latest = era_of (with_brought view e);
         are = refl;
@@ -96,7 +96,7 @@ module _ {D : Type 0} (g : Ghosts D) where
               | inr ne ↦ subst (λ (store : Store). IsLeftBy n j (get_or standings j d).store store (get_or files j [])) (sym (with_other standings d i next j ne))
                   (others j (subst (λ m. j < m) (sym size) within) ne)
             ]));
-      }
+      })
 
   -- inside a call: its record is that before the call, or that with what the call brought
   left_inside : (view after : View (Node D)) (e : Event) (answer : Result (Unit {0}) NodeFault) (eras : List Era) (files : List (List ℕ)) → ImagesAreSeen g → MomentsPass → ArePosted view.config view.nodes

@@ -1,8 +1,11 @@
 -- How the nodes of a cluster begin.
-use Rattle.std.specs.Prelude.{◌≡◌, ◌≢◌, ℕ, zero, suc, ◌⊎◌, ◌<◌, false, List, [], ◌∷◌, ◌++◌, map, length, Ok}
+use Rattle.std.specs.Prelude.{◌≡◌, ◌≢◌, ℕ, zero, suc, ◌⊎◌, ◌<◌, ◌≤◌, false, List, [], ◌∷◌, ◌++◌, map, length, Ok}
 use Rattle.std.proofs.Common.{get_or}
 use Rattle.promise_store.specs.declared.disk.Disk.{Ghosts}
-use Rattle.promise_store.specs.declared.fault.StoreFault.TheVariants.{Disk}
+use Rattle.promise_store.specs.declared.fault.StoreFault.{StoreFault}
+use Rattle.promise_store.specs.declared.fault.StoreFault.TheVariants.{Disk, NoStore, BadHeader, BadRecord}
+use Rattle.promise_store.specs.Disks.{Within, During}
+use Rattle.promise_store.specs.Refusals.{Refuses}
 use Rattle.promise_store.specs.Journals.{header}
 use Rattle.promise_store.specs.Holding.{StandsFor}
 use Rattle.protocol_model.specs.Stores.{Store, empty_store}
@@ -18,7 +21,7 @@ use Rattle.dealer_node.specs.declared.fault.NodeFault.TheVariants as fault
 use Rattle.dealer_node.specs.Outs.{nothing_told}
 use Rattle.dealer_node.specs.Turned.{posted}
 use Rattle.dealer_node.specs.Posts.{place_at}
-use Rattle.dealer_node.specs.Seeing.{post_in, runs, IsSeen, begun_of, images_of, since_of, moment_of}
+use Rattle.dealer_node.specs.Seeing.{head_of, post_in, runs, IsSeen, begun_of, bytes_of, failures_of, images_of, since_of, moment_of}
 use Rattle.dealer_world.specs.declared.event.Event.TheVariants as event
 use Rattle.dealer_world.specs.Records.{Record, Frame, Start, Piece}
 use Rattle.dealer_world.specs.Recordings.{frame_by}
@@ -53,6 +56,73 @@ module _ {D : Type 0} (g : Ghosts D) where
     pub count : length files ≡ length nodes
     pub others : (j : ℕ) (d : Node D) → j < length nodes → j ≢ i → images_of g (get_or nodes j d) (get_or files j [])
     pub own : since_of g new (moment_of g old) (get_or files i [])
+
+-- ---- the disks, when a cluster is opened
+
+module _ {D : Type 0} (g : Ghosts D) where
+  -- the node's disk is the one that was given, begun anew, and it was only read or synced since
+  pub record IsOver (given : D) (node : Node D) : Type 0 where
+    pub bytes : bytes_of g node ≡ g.seen given
+    pub begun : begun_of g node ≡ g.seen given
+    pub counts : g.count given ≤ failures_of g node
+    pub images : Within (g.images given) (images_of g node)
+    pub during : During (g.since given) (since_of g node) (g.images given)
+
+  -- the node's disk was only read or synced meanwhile
+  pub record IsOnlyRead (old new : Node D) : Type 0 where
+    pub post : post_in new ≡ post_in old
+    pub bytes : bytes_of g new ≡ bytes_of g old
+    pub begun : begun_of g new ≡ begun_of g old
+    pub counts : failures_of g old ≤ failures_of g new
+    pub images : Within (images_of g old) (images_of g new)
+    pub during : During (since_of g old) (since_of g new) (images_of g old)
+
+  -- each file may be found on its node's disk, at a moment since that disk was the given one
+  pub record MayBeFound (given : List D) (nodes : List (Node D)) (files : List (List ℕ)) : Type 0 where
+    pub count : length files ≡ length nodes
+    pub each : (i : ℕ) (d : Node D) (e : D) → i < length nodes → since_of g (get_or nodes i d) (g.moment (get_or given i e)) (get_or files i [])
+
+  -- each file is an image of its disk
+  pub record AreImagesOf (disks : List D) (files : List (List ℕ)) : Type 0 where
+    pub count : length files ≡ length disks
+    pub each : (i : ℕ) (e : D) → i < length disks → g.images (get_or disks i e) (get_or files i [])
+
+  -- each image of a disk is one of its node's disk, as where the disk was handed on since
+  pub record LeaveNoMore (disks : List D) (nodes : List (Node D)) : Type 0 where
+    pub count : length disks ≡ length nodes
+    pub each : (i : ℕ) (d : Node D) (e : D) → i < length nodes → Within (images_of g (get_or nodes i d)) (g.images (get_or disks i e))
+
+  -- the node's disk has a store of it
+  abbrev pub HasStore : Node D → Type 0
+  HasStore node = (store : Store) × StandsFor (head_of (post_in node)) (bytes_of g node) store
+
+-- 60 to 62: what only a file's bytes are refused for
+abbrev pub IsOfBytes : StoreFault → Type 0
+IsOfBytes NoStore = Unit {0}
+IsOfBytes BadHeader = Unit {0}
+IsOfBytes BadRecord = Unit {0}
+IsOfBytes other = ⊥
+
+module _ {D : Type 0} (g : Ghosts D) where
+  -- a node's disk is refused for its bytes, and those of all nodes before it have stores
+  pub record IsFirstRefused (nodes : List (Node D)) (f : StoreFault) : Type 0 where
+    pub kind : IsOfBytes f
+    pub node : ℕ
+    pub within : node < length nodes
+    pub refused : (d : Node D) → Refuses (head_of (post_in (get_or nodes node d))) (bytes_of g (get_or nodes node d)) f
+    pub before : (i : ℕ) (d : Node D) → i < node → HasStore g (get_or nodes i d)
+
+-- the file of a node of n is refused for its bytes, and those of all nodes before it stand for stores
+pub record IsFirstNoStore (n : ℕ) (files : List (List ℕ)) (f : StoreFault) : Type 0 where
+  pub kind : IsOfBytes f
+  pub node : ℕ
+  pub within : node < n
+  pub refused : Refuses (header node n) (get_or files node []) f
+  pub before : (i : ℕ) → i < node → (store : Store) × StandsFor (header i n) (get_or files i []) store
+
+-- why a cluster isn't opened over these files: memory or a disk failed, or one of the files is the first that is no store
+abbrev pub IsUnopened : ℕ → List (List ℕ) → NodeFault → Type 0
+IsUnopened n files why = IsWant why ⊎ ((f : StoreFault) × (why ≡ fault.Store f) × IsFirstNoStore n files f)
 
 -- each file, that of node i of n, stands for this store of the node
 abbrev pub HaveStores : ℕ → List (List ℕ) → (ℕ → Store) → Type 0

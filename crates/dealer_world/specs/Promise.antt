@@ -1,5 +1,6 @@
 -- What is promised of a cluster, by its record.
 use Rattle.std.specs.Prelude.{◌≡◌, ℕ, ◌<◌, List, [], ◌∷◌, length, map, take, Result, Err, false, IsTrue}
+use Rattle.std.specs.List.{All}
 use Rattle.std.proofs.Common.{get_or}
 use Rattle.promise_store.specs.declared.disk.Disk.{Ghosts}
 use Rattle.dealer_kind.specs.Plans.{Plan}
@@ -19,7 +20,7 @@ use Rattle.dealer_world.specs.Views.{grown}
 use Rattle.dealer_world.specs.Unforged.{IsUnforged}
 use Rattle.dealer_world.specs.Headline.{Era, dealer_in, OneList}
 use Rattle.dealer_world.specs.RuleRuns.{IsAddressed}
-use Rattle.dealer_world.specs.Stepping.{View, IsFor, Stepped, Ran}
+use Rattle.dealer_world.specs.Stepping.{View, IsFor, Stepped, Ran, none, more}
 use Rattle.dealer_world.specs.Ruling.{GoesOn}
 
 -- the event's numbers of nodes and seats are below those of the match
@@ -51,6 +52,12 @@ module _ {D : Type 0} (g : Ghosts D) where
   -- the cluster goes on from these eras, of which a new one has none
   abbrev pub GoesOnFrom : View (Node D) → List Era → Type 0
   GoesOnFrom view before = GoesOn view.opened view.config.setting (length view.config.sources) before (map (begun_of g) view.nodes)
+
+  -- events of the match have led from the one to the other; they may be none
+  pub record WasReached (first last : View (Node D)) : Type 0 where
+    pub events : List Event
+    pub are_for : All (IsForMatch first.config) events
+    pub ran : Ran g first events last
 
   -- over honest disks, where no frame was forged, there is one list behind all records
   abbrev pub IsPromised : View (Node D) → Type 0
@@ -86,3 +93,14 @@ module _ {D : Type 0} (g : Ghosts D) where
   -- over honest disks, where no frame was forged, by this event neither, it isn't answered that another command is known where one was chosen
   abbrev pub NeverConflicts : View (Node D) → Result (Unit {0}) NodeFault → View (Node D) → Type 0
   NeverConflicts old answer new = (before : List Era) → GoesOnFrom old before → IsTrue g.is_honest → HasNoForged new → answer ≡ Err fault.Conflict → ⊥
+
+  -- no event of the run was answered by this fault
+  abbrev pub NoneIsAnswered : NodeFault → (first last : View (Node D)) (events : List Event) → Ran g first events last → Type 0
+  NoneIsAnswered why first _ _ (none events last empty same) = Unit {0}
+  NoneIsAnswered why first _ _ (more before between e answer events last ran stepped ample all) = NoneIsAnswered why first between before ran × (answer ≡ Err why → ⊥)
+
+  -- over honest disks, where no frame was forged, no event of the match that has led from here on was answered that another command is known where one was
+  -- chosen
+  abbrev pub NoneConflicts : View (Node D) → Type 0
+  NoneConflicts first = (events : List Event) (last : View (Node D)) (before : List Era) (ran : Ran g first events last) → All (IsForMatch first.config) events
+      → GoesOnFrom first before → IsTrue g.is_honest → HasNoForged last → NoneIsAnswered fault.Conflict first last events ran

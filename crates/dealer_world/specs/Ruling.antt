@@ -4,7 +4,7 @@ use Rattle.std.proofs.Common.{get_or}
 use Rattle.promise_store.specs.declared.disk.Disk.{Ghosts}
 use Rattle.promise_store.specs.Journals.{header}
 use Rattle.promise_store.specs.Holding.{StandsFor}
-use Rattle.protocol_model.specs.Stores.{Store}
+use Rattle.protocol_model.specs.Stores.{Store, empty_store}
 use Rattle.dealer_kind.specs.Kind.{Setting}
 use Rattle.dealer_kind.specs.Plans.{Plan}
 use Rattle.dealer_kind.specs.declared.source.Source.{Source}
@@ -16,6 +16,7 @@ use Rattle.dealer_world.specs.Records.{Record}
 use Rattle.dealer_world.specs.Unforged.{IsUnforged}
 use Rattle.dealer_world.specs.Headline.{Era}
 use Rattle.dealer_world.specs.RuleRuns.{State, EndsAs, plan_of, RunsTo}
+use Rattle.dealer_world.specs.Beginning.{HaveStores}
 
 module _ {D : Type 0} where
   -- each node is at its place in the match
@@ -44,7 +45,7 @@ AreLeft n i begun (file ∷ files) [] = ⊥
 AreLeft n i begun (file ∷ files) (s ∷ standings) = (StandsFor (header i n) file s.store ⊎ StandsFor (header i n) file (begun i)) × AreLeft n (i + 1) begun files standings
 
 -- a run of the rules that made these eras, in which no frame was forged, may have been stopped, between two calls or inside one, so that its disks hold these files
-pub record Leaves (setting : Setting) (n : ℕ) (eras : List Era) (files : List (List ℕ)) : Type 0 where
+pub record RunLeaves (setting : Setting) (n : ℕ) (eras : List Era) (files : List (List ℕ)) : Type 0 where
   pub before : List Era
   pub latest : Era
   pub are : eras ≡ latest ∷ before
@@ -57,7 +58,12 @@ pub record Leaves (setting : Setting) (n : ℕ) (eras : List Era) (files : List 
   pub unforged : IsUnforged latest.record_of.sent latest.record_of.delivered
   pub held : AreLeft n 0 begun files old.standings
 
--- a new cluster goes on from no era, one that was opened from eras that left what its disks held then
+-- what may be opened: the files of new stores, which no era made, or what a run left
+pub data Leaves (setting : Setting) (n : ℕ) (eras : List Era) (files : List (List ℕ)) : Type 0 where
+  new_stores : eras ≡ [] → length files ≡ n → HaveStores n files (λ i. empty_store) → Leaves setting n eras files
+  a_run : RunLeaves setting n eras files → Leaves setting n eras files
+
+-- a new cluster goes on from no era, one that was opened from eras that left what its disks held then, or from none over new stores
 abbrev pub GoesOn : Bool → Setting → ℕ → List Era → List (List ℕ) → Type 0
 GoesOn false setting n eras files = eras ≡ []
 GoesOn true setting n eras files = ∥ Leaves setting n eras files ∥₁

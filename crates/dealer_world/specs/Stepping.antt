@@ -1,8 +1,10 @@
 -- A cluster as it is seen, and how events change it.
-use Rattle.std.specs.Prelude.{◌≡◌, ℕ, ◌<◌, Bool, true, false, if◌then◌else◌, is_ok, List, [], ◌∷◌, ◌++◌, length, Result, Err, IsTrue}
+use Rattle.std.specs.Prelude.{◌≡◌, ◌⊎◌, ℕ, ◌<◌, Bool, true, false, if◌then◌else◌, is_ok, List, [], ◌∷◌, ◌++◌, length, Result, Err, OnOk, IfErr, IsTrue}
 use Rattle.std.specs.Coded.{×_prop, le_prop}
 use Rattle.std.proofs.Common.{get_or, set}
 use Rattle.promise_store.specs.declared.disk.Disk.{Ghosts}
+use Rattle.promise_store.specs.declared.fault.StoreFault.{StoreFault}
+use Rattle.promise_store.specs.Refusals.{Refuses}
 use Rattle.protocol_model.specs.Stores.{Store}
 use Rattle.dealer_kind.specs.Plans.{Plan}
 use Rattle.node_rules.specs.Standings.{Standing}
@@ -10,8 +12,8 @@ use Rattle.dealer_node.specs.Nodes.{Node}
 use Rattle.dealer_node.specs.declared.fault.NodeFault.{NodeFault}
 use Rattle.dealer_node.specs.declared.fault.NodeFault.TheVariants as fault
 use Rattle.dealer_node.specs.Outs.{Told, nothing_told}
-use Rattle.dealer_node.specs.Seeing.{runs, IsSeen}
-use Rattle.dealer_node.specs.Taking.{Takes, StaysItself}
+use Rattle.dealer_node.specs.Seeing.{head_of, post_in, runs, IsSeen, bytes_of}
+use Rattle.dealer_node.specs.Taking.{Takes, StaysItself, IsOfStart, FindsStore, OnlyReadsDisk, StopsBy}
 use Rattle.dealer_world.specs.declared.event.Event.{Event}
 use Rattle.dealer_world.specs.declared.event.Event.TheVariants as event
 use Rattle.dealer_world.specs.Records.{Record, Arrived}
@@ -66,10 +68,29 @@ abbrev pub begins_by_event : Bool → Event → Result (Unit {0}) NodeFault → 
 begins_by_event is_up e answer = if is_ok answer then may_begin is_up e else false
 
 module _ {D : Type 0} (g : Ghosts D) where
+  -- a start only reads its node's disk, or there was no memory to give it; where it is taken, a node that was down runs with the store that the disk has; and
+  -- it is refused for want of memory, or for what opening the disk found
+  pub record IsStartOf (old new : Node D) (answer : Result (Unit {0}) NodeFault) : Type 0 where
+    pub faults : IfErr answer IsOfStart
+    pub reads : (new ≡ old) ⊎ OnlyReadsDisk g old new
+    pub found : IsTrue g.is_honest → runs old ≡ false → OnOk answer (FindsStore g old new)
+    pub refused : IsTrue g.is_honest → (why : StoreFault) → answer ≡ Err (fault.Store why) → Refuses (head_of (post_in old)) (bytes_of g old) why
+
+  -- what starts and stops make of a disk
+  abbrev pub MakesOfDisk : Event → Node D → Node D → Result (Unit {0}) NodeFault → Type 0
+  MakesOfDisk (event.Frame from to bytes) old new answer = Unit {0}
+  MakesOfDisk (event.Line node seat bytes) old new answer = Unit {0}
+  MakesOfDisk (event.Tick node) old new answer = Unit {0}
+  MakesOfDisk (event.Connect node seat) old new answer = Unit {0}
+  MakesOfDisk (event.Drop node seat) old new answer = Unit {0}
+  MakesOfDisk (event.Stop node pick) old new answer = IsTrue g.is_honest → OnOk answer (StopsBy g pick old new)
+  MakesOfDisk (event.Start node) old new answer = IsStartOf old new answer
+
   -- the event was given to a node as the call that it is, and the node made this of it
   pub record IsGiven (e : Event) (old new : Node D) (told : Told) (answer : Result (Unit {0}) NodeFault) : Type 0 where
     pub taken : (s : Standing) → IsTrue g.is_honest → IsSeen g old s → (found : Store) × Takes g (call_of found e) s old new nothing_told told answer
     pub stays : StaysItself g old new nothing_told told answer
+    pub disk : MakesOfDisk e old new answer
 
 -- what the record gains: all of a call but one that found no memory, by which nothing changes
 pub data Gains {N : Type 0} (e : Event) (is_up : Bool) (told : Told) (old new : View N) : Result (Unit {0}) NodeFault → Type 0 where

@@ -1,8 +1,8 @@
 //! The nodes of a cluster before they are started.
 
-ghost use Rattle.std.specs.Prelude.{◌≡◌, ◌<◌, length, map, IfOk, IfErr};
-ghost use Rattle.dealer_node.specs.Seeing.{begun_of};
-ghost use Rattle.dealer_world.specs.Beginning.{IsCreatedAt, IsReopenedAt, AreEach, IsWant};
+ghost use Rattle.std.specs.Prelude.{◌≡◌, ◌<◌, length, IfOk, IfErr};
+ghost use Rattle.std.specs.List.{AllZip};
+ghost use Rattle.dealer_world.specs.Beginning.{IsCreatedAt, IsReopenedAt, IsOver, AreEach, IsWant};
 
 use dealer_kind::Config;
 use dealer_node::{Node, NodeFault};
@@ -34,7 +34,7 @@ fn reopened<D: Disk + Drop>(
 ) -> Result<Node<D>, NodeFault>
     requires { number < length config.now.sources }
     ensures node { IfOk result (λ node. IsReopenedAt D.Disk config.now number node) }
-    ensures begun { IfOk result (λ node. begun_of D.Disk node ≡ D.seen disk) }
+    ensures over { IfOk result (λ node. IsOver D.Disk disk node) }
     ensures failed { IfErr result IsWant }
 {
     match disk.sync() {
@@ -78,7 +78,7 @@ pub(crate) fn reopened_all<D: Disk + Drop>(
     requires { length disks.items ≡ length config.now.sources }
     ensures count { IfOk result (λ nodes. length nodes.items ≡ length config.now.sources) }
     ensures each { IfOk result (λ nodes. AreEach (IsReopenedAt D.Disk config.now) nodes.items) }
-    ensures begun { IfOk result (λ nodes. map (begun_of D.Disk) nodes.items ≡ map D.seen disks.items) }
+    ensures over { IfOk result (λ nodes. AllZip (IsOver D.Disk) disks.items nodes.items) }
     ensures failed { IfErr result IsWant }
 {
     let mut nodes = Vec::with_capacity(alloc, disks.len())?;

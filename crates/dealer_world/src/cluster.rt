@@ -1,22 +1,23 @@
-ghost use Rattle.std.specs.Prelude.{◌≡◌, ◌<◌, ◌++◌, ℕ, List, length, map, IsTrue, get_or, ◌∷◌, ◌⊎◌, Result, ◌↔◌, OnOk, IfOk, IfErr, IfSome, IsNone, Some, slice_get, ◌≤◌, ◌-◌, ◌^◌, min, true, false};
+ghost use Rattle.std.specs.Prelude.{◌≡◌, ◌<◌, ◌++◌, ℕ, List, [], length, map, IsTrue, get_or, ◌∷◌, ◌⊎◌, Result, ◌↔◌, OnOk, IfOk, IfErr, IfSome, IsNone, Some, slice_get, ◌≤◌, ◌-◌, ◌^◌, min, true, false};
 ghost use Rattle.dealer_world.specs.KeptShown.{piece_by};
 ghost use Rattle.dealer_world.specs.KeptArrivals.{arrival_of};
 ghost use Rattle.dealer_world.specs.Recordings.{start_by};
-ghost use Rattle.std.specs.List.{All};
+ghost use Rattle.std.specs.List.{All, AllZip};
 ghost use Rattle.dealer_node.specs.Outs.{nothing_told};
 ghost use Rattle.dealer_node.specs.Seeing.{post_in, runs, IsSeen, begun_of};
 ghost use Rattle.node_rules.specs.Standings.{Standing};
 ghost use Rattle.dealer_world.specs.Records.{no_record, log_of};
 ghost use Rattle.dealer_world.specs.Headline.{Era};
-ghost use Rattle.dealer_world.specs.Beginning.{AreImages, AreImagesDuring, AreStarted, StartsAll, HaveStores, AreEach, IsWant};
+ghost use Rattle.dealer_world.specs.Beginning.{AreImages, AreImagesDuring, AreStarted, StartsAll, HaveStores, HasStore, AreEach, IsWant, IsOver, IsOnlyRead, MayBeFound, AreImagesOf, LeaveNoMore, IsFirstRefused, IsUnopened};
 ghost use Rattle.protocol_model.specs.Stores.{Store, empty_store};
 ghost use Rattle.dealer_world.specs.Stepping.{View, IsFor, IsGiven, begins_by_event, Stepped, Ran};
 ghost use Rattle.dealer_world.specs.CalmCluster.{MovesOn};
 ghost use Rattle.dealer_world.specs.Events.{node_of};
 ghost use Rattle.dealer_world.specs.declared.event.Event.{Event as Call};
 ghost use Rattle.dealer_node.specs.declared.fault.NodeFault.{NodeFault as Fault};
+ghost use Rattle.promise_store.specs.declared.fault.StoreFault.{StoreFault};
 ghost use Rattle.dealer_node.specs.Nodes.{Node};
-ghost use Rattle.dealer_world.specs.Promise.{IsForMatch, IsPromised, IsPromisedNew, IsBackedBy, StopsAt, IsSameMatch, GoesOnFrom, HasNoForged, AreAddressed, NeverConflicts, era_of, with_brought};
+ghost use Rattle.dealer_world.specs.Promise.{IsForMatch, IsPromised, IsPromisedNew, IsBackedBy, StopsAt, IsSameMatch, GoesOnFrom, WasReached, HasNoForged, AreAddressed, NeverConflicts, NoneConflicts, era_of, with_brought};
 ghost use Rattle.dealer_world.specs.Ruling.{ArePosted, AreSeen, IsBehind};
 
 use crate::arrivals::Arrival;
@@ -149,12 +150,15 @@ impl<D: Disk + Drop> Cluster<D> {
         ensures promised { IsPromised D.Disk (view_of self.new) }
         ensures backed { IsBackedBy D.Disk (view_of self.new) }
         ensures addressed { AreAddressed D.Disk (view_of self.new) }
+        // 95 is the answer of no event, of these or of any others that lead on from here.
+        ensures conflict { NoneConflicts D.Disk (view_of self.old) }
         // A cluster at rest moves by the events of its round.
         ensures moves_on { OnOk result (MovesOn D.Disk (view_of self.old) events.now (view_of self.new)) }
     {
         runs_show_one_list();
         runs_are_backed();
         runs_send_to_nodes();
+        runs_never_conflict();
         rounds_move_on();
         images_are_seen::<D>();
         seen_as_one::<D>();
@@ -189,10 +193,13 @@ impl<D: Disk + Drop> Cluster<D> {
     fn start_all(&mut self) -> Result<(), NodeFault>
         ensures config { (view_of self.new).config ≡ (view_of self.old).config }
         ensures opened { (view_of self.new).opened ≡ (view_of self.old).opened }
-        ensures begun { map (begun_of D.Disk) (view_of self.new).nodes ≡ map (begun_of D.Disk) (view_of self.old).nodes }
         ensures last { OnOk result ((view_of self.new).last ≡ nothing_told) }
         ensures started { OnOk result (StartsAll D.Disk (view_of self.old) (view_of self.new)) }
         ensures failed { IfErr result (λ why. (standings : List Standing) → IsTrue D.is_honest → AreSeen D.Disk (view_of self.old).nodes standings → IsWant why) }
+        ensures reads { AllZip (IsOnlyRead D.Disk) (view_of self.old).nodes (view_of self.new).nodes }
+        ensures stores { OnOk result (IsTrue D.is_honest → AreEach (λ i node. runs node ≡ false) (view_of self.old).nodes → AreEach (λ i. HasStore D.Disk) (view_of self.old).nodes) }
+        ensures refused { IfErr result (λ why. IsTrue D.is_honest → AreEach (λ i node. runs node ≡ false) (view_of self.old).nodes
+            → IsWant why ⊎ ((f : StoreFault) × (why ≡ NodeFault.Store f) × IsFirstRefused D.Disk (view_of self.old).nodes f)) }
     {
         for node in 0..self.config.nodes() as u8 {
             self.advance(&Event::Start { node })?;
@@ -225,32 +232,42 @@ impl<D: Disk + Drop> Cluster<D> {
 
     /// A cluster that goes on from the stores that its disks have; all nodes are started.
     ///
-    /// Each disk is begun anew and synced first. Refused is the fault of the first node that fails, and where each disk
-    /// has a store of its node that is 92, or 91 of a disk that failed; then the disks are dropped.
+    /// Each disk is synced first and begun anew, and then only read. Refused is 92, or 91 of a disk that failed or of the
+    /// first one, in order, that has no store of its node; then the disks are dropped.
     pub fn open(alloc: Global, config: Config, disks: Vec<D>) -> Result<Cluster<D>, NodeFault>
         requires { length disks.items ≡ length config.sources }
         ensures config { IfOk result (λ made. (view_of made).config ≡ config) }
         ensures opened { IfOk result (λ made. (view_of made).opened ≡ true) }
-        ensures started { IfOk result (λ made. (stores : ℕ → Store) → IsTrue D.is_honest → HaveStores (length config.sources) (map D.seen disks.items) stores
-            → AreStarted D.Disk stores (view_of made)) }
-        ensures begun { IfOk result (λ made. map (begun_of D.Disk) (view_of made).nodes ≡ map D.seen disks.items) }
-        // It goes on from a cluster of the same match whose disks may be left with what these read.
-        ensures goes_on { IfOk result (λ made. (before : Cluster D D.Disk) (eras : List Era) → IsSameMatch (view_of before) (view_of made)
-            → AreImages D.Disk (view_of before).nodes (map D.seen disks.items) → GoesOnFrom D.Disk (view_of before) eras → IsTrue D.is_honest → HasNoForged (view_of before)
-            → GoesOnFrom D.Disk (view_of made) (era_of (view_of before) ∷ eras)) }
+        // It goes on with the stores that the disks have.
+        ensures stands { IfOk result (λ made. IsTrue D.is_honest
+            → (stores : ℕ → Store) × HaveStores (length config.sources) (map D.seen disks.items) stores × AreStarted D.Disk stores (view_of made)) }
+        ensures over { IfOk result (λ made. AllZip (IsOver D.Disk) disks.items (view_of made).nodes) }
+        // Over new stores it goes on from no era, like a new one.
+        ensures fresh { IfOk result (λ made. HaveStores (length config.sources) (map D.seen disks.items) (λ i. empty_store) → GoesOnFrom D.Disk (view_of made) []) }
+        // It goes on from a cluster of the same match, wherever its events have led, whose disks may be left with what
+        // these read.
+        ensures goes_on { IfOk result (λ made. (first : Cluster D D.Disk) (before : View (Node D)) (eras : List Era) → WasReached D.Disk (view_of first) before
+            → IsSameMatch before (view_of made) → AreImages D.Disk before.nodes (map D.seen disks.items) → GoesOnFrom D.Disk before eras → IsTrue D.is_honest → HasNoForged before
+            → GoesOnFrom D.Disk (view_of made) (era_of before ∷ eras)) }
         // And from one that stopped inside a call: then the record is that before the call, or that with what the call
         // brought beside.
-        ensures goes_on_inside { IfOk result (λ made. (before : Cluster D D.Disk) (after : View (Node D)) (event : Call) (answer : Result (Unit {0}) Fault) (eras : List Era)
-            → IsSameMatch (view_of before) (view_of made) → (stepped : Stepped D.Disk (view_of before) event answer after) → IsForMatch (view_of before).config event
-            → AreImagesDuring D.Disk (node_of event) stepped.before stepped.after (view_of before).nodes (map D.seen disks.items)
-            → GoesOnFrom D.Disk (view_of before) eras → IsTrue D.is_honest → HasNoForged (view_of before) → HasNoForged (with_brought (view_of before) event)
-            → ∥ GoesOnFrom D.Disk (view_of made) (era_of (view_of before) ∷ eras) ⊎ GoesOnFrom D.Disk (view_of made) (era_of (with_brought (view_of before) event) ∷ eras) ∥₁) }
+        ensures goes_on_inside { IfOk result (λ made. (first : Cluster D D.Disk) (before after : View (Node D)) (event : Call) (answer : Result (Unit {0}) Fault) (eras : List Era)
+            → WasReached D.Disk (view_of first) before → IsSameMatch before (view_of made) → (stepped : Stepped D.Disk before event answer after) → IsForMatch before.config event
+            → AreImagesDuring D.Disk (node_of event) stepped.before stepped.after before.nodes (map D.seen disks.items)
+            → GoesOnFrom D.Disk before eras → IsTrue D.is_honest → HasNoForged before → HasNoForged (with_brought before event)
+            → ∥ GoesOnFrom D.Disk (view_of made) (era_of before ∷ eras) ⊎ GoesOnFrom D.Disk (view_of made) (era_of (with_brought before event) ∷ eras) ∥₁) }
+        // Where it was itself broken off after some of its starts, the disks leave no more than they did before; so where
+        // they were handed on from a cluster, the next one goes on from that.
+        ensures within { IfOk result (λ made. (files : List (List ℕ)) → MayBeFound D.Disk disks.items (view_of made).nodes files → AreImagesOf D.Disk disks.items files) }
+        ensures resumes { IfOk result (λ made. (before : View (Node D)) (files : List (List ℕ)) → LeaveNoMore D.Disk disks.items before.nodes
+            → MayBeFound D.Disk disks.items (view_of made).nodes files → AreImages D.Disk before.nodes files) }
         ensures last { IfOk result (λ made. (view_of made).last ≡ nothing_told) }
         ensures promised { IfOk result (λ made. IsPromised D.Disk (view_of made)) }
-        ensures failed { IfErr result (λ why. (stores : ℕ → Store) → IsTrue D.is_honest → HaveStores (length config.sources) (map D.seen disks.items) stores → IsWant why) }
+        ensures first { IfErr result (λ why. IsTrue D.is_honest → IsUnopened (length config.sources) (map D.seen disks.items) why) }
     {
         runs_show_one_list();
         images_are_seen::<D>();
+        seen_as_one::<D>();
         moments_pass::<D>();
         config.limits();
         let nodes = reopened_all(alloc, &config, disks)?;

@@ -19,8 +19,7 @@ pub(crate) enum Task<'a> {
     Play(&'a str),
     /// The word that names the match file.
     Init(&'a str),
-    /// The word that names the match file.
-    Serve(&'a str),
+    Serve(ServeArguments<'a>),
 }
 
 /// What `hand` is asked for.
@@ -45,6 +44,15 @@ pub(crate) struct CheckArguments<'a> {
     pub(crate) log: &'a str,
 }
 
+/// What `serve` is asked for.
+#[derive(Clone, Copy)]
+pub(crate) struct ServeArguments<'a> {
+    /// The word that names the match file.
+    pub(crate) path: &'a str,
+    /// Whether the time stands before each note.
+    pub(crate) has_times: bool,
+}
+
 /// A command of the program.
 #[derive(Clone, Copy)]
 enum Verb {
@@ -54,6 +62,9 @@ enum Verb {
     Init,
     Serve,
 }
+
+/// The word that asks for `serve`.
+pub(crate) const SERVE: &str = "serve";
 
 /// The program's commands, in the order of help.
 const VERBS: [Verb; 5] = [Verb::Hand, Verb::Play, Verb::Check, Verb::Init, Verb::Serve];
@@ -66,7 +77,7 @@ impl Verb {
             Verb::Play => "play",
             Verb::Check => "check",
             Verb::Init => "init",
-            Verb::Serve => "serve",
+            Verb::Serve => SERVE,
         }
     }
 
@@ -97,7 +108,8 @@ impl Verb {
         match self {
             Verb::Hand => &[Place::Hands, Place::LogFlag, Place::Game],
             Verb::Check => &[Place::Game, Place::Log],
-            Verb::Play | Verb::Init | Verb::Serve => &[Place::Match],
+            Verb::Play | Verb::Init => &[Place::Match],
+            Verb::Serve => &[Place::Times, Place::Match],
         }
     }
 }
@@ -113,6 +125,8 @@ enum Place {
     Game,
     /// LOG.
     Log,
+    /// `--times`.
+    Times,
     /// MATCH.
     Match,
 }
@@ -181,6 +195,7 @@ fn argument_at<'a>(alloc: Global, place: Place) -> Arg<'a> {
             "The game file, in the ACPC game definition format",
         ),
         Place::Log => word_at(alloc, "log", "LOG", "The log of a match of that game"),
+        Place::Times => times_option(alloc),
         Place::Match => word_at(alloc, "match", "MATCH", "The match file"),
     }
 }
@@ -216,6 +231,14 @@ fn log_option<'a>(alloc: Global) -> Arg<'a> {
         .help("Prints the match's log too, each line behind L")
 }
 
+/// `--times`.
+fn times_option<'a>(alloc: Global) -> Arg<'a> {
+    Arg::new(alloc, "times")
+        .long("times")
+        .action(ArgAction::SetTrue)
+        .help("Puts the time (UTC) before each note")
+}
+
 /// What a command line asks for. The `Err` is `WrongWords`: no command is named, or one with a word missing
 /// (which the command line's reader refuses by itself), or the log is asked for of a game whose word can't
 /// stand in a log.
@@ -231,6 +254,7 @@ fn named<'a>(name: &str, matches: &ArgMatches<'a>) -> Result<Task<'a>, Ending> {
     match name {
         "hand" => hand_task(matches),
         "check" => check_task(matches),
+        SERVE => serve_task(matches),
         _ => match_task(name, word(matches, "match")?),
     }
 }
@@ -240,7 +264,6 @@ fn match_task<'a>(name: &str, file: &'a str) -> Result<Task<'a>, Ending> {
     match name {
         "play" => Ok(Task::Play(file)),
         "init" => Ok(Task::Init(file)),
-        "serve" => Ok(Task::Serve(file)),
         _ => Err(Ending::WrongWords(WrongWords::Incomplete)),
     }
 }
@@ -250,6 +273,14 @@ fn check_task<'a>(matches: &ArgMatches<'a>) -> Result<Task<'a>, Ending> {
     Ok(Task::Check(CheckArguments {
         game: word(matches, "game")?,
         log: word(matches, "log")?,
+    }))
+}
+
+/// MATCH of `serve`, and what is chosen.
+fn serve_task<'a>(matches: &ArgMatches<'a>) -> Result<Task<'a>, Ending> {
+    Ok(Task::Serve(ServeArguments {
+        path: word(matches, "match")?,
+        has_times: matches.get_flag("times"),
     }))
 }
 

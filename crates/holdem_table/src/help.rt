@@ -56,7 +56,8 @@ The answer on standard output is one line:
   no LINE CODE Name  the first line at fault, counted from 1, and its fault:
       45 BadHeader    the header has another form
       46 BadState     a hand's line has another form, or tells what can't be
-      47 WrongNumber  another hand's number is due, or more or fewer hands
+      47 WrongNumber  another hand's number is due, or a score for a hand, or
+                      a hand for the score
       48 WrongValues  the hand pays otherwise
       49 WrongScore   the score is another or missing, or a line follows it
 
@@ -79,20 +80,25 @@ MATCH is a match file: TOML with name, game, hands, names, a node table for
 each of three or five nodes, and stores, the folder of the stores. Its paths
 go from the working folder; the game file is read too.
 
-Made are the files node0.journal, node1.journal and so on in that folder, each
-written and synced before the next is made, and at last the folder is synced.
-The folder must be there. Nothing is printed on standard output.
+Made are the files match.kept, which says of which match the stores are, and
+node0.journal, node1.journal and so on in that folder, each written and synced
+before the next is made; then the folder is synced. The folder must be there.
+Nothing is printed on standard output. Standard error has notes, one a line:
+each file that was made, and keys of MATCH that no command reads.
 
 A store keeps what a node promised, so no store may be thrown away while its
-match is played. Where init ends in the middle (63), no node has used what it
-made: delete the node files in the folder and run it again.
+match is played. Where init ends in the middle (63, 92, or by a signal), no
+node has used what it made: delete match.kept and the files node*.journal in
+the folder and run it again.
 
 Exit status:
   0  all stores were made
   2  the command line is wrong, MATCH is refused (100, 101, 102), MATCH or the
-     game can't be read (104), a store file is there already (103; then
-     nothing was made or touched), a file can't be made or written (63), or
-     memory was refused (92); standard error says which
+     game can't be read (104), a store file or match.kept is there already
+     (103; then nothing was made or touched), a file can't be made or written
+     (63), or memory was refused (92)
+The last line of standard error says which; where a file is at fault, the line
+before names it.
 docs/OPERATING.md says how to set up a match, and what to do when it stands
 still or has ended. docs/FAULTS.md says of each number what it means and what
 to do about it.
@@ -147,25 +153,29 @@ pub(crate) const AFTER_SERVE_HELP: &str = "\
 MATCH is a match file: TOML with name, game, hands, names, a node table for
 each of three or five nodes, stores, logs, port, and perhaps outage. Its paths
 go from the working folder. The stores must be there: holdem_table init makes
-them. The logs node0.log and so on are emptied: copy old ones away first.
+them. They are locked while serve runs, and match.kept beside them must say
+this match. A log that an earlier start left, node0.log and so on, is kept as
+node0.log.1 and so on, unless all of it stands in the newest kept one too.
 
 Seat S is awaited at node I at port + I * (seats) + S on 127.0.0.1, first at
 node 0. It names the version, and then answers each line on which it is to
 act. Where its connection ends or is refused it dials the next node. Started
 again, serve goes on with the match that the stores have.
 
-Standard error has notes, one a line: ports, who is awaited where, who was
-seated or is gone, faults in what seats sent, nodes stopped and started, and
-at the end the score. Nothing is printed on standard output.
+Standard error has notes, one a line: ports, who is awaited where, whom all
+wait for, who was seated or is gone, faults in what seats sent, nodes stopped
+and started, and at the end the score; with --times the time (UTC) stands
+before each. Nothing is printed on standard output.
 
 Exit status:
   0  the match is over
-  1  a port can't be bound or a node not be reached (105), a log can't be
-     opened, emptied or written (106), a store is refused, or failed and was
-     no better when its node was started again (91), a node can't go on (93,
-     94, 95), or memory was refused (92)
-  2  the command line is wrong, MATCH is refused (100, 101, 102), or MATCH,
-     its game or a store can't be read (104)
+  1  a port can't be bound or a node not be reached (105), a log is in use or
+     can't be opened, kept, emptied or written (106), a store is refused, or
+     failed and was no better when its node was started again (91), a node
+     can't go on (93, 94, 95), or memory was refused (92)
+  2  the command line is wrong, MATCH is refused (100, 101, 102), MATCH, its
+     game, match.kept or a store can't be read (104), a store is in use (108),
+     or the stores are of another match (109)
 The last line of standard error says which; where a port or a file is at
 fault, the line before names it.
 docs/OPERATING.md says how to set up a match, and what to do when it stands

@@ -1,83 +1,144 @@
-//! What `init` does: the empty stores of a match's nodes, one file for each.
+//! What `init` does: the empty stores of a match's nodes, one file for each, beside the file that says of which match
+//! they are.
 
-use crate::whole_file::read_file;
+use crate::kept_match::{keep_match, kept_path, unmade_file};
+use crate::notes::Notes;
+use crate::store_files::cause;
+use dealer_kind::Config;
 use match_file::MatchFile;
-use match_runs::{store_path, unmade};
-use promise_store::{FileDisk, Store};
+use match_runs::{Cause, store_path};
+use promise_store::{FileDisk, Store, StoreFault};
+use std::alloc::AllocError;
 use std::fs::File;
 use std::{fs, io};
 use streamed::Ending;
 
-/// Makes the empty stores of a match's nodes: the files `node0.journal` and so on in the folder that the match file
-/// names, each on the disk before the next is made, and then the folder's entries.
+/// Makes `match.kept` and the empty stores of a match's nodes: the files `node0.journal` and so on in the folder that the
+/// match file names, each on the disk before the next is made, and then the folder's entries.
 ///
 /// The match file's first six keys are looked at, and its game file. `StoreExists` (103) comes where one of the files
 /// is there before any is made; then nothing is made or touched. `Store` (63) comes where a file can't be made or
-/// written; those that were made stay.
+/// written; those that were made stay. Notes go to standard error, one a line: each file that was made; keys of the match
+/// file that no command reads; and before a fault the file that it is about, where it is about one.
 pub(crate) fn init(rt: &HostRuntime, path: &str) -> Ending {
-    match make_stores(rt, path) {
+    match make_stores(rt, path, &mut Notes::new(rt, false)) {
         Ok(()) => Ending::Done,
         Err(ending) => ending,
     }
 }
 
-/// The steps of it. All places are looked at before a file is made, so that no match gets half of its stores anew.
-fn make_stores(rt: &HostRuntime, path: &str) -> Result<(), Ending> {
-    let text = read_file(rt, path)?;
+/// The steps of it once there is a match file.
+fn make_stores(rt: &HostRuntime, path: &str, notes: &mut Notes<'_>) -> Result<(), Ending> {
+    let text = read(rt, path, notes)?;
     let file = MatchFile::read(rt.alloc(), &text)?;
-    let nodes = count_nodes(rt, &file)?;
-    let folder = file.stores()?;
-    for node in 0..nodes {
-        refuse_present(rt, folder, node)?;
-    }
-    for node in 0..nodes {
-        make_store(rt, folder, node, nodes)?;
-    }
-    sync_folder(rt, folder)
-}
-
-/// How many nodes a match has whose match file and game file are right.
-fn count_nodes(rt: &HostRuntime, file: &MatchFile) -> Result<u8, Ending> {
-    let game = read_file(rt, file.game()?)?;
+    tell_unused(rt, &file, notes)?;
+    let game = read(rt, file.game()?, notes)?;
     let config = file.config(rt.alloc(), Some(&game))?;
-    Ok(config.nodes() as u8)
+    let folder = file.stores()?;
+    make_files(rt, folder, &config, &game, notes)
 }
 
-/// Refuses a node whose store's place is taken, be it by a link that leads nowhere: a store is never made anew.
-fn refuse_present(rt: &HostRuntime, folder: &str, node: u8) -> Result<(), Ending> {
-    match fs::symlink_metadata(rt, store_path(rt.alloc(), folder, node)?.as_str()) {
-        Ok(_) => Err(Ending::StoreExists),
+/// Makes the files in this folder. All places are looked at before a file is made, so that no match gets half of its
+/// stores anew.
+fn make_files(
+    rt: &HostRuntime,
+    folder: &str,
+    config: &Config,
+    game: &[u8],
+    notes: &mut Notes<'_>,
+) -> Result<(), Ending> {
+    let nodes = config.nodes() as u8;
+    for node in 0..nodes {
+        let path = store_path(rt.alloc(), folder, node)?;
+        refuse_present(rt, path.as_str(), notes)?;
+    }
+    let path = kept_path(rt.alloc(), folder)?;
+    refuse_present(rt, path.as_str(), notes)?;
+    keep_match(rt, folder, config, game, notes)?;
+    sync_folder(rt, folder, notes)?;
+    for node in 0..nodes {
+        let path = store_path(rt.alloc(), folder, node)?;
+        make_store(rt, path.as_str(), (node, nodes), notes)?;
+    }
+    sync_folder(rt, folder, notes)
+}
+
+/// Tells the keys of a match file that no command reads.
+pub(crate) fn tell_unused(
+    rt: &HostRuntime,
+    file: &MatchFile,
+    notes: &mut Notes<'_>,
+) -> Result<(), AllocError> {
+    for key in file.unused(rt.alloc())? {
+        notes.tell_unused(key);
+    }
+    Ok(())
+}
+
+/// All that a file has. A note names one that can't be read.
+fn read(rt: &HostRuntime, path: &str, notes: &mut Notes<'_>) -> Result<Vec<u8>, Ending> {
+    match fs::read(rt, path) {
+        Ok(text) => Ok(text),
+        Err(error) => {
+            let ending = Ending::unread(&error);
+            if let Ending::Unreadable = ending {
+                notes.tell_file(path, Cause::of(error.kind()));
+            }
+            Err(ending)
+        }
+    }
+}
+
+/// Refuses a place that is taken, be it by a link that leads nowhere: a store is never made anew. A note names it.
+fn refuse_present(rt: &HostRuntime, path: &str, notes: &mut Notes<'_>) -> Result<(), Ending> {
+    match fs::symlink_metadata(rt, path) {
+        Ok(_) => {
+            notes.tell_file(path, Cause::ThereAlready);
+            Err(Ending::StoreExists)
+        }
         Err(error) if error.kind() == io::ErrorKind::OutOfMemory => Err(Ending::OutOfMemory),
         Err(_) => Ok(()),
     }
 }
 
-/// Makes a node's store in a file of its own, which must not be there.
-fn make_store(rt: &HostRuntime, folder: &str, node: u8, nodes: u8) -> Result<(), Ending> {
-    let path = store_path(rt.alloc(), folder, node)?;
+/// Makes the store of a node, one of so many, in a file of its own, which must not be there.
+fn make_store(
+    rt: &HostRuntime,
+    path: &str,
+    (node, nodes): (u8, u8),
+    notes: &mut Notes<'_>,
+) -> Result<(), Ending> {
     let file = match File::options()
         .read(true)
         .write(true)
         .create_new(true)
-        .open(rt, path.as_str())
+        .open(rt, path)
     {
         Ok(file) => file,
-        Err(error) => return Err(unmade(&error)),
+        Err(error) => return Err(unmade_file(path, &error, notes)),
     };
     match Store::create(rt.alloc(), FileDisk::new(file), node, nodes) {
-        Ok(_) => Ok(()),
-        Err((_, fault)) => Err(Ending::Store(fault)),
+        Ok(_) => {
+            notes.tell_made(path);
+            Ok(())
+        }
+        Err((disk, fault)) => {
+            if let StoreFault::Disk = fault {
+                notes.tell_file(path, cause(&disk));
+            }
+            Err(Ending::Store(fault))
+        }
     }
 }
 
 /// Has the names of the files that were made on the disk.
-fn sync_folder(rt: &HostRuntime, folder: &str) -> Result<(), Ending> {
+fn sync_folder(rt: &HostRuntime, folder: &str, notes: &mut Notes<'_>) -> Result<(), Ending> {
     let synced = match File::open(rt, folder) {
         Ok(folder) => folder.sync_all(),
         Err(error) => Err(error),
     };
     match synced {
         Ok(()) => Ok(()),
-        Err(error) => Err(unmade(&error)),
+        Err(error) => Err(unmade_file(folder, &error, notes)),
     }
 }

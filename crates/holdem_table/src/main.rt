@@ -5,11 +5,17 @@
 mod arguments;
 mod help;
 mod init;
+mod kept_match;
 mod late_file;
+mod locking;
+mod log_files;
+mod notes;
 mod serve;
+mod store_files;
+mod utc;
 mod whole_file;
 
-use crate::arguments::{CheckArguments, HandArguments, Task, command, requested};
+use crate::arguments::{CheckArguments, HandArguments, SERVE, Task, command, requested};
 use crate::init::init;
 use crate::late_file::LateFile;
 use crate::serve::serve;
@@ -17,7 +23,8 @@ use crate::whole_file::read_file;
 use clap::error::ErrorKind;
 use clap::{ArgMatches, Error};
 use match_file::{MatchFault, MatchFile};
-use match_runs::{Conclusion, play_run};
+use match_runs::{Conclusion, Unserved, play_run};
+use std::alloc::AllocError;
 use std::io;
 use std::process::ExitCode;
 use streamed::{Ending, WrongWords, check_run, hand_run};
@@ -61,7 +68,16 @@ fn no_words(error: &io::Error) -> Ending {
 fn run(rt: &HostRuntime, words: &[String]) -> Conclusion {
     match matches(rt, words) {
         Ok(matches) => run_requested(rt, &matches),
+        Err(error) if error.kind() == ErrorKind::OutOfMemory => no_memory(words),
         Err(error) => Conclusion::Ended(show(rt, &error)),
+    }
+}
+
+/// The conclusion where memory is refused before the words are in their places: that of the command which stands there.
+fn no_memory(words: &[String]) -> Conclusion {
+    match words {
+        [_, command, ..] if command.as_str() == SERVE => Unserved::from(AllocError).conclusion(),
+        _ => Conclusion::Ended(Ending::OutOfMemory),
     }
 }
 
@@ -72,7 +88,7 @@ fn run_requested(rt: &HostRuntime, matches: &ArgMatches<'_>) -> Conclusion {
         Ok(Task::Check(arguments)) => Conclusion::Ended(check(rt, arguments)),
         Ok(Task::Play(path)) => Conclusion::Ended(play(rt, path)),
         Ok(Task::Init(path)) => Conclusion::Ended(init(rt, path)),
-        Ok(Task::Serve(path)) => serve(rt, path),
+        Ok(Task::Serve(arguments)) => serve(rt, arguments),
         Err(ending) => Conclusion::Ended(ending),
     }
 }
@@ -84,9 +100,6 @@ fn matches<'a>(rt: &HostRuntime, words: &'a [String]) -> Result<ArgMatches<'a>, 
 
 /// Prints what clap says of a command line that isn't run: help, the version, or what is wrong.
 fn show(rt: &HostRuntime, error: &Error) -> Ending {
-    if error.kind() == ErrorKind::OutOfMemory {
-        return Ending::OutOfMemory;
-    }
     if error.print(rt).is_err() {
         return Ending::StreamFailed;
     }

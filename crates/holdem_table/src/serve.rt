@@ -1,21 +1,27 @@
 //! `serve`: deals a match over TCP, from the files that a match file names.
 
-ghost use Rattle.std.specs.Prelude.{◌≡◌, ◌≤◌, IfOk, length};
+ghost use Rattle.std.specs.Prelude.{◌≡◌, ◌≤◌, length};
 ghost use Rattle.match_runs.specs.Conclusion.{IsOfServe};
 
+use crate::arguments::ServeArguments;
+use crate::init::tell_unused;
+use crate::kept_match::{compare_kept, unread};
+use crate::log_files::{add_logs, open_logs};
+use crate::notes::Notes;
+use crate::store_files::{cause, open_stores};
 use dealer_kind::Config;
 use dealer_node::NodeFault;
 use dealer_world::Cluster;
 use match_file::{MatchFile, Service};
 use match_links::{Failed, PortFault, TcpLinks};
 use match_runs::{
-    Conclusion, Note, SeatPorts, Unserved, log_path, serve_run, store_path, tell, tell_ports,
+    Cause, Conclusion, SeatPorts, Unserved, log_path, serve_run, store_path, tell_ports,
 };
-use promise_store::{FileDisk, Store, StoreFault};
+use promise_store::FileDisk;
 use serving::{Outages, ServeFault, Server};
 use std::alloc::AllocError;
+use std::fs;
 use std::fs::File;
-use std::{fs, io};
 use streamed::Ending;
 
 /// A server over files and sockets.
@@ -23,40 +29,49 @@ type TcpServer<'a> = Server<FileDisk, TcpLinks<'a>>;
 
 /// Deals the match of a match file to its end: listens for its seats, and keeps its stores and logs.
 ///
-/// The match file's entries are looked at, its ports bound, its stores read and its logs opened, in this order, before
-/// anything is changed. `Ended` with `Match` or `Unreadable` (status 2) comes where the match file is refused, or it, its
-/// game or a store file can't be read; else it is `Done`, once the match is over. What else comes, want of memory too, is
-/// the fault of the server (status 1). Notes go to standard error, one a line; the one before a fault names its port or
-/// file, where it has one.
-pub(crate) fn serve(rt: &HostRuntime, path: &str) -> Conclusion
+/// The match file's entries are looked at, its ports bound, the match compared with the one that its stores are kept for,
+/// its stores locked and read, and its logs opened and locked, in this order, before anything is changed. `Ended` with
+/// `Match`, `Unreadable`, `OtherMatch` or `StoreInUse` (status 2) comes where the match file is refused, where it, its
+/// game or a store file can't be read, where the stores are of another match, or where one is in use; else it is `Done`,
+/// once the match is over. What else comes, want of memory too, is the fault of the server (status 1). Notes go to standard
+/// error, one a line; the one before a fault names its port or file, where it has one.
+pub(crate) fn serve(rt: &HostRuntime, arguments: ServeArguments<'_>) -> Conclusion
     ensures { IsOfServe result }
 {
-    match serve_match(rt, path) {
+    let mut notes = Notes::new(rt, arguments.has_times);
+    match serve_match(rt, arguments.path, &mut notes) {
         Ok(()) => Conclusion::Ended(Ending::Done),
         Err(why) => why.conclusion(),
     }
 }
 
 /// The steps of it, up to the first that fails: what is looked at comes before what is changed.
-fn serve_match(rt: &HostRuntime, path: &str) -> Result<(), Unserved> {
-    let text = read(rt, path)?;
+fn serve_match(rt: &HostRuntime, path: &str, notes: &mut Notes<'_>) -> Result<(), Unserved> {
+    let text = read(rt, path, notes)?;
     let file = MatchFile::read(rt.alloc(), &text)?;
-    serve_file(rt, &file)
+    tell_unused(rt, &file, notes)?;
+    serve_file(rt, &file, notes)
 }
 
-/// The steps of it once there is a match file to read them from.
-fn serve_file(rt: &HostRuntime, file: &MatchFile) -> Result<(), Unserved> {
-    let config = configure(rt, file)?;
+/// The steps of it once there is a match file to read them from. The logs of earlier starts stay open, and so locked, as
+/// long as the match is served.
+fn serve_file(rt: &HostRuntime, file: &MatchFile, notes: &mut Notes<'_>) -> Result<(), Unserved> {
+    let config = configure(rt, file, notes)?;
     let service = file.service(rt.alloc(), config.nodes())?;
     let (stores, logs) = (service.stores, service.logs);
     let ports = seat_ports(&config, service.port);
-    let mut server = begin(rt, config, service, ports)?;
-    serve_seats(rt, &mut server, stores, logs, ports)
+    let mut old_logs = Vec::new(rt.alloc());
+    let mut server = begin(rt, config, service, ports, &mut old_logs, notes)?;
+    serve_seats(rt, &mut server, (stores, logs), ports, notes)
 }
 
 /// The match that a match file configures, whose game file is read.
-fn configure(rt: &HostRuntime, file: &MatchFile) -> Result<Config, Unserved> {
-    let game = read(rt, file.game()?)?;
+fn configure(
+    rt: &HostRuntime,
+    file: &MatchFile,
+    notes: &mut Notes<'_>,
+) -> Result<Config, Unserved> {
+    let game = read(rt, file.game()?, notes)?;
     Ok(file.config(rt.alloc(), Some(&game))?)
 }
 
@@ -64,14 +79,14 @@ fn configure(rt: &HostRuntime, file: &MatchFile) -> Result<Config, Unserved> {
 fn serve_seats(
     rt: &HostRuntime,
     server: &mut TcpServer<'_>,
-    stores: &str,
-    logs: &str,
+    folders: (&str, &str),
     ports: SeatPorts,
+    notes: &mut Notes<'_>,
 ) -> Result<(), Unserved> {
-    match serve_run(rt.alloc(), server, ports, &mut rt.stderr()) {
+    match serve_run(rt.alloc(), server, ports, notes) {
         Ok(()) => Ok(()),
         Err(fault) => {
-            note_failed(rt, server, stores, logs, fault)?;
+            tell_failed(rt, server, folders, fault, notes)?;
             Err(Unserved::Fault(fault))
         }
     }
@@ -86,48 +101,83 @@ fn seat_ports(config: &Config, first: u16) -> SeatPorts {
 }
 
 /// What a file has. A note names one that can't be read.
-fn read(rt: &HostRuntime, path: &str) -> Result<Vec<u8>, Unserved> {
+fn read(rt: &HostRuntime, path: &str, notes: &mut Notes<'_>) -> Result<Vec<u8>, Unserved> {
     match fs::read(rt, path) {
         Ok(text) => Ok(text),
-        Err(error) => Err(unread(rt, path, &error)),
+        Err(error) => Err(unread(path, &error, notes)),
     }
 }
 
-/// Why it isn't served where a file can't be read; a note names it, unless it is for want of memory.
-fn unread(rt: &HostRuntime, path: &str, error: &io::Error) -> Unserved {
-    let why = Unserved::unread(error);
-    if let Unserved::Unreadable = why {
-        note(rt, &Note::File(path));
+/// Tells the port or the file where a turn failed; the folders are those of stores and of logs.
+fn tell_failed(
+    rt: &HostRuntime,
+    server: &TcpServer<'_>,
+    (stores, logs): (&str, &str),
+    fault: ServeFault,
+    notes: &mut Notes<'_>,
+) -> Result<(), Unserved> {
+    match fault {
+        ServeFault::Node(NodeFault::Store(_)) => tell_store(rt, server, stores, notes),
+        ServeFault::Node(_) => Ok(()),
+        _ => tell_link(rt, logs, fault, server.links().failed(), notes),
     }
-    why
 }
 
-/// Tells the port or the file where a turn failed.
-fn note_failed(
+/// Tells the store of the node that was called last, and why the system refused a call of its disk.
+fn tell_store(
     rt: &HostRuntime,
     server: &TcpServer<'_>,
     stores: &str,
-    logs: &str,
-    fault: ServeFault,
+    notes: &mut Notes<'_>,
 ) -> Result<(), Unserved> {
-    match (fault, server.links().failed()) {
-        (ServeFault::Node(NodeFault::Store(_)), _) => {
-            let path = store_path(rt.alloc(), stores, server.last_node())?;
-            note(rt, &Note::File(path.as_str()));
-        }
-        (ServeFault::LinkFailed, Some(Failed::Port(port))) => note(rt, &Note::Port(port)),
-        (ServeFault::LogFailed, Some(Failed::Log(node))) => {
-            let path = log_path(rt.alloc(), logs, node)?;
-            note(rt, &Note::File(path.as_str()));
-        }
-        _ => {}
-    }
+    let node = server.last_node();
+    let path = store_path(rt.alloc(), stores, node)?;
+    let cause = cause_at(server.cluster(), node as usize);
+    notes.tell_file(path.as_str(), cause);
     Ok(())
 }
 
-/// Writes a note to standard error.
-fn note(rt: &HostRuntime, told: &Note<'_>) {
-    tell(rt.alloc(), &mut rt.stderr(), told);
+/// Why the system refused a call of a node's disk, if it refused one.
+fn cause_at(cluster: &Cluster<FileDisk>, node: usize) -> Cause {
+    if node < cluster.node_count() {
+        if let Some(disk) = cluster.node(node).disk() {
+            return cause(disk);
+        }
+    }
+    Cause::Unknown
+}
+
+/// Tells the port or the log where links failed.
+fn tell_link(
+    rt: &HostRuntime,
+    logs: &str,
+    fault: ServeFault,
+    failed: Option<Failed>,
+    notes: &mut Notes<'_>,
+) -> Result<(), Unserved> {
+    match (fault, failed) {
+        (ServeFault::LinkFailed, Some(Failed::Port { port, kind })) => {
+            notes.tell_port(port, Cause::of(kind));
+            Ok(())
+        }
+        (ServeFault::LogFailed, Some(Failed::Log { node, kind })) => {
+            tell_log(rt, logs, node, Cause::of(kind), notes)
+        }
+        _ => Ok(()),
+    }
+}
+
+/// Tells the log of a node, and why it failed.
+fn tell_log(
+    rt: &HostRuntime,
+    logs: &str,
+    node: u8,
+    cause: Cause,
+    notes: &mut Notes<'_>,
+) -> Result<(), Unserved> {
+    let path = log_path(rt.alloc(), logs, node)?;
+    notes.tell_file(path.as_str(), cause);
+    Ok(())
 }
 
 /// Binds the ports, opens stores and logs, and makes the server.
@@ -136,140 +186,75 @@ fn begin<'a>(
     config: Config,
     service: Service<'_>,
     ports: SeatPorts,
+    old_logs: &mut Vec<File>,
+    notes: &mut Notes<'_>,
 ) -> Result<TcpServer<'a>, Unserved>
     requires { service.port ≤ 65000 }
 {
     let Service {
         stores,
-        logs,
+        logs: folder,
         port,
         outages,
     } = service;
     let nodes = config.nodes();
     config.limits();
-    let mut links = bind(rt, port, nodes, config.game().players())?;
-    tell_ports(rt.alloc(), &config, ports, &mut rt.stderr());
-    let cluster = open_cluster(rt, config, stores)?;
-    open_logs(rt, &mut links, logs, nodes)?;
+    let mut links = bind(rt, port, nodes, config.game().players(), notes)?;
+    tell_ports(rt.alloc(), &config, ports, notes);
+    compare_kept(rt, stores, &config, notes)?;
+    let disks = open_stores(rt, stores, nodes, notes)?;
+    let logs = open_logs(rt, folder, nodes, notes)?;
+    let cluster = open_cluster(rt, config, disks, stores, notes)?;
+    add_logs(rt, folder, logs, &mut links, old_logs, notes)?;
     match Server::new(rt.alloc(), cluster, links, Outages::new(outages)) {
         Ok(server) => Ok(server),
-        Err(fault) => Err(unbegun(rt, logs, fault)),
+        Err(fault) => Err(unbegun(folder, fault, notes)),
     }
 }
 
-/// Opens the stores, and starts the nodes over them.
+/// Starts the nodes over their stores.
 fn open_cluster(
     rt: &HostRuntime,
     config: Config,
+    disks: Vec<FileDisk>,
     folder: &str,
-) -> Result<Cluster<FileDisk>, Unserved> {
+    notes: &mut Notes<'_>,
+) -> Result<Cluster<FileDisk>, Unserved>
+    requires { length disks.items ≡ length config.sources }
+{
     config.limits();
-    let disks = open_stores(rt, folder, config.nodes())?;
     match Cluster::open(rt.alloc(), config, disks) {
         Ok(cluster) => Ok(cluster),
-        Err(fault) => Err(unbegun(rt, folder, fault.into())),
+        Err(fault) => Err(unbegun(folder, fault.into(), notes)),
     }
 }
 
 /// Why it isn't served where stores or logs that could be opened fail after all; a note names their folder.
-fn unbegun(rt: &HostRuntime, folder: &str, fault: ServeFault) -> Unserved {
+fn unbegun(folder: &str, fault: ServeFault, notes: &mut Notes<'_>) -> Unserved {
     if let ServeFault::LogFailed | ServeFault::Node(NodeFault::Store(_)) = fault {
-        note(rt, &Note::File(folder));
+        notes.tell_file(folder, Cause::Unknown);
     }
     Unserved::Fault(fault)
 }
 
 /// Binds the ports. A note names one that can't be had.
-fn bind(rt: &HostRuntime, port: u16, nodes: usize, players: usize) -> Result<TcpLinks<'_>, Unserved>
+fn bind<'a>(
+    rt: &'a HostRuntime,
+    port: u16,
+    nodes: usize,
+    players: usize,
+    notes: &mut Notes<'_>,
+) -> Result<TcpLinks<'a>, Unserved>
     requires port { port ≤ 65000 }
     requires nodes { nodes ≤ 5 }
     requires players { players ≤ 10 }
 {
     match TcpLinks::bind(rt, port, nodes, players) {
         Ok(links) => Ok(links),
-        Err(PortFault::Port(port)) => {
-            note(rt, &Note::Port(port));
+        Err(PortFault::Port { port, kind }) => {
+            notes.tell_port(port, Cause::of(kind));
             Err(Unserved::Fault(ServeFault::LinkFailed))
         }
         Err(PortFault::OutOfMemory) => Err(Unserved::from(AllocError)),
     }
-}
-
-/// Opens the stores of so many nodes, and looks whether they are stores.
-fn open_stores(rt: &HostRuntime, folder: &str, nodes: usize) -> Result<Vec<FileDisk>, Unserved>
-    requires { nodes ≤ 5 }
-    ensures { IfOk result (λ disks. length disks.items ≡ nodes) }
-{
-    let mut disks = Vec::with_capacity(rt.alloc(), nodes)?;
-    for node in 0..nodes {
-        let path = store_path(rt.alloc(), folder, node as u8)?;
-        let disk = open_store(rt, path.as_str(), node as u8, nodes as u8)?;
-        if disks.push(disk).is_err() {
-            return Err(Unserved::from(AllocError));
-        }
-    }
-    Ok(disks)
-}
-
-/// A store file that is there, and has a store of this node. A note names one that isn't.
-fn open_store(rt: &HostRuntime, path: &str, node: u8, nodes: u8) -> Result<FileDisk, Unserved> {
-    let file = match File::options().read(true).write(true).open(rt, path) {
-        Ok(file) => file,
-        Err(error) => return Err(unread(rt, path, &error)),
-    };
-    match Store::open(rt.alloc(), FileDisk::new(file), node, nodes) {
-        Ok(store) => Ok(store.close()),
-        Err((_, StoreFault::OutOfMemory)) => Err(Unserved::from(AllocError)),
-        Err((_, fault)) => {
-            note(rt, &Note::File(path));
-            Err(Unserved::Fault(ServeFault::Node(NodeFault::Store(fault))))
-        }
-    }
-}
-
-/// Opens the logs of so many nodes. No log is made before all that are there were looked at.
-fn open_logs(
-    rt: &HostRuntime,
-    links: &mut TcpLinks<'_>,
-    folder: &str,
-    nodes: usize,
-) -> Result<(), Unserved>
-    requires { nodes ≤ 5 }
-{
-    for node in 0..nodes {
-        let path = log_path(rt.alloc(), folder, node as u8)?;
-        look_at_log(rt, path.as_str())?;
-    }
-    for node in 0..nodes {
-        let path = log_path(rt.alloc(), folder, node as u8)?;
-        let log = open_log(rt, path.as_str())?;
-        links.add_log(log)?;
-    }
-    Ok(())
-}
-
-/// Whether a log that is there can be opened.
-fn look_at_log(rt: &HostRuntime, path: &str) -> Result<(), Unserved> {
-    match File::options().append(true).open(rt, path) {
-        Ok(_) => Ok(()),
-        Err(error) if error.kind() == io::ErrorKind::NotFound => Ok(()),
-        Err(error) => Err(no_log(rt, path, &error)),
-    }
-}
-
-/// A log, as it is: it is emptied only once all could be opened. One that isn't there is made.
-fn open_log(rt: &HostRuntime, path: &str) -> Result<File, Unserved> {
-    match File::options().append(true).create(true).open(rt, path) {
-        Ok(file) => Ok(file),
-        Err(error) => Err(no_log(rt, path, &error)),
-    }
-}
-
-/// Why it isn't served where a log can't be opened; a note names it, unless it is for want of memory.
-fn no_log(rt: &HostRuntime, path: &str, error: &io::Error) -> Unserved {
-    if error.kind() == io::ErrorKind::OutOfMemory {
-        return Unserved::from(AllocError);
-    }
-    note(rt, &Note::File(path));
-    Unserved::Fault(ServeFault::LogFailed)
 }

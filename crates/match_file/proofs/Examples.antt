@@ -1,6 +1,7 @@
 -- What match files say, worked out: each example computes, and a near miss doesn't meet its definition.
 use Rattle.std.proofs.Common.{◌≡◌, ℕ, zero, suc, ◌<◌, ◌≤◌, ◌*◌, pos, List, [], ◌∷◌, length, Option, Some, None, Ok, refl, ap, sym, ◌∙◌, arith}
 use Rattle.std.specs.Prelude.{codes}
+use Rattle.std.specs.Fmt.{digits}
 use Rattle.std.specs.List.{All, IsDistinct}
 use Rattle.card_core.proofs.Examples.{heads_up, heads_up-deal}
 use Rattle.toml.specs.Data.{Data, string, integer, array, table, Members, no_members, member}
@@ -10,6 +11,10 @@ use Rattle.match_file.specs.declared.key.Key.{Key}
 use Rattle.match_file.specs.declared.key.Key.TheVariants.{Name, Game, Hands, Names, Port}
 use Rattle.match_file.specs.declared.outage.Outage.{Outage}
 use Rattle.match_file.specs.declared.match_fault.MatchFault.TheVariants.{BadEntry, Unreadable}
+use Rattle.match_file.specs.declared.difference.Difference.TheVariants as other
+use Rattle.match_file.specs.Kept.{Kept, Keeps, IsFirst, kept_text}
+use Rattle.match_file.specs.Unused.{unused_keys}
+use Rattle.game_def.specs.Game.{Game as GameValue}
 use Rattle.match_file.specs.Keys.{key_text}
 use Rattle.match_file.specs.Said.{IsAbsent, EachSays, SaysName, SaysDeal, SaysDeals, SaysSource}
 use Rattle.match_file.proofs.Each.{each-length}
@@ -209,3 +214,67 @@ no_game_before_the_name wrong = let e : None ≡ Some (string wrong.0.0) = wrong
 
 no_port_before_stores : IsUnserved 3 no_members (BadEntry Port) → ⊥
 no_port_before_stores wrong = let e : None ≡ Some (string wrong.0.0) = wrong.0.1 in cc
+
+-- ---- a kept match
+
+abbrev limit_game : ℕ → GameValue
+limit_game stack = record {
+  players = 2;
+  stacks = stack ∷ stack ∷ [];
+  blinds = 5 ∷ 10 ∷ [];
+  raise_sizes = Some (10 ∷ 10 ∷ 20 ∷ 20 ∷ []);
+  first_players = 1 ∷ 0 ∷ 0 ∷ 0 ∷ [];
+  max_raises = 3 ∷ 4 ∷ 4 ∷ 4 ∷ [];
+}
+
+abbrev kept : List ℕ → List ℕ → ℕ → List (List ℕ) → ℕ → GameValue → Kept
+kept name game hands names nodes values = record {
+  setting = record { game = values; title = record { name = name; game = game; hands = hands }; names = names };
+  nodes = nodes;
+}
+
+abbrev seats : List (List ℕ)
+seats = codes "alice" ∷ codes "bob" ∷ []
+
+abbrev tonight : Kept
+tonight = kept (codes "tonight") (codes "l2.game") 20 seats 3 (limit_game 200)
+
+its_text : kept_text tonight (codes "GAMEDEF\nlimit\n") ≡ codes "# match.kept 1\nname tonight\ngame l2.game\nhands 20\nnames alice|bob\nnodes 3\n\nGAMEDEF\nlimit\n"
+unfolding digits
+its_text = refl
+
+no_match_of_another_form : IsAbsent (Keeps (codes "# match.kept 2\n"))
+no_match_of_another_form old keeps = let form : codes "# match.kept 2\n" ≡ kept_text old keeps.game = keeps.form in cc
+
+another_name : IsFirst (kept (codes "today") (codes "l2.game") 20 seats 3 (limit_game 200)) tonight other.Name
+another_name same = cc
+
+another_game : IsFirst (kept (codes "tonight") (codes "nolimit.game") 20 seats 3 (limit_game 200)) tonight other.Game
+another_game = (refl, λ same. cc)
+
+more_hands : IsFirst (kept (codes "tonight") (codes "l2.game") 21 seats 3 (limit_game 200)) tonight other.Hands
+more_hands = (refl, refl, λ same. omega (arith, same))
+
+seats_in_another_order : IsFirst (kept (codes "tonight") (codes "l2.game") 20 (codes "bob" ∷ codes "alice" ∷ []) 3 (limit_game 200)) tonight other.Names
+seats_in_another_order = (refl, λ same. cc)
+
+more_nodes : IsFirst (kept (codes "tonight") (codes "l2.game") 20 seats 5 (limit_game 200)) tonight other.Node
+more_nodes = (refl, refl, λ same. omega (arith, same))
+
+other_stacks : IsFirst (kept (codes "tonight") (codes "l2.game") 20 seats 3 (limit_game 201)) tonight other.Values
+other_stacks = (refl, refl, refl, λ same. let e : 201 ≡ 200 = stack_said same in omega (arith, e))
+  where
+    stack_said : {x y : ℕ} → limit_game x ≡ limit_game y → x ≡ y
+    stack_said {x} {y} same = let e : x ∷ x ∷ [] ≡ y ∷ y ∷ [] = ap (λ (g : GameValue). g.stacks) same in cc
+
+-- what differs behind the first isn't told
+no_values_before_the_name : IsFirst (kept (codes "today") (codes "l2.game") 20 seats 3 (limit_game 201)) tonight other.Values → ⊥
+no_values_before_the_name first = let e : codes "today" ≡ codes "tonight" = ap (λ title. title.name) first.0 in cc
+
+-- ---- keys that no command reads
+
+one_unused : unused_keys (member (codes "name") (string (codes "m1")) (member (codes "outages") (array (items_of [])) (member (codes "port") (integer (pos 2000)) no_members))) ≡ codes "outages" ∷ []
+one_unused = refl
+
+name_is_read : unused_keys (only Name (string (codes "m1"))) ≡ []
+name_is_read = refl

@@ -5,3 +5,7 @@ pub mod Outages
 pub mod Matches
 pub mod Refusals
 pub mod MatchFile
+pub mod Unused
+pub mod Kept
+pub mod KeptLines
+pub mod KeptMatch

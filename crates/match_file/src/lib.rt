@@ -3,23 +3,32 @@
 //! `MatchFile::read` takes the text, `game` says which game file to read next, and `config` answers with the match
 //! that file and game file say. `stores` and `service` answer what the nodes on disk and over TCP need besides. Each
 //! looks at its keys in the order in which they are listed and answers the first fault; keys that it doesn't look at
-//! are passed over, right or wrong. Nothing here opens a file.
+//! are passed over, right or wrong; `unused` tells those that no command reads. `kept_text` is what is kept of a match
+//! beside its stores, and `kept_difference` in what a kept one is another. Nothing here opens a file.
 //!
 //! The tests `a_match_is_what_its_files_say` and `what_is_served_is_what_the_file_says` of `rule_tests` walk this way.
 //! Faults: `MatchFault`, 100 to 102, 104 and 92, the first in the order that `specs/Refusals.antt` states.
 #![tactic(auto)]
 
 mod config;
+mod difference;
 mod entries;
+mod kept;
+mod kept_lines;
+mod kept_match;
 mod key;
 mod match_fault;
 mod match_file;
 mod node_tables;
 mod outage;
 mod outages;
+mod sameness;
 mod seat_names;
 mod service;
+mod unused;
 
+pub use difference::Difference;
+pub use kept::{kept_difference, kept_text};
 pub use key::Key;
 pub use match_fault::MatchFault;
 pub use match_file::MatchFile;

@@ -1,4 +1,6 @@
 mod Examples
 mod PassageExamples
+mod WaitingExamples
+mod CallerExamples
 pub mod Walks
 pub mod Passed

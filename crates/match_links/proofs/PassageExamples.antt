@@ -1,6 +1,6 @@
 -- What passed over links, on values.
 use Rattle.std.proofs.Common.{◌≡◌, refl, List, [], ◌∷◌}
-use Rattle.match_links.specs.Passages.{Passage, Came, Told, Emptied, Logged, came, lines_in, log_of}
+use Rattle.match_links.specs.Passages.{Passage, Came, Told, Emptied, Logged, sat, came, lines_in, log_of}
 
 -- the log of node 0 is emptied, gets a byte, is emptied and gets another; node 1's gets two; seat 1 sends a byte and is told one
 abbrev some : List Passage
@@ -30,3 +30,10 @@ end_of_a_connection = refl
 
 a_piece : came 0 1 (70 ∷ 10 ∷ []) ≡ Came 0 1 (70 ∷ 10 ∷ []) ∷ []
 a_piece = refl
+
+-- one that was seated has sent nothing yet: no read adds the same
+a_connection : sat 0 1 ≡ Came 0 1 []
+a_connection = refl
+
+no_piece_is_one : came 0 1 [] ≡ sat 0 1 ∷ [] → ⊥
+no_piece_is_one is = cc

@@ -1,7 +1,7 @@
 -- What one more passage leaves of the lines and the logs.
 use Rattle.std.proofs.Common.{◌≡◌, ℕ, zero, suc, ◌<◌, ◌==◌, if◌then◌else◌, List, [], ◌∷◌, ◌++◌, map, length, get_or, set, refl, ap, ◌∙◌, arith, rules}
 use Rattle.std.proofs.lemmas.List.{append-nil}
-use Rattle.match_links.specs.Passages.{Passage, Came, Told, Emptied, Logged, came, lines_in, logged_by, log_after, log_of}
+use Rattle.match_links.specs.Passages.{Passage, Came, Told, Emptied, Logged, sat, came, lines_in, logged_by, log_after, log_of}
 
 lines_more : (xs ys : List Passage) → lines_in (xs ++ ys) ≡ lines_in xs ++ lines_in ys
 lines_more [] ys = refl
@@ -23,6 +23,9 @@ pub lines_when_came : (passed : List Passage) (node seat : ℕ) (bytes : List �
 lines_when_came passed node seat [] = ap lines_in (append-nil passed)
 lines_when_came passed node seat (byte ∷ bytes) = lines_more passed (Came node seat (byte ∷ bytes) ∷ []) ∙ append-nil (lines_in passed)
 
+pub lines_when_sat : (passed : List Passage) (node seat : ℕ) → lines_in (passed ++ sat node seat ∷ []) ≡ lines_in passed
+lines_when_sat passed node seat = lines_more passed (sat node seat ∷ []) ∙ append-nil (lines_in passed)
+
 pub lines_when_emptied : (passed : List Passage) (node : ℕ) → lines_in (passed ++ Emptied node ∷ []) ≡ lines_in passed
 lines_when_emptied passed node = lines_more passed (Emptied node ∷ []) ∙ append-nil (lines_in passed)
 
@@ -36,6 +39,9 @@ log_when_told passed i node seat line = more i [] passed (Told node seat line �
 pub log_when_came : (passed : List Passage) (i node seat : ℕ) (bytes : List ℕ) → log_of (passed ++ came node seat bytes) i ≡ log_of passed i
 log_when_came passed i node seat [] = ap (λ ps. log_of ps i) (append-nil passed)
 log_when_came passed i node seat (byte ∷ bytes) = more i [] passed (Came node seat (byte ∷ bytes) ∷ [])
+
+pub log_when_sat : (passed : List Passage) (i node seat : ℕ) → log_of (passed ++ sat node seat ∷ []) i ≡ log_of passed i
+log_when_sat passed i node seat = more i [] passed (sat node seat ∷ [])
 
 pub log_when_emptied : (passed : List Passage) (i node : ℕ) → log_of (passed ++ Emptied node ∷ []) i ≡ (if node == i then [] else log_of passed i)
 log_when_emptied passed i node = more i [] passed (Emptied node ∷ [])

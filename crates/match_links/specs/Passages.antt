@@ -4,7 +4,7 @@ use Rattle.std.specs.Coded.{Coded, code_by, coded×, coded_ℕ, coded_list}
 
 -- one call of a link that did what it was to do. Nodes and seats are counted from 0
 pub data Passage : Type 0 where
-  -- a piece that a seat sent to a node
+  -- a piece that a seat sent to a node; one without bytes is the seat's connection, which was seated there
   Came : (node seat : ℕ) (bytes : List ℕ) → Passage
   -- a line that a seat was told by a node, without its end
   Told : (node seat : ℕ) (line : List ℕ) → Passage
@@ -12,6 +12,10 @@ pub data Passage : Type 0 where
   Emptied : (node : ℕ) → Passage
   -- text that was put behind what the log of a node had
   Logged : (node : ℕ) (text : List ℕ) → Passage
+
+-- what an accept adds that seated a connection
+abbrev pub sat : ℕ → ℕ → Passage
+sat node seat = Came node seat []
 
 -- what a read adds that gave these bytes: nothing at the end of a connection
 abbrev pub came : ℕ → ℕ → List ℕ → List Passage

@@ -13,6 +13,9 @@ piece_len bytes = min (1 + position_or_len is_line_feed bytes) (length bytes)
 abbrev pub part_len : ℕ → List ℕ → ℕ
 part_len room bytes = min (piece_len bytes) room
 
+abbrev pub is_empty : List ℕ → Bool
+is_empty bytes = length bytes == 0
+
 -- a whole piece came: a line with its line feed, or as many bytes as a piece may have
 abbrev pub is_whole : List ℕ → Bool
 is_whole bytes = nat_le 4097 (length bytes) || is_some (position is_line_feed bytes)

@@ -1,6 +1,6 @@
 //! Connections of seats in memory.
 
-ghost use Rattle.std.specs.Prelude.{◌≡◌, ◌+◌, ◌≤◌, ◌<◌, [], length, take, drop, position, vec_len, IfOk, IfSome};
+ghost use Rattle.std.specs.Prelude.{◌≡◌, ◌+◌, ◌≤◌, ◌<◌, [], length, take, drop, position, vec_len, IfOk, IfSome, OnErr};
 ghost use Rattle.match_links.specs.Pieces.{part_len};
 
 use crate::input::give;
@@ -48,7 +48,7 @@ pub(crate) struct Callers {
 }
 
 impl Callers {
-    ghost use Rattle.match_links.specs.Callers.{is_open_for, to_read, IsNextPiece};
+    ghost use Rattle.match_links.specs.Callers.{is_open_for, can_be_opened, opening, IsOpened, to_read, IsNextPiece};
 
     /// There are none.
     pub(crate) fn new(alloc: Global) -> Callers
@@ -78,24 +78,36 @@ impl Callers {
         Ok(())
     }
 
-    /// Opens the first connection of a seat to a node that waits and sends something; fails where there is none.
-    pub(crate) fn open_next(&mut self, node: u8, seat: u8) -> Result<(), LinkFault> {
-        for caller in &mut self.all {
-            if caller.node == node
-                && caller.seat == seat
-                && caller.state == State::Waiting
-                && !caller.bytes.is_empty()
-            {
-                caller.state = State::Open;
-                return Ok(());
+    /// Opens the first connection of a seat to a node that waits and sends something; fails where there is none. Each has
+    /// ended behind what it sends: one that sends nothing is passed over.
+    pub(crate) fn open_next(&mut self, node: u8, seat: u8) -> Result<(), LinkFault>
+        ensures value { result ≡ opening (position (can_be_opened node seat) self.old.all.items) }
+        ensures opened { IsOpened self.old.all.items self.new.all.items (position (can_be_opened node seat) self.old.all.items) }
+    {
+        match self.next_at(node, seat) {
+            Some(at) => {
+                self.all[at].state = State::Open;
+                Ok(())
             }
+            None => Err(LinkFault::Failed),
         }
-        Err(LinkFault::Failed)
+    }
+
+    /// The number of the first connection of a seat to a node that waits and sends something.
+    fn next_at(&self, node: u8, seat: u8) -> Option<usize>
+        ensures value { result ≡ position (can_be_opened node seat) self.now.all.items }
+        ensures within { IfSome result (λ at. at < length self.now.all.items) }
+    {
+        self.all.iter().position(|caller| caller.node == node
+            && caller.seat == seat
+            && caller.state == State::Waiting
+            && !caller.bytes.is_empty())
     }
 
     /// Reads the next piece from a seat's connection to a node; fails where it has none.
     pub(crate) fn read(&mut self, node: u8, seat: u8, piece: &mut [u8]) -> Result<usize, LinkFault>
         ensures within { IfOk result (λ count. count ≤ length piece.new) }
+        ensures failed { OnErr result (self.new.all.items ≡ self.old.all.items) }
         ensures given { IfOk result (λ count. IsNextPiece (length piece.old) count piece.new (to_read node seat self.old.all.items)) }
     {
         match self.open_at(node, seat) {

@@ -1,5 +1,5 @@
 ghost use Rattle.std.specs.Prelude.{◌≡◌, ◌≤◌, ◌+◌, [], length, take, drop, vec_len, IfOk, OnErr};
-ghost use Rattle.match_links.specs.Pieces.{part_len, is_whole};
+ghost use Rattle.match_links.specs.Pieces.{part_len, is_empty, is_whole};
 
 use crate::limits::PIECE;
 use crate::piece::{first_line_feed, piece_len};
@@ -31,7 +31,14 @@ impl Input {
         self.bytes.len() >= PIECE || first_line_feed(&self.bytes).is_some()
     }
 
-    /// Waits for more bytes, and says how many came: none at the end. They stand behind those that came before.
+    /// Whether nothing came that isn't read yet.
+    pub(crate) fn is_empty(&self) -> bool
+        ensures { result ≡ is_empty self.now.bytes.items }
+    {
+        self.bytes.is_empty()
+    }
+
+    /// Reads more bytes, and says how many came: none at the end. They stand behind those that came before.
     pub(crate) fn fill<R: Read>(&mut self, from: &mut R) -> io::Result<usize>
         ensures count { IfOk result (λ count. length self.new.bytes.items ≡ length self.old.bytes.items + count) }
         ensures kept { take (length self.old.bytes.items) self.new.bytes.items ≡ self.old.bytes.items }

@@ -1,13 +1,16 @@
 //! What a server reaches outside of its nodes: seats, the connections between nodes, and logs.
 
 ghost use Rattle.std.specs.Prelude.{◌≡◌, ◌≤◌, List, [], ◌∷◌, ◌++◌, length, take, IfOk, OnOk, OnErr};
-ghost use Rattle.match_links.specs.Passages.{Passage, Told, Emptied, Logged, came};
+ghost use Rattle.match_links.specs.Passages.{Passage, Told, Emptied, Logged, sat, came};
 
 /// Why a call of a link did nothing.
 #[derive(Clone, Copy, Debug, PartialEq, Eq)]
 pub enum LinkFault {
     /// The link failed.
     Failed,
+    /// Nothing came while it was waited for, and nothing was taken: the same call may be made again. `accept` and `read`
+    /// alone answer so; of any other call it is as `Failed`.
+    Slow,
     /// Memory was refused before anything was taken from the link: the same call may be made again.
     OutOfMemory,
 }
@@ -16,21 +19,23 @@ pub enum LinkFault {
 /// node. Nodes and seats are counted from 0.
 ///
 /// Any call may fail, and nothing is said of what a link gives: what is promised of a server holds whatever its links
-/// answer. What passed is said: the pieces that came, the lines that seats were told, and what logs were given. A call
+/// answer. What passed is said: who was seated, the pieces that came, the lines that seats were told, and what logs were given. A call
 /// that fails adds nothing to it.
 pub trait Links {
     /// What passed so far, in order.
     ghost passed: { Self → List Passage };
 
-    /// Waits for a connection of a seat at a node, which has sent something. Those that ended before they sent anything
-    /// are passed over.
+    /// Waits for a connection of a seat at a node, which has sent something; slow where none comes in the time that a wait
+    /// takes at most. Those that ended before they sent anything are passed over.
     ///
     /// This is the one call that may want memory, for what the seat will send.
     fn accept(&mut self, node: u8, seat: u8) -> Result<(), LinkFault>
-        ensures { passed self.new ≡ passed self.old };
+        ensures sat { OnOk result (passed self.new ≡ passed self.old ++ sat node seat ∷ []) }
+        ensures failed { OnErr result (passed self.new ≡ passed self.old) };
 
     /// Waits for the next piece of what a seat sent, up to and with its first line feed, and no more than the buffer
-    /// holds; at the connection's end what is left, and then nothing. The answer is how many bytes it has.
+    /// holds; at the connection's end what is left, and then nothing. The answer is how many bytes it has. Slow where it
+    /// isn't there in the time that a wait takes at most; what came of it is kept.
     fn read(&mut self, node: u8, seat: u8, piece: &mut [u8]) -> Result<usize, LinkFault>
         ensures within { IfOk result (λ count. count ≤ length piece.new) }
         ensures came { IfOk result (λ count. passed self.new ≡ passed self.old ++ came node seat (take count piece.new)) }

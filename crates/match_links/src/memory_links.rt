@@ -1,8 +1,9 @@
 //! Links in memory, of whose calls one may fail.
 
-ghost use Rattle.std.specs.Prelude.{◌≡◌, ◌++◌, ◌==◌, [], ℕ, if◌then◌else◌, ◌∷◌, map, get_or, IfOk, OnOk, OnErr};
+ghost use Rattle.std.specs.Prelude.{◌≡◌, ◌≤◌, ◌++◌, ◌==◌, [], ℕ, if◌then◌else◌, ◌∷◌, length, take, map, get_or, IfOk, OnOk, OnErr};
 ghost use Rattle.match_links.specs.Memory.{told_by, AreTold, told_prop, AreLogged, logged_prop};
-ghost use Rattle.match_links.specs.Passages.{lines_in, log_of, Told as WasTold};
+ghost use Rattle.match_links.specs.Counting.{is_due, one_less, passing};
+ghost use Rattle.match_links.specs.Passages.{sat, came, lines_in, log_of, Told as WasTold};
 
 use crate::callers::Callers;
 use crate::limits::NODES;
@@ -37,7 +38,9 @@ pub struct Told {
 /// Links in memory: connections that wait from the start, each with all that it sends; what was told to seats; a log
 /// for each node. Nodes are counted from 0, to 4.
 ///
-/// Connections that wait at a node when its ports are closed go on waiting: they stand for bots that dial again.
+/// Connections that wait at a node when its ports are closed, or while the seat is awaited elsewhere, go on waiting: they
+/// stand for bots that dial again. Nobody comes later than the start: a call that nobody is there for fails at once, and
+/// is slow only where it was told to be.
 pub struct MemoryLinks {
     alloc: Global,
     callers: Callers,
@@ -52,6 +55,10 @@ pub struct MemoryLinks {
     left: Option<u64>,
     /// What the call that failed was to reach.
     failed: Option<Reached>,
+    /// How many calls pass before the one that is slow; none once it was, or where none is to be.
+    left_to_slow: Option<u64>,
+    /// What the call that was slow was to reach.
+    slowed: Option<Reached>,
     /// What passed, for clauses alone.
     passed: Passages,
     ghost lines: { AreTold told.items passed.items } by { told_prop told.items passed.items },
@@ -71,8 +78,28 @@ impl Drop for MemoryLinks {
             closed: _,
             left: _,
             failed: _,
+            left_to_slow: _,
+            slowed: _,
             passed: _,
         } = self;
+    }
+}
+
+/// Counts a call, and says whether it is the one that was counted down to.
+fn count_down(left: &mut Option<u64>) -> bool
+    ensures due { result ≡ is_due left.old }
+    ensures left { left.new ≡ one_less left.old }
+{
+    match *left {
+        None => false,
+        Some(0) => {
+            *left = None;
+            true
+        }
+        Some(count) => {
+            *left = Some(count - 1);
+            false
+        }
     }
 }
 
@@ -154,6 +181,8 @@ impl MemoryLinks {
             closed: [false; NODES],
             left: call.checked_sub(1),
             failed: None,
+            left_to_slow: None,
+            slowed: None,
             passed: Passages::new(),
         })
     }
@@ -189,6 +218,22 @@ impl MemoryLinks {
         self.failed
     }
 
+    /// The call of this number from now on, counted from 1 as for the call that fails, is slow; with 0 none is. Where one
+    /// call is to do both, it fails.
+    pub fn slow_down(&mut self, call: u64)
+        ensures { passed_of self.new ≡ passed_of self.old }
+    {
+        self.left_to_slow = call.checked_sub(1);
+        self.slowed = None;
+    }
+
+    /// What the call that was to be slow was to reach, once it has been made.
+    pub fn slowed(&self) -> Option<Reached>
+        ensures { result ≡ self.now.slowed }
+    {
+        self.slowed
+    }
+
     /// Whether the seats' ports of a node are closed.
     fn is_closed(&self, node: u8) -> bool {
         match self.closed.get(node as usize) {
@@ -207,36 +252,53 @@ impl MemoryLinks {
 
     /// Whether this call passes.
     fn pass(&mut self, reached: Reached) -> Result<(), LinkFault>
-        ensures { self.new.passed ≡ self.old.passed }
+        ensures callers { self.new.callers ≡ self.old.callers }
+        ensures answer { result ≡ passing self.old.left self.old.left_to_slow }
+        ensures left { self.new.left ≡ one_less self.old.left }
+        ensures left_to_slow { self.new.left_to_slow ≡ one_less self.old.left_to_slow }
+        ensures same { self.new.passed ≡ self.old.passed }
     {
-        match self.left {
-            None => Ok(()),
-            Some(0) => {
-                self.left = None;
-                self.failed = Some(reached);
-                Err(LinkFault::Failed)
-            }
-            Some(count) => {
-                self.left = Some(count - 1);
-                Ok(())
-            }
+        let fails = count_down(&mut self.left);
+        let is_slow = count_down(&mut self.left_to_slow);
+        if fails {
+            self.failed = Some(reached);
+            return Err(LinkFault::Failed);
         }
+        if is_slow {
+            self.slowed = Some(reached);
+            return Err(LinkFault::Slow);
+        }
+        Ok(())
     }
 }
 
 impl Links for MemoryLinks {
+    ghost use Rattle.match_links.specs.MemoryPassed.{passed_of, callers_of};
+
     ghost passed = { λ links. links.passed.items };
 
-    fn accept(&mut self, node: u8, seat: u8) -> Result<(), LinkFault> {
+    #[tactic(auto, using(crate::proofs::Passed::lines_when_sat, crate::proofs::Passed::log_when_sat))]
+    fn accept(&mut self, node: u8, seat: u8) -> Result<(), LinkFault>
+        ensures sat { OnOk result (passed_of self.new ≡ passed_of self.old ++ sat node seat ∷ []) }
+        ensures failed { OnErr result (passed_of self.new ≡ passed_of self.old) }
+        ensures nothing_taken { OnErr result (callers_of self.new ≡ callers_of self.old) }
+    {
         self.pass(Reached::Seat)?;
         if self.is_closed(node) {
             return Err(LinkFault::Failed);
         }
-        self.callers.open_next(node, seat)
+        self.callers.open_next(node, seat)?;
+        self.passed.sat(node, seat);
+        Ok(())
     }
 
     #[tactic(auto, using(crate::proofs::Passed::lines_when_came, crate::proofs::Passed::log_when_came))]
-    fn read(&mut self, node: u8, seat: u8, piece: &mut [u8]) -> Result<usize, LinkFault> {
+    fn read(&mut self, node: u8, seat: u8, piece: &mut [u8]) -> Result<usize, LinkFault>
+        ensures within { IfOk result (λ count. count ≤ length piece.new) }
+        ensures came { IfOk result (λ count. passed_of self.new ≡ passed_of self.old ++ came node seat (take count piece.new)) }
+        ensures failed { OnErr result (passed_of self.new ≡ passed_of self.old) }
+        ensures nothing_taken { OnErr result (callers_of self.new ≡ callers_of self.old) }
+    {
         self.pass(Reached::Seat)?;
         let count = self.callers.read(node, seat, piece)?;
         self.passed.came(node, seat, &piece[..count]);

@@ -2,7 +2,7 @@
 
 ghost use Rattle.std.specs.Prelude.{◌≡◌, List, [], ◌∷◌, ◌++◌};
 ghost use Rattle.std.specs.Borrow.{ftrue};
-ghost use Rattle.match_links.specs.Passages.{Passage, passages_code, came, Told, Emptied, Logged};
+ghost use Rattle.match_links.specs.Passages.{Passage, passages_code, sat, came, Told, Emptied, Logged};
 
 use std::marker::Model;
 
@@ -40,6 +40,17 @@ impl Passages {
         ensures { result.items ≡ self.now.items ++ passage_of _what.now ∷ [] }
     {
         Passages {}
+    }
+
+    /// A connection of a seat was seated.
+    pub(crate) fn sat(&mut self, node: u8, seat: u8)
+        ensures { self.new.items ≡ self.old.items ++ sat node seat ∷ [] }
+    {
+        *self = self.and(&Passing::Came {
+            node,
+            seat,
+            bytes: &[],
+        });
     }
 
     /// A piece came of a seat; nothing where it has no bytes.

@@ -1,6 +1,11 @@
 mod ServingExamples
-pub mod Noting
+mod LineExamples
 pub mod Scoring
 pub mod HandingOn
 pub mod ServedTurns
+pub mod GoingOn
+mod SeatLines
+mod Answering
+mod Waiting
 pub mod Scripting
+pub mod KeptLogs

@@ -4,11 +4,9 @@ use Rattle.std.specs.Prelude.{Option}
 use Rattle.std.specs.Io.KnownBytes.{Appends, Consumes, IsAtEnd}
 use Rattle.std.proofs.lemmas.List.{append-nil}
 use Rattle.std.proofs.KnownBytes.{Appends-trans, Consumes-trans}
-use Rattle.promise_store.specs.contracts.memory_disk.MemoryDiskDisk.TheImpl.{ghosts as in_memory}
 use Rattle.dealer_kind.specs.Plans.{Plan}
-use Rattle.dealer_world.specs.Promise.{IsPromised}
 use Rattle.playing.specs.declared.playing.Playing.{Playing}
-use Rattle.playing.specs.Playing.{Scene, Begins, Answers, Plays, begun, answered}
+use Rattle.playing.specs.Playing.{Scene, Begins, Answers, Plays, HasOneList, begun, answered}
 use Rattle.playing.specs.PlayingInside.{scene_of}
 use Rattle.streamed.specs.Script.{AreLines}
 use Rattle.match_runs.specs.Played.{Played}
@@ -22,26 +20,26 @@ no_lines : AreLines [] [] []
 no_lines = record { joined = refl; whole = tt; partial = tt }
 
 -- the headers are written
-pub headers_written : (plan : Plan) (text : List ℕ) (start now : Option (List ℕ)) (r : Scripted) → Begins plan text (scene_of r.playing) → IsPromised in_memory (scene_of r.playing).cluster
+pub headers_written : (plan : Plan) (text : List ℕ) (start now : Option (List ℕ)) (r : Scripted) → Begins plan text (scene_of r.playing) → HasOneList (scene_of r.playing)
     → r.line.items ≡ [] → Appends start now text → Reaches plan start [] r now
-headers_written plan text start now r begins promised empty sent = record {
+headers_written plan text start now r begins one empty sent = record {
   lines = [];
   output = text;
   are_lines = subst (λ (rest : List ℕ). AreLines [] [] rest) (sym empty) no_lines;
   plays = begun [] text (scene_of r.playing) refl begins;
-  promised = promised;
+  shows = one;
   written = sent;
 }
 
 -- or a beginning of them
-pub headers_begun : (plan : Plan) (text shown missing : List ℕ) (start now : Option (List ℕ)) (scene : Scene) → Begins plan text scene → IsPromised in_memory scene.cluster
+pub headers_begun : (plan : Plan) (text shown missing : List ℕ) (start now : Option (List ℕ)) (scene : Scene) → Begins plan text scene → HasOneList scene
     → text ≡ shown ++ missing → Appends start now shown → BeginsPlay plan start [] now
-headers_begun plan text shown missing start now scene begins promised parts sent = record {
+headers_begun plan text shown missing start now scene begins one parts sent = record {
   front = [];
   behind = [];
   front_read = refl;
   output = text;
-  played = record { lines = []; rest = []; last = scene; are_lines = no_lines; plays = begun [] text scene refl begins; promised = promised };
+  played = record { lines = []; rest = []; last = scene; are_lines = no_lines; plays = begun [] text scene refl begins; shows = one };
   shown = shown;
   missing = missing;
   front_shown = parts;
@@ -56,7 +54,7 @@ played_so_far plan start now seen r reaches = record {
   last = scene_of r.playing;
   are_lines = reaches.are_lines;
   plays = reaches.plays;
-  promised = reaches.promised;
+  shows = reaches.shows;
 }
 
 -- and they are a beginning of it, whatever is read behind
@@ -120,7 +118,7 @@ play_byte_kept plan start now seen byte r after other same line reaches = record
   output = reaches.output;
   are_lines = subst (AreLines (seen ++ byte ∷ []) reaches.lines) (sym line) (line_goes_on seen reaches.lines r.line.items byte other reaches.are_lines);
   plays = subst (λ (p : Playing). Plays plan reaches.lines reaches.output (scene_of p)) (sym same) reaches.plays;
-  promised = subst (λ (p : Playing). IsPromised in_memory (scene_of p).cluster) (sym same) reaches.promised;
+  shows = subst (λ (p : Playing). HasOneList (scene_of p)) (sym same) reaches.shows;
   written = reaches.written;
 }
 
@@ -131,21 +129,21 @@ answers_as before after line same text shown lines texts answers =
 
 -- a line feed whose answer is written
 pub play_line_answered : (plan : Plan) (start now then : Option (List ℕ)) (seen text : List ℕ) (r after : Scripted) → Answers (scene_of r.playing) r.line.items text (scene_of after.playing)
-    → IsPromised in_memory (scene_of after.playing).cluster → after.line.items ≡ [] → Appends now then text → Reaches plan start seen r now
+    → HasOneList (scene_of after.playing) → after.line.items ≡ [] → Appends now then text → Reaches plan start seen r now
     → Reaches plan start (seen ++ 10 ∷ []) after then
-play_line_answered plan start now then seen text r after answers promised empty sent reaches = record {
+play_line_answered plan start now then seen text r after answers one empty sent reaches = record {
   lines = r.line.items ∷ reaches.lines;
   output = reaches.output ++ text;
   are_lines = subst (AreLines (seen ++ 10 ∷ []) (r.line.items ∷ reaches.lines)) (sym empty) (line_ends seen reaches.lines r.line.items reaches.are_lines);
   plays = answered reaches.lines r.line.items reaches.output text (scene_of r.playing) (r.line.items ∷ reaches.lines) (reaches.output ++ text) (scene_of after.playing) reaches.plays answers refl refl;
-  promised = promised;
+  shows = one;
   written = Appends-trans start now then reaches.output text reaches.written sent;
 }
 
 -- a line feed whose answer is written in part
 pub play_line_begun : (plan : Plan) (start now then : Option (List ℕ)) (seen text shown missing : List ℕ) (r : Scripted) (scene : Scene) → Answers (scene_of r.playing) r.line.items text scene
-    → IsPromised in_memory scene.cluster → text ≡ shown ++ missing → Appends now then shown → Reaches plan start seen r now → BeginsPlay plan start (seen ++ 10 ∷ []) then
-play_line_begun plan start now then seen text shown missing r scene answers promised parts sent reaches = record {
+    → HasOneList scene → text ≡ shown ++ missing → Appends now then shown → Reaches plan start seen r now → BeginsPlay plan start (seen ++ 10 ∷ []) then
+play_line_begun plan start now then seen text shown missing r scene answers one parts sent reaches = record {
   front = seen ++ 10 ∷ [];
   behind = [];
   front_read = sym (append-nil (seen ++ 10 ∷ []));
@@ -156,7 +154,7 @@ play_line_begun plan start now then seen text shown missing r scene answers prom
     last = scene;
     are_lines = line_ends seen reaches.lines r.line.items reaches.are_lines;
     plays = answered reaches.lines r.line.items reaches.output text (scene_of r.playing) (r.line.items ∷ reaches.lines) (reaches.output ++ text) scene reaches.plays answers refl refl;
-    promised = promised;
+    shows = one;
   };
   shown = reaches.output ++ shown;
   missing = missing;

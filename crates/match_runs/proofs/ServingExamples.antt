@@ -1,16 +1,20 @@
 -- The notes and conclusions of `serve`, written out.
 use Rattle.std.proofs.Common.{◌≡◌, ℕ, zero, suc, List, [], ◌∷◌, ◌++◌, inl, inr, refl, sym, subst, arith}
-use Rattle.std.specs.Prelude.{codes, Option, Some, None, Ok, Err}
+use Rattle.std.specs.Prelude.{codes, true, false, Option, Some, None, Ok, Err}
 use Rattle.std.specs.Fmt.{digits}
 use Rattle.std.specs.List.{flat_map}
 use Rattle.seat_session.specs.declared.session_fault.SessionFault.TheVariants.{NotCurrent, Illegal}
-use Rattle.betting.specs.declared.fault.ActFault.TheVariants.{FoldNotFacing}
+use Rattle.betting.specs.declared.fault.ActFault.TheVariants.{FoldNotFacing, RaiseTooSmall}
 use Rattle.dealer_node.specs.declared.fault.NodeFault.TheVariants as fault
 use Rattle.promise_store.specs.declared.fault.StoreFault.TheVariants.{BadHeader, Disk}
 use Rattle.protocol_model.specs.Dealers.{Reader, Seat, Log}
 use Rattle.dealer_world.specs.Records.{Piece}
 use Rattle.serving.specs.declared.serve_fault.ServeFault.TheVariants as serve
+use Rattle.serving.specs.declared.turn.Turn.TheVariants as turn
 use Rattle.serving.specs.declared.turn.Turn.TheVariants.{Over}
+use Rattle.std.specs.declared.io.ErrorKind.TheVariants as kind
+use Rattle.match_runs.specs.declared.cause.Cause.TheVariants.{InUse, NoRoom, Failed, Unknown}
+use Rattle.match_runs.specs.Causes.{cause_of}
 use Rattle.match_runs.specs.declared.note.About.TheVariants.{Seated, Gone, Faulty}
 use Rattle.match_runs.specs.declared.note.Note.TheVariants as note
 use Rattle.match_runs.specs.declared.conclusion.Conclusion.TheVariants.{Ended, Served}
@@ -19,13 +23,14 @@ use Rattle.match_file.specs.declared.match_fault.MatchFault.TheVariants.{OutOfMe
 use Rattle.match_runs.specs.declared.seat_ports.SeatPorts.{SeatPorts}
 use Rattle.match_runs.specs.declared.unserved.Unserved.TheVariants as unserved
 use Rattle.match_runs.specs.NodeFiles.{store_name, log_name}
-use Rattle.match_runs.specs.Notes.{note_text, note_line, IsNoted, port_at, ports_notes, awaited_notes, failure_notes}
+use Rattle.match_runs.specs.Notes.{note_text, note_line, seat_text, refused_text, waiting_text, waiting_lines, seat_lines, turn_lines, is_told, IsNoted, port_at, ports_notes, awaited_notes, first_notes, failure_notes}
 use Rattle.match_links.specs.Passages.{Told, Logged}
 use Rattle.serving.specs.Giving.{given_as}
 use Rattle.match_runs.specs.Passing.{IsPart, pieces_between, put_by, told_by}
 use Rattle.match_runs.specs.Score.{IsLastLine, IsLastLog, HasNoLogFrom}
 use Rattle.match_runs.specs.Conclusion.{status_of, conclusion_text, conclusion_of, IsOfServe}
 use Rattle.match_runs.specs.Serving.{last_turn}
+use Rattle.match_runs.specs.Turning.{waits_after}
 
 alice_is_awaited : note_text (note.Awaiting 0 (codes "alice") 1 2002) ≡ codes "awaiting seat 0 (alice) at node 1, port 2002"
 unfolding digits
@@ -46,6 +51,42 @@ another_line_came = refl
 a_fold_was_refused : note_text (note.Seat 1 (codes "bob") (Faulty 0 (Illegal FoldNotFacing))) ≡ codes "seat 1 (bob) at node 0: 85 Illegal 21 FoldNotFacing"
 unfolding digits
 a_fold_was_refused = refl
+
+an_answer_was_refused : seat_text 1 (codes "bob") ++ refused_text 0 17 (codes "r150") (Illegal (RaiseTooSmall 200)) false ≡ codes "seat 1 (bob) at node 0, hand 17: r150: 85 Illegal 24 RaiseTooSmall 200"
+unfolding digits
+an_answer_was_refused = refl
+
+an_answer_came_late : seat_text 0 (codes "alice") ++ refused_text 2 3 (codes "c") NotCurrent true ≡ codes "seat 0 (alice) at node 2, hand 3: c: 83 NotCurrent late"
+unfolding digits
+an_answer_came_late = refl
+
+alice_has_a_line_and_sends_nothing : waiting_text 0 (codes "alice") 0 7000 (Some (codes "MATCHSTATE:0:3:c:AhKd|")) ≡ codes "waiting for seat 0 (alice) at node 0, port 7000: MATCHSTATE:0:3:c:AhKd|"
+unfolding digits
+alice_has_a_line_and_sends_nothing = refl
+
+nobody_comes_at_her_port : waiting_text 0 (codes "alice") 1 7002 None ≡ codes "waiting for seat 0 (alice) at node 1, port 7002"
+unfolding digits
+nobody_comes_at_her_port = refl
+
+a_port_is_taken : note_text (note.Port 7000 InUse) ≡ codes "port 7000: in use"
+unfolding digits
+a_port_is_taken = refl
+
+a_port_is_named_alone : note_text (note.Port 7000 Unknown) ≡ codes "port 7000"
+unfolding digits
+a_port_is_named_alone = refl
+
+no_match_is_kept : note_text note.NotKept ≡ codes "no match.kept: whether the stores are of this match can't be told"
+no_match_is_kept = refl
+
+a_lock_is_held : cause_of kind.WouldBlock ≡ InUse
+a_lock_is_held = refl
+
+a_disk_is_full : cause_of kind.StorageFull ≡ NoRoom
+a_disk_is_full = refl
+
+another_error_is_a_failure : cause_of kind.TimedOut ≡ Failed
+another_error_is_a_failure = refl
 
 a_node_is_lost : note_line (note.Stopped 0) ≡ codes "node 0: stopped" ++ 10 ∷ []
 unfolding digits
@@ -107,6 +148,43 @@ a_third_seat_isnt_awaited = refl
 
 nobody_is_awaited : awaited_notes (codes "alice" ∷ codes "bob" ∷ []) two_seats None ≡ []
 nobody_is_awaited = refl
+
+nobody_is_awaited_anew_behind_a_turn_that_waited : first_notes 1 (codes "alice" ∷ codes "bob" ∷ []) two_seats (Some (1, 2)) ≡ []
+nobody_is_awaited_anew_behind_a_turn_that_waited = refl
+
+but_behind_any_other : first_notes 0 (codes "alice" ∷ codes "bob" ∷ []) two_seats (Some (1, 2)) ≡ note.Awaiting 1 (codes "bob") 2 7005 ∷ []
+but_behind_any_other = refl
+
+bob_is_waited_for_at_his_own_port : waiting_lines (codes "alice" ∷ codes "bob" ∷ []) two_seats 1 2 None ≡ (codes "waiting for seat 1 (bob) at node 2, port 7005" ++ 10 ∷ []) ∷ []
+unfolding digits
+bob_is_waited_for_at_his_own_port = refl
+
+the_first_wait_is_told : is_told 1 ≡ true
+the_first_wait_is_told = refl
+
+the_second_is_not : is_told 2 ≡ false
+the_second_is_not = refl
+
+nor_the_thirteenth : is_told 13 ≡ false
+nor_the_thirteenth = refl
+
+but_the_twelfth : is_told 12 ≡ true
+but_the_twelfth = refl
+
+and_the_next_twelfth : is_told 24 ≡ true
+and_the_next_twelfth = refl
+
+one_more_has_waited : waits_after (turn.Waits 1 0) 11 ≡ 12
+one_more_has_waited = refl
+
+a_line_ends_the_row : waits_after (turn.Read 1) 11 ≡ 0
+a_line_ends_the_row = refl
+
+a_wait_is_no_deed : turn_lines (codes "alice" ∷ codes "bob" ∷ []) 0 (turn.Waits 1 0) ≡ []
+a_wait_is_no_deed = refl
+
+a_third_seat_is_told_nothing_of : seat_lines (codes "alice" ∷ codes "bob" ∷ []) 2 (codes "?") ≡ []
+a_third_seat_is_told_nothing_of = refl
 
 the_store_of_node_1 : store_name (codes "stores") 1 ≡ codes "stores/node1.journal"
 unfolding digits

@@ -4,7 +4,7 @@ use Rattle.serving.specs.FaultText.{fault_text}
 use Rattle.dealer_node.specs.declared.fault.NodeFault.TheVariants as node
 use Rattle.match_file.specs.declared.match_fault.MatchFault.TheVariants.{OutOfMemory}
 use Rattle.serving.specs.declared.serve_fault.ServeFault.TheVariants as serve
-use Rattle.streamed.specs.declared.ending.Ending.TheVariants.{Done, Match, Unreadable}
+use Rattle.streamed.specs.declared.ending.Ending.TheVariants.{Done, Match, Unreadable, StoreInUse, OtherMatch}
 use Rattle.streamed.specs.Ending.{status_of as ending_status, ending_text}
 use Rattle.match_runs.specs.declared.conclusion.Conclusion.{Conclusion}
 use Rattle.match_runs.specs.declared.conclusion.Conclusion.TheVariants.{Ended, Served}
@@ -21,11 +21,13 @@ abbrev pub conclusion_text : Conclusion → List ℕ
 conclusion_text (Ended ending) = ending_text ending
 conclusion_text (Served fault) = fault_text fault
 
--- how `serve` ends: the match is over; or its file or game is refused; or a file can't be read; or with a fault of the server, want of memory always so
+-- how `serve` ends: the match is over; or its file or game is refused; or a file can't be read; or a store is in use, or of another match; or with a fault of the server, want of memory always so
 abbrev pub IsOfServe : Conclusion → Type 0
 IsOfServe (Ended Done) = Unit {0}
 IsOfServe (Ended (Match why)) = why ≡ OutOfMemory → ⊥
 IsOfServe (Ended Unreadable) = Unit {0}
+IsOfServe (Ended StoreInUse) = Unit {0}
+IsOfServe (Ended (OtherMatch difference)) = Unit {0}
 IsOfServe (Ended other) = ⊥
 IsOfServe (Served fault) = Unit {0}
 
@@ -38,4 +40,6 @@ abbrev pub conclusion_of : Unserved → Conclusion
 conclusion_of (unserved.Match OutOfMemory) = Served (serve.Node node.OutOfMemory)
 conclusion_of (unserved.Match fault) = Ended (Match fault)
 conclusion_of unserved.Unreadable = Ended Unreadable
+conclusion_of unserved.StoreInUse = Ended StoreInUse
+conclusion_of (unserved.OtherMatch difference) = Ended (OtherMatch difference)
 conclusion_of (unserved.Fault fault) = Served fault

@@ -2,8 +2,13 @@ pub mod Played
 pub mod Scripted
 pub mod PlayOutcome
 pub mod NodeFiles
+pub mod LogNames
 pub mod Conclusion
+pub mod Causes
 pub mod Notes
+pub mod SeatLines
+pub mod Refusals
 pub mod Score
 pub mod Passing
+pub mod Turning
 pub mod Serving

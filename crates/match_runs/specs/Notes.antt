@@ -1,20 +1,20 @@
 -- The notes of `serve`, and what standard error has of one.
-use Rattle.std.specs.Prelude.{◌≡◌, ℕ, zero, suc, ◌+◌, ◌*◌, List, [], ◌∷◌, ◌++◌, Option, Some, None, codes, decimal, slice_get}
-use Rattle.std.specs.List.{flat_map}
+use Rattle.std.specs.Prelude.{◌≡◌, ℕ, zero, suc, ◌+◌, ◌*◌, ◌%◌, ◌==◌, ◌||◌, Bool, true, false, if◌then◌else◌, List, [], ◌∷◌, ◌++◌, Option, Some, None, codes, decimal, slice_get}
 use Rattle.std.specs.Io.KnownBytes.{Appends, Keeps}
 use Rattle.seat_session.specs.Fault.{fault_text}
+use Rattle.seat_session.specs.declared.session_fault.SessionFault.{SessionFault}
 use Rattle.dealer_node.specs.FaultText.{fault_text as node_fault_text}
 use Rattle.dealer_node.specs.declared.fault.NodeFault.{NodeFault}
 use Rattle.dealer_node.specs.declared.fault.NodeFault.TheVariants as fault
-use Rattle.dealer_node.specs.declared.seat_fault.SeatFault.{SeatFault}
 use Rattle.dealer_world.specs.Stepping.{View}
 use Rattle.serving.specs.declared.turn.Turn.{Turn}
 use Rattle.serving.specs.declared.turn.Turn.TheVariants as turn
 use Rattle.match_runs.specs.declared.note.About.{About}
-use Rattle.match_runs.specs.declared.note.About.TheVariants.{Seated, Gone, Faulty}
+use Rattle.match_runs.specs.declared.note.About.TheVariants.{Seated, Gone, Faulty, Refused}
 use Rattle.match_runs.specs.declared.note.Note.{Note}
 use Rattle.match_runs.specs.declared.note.Note.TheVariants as note
 use Rattle.match_runs.specs.declared.seat_ports.SeatPorts.{SeatPorts}
+use Rattle.match_runs.specs.Causes.{cause_text}
 
 -- which seat it is: its number, and its name in brackets
 abbrev pub seat_text : ℕ → List ℕ → List ℕ
@@ -36,25 +36,50 @@ ports_text ports seat (suc node) = ports_text ports seat node ++ port_text (port
 abbrev pub place_text : ℕ → ℕ → List ℕ
 place_text node port = codes " at node " ++ decimal node ++ codes ", port " ++ decimal port
 
+-- whom all wait for, and where; one that is read from has a line, if it was shown one
+abbrev pub waiting_text : ℕ → List ℕ → ℕ → ℕ → Option (List ℕ) → List ℕ
+waiting_text seat name node port None = codes "waiting for " ++ seat_text seat name ++ place_text node port
+waiting_text seat name node port (Some line) = codes "waiting for " ++ seat_text seat name ++ place_text node port ++ codes ": " ++ line
+
 -- what happened to a node
 abbrev pub node_text : ℕ → List ℕ → List ℕ
 node_text node what = codes "node " ++ decimal node ++ codes ": " ++ what
+
+-- what is wrong with what a seat sent to a node
+abbrev pub faulty_text : ℕ → SessionFault → List ℕ
+faulty_text node fault = codes " at node " ++ decimal node ++ codes ": " ++ fault_text fault
+
+abbrev pub late_text : Bool → List ℕ
+late_text true = codes " late"
+late_text false = []
+
+-- an answer that was refused: of which hand it is, what the player does, why it was, and whether it came late
+abbrev pub refused_text : ℕ → ℕ → List ℕ → SessionFault → Bool → List ℕ
+refused_text node hand action fault late =
+    codes " at node " ++ decimal node ++ codes ", hand " ++ decimal hand ++ codes ": " ++ action ++ codes ": " ++ fault_text fault ++ late_text late
 
 -- what is told of a seat: at which node, and what
 abbrev pub about_text : About → List ℕ
 about_text (Seated node) = codes " at node " ++ decimal node ++ codes ": seated"
 about_text (Gone node) = codes " at node " ++ decimal node ++ codes ": gone"
-about_text (Faulty node fault) = codes " at node " ++ decimal node ++ codes ": " ++ fault_text fault
+about_text (Faulty node fault) = faulty_text node fault
+about_text (Refused node hand action fault late) = refused_text node hand action.now fault late
 
 abbrev pub note_text : Note → List ℕ
 note_text (note.Ports seat name ports nodes) = seat_text seat name ++ codes ": ports" ++ ports_text ports seat nodes
 note_text (note.Awaiting seat name node port) = codes "awaiting " ++ seat_text seat name ++ place_text node port
+note_text (note.Waiting seat name node port None) = waiting_text seat name node port None
+note_text (note.Waiting seat name node port (Some line)) = waiting_text seat name node port (Some line.now)
 note_text (note.Seat seat name about) = seat_text seat name ++ about_text about
 note_text (note.Stopped node) = node_text node (codes "stopped")
 note_text (note.Started node) = node_text node (codes "started")
 note_text (note.Failed node fault) = node_text node (node_fault_text fault)
-note_text (note.Port port) = codes "port " ++ decimal port
-note_text (note.File path) = path.now
+note_text (note.Port port cause) = codes "port " ++ decimal port ++ cause_text cause
+note_text (note.File path cause) = path.now ++ cause_text cause
+note_text (note.Unlocked path) = path.now ++ codes ": the system gives no locks"
+note_text (note.Unused key) = codes "key " ++ key.now ++ codes " isn't used"
+note_text (note.Made path) = codes "made " ++ path.now
+note_text note.NotKept = codes "no match.kept: whether the stores are of this match can't be told"
 note_text (note.Score line) = line.now
 
 abbrev pub note_line : Note → List ℕ
@@ -84,24 +109,30 @@ awaited_notes names ports None = []
 awaited_notes names ports (Some place) =
     elim (slice_get names place.0) [ Some name ↦ note.Awaiting place.0 name place.1 (port_at ports place.1 place.0) ∷ [] | None ↦ [] ]
 
+-- the same where the turn before may have waited: then it was told already
+abbrev pub first_notes : ℕ → List (List ℕ) → SeatPorts → Option (ℕ × ℕ) → List Note
+first_notes waits names ports awaited = if waits == 0 then awaited_notes names ports awaited else []
+
+-- of turns in a row that waited the first is told, and each twelfth
+abbrev pub is_told : ℕ → Bool
+is_told waits = waits == 1 || waits % 12 == 0
+
+-- what is told of a seat that is waited for, where there is one of this number
+abbrev pub waiting_lines : List (List ℕ) → SeatPorts → ℕ → ℕ → Option (List ℕ) → List (List ℕ)
+waiting_lines names ports seat node line =
+    elim (slice_get names seat) [ Some name ↦ (waiting_text seat name node (port_at ports node seat) line ++ 10 ∷ []) ∷ [] | None ↦ [] ]
+
 -- what is told of a seat, where there is one of this number
-abbrev pub seat_notes : List (List ℕ) → ℕ → About → List Note
-seat_notes names seat about = elim (slice_get names seat) [ Some name ↦ note.Seat seat name about ∷ [] | None ↦ [] ]
+abbrev pub seat_lines : List (List ℕ) → ℕ → List ℕ → List (List ℕ)
+seat_lines names seat text = elim (slice_get names seat) [ Some name ↦ (seat_text seat name ++ text ++ 10 ∷ []) ∷ [] | None ↦ [] ]
 
--- what is told of faults in what seats sent to a node
-abbrev pub fault_notes : List (List ℕ) → ℕ → List SeatFault → List Note
-fault_notes names node faults = flat_map (λ found. seat_notes names found.seat (Faulty node found.fault)) faults
-
--- what is told of a turn that called this node last, and found these faults in what a seat sent
-abbrev pub turn_notes : List (List ℕ) → ℕ → List SeatFault → Turn → List Note
-turn_notes names node faults (turn.Seated seat i) = seat_notes names seat (Seated i)
-turn_notes names node faults (turn.Gone seat) = seat_notes names seat (Gone node)
-turn_notes names node faults (turn.Stopped i) = note.Stopped i ∷ []
-turn_notes names node faults (turn.Started i) = note.Started i ∷ []
-turn_notes names node faults (turn.Read seat) = fault_notes names node faults
-turn_notes names node faults (turn.Delivered frame) = []
-turn_notes names node faults (turn.Ticked i) = []
-turn_notes names node faults turn.Over = []
+-- what is told of a turn that called this node last, but for what was read
+abbrev pub turn_lines : List (List ℕ) → ℕ → Turn → List (List ℕ)
+turn_lines names node (turn.Seated seat i) = seat_lines names seat (about_text (Seated i))
+turn_lines names node (turn.Gone seat) = seat_lines names seat (about_text (Gone node))
+turn_lines names node (turn.Stopped i) = note_line (note.Stopped i) ∷ []
+turn_lines names node (turn.Started i) = note_line (note.Started i) ∷ []
+turn_lines names node other = []
 
 -- what is told of what refused the last call of a node: that its store failed, if it did
 abbrev pub failure_notes : ℕ → Option NodeFault → List Note

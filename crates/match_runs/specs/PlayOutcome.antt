@@ -9,7 +9,7 @@ use Rattle.match_file.specs.Refusals.{IsNoToml, IsRefused}
 use Rattle.match_runs.specs.Played.{Played}
 use Rattle.match_runs.specs.Scripted.{BeginsPlay}
 use Rattle.streamed.specs.declared.ending.Ending.{Ending}
-use Rattle.streamed.specs.declared.ending.Ending.TheVariants.{Done, SaidNo, Refused, Match, StoreExists, Store, Unreadable, OutOfMemory, StreamFailed, WrongWords}
+use Rattle.streamed.specs.declared.ending.Ending.TheVariants.{Done, SaidNo, Refused, Match, StoreExists, Store, StoreInUse, OtherMatch, Unreadable, OutOfMemory, StreamFailed, WrongWords}
 
 -- a match file and its game file, none where it can't be read, say this match
 abbrev pub SaysPlan : List ℕ → Option (List ℕ) → Plan → Type 0
@@ -42,6 +42,8 @@ EndsPlay file game left left_after held held_after (Refused fault) = ⊥
 EndsPlay file game left left_after held held_after (SaidNo fault) = ⊥
 EndsPlay file game left left_after held held_after StoreExists = ⊥
 EndsPlay file game left left_after held held_after (Store fault) = ⊥
+EndsPlay file game left left_after held held_after StoreInUse = ⊥
+EndsPlay file game left left_after held held_after (OtherMatch difference) = ⊥
 EndsPlay file game left left_after held held_after Unreadable = ⊥
 EndsPlay file game left left_after held held_after (WrongWords words) = ⊥
 EndsPlay file game left left_after held held_after OutOfMemory = (plan : Plan) × SaysPlan file game plan × StopsPlay plan left left_after held held_after

@@ -1,9 +1,7 @@
 -- Scripts of the command `play`, and what it writes for them.
 use Rattle.std.specs.Prelude.{ℕ, List}
-use Rattle.promise_store.specs.contracts.memory_disk.MemoryDiskDisk.TheImpl.{ghosts as in_memory}
 use Rattle.dealer_kind.specs.Plans.{Plan}
-use Rattle.dealer_world.specs.Promise.{IsPromised}
-use Rattle.playing.specs.Playing.{Scene, Plays}
+use Rattle.playing.specs.Playing.{Scene, Plays, HasOneList}
 use Rattle.streamed.specs.Script.{AreLines}
 
 -- what is written for a match and a script: the headers of a new cluster's logs and the answer to each whole line; a rest without a line feed isn't read.
@@ -14,4 +12,4 @@ pub record Played (plan : Plan) (bytes output : List ℕ) : Type 0 where
   pub last : Scene
   pub are_lines : AreLines bytes lines rest
   pub plays : Plays plan lines output last
-  pub promised : IsPromised in_memory last.cluster
+  pub shows : HasOneList last

@@ -1,10 +1,8 @@
 -- How far a script of `play` was read and answered.
 use Rattle.std.specs.Prelude.{◌≡◌, ℕ, List, ◌++◌, Option}
 use Rattle.std.specs.Io.KnownBytes.{Appends}
-use Rattle.promise_store.specs.contracts.memory_disk.MemoryDiskDisk.TheImpl.{ghosts as in_memory}
 use Rattle.dealer_kind.specs.Plans.{Plan}
-use Rattle.dealer_world.specs.Promise.{IsPromised}
-use Rattle.playing.specs.Playing.{Plays}
+use Rattle.playing.specs.Playing.{Plays, HasOneList}
 use Rattle.playing.specs.PlayingInside.{scene_of}
 use Rattle.streamed.specs.Script.{AreLines}
 use Rattle.match_runs.specs.Played.{Played}
@@ -16,7 +14,7 @@ pub record Reaches (plan : Plan) (start : Option (List ℕ)) (seen : List ℕ) (
   pub output : List ℕ
   pub are_lines : AreLines seen lines scripted.line.items
   pub plays : Plays plan lines output (scene_of scripted.playing)
-  pub promised : IsPromised in_memory (scene_of scripted.playing).cluster
+  pub shows : HasOneList (scene_of scripted.playing)
   pub written : Appends start now output
 
 -- what was written is a beginning of what is to be written for a beginning of the script

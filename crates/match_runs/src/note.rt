@@ -1,9 +1,12 @@
 //! The notes of `serve`: what standard error gets while a match is served, one line each.
 
-ghost use Rattle.std.specs.Prelude.{◌≡◌, ◌++◌, OnOk};
+ghost use Rattle.std.specs.Prelude.{◌≡◌, ◌++◌, codes, decimal, OnOk};
 ghost use Rattle.dealer_node.specs.FaultText.{fault_text};
-ghost use Rattle.match_runs.specs.Notes.{IsNoted, seat_text, port_text, ports_text, place_text, node_text, about_text, note_text, note_line};
+ghost use Rattle.match_runs.specs.Notes.{IsNoted, seat_text, port_text, ports_text, place_text, node_text, faulty_text, refused_text, late_text, about_text, note_text, note_line};
+ghost use Rattle.match_runs.specs.Causes.{cause_text};
+ghost use Rattle.match_runs.specs.declared.note.Note.TheVariants.{Waiting as NotedWaiting};
 
+use crate::cause::Cause;
 use crate::seat_ports::SeatPorts;
 use dealer_node::NodeFault;
 use match_log::Name;
@@ -14,13 +17,25 @@ use streamed::send;
 
 /// What is told of a seat at a node. Nodes are counted from 0.
 #[derive(Clone, Copy, Debug)]
-pub enum About {
+pub enum About<'a> {
     /// A connection was accepted there.
     Seated(u8),
     /// Its connection ended, failed or was closed.
     Gone(u8),
     /// What it sent there was refused.
-    Faulty { node: u8, fault: SessionFault },
+    Faulty {
+        node: u8,
+        fault: SessionFault,
+    },
+    /// An answer that it sent there was refused: in which hand, and what the player does. It is late where its line was
+    /// shown to the seat, and isn't the one that the seat has there.
+    Refused {
+        node: u8,
+        hand: u32,
+        action: &'a [u8],
+        fault: SessionFault,
+        is_late: bool,
+    },
 }
 
 /// A note. Nodes and seats are counted from 0.
@@ -40,11 +55,20 @@ pub enum Note<'a> {
         node: u8,
         port: u32,
     },
+    /// A seat that is awaited at a node, or read from there, sends nothing, and all wait for it; where it is read from,
+    /// the line that it has there, if it was shown one.
+    Waiting {
+        seat: usize,
+        name: Name,
+        node: u8,
+        port: u32,
+        line: Option<&'a [u8]>,
+    },
     /// Something of a seat.
     Seat {
         seat: usize,
         name: Name,
-        about: About,
+        about: About<'a>,
     },
     /// A node was stopped.
     Stopped(u8),
@@ -55,10 +79,18 @@ pub enum Note<'a> {
         node: u8,
         fault: NodeFault,
     },
-    /// The port where the fault of the next line was found.
-    Port(u16),
-    /// The file where the fault of the next line was found.
-    File(&'a str),
+    /// The port where the fault of the next line was found, and why.
+    Port(u16, Cause),
+    /// The file or folder where the fault of the next line was found, and why.
+    File(&'a str, Cause),
+    /// Of this file the system gives no lock.
+    Unlocked(&'a str),
+    /// A key of the match file that no command reads.
+    Unused(&'a str),
+    /// This file was made.
+    Made(&'a str),
+    /// There are stores, and nothing beside them says of which match they are.
+    NotKept,
     /// The match is over: the last line of a log.
     Score(&'a [u8]),
 }
@@ -99,35 +131,116 @@ fn put_note(out: &mut Vec<u8>, note: &Note<'_>) -> Result<(), AllocError>
             name,
             ports,
             nodes,
-        } => {
-            put_seat(out, *seat as usize, name)?;
-            out.extend_from_slice(b": ports")?;
-            put_ports(out, *ports, *seat, *nodes)
-        }
+        } => put_seat_ports(out, *seat, name, *ports, *nodes),
         Note::Awaiting {
             seat,
             name,
             node,
             port,
-        } => {
-            out.extend_from_slice(b"awaiting ")?;
-            put_seat(out, *seat, name)?;
-            put_place(out, *node, *port)
-        }
+        } => put_awaiting(out, *seat, name, *node, *port),
+        Note::Waiting {
+            seat,
+            name,
+            node,
+            port,
+            line,
+        } => put_waiting(out, *seat, name, *node, *port, *line),
         Note::Seat { seat, name, about } => {
             put_seat(out, *seat, name)?;
-            put_about(out, *about)
+            put_about(out, about)
         }
         Note::Stopped(node) => put_node(out, *node, "stopped"),
         Note::Started(node) => put_node(out, *node, "started"),
         Note::Failed { node, fault } => put_fault(out, *node, fault),
-        Note::Port(port) => {
-            let text = format!(in *out.allocator(); "port {port}")?;
-            out.extend_from_slice(text.as_bytes())
-        }
-        Note::File(path) => out.extend_from_slice(path.as_bytes()),
+        Note::Port(port, cause) => put_refused_port(out, *port, *cause),
+        Note::File(path, cause) => put_both(out, path, cause.text()),
+        Note::Unlocked(path) => put_both(out, path, ": the system gives no locks"),
+        Note::Unused(key) => put_unused(out, key),
+        Note::Made(path) => put_both(out, "made ", path),
+        Note::NotKept => out.extend_from_slice(
+            b"no match.kept: whether the stores are of this match can't be told",
+        ),
         Note::Score(line) => out.extend_from_slice(line),
     }
+}
+
+/// Appends the ports of a seat.
+fn put_seat_ports(
+    out: &mut Vec<u8>,
+    seat: u8,
+    name: &Name,
+    ports: SeatPorts,
+    nodes: u8,
+) -> Result<(), AllocError>
+    ensures { OnOk result (out.new.items ≡ out.old.items ++ (seat_text seat name.now ++ codes ": ports" ++ ports_text ports seat nodes)) }
+{
+    put_seat(out, seat as usize, name)?;
+    out.extend_from_slice(b": ports")?;
+    put_ports(out, ports, seat, nodes)
+}
+
+/// Appends that a seat is awaited.
+fn put_awaiting(
+    out: &mut Vec<u8>,
+    seat: usize,
+    name: &Name,
+    node: u8,
+    port: u32,
+) -> Result<(), AllocError>
+    ensures { OnOk result (out.new.items ≡ out.old.items ++ (codes "awaiting " ++ seat_text seat name.now ++ place_text node port)) }
+{
+    out.extend_from_slice(b"awaiting ")?;
+    put_seat(out, seat, name)?;
+    put_place(out, node, port)
+}
+
+/// Appends that all wait for a seat, and its line.
+fn put_waiting(
+    out: &mut Vec<u8>,
+    seat: usize,
+    name: &Name,
+    node: u8,
+    port: u32,
+    line: Option<&[u8]>,
+) -> Result<(), AllocError>
+    ensures { OnOk result (out.new.items ≡ out.old.items ++ note_text (NotedWaiting seat name.now node port line.entry)) }
+{
+    out.extend_from_slice(b"waiting for ")?;
+    put_seat(out, seat, name)?;
+    put_place(out, node, port)?;
+    match line {
+        Some(line) => {
+            out.extend_from_slice(b": ")?;
+            out.extend_from_slice(line)
+        }
+        None => Ok(()),
+    }
+}
+
+/// Appends a port that the system refused, and why.
+fn put_refused_port(out: &mut Vec<u8>, port: u16, cause: Cause) -> Result<(), AllocError>
+    ensures { OnOk result (out.new.items ≡ out.old.items ++ (codes "port " ++ decimal port ++ cause_text cause)) }
+{
+    out.extend_from_slice(b"port")?;
+    put_port(out, port as u32)?;
+    out.extend_from_slice(cause.text().as_bytes())
+}
+
+/// Appends that a key isn't used.
+fn put_unused(out: &mut Vec<u8>, key: &str) -> Result<(), AllocError>
+    ensures { OnOk result (out.new.items ≡ out.old.items ++ (codes "key " ++ key.now ++ codes " isn't used")) }
+{
+    out.extend_from_slice(b"key ")?;
+    out.extend_from_slice(key.as_bytes())?;
+    out.extend_from_slice(b" isn't used")
+}
+
+/// Appends one text behind another.
+fn put_both(out: &mut Vec<u8>, front: &str, behind: &str) -> Result<(), AllocError>
+    ensures { OnOk result (out.new.items ≡ out.old.items ++ (front.now ++ behind.now)) }
+{
+    out.extend_from_slice(front.as_bytes())?;
+    out.extend_from_slice(behind.as_bytes())
 }
 
 /// Appends what happened to a node.
@@ -155,15 +268,61 @@ fn put_place(out: &mut Vec<u8>, node: u8, port: u32) -> Result<(), AllocError>
 }
 
 /// Appends what is told of a seat.
-fn put_about(out: &mut Vec<u8>, about: About) -> Result<(), AllocError>
-    ensures { OnOk result (out.new.items ≡ out.old.items ++ about_text about) }
+fn put_about(out: &mut Vec<u8>, about: &About<'_>) -> Result<(), AllocError>
+    ensures { OnOk result (out.new.items ≡ out.old.items ++ about_text about.now) }
 {
-    let text = match about {
-        About::Seated(node) => format!(in *out.allocator(); " at node {node}: seated")?,
-        About::Gone(node) => format!(in *out.allocator(); " at node {node}: gone")?,
-        About::Faulty { node, fault } => format!(in *out.allocator(); " at node {node}: {fault}")?,
-    };
+    match about {
+        About::Seated(node) => {
+            let text = format!(in *out.allocator(); " at node {node}: seated")?;
+            out.extend_from_slice(text.as_bytes())
+        }
+        About::Gone(node) => {
+            let text = format!(in *out.allocator(); " at node {node}: gone")?;
+            out.extend_from_slice(text.as_bytes())
+        }
+        About::Faulty { node, fault } => put_faulty(out, *node, fault),
+        About::Refused {
+            node,
+            hand,
+            action,
+            fault,
+            is_late,
+        } => put_refused(out, *node, *hand, action, fault, *is_late),
+    }
+}
+
+/// Appends what is wrong with what a seat sent.
+fn put_faulty(out: &mut Vec<u8>, node: u8, fault: &SessionFault) -> Result<(), AllocError>
+    ensures { OnOk result (out.new.items ≡ out.old.items ++ faulty_text node fault.now) }
+{
+    let text = format!(in *out.allocator(); " at node {node}: {fault}")?;
     out.extend_from_slice(text.as_bytes())
+}
+
+/// Appends which answer was refused, and why.
+fn put_refused(
+    out: &mut Vec<u8>,
+    node: u8,
+    hand: u32,
+    action: &[u8],
+    fault: &SessionFault,
+    is_late: bool,
+) -> Result<(), AllocError>
+    ensures { OnOk result (out.new.items ≡ out.old.items ++ refused_text node hand action.now fault.now is_late) }
+{
+    let front = format!(in *out.allocator(); " at node {node}, hand {hand}: ")?;
+    out.extend_from_slice(front.as_bytes())?;
+    out.extend_from_slice(action)?;
+    let why = format!(in *out.allocator(); ": {fault}")?;
+    out.extend_from_slice(why.as_bytes())?;
+    out.extend_from_slice(late(is_late).as_bytes())
+}
+
+/// What stands behind the fault of an answer that came late.
+fn late(is_late: bool) -> &'static str
+    ensures { result.now ≡ late_text is_late }
+{
+    if is_late { " late" } else { "" }
 }
 
 /// Appends which seat it is: `seat 0 (alice)`.

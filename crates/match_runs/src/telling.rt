@@ -1,12 +1,16 @@
 //! What the notes of `serve` tell of a turn, and of the match's end.
 
-ghost use Rattle.std.specs.Prelude.{◌≡◌, ◌+◌, ◌<◌, ◌≤◌, ◌∷◌, ◌++◌, [], IfSome, IsNone, List, ℕ, drop, length, map, take};
+ghost use Rattle.std.specs.Prelude.{◌≡◌, ◌+◌, ◌<◌, ◌∷◌, ◌++◌, None, Some, IfSome, IsNone, drop, length, map, take};
 ghost use Rattle.dealer_world.specs.Viewing.{view_of};
 ghost use Rattle.streamed.specs.Script.{HasNoFeed};
-ghost use Rattle.match_runs.specs.Notes.{AreNoted, note_line, names_in, ports_notes, awaited_notes, seat_notes, fault_notes, turn_notes, failure_notes};
+ghost use Rattle.match_runs.specs.Notes.{AreNoted, note_line, names_in, ports_notes, awaited_notes, seat_lines, waiting_lines, about_text, failure_notes};
+ghost use Rattle.match_runs.specs.Refusals.{TellsFault, TellsFaults};
+ghost use Rattle.match_runs.specs.Turning.{TellsDone, TellsWaiting};
 ghost use Rattle.match_runs.specs.Score.{IsLastLine, EndsInFeed, IsLastLog, HasNoLog, TellsScore};
 
 use crate::note::{About, Note, tell};
+use crate::refusals::about_fault;
+use crate::seat_lines::newest_line;
 use crate::seat_ports::SeatPorts;
 use dealer_kind::Config;
 use dealer_node::{NodeFault, Reader, SeatFault};
@@ -55,16 +59,88 @@ pub(crate) fn tell_awaited<D: Disk + Drop, W: Write>(
     }
 }
 
-/// Tells what a turn did that called this node last: a seat seated or gone, a node stopped or started, and of a line
-/// the faults that were found in it.
+/// Tells at which node and port a seat is waited for that sends nothing; where it isn't awaited but read from, also the
+/// line that it has there, if it was shown one. Nothing is told of a number that no seat has.
+pub(crate) fn tell_waiting<D: Disk + Drop, W: Write>(
+    alloc: Global,
+    cluster: &Cluster<D>,
+    ports: SeatPorts,
+    is_awaited: bool,
+    seat: u8,
+    node: u8,
+    notes: &mut W,
+)
+    ensures { TellsWaiting (view_of cluster.now) ports is_awaited seat node (W.contents notes.old) (W.contents notes.new) }
+{
+    let config = cluster.config();
+    if is_awaited {
+        tell_wait(alloc, config, ports, seat, node, notes);
+        return;
+    }
+    match newest_line(cluster, seat as usize, node) {
+        Some(line) => tell_wait_with(alloc, config, ports, seat, node, line, notes),
+        None => tell_wait(alloc, config, ports, seat, node, notes),
+    }
+}
+
+/// Tells at which node and port a seat is waited for.
+fn tell_wait<W: Write>(
+    alloc: Global,
+    config: &Config,
+    ports: SeatPorts,
+    seat: u8,
+    node: u8,
+    notes: &mut W,
+)
+    ensures { AreNoted (waiting_lines config.now.setting.names ports seat node None) (W.contents notes.old) (W.contents notes.new) }
+{
+    if let Some(name) = config.names().as_slice().get(seat as usize) {
+        let told = Note::Waiting {
+            seat: seat as usize,
+            name: *name,
+            node,
+            port: ports.port(node, seat),
+            line: None,
+        };
+        tell(alloc, notes, &told);
+    }
+}
+
+/// Tells at which node and port a seat is waited for, and its line.
+fn tell_wait_with<W: Write>(
+    alloc: Global,
+    config: &Config,
+    ports: SeatPorts,
+    seat: u8,
+    node: u8,
+    line: &[u8],
+    notes: &mut W,
+)
+    ensures { AreNoted (waiting_lines config.now.setting.names ports seat node (Some line.now)) (W.contents notes.old) (W.contents notes.new) }
+{
+    if let Some(name) = config.names().as_slice().get(seat as usize) {
+        let told = Note::Waiting {
+            seat: seat as usize,
+            name: *name,
+            node,
+            port: ports.port(node, seat),
+            line: Some(line),
+        };
+        tell(alloc, notes, &told);
+    }
+}
+
+/// Tells what a turn did that called this node last, and for which this piece was read, if any was: a seat seated or
+/// gone, a node stopped or started, and of a piece the faults that were found in it.
 pub(crate) fn tell_turn<D: Disk + Drop, W: Write>(
     alloc: Global,
     cluster: &Cluster<D>,
     node: u8,
+    piece: &[u8],
     turn: Turn,
     notes: &mut W,
 )
-    ensures { AreNoted (map note_line (turn_notes (names_in (view_of cluster.now)) node (view_of cluster.now).last.faults turn)) (W.contents notes.old) (W.contents notes.new) }
+    ensures { TellsDone (view_of cluster.now) node piece.now turn (W.contents notes.old) (W.contents notes.new) }
 {
     let config = cluster.config();
     match turn {
@@ -74,8 +150,10 @@ pub(crate) fn tell_turn<D: Disk + Drop, W: Write>(
         Turn::Gone(seat) => tell_seat(alloc, config, seat as usize, About::Gone(node), notes),
         Turn::Stopped(node) => tell(alloc, notes, &Note::Stopped(node)),
         Turn::Started(node) => tell(alloc, notes, &Note::Started(node)),
-        Turn::Read(_) => tell_faults(alloc, config, node, cluster.last().faults(), notes),
-        Turn::Delivered(_) | Turn::Ticked(_) | Turn::Over => {}
+        Turn::Read(_) => {
+            tell_faults(alloc, cluster, node, piece, cluster.last().faults(), notes)
+        }
+        Turn::Delivered(_) | Turn::Ticked(_) | Turn::Waits { .. } | Turn::Over => {}
     }
 }
 
@@ -96,8 +174,8 @@ pub(crate) fn tell_failure<W: Write>(
 }
 
 /// Tells something of a seat; nothing of a number that no seat has.
-fn tell_seat<W: Write>(alloc: Global, config: &Config, seat: usize, about: About, notes: &mut W)
-    ensures { AreNoted (map note_line (seat_notes config.now.setting.names seat about)) (W.contents notes.old) (W.contents notes.new) }
+fn tell_seat<W: Write>(alloc: Global, config: &Config, seat: usize, about: About<'_>, notes: &mut W)
+    ensures { AreNoted (seat_lines config.now.setting.names seat (about_text about.entry)) (W.contents notes.old) (W.contents notes.new) }
 {
     if let Some(name) = config.names().as_slice().get(seat) {
         let name = *name;
@@ -105,26 +183,35 @@ fn tell_seat<W: Write>(alloc: Global, config: &Config, seat: usize, about: About
     }
 }
 
-/// Tells what is wrong with what seats sent to a node.
-fn tell_faults<W: Write>(
+/// Tells what is wrong with this piece, which a seat sent to a node.
+fn tell_faults<D: Disk + Drop, W: Write>(
     alloc: Global,
-    config: &Config,
+    cluster: &Cluster<D>,
     node: u8,
+    piece: &[u8],
     faults: &[SeatFault],
     notes: &mut W,
 )
-    ensures { AreNoted (map note_line (fault_notes config.now.setting.names node faults.now)) (W.contents notes.old) (W.contents notes.new) }
+    ensures { TellsFaults (view_of cluster.now) piece.now node faults.now (W.contents notes.old) (W.contents notes.new) }
 {
     for found in faults {
-        let fault = found.fault;
-        tell_seat(
-            alloc,
-            config,
-            found.seat,
-            About::Faulty { node, fault },
-            notes,
-        );
+        tell_fault(alloc, cluster, node, piece, *found, notes);
     }
+}
+
+/// Tells a fault of a piece.
+fn tell_fault<D: Disk + Drop, W: Write>(
+    alloc: Global,
+    cluster: &Cluster<D>,
+    node: u8,
+    piece: &[u8],
+    found: SeatFault,
+    notes: &mut W,
+)
+    ensures { TellsFault (view_of cluster.now) piece.now node found (W.contents notes.old) (W.contents notes.new) }
+{
+    let about = about_fault(cluster, piece, node, found);
+    tell_seat(alloc, cluster.config(), found.seat, about, notes);
 }
 
 /// Tells the score: the last line of what a log got last. Nothing is told where no log got a line.

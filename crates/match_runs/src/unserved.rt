@@ -4,7 +4,7 @@ ghost use Rattle.match_runs.specs.declared.unserved.Unserved.TheVariants.{Match,
 
 use crate::conclusion::Conclusion;
 use dealer_node::NodeFault;
-use match_file::MatchFault;
+use match_file::{Difference, MatchFault};
 use serving::ServeFault;
 use std::alloc::AllocError;
 use std::io;
@@ -17,6 +17,10 @@ pub enum Unserved {
     Match(MatchFault),
     /// 104: the match file, its game or a store can't be read.
     Unreadable,
+    /// 108: a store is in use.
+    StoreInUse,
+    /// 109: the stores are of another match, or of no match that can be told.
+    OtherMatch(Difference),
     /// The server can't begin, or go on.
     Fault(ServeFault),
 }
@@ -44,6 +48,8 @@ impl Unserved {
             }
             Unserved::Match(fault) => Conclusion::Ended(Ending::Match(fault)),
             Unserved::Unreadable => Conclusion::Ended(Ending::Unreadable),
+            Unserved::StoreInUse => Conclusion::Ended(Ending::StoreInUse),
+            Unserved::OtherMatch(difference) => Conclusion::Ended(Ending::OtherMatch(difference)),
             Unserved::Fault(fault) => Conclusion::Served(fault),
         }
     }

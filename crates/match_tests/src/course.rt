@@ -38,7 +38,7 @@ pub(crate) const BOB: &[u8] = b"VERSION:2.0.0\r\nMATCHSTATE:1:0::|8hTc:f\r\n";
 pub(crate) const ALICE: &[u8] = b"VERSION:2.0.0\r\nMATCHSTATE:1:1::|3d3s:f\r\n";
 
 /// How many turns a match of these tests takes at most.
-const TURNS: u32 = 10_000;
+pub(crate) const TURNS: u32 = 10_000;
 
 /// How a match ended.
 #[derive(Clone, Copy)]
@@ -125,7 +125,7 @@ fn put_told(text: &mut Vec<u8>, told: &Told) -> Result<(), AllocError> {
 }
 
 /// The lines that seats were told.
-fn told(alloc: Global, links: &MemoryLinks) -> Result<Vec<u8>, AllocError> {
+pub(crate) fn told(alloc: Global, links: &MemoryLinks) -> Result<Vec<u8>, AllocError> {
     let mut all = Vec::new(alloc);
     for told in links.told().iter() {
         put_told(&mut all, told)?;
@@ -134,7 +134,7 @@ fn told(alloc: Global, links: &MemoryLinks) -> Result<Vec<u8>, AllocError> {
 }
 
 /// The logs of three nodes, one behind the other.
-fn logs(alloc: Global, links: &MemoryLinks) -> Result<Vec<u8>, AllocError> {
+pub(crate) fn logs(alloc: Global, links: &MemoryLinks) -> Result<Vec<u8>, AllocError> {
     let mut all = Vec::new(alloc);
     for node in 0..3 {
         all.extend_from_slice(links.log(node))?;
@@ -143,7 +143,7 @@ fn logs(alloc: Global, links: &MemoryLinks) -> Result<Vec<u8>, AllocError> {
 }
 
 /// What comes of a match that this server serves.
-fn course_of<D: Disk + Drop>(
+pub(crate) fn course_of<D: Disk + Drop>(
     rt: &impl Abort,
     alloc: Global,
     server: &mut Server<D, MemoryLinks>,

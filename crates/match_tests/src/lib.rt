@@ -5,9 +5,12 @@
 //!
 //! - `samples` has the matches that are played: alice and bob, limit, one hand or two.
 //! - `peer` and `node_tests`: one node of three, what it sends and shows, and which seats are connected to it.
-//! - `rounds`, `record_tests` and `choice_tests`: all nodes of a match, step by step, and the record of them.
+//! - `rounds`, `record_tests` and `choice_tests`: all nodes of a match, step by step, and the record of them; `run_tests`:
+//!   events that are given at once, and the rest of them again where memory was wanting.
 //! - `course` and `server_tests`: a match that is served over links in memory, whose calls fail in turn, and over disks
-//!   whose calls do; `tcp_tests`: the same match over sockets and files.
+//!   whose calls do; `slow_tests`: the same, each call of a link being slow in turn; `tcp_tests`: over sockets and files.
+//!   `lost_leader` looks at what one node passes on to another that is down.
+//! - `links_tests`: who is seated at a port and who isn't, and how long that is waited for.
 //!
 //! Each call with a long contract is made in one small function that says nothing of its own, so that what the prover
 //! knows there isn't carried through all tests; and each of these is written for any disk, so that it is proved once.
@@ -18,6 +21,10 @@ mod choice_tests;
 #[cfg(test)]
 mod course;
 #[cfg(test)]
+mod links_tests;
+#[cfg(test)]
+mod lost_leader;
+#[cfg(test)]
 mod node_tests;
 #[cfg(test)]
 mod peer;
@@ -26,8 +33,12 @@ mod record_tests;
 #[cfg(test)]
 mod rounds;
 #[cfg(test)]
+mod run_tests;
+#[cfg(test)]
 mod samples;
 #[cfg(test)]
 mod server_tests;
+#[cfg(test)]
+mod slow_tests;
 #[cfg(test)]
 mod tcp_tests;

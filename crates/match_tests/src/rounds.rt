@@ -316,7 +316,7 @@ fn run<D: Disk + Drop>(
 }
 
 /// A new cluster over these disks.
-fn cluster_over<D: Disk + Drop>(
+pub(crate) fn cluster_over<D: Disk + Drop>(
     rt: &impl Abort,
     alloc: Global,
     disks: Vec<D>,
@@ -338,7 +338,7 @@ fn run_over<D: Disk + Drop>(
 }
 
 /// So many disks in memory that never fail.
-fn disks(alloc: Global, nodes: usize) -> Result<Vec<OnceDisk>, AllocError> {
+pub(crate) fn disks(alloc: Global, nodes: usize) -> Result<Vec<OnceDisk>, AllocError> {
     let mut disks = Vec::new(alloc);
     for _ in 0..nodes {
         disks.push(OnceDisk::new(alloc, 0))?;

@@ -1,12 +1,13 @@
 use crate::course::{
-    ALICE, BOB, Course, Ending, VERSION, assert_logged, bots_everywhere, disks, no_outages, outage,
-    play, without_node_0,
+    ALICE, BOB, Course, Ending, VERSION, assert_logged, bots_everywhere, course_of, disks,
+    no_outages, outage, play, server, without_node_0,
 };
+use crate::lost_leader::assert_forward_lost;
 use crate::samples::{assert_bytes, assert_holds, assert_same};
 use dealer_node::NodeFault;
 use match_links::{MemoryLinks, Reached};
-use promise_store::{MemoryDisk, StoreFault};
-use serving::{Outages, ServeFault};
+use promise_store::{MemoryDisk, OnceDisk, StoreFault};
+use serving::{Outages, ServeFault, Server};
 use std::alloc::{AllocError, Global};
 use std::process::Abort;
 use std::test::Fail;
@@ -95,11 +96,27 @@ fn assert_mended(rt: &impl Abort, course: &Course, call: u64) {
     assert_logged(rt, course, call);
 }
 
-/// The match in which node 0 is lost after the first deal, and both seats go to node 1.
+/// What comes of the match in which node 0 is lost after the first deal, and both seats go to node 1; its record has the
+/// fold that was lost with node 0.
+fn outlived(
+    rt: &impl Abort,
+    alloc: Global,
+    server: &mut Server<OnceDisk, MemoryLinks>,
+) -> Result<Course, AllocError> {
+    let course = course_of(rt, alloc, server)?;
+    assert_forward_lost(rt, server.cluster());
+    Ok(course)
+}
+
+/// The same; none where no server could be made.
 fn played_without_node_0(rt: &impl Abort, alloc: Global) -> Result<Option<Course>, AllocError> {
     let outages = outage(alloc, 0, 1, None)?;
     let links = bots_of_two_nodes(alloc)?;
-    played(rt, alloc, (0, 0), links, outages)
+    let disks = disks(alloc, 0, 0)?;
+    match server(rt, alloc, disks, links, outages)? {
+        None => Ok(None),
+        Some(mut server) => Ok(Some(outlived(rt, alloc, &mut server)?)),
+    }
 }
 
 /// Asserts that the match is over without a start, and that it was told and logged as it is without node 0.
@@ -114,7 +131,8 @@ fn assert_outlived(rt: &impl Abort, alloc: Global, course: &Course) -> Result<()
     Ok(())
 }
 
-/// Node 0 is lost after the first deal; both seats go to node 1, and the match is played there to its end.
+/// Node 0, which leads, is lost after the first deal; both seats go to node 1, which leads from then on, and the match is
+/// played there to its end.
 #[test]
 fn a_match_outlives_a_node(rt: HostRuntime) -> Result<(), Fail> {
     let alloc = rt.alloc();
@@ -185,33 +203,80 @@ fn each_call_of_a_link_fails_in_turn(rt: HostRuntime) -> Result<(), Fail> {
     Ok(())
 }
 
-/// Asserts that a match was mended: whether a call of a disk failed in it, once.
-fn failed_once(rt: &impl Abort, course: &Course, call: u64) -> bool {
-    assert_mended(rt, course, call);
-    course.failures == 1
+/// Where the call of a disk failed that was to.
+#[derive(Clone, Copy)]
+enum Failing {
+    /// Before the match: no server could be made.
+    Before,
+    /// In the match.
+    Within,
+    /// Nowhere: so many calls weren't made.
+    Nowhere,
 }
 
-/// A match in which this call of a node's disk fails: whether that was after the cluster was made. Then the node is
-/// stopped and started, once.
-fn fails_once(rt: &impl Abort, alloc: Global, node: usize, call: u64) -> Result<bool, AllocError> {
-    match played_everywhere(rt, alloc, (node, call))? {
-        None => Ok(false),
-        Some(course) => Ok(failed_once(rt, &course, call)),
+/// Where the call of a disk failed, of which this came.
+fn failed_in(course: &Course) -> Failing {
+    if course.failures == 0 {
+        Failing::Nowhere
+    } else {
+        Failing::Within
     }
 }
 
-/// Each call of a node's disk fails in turn, up to the first that isn't made: a node promises at least once, which is
-/// one append.
-fn fails_in_turn(rt: &impl Abort, alloc: Global, node: usize) -> Result<(), AllocError> {
-    let mut failed = 0u32;
-    for call in 1..80u64 {
-        if fails_once(rt, alloc, node, call)? {
-            failed = failed.saturating_add(1);
+/// A match in which this call of a node's disk fails. Where that is after the cluster was made, the node is stopped and
+/// started, once.
+fn fails_once(
+    rt: &impl Abort,
+    alloc: Global,
+    node: usize,
+    call: u64,
+) -> Result<Failing, AllocError> {
+    match played_everywhere(rt, alloc, (node, call))? {
+        None => Ok(Failing::Before),
+        Some(course) => {
+            assert_mended(rt, &course, call);
+            Ok(failed_in(&course))
         }
     }
-    assert!(rt; failed >= 4);
-    assert!(rt; !fails_once(rt, alloc, node, 80)?);
-    Ok(())
+}
+
+/// The same where node 1 is out from the first command to the second, and it is a call of its disk.
+fn fails_about_an_outage(rt: &impl Abort, alloc: Global, call: u64) -> Result<Failing, AllocError> {
+    match played_about_an_outage(rt, alloc, (1, call), 0)? {
+        None => Ok(Failing::Before),
+        Some(course) => {
+            assert_over(rt, &course, call);
+            Ok(failed_in(&course))
+        }
+    }
+}
+
+/// Counts a call that failed in a match: whether another is to fail. Up to the first that isn't made at least four did,
+/// since a node promises at least once, which is one append.
+fn goes_on(rt: &impl Abort, failing: Failing, within: &mut u32) -> bool {
+    match failing {
+        Failing::Before => true,
+        Failing::Within => {
+            *within = within.saturating_add(1);
+            true
+        }
+        Failing::Nowhere => {
+            assert!(rt; *within >= 4);
+            false
+        }
+    }
+}
+
+/// Each call of a node's disk fails in turn, up to the first that isn't made.
+fn fails_in_turn(rt: &impl Abort, alloc: Global, node: usize) -> Result<(), AllocError> {
+    let mut within = 0;
+    for call in 1..1_000u64 {
+        let failing = fails_once(rt, alloc, node, call)?;
+        if !goes_on(rt, failing, &mut within) {
+            return Ok(());
+        }
+    }
+    panic!(rt; "calls without end")
 }
 
 /// A node whose disk fails once is stopped and started, and the match goes on.
@@ -226,13 +291,14 @@ fn each_call_of_a_disk_fails_in_turn(rt: HostRuntime) -> Result<(), Fail> {
 /// Node 1 is out from the first command to the second, and its disk fails once: in its start after the outage too.
 #[test]
 fn each_call_of_a_disk_fails_about_an_outage(rt: HostRuntime) -> Result<(), Fail> {
-    let alloc = rt.alloc();
-    for call in 1..60u64 {
-        if let Some(course) = played_about_an_outage(&rt, alloc, (1, call), 0)? {
-            assert_over(&rt, &course, call);
+    let mut within = 0;
+    for call in 1..1_000u64 {
+        let failing = fails_about_an_outage(&rt, rt.alloc(), call)?;
+        if !goes_on(&rt, failing, &mut within) {
+            return Ok(());
         }
     }
-    Ok(())
+    panic!(rt; "calls without end")
 }
 
 /// Adds the disk of a node.

@@ -1,6 +1,7 @@
 use crate::course::{
     ALICE, BOB, Ending, VERSION, assert_places, disks, outage, serve, server, without_node_0,
 };
+use crate::lost_leader::assert_forward_lost;
 use crate::samples::assert_bytes;
 use match_links::TcpLinks;
 use promise_store::OnceDisk;
@@ -103,12 +104,13 @@ fn assert_served(rt: &impl Abort, server: &mut Server<OnceDisk, TcpLinks<'_>>) {
     assert!(rt; server.turn() == Ok(Turn::Over));
 }
 
-/// Serves the match in which node 0 is lost over these links.
+/// Serves the match in which node 0 is lost over these links, with a fold that was passed on to it.
 fn serve_over(rt: &impl Abort, alloc: Global, links: TcpLinks<'_>) -> Result<(), AllocError> {
     let outages = outage(alloc, 0, 1, None)?;
     let disks = disks(alloc, 0, 0)?;
     let mut server = server(rt, alloc, disks, links, outages)?.expect(rt, "a server");
     assert_served(rt, &mut server);
+    assert_forward_lost(rt, server.cluster());
     Ok(())
 }
 

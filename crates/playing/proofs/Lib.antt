@@ -3,3 +3,4 @@ pub mod Examples
 pub mod Marking
 pub mod Gaining
 pub mod Happening
+pub mod OneList

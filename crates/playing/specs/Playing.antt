@@ -12,6 +12,7 @@ use Rattle.dealer_world.specs.Records.{Frame, Piece, Delivered, Came}
 use Rattle.dealer_world.specs.declared.event.Event.{Event}
 use Rattle.dealer_world.specs.declared.event.Event.TheVariants as event
 use Rattle.dealer_world.specs.Events.{node_of, brought_by}
+use Rattle.dealer_world.specs.Promise.{ShowsOneList}
 use Rattle.dealer_world.specs.Stepping.{View, Stepped}
 use Rattle.dealer_world.specs.Beginning.{AreStarted}
 use Rattle.play_script.specs.declared.bounds.Bounds.{Bounds}
@@ -34,6 +35,10 @@ bounds_of scene = record {
   seats = scene.cluster.config.setting.game.players;
   frames = length scene.cluster.all.sent;
 }
+
+-- one list of chosen commands is behind all that the cluster showed
+abbrev pub HasOneList : Scene → Type 0
+HasOneList scene = ∥ ShowsOneList scene.cluster [] ∥₁
 
 -- one event, which finds memory, and what is printed of it; the frames that it sends weren't delivered yet
 pub record Happens (old : Scene) (e : Event) (text : List ℕ) (new : Scene) : Type 0 where

@@ -1,5 +1,10 @@
 -- How a cluster that a script drives is seen, and what an order may name.
 use Rattle.std.specs.Prelude.{◌≡◌, ℕ, ◌-◌, ◌<◌, Bool, false, List, ◌++◌, length, replicate}
+use Rattle.std.specs.List.{AllByRecursion}
+use Rattle.dealer_world.specs.declared.event.Event.{Event}
+use Rattle.dealer_world.specs.Events.{brought_by}
+use Rattle.dealer_world.specs.Records.{Frame}
+use Rattle.dealer_world.specs.Unforged.{IsAmong}
 use Rattle.dealer_world.specs.Viewing.{view_of}
 use Rattle.play_script.specs.declared.bounds.Bounds.{Bounds}
 use Rattle.play_script.specs.declared.order.Order.{Order}
@@ -24,3 +29,7 @@ IsWithin bounds (Drop node seat) = (node < bounds.nodes) × (seat < bounds.seats
 IsWithin bounds (Line node seat line) = (node < bounds.nodes) × (seat < bounds.seats)
 IsWithin bounds (Stop node pick) = node < bounds.nodes
 IsWithin bounds (Start node) = node < bounds.nodes
+
+-- the frame that the event brings, where it brings one, is among these
+abbrev pub BringsSent : List Frame → Event → Type 0
+BringsSent sent e = AllByRecursion (IsAmong sent) (brought_by e)

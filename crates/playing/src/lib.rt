@@ -9,7 +9,7 @@
 //! `put_seat_faults` what readers get and what is wrong with what seats sent.
 //!
 //! An `AllocError` is the only fault: memory was refused. Then `Playing` may have taken an event whose text was not given
-//! out, so a run of a script ends there. The promise of a cluster holds of it all the same.
+//! out, so a run of a script ends there. One list is behind what the cluster showed all the same.
 #![tactic(auto)]
 
 mod marks;

@@ -1,11 +1,10 @@
-ghost use Rattle.std.specs.Prelude.{◌≡◌, ◌≤◌, ◌<◌, ◌-◌, ◌^◌, ◌++◌, ℕ, List, length, MatchOption, IfOk, OnOk, IfErr, codes};
+ghost use Rattle.std.specs.Prelude.{◌≡◌, ◌≤◌, ◌<◌, ◌-◌, ◌^◌, ◌++◌, [], false, ℕ, List, length, MatchOption, IfOk, OnOk, IfErr, codes};
 ghost use Rattle.std.specs.List.{flat_map};
 ghost use Rattle.play_script.specs.Shown.{whole_line, bad_script_text};
-ghost use Rattle.promise_store.specs.contracts.memory_disk.MemoryDiskDisk.TheImpl.{ghosts as in_memory};
 ghost use Rattle.dealer_world.specs.Viewing.{view_of};
-ghost use Rattle.dealer_world.specs.Promise.{IsForMatch, IsPromised};
+ghost use Rattle.dealer_world.specs.Promise.{IsForMatch, HasNoForged, ShowsOneList};
 ghost use Rattle.playing.specs.Marks.{AreDelivered, IsFirstMissing};
-ghost use Rattle.playing.specs.Playing.{Happens, Delivery, FlushesUpTo, Arrives, Obeys, Answers, Begins, header_text, bounds_of};
+ghost use Rattle.playing.specs.Playing.{Happens, Delivery, FlushesUpTo, Arrives, Obeys, Answers, Begins, HasOneList, header_text, bounds_of};
 
 use crate::marks::Marks;
 use crate::showing::{put_event, put_piece};
@@ -18,14 +17,17 @@ use std::alloc::{AllocError, Global};
 
 /// A cluster of nodes over disks in memory, which a script drives line by line.
 ///
-/// Contracts see the cluster, and which frames were ever delivered (`scene_of`).
+/// Contracts see the cluster, and which frames were ever delivered (`scene_of`). It delivers only frames that were sent,
+/// so the promise of a cluster holds of it as it stands.
 pub struct Playing {
     alloc: Global,
     cluster: Cluster<MemoryDisk>,
     /// Those that have no mark yet weren't delivered.
     marks: Marks,
     ghost within: { length marks ≤ length (view_of cluster).all.sent },
-    ghost promised: { IsPromised in_memory (view_of cluster) },
+    ghost fresh: { (view_of cluster).opened ≡ false },
+    ghost unforged: { ∥ HasNoForged (view_of cluster) ∥₁ },
+    ghost shows: { ∥ ShowsOneList (view_of cluster) [] ∥₁ },
 }
 
 /// By hand, so that letting one go is one call for whoever owns it (docs/ARCHITECTURE.md, Habits).
@@ -51,13 +53,13 @@ fn new_disks(alloc: Global, nodes: usize) -> Result<Vec<MemoryDisk>, AllocError>
 }
 
 impl Playing {
-    ghost use Rattle.playing.specs.PlayingInside.{scene_of, IsWithin};
+    ghost use Rattle.playing.specs.PlayingInside.{scene_of, IsWithin, BringsSent};
 
     /// A new cluster of a match, all of whose nodes are started; the headers of their logs are printed behind what stands
     /// in `out`. An `Err` comes only where memory was refused.
     pub fn new(alloc: Global, config: Config, out: &mut Vec<u8>) -> Result<Playing, AllocError>
         ensures begun { IfOk result (λ made. (text : List ℕ) × (out.new.items ≡ out.old.items ++ text) × Begins config text (scene_of made)) }
-        ensures promised { IfOk result (λ made. IsPromised in_memory (scene_of made).cluster) }
+        ensures shows { IfOk result (λ made. HasOneList (scene_of made)) }
     {
         let disks = new_disks(alloc, config.nodes())?;
         let Ok(cluster) = Cluster::new(alloc, config, disks) else {
@@ -77,7 +79,7 @@ impl Playing {
     /// An `Err` comes only where memory was refused; the cluster may then have taken an event.
     pub fn answer(&mut self, line: &[u8], out: &mut Vec<u8>) -> Result<(), AllocError>
         ensures answered { OnOk result ((text : List ℕ) × (out.new.items ≡ out.old.items ++ text) × Answers (scene_of self.old) line.now text (scene_of self.new)) }
-        ensures promised { IsPromised in_memory (scene_of self.new).cluster }
+        ensures shows { HasOneList (scene_of self.new) }
     {
         match read(line, self.bounds()?) {
             Ok(order) => self.obey(order, out),
@@ -137,7 +139,8 @@ impl Playing {
 
     /// Lets an event happen, and prints what comes of it.
     fn happen(&mut self, event: &Event, out: &mut Vec<u8>) -> Result<(), AllocError>
-        requires { IsForMatch (scene_of self.old).cluster.config event.now }
+        requires for_match { IsForMatch (scene_of self.old).cluster.config event.now }
+        requires sent { BringsSent (scene_of self.old).cluster.all.sent event.now }
         ensures { OnOk result ((text : List ℕ) × (out.new.items ≡ out.old.items ++ text) × Happens (scene_of self.old) event.now text (scene_of self.new)) }
     {
         let first = self.sent()?;

@@ -10,7 +10,7 @@ use Rattle.promise_store.specs.declared.call.Call.TheVariants.{Wrote, Synced}
 use Rattle.promise_store.specs.declared.records.Record.{Record}
 use Rattle.promise_store.specs.declared.records.Record.TheVariants.{Promised, Voted}
 use Rattle.promise_store.specs.declared.fault.StoreFault.TheVariants.{NoStore, BadHeader, Closed}
-use Rattle.promise_store.specs.Disks.{Torn, Holds, Rose}
+use Rattle.promise_store.specs.Disks.{Torn, Holds, Rose, Picks}
 use Rattle.promise_store.specs.Calls.{wrote, synced, contents, landed, replayed, picked, IsImage}
 use Rattle.promise_store.specs.Records.{payload, record_text}
 use Rattle.promise_store.specs.Journals.{header, gated, IsJournal}
@@ -146,6 +146,22 @@ rose = omega arith
 
 pub rose-none : Rose 4 4 → ⊥
 rose-none is = omega (arith, is)
+
+-- a stop left what was picked; or it was refused, which is counted, and nothing else changed
+pub stop_picked : Picks (1 ∷ []) (2 ∷ []) (1 ∷ []) 4 4
+stop_picked = inl (refl, refl)
+
+pub stop_refused : Picks (1 ∷ []) (2 ∷ []) (2 ∷ []) 4 5
+stop_refused = inr (refl, rose)
+
+-- one that did nothing, and one that left something else
+pub stop_passed_over-none : Picks (1 ∷ []) (2 ∷ []) (2 ∷ []) 4 4 → ⊥
+stop_passed_over-none (inl same) = absurd (let byte = ap (λ (l : List ℕ). get_or l 0 0) same.0 in omega (arith, byte))
+stop_passed_over-none (inr refused) = rose-none refused.1
+
+pub stop_elsewhere-none : Picks (1 ∷ []) (2 ∷ []) (3 ∷ []) 4 5 → ⊥
+stop_elsewhere-none (inl same) = absurd (let byte = ap (λ (l : List ℕ). get_or l 0 0) same.0 in omega (arith, byte))
+stop_elsewhere-none (inr refused) = absurd (let byte = ap (λ (l : List ℕ). get_or l 0 0) refused.0 in omega (arith, byte))
 
 -- digits 0, 1 and 2 of a write of two bytes at offset 1 of a file of two
 pub old_bytes : picked (5 ∷ 6 ∷ []) ((1, 8 ∷ 9 ∷ []) ∷ []) 0 ≡ 5 ∷ 6 ∷ 0 ∷ []

@@ -38,6 +38,10 @@ During past since These = (t : ℕ) (image : List ℕ) → since t image → pas
 abbrev pub Rose : ℕ → ℕ → Type 0
 Rose old new = min (old + 1) (2 ^ 64 - 1) ≤ new
 
+-- a stop left what was picked, and no call failed; or one failed, and a read gives what it gave before
+abbrev pub Picks : (picked before now : List ℕ) (old new : ℕ) → Type 0
+Picks picked before now old new = ((now ≡ picked) × (new ≡ old)) ⊎ ((now ≡ before) × Rose old new)
+
 -- the count stays at Ok and rises at Err
 abbrev pub Counts : {T E : Type 0} → Result T E → ℕ → ℕ → Type 0
 Counts result old new = MatchResult result (λ _. new ≡ old) (λ _. (old ≤ new) × Rose old new)

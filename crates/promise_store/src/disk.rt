@@ -1,7 +1,7 @@
 //! One file as a store sees it: what a read gives, and what a crash may leave.
 
 ghost use Rattle.std.specs.Prelude.{◌≡◌, ◌⊎◌, ◌+◌, ◌^◌, ◌<◌, ◌≤◌, ℕ, Bool, List, length, take, drop, IsTrue, IfOk, OnOk};
-ghost use Rattle.promise_store.specs.Disks.{Holds, Torn, TornFrom, Within, Only, Elapses, Counts, Rose};
+ghost use Rattle.promise_store.specs.Disks.{Holds, Torn, TornFrom, Within, Only, Elapses, Counts, Rose, Picks};
 
 /// A call of a disk failed. What a failed write left in its range is known only after a sync.
 #[derive(Clone, Copy, Debug, PartialEq, Eq)]
@@ -42,6 +42,9 @@ pub trait Disk {
 
     /// What a read gave when the disk was begun: made, or begun anew.
     ghost begun: { Self → List ℕ };
+
+    /// What a stop leaves by the number that picks.
+    ghost picked: { Self → ℕ → List ℕ };
 
     /// How many calls have failed; it stays at its last value.
     fn failures(&self) -> u64
@@ -92,14 +95,16 @@ pub trait Disk {
         ensures time { Elapses (moment self.old) (moment self.new) (since self.old) (since self.new) (images self.new) }
         ensures failed { Counts result (count self.old) (count self.new) };
 
-    /// The machine stops and comes back: what a read gives from now on is one of the images. The number picks one;
-    /// of a real file it isn't ours to pick, and nothing happens.
+    /// The machine stops and comes back: what a read gives from now on is one of the images, the one that the number
+    /// picks. Where that can't be had it counts as a failed call, and a read gives what it gave before. Of a real file
+    /// it isn't ours to pick, and nothing happens.
     fn stop(&mut self, pick: u64)
+        ensures picked { IsTrue is_honest → Picks (picked self.old pick) (seen self.old) (seen self.new) (count self.old) (count self.new) }
         ensures left { IsTrue is_honest → images self.old (seen self.new) }
         ensures begun { begun self.new ≡ begun self.old }
         ensures crash { Within (images self.old) (images self.new) }
         ensures time { Elapses (moment self.old) (moment self.new) (since self.old) (since self.new) (images self.new) }
-        ensures failed { count self.new ≡ count self.old };
+        ensures counts { count self.old ≤ count self.new };
 
     /// An image now is one at some moment since any.
     ghost counts_now: { (file : Self) (t : ℕ) (image : List ℕ) → images file image → since file t image };

@@ -1,7 +1,7 @@
 //! A file in memory, which keeps a record of its calls; each call is told whether it is to fail.
 
 ghost use Rattle.std.specs.Prelude.{◌≡◌, ◌∷◌, ◌++◌, [], ◌+◌, ◌<◌, ◌≤◌, ◌%◌, ◌/◌, ◌^◌, List, ℕ, length, take, drop, map, ◌↔◌, if◌then◌else◌, IsTrue, IfOk, IsOk, IsErr, OnOk, OnErr, true, false};
-ghost use Rattle.promise_store.specs.Disks.{Holds, TornFrom, Within, Only, Elapses, Counts};
+ghost use Rattle.promise_store.specs.Disks.{Holds, TornFrom, Within, Only, Elapses, Counts, Picks};
 ghost use Rattle.promise_store.specs.Calls.{event_of, events, landed, replayed, picked, write_of, IsTied};
 
 use crate::call::Call;
@@ -261,8 +261,26 @@ impl Medium {
         Ok(())
     }
 
-    /// The machine stops and comes back with the image that the number picks. An `Err` changes nothing.
-    pub fn stop(&mut self, pick: u64) -> Result<(), AllocError>
+    /// The machine stops and comes back with the image that the number picks. Where memory is refused it counts as a
+    /// failed call, and nothing else changes.
+    pub fn stop(&mut self, pick: u64)
+        ensures picked { Picks (image_of self.old pick) (seen_of self.old) (seen_of self.new) (count_of self.old) (count_of self.new) }
+        ensures left { images_of self.old (seen_of self.new) }
+        ensures begun { begun_of self.new ≡ begun_of self.old }
+        ensures crash { Within (images_of self.old) (images_of self.new) }
+        ensures time { Elapses (moment_of self.old) (moment_of self.new) (since_of self.old) (since_of self.new) (images_of self.new) }
+        ensures counts { count_of self.old ≤ count_of self.new }
+    {
+        match self.come_back(pick) {
+            Ok(()) => {}
+            Err(_) => {
+                count_failure(&mut self.failures);
+            }
+        }
+    }
+
+    /// The same, without a count. An `Err` changes nothing.
+    fn come_back(&mut self, pick: u64) -> Result<(), AllocError>
         ensures picked { OnOk result (seen_of self.new ≡ image_of self.old pick) }
         ensures err { OnErr result (seen_of self.new ≡ seen_of self.old) }
         ensures left { images_of self.old (seen_of self.new) }

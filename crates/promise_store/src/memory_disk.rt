@@ -16,7 +16,7 @@ use std::alloc::{AllocError, Global};
 /// since then, failed ones too, take the digits of the pick in base 3, the oldest the lowest. Digit 0 keeps the old
 /// bytes, with zeros past the old end; 1 has the new bytes; 2 has the byte 1 throughout. What a failed sync left
 /// unsynced stays so until one succeeds. A write of no bytes does nothing, and takes no digit. A growth that is refused
-/// inside is a failure of the call; a stop, which can't fail, then changes no byte.
+/// inside is a failure of the call, also of a stop, which then changes no byte.
 pub struct MemoryDisk {
     medium: Medium,
     /// How many calls pass before all fail.
@@ -87,7 +87,7 @@ impl MemoryDisk {
 }
 
 impl Disk for MemoryDisk {
-    ghost use Rattle.promise_store.specs.Media.{seen_of, images_of, moment_of, since_of, count_of, begun_of};
+    ghost use Rattle.promise_store.specs.Media.{seen_of, images_of, moment_of, since_of, count_of, begun_of, image_of};
 
     ghost is_honest = { true };
 
@@ -102,6 +102,8 @@ impl Disk for MemoryDisk {
     ghost count = { λ m. count_of m.medium };
 
     ghost begun = { λ m. begun_of m.medium };
+
+    ghost picked = { λ m. image_of m.medium };
 
     ghost counts_now = { λ m t image now. inl now };
 
@@ -146,6 +148,6 @@ impl Disk for MemoryDisk {
         if self.left.is_some() {
             self.next_fuse += 1;
         }
-        let _ = self.medium.stop(pick);
+        self.medium.stop(pick);
     }
 }

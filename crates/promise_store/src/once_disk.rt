@@ -61,7 +61,7 @@ impl OnceDisk {
 }
 
 impl Disk for OnceDisk {
-    ghost use Rattle.promise_store.specs.Media.{seen_of, images_of, moment_of, since_of, count_of, begun_of};
+    ghost use Rattle.promise_store.specs.Media.{seen_of, images_of, moment_of, since_of, count_of, begun_of, image_of};
 
     ghost is_honest = { true };
 
@@ -76,6 +76,8 @@ impl Disk for OnceDisk {
     ghost count = { λ m. count_of m.medium };
 
     ghost begun = { λ m. begun_of m.medium };
+
+    ghost picked = { λ m. image_of m.medium };
 
     ghost counts_now = { λ m t image now. inl now };
 
@@ -116,6 +118,6 @@ impl Disk for OnceDisk {
     }
 
     fn stop(&mut self, pick: u64) {
-        let _ = self.medium.stop(pick);
+        self.medium.stop(pick);
     }
 }

@@ -149,6 +149,13 @@ impl<D: Disk> Store<D> {
         self.disk.failures()
     }
 
+    /// Its disk.
+    pub fn disk(&self) -> &D
+        ensures { result.now ≡ disk_of self.now }
+    {
+        &self.disk
+    }
+
     /// What the store holds: the promised ballot, and where each slot's entry stands.
     pub fn held(&self) -> &Held
         ensures value { result.now ≡ held_of self.now }

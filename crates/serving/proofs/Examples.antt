@@ -1,20 +1,25 @@
 -- What is due, on values.
-use Rattle.std.proofs.Common.{◌≡◌, ℕ, refl, true, false, [], ◌∷◌, Option, Some, None, Err}
+use Rattle.std.proofs.Common.{◌≡◌, ℕ, refl, sym, true, false, inl, inr, [], ◌∷◌, ◌∙◌, Option, Some, None, Ok, Err}
 use Rattle.serving.specs.declared.place.Place.TheVariants.{Awaited, Seated, Leaving}
 use Rattle.serving.specs.declared.known.NodeSight.{NodeSight}
 use Rattle.serving.specs.declared.known.Repair.TheVariants as repair
 use Rattle.serving.specs.declared.due.Due.TheVariants.{Stop, Start, Drop, Await, Read, Deliver, Tick, Over}
 use Rattle.dealer_kind.specs.Plans.{Plan}
+use Rattle.promise_store.specs.declared.disk.Disk.{Ghosts}
+use Rattle.dealer_node.specs.Nodes.{Node}
 use Rattle.dealer_node.specs.declared.fault.NodeFault.TheVariants as fault
 use Rattle.dealer_world.specs.declared.event.Event.TheVariants as event
 use Rattle.serving.specs.declared.serve_fault.ServeFault.TheVariants.{LogFailed}
 use Rattle.serving.specs.declared.turn.Turn.TheVariants as turn
-use Rattle.serving.specs.Dues.{next_frame}
-use Rattle.serving.specs.Going.{delivered_after, ends_in_line_feed}
+use Rattle.serving.specs.declared.waiting.Waiting.{Waiting}
+use Rattle.serving.specs.Dues.{next_frame, IsDue}
+use Rattle.serving.specs.Going.{delivered_after, ends_in_line_feed, piece_after}
 use Rattle.serving.specs.Next.{due_by, running_from}
 use Rattle.serving.specs.Placing.{moved}
 use Rattle.serving.specs.Repairs.{stopped, started, greeted_after}
-use Rattle.serving.specs.Turning.{goes_on, turn_of, IsForDue, MayFail}
+use Rattle.serving.specs.Served.{Served}
+use Rattle.serving.specs.Turned.{DidNothing}
+use Rattle.serving.specs.Turning.{goes_on, turn_of, IsForDue, IsSlow, MayFail}
 
 -- a node that has applied so many commands, with this seat to act
 abbrev at : ℕ → Option ℕ → NodeSight
@@ -160,3 +165,44 @@ tick_is_not_due_where_a_seat_is_read is = is
 
 seat_that_is_read_breaks_no_log : (plan : Plan) → MayFail plan (Read 1 0) LogFailed → ⊥
 seat_that_is_read_breaks_no_log plan may = may
+
+piece_of_a_line_is_kept : (bytes : _) → piece_after (event.Line 0 1 bytes) (70 ∷ []) ≡ bytes.items
+piece_of_a_line_is_kept bytes = refl
+
+and_that_before_stays_at_a_tick : piece_after (event.Tick 0) (70 ∷ []) ≡ 70 ∷ []
+and_that_before_stays_at_a_tick = refl
+
+-- ---- a seat that sends nothing
+
+silent_seat_that_is_read_is_waited_for : IsSlow (Read 1 0) (turn.Waits 1 0)
+silent_seat_that_is_read_is_waited_for = (refl, refl)
+
+so_is_one_that_is_awaited : IsSlow (Await 1 2) (turn.Waits 1 2)
+so_is_one_that_is_awaited = (refl, refl)
+
+another_seat_is_not_waited_for : IsSlow (Read 1 0) (turn.Waits 0 0) → ⊥
+another_seat_is_not_waited_for (seat, node) = cc
+
+nor_is_it_at_another_node : IsSlow (Await 1 2) (turn.Waits 1 0) → ⊥
+nor_is_it_at_another_node (seat, node) = cc
+
+nobody_is_waited_for_where_a_node_ticks : IsSlow (Tick 0) (turn.Waits 0 0) → ⊥
+nobody_is_waited_for_where_a_node_ticks is = is
+
+nor_where_a_seat_is_dropped : IsSlow (Drop 1 0) (turn.Waits 1 0) → ⊥
+nor_where_a_seat_is_dropped is = is
+
+line_that_came_is_no_wait : IsSlow (Read 1 0) (turn.Read 1) → ⊥
+line_that_came_is_no_wait is = is
+
+-- a turn that did nothing may have waited for the seat that is due
+waited_for_the_seat_that_is_due : {D : Type 0} (g : Ghosts D) (server : Served (Node D)) → server.waiting ≡ None → IsDue g server.view server.progress (Read 1 0)
+    → DidNothing g server (Ok (turn.Waits 1 0))
+waited_for_the_seat_that_is_due g server free is_due = inr (record { free = free; what = Read 1 0; is_due = is_due; slow = (refl, refl) })
+
+-- but not where an event waits to be given again
+not_while_an_event_waits : {D : Type 0} (g : Ghosts D) (server : Served (Node D)) (w : Waiting) → server.waiting ≡ Some w → DidNothing g server (Ok (turn.Waits 1 0)) → ⊥
+not_while_an_event_waits g server w waits (inl (over, next)) = cc
+not_while_an_event_waits g server w waits (inr nothing) =
+    let none : Some w ≡ None = sym waits ∙ nothing.free in
+    cc

@@ -3,7 +3,7 @@ use Rattle.std.proofs.Common.{◌≡◌, ℕ, refl, ap, sym, List, [], ◌∷◌
 use Rattle.protocol_model.specs.Dealers.{Seat, Log}
 use Rattle.dealer_world.specs.Records.{Piece}
 use Rattle.dealer_world.specs.declared.event.Event.TheVariants as event
-use Rattle.match_links.specs.Passages.{Passage, Told, Emptied, Logged}
+use Rattle.match_links.specs.Passages.{Passage, Told, Emptied, Logged, sat}
 use Rattle.serving.specs.declared.place.Place.{Place}
 use Rattle.serving.specs.declared.place.Place.TheVariants.{Seated, Leaving}
 use Rattle.serving.specs.Giving.{taken_for, all_emptied, given_as, AreGiven}
@@ -83,6 +83,12 @@ log_is_never_left_out each = other (given_whole (Leaving 0 ∷ Leaving 0 ∷ [])
 
 nothing_for_a_tick : taken_for (event.Tick 1) ≡ []
 nothing_for_a_tick = refl
+
+a_seat_that_is_seated : taken_for (event.Connect 1 0) ≡ sat 1 0 ∷ []
+a_seat_that_is_seated = refl
+
+nothing_where_it_is_dropped : taken_for (event.Drop 1 0) ≡ []
+nothing_where_it_is_dropped = refl
 
 log_of_a_node_that_starts : taken_for (event.Start 1) ≡ Emptied 1 ∷ []
 log_of_a_node_that_starts = refl

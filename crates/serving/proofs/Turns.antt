@@ -13,21 +13,23 @@ use Rattle.dealer_world.specs.Records.{Record}
 use Rattle.dealer_world.specs.Stepping.{View, Stepped, Gains, nothing, call}
 use Rattle.serving.specs.declared.progress.Progress.{Progress}
 use Rattle.serving.specs.declared.waiting.Waiting.{Waiting}
+use Rattle.serving.specs.declared.waiting.Taking.TheVariants.{Gives, Waits as NotYet, Over as AllOver}
 use Rattle.serving.specs.declared.turn.Turn.{Turn}
+use Rattle.serving.specs.declared.turn.Turn.TheVariants as turn
 use Rattle.serving.specs.declared.serve_fault.ServeFault.{ServeFault}
-use Rattle.serving.specs.Dues.{IsNext}
+use Rattle.serving.specs.Dues.{IsNext, TakesNext, SentNothing}
 use Rattle.serving.specs.Served.{Served}
 use Rattle.dealer_node.specs.declared.fault.NodeFault.TheVariants as fault
 use Rattle.dealer_world.specs.Events.{node_of}
-use Rattle.serving.specs.Giving.{Gives, taken}
-use Rattle.serving.specs.Going.{IsKept}
+use Rattle.serving.specs.Giving.{Gives as GivesOn, taken}
+use Rattle.serving.specs.Going.{IsKept, piece_after}
 use Rattle.serving.specs.Placed.{places_in}
 use Rattle.serving.specs.Turned.{Went, Gave, Ends, Mends, Passes}
 use Rattle.serving.specs.Turning.{IsWaiting}
 use Rattle.serving.proofs.Giving.{gives_none}
 
-abbrev made : {N : Type 0} → View N → Progress → Option Waiting → List Passage → ℕ → ℕ → Option NodeFault → Served N
-made view progress waiting passed shown called refused = record {
+abbrev made : {N : Type 0} → View N → Progress → Option Waiting → List Passage → ℕ → ℕ → Option NodeFault → List ℕ → Served N
+made view progress waiting passed shown called refused piece = record {
   view = view;
   progress = progress;
   waiting = waiting;
@@ -35,19 +37,39 @@ made view progress waiting passed shown called refused = record {
   shown = shown;
   called = called;
   refused = refused;
+  piece = piece;
 }
 
 -- a server is all that is seen of it
 pub same_served : {N : Type 0} (a b : Served N) → a.view ≡ b.view → a.progress ≡ b.progress → a.waiting ≡ b.waiting → a.passed ≡ b.passed → a.shown ≡ b.shown
-    → a.called ≡ b.called → a.refused ≡ b.refused → a ≡ b
-same_served {N} a b view progress waiting passed shown called refused =
-    ap (λ (v : View N). made v a.progress a.waiting a.passed a.shown a.called a.refused) view
-    ∙ ap (λ (n : Progress). made b.view n a.waiting a.passed a.shown a.called a.refused) progress
-    ∙ ap (λ (w : Option Waiting). made b.view b.progress w a.passed a.shown a.called a.refused) waiting
-    ∙ ap (λ (p : List Passage). made b.view b.progress b.waiting p a.shown a.called a.refused) passed
-    ∙ ap (λ (k : ℕ). made b.view b.progress b.waiting b.passed k a.called a.refused) shown
-    ∙ ap (λ (i : ℕ). made b.view b.progress b.waiting b.passed b.shown i a.refused) called
-    ∙ ap (λ (f : Option NodeFault). made b.view b.progress b.waiting b.passed b.shown b.called f) refused
+    → a.called ≡ b.called → a.refused ≡ b.refused → a.piece ≡ b.piece → a ≡ b
+same_served {N} a b view progress waiting passed shown called refused piece =
+    ap (λ (v : View N). made v a.progress a.waiting a.passed a.shown a.called a.refused a.piece) view
+    ∙ ap (λ (n : Progress). made b.view n a.waiting a.passed a.shown a.called a.refused a.piece) progress
+    ∙ ap (λ (w : Option Waiting). made b.view b.progress w a.passed a.shown a.called a.refused a.piece) waiting
+    ∙ ap (λ (p : List Passage). made b.view b.progress b.waiting p a.shown a.called a.refused a.piece) passed
+    ∙ ap (λ (k : ℕ). made b.view b.progress b.waiting b.passed k a.called a.refused a.piece) shown
+    ∙ ap (λ (i : ℕ). made b.view b.progress b.waiting b.passed b.shown i a.refused a.piece) called
+    ∙ ap (λ (f : Option NodeFault). made b.view b.progress b.waiting b.passed b.shown b.called f a.piece) refused
+    ∙ ap (made b.view b.progress b.waiting b.passed b.shown b.called b.refused) piece
+
+-- the event that was taken is the next one
+pub gives_the_next : {D : Type 0} (g : Ghosts D) (view : View (Node D)) (progress : Progress) (waiting : Option Waiting) (w : Waiting)
+    → TakesNext g view progress waiting (Gives w) → IsNext g view progress waiting (Some w)
+gives_the_next g view progress None w takes = takes
+gives_the_next g view progress (Some before) w takes = cc
+
+-- where all is over nothing is next
+pub over_is_next : {D : Type 0} (g : Ghosts D) (view : View (Node D)) (progress : Progress) (waiting : Option Waiting) → TakesNext g view progress waiting AllOver
+    → IsNext g view progress waiting None
+over_is_next g view progress None takes = takes
+over_is_next g view progress (Some before) takes = cc
+
+-- a seat sends nothing only where no event waits
+pub sent_nothing : {D : Type 0} (g : Ghosts D) (view : View (Node D)) (progress : Progress) (waiting : Option Waiting) (seat node : ℕ)
+    → TakesNext g view progress waiting (NotYet seat node) → SentNothing g view progress waiting (turn.Waits seat node)
+sent_nothing g view progress None seat node (what, is_due, slow) = record { free = refl; what = what; is_due = is_due; slow = slow }
+sent_nothing g view progress (Some before) seat node takes = cc
 
 -- nothing is next only where nothing waits
 pub none_waits : {D : Type 0} (g : Ghosts D) (view : View (Node D)) (progress : Progress) (waiting : Option Waiting) → IsNext g view progress waiting None → waiting ≡ None
@@ -60,7 +82,7 @@ pub passes_from : {N : Type 0} (took : List Passage) (between old new : Served N
 passes_from took between old new shown passed passes = record {
   given = passes.given;
   passed = passes.passed ∙ ap (λ (ps : List Passage). ps ++ passes.given) passed ∙ append_assoc old.passed took passes.given;
-  gives = subst (λ (k : ℕ). Gives (places_in new.progress.places) new.view.all.shown k new.shown passes.given) shown passes.gives;
+  gives = subst (λ (k : ℕ). GivesOn (places_in new.progress.places) new.view.all.shown k new.shown passes.given) shown passes.gives;
 }
 
 -- nothing passed
@@ -68,7 +90,7 @@ pub passes_none : {N : Type 0} (old new : Served N) → new.passed ≡ old.passe
 passes_none old new passed shown within = record {
   given = [];
   passed = passed ∙ sym (append-nil old.passed);
-  gives = subst (λ (k : ℕ). Gives (places_in new.progress.places) new.view.all.shown k new.shown []) shown
+  gives = subst (λ (k : ℕ). GivesOn (places_in new.progress.places) new.view.all.shown k new.shown []) shown
       (gives_none (places_in new.progress.places) new.view.all.shown new.shown within);
 }
 
@@ -88,20 +110,21 @@ still_within g n old new e answer stepped = grows n e (runs stepped.before) step
 
 -- what waited is none of what an event changes
 pub gave_from : {D : Type 0} (g : Ghosts D) (w : Waiting) (took : List Passage) (between old : Served (Node D)) (answer : Result Turn ServeFault) (new : Served (Node D))
-    → between.view ≡ old.view → between.progress ≡ old.progress → between.shown ≡ old.shown → between.passed ≡ old.passed ++ took
+    → between.view ≡ old.view → between.progress ≡ old.progress → between.shown ≡ old.shown → between.piece ≡ old.piece → between.passed ≡ old.passed ++ took
     → Gave g w [] between answer new → Gave g w took old answer new
-gave_from {D} g w took between old answer new view progress shown passed gave = record {
+gave_from {D} g w took between old answer new view progress shown piece passed gave = record {
   called = gave.called;
   of_match = subst (λ (v : View (Node D)). IsWaiting v w) view gave.of_match;
   stepped = subst (λ (v : View (Node D)). Stepped g v w.event gave.called new.view) view gave.stepped;
   tells = gave.tells;
-  again = λ none. let both = gave.again none in (both.0, both.1 ∙ progress);
+  again = λ none. let all = gave.again none in (all.0, all.1 ∙ progress, all.2 ∙ piece);
   given = gave.given;
   went = on_ok_weaker answer (subst (λ (n : Progress). Went g new.view w gave.called n new.progress) progress) gave.went;
   passes = passes_from took between old new shown passed gave.passes;
   all_given = gave.all_given;
   refused = gave.refused;
   named = gave.named;
+  piece = λ ample. gave.piece ample ∙ ap (piece_after w.event) piece;
 }
 
 -- a fault that was mended, and what was shown behind it
@@ -113,7 +136,7 @@ mended_ends fault.Spent w old mended new (goes, same) kept = subst (λ (p : Prog
 mended_ends (fault.BadFrame bytes) w old mended new (goes, same) kept = subst (λ (p : Progress). IsKept p new) same kept
 mended_ends fault.Conflict w old mended new (goes, same) kept = subst (λ (p : Progress). IsKept p new) same kept
 
--- where all is over nothing is taken
+-- where there is no event nothing is taken
 pub taken_nothing : (waiting : Option Waiting) → taken waiting None ≡ []
 taken_nothing None = refl
 taken_nothing (Some w) = refl

@@ -4,18 +4,25 @@ use Rattle.protocol_model.specs.Dealers.{Reader, Seat, Log}
 use Rattle.dealer_world.specs.Records.{Piece}
 use Rattle.dealer_world.specs.declared.event.Event.{Event}
 use Rattle.dealer_world.specs.declared.event.Event.TheVariants as event
-use Rattle.match_links.specs.Passages.{Passage, Came, Told, Emptied, Logged}
+use Rattle.match_links.specs.Passages.{Passage, Came, Told, Emptied, Logged, sat}
 use Rattle.serving.specs.declared.place.Place.{Place}
 use Rattle.serving.specs.declared.place.Place.TheVariants.{Seated}
 use Rattle.serving.specs.declared.waiting.Waiting.{Waiting}
 
 -- ---- what is taken
 
--- for a line its bytes came of that seat at that node, and nothing else; before a start the node's log was emptied
+-- for a connection that seat was seated at that node; for a line its bytes came of that seat there, and nothing else; before a start the
+-- node's log was emptied
 abbrev pub taken_for : Event → List Passage
 taken_for (event.Line node seat bytes) = Came node seat bytes.items ∷ []
+taken_for (event.Connect node seat) = sat node seat ∷ []
 taken_for (event.Start node) = Emptied node ∷ []
 taken_for other = []
+
+-- where no event comes of it, nothing is taken
+abbrev pub taken_from : Option Event → List Passage
+taken_from None = []
+taken_from (Some e) = taken_for e
 
 abbrev pub taken_by : Option Waiting → List Passage
 taken_by None = []

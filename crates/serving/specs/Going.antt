@@ -35,6 +35,11 @@ greeted_by (turn.Read seat) before = greeted_after seat before
 greeted_by (turn.Gone seat) before = greeted_after seat before
 greeted_by other before = before
 
+-- the piece that was read last, after an event was given: that of a line
+abbrev pub piece_after : Event → List ℕ → List ℕ
+piece_after (event.Line node seat bytes) before = bytes.items
+piece_after other before = before
+
 -- what changes at a stop alone is left out: the outages, the count of commands, who was greeted, whose store failed
 pub record IsSame (old new : Progress) : Type 0 where
   pub outages : new.outages ≡ old.outages

@@ -15,4 +15,5 @@ served_of {links = links} server = record {
   shown = server.desk.shown;
   called = server.desk.last_node;
   refused = server.desk.last_fault;
+  piece = server.last_piece.items;
 }

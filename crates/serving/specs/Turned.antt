@@ -1,5 +1,5 @@
 -- What a turn does.
-use Rattle.std.specs.Prelude.{◌≡◌, ◌⊎◌, ℕ, Bool, true, List, ◌++◌, Some, None, Result, Ok, Err, OnOk}
+use Rattle.std.specs.Prelude.{◌≡◌, ◌⊎◌, ℕ, Bool, true, List, [], ◌++◌, Some, None, Result, Ok, Err, OnOk}
 use Rattle.promise_store.specs.declared.disk.Disk.{Ghosts}
 use Rattle.dealer_node.specs.Nodes.{Node}
 use Rattle.dealer_node.specs.declared.fault.NodeFault.{NodeFault}
@@ -16,8 +16,8 @@ use Rattle.match_links.specs.Passages.{Passage}
 use Rattle.serving.specs.Served.{Served}
 use Rattle.serving.specs.Giving.{Gives, counted, all_emptied, taken}
 use Rattle.serving.specs.Placed.{places_in}
-use Rattle.serving.specs.Dues.{IsDue, IsNext}
-use Rattle.serving.specs.Going.{Settled, IsKept, AsksRepair}
+use Rattle.serving.specs.Dues.{IsDue, IsNext, SentNothing}
+use Rattle.serving.specs.Going.{Settled, IsKept, AsksRepair, piece_after}
 use Rattle.serving.specs.Turning.{turn_of, fault_in, IsWaiting, Tells, MayFail}
 
 -- a store's fault is mended where it is its first; others need nothing
@@ -41,12 +41,13 @@ pub record Passes {N : Type 0} (took : List Passage) (old new : Served N) : Type
 abbrev pub HasGivenAll : {N : Type 0} → Served N → Type 0
 HasGivenAll now = now.shown ≡ counted now.view.all.shown
 
--- at first each log is emptied, and then all is given that the record has, since the links were as they were
+-- at first each log is emptied, and then all is given that the record has, since the links were as they were; nothing was read yet
 pub record Opens {N : Type 0} (nodes : ℕ) (before : List Passage) (new : Served N) : Type 0 where
   pub given : List Passage
   pub passed : new.passed ≡ before ++ (all_emptied nodes ++ given)
   pub gives : Gives (places_in new.progress.places) new.view.all.shown 0 new.shown given
   pub all_given : HasGivenAll new
+  pub unread : new.piece ≡ []
 
 module _ {D : Type 0} (g : Ghosts D) where
   -- what is known after an event was given and answered so
@@ -61,17 +62,18 @@ module _ {D : Type 0} (g : Ghosts D) where
     pub of_match : IsWaiting old.view waiting
     pub stepped : Stepped g old.view waiting.event called new.view
     pub tells : Tells (turn_of waiting.number waiting.event) waiting.event called answer
-    pub again : called ≡ Err fault.OutOfMemory → (new.waiting ≡ Some waiting) × (new.progress ≡ old.progress)
+    pub again : called ≡ Err fault.OutOfMemory → (new.waiting ≡ Some waiting) × (new.progress ≡ old.progress) × (new.piece ≡ old.piece)
     pub given : (called ≡ Err fault.OutOfMemory → ⊥) → new.waiting ≡ None
     pub went : OnOk answer (Went new.view waiting called old.progress new.progress)
     pub passes : Passes took old new
     pub all_given : OnOk answer (HasGivenAll new)
     pub refused : new.refused ≡ fault_in called
     pub named : (called ≡ Err fault.OutOfMemory → ⊥) → new.called ≡ node_of waiting.event
+    pub piece : (called ≡ Err fault.OutOfMemory → ⊥) → new.piece ≡ piece_after waiting.event old.piece
 
-  -- no call was made: all is over, or what is due couldn't be taken from the links
+  -- no call was made: all is over, a seat sent nothing, or what is due couldn't be taken from the links
   abbrev pub DidNothing : Served (Node D) → Result Turn ServeFault → Type 0
-  DidNothing old (Ok t) = (t ≡ turn.Over) × IsNext g old.view old.progress old.waiting None
+  DidNothing old (Ok t) = ((t ≡ turn.Over) × IsNext g old.view old.progress old.waiting None) ⊎ SentNothing g old.view old.progress old.waiting t
   DidNothing old (Err why) = (what : Due) × IsDue g old.view old.progress what × MayFail old.view.config what why
 
   -- a turn did what is due: it gave the one event that is next to the cluster, or nothing

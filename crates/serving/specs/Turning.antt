@@ -12,6 +12,8 @@ use Rattle.serving.specs.declared.due.Due.{Due}
 use Rattle.serving.specs.declared.due.Due.TheVariants as due
 use Rattle.serving.specs.declared.turn.Turn.{Turn}
 use Rattle.serving.specs.declared.waiting.Waiting.{Waiting}
+use Rattle.serving.specs.declared.waiting.Taking.{Taking}
+use Rattle.serving.specs.declared.waiting.Taking.TheVariants.{Gives, Waits, Over}
 use Rattle.serving.specs.declared.turn.Turn.TheVariants as turn
 use Rattle.serving.specs.declared.serve_fault.ServeFault.{ServeFault}
 use Rattle.serving.specs.declared.serve_fault.ServeFault.TheVariants as serve
@@ -63,6 +65,24 @@ abbrev pub IsTaken : Due → Option Waiting → Type 0
 IsTaken what (Some waiting) = IsForDue what waiting.number waiting.event
 IsTaken due.Over None = Unit {0}
 IsTaken other None = ⊥
+
+-- the seat that is due to be awaited or read from is the one that a turn waited for
+abbrev pub IsSlow : Due → Turn → Type 0
+IsSlow (due.Await seat node) (turn.Waits s i) = (s ≡ seat) × (i ≡ node)
+IsSlow (due.Read seat node) (turn.Waits s i) = (s ≡ seat) × (i ≡ node)
+IsSlow other t = ⊥
+
+-- the event that was taken up, if one was
+abbrev pub event_in : Taking → Option Waiting
+event_in (Gives waiting) = Some waiting
+event_in (Waits seat node) = None
+event_in Over = None
+
+-- what is due was taken up: by an event, by waiting for a seat that sent nothing, or by nothing where all is over
+abbrev pub IsTakenUp : Due → Taking → Type 0
+IsTakenUp what (Gives waiting) = IsTaken what (Some waiting)
+IsTakenUp what (Waits seat node) = IsSlow what (turn.Waits seat node)
+IsTakenUp what Over = IsTaken what None
 
 -- an event of the match that may be given to the cluster as it is; a frame is one that was sent
 abbrev pub IsWaiting : {N : Type 0} → View N → Waiting → Type 0

@@ -1,15 +1,16 @@
 //! Whether events are of a match.
 
-ghost use Rattle.std.specs.Prelude.{◌≡◌, ◌<◌, ◌↔◌, Some, IsTrue, IfOk, IfErr};
+ghost use Rattle.std.specs.Prelude.{◌≡◌, ◌<◌, ◌↔◌, IsTrue, IfOk, IfErr};
 ghost use Rattle.std.specs.Option.{ForSome};
 ghost use Rattle.dealer_world.specs.Viewing.{view_of};
 ghost use Rattle.dealer_world.specs.Promise.{IsForMatch};
-ghost use Rattle.serving.specs.Turning.{IsFrameless, IsWaiting, IsOutside, IsForDue, IsTaken};
+ghost use Rattle.serving.specs.Turning.{IsFrameless, IsWaiting, IsOutside, IsForDue, IsTakenUp, event_in};
+ghost use Rattle.serving.specs.declared.waiting.Taking.TheVariants.{Gives};
 ghost use Rattle.serving.specs.declared.serve_fault.ServeFault.TheVariants.{LinkFailed};
 
 use crate::due::Due;
 use crate::serve_fault::ServeFault;
-use crate::waiting::Waiting;
+use crate::waiting::{Taking, Waiting};
 use dealer_world::{Cluster, Event};
 use promise_store::Disk;
 
@@ -35,17 +36,17 @@ pub(crate) fn checked<D: Disk + Drop>(
     cluster: &Cluster<D>,
     due: Due,
     event: Event,
-) -> Result<Option<Waiting>, ServeFault>
+) -> Result<Taking, ServeFault>
     requires frameless { IsFrameless event }
     requires due { IsForDue due 0 event }
-    ensures event { IfOk result (λ found. found ≡ Some (record { event = event; number = 0 })) }
-    ensures due { IfOk result (IsTaken due) }
-    ensures waiting { IfOk result (λ found. ForSome found (λ waiting. IsWaiting (view_of cluster.now) waiting)) }
+    ensures event { IfOk result (λ taking. taking ≡ Gives (record { event = event; number = 0 })) }
+    ensures due { IfOk result (IsTakenUp due) }
+    ensures waiting { IfOk result (λ taking. ForSome (event_in taking) (λ waiting. IsWaiting (view_of cluster.now) waiting)) }
     ensures fault { IfErr result (λ fault. (fault ≡ LinkFailed) × IsOutside (view_of cluster.now).config due) }
 {
     let _ = due;
     if is_for(cluster, &event) {
-        Ok(Some(Waiting { event, number: 0 }))
+        Ok(Taking::Gives(Waiting { event, number: 0 }))
     } else {
         Err(ServeFault::LinkFailed)
     }

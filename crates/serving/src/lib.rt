@@ -4,9 +4,11 @@
 //! gives it what the record has. Then `Server::turn` again and again, until it answers `Turn::Over` or a fault. A turn
 //! does the first thing that is due (`next_due`), which is at most one call of a node: a frame is carried to its node, a
 //! line of a seat is handed on, a node ticks, stops or starts, a seat is connected or dropped. What a call showed is given
-//! to its readers before the turn ends. Between turns `awaited` tells which seat the next one waits for, `place` where a
-//! seat is, `last_node` and `last_fault` which node was called last and what refused it. What a server reaches outside
-//! are `match_links::Links`. A whole match is played by the test `a_match_outlives_a_node` of `match_tests`.
+//! to its readers before the turn ends. Where a seat that is awaited or read from sends nothing, the turn is `Turn::Waits`:
+//! nothing was done, and the same turn comes again. Between turns `awaited` tells which seat the next one waits for, `place`
+//! where a seat is, `last_node` and `last_fault` which node was called last and what refused it, `last_piece` what was read
+//! last. What a server reaches outside are `match_links::Links`. A whole match is played by the test
+//! `a_match_outlives_a_node` of `match_tests`.
 //!
 //! Faults (`ServeFault`): 105 where a port or a connection between nodes fails, 106 where a log does, and those of a
 //! node's call: 91 where a node's store fails for the second time, 92 for want of memory, by which nothing has changed

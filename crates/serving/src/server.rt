@@ -4,12 +4,13 @@ ghost use Rattle.dealer_world.specs.Viewing.{view_of};
 ghost use Rattle.dealer_world.specs.Promise.{IsPromised, HasNoForged};
 ghost use Rattle.dealer_node.specs.Seeing.{begun_of};
 ghost use Rattle.dealer_world.specs.Events.{node_of};
-ghost use Rattle.serving.specs.Dues.{IsNext, IsAwaited};
+ghost use Rattle.serving.specs.Dues.{TakesNext, IsAwaited};
 ghost use Rattle.serving.specs.Giving.{taken};
+ghost use Rattle.serving.specs.Going.{piece_after};
 ghost use Rattle.serving.specs.Placed.{places_in};
 ghost use Rattle.serving.specs.Turned.{Turned, Gave, DidNothing, Ends, Mends, Passes, HasGivenAll, Opens};
 ghost use Rattle.serving.specs.Waits.{waits_prop};
-ghost use Rattle.serving.specs.Turning.{Tells, turn_of, goes_on, fault_in, IsWaiting};
+ghost use Rattle.serving.specs.Turning.{Tells, turn_of, goes_on, fault_in, event_in, IsWaiting};
 ghost use Rattle.serving.specs.declared.serve_fault.ServeFault.TheVariants.{LogFailed};
 
 use crate::desk::Desk;
@@ -19,7 +20,7 @@ use crate::place::Place;
 use crate::serve_fault::ServeFault;
 use crate::taking::{close_all, empty_logs, take};
 use crate::turn::Turn;
-use crate::waiting::Waiting;
+use crate::waiting::{Taking, Waiting};
 use dealer_node::{NodeFault, is_out_of_memory};
 use dealer_world::{Cluster, Event};
 use match_links::Links;
@@ -36,6 +37,8 @@ pub struct Server<D: Disk + Drop, L: Links + Drop> {
     desk: Desk<L>,
     /// An event that found no memory, and is given again.
     waiting: Option<Waiting>,
+    /// What a seat sent that was read last.
+    last_piece: Vec<u8>,
     ghost waits: { ForSome waiting (IsWaiting (view_of cluster)) } by { waits_prop (view_of cluster) waiting },
     ghost promised: { IsPromised D.Disk (view_of cluster) },
     ghost shown: { desk.shown ≤ length (view_of cluster).all.shown },
@@ -49,6 +52,7 @@ impl<D: Disk + Drop, L: Links + Drop> Drop for Server<D, L> {
             cluster: _,
             desk: _,
             waiting: _,
+            last_piece: _,
         } = self;
     }
 }
@@ -73,6 +77,15 @@ fn fault_of(answer: Result<(), NodeFault>) -> Option<NodeFault>
     match answer {
         Ok(()) => None,
         Err(fault) => Some(fault),
+    }
+}
+
+/// Keeps the piece of a seat in place of the one before, where such a piece was given. It takes no memory.
+fn keep_piece(kept: &mut Vec<u8>, given: Waiting)
+    ensures { kept.new.items ≡ piece_after given.event kept.old.items }
+{
+    if let Event::Line { bytes, .. } = given.event {
+        *kept = bytes;
     }
 }
 
@@ -105,11 +118,13 @@ impl<D: Disk + Drop, L: Links + Drop> Server<D, L> {
             cluster,
             desk,
             waiting: None,
+            last_piece: Vec::new(alloc),
         })
     }
 
     /// Does the first thing that is due, by at most one call of a node: the one that the answer names. What the call
-    /// showed is given to its readers before the answer.
+    /// showed is given to its readers before the answer. Where the seat that is due sends nothing for so long as the links
+    /// wait, nothing was done, and the same turn comes again.
     ///
     /// By 92 nothing has changed, and the same turn comes again. After 105 and 106, and after another fault of a node,
     /// the match can't go on.
@@ -120,30 +135,32 @@ impl<D: Disk + Drop, L: Links + Drop> Server<D, L> {
         ensures begun { map (begun_of D.Disk) (view_of self.new.cluster).nodes ≡ map (begun_of D.Disk) (view_of self.old.cluster).nodes }
     {
         match self.take_waiting()? {
-            Some(waiting) => self.give(waiting),
-            None => {
+            Taking::Gives(waiting) => self.give(waiting),
+            Taking::Waits { seat, node } => Ok(Turn::Waits { seat, node }),
+            Taking::Over => {
                 close_all(&mut self.desk.links, &self.cluster);
                 Ok(Turn::Over)
             }
         }
     }
 
-    /// The event that is to be given next: one that found no memory, or a new one.
-    fn take_waiting(&mut self) -> Result<Option<Waiting>, ServeFault>
+    /// Takes the event that is to be given next: one that found no memory, or a new one.
+    fn take_waiting(&mut self) -> Result<Taking, ServeFault>
         ensures same { self.new.cluster ≡ self.old.cluster }
         ensures progress { self.new.desk.progress ≡ self.old.desk.progress }
         ensures shown { self.new.desk.shown ≡ self.old.desk.shown }
         ensures called { self.new.desk.last_node ≡ self.old.desk.last_node }
         ensures refused { self.new.desk.last_fault ≡ self.old.desk.last_fault }
+        ensures piece { self.new.last_piece ≡ self.old.last_piece }
         ensures taken { self.new.waiting ≡ None }
-        ensures passed { IfOk result (λ found. L.passed self.new.desk.links ≡ L.passed self.old.desk.links ++ taken self.old.waiting found) }
+        ensures passed { IfOk result (λ taking. L.passed self.new.desk.links ≡ L.passed self.old.desk.links ++ taken self.old.waiting (event_in taking)) }
         ensures failed { OnErr result (L.passed self.new.desk.links ≡ L.passed self.old.desk.links) }
-        ensures next { IfOk result (IsNext D.Disk (view_of self.old.cluster) self.old.desk.progress self.old.waiting) }
-        ensures waiting { IfOk result (λ found. ForSome found (λ event. IsWaiting (view_of self.old.cluster) event)) }
+        ensures next { IfOk result (TakesNext D.Disk (view_of self.old.cluster) self.old.desk.progress self.old.waiting) }
+        ensures waiting { IfOk result (λ taking. ForSome (event_in taking) (λ event. IsWaiting (view_of self.old.cluster) event)) }
         ensures fault { IfErr result (λ fault. (self.old.waiting ≡ None) × DidNothing D.Disk (served_of self.old) (Err fault)) }
     {
         match self.waiting.take() {
-            Some(waiting) => Ok(Some(waiting)),
+            Some(waiting) => Ok(Taking::Gives(waiting)),
             None => {
                 let due = self.desk.progress.due(&self.cluster);
                 take(self.alloc, &mut self.desk.links, &self.cluster, due)
@@ -165,7 +182,9 @@ impl<D: Disk + Drop, L: Links + Drop> Server<D, L> {
         }
         self.waiting = None;
         self.desk.settle(&self.cluster, &waiting);
-        self.close(&waiting, answer)
+        let turn = self.close(&waiting, answer);
+        keep_piece(&mut self.last_piece, waiting);
+        turn
     }
 
     /// Ends a turn whose event was answered so: what was shown is given to its readers.
@@ -176,6 +195,7 @@ impl<D: Disk + Drop, L: Links + Drop> Server<D, L> {
     ) -> Result<Turn, ServeFault>
         ensures same { self.new.cluster ≡ self.old.cluster }
         ensures waiting { self.new.waiting ≡ self.old.waiting }
+        ensures piece { self.new.last_piece ≡ self.old.last_piece }
         ensures called { self.new.desk.last_node ≡ self.old.desk.last_node }
         ensures refused { self.new.desk.last_fault ≡ self.old.desk.last_fault }
         ensures passes { Passes [] (served_of self.old) (served_of self.new) }
@@ -196,6 +216,7 @@ impl<D: Disk + Drop, L: Links + Drop> Server<D, L> {
     fn mend(&mut self, waiting: &Waiting, fault: NodeFault) -> Result<Turn, ServeFault>
         ensures same { self.new.cluster ≡ self.old.cluster }
         ensures waiting { self.new.waiting ≡ self.old.waiting }
+        ensures piece { self.new.last_piece ≡ self.old.last_piece }
         ensures called { self.new.desk.last_node ≡ self.old.desk.last_node }
         ensures refused { self.new.desk.last_fault ≡ self.old.desk.last_fault }
         ensures passes { Passes [] (served_of self.old) (served_of self.new) }
@@ -214,6 +235,7 @@ impl<D: Disk + Drop, L: Links + Drop> Server<D, L> {
     fn mends(&mut self, event: &Event, fault: NodeFault) -> bool
         ensures same { self.new.cluster ≡ self.old.cluster }
         ensures waiting { self.new.waiting ≡ self.old.waiting }
+        ensures piece { self.new.last_piece ≡ self.old.last_piece }
         ensures passed { L.passed self.new.desk.links ≡ L.passed self.old.desk.links }
         ensures shown { self.new.desk.shown ≡ self.old.desk.shown }
         ensures called { self.new.desk.last_node ≡ self.old.desk.last_node }
@@ -253,6 +275,13 @@ impl<D: Disk + Drop, L: Links + Drop> Server<D, L> {
         ensures { result ≡ (served_of self.now).refused }
     {
         self.desk.last_fault
+    }
+
+    /// What a seat sent that was read last, with its line feed if it came; empty before the first.
+    pub fn last_piece(&self) -> &[u8]
+        ensures { result.now ≡ (served_of self.now).piece }
+    {
+        &self.last_piece
     }
 
     /// Where a seat is, counted from 0; none of a number that no seat has.

@@ -5,15 +5,15 @@ ghost use Rattle.std.specs.Option.{ForSome};
 ghost use Rattle.dealer_node.specs.declared.fault.NodeFault.TheVariants.{OutOfMemory};
 ghost use Rattle.dealer_world.specs.Viewing.{view_of};
 ghost use Rattle.match_links.specs.Passages.{Emptied};
-ghost use Rattle.serving.specs.Giving.{taken_for, taken_by, all_emptied};
-ghost use Rattle.serving.specs.Turning.{IsFrameless, IsWaiting, IsForDue, IsTaken, MayFail};
+ghost use Rattle.serving.specs.Giving.{taken_for, taken_by, taken_from, all_emptied};
+ghost use Rattle.serving.specs.Turning.{IsFrameless, IsWaiting, IsForDue, IsTakenUp, MayFail, event_in};
 ghost use Rattle.serving.specs.declared.due.Due.TheVariants.{Await, Read, Deliver};
 ghost use Rattle.serving.specs.declared.serve_fault.ServeFault.TheVariants.{LinkFailed, LogFailed, Node as OfNode};
 
 use crate::checking::{checked, is_for};
 use crate::due::Due;
 use crate::serve_fault::ServeFault;
-use crate::waiting::Waiting;
+use crate::waiting::{Taking, Waiting};
 use dealer_node::NodeFault;
 use dealer_world::{Cluster, Event};
 use match_links::limits::PIECE;
@@ -22,16 +22,17 @@ use promise_store::Disk;
 use std::alloc::Global;
 
 /// Takes what is due from the links, and says which event it gives to the cluster; none where all is over. A seat that
-/// is awaited or read from may turn out to be gone: then it is dropped.
+/// is awaited or read from may turn out to be gone: then it is dropped; or it sends nothing for so long as the links
+/// wait: then nothing is taken.
 pub(crate) fn take<D: Disk + Drop, L: Links + Drop>(
     alloc: Global,
     links: &mut L,
     cluster: &Cluster<D>,
     due: Due,
-) -> Result<Option<Waiting>, ServeFault>
-    ensures due { IfOk result (IsTaken due) }
-    ensures waiting { IfOk result (λ found. ForSome found (λ waiting. IsWaiting (view_of cluster.now) waiting)) }
-    ensures taken { IfOk result (λ found. L.passed links.new ≡ L.passed links.old ++ taken_by found) }
+) -> Result<Taking, ServeFault>
+    ensures due { IfOk result (IsTakenUp due) }
+    ensures waiting { IfOk result (λ taking. ForSome (event_in taking) (λ waiting. IsWaiting (view_of cluster.now) waiting)) }
+    ensures taken { IfOk result (λ taking. L.passed links.new ≡ L.passed links.old ++ taken_by (event_in taking)) }
     ensures failed { OnErr result (L.passed links.new ≡ L.passed links.old) }
     ensures fault { IfErr result (MayFail (view_of cluster.now).config due) }
 {
@@ -43,14 +44,11 @@ pub(crate) fn take<D: Disk + Drop, L: Links + Drop>(
             Ok(start)
         }
         Due::Drop { seat, node } => checked(cluster, due, Event::Drop { node, seat }),
-        Due::Await { seat, node } => {
-            let event = accept(links, node, seat)?;
-            checked(cluster, due, event)
-        }
+        Due::Await { seat, node } => accept_of(links, cluster, node, seat),
         Due::Read { seat, node } => read_of(alloc, links, cluster, node, seat),
         Due::Deliver(number) => carry(alloc, links, cluster, number),
         Due::Tick(node) => checked(cluster, due, Event::Tick { node }),
-        Due::Over => Ok(None),
+        Due::Over => Ok(Taking::Over),
     }
 }
 
@@ -103,17 +101,40 @@ fn prepare<L: Links + Drop>(links: &mut L, node: u8) -> Result<(), ServeFault>
     empty_log(links, node)
 }
 
-/// Waits for a connection of a seat. Where that fails, the seat is dropped.
-fn accept<L: Links + Drop>(links: &mut L, node: u8, seat: u8) -> Result<Event, ServeFault>
-    ensures same { L.passed links.new ≡ L.passed links.old }
-    ensures taken { IfOk result (λ event. taken_for event ≡ []) }
-    ensures frameless { IfOk result IsFrameless }
-    ensures due { IfOk result (IsForDue (Await seat node) 0) }
+/// Waits for a connection of a seat of the match, as an event for the cluster.
+fn accept_of<D: Disk + Drop, L: Links + Drop>(
+    links: &mut L,
+    cluster: &Cluster<D>,
+    node: u8,
+    seat: u8,
+) -> Result<Taking, ServeFault>
+    ensures due { IfOk result (IsTakenUp (Await seat node)) }
+    ensures waiting { IfOk result (λ taking. ForSome (event_in taking) (λ waiting. IsWaiting (view_of cluster.now) waiting)) }
+    ensures taken { IfOk result (λ taking. L.passed links.new ≡ L.passed links.old ++ taken_by (event_in taking)) }
+    ensures failed { OnErr result (L.passed links.new ≡ L.passed links.old) }
+    ensures fault { IfErr result (MayFail (view_of cluster.now).config (Await seat node)) }
+{
+    // Looked at before the link is: who is seated there is then never lost.
+    let due = Due::Await { seat, node };
+    let _ = checked(cluster, due, Event::Drop { node, seat })?;
+    match accept(links, node, seat)? {
+        Some(event) => Ok(Taking::Gives(Waiting { event, number: 0 })),
+        None => Ok(Taking::Waits { seat, node }),
+    }
+}
+
+/// Waits for a connection of a seat. Where that fails, the seat is dropped; where nothing comes, no event is given.
+fn accept<L: Links + Drop>(links: &mut L, node: u8, seat: u8) -> Result<Option<Event>, ServeFault>
+    ensures taken { IfOk result (λ found. L.passed links.new ≡ L.passed links.old ++ taken_from found) }
+    ensures failed { OnErr result (L.passed links.new ≡ L.passed links.old) }
+    ensures frameless { IfOk result (λ found. ForSome found IsFrameless) }
+    ensures due { IfOk result (λ found. ForSome found (IsForDue (Await seat node) 0)) }
     ensures fault { IfErr result (λ fault. fault ≡ OfNode OutOfMemory) }
 {
     match links.accept(node, seat) {
-        Ok(()) => Ok(Event::Connect { node, seat }),
-        Err(LinkFault::Failed) => Ok(Event::Drop { node, seat }),
+        Ok(()) => Ok(Some(Event::Connect { node, seat })),
+        Err(LinkFault::Failed) => Ok(Some(Event::Drop { node, seat })),
+        Err(LinkFault::Slow) => Ok(None),
         Err(LinkFault::OutOfMemory) => Err(ServeFault::Node(NodeFault::OutOfMemory)),
     }
 }
@@ -125,40 +146,44 @@ fn read_of<D: Disk + Drop, L: Links + Drop>(
     cluster: &Cluster<D>,
     node: u8,
     seat: u8,
-) -> Result<Option<Waiting>, ServeFault>
-    ensures due { IfOk result (IsTaken (Read seat node)) }
-    ensures waiting { IfOk result (λ found. ForSome found (λ waiting. IsWaiting (view_of cluster.now) waiting)) }
-    ensures taken { IfOk result (λ found. L.passed links.new ≡ L.passed links.old ++ taken_by found) }
+) -> Result<Taking, ServeFault>
+    ensures due { IfOk result (IsTakenUp (Read seat node)) }
+    ensures waiting { IfOk result (λ taking. ForSome (event_in taking) (λ waiting. IsWaiting (view_of cluster.now) waiting)) }
+    ensures taken { IfOk result (λ taking. L.passed links.new ≡ L.passed links.old ++ taken_by (event_in taking)) }
     ensures failed { OnErr result (L.passed links.new ≡ L.passed links.old) }
     ensures fault { IfErr result (MayFail (view_of cluster.now).config (Read seat node)) }
 {
     // Looked at before the link is: what it gives is then never lost.
     let due = Due::Read { seat, node };
     let _ = checked(cluster, due, Event::Drop { node, seat })?;
-    let event = read(alloc, links, node, seat)?;
-    Ok(Some(Waiting { event, number: 0 }))
+    match read(alloc, links, node, seat)? {
+        Some(event) => Ok(Taking::Gives(Waiting { event, number: 0 })),
+        None => Ok(Taking::Waits { seat, node }),
+    }
 }
 
-/// Reads from a seat. Where that fails, or the connection has ended, the seat is dropped.
+/// Reads from a seat. Where that fails, or the connection has ended, the seat is dropped; where nothing comes, no event
+/// is given.
 fn read<L: Links + Drop>(
     alloc: Global,
     links: &mut L,
     node: u8,
     seat: u8,
-) -> Result<Event, ServeFault>
-    ensures taken { IfOk result (λ event. L.passed links.new ≡ L.passed links.old ++ taken_for event) }
+) -> Result<Option<Event>, ServeFault>
+    ensures taken { IfOk result (λ found. L.passed links.new ≡ L.passed links.old ++ taken_from found) }
     ensures failed { OnErr result (L.passed links.new ≡ L.passed links.old) }
-    ensures frameless { IfOk result IsFrameless }
-    ensures due { IfOk result (IsForDue (Read seat node) 0) }
+    ensures frameless { IfOk result (λ found. ForSome found IsFrameless) }
+    ensures due { IfOk result (λ found. ForSome found (IsForDue (Read seat node) 0)) }
     ensures fault { IfErr result (λ fault. fault ≡ OfNode OutOfMemory) }
 {
     let mut bytes = vec![in alloc; 0u8; PIECE]?;
     match links.read(node, seat, &mut bytes) {
         Ok(count) if 0 < count => {
             bytes.truncate(count);
-            Ok(Event::Line { node, seat, bytes })
+            Ok(Some(Event::Line { node, seat, bytes }))
         }
-        _ => Ok(Event::Drop { node, seat }),
+        Err(LinkFault::Slow) => Ok(None),
+        _ => Ok(Some(Event::Drop { node, seat })),
     }
 }
 
@@ -168,11 +193,11 @@ fn carry<D: Disk + Drop, L: Links + Drop>(
     links: &mut L,
     cluster: &Cluster<D>,
     number: usize,
-) -> Result<Option<Waiting>, ServeFault>
+) -> Result<Taking, ServeFault>
     ensures same { L.passed links.new ≡ L.passed links.old }
-    ensures taken { IfOk result (λ found. taken_by found ≡ []) }
-    ensures due { IfOk result (IsTaken (Deliver number)) }
-    ensures waiting { IfOk result (λ found. ForSome found (λ waiting. IsWaiting (view_of cluster.now) waiting)) }
+    ensures taken { IfOk result (λ taking. taken_by (event_in taking) ≡ []) }
+    ensures due { IfOk result (IsTakenUp (Deliver number)) }
+    ensures waiting { IfOk result (λ taking. ForSome (event_in taking) (λ waiting. IsWaiting (view_of cluster.now) waiting)) }
     ensures fault { IfErr result (λ fault. (fault ≡ LinkFailed) ⊎ (fault ≡ OfNode OutOfMemory)) }
 {
     let Some(frame) = cluster.frame(number) else {
@@ -189,7 +214,7 @@ fn carry<D: Disk + Drop, L: Links + Drop>(
         bytes,
     };
     if is_for(cluster, &event) {
-        Ok(Some(Waiting { event, number }))
+        Ok(Taking::Gives(Waiting { event, number }))
     } else {
         Err(ServeFault::LinkFailed)
     }

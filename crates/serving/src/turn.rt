@@ -15,6 +15,9 @@ pub enum Turn {
     Read(u8),
     /// The seat was dropped: its connection ended or failed, or its session was closed.
     Gone(u8),
+    /// The seat that is awaited at the node, or read from there, has sent nothing for five seconds: nothing was done, and
+    /// the same turn comes again.
+    Waits { seat: u8, node: u8 },
     /// The match is over at every running node; nothing was done.
     Over,
 }

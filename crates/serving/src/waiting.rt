@@ -11,6 +11,17 @@ pub(crate) struct Waiting {
     pub(crate) number: usize,
 }
 
+/// What it came to that something was to be taken from the links. Seats and nodes are counted from 0.
+#[derive(Drop)]
+pub(crate) enum Taking {
+    /// An event for the cluster.
+    Gives(Waiting),
+    /// Nothing: the seat that is awaited at this node, or read from there, sent nothing for so long as the links wait.
+    Waits { seat: u8, node: u8 },
+    /// Nothing: all is over.
+    Over,
+}
+
 impl Waiting {
     /// The turn that gives it.
     pub(crate) fn turn(&self) -> Turn

@@ -20,7 +20,8 @@ use Rattle.streamed.specs.Pieces.{bytes_of}
 use Rattle.streamed.specs.Ending.{status_of, ending_text, stopped, words_text}
 use Rattle.match_log.specs.declared.fault_kind.LogFaultKind.TheVariants.{WrongValues}
 use Rattle.streamed.specs.Verdict.{verdict_text, EndsVerdict}
-use Rattle.streamed.specs.declared.ending.Ending.TheVariants.{Done, SaidNo, Refused, Unreadable, StreamFailed}
+use Rattle.streamed.specs.declared.ending.Ending.TheVariants.{Done, SaidNo, Refused, StoreInUse, OtherMatch, Unreadable, StreamFailed}
+use Rattle.match_file.specs.declared.difference.Difference.TheVariants.{Node, Unread}
 use Rattle.streamed.specs.declared.stop.Stop.TheVariants as stop
 use Rattle.streamed.specs.declared.wrong_words.WrongWords.TheVariants.{Incomplete}
 use Rattle.streamed.specs.declared.script_line.ScriptLine.TheVariants.{Names, Told, Bad}
@@ -198,6 +199,15 @@ said_of_a_right_log = refl
 said_of_a_wrong_log : verdict_text (Err (record { kind = WrongValues; line = 2 })) ≡ codes "no 2 48 WrongValues\n"
 unfolding opened
 said_of_a_wrong_log = refl
+
+another_count_of_nodes_is_told : (ending_text (OtherMatch Node) ≡ codes "109 OtherMatch node") × (status_of (OtherMatch Node) ≡ 2)
+another_count_of_nodes_is_told = (refl, refl)
+
+no_kept_match_is_told_by_its_file : ending_text (OtherMatch Unread) ≡ codes "109 OtherMatch match.kept"
+no_kept_match_is_told_by_its_file = refl
+
+store_in_use_has_its_number : (ending_text StoreInUse ≡ codes "108 StoreInUse") × (status_of StoreInUse ≡ 2)
+store_in_use_has_its_number = (refl, refl)
 
 nothing_on_standard_error_of_a_wrong_log : ending_text (SaidNo (record { kind = WrongValues; line = 2 })) ≡ []
 nothing_on_standard_error_of_a_wrong_log = refl

@@ -1,10 +1,11 @@
 -- How a run of the program ends: its exit status, and what standard error gets.
-use Rattle.std.specs.Prelude.{ℕ, List, [], codes}
+use Rattle.std.specs.Prelude.{ℕ, List, [], ◌++◌, codes}
 use Rattle.game_def.specs.Fault.{fault_text}
 use Rattle.match_file.specs.Fault.{fault_text as match_fault_text}
+use Rattle.match_file.specs.Kept.{difference_text}
 use Rattle.promise_store.specs.FaultText.{fault_text as store_fault_text}
 use Rattle.streamed.specs.declared.ending.Ending.{Ending}
-use Rattle.streamed.specs.declared.ending.Ending.TheVariants.{Done, SaidNo, Refused, Match, StoreExists, Store, Unreadable, OutOfMemory, StreamFailed, WrongWords}
+use Rattle.streamed.specs.declared.ending.Ending.TheVariants.{Done, SaidNo, Refused, Match, StoreExists, Store, StoreInUse, OtherMatch, Unreadable, OutOfMemory, StreamFailed, WrongWords}
 use Rattle.streamed.specs.declared.stop.Stop.{Stop}
 use Rattle.streamed.specs.declared.stop.Stop.TheVariants as stop
 use Rattle.streamed.specs.declared.wrong_words.WrongWords.{WrongWords as Wrong}
@@ -18,6 +19,8 @@ status_of (Refused fault) = 2
 status_of (Match fault) = 2
 status_of StoreExists = 2
 status_of (Store fault) = 2
+status_of StoreInUse = 2
+status_of (OtherMatch difference) = 2
 status_of Unreadable = 2
 status_of OutOfMemory = 2
 status_of StreamFailed = 2
@@ -43,6 +46,8 @@ ending_text (Refused fault) = fault_text fault
 ending_text (Match fault) = match_fault_text fault
 ending_text StoreExists = codes "103 StoreExists"
 ending_text (Store fault) = store_fault_text fault
+ending_text StoreInUse = codes "108 StoreInUse"
+ending_text (OtherMatch difference) = codes "109 OtherMatch " ++ difference_text difference
 ending_text Unreadable = codes "104 Unreadable"
 ending_text OutOfMemory = codes "92 OutOfMemory"
 ending_text StreamFailed = codes "107 StreamFailed"

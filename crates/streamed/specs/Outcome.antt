@@ -7,7 +7,7 @@ use Rattle.game_def.specs.WholeFile.{read_game}
 use Rattle.streamed.specs.Script.{Script}
 use Rattle.streamed.specs.Running.{Begins}
 use Rattle.streamed.specs.declared.ending.Ending.{Ending}
-use Rattle.streamed.specs.declared.ending.Ending.TheVariants.{Done, SaidNo, Refused, Match, StoreExists, Store, Unreadable, OutOfMemory, StreamFailed, WrongWords}
+use Rattle.streamed.specs.declared.ending.Ending.TheVariants.{Done, SaidNo, Refused, Match, StoreExists, Store, StoreInUse, OtherMatch, Unreadable, OutOfMemory, StreamFailed, WrongWords}
 
 -- all of the script was read, and just what is to be written for it was written
 pub record Answers (game : Game) (count : ℕ) (log : Option (List ℕ)) (left left_after held held_after : Option (List ℕ)) : Type 0 where
@@ -34,6 +34,8 @@ Ends text count log left left_after held held_after (SaidNo fault) = ⊥
 Ends text count log left left_after held held_after (Match fault) = ⊥
 Ends text count log left left_after held held_after StoreExists = ⊥
 Ends text count log left left_after held held_after (Store fault) = ⊥
+Ends text count log left left_after held held_after StoreInUse = ⊥
+Ends text count log left left_after held held_after (OtherMatch difference) = ⊥
 Ends text count log left left_after held held_after Unreadable = ⊥
 Ends text count log left left_after held held_after (WrongWords words) = ⊥
 Ends text count log left left_after held held_after OutOfMemory =

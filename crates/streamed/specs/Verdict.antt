@@ -8,7 +8,7 @@ use Rattle.match_log.specs.Fault.{kind_text}
 use Rattle.match_log.specs.Check.{Says}
 use Rattle.match_log.specs.declared.fault.LogFault.{LogFault}
 use Rattle.streamed.specs.declared.ending.Ending.{Ending}
-use Rattle.streamed.specs.declared.ending.Ending.TheVariants.{Done, SaidNo, Refused, Match, StoreExists, Store, Unreadable, OutOfMemory, StreamFailed, WrongWords}
+use Rattle.streamed.specs.declared.ending.Ending.TheVariants.{Done, SaidNo, Refused, Match, StoreExists, Store, StoreInUse, OtherMatch, Unreadable, OutOfMemory, StreamFailed, WrongWords}
 
 -- what is printed of a log: yes, or no with the line at fault and its fault
 abbrev pub verdict_text : Result (Unit {0}) LogFault → List ℕ
@@ -41,6 +41,8 @@ EndsVerdict verdict held held_after (Refused fault) = ⊥
 EndsVerdict verdict held held_after (Match fault) = ⊥
 EndsVerdict verdict held held_after StoreExists = ⊥
 EndsVerdict verdict held held_after (Store fault) = ⊥
+EndsVerdict verdict held held_after StoreInUse = ⊥
+EndsVerdict verdict held held_after (OtherMatch difference) = ⊥
 EndsVerdict verdict held held_after Unreadable = ⊥
 EndsVerdict verdict held held_after OutOfMemory = Keeps held held_after
 EndsVerdict verdict held held_after (WrongWords words) = ⊥
@@ -55,6 +57,8 @@ EndsLog game left left_after held held_after (Refused fault) = ⊥
 EndsLog game left left_after held held_after (Match fault) = ⊥
 EndsLog game left left_after held held_after StoreExists = ⊥
 EndsLog game left left_after held held_after (Store fault) = ⊥
+EndsLog game left left_after held held_after StoreInUse = ⊥
+EndsLog game left left_after held held_after (OtherMatch difference) = ⊥
 EndsLog game left left_after held held_after Unreadable = SomeRead left left_after × Keeps held held_after
 EndsLog game left left_after held held_after OutOfMemory = SomeRead left left_after × Keeps held held_after
 EndsLog game left left_after held held_after (WrongWords words) = ⊥

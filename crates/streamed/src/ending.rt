@@ -5,14 +5,14 @@ ghost use Rattle.streamed.specs.declared.ending.Ending.TheVariants.{Match, OutOf
 use crate::stop::Stop;
 use crate::wrong_words::WrongWords;
 use game_def::GameFault;
-use match_file::MatchFault;
+use match_file::{Difference, MatchFault};
 use match_log::LogFault;
 use promise_store::StoreFault;
 use std::alloc::AllocError;
 use std::{fmt, io};
 
 /// How a run of the program ends: its exit status, and what standard error gets. All commands but `serve` end in
-/// one of these ways.
+/// one of these ways, and `serve` in some of them.
 #[derive(Clone, Copy, Debug)]
 pub enum Ending {
     /// All was done; of `check`: the log is that of a match of the game which is over. Status 0.
@@ -27,6 +27,10 @@ pub enum Ending {
     StoreExists,
     /// A store can't be made.
     Store(StoreFault),
+    /// 108: a store is in use.
+    StoreInUse,
+    /// 109: the stores are of another match, or of no match that can be told.
+    OtherMatch(Difference),
     /// 104: a file can't be read.
     Unreadable,
     /// 92: memory was refused.
@@ -72,6 +76,8 @@ impl fmt::Display for Ending {
             Ending::Match(fault) => write!(f, "{fault}"),
             Ending::StoreExists => f.write_str("103 StoreExists"),
             Ending::Store(fault) => write!(f, "{fault}"),
+            Ending::StoreInUse => f.write_str("108 StoreInUse"),
+            Ending::OtherMatch(difference) => write!(f, "109 OtherMatch {difference}"),
             Ending::Unreadable => f.write_str("104 Unreadable"),
             Ending::OutOfMemory => f.write_str("92 OutOfMemory"),
             Ending::StreamFailed => f.write_str("107 StreamFailed"),

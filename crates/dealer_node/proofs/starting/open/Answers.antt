@@ -1,4 +1,4 @@
-use Rattle.std.proofs.Common.{◌≡◌}
+use Rattle.std.proofs.Common.{◌≡◌, refl}
 use Rattle.std.specs.Prelude.{◌⊎◌}
 use Rattle.protocol_model.specs.Stores.{Store}
 use Rattle.dealer_node.specs.Outs.{told_by}
@@ -13,6 +13,11 @@ returns-in-Ok-clause-starts g c = λ store begun honest leaves.
     (c.in-Ok.ensures.opened store begun honest leaves) c.requires.runs leaves c.in-Ok.ensures.reads
     (λ found keeps. c.greet.ensures.told found (c.promised.ensures.kept head found keeps honest))
     (λ found keeps. c.greet.ensures.fits found (c.promised.ensures.kept head found keeps honest))
+
+pub returns-in-Ok-clause-stands : goal.returns-in-Ok-clause-stands
+returns-in-Ok-clause-stands g c = λ honest.
+    let opened = c.in-Ok.ensures.stands honest in
+    record { held = opened.0; stands = opened.1; now = record { running = c.requires.runs opened.0; keeps = opened.2; unbegun = refl; stands = tt } }
 
 pub returns-in-Err-clause-stays : goal.returns-in-Err-clause-stays
 returns-in-Err-clause-stays g c = λ store begun honest leaves.

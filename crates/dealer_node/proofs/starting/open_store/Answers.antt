@@ -1,7 +1,9 @@
 use Rattle.std.proofs.Common.{◌≡◌, ℕ, List, inl, inr, ap, sym, subst, ◌∙◌}
 use Rattle.std.specs.Prelude.{◌⊎◌}
 use Rattle.promise_store.specs.Journals.{header}
-use Rattle.promise_store.specs.Keeping.{Leaves}
+use Rattle.promise_store.specs.Holding.{StandsFor}
+use Rattle.promise_store.specs.Keeping.{Keeps, Leaves}
+use Rattle.promise_store.specs.declared.store.Store.{Store as Journal}
 use Rattle.promise_store.specs.Refusals.{Refuses}
 use Rattle.promise_store.specs.declared.fault.StoreFault.{StoreFault}
 use Rattle.acceptor.specs.Stored.{store_of}
@@ -19,6 +21,15 @@ returns-in-Ok-clause-opened g c = λ old new honest leaves.
     let L : List ℕ → Type 0 = λ h. Leaves g.D.Disk h old new c.args.disk in
     opened_at g.D.Disk (header c.node.result c.nodes.result) (head_of c.args.post.now) old new c.in-Ok.store (store_of c.new.result) same c.new.ensures
     (c.in-Ok.ensures.either old new honest (subst L (sym same) leaves))
+
+pub returns-in-Ok-clause-stands : goal.returns-in-Ok-clause-stands
+returns-in-Ok-clause-stands g c = λ honest.
+    let same = heads c.args.post.now c.node.result c.nodes.result c.node.ensures.value c.nodes.ensures.value in
+    let opened = c.in-Ok.ensures.opened in
+    let S : List ℕ → Type 0 = λ h. StandsFor h (g.D.Disk.seen c.args.disk) opened.held in
+    let K : List ℕ → Type 0 = λ h. Keeps g.D.Disk h opened.held (store_of c.new.result) in
+    let J : Journal g.row.D.Denot → Type 0 = λ st. Keeps g.D.Disk (header c.node.result c.nodes.result) opened.held st in
+    (opened.held, subst S same (opened.stands honest), subst K same (subst J (sym c.new.ensures) opened.keeps))
 
 pub returns-in-Err-clause-refused : goal.returns-in-Err-clause-refused
 returns-in-Err-clause-refused g c = λ old new honest leaves.

@@ -3,7 +3,7 @@ use Rattle.std.proofs.lemmas.List.{append-nil, length-take-le}
 use Rattle.match_links.specs.Passages.{Passage, Came}
 use Rattle.serving.proofs.Giving.{came_some, came_none, front_of}
 use Rattle.serving.proofs.taking.read.Goals as goal
-use Rattle.serving.proofs.taking.read.Goals.{in_default-via-in-Ok+else-count-gt0, in_default-via-in_default}
+use Rattle.serving.proofs.taking.read.Goals.{in_default-via-in-Ok+else-count-gt0, in_default-via-in-Err+in_default}
 
 pub returns-in-Ok-clause-taken : goal.returns-in-Ok-clause-taken
 returns-in-Ok-clause-taken g c =
@@ -23,5 +23,8 @@ returns-in_default-clause-taken g c =
       | in_default-via-in-Ok+else-count-gt0 w ↦
           let none : w.in-Ok.count ≡ 0 = search rules in
           w.in-Ok.ensures.came ∙ ap (λ (ps : List Passage). before ++ ps) (came_none c.args.node c.args.seat w.in-Ok.count c.read.new.piece none)
-      | in_default-via-in_default w ↦ w.in_default.ensures.failed ∙ sym (append-nil before)
+      | in_default-via-in-Err+in_default w ↦ w.in_default.ensures.failed ∙ sym (append-nil before)
     ]
+
+pub returns-in-Err-Slow-clause-taken : goal.returns-in-Err-Slow-clause-taken
+returns-in-Err-Slow-clause-taken g c = c.in-Err-Slow.ensures.failed ∙ sym (append-nil (g.L.Links.passed c.args.links.now))

@@ -3,7 +3,7 @@ use Rattle.dealer_node.specs.Outs.{Told, told_by, both_told}
 use Rattle.dealer_node.specs.Working.{head_of}
 use Rattle.dealer_node.specs.declared.fault.NodeFault.TheVariants as fault
 use Rattle.dealer_node.proofs.Heard.{err_is, err_of}
-use Rattle.dealer_node.proofs.Started.{runs_on_at, wanting_at, seen_down, started_at, unstarted_at, refused_at, starts_behind}
+use Rattle.dealer_node.proofs.Started.{runs_on_at, wanting_at, seen_down, started_at, unstarted_at, refused_at, starts_behind, stays_reads, started_reads, unstarted_reads, started_finds}
 use Rattle.dealer_node.proofs.node.Node.start.Goals as goal
 
 pub returns-then-is_some-clause-taken : goal.returns-then-is_some-clause-taken
@@ -33,6 +33,27 @@ returns-in-Err-clause-taken g c = λ s honest seen.
     let there = seen_down g.D.Disk c.args.self.now c.self.inside c.in-Some.disk s c.self.view_is down has seen in
     unstarted_at g.D.Disk c.args.self.now c.self.inside c.in-Some.disk c.in-Err.disk s c.args.out.now (told_by c.ready.new.out) c.in-Err.fault c.self.view_is down has (c.ready.ensures.same ∙ c.out.view_is) seen
     (c.in-Err.ensures.stays s.store s.begun honest there.by.leaves)
+
+pub returns-in-Ok-clause-found : goal.returns-in-Ok-clause-found
+returns-in-Ok-clause-found g c = λ honest down.
+    started_finds g.D.Disk c.args.self.now c.self.inside c.in-Some.disk c.take.new.self c.in-Ok.up c.self.view_is (sym c.is_some.ensures ∙ c.if-is_some.false)
+    (sym c.take.ensures.value ∙ c.in-Some.is) c.self.invariant.blank (c.in-Ok.ensures.stands honest)
+
+pub returns-then-is_some-clause-reads : goal.returns-then-is_some-clause-reads
+returns-then-is_some-clause-reads g c = stays_reads g.D.Disk c.args.self.now c.self.inside c.self.view_is c.self.invariant
+
+pub returns-in_err-running-clause-reads : goal.returns-in_err-running-clause-reads
+returns-in_err-running-clause-reads g c = stays_reads g.D.Disk c.args.self.now c.self.inside c.self.view_is c.self.invariant
+
+pub returns-in-Ok-clause-reads : goal.returns-in-Ok-clause-reads
+returns-in-Ok-clause-reads g c =
+    started_reads g.D.Disk c.args.self.now c.self.inside c.in-Some.disk c.take.new.self c.in-Ok.up c.self.view_is (sym c.is_some.ensures ∙ c.if-is_some.false)
+    (sym c.take.ensures.value ∙ c.in-Some.is) c.in-Ok.ensures.reads
+
+pub returns-in-Err-clause-reads : goal.returns-in-Err-clause-reads
+returns-in-Err-clause-reads g c =
+    unstarted_reads g.D.Disk c.args.self.now c.self.inside c.in-Some.disk c.in-Err.disk c.self.view_is (sym c.is_some.ensures ∙ c.if-is_some.false)
+    (sym c.take.ensures.value ∙ c.in-Some.is) c.in-Err.ensures.reads_err
 
 pub returns-in-Err-clause-refused : goal.returns-in-Err-clause-refused
 returns-in-Err-clause-refused g c = λ honest why is.

@@ -1,58 +1,102 @@
 use Rattle.dealer_world.specs.Viewing.{view_of}
 use Rattle.dealer_world.proofs.Founding.{reopened_posted, reopened_behind}
 use Rattle.dealer_world.proofs.Started.{all_started, reopened_wait}
-use Rattle.dealer_world.proofs.Wanting.{reopened_are_seen, on_fault}
+use Rattle.dealer_world.proofs.Opened.{AreDown, IsRefusedStart, opened_over, begun_are, found_within, found_resumes, files_have, unopened}
+use Rattle.dealer_world.proofs.Wanting.{on_fault}
 use Rattle.dealer_world.proofs.Promising.{promised}
-use Rattle.dealer_world.proofs.Leaving.{goes_on}
-use Rattle.protocol_model.specs.Stores.{Store}
+use Rattle.dealer_world.proofs.Reached.{reached_keeps}
+use Rattle.dealer_world.proofs.Leaving.{goes_on, goes_on_fresh}
 use Rattle.dealer_node.specs.declared.fault.NodeFault.{NodeFault}
-use Rattle.dealer_world.specs.Beginning.{AreImages, AreImagesDuring, HaveStores, IsWant}
-use Rattle.dealer_world.specs.Ruling.{AreSeen}
+use Rattle.dealer_world.specs.Beginning.{AreImages, AreImagesDuring, HasStore, AreEach, IsUnopened}
 use Rattle.dealer_world.specs.Events.{node_of}
 use Rattle.dealer_world.proofs.Stopping.{goes_on_inside}
-use Rattle.dealer_node.specs.Seeing.{begun_of}
 use Rattle.std.specs.Prelude.{map}
-use Rattle.std.proofs.Common.{◌≡◌, ℕ, length, true, Err, IsTrue, sym, subst, rules}
+use Rattle.std.proofs.Common.{◌≡◌, ◌∙◌, length, true, Err, IsTrue, sym, subst, rules}
+use Rattle.std.proofs.lemmas.List.{length-map}
 use Rattle.dealer_world.proofs.cluster.Cluster.open.Goals as goal
 
 pub down-cluster-requires-clause-posted : goal.down-cluster-requires-clause-posted
 down-cluster-requires-clause-posted g c = reopened_posted g.D.Disk c.args.config c.in_ok-nodes.nodes.items c.in_ok-nodes.ensures.each
 
 pub down-cluster-requires-clause-behind : goal.down-cluster-requires-clause-behind
-down-cluster-requires-clause-behind g c = reopened_behind g.D.Disk c.args.config c.in_ok-nodes.nodes.items c.limits.ensures c.in_ok-nodes.ensures.each
+down-cluster-requires-clause-behind g c = reopened_behind g.D.Disk c.args.config c.in_ok-nodes.nodes.items c.limits.ensures c.in_ok-nodes.ensures.count c.in_ok-nodes.ensures.each
 
 pub returns-clause-promised : goal.returns-clause-promised
 returns-clause-promised g c = promised g.D.Disk (view_of c.start_all.new.self) c.runs_show_one_list.ensures c.start_all.new.self.behind
 
-pub returns-clause-goes_on : goal.returns-clause-goes_on
-returns-clause-goes_on g c = λ before eras same images goes honest unforged.
-    let view = view_of before in let now = view_of c.start_all.new.self in
-    let files : map (begun_of g.D.Disk) now.nodes ≡ map g.D.Disk.seen c.args.disks.items = search rules in
+pub returns-clause-fresh : goal.returns-clause-fresh
+returns-clause-fresh g c = λ have.
+    let now = view_of c.start_all.new.self in
+    let files = begun_are g.D.Disk c.args.disks.items now.nodes
+    (opened_over g.D.Disk c.args.disks.items c.in_ok-nodes.nodes.items (view_of c.down-cluster.result).nodes now.nodes c.in_ok-nodes.ensures.over c.down-cluster.ensures.nodes c.start_all.ensures.reads) in
     let is_open : now.opened ≡ true = search rules in
-    goes_on g.D.Disk view now eras c.images_are_seen.ensures before.posted before.behind is_open same.setting same.count
-    (subst (AreImages g.D.Disk view.nodes) (sym files) images) goes honest unforged
+    let same : now.config ≡ c.args.config = search rules in
+    let count : length c.args.disks.items ≡ length c.args.config.sources = c.requires in
+    goes_on_fresh g.D.Disk now (map g.D.Disk.seen c.args.disks.items) c.args.config is_open same files (length-map c.args.disks.items g.D.Disk.seen ∙ count) have
+
+pub returns-clause-goes_on : goal.returns-clause-goes_on
+returns-clause-goes_on g c = λ first before eras reached same images goes honest unforged.
+    let now = view_of c.start_all.new.self in
+    let files = begun_are g.D.Disk c.args.disks.items now.nodes
+    (opened_over g.D.Disk c.args.disks.items c.in_ok-nodes.nodes.items (view_of c.down-cluster.result).nodes now.nodes c.in_ok-nodes.ensures.over c.down-cluster.ensures.nodes c.start_all.ensures.reads) in
+    let is_open : now.opened ≡ true = search rules in
+    let there = (reached_keeps g.D.Disk (view_of first) before c.seen_as_one.ensures.up (record { count = first.count; posted = first.posted; behind = first.behind }) reached).kept in
+    goes_on g.D.Disk before now eras c.images_are_seen.ensures there.posted there.behind is_open same.setting same.count
+    (subst (AreImages g.D.Disk before.nodes) (sym files) images) goes honest unforged
 
 pub returns-clause-goes_on_inside : goal.returns-clause-goes_on_inside
-returns-clause-goes_on_inside g c = λ before after event answer eras same stepped is_for images goes honest unforged brought.
-    let view = view_of before in let now = view_of c.start_all.new.self in
-    let files : map (begun_of g.D.Disk) now.nodes ≡ map g.D.Disk.seen c.args.disks.items = search rules in
+returns-clause-goes_on_inside g c = λ first before after event answer eras reached same stepped is_for images goes honest unforged brought.
+    let now = view_of c.start_all.new.self in
+    let files = begun_are g.D.Disk c.args.disks.items now.nodes
+    (opened_over g.D.Disk c.args.disks.items c.in_ok-nodes.nodes.items (view_of c.down-cluster.result).nodes now.nodes c.in_ok-nodes.ensures.over c.down-cluster.ensures.nodes c.start_all.ensures.reads) in
     let is_open : now.opened ≡ true = search rules in
-    goes_on_inside g.D.Disk view after now event answer eras c.images_are_seen.ensures c.moments_pass.ensures before.posted before.behind before.count is_open same.setting same.count stepped is_for
-    (subst (AreImagesDuring g.D.Disk (node_of event) stepped.before stepped.after view.nodes) (sym files) images) goes honest unforged brought
+    let there = (reached_keeps g.D.Disk (view_of first) before c.seen_as_one.ensures.up (record { count = first.count; posted = first.posted; behind = first.behind }) reached).kept in
+    goes_on_inside g.D.Disk before after now event answer eras c.images_are_seen.ensures c.moments_pass.ensures there.posted there.behind there.count is_open same.setting same.count stepped is_for
+    (subst (AreImagesDuring g.D.Disk (node_of event) stepped.before stepped.after before.nodes) (sym files) images) goes honest unforged brought
 
-pub returns-clause-started : goal.returns-clause-started
-returns-clause-started g c = λ stores honest have.
+pub returns-clause-stands : goal.returns-clause-stands
+returns-clause-stands g c = λ honest.
+    let nodes = c.in_ok-nodes.nodes.items in
     let first = view_of c.down-cluster.result in let last = view_of c.start_all.new.self in
-    all_started g.D.Disk stores first last honest c.down-cluster.ensures.all c.down-cluster.result.count
-    (reopened_wait g.D.Disk c.args.config c.in_ok-nodes.nodes.items first (map g.D.Disk.seen c.args.disks.items) stores c.down-cluster.ensures.config c.down-cluster.ensures.nodes c.in_ok-nodes.ensures.each
-    c.in_ok-nodes.ensures.begun have) c.in_ok-start_all.ensures.started
+    let over = c.in_ok-nodes.ensures.over in
+    let each = c.in_ok-nodes.ensures.each in
+    let same = c.down-cluster.ensures.nodes in
+    let down = subst (λ ns. AreDown g.D.Disk ns) (sym same) (λ i d less. (each i d less).down) in
+    let found = files_have g.D.Disk c.args.config c.args.disks.items nodes c.requires each over
+    (subst (λ ns. AreEach (λ i. HasStore g.D.Disk) ns) same (c.in_ok-start_all.ensures.stores honest down)) in (
+      found.0,
+      found.1,
+      all_started g.D.Disk found.0 first last honest c.down-cluster.ensures.all c.down-cluster.result.count
+          (reopened_wait g.D.Disk c.args.config nodes first (map g.D.Disk.seen c.args.disks.items) found.0 c.down-cluster.ensures.config same each
+          (begun_are g.D.Disk c.args.disks.items nodes over) found.1) c.in_ok-start_all.ensures.started,
+    )
 
-pub returns-in_err-start_all-clause-failed : goal.returns-in_err-start_all-clause-failed
-returns-in_err-start_all-clause-failed g c =
+pub returns-clause-over : goal.returns-clause-over
+returns-clause-over g c =
+    opened_over g.D.Disk c.args.disks.items c.in_ok-nodes.nodes.items (view_of c.down-cluster.result).nodes (view_of c.start_all.new.self).nodes c.in_ok-nodes.ensures.over c.down-cluster.ensures.nodes
+    c.start_all.ensures.reads
+
+pub returns-clause-within : goal.returns-clause-within
+returns-clause-within g c = λ files found.
+    let now = (view_of c.start_all.new.self).nodes in
+    let over = opened_over g.D.Disk c.args.disks.items c.in_ok-nodes.nodes.items (view_of c.down-cluster.result).nodes now c.in_ok-nodes.ensures.over c.down-cluster.ensures.nodes c.start_all.ensures.reads in
+    found_within g.D.Disk c.args.disks.items now files g.met.D.Disk.only_now over found
+
+pub returns-clause-resumes : goal.returns-clause-resumes
+returns-clause-resumes g c = λ before files leave found.
+    let now = (view_of c.start_all.new.self).nodes in
+    let over = opened_over g.D.Disk c.args.disks.items c.in_ok-nodes.nodes.items (view_of c.down-cluster.result).nodes now c.in_ok-nodes.ensures.over c.down-cluster.ensures.nodes c.start_all.ensures.reads in
+    found_resumes g.D.Disk c.args.disks.items now before.nodes files g.met.D.Disk.only_now over leave found
+
+pub returns-in_err-start_all-clause-first : goal.returns-in_err-start_all-clause-first
+returns-in_err-start_all-clause-first g c =
     let why = c.in_err-start_all.field-0.0 in
     let answer = c.from_residual-in_err-start_all.result in
-    let files = map g.D.Disk.seen c.args.disks.items in
+    let given = c.args.disks.items in
+    let each = c.in_ok-nodes.ensures.each in
+    let nodes_are = c.down-cluster.ensures.nodes in
     let same : answer ≡ Err why = search rules in
-    on_fault answer why (λ (w : NodeFault). (stores : ℕ → Store) → IsTrue g.D.Disk.is_honest → HaveStores (length c.args.config.sources) files stores → IsWant w) same (λ stores honest have.
-    let first = reopened_are_seen g.D.Disk c.args.config stores c.in_ok-nodes.nodes.items files c.in_ok-nodes.ensures.each c.in_ok-nodes.ensures.begun have in
-    c.in_err-start_all.ensures.failed first.0 honest (subst (λ nodes. AreSeen g.D.Disk nodes first.0) (sym c.down-cluster.ensures.nodes) first.1))
+    on_fault answer why (λ (w : NodeFault). IsTrue g.D.Disk.is_honest → IsUnopened (length c.args.config.sources) (map g.D.Disk.seen given) w) same (λ honest.
+    let down = subst (λ ns. AreDown g.D.Disk ns) (sym nodes_are) (λ i d less. (each i d less).down) in
+    unopened g.D.Disk c.args.config given c.in_ok-nodes.nodes.items why c.requires each c.in_ok-nodes.ensures.over
+    (subst (λ ns. IsRefusedStart g.D.Disk ns why) nodes_are (c.in_err-start_all.ensures.refused honest down)))

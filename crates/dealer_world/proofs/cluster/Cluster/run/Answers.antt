@@ -8,6 +8,7 @@ use Rattle.dealer_world.specs.Promise.{IsForMatch}
 use Rattle.dealer_world.specs.Viewing.{view_of}
 use Rattle.dealer_world.proofs.Promising.{promised_new, promised, backed, ran_more}
 use Rattle.dealer_world.proofs.Answering.{addressed}
+use Rattle.dealer_world.proofs.Reached.{none_conflicts}
 use Rattle.dealer_world.proofs.CalmCluster.{moves_on}
 use Rattle.dealer_world.proofs.cluster.Cluster.run.Goals as goal
 
@@ -49,3 +50,13 @@ returns-clause-moves_on g c =
 pub returns-then-is_out_of_memory-clause-stopped :
     goal.returns-then-is_out_of_memory-clause-stopped
 returns-then-is_out_of_memory-clause-stopped g c = search rules
+
+pub returns-clause-conflict : goal.returns-clause-conflict
+returns-clause-conflict g c =
+    none_conflicts g.D.Disk (view_of c.args.self.now) c.runs_never_conflict.ensures c.seen_as_one.ensures.up
+    (record { count = c.args.self.now.count; posted = c.args.self.now.posted; behind = c.args.self.now.behind })
+
+pub returns-then-is_out_of_memory-clause-conflict : goal.returns-then-is_out_of_memory-clause-conflict
+returns-then-is_out_of_memory-clause-conflict g c =
+    none_conflicts g.D.Disk (view_of c.args.self.now) c.runs_never_conflict.ensures c.seen_as_one.ensures.up
+    (record { count = c.args.self.now.count; posted = c.args.self.now.posted; behind = c.args.self.now.behind })

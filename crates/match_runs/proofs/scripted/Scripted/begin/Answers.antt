@@ -17,7 +17,7 @@ returns-in_err-send-clause-err g c =
     let scene = scene_of c.in_ok-playing.playing in
     let begins = subst (λ (t : List ℕ). Begins c.args.config t scene) (sym text_is) made.2 in
     let sent = c.in_err-send.ensures.err in
-    on_err c.from_residual-in_err-send.result (inr (headers_begun c.args.config shown sent.0 sent.1 _ _ scene begins c.in_ok-playing.ensures.promised sent.2 sent.3))
+    on_err c.from_residual-in_err-send.result (inr (headers_begun c.args.config shown sent.0 sent.1 _ _ scene begins c.in_ok-playing.ensures.shows sent.2 sent.3))
 
 pub returns-clause-ok : goal.returns-clause-ok
 returns-clause-ok g c =
@@ -26,4 +26,4 @@ returns-clause-ok g c =
     let text_is : shown ≡ made.0 = c.deref.ensures.value ∙ made.1 ∙ ap (λ z. z ++ made.0) c.new-answer.ensures.items in
     let scene = scene_of c.in_ok-playing.playing in
     let begins = subst (λ (t : List ℕ). Begins c.args.config t scene) (sym text_is) made.2 in
-    headers_written c.args.config shown _ _ _ begins c.in_ok-playing.ensures.promised c.new-2.ensures.items c.in_ok-send.ensures.ok
+    headers_written c.args.config shown _ _ _ begins c.in_ok-playing.ensures.shows c.new-2.ensures.items c.in_ok-send.ensures.ok

@@ -13,7 +13,7 @@ returns-clause-ok g c =
     let text_is = c.deref-2.ensures.value ∙ done.1 ∙ ap (λ z. z ++ done.0) c.clear.ensures.items in
     let answers = answers_as _ _ _ _ _ _ c.deref.ensures.value text_is done.2 in
     on_ok_weaker c.send.result
-    (λ sent plan start seen reaches. play_line_answered plan start _ _ seen c.deref-2.result.now c.args.self.now _ answers c.answer.ensures.promised c.clear-2.ensures.items sent reaches)
+    (λ sent plan start seen reaches. play_line_answered plan start _ _ seen c.deref-2.result.now c.args.self.now _ answers c.answer.ensures.shows c.clear-2.ensures.items sent reaches)
     c.send.ensures.ok
 
 pub returns-clause-err : goal.returns-clause-err
@@ -22,5 +22,5 @@ returns-clause-err g c =
     let text_is = c.deref-2.ensures.value ∙ done.1 ∙ ap (λ z. z ++ done.0) c.clear.ensures.items in
     let answers = answers_as _ _ _ _ _ _ c.deref.ensures.value text_is done.2 in
     on_err_weaker c.send.result
-    (λ sent plan start seen reaches. play_line_begun plan start _ _ seen c.deref-2.result.now sent.0 sent.1 c.args.self.now _ answers c.answer.ensures.promised sent.2 sent.3 reaches)
+    (λ sent plan start seen reaches. play_line_begun plan start _ _ seen c.deref-2.result.now sent.0 sent.1 c.args.self.now _ answers c.answer.ensures.shows sent.2 sent.3 reaches)
     c.send.ensures.err

@@ -1,13 +1,22 @@
-use Rattle.std.proofs.Common.{◌≡◌, [], ◌∷◌, ℕ, List, ap, subst, rules}
+use Rattle.std.proofs.Common.{◌≡◌, [], ◌∷◌, ℕ, List, ap, subst, sym, rules}
 use Rattle.std.specs.Prelude.{slice_get, Some}
 use Rattle.std.proofs.lemmas.Result.{on_ok_weaker}
+use Rattle.protocol_model.specs.Sets.{In}
 use Rattle.dealer_world.specs.Records.{Frame, Delivered}
 use Rattle.dealer_world.specs.declared.event.Event.TheVariants as event
 use Rattle.dealer_world.specs.Viewing.{view_of}
+use Rattle.dealer_world.proofs.Forging.{in_at}
 use Rattle.playing.specs.Playing.{Scene, Happens}
 use Rattle.playing.specs.PlayingInside.{scene_of}
 use Rattle.playing.proofs.Happening.{delivering_is}
 use Rattle.playing.proofs.playing.Playing.deliver.Goals as goal
+
+pub happen-requires-clause-sent : goal.happen-requires-clause-sent
+happen-requires-clause-sent c =
+    let bytes : c.in_ok-to_vec.field-0.items ≡ c.in-Some.frame.bytes.now = search rules in
+    let sent = (view_of c.mark_all.new.self.cluster).all.sent in
+    let I : List ℕ → Type 0 = λ b. In (record { from = c.in-Some.frame.from; to = c.in-Some.frame.to; bytes = b }) sent in
+    (subst I (sym bytes) (in_at sent c.args.number _ c.in-Some.ensures.found), tt)
 
 pub returns : goal.returns
 returns c =

@@ -1,13 +1,16 @@
 use Rattle.std.proofs.Common.{◌≡◌, ◌≤◌, ◌∙◌, ℕ, Err, ap, rules, arith, length}
+use Rattle.std.proofs.Math.Logic.{∥∥₁_map}
 use Rattle.std.proofs.lemmas.Result.{on_ok_weaker}
 use Rattle.promise_store.specs.contracts.memory_disk.MemoryDiskDisk.TheImpl.{ghosts as in_memory}
 use Rattle.dealer_node.specs.Outs.{Told}
 use Rattle.dealer_node.specs.declared.fault.NodeFault.TheVariants.{OutOfMemory}
 use Rattle.dealer_world.specs.Events.{node_of}
 use Rattle.dealer_world.specs.Viewing.{view_of}
+use Rattle.dealer_world.proofs.Forging.{unforged_after}
 use Rattle.playing.specs.Showing.{event_text}
 use Rattle.playing.proofs.Gaining.{frames_gained, frames_stay}
 use Rattle.playing.proofs.Happening.{happened}
+use Rattle.playing.proofs.OneList.{shows_one}
 use Rattle.playing.proofs.playing.Playing.happen.Goals as goal
 
 pub put_event-requires : goal.put_event-requires
@@ -36,4 +39,7 @@ invariant_of-self c =
     let old = view_of c.args.self.now.cluster in
     let grows = frames_stay in_memory old c.args.event.now c.step-answer.result (view_of c.step-answer.new.self) c.step-answer.ensures.stepped in
     let within : length c.args.self.now.marks ≤ length old.all.sent = c.args.self.now.within in
-    record { within = omega (arith, grows, within); promised = c.step-answer.ensures.promised }
+    let new = view_of c.step-answer.new.self in
+    let fresh = c.step-answer.ensures.stepped.same_opened ∙ c.args.self.now.fresh in
+    let unforged = ∥∥₁_map c.args.self.now.unforged (λ none. unforged_after in_memory old new c.args.event.now c.step-answer.result c.step-answer.ensures.stepped c.requires.sent none) in
+    record { within = omega (arith, grows, within); fresh = fresh; unforged = unforged; shows = shows_one new fresh c.step-answer.ensures.promised unforged }

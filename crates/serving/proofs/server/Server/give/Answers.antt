@@ -1,8 +1,9 @@
-use Rattle.std.proofs.Common.{◌≡◌, ◌≤◌, ℕ, [], Err, length, refl, sym, subst, ◌∙◌, rules}
+use Rattle.std.proofs.Common.{◌≡◌, ◌≤◌, ℕ, [], Vec, Global, Err, length, refl, ap, sym, subst, ◌∙◌, rules}
 use Rattle.std.proofs.lemmas.Result.{on_ok_weaker}
 use Rattle.std.proofs.lemmas.List.{append-nil}
 use Rattle.dealer_node.specs.declared.fault.NodeFault.TheVariants as fault
 use Rattle.dealer_world.specs.Viewing.{view_of}
+use Rattle.serving.specs.Going.{piece_after}
 use Rattle.serving.specs.Serving.{served_of}
 use Rattle.serving.proofs.Turns.{passes_from, passes_none, still_within}
 use Rattle.serving.proofs.server.Server.give.Goals as goal
@@ -17,7 +18,7 @@ returns-then-is_out_of_memory-clause-gave g c =
       of_match = c.requires;
       stepped = c.step-answer.ensures.stepped;
       tells = none;
-      again = λ same. (refl, refl);
+      again = λ same. (refl, refl, refl);
       given = λ ample. absurd (ample none);
       went = tt;
       passes = passes_none (served_of c.args.self.now) _ refl refl
@@ -25,6 +26,7 @@ returns-then-is_out_of_memory-clause-gave g c =
       all_given = tt;
       refused = search rules;
       named = λ ample. absurd (ample none);
+      piece = λ ample. absurd (ample none);
     }
 
 pub invariant_of-self-2-clause-shown : goal.invariant_of-self-2-clause-shown
@@ -37,21 +39,23 @@ invariant_of-self-2-clause-shown g c =
 pub returns-clause-gave : goal.returns-clause-gave
 returns-clause-gave g c =
     let ample : c.step-answer.result ≡ Err fault.OutOfMemory → ⊥ = search rules in
+    let passes = passes_from [] _ (served_of c.args.self.now) (served_of c.close-turn.new.self) c.settle.ensures.shown
+    (c.settle.ensures.passed ∙ sym (append-nil _)) c.close-turn.ensures.passes in
     record {
       called = c.step-answer.result;
       of_match = c.requires;
-      stepped = rw c.close.ensures.same c.step-answer.ensures.stepped;
-      tells = c.close.ensures.tells;
+      stepped = rw c.close-turn.ensures.same c.step-answer.ensures.stepped;
+      tells = c.close-turn.ensures.tells;
       again = λ none. absurd (ample none);
-      given = λ _. c.close.ensures.waiting;
-      went = on_ok_weaker c.close.result (λ ends. record {
+      given = λ _. c.close-turn.ensures.waiting;
+      went = on_ok_weaker c.close-turn.result (λ ends. record {
         settled = c.settle.new.self.progress;
-        settles = rw c.close.ensures.same c.settle.ensures.settled;
+        settles = rw c.close-turn.ensures.same c.settle.ensures.settled;
         ends = ends;
-      }) c.close.ensures.ends;
-      passes = passes_from [] _ (served_of c.args.self.now) (served_of c.close.new.self) c.settle.ensures.shown (c.settle.ensures.passed ∙ sym (append-nil _))
-          c.close.ensures.passes;
-      all_given = c.close.ensures.all_given;
-      refused = c.close.ensures.refused ∙ (c.settle.ensures.refused ∙ search rules);
-      named = λ _. c.close.ensures.called ∙ c.settle.ensures.called;
+      }) c.close-turn.ensures.ends;
+      passes = record { given = passes.given; passed = passes.passed; gives = passes.gives };
+      all_given = c.close-turn.ensures.all_given;
+      refused = c.close-turn.ensures.refused ∙ (c.settle.ensures.refused ∙ search rules);
+      named = λ _. c.close-turn.ensures.called ∙ c.settle.ensures.called;
+      piece = λ _. c.keep_piece.ensures ∙ ap (λ (kept : Vec ℕ Global). piece_after c.args.waiting.event kept.items) c.close-turn.ensures.piece;
     }

@@ -1,0 +1,325 @@
+-- What the starts of an `open` make of the disks, and what they find there.
+use Rattle.std.proofs.Common.{◌≡◌, ◌≢◌, ℕ, zero, suc, ◌+◌, ◌-◌, ◌<◌, ◌≤◌, ◌⊎◌, inl, inr, false, List, [], ◌∷◌, ◌++◌, map, length, get_or, set, take, drop, Result, Ok, Err, OnOk, IfErr, IsTrue, refl, ap, sym, ◌∙◌, subst, arith}
+use Rattle.std.specs.List.{AllZip}
+use Rattle.std.proofs.lemmas.Bool.{cases_eq, cases_lt}
+use Rattle.std.proofs.lemmas.List.{get_or_default, get_or-map, get_or-set_other, length-map, length-drop, drop_more}
+use Rattle.promise_store.specs.declared.disk.Disk.{Ghosts}
+use Rattle.promise_store.specs.declared.fault.StoreFault.{StoreFault}
+use Rattle.promise_store.specs.declared.fault.StoreFault.TheVariants.{NoStore, BadHeader, BadRecord, Disk, Closed, OutOfMemory}
+use Rattle.promise_store.specs.Journals.{header}
+use Rattle.promise_store.specs.Holding.{StandsFor}
+use Rattle.promise_store.specs.Refusals.{Refuses}
+use Rattle.protocol_model.specs.Stores.{Store, empty_store}
+use Rattle.dealer_kind.specs.Plans.{Plan}
+use Rattle.node_rules.specs.Standings.{Place}
+use Rattle.dealer_node.specs.Nodes.{Node}
+use Rattle.dealer_node.specs.declared.fault.NodeFault.{NodeFault}
+use Rattle.dealer_node.specs.declared.fault.NodeFault.TheVariants as fault
+use Rattle.dealer_node.specs.Seeing.{head_of, post_in, runs, seen_by, begun_by, count_by, images_by, since_by, begun_of, bytes_of, images_of}
+use Rattle.dealer_node.specs.Taking.{IsOfStart, FindsStore, OnlyReadsDisk}
+use Rattle.dealer_world.specs.declared.event.Event.TheVariants as event
+use Rattle.dealer_world.specs.Stepping.{View, Stepped}
+use Rattle.dealer_world.specs.Beginning.{IsWant, IsReopenedAt, HaveStores, HasStore, AreEach, IsOver, IsOnlyRead, MayBeFound, AreImagesOf, LeaveNoMore, AreImages, IsOfBytes, IsFirstRefused, IsFirstNoStore, IsUnopened}
+
+-- ---- lists, side by side
+
+zip_count : {A B : Type 0} (R : A → B → Type 0) (xs : List A) (ys : List B) → AllZip R xs ys → length xs ≡ length ys
+zip_count R [] [] zipped = refl
+zip_count R [] (y ∷ ys) zipped = absurd zipped
+zip_count R (x ∷ xs) [] zipped = absurd zipped
+zip_count R (x ∷ xs) (y ∷ ys) (first, rest) = ap suc (zip_count R xs ys rest)
+
+zip_at : {A B : Type 0} (R : A → B → Type 0) (xs : List A) (ys : List B) (i : ℕ) (d : A) (e : B) → AllZip R xs ys → i < length xs → R (get_or xs i d) (get_or ys i e)
+zip_at R [] ys i d e zipped less = absurd (omega arith)
+zip_at R (x ∷ xs) [] i d e zipped less = absurd zipped
+zip_at R (x ∷ xs) (y ∷ ys) zero d e (first, rest) less = first
+zip_at R (x ∷ xs) (y ∷ ys) (suc i) d e (first, rest) less = zip_at R xs ys i d e rest (omega arith)
+
+-- one pair more
+pub zip_more : {A B : Type 0} (R : A → B → Type 0) (xs : List A) (ys : List B) (i : ℕ) (x : A) (y : B) → i < length xs → x ≡ get_or xs i x → AllZip R (take i xs) ys → R x y
+    → AllZip R (take (i + 1) xs) (ys ++ y ∷ [])
+zip_more R [] ys i x y less is zipped here = absurd (omega arith)
+zip_more R (other ∷ xs) [] zero x y less is zipped here = (subst (λ z. R z y) is here, tt)
+zip_more R (other ∷ xs) (z ∷ ys) zero x y less is zipped here = absurd zipped
+zip_more R (other ∷ xs) [] (suc i) x y less is zipped here = absurd zipped
+zip_more R (other ∷ xs) (z ∷ ys) (suc i) x y less is (first, rest) here =
+    let one : suc i + 1 ≡ suc (i + 1) = omega arith in
+    subst (λ n. AllZip R (take n (other ∷ xs)) (z ∷ (ys ++ y ∷ []))) (sym one) (first, zip_more R xs ys i x y (omega arith) is rest here)
+
+pub all_zip_itself : {A : Type 0} (R : A → A → Type 0) → ((x : A) → R x x) → (xs : List A) → AllZip R xs xs
+all_zip_itself R same [] = tt
+all_zip_itself R same (x ∷ xs) = (same x, all_zip_itself R same xs)
+
+pub all_zip_set : {A B : Type 0} (R : A → B → Type 0) (xs : List A) (ys : List B) (k : ℕ) (d new : B) → AllZip R xs ys → k < length ys → ((x : A) → R x (get_or ys k d) → R x new) → AllZip R xs (set ys k new)
+all_zip_set R [] [] k d new zipped less on = absurd (omega arith)
+all_zip_set R [] (y ∷ ys) k d new zipped less on = absurd zipped
+all_zip_set R (x ∷ xs) [] k d new zipped less on = absurd zipped
+all_zip_set R (x ∷ xs) (y ∷ ys) zero d new (first, rest) less on = (on x first, rest)
+all_zip_set R (x ∷ xs) (y ∷ ys) (suc k) d new (first, rest) less on = (first, all_zip_set R xs ys k d new rest (omega arith) on)
+
+pub all_zip_on : {A B C : Type 0} (R : A → B → Type 0) (S : B → C → Type 0) (T : A → C → Type 0) → ((x : A) (y : B) (z : C) → R x y → S y z → T x z)
+    → (xs : List A) (ys : List B) (zs : List C) → AllZip R xs ys → AllZip S ys zs → AllZip T xs zs
+all_zip_on R S T on [] [] [] first second = tt
+all_zip_on R S T on [] [] (z ∷ zs) first second = absurd second
+all_zip_on R S T on [] (y ∷ ys) zs first second = absurd first
+all_zip_on R S T on (x ∷ xs) [] zs first second = absurd first
+all_zip_on R S T on (x ∷ xs) (y ∷ ys) [] first second = absurd second
+all_zip_on R S T on (x ∷ xs) (y ∷ ys) (z ∷ zs) (one, first) (also, second) = (on x y z one also, all_zip_on R S T on xs ys zs first second)
+
+pub all_zip_map : {A B C : Type 0} (R : A → B → Type 0) (f : A → C) (h : B → C) → ((x : A) (y : B) → R x y → h y ≡ f x) → (xs : List A) (ys : List B) → AllZip R xs ys → map h ys ≡ map f xs
+all_zip_map R f h same [] [] zipped = refl
+all_zip_map R f h same [] (y ∷ ys) zipped = absurd zipped
+all_zip_map R f h same (x ∷ xs) [] zipped = absurd zipped
+all_zip_map {C = C} R f h same (x ∷ xs) (y ∷ ys) (first, rest) = ap (λ (c : C). c ∷ map h ys) (same x y first) ∙ ap (λ (cs : List C). f x ∷ cs) (all_zip_map R f h same xs ys rest)
+
+-- what is dropped next
+pub is_next : {A : Type 0} (xs : List A) (k : ℕ) (x : A) (rest : List A) → x ∷ rest ≡ drop k xs → (k < length xs) × (x ≡ get_or xs k x) × (rest ≡ drop (k + 1) xs)
+is_next xs k x rest is =
+    let size : length (x ∷ rest) ≡ length xs - k = ap length is ∙ length-drop k xs in
+    let less : k < length xs = omega (arith, size) in
+    let both : x ∷ rest ≡ get_or xs k x ∷ drop (k + 1) xs = is ∙ drop_more xs k x less in
+    (less, cc, cc)
+
+-- what holds of each of a list that has one
+with_one : {A : Type 0} (xs : List A) (i : ℕ) (P : Type 0) → i < length xs → (A → P) → P
+with_one [] i P less from = absurd (omega arith)
+with_one (x ∷ xs) i P less from = from x
+
+module _ {D : Type 0} (g : Ghosts D) where
+  -- ---- one start
+
+  pub read_itself : (node : Node D) → IsOnlyRead g node node
+  read_itself node = record {
+    post = refl;
+    bytes = refl;
+    begun = refl;
+    counts = omega arith;
+    images = λ image is. is;
+    during = λ t image was. inl was;
+  }
+
+  read_disk : (old new : Node D) → post_in new ≡ post_in old → OnlyReadsDisk g old new → IsOnlyRead g old new
+  read_disk old new post only = record {
+    post = post;
+    bytes = ap (seen_by g) only.is ∙ (only.reads.seen ∙ sym (ap (seen_by g) only.was));
+    begun = ap (begun_by g) only.is ∙ (only.reads.begun ∙ sym (ap (begun_by g) only.was));
+    counts = let a = ap (count_by g) only.was in let b = ap (count_by g) only.is in let c = only.reads.counts in omega arith;
+    images = λ image is. subst (λ disk. images_by g disk image) (sym only.was) (only.reads.images image (subst (λ disk. images_by g disk image) only.is is));
+    during = λ t image is. elim (only.reads.during t image (subst (λ disk. since_by g disk t image) only.is is)) [
+      | inl before ↦ inl (subst (λ disk. since_by g disk t image) (sym only.was) before)
+      | inr now ↦ inr (subst (λ disk. images_by g disk image) (sym only.was) now)
+    ];
+  }
+
+  pub read_on : (a b c : Node D) → IsOnlyRead g a b → IsOnlyRead g b c → IsOnlyRead g a c
+  read_on a b c first second = record {
+    post = second.post ∙ first.post;
+    bytes = second.bytes ∙ first.bytes;
+    begun = second.begun ∙ first.begun;
+    counts = let x = first.counts in let y = second.counts in omega arith;
+    images = λ image is. first.images image (second.images image is);
+    during = λ t image is. elim (second.during t image is) [ inl before ↦ first.during t image before | inr now ↦ inr (first.images image now) ];
+  }
+
+  start_reads : (old new : View (Node D)) (k : ℕ) (answer : Result (Unit {0}) NodeFault) (stepped : Stepped g old (event.Start k) answer new) → IsOnlyRead g stepped.before stepped.after
+  start_reads old new k answer stepped = elim stepped.given.disk.reads [
+    | inl same ↦ subst (IsOnlyRead g stepped.before) (sym same) (read_itself stepped.before)
+    | inr only ↦ read_disk stepped.before stepped.after stepped.given.stays.post only
+  ]
+
+  -- ---- one start after another: of the nodes, the first ones were started
+
+  pub step_reads : (first : List (Node D)) (old new : View (Node D)) (k : ℕ) (answer : Result (Unit {0}) NodeFault) → Stepped g old (event.Start k) answer new
+      → AllZip (IsOnlyRead g) first old.nodes → AllZip (IsOnlyRead g) first new.nodes
+  step_reads first old new k answer stepped zipped =
+      subst (λ (nodes : List (Node D)). AllZip (IsOnlyRead g) first nodes) (sym stepped.others)
+      (all_zip_set (IsOnlyRead g) first old.nodes k stepped.before stepped.after zipped stepped.within (λ node was.
+      read_on node stepped.before stepped.after (subst (IsOnlyRead g node) stepped.at was) (start_reads old new k answer stepped)))
+
+  -- those from this one on are as they were
+  abbrev pub Wait : List (Node D) → ℕ → List (Node D) → Type 0
+  Wait first k nodes = (i : ℕ) (d : Node D) → k ≤ i → get_or nodes i d ≡ get_or first i d
+
+  pub step_waits : (first : List (Node D)) (old new : View (Node D)) (k : ℕ) (answer : Result (Unit {0}) NodeFault) → Stepped g old (event.Start k) answer new
+      → Wait first k old.nodes → Wait first (k + 1) new.nodes
+  step_waits first old new k answer stepped waits i d most =
+      let ne : i ≢ k = λ same. omega (arith, same, most) in
+      ap (λ (nodes : List (Node D)). get_or nodes i d) stepped.others ∙ (get_or-set_other old.nodes k i stepped.after d ne ∙ waits i d (omega (arith, most)))
+
+  abbrev pub AreDown : List (Node D) → Type 0
+  AreDown nodes = AreEach (λ i node. runs node ≡ false) nodes
+
+  -- the node that is started next
+  next_is : (first : List (Node D)) (old new : View (Node D)) (k : ℕ) (answer : Result (Unit {0}) NodeFault) (d : Node D) (stepped : Stepped g old (event.Start k) answer new)
+      → Wait first k old.nodes → k < length first → get_or first k d ≡ stepped.before
+  next_is first old new k answer d stepped waits less =
+      get_or_default first k d stepped.before less ∙ (sym (waits k stepped.before (omega arith)) ∙ stepped.at)
+
+  is_down : (first : List (Node D)) (old new : View (Node D)) (k : ℕ) (answer : Result (Unit {0}) NodeFault) (stepped : Stepped g old (event.Start k) answer new)
+      → Wait first k old.nodes → k < length first → AreDown first → runs stepped.before ≡ false
+  is_down first old new k answer stepped waits less down =
+      ap (runs {D = D}) (sym (next_is first old new k answer stepped.before stepped waits less)) ∙ down k stepped.before less
+
+  pub step_finds : (first : List (Node D)) (old new : View (Node D)) (k : ℕ) (answer : Result (Unit {0}) NodeFault) → Stepped g old (event.Start k) answer new → answer ≡ Ok tt
+      → IsTrue g.is_honest → AreDown first → Wait first k old.nodes → k < length first → (d : Node D) → HasStore g (get_or first k d)
+  step_finds first old new k answer stepped went honest down waits less d =
+      let found = subst (λ (a : Result (Unit {0}) NodeFault). OnOk a (FindsStore g stepped.before stepped.after)) went
+      (stepped.given.disk.found honest (is_down first old new k answer stepped waits less down)) in
+      subst (HasStore g) (sym (next_is first old new k answer d stepped waits less)) (found.held, found.stands)
+
+  -- so many of the first have stores
+  abbrev pub HaveFirst : List (Node D) → ℕ → Type 0
+  HaveFirst first k = (i : ℕ) (d : Node D) → i < k → HasStore g (get_or first i d)
+
+  pub step_have : (first : List (Node D)) (k : ℕ) → HaveFirst first k → ((d : Node D) → HasStore g (get_or first k d)) → HaveFirst first (k + 1)
+  step_have first k have here i d less = elim (cases_eq i k) [
+    | inl is ↦ subst (λ j. HasStore g (get_or first j d)) (sym is) (here d)
+    | inr ne ↦ have i d (omega (arith, less, ne))
+  ]
+
+  -- why a start was refused
+  abbrev pub IsRefusedStart : List (Node D) → NodeFault → Type 0
+  IsRefusedStart first why = IsWant why ⊎ ((f : StoreFault) × (why ≡ fault.Store f) × IsFirstRefused g first f)
+
+  first_refused : (first : List (Node D)) (k : ℕ) (f : StoreFault) → IsOfBytes f → k < length first → ((d : Node D) → Refuses (head_of (post_in (get_or first k d))) (bytes_of g (get_or first k d)) f)
+      → HaveFirst first k → IsRefusedStart first (fault.Store f)
+  first_refused first k f kind less refused have = inr (f, refl, record { kind = kind; node = k; within = less; refused = refused; before = have })
+
+  by_store_fault : (first : List (Node D)) (k : ℕ) (f : StoreFault) (node : Node D) → IsOfStart (fault.Store f) → k < length first
+      → ((d : Node D) → Refuses (head_of (post_in (get_or first k d))) (bytes_of g (get_or first k d)) f) → HaveFirst first k → IsRefusedStart first (fault.Store f)
+  by_store_fault first k NoStore node of less refused have = first_refused first k NoStore tt less refused have
+  by_store_fault first k BadHeader node of less refused have = first_refused first k BadHeader tt less refused have
+  by_store_fault first k BadRecord node of less refused have = first_refused first k BadRecord tt less refused have
+  by_store_fault first k Disk node of less refused have = inl (inr refl)
+  by_store_fault first k Closed node of less refused have = absurd (refused node)
+  by_store_fault first k OutOfMemory node of less refused have = absurd (of refl)
+
+  by_fault : (first : List (Node D)) (k : ℕ) (why : NodeFault) (node : Node D) → IsOfStart why → k < length first
+      → ((f : StoreFault) → why ≡ fault.Store f → (d : Node D) → Refuses (head_of (post_in (get_or first k d))) (bytes_of g (get_or first k d)) f) → HaveFirst first k → IsRefusedStart first why
+  by_fault first k fault.Down node of less refused have = absurd of
+  by_fault first k (fault.Store f) node of less refused have = by_store_fault first k f node of less (refused f refl) have
+  by_fault first k fault.OutOfMemory node of less refused have = inl (inl refl)
+  by_fault first k fault.Spent node of less refused have = absurd of
+  by_fault first k (fault.BadFrame f) node of less refused have = absurd of
+  by_fault first k fault.Conflict node of less refused have = absurd of
+
+  pub step_refused : (first : List (Node D)) (old new : View (Node D)) (k : ℕ) (answer : Result (Unit {0}) NodeFault) (why : NodeFault) → Stepped g old (event.Start k) answer new → answer ≡ Err why
+      → IsTrue g.is_honest → Wait first k old.nodes → k < length first → HaveFirst first k → IsRefusedStart first why
+  step_refused first old new k answer why stepped failed honest waits less have =
+      by_fault first k why stepped.before (subst (λ (a : Result (Unit {0}) NodeFault). IfErr a IsOfStart) failed stepped.given.disk.faults) less
+      (λ f is d. subst (λ (node : Node D). Refuses (head_of (post_in node)) (bytes_of g node) f) (sym (next_is first old new k answer d stepped waits less))
+      (stepped.given.disk.refused honest f (failed ∙ ap Err is))) have
+
+  -- ---- over the disks that were given
+
+  pub over_on : (given : D) (old new : Node D) → IsOver g given old → IsOnlyRead g old new → IsOver g given new
+  over_on given old new over read = record {
+    bytes = read.bytes ∙ over.bytes;
+    begun = read.begun ∙ over.begun;
+    counts = let a = over.counts in let b = read.counts in omega arith;
+    images = λ image is. over.images image (read.images image is);
+    during = λ t image is. elim (read.during t image is) [ inl before ↦ over.during t image before | inr now ↦ inr (over.images image now) ];
+  }
+
+  -- what the first starts read, of the nodes that were put over the disks
+  pub opened_over : (given : List D) (nodes first now : List (Node D)) → AllZip (IsOver g) given nodes → first ≡ nodes → AllZip (IsOnlyRead g) first now → AllZip (IsOver g) given now
+  opened_over given nodes first now over same reads =
+      all_zip_on (IsOver g) (IsOnlyRead g) (IsOver g) over_on given nodes now over (subst (λ (ns : List (Node D)). AllZip (IsOnlyRead g) ns now) same reads)
+
+  pub begun_are : (given : List D) (nodes : List (Node D)) → AllZip (IsOver g) given nodes → map (begun_of g) nodes ≡ map g.seen given
+  begun_are given nodes over = all_zip_map (IsOver g) g.seen (begun_of g) (λ disk node one. one.begun) given nodes over
+
+  -- the law of disks: since a moment there is no image that there isn't at it
+  abbrev pub OnlyNow : Type 0
+  OnlyNow = (disk : D) (image : List ℕ) → g.since disk (g.moment disk) image → g.images disk image
+
+  pub found_within : (given : List D) (nodes : List (Node D)) (files : List (List ℕ)) → OnlyNow → AllZip (IsOver g) given nodes → MayBeFound g given nodes files → AreImagesOf g given files
+  found_within given nodes files law over found =
+      let size : length given ≡ length nodes = zip_count (IsOver g) given nodes over in
+      record {
+        count = found.count ∙ sym size;
+        each = λ i e less.
+            let here : i < length nodes = omega (arith, less, size) in
+            with_one nodes i (g.images (get_or given i e) (get_or files i [])) here (λ d.
+            let one = zip_at (IsOver g) given nodes i e d over less in
+            elim (one.during (g.moment (get_or given i e)) (get_or files i []) (found.each i d e here)) [
+              | inl was ↦ law (get_or given i e) (get_or files i []) was
+              | inr is ↦ is
+            ]);
+      }
+
+  pub found_resumes : (given : List D) (nodes before : List (Node D)) (files : List (List ℕ)) → OnlyNow → AllZip (IsOver g) given nodes → LeaveNoMore g given before → MayBeFound g given nodes files
+      → AreImages g before files
+  found_resumes given nodes before files law over leave found =
+      let there = found_within given nodes files law over found in
+      record {
+        count = there.count ∙ leave.count;
+        each = λ i d less.
+            let here : i < length given = omega (arith, less, leave.count) in
+            with_one given i (images_of g (get_or before i d) (get_or files i [])) here (λ e. leave.each i d e less (get_or files i []) (there.each i e here));
+      }
+
+  -- ---- by the places of the nodes
+
+  pub file_at : (given : List D) (nodes : List (Node D)) (i : ℕ) (d : Node D) → AllZip (IsOver g) given nodes → i < length nodes → bytes_of g (get_or nodes i d) ≡ get_or (map g.seen given) i []
+  file_at given nodes i d over less =
+      let size : length given ≡ length nodes = zip_count (IsOver g) given nodes over in
+      let here : i < length given = omega (arith, less, size) in
+      with_one given i (bytes_of g (get_or nodes i d) ≡ get_or (map g.seen given) i []) here (λ e.
+      (zip_at (IsOver g) given nodes i e d over here).bytes ∙ sym (get_or-map g.seen given i e [] here))
+
+  -- the store that a node's disk has is that of its file
+  pub stands_at : (plan : Plan) (given : List D) (nodes : List (Node D)) (i : ℕ) (d : Node D) (store : Store) → AreEach (IsReopenedAt g plan) nodes → AllZip (IsOver g) given nodes → i < length nodes
+      → StandsFor (head_of (post_in (get_or nodes i d))) (bytes_of g (get_or nodes i d)) store → StandsFor (header i (length plan.sources)) (get_or (map g.seen given) i []) store
+  stands_at plan given nodes i d store each over less stands =
+      subst (λ (file : List ℕ). StandsFor (header i (length plan.sources)) file store) (file_at given nodes i d over less)
+      (subst (λ (head : List ℕ). StandsFor head (bytes_of g (get_or nodes i d)) store) (ap (λ (p : Place). header p.node p.nodes) (each i d less).placed) stands)
+
+  -- the stores that all have, one for each number
+  picked : (nodes : List (Node D)) (d : Node D) → AreEach (λ i. HasStore g) nodes → (i : ℕ) → (i < length nodes) ⊎ (length nodes ≤ i) → Store
+  picked nodes d have i (inl less) = (have i d less).0
+  picked nodes d have i (inr most) = empty_store
+
+  picked_stands : (nodes : List (Node D)) (d : Node D) (have : AreEach (λ i. HasStore g) nodes) (i : ℕ) → i < length nodes → (which : (i < length nodes) ⊎ (length nodes ≤ i))
+      → StandsFor (head_of (post_in (get_or nodes i d))) (bytes_of g (get_or nodes i d)) (picked nodes d have i which)
+  unfolding picked
+  picked_stands nodes d have i less (inl within) = (have i d within).1
+  picked_stands nodes d have i less (inr most) = absurd (omega (arith, less, most))
+
+  -- the files have the stores that the nodes' disks have
+  pub files_have : (plan : Plan) (given : List D) (nodes : List (Node D)) → length given ≡ length plan.sources → AreEach (IsReopenedAt g plan) nodes → AllZip (IsOver g) given nodes
+      → AreEach (λ i. HasStore g) nodes → (stores : ℕ → Store) × HaveStores (length plan.sources) (map g.seen given) stores
+  files_have plan given [] count each over have = (λ i. empty_store, (λ i less. absurd (omega (arith, less, length-map given g.seen, zip_count (IsOver g) given [] over))))
+  files_have plan given (node ∷ nodes) count each over have =
+      let all = node ∷ nodes in (
+        (λ i. picked all node have i (cases_lt i (length all))),
+        (λ i less.
+            let within : i < length all = omega (arith, less, length-map given g.seen, zip_count (IsOver g) given all over) in
+            stands_at plan given all i node (picked all node have i (cases_lt i (length all))) each over within (picked_stands all node have i within (cases_lt i (length all)))),
+      )
+
+  -- the file of the first that was refused is the first that is no store
+  file_refused : (plan : Plan) (given : List D) (nodes : List (Node D)) (f : StoreFault) → length given ≡ length plan.sources → AreEach (IsReopenedAt g plan) nodes → AllZip (IsOver g) given nodes
+      → IsFirstRefused g nodes f → IsFirstNoStore (length plan.sources) (map g.seen given) f
+  file_refused plan given nodes f count each over first =
+      let size : length given ≡ length nodes = zip_count (IsOver g) given nodes over in
+      let k = first.node in
+      let n = length plan.sources in
+      record {
+        kind = first.kind;
+        node = k;
+        within = let w = first.within in omega (arith, w, size, count);
+        refused = with_one nodes k (Refuses (header k n) (get_or (map g.seen given) k []) f) first.within (λ d.
+            subst (λ (file : List ℕ). Refuses (header k n) file f) (file_at given nodes k d over first.within)
+            (subst (λ (head : List ℕ). Refuses head (bytes_of g (get_or nodes k d)) f) (ap (λ (p : Place). header p.node p.nodes) (each k d first.within).placed) (first.refused d)));
+        before = λ i less.
+            let w = first.within in
+            let within : i < length nodes = omega (arith, w, less) in
+            with_one nodes i ((store : Store) × StandsFor (header i n) (get_or (map g.seen given) i []) store) within (λ d.
+            let have = first.before i d less in (have.0, stands_at plan given nodes i d have.0 each over within have.1));
+      }
+
+  pub unopened : (plan : Plan) (given : List D) (nodes : List (Node D)) (why : NodeFault) → length given ≡ length plan.sources → AreEach (IsReopenedAt g plan) nodes → AllZip (IsOver g) given nodes
+      → IsRefusedStart nodes why → IsUnopened (length plan.sources) (map g.seen given) why
+  unopened plan given nodes why count each over (inl want) = inl want
+  unopened plan given nodes why count each over (inr (f, is, first)) = inr (f, is, file_refused plan given nodes f count each over first)

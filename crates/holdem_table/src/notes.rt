@@ -1,0 +1,83 @@
+//! Where the notes of `init` and `serve` go.
+
+use crate::utc::Utc;
+use match_runs::{
+    Cause, tell_file, tell_made, tell_not_kept, tell_port, tell_unlocked, tell_unused,
+};
+use std::io;
+use std::io::Write;
+use std::time::{SystemTime, UNIX_EPOCH};
+
+/// Standard error, to which notes are written, one a line; with the time before each where that is asked for. One that
+/// can't be written is left out.
+#[derive(Drop)]
+pub(crate) struct Notes<'a> {
+    rt: &'a HostRuntime,
+    has_times: bool,
+}
+
+impl<'a> Notes<'a> {
+    pub(crate) fn new(rt: &'a HostRuntime, has_times: bool) -> Notes<'a> {
+        Notes { rt, has_times }
+    }
+
+    /// Tells the file or folder where the fault of the next line was found, and why.
+    pub(crate) fn tell_file(&mut self, path: &str, cause: Cause) {
+        tell_file(self.rt.alloc(), path, cause, self);
+    }
+
+    /// Tells the port where the fault of the next line was found, and why.
+    pub(crate) fn tell_port(&mut self, port: u16, cause: Cause) {
+        tell_port(self.rt.alloc(), port, cause, self);
+    }
+
+    /// Tells that the system gives no lock of a file.
+    pub(crate) fn tell_unlocked(&mut self, path: &str) {
+        tell_unlocked(self.rt.alloc(), path, self);
+    }
+
+    /// Tells a key of the match file that no command reads.
+    pub(crate) fn tell_unused(&mut self, key: &str) {
+        tell_unused(self.rt.alloc(), key, self);
+    }
+
+    /// Tells a file that was made.
+    pub(crate) fn tell_made(&mut self, path: &str) {
+        tell_made(self.rt.alloc(), path, self);
+    }
+
+    /// Tells that nothing beside the stores says of which match they are.
+    pub(crate) fn tell_not_kept(&mut self) {
+        tell_not_kept(self.rt.alloc(), self);
+    }
+}
+
+/// Takes a whole line at each call.
+impl Write for Notes<'_> {
+    fn write(&mut self, line: &[u8]) -> io::Result<usize> {
+        if !self.has_times {
+            return self.rt.stderr().write(line);
+        }
+        let mut stamped = stamp(self.rt)?;
+        stamped.extend_from_slice(line)?;
+        self.rt.stderr().write_all(&stamped)?;
+        Ok(line.len())
+    }
+
+    fn flush(&mut self) -> io::Result<()> {
+        self.rt.stderr().flush()
+    }
+}
+
+/// The time in UTC with a space behind it, as `2026-11-26T01:02:03.456Z `.
+fn stamp(rt: &HostRuntime) -> io::Result<Vec<u8>> {
+    let milliseconds = match SystemTime::now(rt)?.duration_since(UNIX_EPOCH) {
+        Ok(since) => {
+            let seconds = since.as_secs().saturating_mul(1000);
+            seconds.saturating_add(since.subsec_millis() as u64)
+        }
+        Err(_) => 0,
+    };
+    let text = format!(in rt.alloc(); "{} ", Utc::new(milliseconds))?;
+    Ok(text.into_bytes())
+}

@@ -1,0 +1,76 @@
+//! The store files of a match that is served.
+
+ghost use Rattle.std.specs.Prelude.{◌≡◌, ◌≤◌, IfOk, length};
+
+use crate::kept_match::unread;
+use crate::locking::locked;
+use crate::notes::Notes;
+use dealer_node::NodeFault;
+use match_runs::{Cause, Unserved, store_path};
+use promise_store::{FileDisk, Store, StoreFault};
+use serving::ServeFault;
+use std::alloc::AllocError;
+use std::fs::File;
+use std::io;
+
+/// Opens and locks the stores of so many nodes, and looks whether they are stores. Each stays locked while its disk is
+/// there: a disk keeps the file that was opened here.
+pub(crate) fn open_stores(
+    rt: &HostRuntime,
+    folder: &str,
+    nodes: usize,
+    notes: &mut Notes<'_>,
+) -> Result<Vec<FileDisk>, Unserved>
+    requires { nodes ≤ 5 }
+    ensures { IfOk result (λ disks. length disks.items ≡ nodes) }
+{
+    let mut disks = Vec::with_capacity(rt.alloc(), nodes)?;
+    for node in 0..nodes {
+        let path = store_path(rt.alloc(), folder, node as u8)?;
+        let file = open_store(rt, path.as_str(), notes)?;
+        let disk = look_at_store(rt, file, path.as_str(), (node as u8, nodes as u8), notes)?;
+        if disks.push(disk).is_err() {
+            return Err(Unserved::from(AllocError));
+        }
+    }
+    Ok(disks)
+}
+
+/// A store file that is there, locked. A note names one that isn't there, or is in use (108).
+fn open_store(rt: &HostRuntime, path: &str, notes: &mut Notes<'_>) -> Result<File, Unserved> {
+    let opened = File::options().read(true).write(true).open(rt, path);
+    match locked(rt, opened, path, notes) {
+        Ok(file) => Ok(file),
+        Err(error) if error.kind() == io::ErrorKind::WouldBlock => {
+            notes.tell_file(path, Cause::InUse);
+            Err(Unserved::StoreInUse)
+        }
+        Err(error) => Err(unread(path, &error, notes)),
+    }
+}
+
+/// The disk of a file that has a store of this node of so many. A note names one that hasn't.
+fn look_at_store(
+    rt: &HostRuntime,
+    file: File,
+    path: &str,
+    (node, nodes): (u8, u8),
+    notes: &mut Notes<'_>,
+) -> Result<FileDisk, Unserved> {
+    match Store::open(rt.alloc(), FileDisk::new(file), node, nodes) {
+        Ok(store) => Ok(store.close()),
+        Err((_, StoreFault::OutOfMemory)) => Err(Unserved::from(AllocError)),
+        Err((disk, fault)) => {
+            notes.tell_file(path, cause(&disk));
+            Err(Unserved::Fault(ServeFault::Node(NodeFault::Store(fault))))
+        }
+    }
+}
+
+/// Why the system refused a call of a disk, if it refused one.
+pub(crate) fn cause(disk: &FileDisk) -> Cause {
+    match disk.last_error() {
+        Some(kind) => Cause::of(kind),
+        None => Cause::Unknown,
+    }
+}

@@ -1,0 +1,44 @@
+ghost use Rattle.std.specs.Prelude.{◌≡◌, IfOk, map};
+ghost use Rattle.match_file.specs.Unused.{is_used};
+
+use crate::key::Key;
+use crate::match_file::MatchFile;
+use std::alloc::{AllocError, Global};
+
+/// The keys that commands read.
+const KEYS: [Key; 9] = [
+    Key::Name,
+    Key::Game,
+    Key::Hands,
+    Key::Names,
+    Key::Node,
+    Key::Stores,
+    Key::Logs,
+    Key::Port,
+    Key::Outage,
+];
+
+impl MatchFile {
+    ghost use Rattle.match_file.specs.MatchFile.{members};
+    ghost use Rattle.match_file.specs.Unused.{unused_keys};
+
+    /// The keys that no command reads, in the table's order.
+    pub fn unused(&self, alloc: Global) -> Result<Vec<&str>, AllocError>
+        ensures { IfOk result (λ keys. map (λ key. key.now) keys.items ≡ unused_keys (members self.now)) }
+    {
+        let mut unused = Vec::new(alloc);
+        for key in self.table.keys() {
+            if !is_used(key.as_str()) {
+                unused.push(key.as_str())?;
+            }
+        }
+        Ok(unused)
+    }
+}
+
+/// Whether some command reads what stands at a key.
+fn is_used(key: &str) -> bool
+    ensures { result ≡ is_used key.now }
+{
+    KEYS.iter().any(|used| key == used.text())
+}

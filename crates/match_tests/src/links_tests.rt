@@ -1,0 +1,320 @@
+//! Links over sockets, and the waits of links in memory: what no clause can say.
+
+use crate::samples::assert_bytes;
+use match_links::limits::{HELD, PIECE};
+use match_links::{LinkFault, Links, MemoryLinks, Reached, TcpLinks};
+use std::alloc::{AllocError, Global};
+use std::fs::File;
+use std::io::{Read, Write};
+use std::net::{Ipv4Addr, Shutdown, TcpStream};
+use std::process::Abort;
+use std::test::Fail;
+use std::time::{Duration, Instant};
+
+/// What a bot sends first.
+const VERSION: &[u8] = b"VERSION:2.0.0\r\n";
+
+/// How long these links wait.
+const WAIT_MILLISECONDS: u64 = 300;
+
+/// How many clients that say nothing call a port, more than are held there.
+const SILENT: usize = 40;
+
+/// The most handles that are taken to have none left.
+const HANDLES: usize = 100_000;
+
+/// Links of three nodes and two seats, at the first ports that are free.
+fn links(rt: &HostRuntime) -> Option<TcpLinks<'_>> {
+    for block in 0..120u16 {
+        if let Ok(mut links) = TcpLinks::bind(rt, 20_050 + 100 * block, 3, 2) {
+            links.set_wait(Duration::from_millis(WAIT_MILLISECONDS));
+            return Some(links);
+        }
+    }
+    None
+}
+
+/// A client that calls a seat at a node and sends this.
+fn call(
+    rt: &HostRuntime,
+    links: &TcpLinks<'_>,
+    (node, seat): (u8, u8),
+    text: &[u8],
+) -> Result<TcpStream, Fail> {
+    let port = links.seat_port(node, seat);
+    let mut stream = TcpStream::connect(rt, (Ipv4Addr::LOCALHOST, port))?;
+    stream.write_all(text)?;
+    Ok(stream)
+}
+
+/// The same, and it sends nothing more.
+fn call_and_end(
+    rt: &HostRuntime,
+    links: &TcpLinks<'_>,
+    place: (u8, u8),
+    text: &[u8],
+) -> Result<TcpStream, Fail> {
+    let stream = call(rt, links, place, text)?;
+    stream.shutdown(Shutdown::Write)?;
+    Ok(stream)
+}
+
+/// So many clients that call a seat at a node and say nothing.
+fn call_silently(
+    rt: &HostRuntime,
+    links: &TcpLinks<'_>,
+    place: (u8, u8),
+    count: usize,
+) -> Result<Vec<TcpStream>, Fail> {
+    let mut clients = Vec::new(rt.alloc());
+    for _ in 0..count {
+        clients.push(call(rt, links, place, b"")?)?;
+    }
+    Ok(clients)
+}
+
+/// Asserts that nobody can be seated at a node.
+fn assert_nobody(rt: &impl Abort, links: &mut impl Links, node: u8, seat: u8) {
+    assert!(rt; accept(links, node, seat) == Err(LinkFault::Slow));
+}
+
+/// Waits for somebody at a node. Want of memory takes nothing: the call is made again.
+fn accept(links: &mut impl Links, node: u8, seat: u8) -> Result<(), LinkFault> {
+    match links.accept(node, seat) {
+        Err(LinkFault::OutOfMemory) => links.accept(node, seat),
+        answer => answer,
+    }
+}
+
+/// Asserts that somebody is seated at a node, and that this is the first piece of it.
+fn assert_seated(rt: &impl Abort, links: &mut impl Links, (node, seat): (u8, u8), piece: &[u8]) {
+    assert!(rt; accept(links, node, seat) == Ok(()));
+    assert_piece(rt, links, (node, seat), piece);
+}
+
+/// Asserts that this is the next piece of a seat at a node.
+fn assert_piece(rt: &impl Abort, links: &mut impl Links, (node, seat): (u8, u8), piece: &[u8]) {
+    let mut buffer = [0u8; PIECE];
+    let count = links.read(node, seat, &mut buffer).expect(rt, "a piece");
+    assert_bytes(rt, buffer.get(..count).unwrap_or(b"none"), piece);
+}
+
+/// Asserts that no piece of a seat at a node comes.
+fn assert_slow(rt: &impl Abort, links: &mut impl Links, node: u8, seat: u8) {
+    let mut buffer = [0u8; PIECE];
+    assert!(rt; links.read(node, seat, &mut buffer) == Err(LinkFault::Slow));
+}
+
+/// Asserts that a client's connection has ended, and that it got nothing.
+fn assert_ended(rt: &impl Abort, client: &mut TcpStream) -> Result<(), Fail> {
+    let mut buffer = [0u8; 1];
+    client.set_read_timeout(Some(Duration::from_millis(50)))?;
+    assert!(rt; matches!(client.read(&mut buffer), Ok(0)));
+    Ok(())
+}
+
+/// Asserts that a client's connection goes on, and that it got nothing.
+fn assert_goes_on(rt: &impl Abort, client: &mut TcpStream) -> Result<(), Fail> {
+    let mut buffer = [0u8; 1];
+    client.set_read_timeout(Some(Duration::from_millis(50)))?;
+    let answer = client.read(&mut buffer);
+    assert!(rt; answer.is_err());
+    Ok(())
+}
+
+/// Whoever was waited for in vain can be seated when it has sent something: nothing was taken of it.
+#[test]
+fn an_accept_may_be_slow(rt: HostRuntime) -> Result<(), Fail> {
+    let mut links = links(&rt).expect(&rt, "free ports");
+    let begun = Instant::now(&rt)?;
+    assert_nobody(&rt, &mut links, 0, 0);
+    let waited = begun.elapsed(&rt)?;
+    assert!(rt; waited >= Duration::from_millis(WAIT_MILLISECONDS));
+    assert!(rt; waited < Duration::from_millis(4 * WAIT_MILLISECONDS));
+    let mut client = call(&rt, &links, (0, 0), b"VERS")?;
+    assert_nobody(&rt, &mut links, 0, 0);
+    client.write_all(b"ION:2.0.0\r\n")?;
+    assert_seated(&rt, &mut links, (0, 0), VERSION);
+    Ok(())
+}
+
+/// A piece that was waited for in vain is read when it is whole, with what came of it before.
+#[test]
+fn a_read_may_be_slow(rt: HostRuntime) -> Result<(), Fail> {
+    let mut links = links(&rt).expect(&rt, "free ports");
+    let mut client = call(&rt, &links, (0, 0), VERSION)?;
+    assert_seated(&rt, &mut links, (0, 0), VERSION);
+    assert_slow(&rt, &mut links, 0, 0);
+    client.write_all(b"MATCH")?;
+    assert_slow(&rt, &mut links, 0, 0);
+    client.write_all(b"STATE\r\nMA")?;
+    assert_piece(&rt, &mut links, (0, 0), b"MATCHSTATE\r\n");
+    assert_slow(&rt, &mut links, 0, 0);
+    client.shutdown(Shutdown::Write)?;
+    assert_piece(&rt, &mut links, (0, 0), b"MA");
+    assert_piece(&rt, &mut links, (0, 0), b"");
+    Ok(())
+}
+
+/// A client that says nothing holds nobody else, and those who speak are seated in order of arrival.
+#[test]
+fn a_silent_client_holds_nobody(rt: HostRuntime) -> Result<(), Fail> {
+    let mut links = links(&rt).expect(&rt, "free ports");
+    let mut silent = call(&rt, &links, (0, 0), b"")?;
+    let _first = call(&rt, &links, (0, 0), b"first\n")?;
+    let _second = call(&rt, &links, (0, 0), b"second\n")?;
+    assert_seated(&rt, &mut links, (0, 0), b"first\n");
+    links.hang_up(0, 0);
+    silent.write_all(b"silent no longer\n")?;
+    assert_seated(&rt, &mut links, (0, 0), b"silent no longer\n");
+    assert_seated(&rt, &mut links, (0, 0), b"second\n");
+    Ok(())
+}
+
+/// Who ended behind a part of a line is seated, and who ended without a byte is passed over.
+#[test]
+fn an_end_is_seated_behind_some_bytes_alone(rt: HostRuntime) -> Result<(), Fail> {
+    let mut links = links(&rt).expect(&rt, "free ports");
+    let mut passed_over = call_and_end(&rt, &links, (0, 0), b"")?;
+    let _part = call_and_end(&rt, &links, (0, 0), b"VERS")?;
+    assert_seated(&rt, &mut links, (0, 0), b"VERS");
+    assert_piece(&rt, &mut links, (0, 0), b"");
+    assert_ended(&rt, &mut passed_over)
+}
+
+/// Who sends more than a piece may have without a line feed is seated.
+#[test]
+fn a_line_without_end_is_seated(rt: HostRuntime) -> Result<(), Fail> {
+    let mut links = links(&rt).expect(&rt, "free ports");
+    let text = [b'#'; 5000];
+    let _client = call(&rt, &links, (0, 0), &text)?;
+    assert_seated(&rt, &mut links, (0, 0), text.get(..PIECE).unwrap_or(b""));
+    assert_slow(&rt, &mut links, 0, 0);
+    Ok(())
+}
+
+/// As many as are held at a port hold those behind them in the system's queue, until they go.
+#[test]
+fn silent_clients_are_held_up_to_a_number(rt: HostRuntime) -> Result<(), Fail> {
+    let mut links = links(&rt).expect(&rt, "free ports");
+    let few = call_silently(&rt, &links, (0, 0), HELD - 1)?;
+    let bot = call(&rt, &links, (0, 0), VERSION)?;
+    assert_seated(&rt, &mut links, (0, 0), VERSION);
+    drop(bot);
+    let many = call_silently(&rt, &links, (0, 0), SILENT - (HELD - 1))?;
+    let _bot = call(&rt, &links, (0, 0), VERSION)?;
+    assert_nobody(&rt, &mut links, 0, 0);
+    drop(few);
+    drop(many);
+    assert_seated(&rt, &mut links, (0, 0), VERSION);
+    Ok(())
+}
+
+/// Who comes to a port at which the seat isn't awaited is turned away, while nobody can be seated where it is; who comes to
+/// another seat's isn't.
+#[test]
+fn who_knows_another_nodes_port_alone_is_turned_away(rt: HostRuntime) -> Result<(), Fail> {
+    let mut links = links(&rt).expect(&rt, "free ports");
+    let _silent = call(&rt, &links, (0, 0), b"")?;
+    let mut astray = call(&rt, &links, (1, 0), VERSION)?;
+    let mut other = call(&rt, &links, (1, 1), VERSION)?;
+    assert_nobody(&rt, &mut links, 0, 0);
+    assert_ended(&rt, &mut astray)?;
+    assert_goes_on(&rt, &mut other)?;
+    assert_nobody(&rt, &mut links, 1, 0);
+    assert_seated(&rt, &mut links, (1, 1), VERSION);
+    Ok(())
+}
+
+/// Who is held at a port is turned away when the seat is awaited at another.
+#[test]
+fn who_is_held_where_the_seat_was_awaited_is_turned_away(rt: HostRuntime) -> Result<(), Fail> {
+    let mut links = links(&rt).expect(&rt, "free ports");
+    let mut silent = call(&rt, &links, (0, 0), b"")?;
+    assert_nobody(&rt, &mut links, 0, 0);
+    assert_goes_on(&rt, &mut silent)?;
+    assert_nobody(&rt, &mut links, 1, 0);
+    assert_ended(&rt, &mut silent)
+}
+
+/// Where one can be seated at the port, no other port is looked at.
+#[test]
+fn who_dials_before_it_is_awaited_waits(rt: HostRuntime) -> Result<(), Fail> {
+    let mut links = links(&rt).expect(&rt, "free ports");
+    let _later = call(&rt, &links, (1, 0), b"later\n")?;
+    let _now = call(&rt, &links, (0, 0), b"now\n")?;
+    assert_seated(&rt, &mut links, (0, 0), b"now\n");
+    assert_seated(&rt, &mut links, (1, 0), b"later\n");
+    Ok(())
+}
+
+/// A node that stops lets go of who waits at its ports, and takes nobody; one that is open again does.
+#[test]
+fn a_closed_port_lets_go_of_those_held(rt: HostRuntime) -> Result<(), Fail> {
+    let mut links = links(&rt).expect(&rt, "free ports");
+    let mut silent = call(&rt, &links, (0, 0), b"")?;
+    assert_nobody(&rt, &mut links, 0, 0);
+    links.close(0);
+    assert_ended(&rt, &mut silent)?;
+    assert!(rt; links.accept(0, 0) == Err(LinkFault::Failed));
+    assert!(rt; links.open(0) == Ok(()));
+    let _client = call(&rt, &links, (0, 0), VERSION)?;
+    assert_seated(&rt, &mut links, (0, 0), VERSION);
+    Ok(())
+}
+
+/// Takes all handles that the system gives this program, and says whether none is left.
+fn take_handles(rt: &HostRuntime) -> Result<(Vec<File>, bool), Fail> {
+    let mut files = Vec::new(rt.alloc());
+    for _ in 0..HANDLES {
+        match File::open(rt, "/dev/null") {
+            Ok(file) => files.push(file)?,
+            Err(_) => return Ok((files, true)),
+        }
+    }
+    Ok((files, false))
+}
+
+/// Where the system has no handle left, those who are held can be seated, and the others wait until it has.
+#[test]
+fn no_handle_may_be_left(rt: HostRuntime) -> Result<(), Fail> {
+    let mut links = links(&rt).expect(&rt, "free ports");
+    let mut held = call(&rt, &links, (0, 0), b"")?;
+    assert_nobody(&rt, &mut links, 0, 0);
+    let _behind = call(&rt, &links, (0, 0), b"behind\n")?;
+    let (files, is_none_left) = take_handles(&rt)?;
+    if is_none_left {
+        assert_nobody(&rt, &mut links, 0, 0);
+        held.write_all(b"held\n")?;
+        assert_seated(&rt, &mut links, (0, 0), b"held\n");
+        assert_nobody(&rt, &mut links, 0, 0);
+    }
+    drop(files);
+    assert_seated(&rt, &mut links, (0, 0), b"behind\n");
+    Ok(())
+}
+
+/// Links in memory whose call of this number is slow, and a seat that sends two lines.
+fn slow_links(alloc: Global, call: u64) -> Result<MemoryLinks, AllocError> {
+    let mut links = MemoryLinks::new(alloc, 1, 0)?;
+    links.call(0, 0, b"")?;
+    links.call(0, 0, b"one\ntwo\n")?;
+    links.slow_down(call);
+    Ok(links)
+}
+
+/// A call of links in memory that is slow takes nothing, and the same call may be made again.
+#[test]
+fn a_call_of_links_in_memory_may_be_slow(rt: HostRuntime) -> Result<(), Fail> {
+    let mut links = slow_links(rt.alloc(), 1)?;
+    assert_nobody(&rt, &mut links, 0, 0);
+    assert!(rt; links.slowed() == Some(Reached::Seat));
+    assert_seated(&rt, &mut links, (0, 0), b"one\n");
+    let mut links = slow_links(rt.alloc(), 2)?;
+    assert!(rt; links.accept(0, 0) == Ok(()));
+    assert_slow(&rt, &mut links, 0, 0);
+    assert_piece(&rt, &mut links, (0, 0), b"one\n");
+    assert_piece(&rt, &mut links, (0, 0), b"two\n");
+    assert!(rt; links.failed().is_none());
+    Ok(())
+}
