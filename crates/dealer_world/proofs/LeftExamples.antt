@@ -196,7 +196,7 @@ goes_on_without = ∣ (a_run (record {
   held = (inl (stands_created 0), (inl (stands_created 1), (inl (stands_created 2), tt)));
 })) ∣₁
 
--- files of new stores go on from no era, and from none whose node promised something
+-- files of new stores go on from no era
 new_files : GoesOn true setting 3 [] (created 0 ∷ created 1 ∷ created 2 ∷ [])
 new_files = ∣ (new_stores refl refl have) ∣₁
   where

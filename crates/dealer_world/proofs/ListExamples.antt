@@ -1,5 +1,6 @@
--- A match of one hand, as three nodes kept it: the record of their frames, what came, and what they showed. One list is behind it; behind no record that
--- differs in a card, an action, a payoff, in when a line was shown, or by a hidden card, is any list.
+-- A match of one hand, as three nodes kept it: the record of their frames, what came, and what they showed. One list is behind it, where the
+-- first source's deal is that of its cards; behind no record that differs in a card, an action, a payoff, in a line whose command nobody had accepted, or by a hidden
+-- card, is any list.
 use Rattle.std.proofs.Common.{◌≡◌, ℕ, zero, suc, ◌+◌, ◌*◌, ◌<◌, ◌≤◌, ◌⊎◌, inl, inr, Bool, true, false, true≢false, not, ◌&&◌, eqb, if◌then◌else◌, Option, Some, None, List, [], ◌∷◌, ◌++◌, length, take, refl, ap, sym, ◌∙◌, subst, arith}
 use Rattle.std.specs.Prelude.{codes, bytes_eq, ◌||◌}
 use Rattle.std.proofs.lemmas.Bool.{false≢true}
