@@ -94,7 +94,7 @@ class Match:
     program = TOP / "crates/holdem_table/out/holdem_table"
     made = []
 
-    def __init__(self, game, hands, sources, outages=(), place=FAST):
+    def __init__(self, game, hands, sources, outages=(), place=FAST, away=None):
         self.folder = Path(tempfile.mkdtemp(prefix="serve.", dir=place))
         self.made.append(self)
         self.starter = []
@@ -110,6 +110,7 @@ class Match:
             'name = "m1"', f'game = "{self.word}"', f"hands = {hands}", f"names = {NAMES[:self.players]}".replace("'", '"'),
             'stores = "stores"', 'logs = "logs"', f"port = {self.port}", f"node = [{', '.join(sources)}]",
         ]
+        entries += [f'away = "{away}"'] if away is not None else []
         entries += [f"[[outage]]\n{outage}" for outage in outages]
         (self.folder / "m.toml").write_text("\n".join(entries) + "\n")
 

@@ -4,7 +4,7 @@ use crate::slow_links::SlowLinks;
 use crate::test_streams::{config, holds, is_same, is_written, prints};
 use dealer_node::NodeFault;
 use dealer_world::Cluster;
-use match_file::Outage;
+use match_file::{Absent, Outage};
 use match_links::{Links, MemoryLinks, Reached};
 use match_runs::{Conclusion, SeatPorts, Unserved, serve_run};
 use promise_store::{Disk, OnceDisk};
@@ -116,7 +116,7 @@ fn server<D: Disk + Drop, L: Links + Drop>(
     let Ok(cluster) = Cluster::new(alloc, config, disks) else {
         return Ok(None);
     };
-    Ok(Server::new(alloc, cluster, links, outages).ok())
+    Ok(Server::new(alloc, cluster, links, outages, Absent::Wait).ok())
 }
 
 /// Serves a match: how that ends. Here alone `serve_run` is called, so that its contract is read once.

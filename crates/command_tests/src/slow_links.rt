@@ -3,6 +3,7 @@
 ghost use Rattle.std.specs.Prelude.{◌≡◌};
 
 use match_links::{LinkFault, Links};
+use std::alloc::AllocError;
 
 /// Links of which each wait for a seat, an accept or a read, may be slow for some calls before it is answered.
 #[derive(Drop)]
@@ -44,6 +45,10 @@ impl<L: Links + Drop> SlowLinks<L> {
 impl<L: Links + Drop> Links for SlowLinks<L> {
     ghost passed = { λ slow. L.passed slow.links };
 
+    fn reserve(&mut self, lines: usize, text: usize) -> Result<(), AllocError> {
+        self.links.reserve(lines, text)
+    }
+
     fn accept(&mut self, node: u8, seat: u8) -> Result<(), LinkFault> {
         self.wait()?;
         self.links.accept(node, seat)
@@ -56,6 +61,10 @@ impl<L: Links + Drop> Links for SlowLinks<L> {
 
     fn write(&mut self, node: u8, seat: u8, line: &[u8]) -> Result<(), LinkFault> {
         self.links.write(node, seat, line)
+    }
+
+    fn turn_away(&mut self, seat: u8) {
+        self.links.turn_away(seat);
     }
 
     fn hang_up(&mut self, node: u8, seat: u8) {

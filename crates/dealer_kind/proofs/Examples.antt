@@ -3,14 +3,14 @@ use Rattle.std.proofs.Common.{◌≡◌, ℕ, ◌≤◌, inl, inr, true, false, 
 use Rattle.std.specs.Prelude.{codes, slice_get}
 use Rattle.betting.specs.declared.action.Action.TheVariants.{Fold, Call, Raise}
 use Rattle.slot_log.specs.declared.command.Command.{Command}
-use Rattle.slot_log.specs.declared.command.Command.TheVariants.{Deal, Act}
+use Rattle.slot_log.specs.declared.command.Command.TheVariants.{Deal, Act, Away}
 use Rattle.matchstate.specs.Line.{line}
 use Rattle.match_log.proofs.Examples.{opened, two_players, ten_ace, twos_threes, alice_and_bob}
 use Rattle.protocol_model.specs.Dealers.{Dealer, text_of, Seat, Log}
-use Rattle.protocol_model.proofs.ArrivalExamples.{nothing_said}
+use Rattle.protocol_model.proofs.ArrivalExamples.{nothing_said, nothing_ordered}
 use Rattle.deck_draw.specs.Deck.{drawn}
 use Rattle.dealer_kind.specs.Kind.{Setting, dealer_of}
-use Rattle.dealer_kind.specs.Owning.{OwnsDeals, either, IsDealtOrSaid}
+use Rattle.dealer_kind.specs.Owning.{OwnsDeals, either, IsDealtSaidOrOrdered}
 use Rattle.dealer_kind.specs.Sources.{deal_of, is_deal, owns, HasDeals}
 use Rattle.dealer_kind.specs.Plans.{IsSetting, HasNodes}
 use Rattle.dealer_kind.specs.declared.source.Source.{Source}
@@ -43,12 +43,19 @@ owns_acts : OwnsDeals (λ node command. true) → ⊥
 owns_acts owns = owns 0 (Act 0 0 Call) refl
 
 -- an act that every node owned, and that nobody said, comes from nowhere
-unsaid_act : IsDealtOrSaid (dealer_of setting (λ node command. true)) 3 [] [] (Act 0 0 Call) → ⊥
+unsaid_act : IsDealtSaidOrOrdered (dealer_of setting (λ node command. true)) 3 [] [] (Act 0 0 Call) → ⊥
 unsaid_act said = nothing_said (dealer_of setting (λ node command. true)) 3 [] (Act 0 0 Call) said
 
--- an act is nobody's own
+-- nor does one that plays for a player who is away, where nobody ordered it
+unordered_away : IsDealtSaidOrOrdered (dealer_of setting (λ node command. true)) 3 [] [] (Away 0 0) → ⊥
+unordered_away order = nothing_ordered (dealer_of setting (λ node command. true)) 3 [] (Away 0 0) order
+
+-- an act is nobody's own, nor is one that plays for a player who is away
 no_act : (first : Source) → owns 2 (first ∷ []) 0 (Act 0 0 Call) ≡ false
 no_act first = refl
+
+no_away : (first : Source) → owns 2 (first ∷ []) 0 (Away 0 0) ≡ false
+no_away first = refl
 
 drawn_deal : deal_of 2 (Seed 7) 3 ≡ Some (drawn 7 3 2)
 drawn_deal = refl
@@ -141,6 +148,42 @@ no_deal_is_said = refl
 not_the_old_line : dealer.says (Act 0 0 Call ∷ Deal 0 ten_ace ∷ []) 1 (codes "MATCHSTATE:1:0::|8hTc:c") (Act 0 1 Call) ≡ false
 unfolding opened
 not_the_old_line = refl
+
+-- no line says that a player is away, also where it says what would be done for him
+no_away_is_said : dealer.says (Deal 0 ten_ace ∷ []) 1 (codes "MATCHSTATE:1:0::|8hTc:f") (Away 0 0) ≡ false
+unfolding opened
+no_away_is_said = refl
+
+-- ---- what an order means
+
+ordered_at_the_first_turn : dealer.orders (Deal 0 ten_ace ∷ []) (Away 0 0) ≡ true
+unfolding opened
+ordered_at_the_first_turn = refl
+
+ordered_at_the_second_turn : dealer.orders (Act 0 0 Call ∷ Deal 0 ten_ace ∷ []) (Away 0 1) ≡ true
+unfolding opened
+ordered_at_the_second_turn = refl
+
+not_the_turn_before : dealer.orders (Act 0 0 Call ∷ Deal 0 ten_ace ∷ []) (Away 0 0) ≡ false
+unfolding opened
+not_the_turn_before = refl
+
+nothing_to_order_yet : dealer.orders [] (Away 0 0) ≡ false
+unfolding opened
+nothing_to_order_yet = refl
+
+nothing_to_order_any_more : dealer.orders (Act 0 0 Fold ∷ Deal 0 ten_ace ∷ []) (Away 0 1) ≡ false
+unfolding opened
+nothing_to_order_any_more = refl
+
+-- the same action, but an act of the player's
+no_act_is_ordered : dealer.orders (Deal 0 ten_ace ∷ []) (Act 0 0 Fold) ≡ false
+unfolding opened
+no_act_is_ordered = refl
+
+no_deal_is_ordered : dealer.orders [] (Deal 0 ten_ace) ≡ false
+unfolding opened
+no_deal_is_ordered = refl
 
 -- ---- limits
 

@@ -1,5 +1,6 @@
 mod Owning
 pub mod Fitting
+mod Ordering
 mod Holding
 mod Saying
 pub mod Examples

@@ -7,7 +7,7 @@ use Rattle.betting.specs.Text.{action_text}
 use Rattle.slot_log.specs.Hand.{Hand}
 use Rattle.slot_log.specs.Dealer.{hands_of, reason_of}
 use Rattle.slot_log.specs.declared.command.Command.{Command}
-use Rattle.slot_log.specs.declared.command.Command.TheVariants.{Deal, Act}
+use Rattle.slot_log.specs.declared.command.Command.TheVariants.{Deal, Act, Away}
 use Rattle.matchstate.specs.View.{View, seat_view}
 use Rattle.matchstate.specs.Line.{line, line_text}
 use Rattle.match_log.specs.Log.{Title, log_lines}
@@ -51,9 +51,16 @@ echoes game (Some view) text action =
 -- line's text is the seat's line, a colon and the action's text
 abbrev pub says : Setting → List Command → ℕ → List ℕ → Command → Bool
 says setting before seat line (Deal hand deal) = false
+says setting before seat line (Away hand index) = false
 says setting before seat line (Act hand index action) =
     (nat_lt seat setting.game.players && fits setting before (Act hand index action))
     && echoes setting.game (seat_view setting.game (hands_after setting before) seat) (text_of line) action
+
+-- after these commands an order that the player to act is played for means the command: it plays for a player who is away, and fits
+abbrev pub orders : Setting → List Command → Command → Bool
+orders setting before (Deal hand deal) = false
+orders setting before (Act hand index action) = false
+orders setting before (Away hand index) = fits setting before (Away hand index)
 
 -- the dealer whose commands the nodes of the match order, where these commands are each node's own
 abbrev pub dealer_of : Setting → (ℕ → Command → Bool) → Dealer
@@ -63,4 +70,5 @@ dealer_of setting own = record {
   line = line_of setting;
   log = log_of setting;
   says = says setting;
+  orders = orders setting;
 }

@@ -2,9 +2,9 @@
 use Rattle.std.specs.Prelude.{◌≡◌, ◌≢◌, ◌↔◌, ℕ, ◌<◌, Bool, true, List, Some, Ok, length}
 use Rattle.game_def.specs.Game.{IsGame}
 use Rattle.betting.specs.declared.action.Action.{Action}
-use Rattle.slot_log.specs.Dealer.{Fits, IsDealing}
+use Rattle.slot_log.specs.Dealer.{Fits, IsDealing, next_away}
 use Rattle.slot_log.specs.declared.command.Command.{Command}
-use Rattle.slot_log.specs.declared.command.Command.TheVariants.{Act}
+use Rattle.slot_log.specs.declared.command.Command.TheVariants.{Act, Away}
 use Rattle.matchstate.specs.View.{View, IsView, seat_view}
 use Rattle.seat_session.specs.Saying.{SaysAct}
 use Rattle.seat_session.specs.Lines.{HasNoFeed, text_of}
@@ -15,18 +15,28 @@ use Rattle.protocol_model.specs.Messages.{Message}
 use Rattle.protocol_model.specs.Arrivals.{Arrival}
 use Rattle.protocol_model.specs.Dealers.{HasNoFeed as HasNoLineFeed, HasLine}
 use Rattle.protocol_model.specs.Laws.{HasOrigin}
-use Rattle.dealer_kind.specs.Kind.{Setting, hands_after, says, dealer_of}
-use Rattle.dealer_kind.specs.Owning.{OwnsDeals, IsDealtOrSaid}
+use Rattle.dealer_kind.specs.Kind.{Setting, hands_after, says, orders, dealer_of}
+use Rattle.dealer_kind.specs.Owning.{OwnsDeals, IsDealtSaidOrOrdered}
+use Rattle.dealer_kind.specs.Plans.{IsSetting}
 
--- where each node's own commands are deals, a command's origin is what it is for a deal and for an act
+-- where each node's own commands are deals, a command's origin is what it is for a deal, for an act and for a player who is away
 abbrev pub OriginsAreOfTheirKind : Type 0
 OriginsAreOfTheirKind = (setting : Setting) (own : ℕ → Command → Bool) (n : ℕ) (ever : List Message) (came : List Arrival) (command : Command) → OwnsDeals own
-    → HasOrigin (dealer_of setting own) n ever came command → IsDealtOrSaid (dealer_of setting own) n ever came command
+    → HasOrigin (dealer_of setting own) n ever came command → IsDealtSaidOrOrdered (dealer_of setting own) n ever came command
 
 -- a line says no deal
 abbrev pub LinesSayActs : Type 0
 LinesSayActs = (setting : Setting) (before : List Command) (seat : ℕ) (line : List ℕ) (command : Command) → says setting before seat line command ≡ true
     → IsDealing command → ⊥
+
+-- nor that a player is away
+abbrev pub LinesSayNoAway : Type 0
+LinesSayNoAway = (setting : Setting) (before : List Command) (seat : ℕ) (line : List ℕ) (hand index : ℕ) → says setting before seat line (Away hand index) ≡ true → ⊥
+
+-- an order means the command by which the player to act of the hand that runs is played for, and no other
+abbrev pub OrdersPlayForTheNext : Type 0
+OrdersPlayForTheNext = (setting : Setting) (before : List Command) (command : Command) → IsSetting setting
+    → (orders setting before command ≡ true) ↔ (next_away setting.game (hands_after setting before) ≡ Some command)
 
 -- an act that a session takes from a line and that fits is one that the line says
 abbrev pub SessionsSay : Type 0

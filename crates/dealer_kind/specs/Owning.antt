@@ -1,12 +1,12 @@
 -- Which commands are a node's own, and where a command of a match comes from.
 use Rattle.std.specs.Prelude.{◌≡◌, ℕ, Bool, true, ◌||◌, List}
 use Rattle.slot_log.specs.declared.command.Command.{Command}
-use Rattle.slot_log.specs.declared.command.Command.TheVariants.{Deal, Act}
+use Rattle.slot_log.specs.declared.command.Command.TheVariants.{Deal, Act, Away}
 use Rattle.slot_log.specs.Dealer.{IsDealing}
 use Rattle.protocol_model.specs.Messages.{Message}
 use Rattle.protocol_model.specs.Arrivals.{Arrival}
 use Rattle.protocol_model.specs.Dealers.{Dealer}
-use Rattle.protocol_model.specs.Laws.{IsOwned, WasSaid}
+use Rattle.protocol_model.specs.Laws.{IsOwned, WasSaid, WasOrdered}
 
 -- what is a node's own is a deal
 abbrev pub OwnsDeals : (ℕ → Command → Bool) → Type 0
@@ -16,7 +16,8 @@ OwnsDeals own = (node : ℕ) (command : Command) → own node command ≡ true �
 abbrev pub either : (ℕ → Command → Bool) → (ℕ → Command → Bool) → ℕ → Command → Bool
 either own other node command = own node command || other node command
 
--- a deal is some node's own, and an act was said
-abbrev pub IsDealtOrSaid : Dealer → ℕ → List Message → List Arrival → Command → Type 0
-IsDealtOrSaid dealer n ever came (Deal hand deal) = IsOwned dealer n (Deal hand deal)
-IsDealtOrSaid dealer n ever came (Act hand index action) = WasSaid dealer n ever came (Act hand index action)
+-- a deal is some node's own, an act was said, and it was ordered that a player who is away is played for
+abbrev pub IsDealtSaidOrOrdered : Dealer → ℕ → List Message → List Arrival → Command → Type 0
+IsDealtSaidOrOrdered dealer n ever came (Deal hand deal) = IsOwned dealer n (Deal hand deal)
+IsDealtSaidOrOrdered dealer n ever came (Act hand index action) = WasSaid dealer n ever came (Act hand index action)
+IsDealtSaidOrOrdered dealer n ever came (Away hand index) = WasOrdered dealer n ever came (Away hand index)

@@ -4,7 +4,7 @@ use Rattle.std.specs.List.{All}
 use Rattle.card_core.specs.Deal.{IsDeal}
 use Rattle.deck_draw.specs.Deck.{drawn}
 use Rattle.slot_log.specs.declared.command.Command.{Command}
-use Rattle.slot_log.specs.declared.command.Command.TheVariants.{Deal, Act}
+use Rattle.slot_log.specs.declared.command.Command.TheVariants.{Deal, Act, Away}
 use Rattle.dealer_kind.specs.declared.source.Source.{Source}
 use Rattle.dealer_kind.specs.declared.source.Source.TheVariants.{Seed, Listed}
 
@@ -28,6 +28,7 @@ abbrev pub deals : ℕ → Option Source → Command → Bool
 deals players None command = false
 deals players (Some source) (Deal hand deal) = is_deal (deal_of players source hand) deal
 deals players (Some source) (Act hand index action) = false
+deals players (Some source) (Away hand index) = false
 
 -- the commands that are the nodes' own, where these are their sources
 abbrev pub owns : ℕ → List Source → ℕ → Command → Bool

@@ -7,25 +7,27 @@ ghost use Rattle.protocol_model.specs.Quorums.{IsChosen};
 ghost use Rattle.protocol_model.specs.Worlds.{World, Reached};
 ghost use Rattle.protocol_model.specs.Laws.{with_own, OwnsMore};
 ghost use Rattle.dealer_kind.specs.Kind.{Setting, hands_after, dealer_of, fits};
-ghost use Rattle.dealer_kind.specs.Owning.{OwnsDeals, either, IsDealtOrSaid};
+ghost use Rattle.dealer_kind.specs.Owning.{OwnsDeals, either, IsDealtSaidOrOrdered};
 ghost use Rattle.dealer_kind.specs.Sources.{owns};
 ghost use Rattle.dealer_kind.specs.declared.source.Source.{Source};
-ghost use Rattle.dealer_kind.specs.Laws.{OriginsAreOfTheirKind, LinesSayActs, SessionsSay, SaidIsHeard, OneMeaningOfLines, AnswersAreHeard};
+ghost use Rattle.dealer_kind.specs.Laws.{OriginsAreOfTheirKind, LinesSayActs, LinesSayNoAway, OrdersPlayForTheNext, SessionsSay, SaidIsHeard, OneMeaningOfLines, AnswersAreHeard};
 
 use matchstate::laws::an_answer_has_one_text;
 use protocol_model::laws::one_dealer;
 use seat_session::laws::{right_lines_act, whole_lines};
-use slot_log::laws::fits_without_reason;
+use slot_log::laws::{away_is_legal, commands_make_hands, fits_without_reason};
 
-/// What a line says is an act, and what is a node's own by its source is a deal; and where each node's own commands are deals, a chosen deal is some node's own and a
-/// chosen act was said.
-pub fn deals_are_owned_and_acts_are_said()
+/// What a line says is an act, and what is a node's own by its source is a deal; and where each node's own commands are
+/// deals, a chosen deal is some node's own, a chosen act was said, and a chosen command that plays for a player who is
+/// away was ordered.
+pub fn deals_are_owned_acts_are_said_and_aways_are_ordered()
     ensures acts { LinesSayActs }
+    ensures no_away { LinesSayNoAway }
     ensures origins { OriginsAreOfTheirKind }
     ensures sources { (players : ℕ) (sources : List Source) → OwnsDeals (owns players sources) }
     ensures chosen { (setting : Setting) (own : ℕ → Command → Bool) (n : ℕ) (world : World) (slot : ℕ) (command : Command)
         → OwnsDeals own → Reached (dealer_of setting own) n world → IsChosen n world.ever slot command
-        → IsDealtOrSaid (dealer_of setting own) n world.ever world.came command }
+        → IsDealtSaidOrOrdered (dealer_of setting own) n world.ever world.came command }
 {
     one_dealer();
 }
@@ -44,6 +46,16 @@ pub fn fitting_is_the_tables()
     ensures { (setting : Setting) (before : List Command) (command : Command)
         → (fits setting before command ≡ true) ↔ Fits setting.game setting.title.hands (hands_after setting before) command }
 {
+    fits_without_reason();
+}
+
+/// An order that the player to act is played for means the one command that does so in the hand that runs; none where no
+/// hand runs.
+pub fn orders_play_for_the_next()
+    ensures { OrdersPlayForTheNext }
+{
+    away_is_legal();
+    commands_make_hands();
     fits_without_reason();
 }
 

@@ -6,20 +6,21 @@ use Rattle.paxos_wire.specs.declared.message.Message.TheVariants.{Forward}
 use Rattle.slot_log.specs.Hand.{Match}
 use Rattle.slot_log.specs.Dealer.{reason_of}
 use Rattle.slot_log.specs.declared.command.Command.{Command}
-use Rattle.seat_session.specs.declared.said.Said.TheVariants.{Ready, Act}
+use Rattle.seat_session.specs.declared.said.Said.TheVariants.{Ready}
 use Rattle.seat_session.specs.declared.session_fault.SessionFault.{SessionFault}
 use Rattle.dealer_kind.specs.Kind.{fits}
 use Rattle.node_rules.specs.Standings.{Place, applied, hands_at}
 use Rattle.node_rules.specs.Sending.{one}
 use Rattle.node_rules.specs.Showing.{seat_line}
-use Rattle.node_rules.specs.Seats.{answering, is_others, forwarding}
+use Rattle.node_rules.specs.Turns.{sending}
+use Rattle.node_rules.specs.Seats.{answering, is_others, pending_act, forwarding}
 use Rattle.dealer_node.specs.declared.reader.Reader.{Reader}
 use Rattle.dealer_node.specs.declared.seat_fault.SeatFault.{SeatFault}
 use Rattle.dealer_node.specs.Texts.{Marked}
 use Rattle.dealer_node.specs.Outs.{Told}
 use Rattle.dealer_node.specs.Turned.{posted, printed}
 use Rattle.dealer_node.specs.Fitting.{AreMessages}
-use Rattle.dealer_node.specs.Hearing.{TakesAnswer}
+use Rattle.dealer_node.specs.Hearing.{TakesAct, TakesAnswer}
 use Rattle.dealer_node.proofs.Applied.{fits_by_table}
 use Rattle.dealer_node.proofs.Messages.{no_messages}
 use Rattle.dealer_node.proofs.Telling.{told_with, heard_more, frames_more, shown_more, faults_more}
@@ -33,18 +34,18 @@ ready_taken place table promised seat pending told shown e = λ turn before is.
     heard_more place table promised turn (answering place seat (Ok Ready) turn.after) pending pending before told (told_with told.frames shown told.faults) is is.hands is.promise is.waits
     (shown_more told shown (map printed (seat_line place.setting (hands_at place turn.after) seat)) all) no_messages
 
-pub act_taken : (place : Place) (table : Match) (promised : Ballot) (seat : ℕ) (act : Command) (old new : Option Command) (told : Told) (frames : List (Marked ℕ))
+pub act_taken : (place : Place) (table : Match) (promised : Ballot) (act : Command) (old new : Option Command) (told : Told) (frames : List (Marked ℕ))
     → new ≡ (if is_none old && is_none (reason_of table.game table.count table.hands act) then Some act else old)
     → frames ≡ told.frames ++ map posted (if is_others place promised then one promised.node (Forward act) else [])
     → AreMessages (if is_others place promised then one promised.node (Forward act) else [])
-    → TakesAnswer place table promised seat (Ok (Act act)) old new told (told_with frames told.shown told.faults)
-act_taken place table promised seat act old new told frames waits e messages = λ turn before is.
+    → TakesAct place table promised act old new told (told_with frames told.shown told.faults)
+act_taken place table promised act old new told frames waits e messages = λ turn before is.
     let fitting : is_none (reason_of table.game table.count table.hands act) ≡ fits place.setting (applied turn.after) act = fits_by_table place.setting (applied turn.after) table act is.hands in
     let kept : new ≡ (if is_none turn.after.pending && fits place.setting (applied turn.after) act then Some act else turn.after.pending) =
     waits ∙ ap (λ b. if is_none old && b then Some act else old) fitting ∙ ap (λ o. if is_none o && fits place.setting (applied turn.after) act then Some act else o) is.waits in
     let all : frames ≡ told.frames ++ map posted (forwarding place act turn.after) =
     e ∙ ap (λ (p : Ballot). told.frames ++ map posted (if is_others place p then one p.node (Forward act) else [])) (sym is.promise) in
-    heard_more place table promised turn (answering place seat (Ok (Act act)) turn.after) old new before told (told_with frames told.shown told.faults) is is.hands is.promise kept
+    heard_more place table promised turn (sending (forwarding place act turn.after) (pending_act place act turn.after)) old new before told (told_with frames told.shown told.faults) is is.hands is.promise kept
     (frames_more told frames (map posted (forwarding place act turn.after)) all)
     (subst (λ (p : Ballot). AreMessages (if is_others place p then one p.node (Forward act) else [])) (sym is.promise) messages)
 

@@ -6,7 +6,7 @@ use Rattle.paxos_wire.specs.declared.ballot.Ballot.{Ballot}
 use Rattle.game_def.specs.Game.{Game}
 use Rattle.slot_log.specs.Hand.{Hand, Match}
 use Rattle.slot_log.specs.declared.command.Command.{Command}
-use Rattle.slot_log.specs.declared.command.Command.TheVariants.{Deal, Act as Acts}
+use Rattle.slot_log.specs.declared.command.Command.TheVariants.{Deal, Act as Acts, Away}
 use Rattle.seat_session.specs.Session.{Standing as Talk, Conversation, is_closed, with_piece, Answers}
 use Rattle.seat_session.specs.Saying.{IsSaidInRange}
 use Rattle.seat_session.specs.declared.phase.Phase.{Phase}
@@ -40,6 +40,7 @@ pub forwardable : (game : Game) (hands : List Hand) (seat : ℕ) (old new : Talk
 forwardable game hands seat old new (Ok Ready) answer range = tt
 forwardable game hands seat old new (Ok (Act (Deal hand deal))) answer range = absurd (no_deal game hands seat old.phase old.waiting hand deal new answer)
 forwardable game hands seat old new (Ok (Act (Acts hand index action))) answer range = (tt, range)
+forwardable game hands seat old new (Ok (Act (Away hand index))) answer range = (tt, range)
 forwardable game hands seat old new (Err fault) answer range = tt
 
 -- ---- answers in order

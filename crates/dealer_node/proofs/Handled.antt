@@ -5,7 +5,7 @@ use Rattle.promise_store.specs.declared.disk.Disk.{Ghosts}
 use Rattle.promise_store.specs.declared.fault.StoreFault.TheVariants.{Disk}
 use Rattle.slot_log.specs.Hand.{Match}
 use Rattle.node_rules.specs.Standings.{Standing}
-use Rattle.node_rules.specs.Turns.{Turn, Refusal, Spent, BadFrame}
+use Rattle.node_rules.specs.Turns.{Turn, Refusal, Spent, BadFrame, NothingToAct}
 use Rattle.node_rules.specs.Calls.{Call}
 use Rattle.node_rules.specs.Rules.{IsTurnUp}
 use Rattle.dealer_node.specs.declared.up.Up.{Up}
@@ -83,6 +83,9 @@ module _ {D : Type 0} (g : Ghosts D) where
   handled_by post blank disk old new s called outcome earlier later (Err (fault.BadFrame why)) seen unmade may rule h =
       same_told post blank disk old _ s called earlier later (Err (fault.BadFrame why)) (unmade refl)
       (up_refused g post blank disk disk old new s called earlier (BadFrame why) (fault.BadFrame why) refl refl seen (subst (λ (o : Result Turn Refusal). IsTurnUp (place_at post) s called o) h.0 rule) h.1.now h.1.disk)
+  handled_by post blank disk old new s called outcome earlier later (Err fault.NothingToAct) seen unmade may rule h =
+      same_told post blank disk old _ s called earlier later (Err fault.NothingToAct) (unmade refl)
+      (up_refused g post blank disk disk old new s called earlier NothingToAct fault.NothingToAct refl refl seen (subst (λ (o : Result Turn Refusal). IsTurnUp (place_at post) s called o) h.0 rule) h.1.now h.1.disk)
   handled_by post blank disk old new s called outcome earlier later (Err why) seen unmade may rule h = absurd h
 
   wanted : (post : Post) (blank : Match) (disk : Option D) (old new : Up D) (s : Standing) (called : Call) (earlier later : Told) (answer : Result (Unit {0}) NodeFault)

@@ -24,8 +24,11 @@ pub mod Stored
 pub mod Ticked
 pub mod Framed
 pub mod Heard
+pub mod Ordered
 pub mod Handled
 pub mod Within
+pub mod Most
+mod MostExamples
 pub mod ReadBack
 pub mod AsOne
 pub mod Own

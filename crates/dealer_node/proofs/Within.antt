@@ -10,7 +10,7 @@ use Rattle.dealer_node.specs.Rooms.{Grows, Tells}
 use Rattle.dealer_node.specs.Running.{ahead_of}
 use Rattle.dealer_node.specs.Working.{HasLeft}
 use Rattle.dealer_node.specs.Handling.{IsWithin}
-use Rattle.dealer_node.specs.Calling.{need_of, close_need, line_need, frame_need, HasCallRoom}
+use Rattle.dealer_node.specs.Calling.{need_of, close_need, away_need, line_need, frame_need, HasCallRoom}
 
 -- what is left was needed
 pub left_within : (running : Running) (made : Made) (need : Need) → HasLeft running made need 0 0 → IsWithin made need
@@ -62,6 +62,36 @@ module _ {D : Type 0} where
 
   pub frame_left : (up : Up D) (made : Made) → told_by made ≡ nothing_told → HasCallRoom up made (frame_need up.running) 2 → HasLeft up.running made (frame_need up.running) 2 75
   frame_left up made nothing room = call_left up made 2 75 nothing room
+
+  -- once what was ordered goes on
+  pub away_left : (up after : Up D) (earlier later : Made) → told_by earlier ≡ nothing_told → HasCallRoom up earlier (away_need up.running) 1
+      → Grows earlier.frames later.frames 1 46 → later ≡ record earlier { frames = later.frames }
+      → after ≡ record up { running = record up.running { pending = after.running.pending } }
+      → HasLeft after.running later (away_need up.running) 1 10
+  away_left up after earlier later nothing room frames others rest =
+      let learner : after.running.learner.room ≡ up.running.learner.room = ap (λ (u : Up D). u.running.learner.room) rest in
+      let table : after.running.table.room ≡ up.running.table.room = ap (λ (u : Up D). u.running.table.room) rest in
+      let ahead : ahead_of after.running ≡ ahead_of up.running = ap (λ (u : Up D). ahead_of u.running) rest in
+      let text_room : later.shown.text_room ≡ earlier.shown.text_room = ap (λ (m : Made). m.shown.text_room) others in
+      let byte_room : later.shown.byte_room ≡ earlier.shown.byte_room = ap (λ (m : Made). m.shown.byte_room) others in
+      let texts : length later.shown.texts ≡ length earlier.shown.texts = ap (λ (m : Made). length m.shown.texts) others in
+      let bytes : byte_total later.shown.texts ≡ byte_total earlier.shown.texts = ap (λ (m : Made). byte_total m.shown.texts) others in
+      let faults : vec_len later.faults ≡ vec_len earlier.faults = ap (λ (m : Made). vec_len m.faults) others in
+      record {
+        learn = record {
+          learner = omega (arith, learner, room.learner);
+          table = omega (arith, table, ahead, room.table);
+          texts = omega (arith, ahead, room.shown.texts, text_room);
+          bytes = omega (arith, ahead, room.shown.text_bytes, byte_room);
+        };
+        texts = omega (arith, room.shown.frames, frames.text_room);
+        bytes = omega (arith, room.shown.frame_bytes, frames.byte_room);
+        frames_made = omega (arith, no_frames earlier nothing, frames.len);
+        bytes_made = omega (arith, no_bytes earlier nothing, frames.size);
+        texts_shown = omega (arith, ahead, no_texts earlier nothing, texts);
+        bytes_shown = omega (arith, ahead, no_text_bytes earlier nothing, bytes);
+        faults_told = omega (arith, no_faults earlier nothing, faults);
+      }
 
   -- once the piece was heard
   pub line_left : (up after : Up D) (earlier later : Made) (limit : ℕ) → told_by earlier ≡ nothing_told → HasCallRoom up earlier (line_need up.running limit) 1

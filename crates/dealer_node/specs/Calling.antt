@@ -31,6 +31,10 @@ need_of running commands frames = record {
 abbrev pub close_need : Running → Need
 close_need running = need_of running 1 10
 
+-- what an order makes at most: a frame with which it goes on, and the close
+abbrev pub away_need : Running → Need
+away_need running = need_of running 1 11
+
 -- and with a piece of a seat's bytes that is given fewer answers than these: a frame and a fault for each, and the seat's line
 abbrev pub line_need : Running → ℕ → Need
 line_need running limit = record {

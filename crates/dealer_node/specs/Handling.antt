@@ -4,7 +4,7 @@ use Rattle.promise_store.specs.declared.disk.Disk.{Ghosts}
 use Rattle.promise_store.specs.declared.fault.StoreFault.TheVariants.{Disk}
 use Rattle.acceptor.specs.Taken.{IsFault}
 use Rattle.node_rules.specs.Standings.{Standing}
-use Rattle.node_rules.specs.Turns.{Turn, Refusal, Spent, BadFrame}
+use Rattle.node_rules.specs.Turns.{Turn, Refusal, Spent, BadFrame, NothingToAct}
 use Rattle.dealer_node.specs.declared.up.Up.{Up}
 use Rattle.dealer_node.specs.declared.made.Made.{Made}
 use Rattle.dealer_node.specs.declared.made.Need.{Need}
@@ -15,12 +15,13 @@ use Rattle.dealer_node.specs.Posts.{Post}
 use Rattle.dealer_node.specs.Texts.{byte_total}
 use Rattle.dealer_node.specs.Working.{disk_under, IsUp, Took, Failed, Clashed}
 
--- 90, 92, 93 and 94: nothing but room has changed
+-- 90, 92, 93, 94 and 96: nothing but room has changed
 abbrev pub HasNoEffect : Result (Unit {0}) NodeFault → Type 0
 HasNoEffect (Err fault.Down) = Unit {0}
 HasNoEffect (Err fault.OutOfMemory) = Unit {0}
 HasNoEffect (Err fault.Spent) = Unit {0}
 HasNoEffect (Err (fault.BadFrame why)) = Unit {0}
+HasNoEffect (Err fault.NothingToAct) = Unit {0}
 HasNoEffect other = ⊥
 
 -- what a whole call of a node that runs may answer, whatever its disk is: it isn't down, and 91 carries what an open store refuses
@@ -50,6 +51,7 @@ module _ {D : Type 0} (g : Ghosts D) where
   Handles post s outcome before after earlier later (Err fault.OutOfMemory) = Stays post s before after
   Handles post s outcome before after earlier later (Err fault.Spent) = (outcome ≡ Err Spent) × Stays post s before after
   Handles post s outcome before after earlier later (Err (fault.BadFrame why)) = (outcome ≡ Err (BadFrame why)) × Stays post s before after
+  Handles post s outcome before after earlier later (Err fault.NothingToAct) = (outcome ≡ Err NothingToAct) × Stays post s before after
   Handles post s outcome before after earlier later (Err other) = ⊥
 
 -- no more was made than was needed

@@ -1,7 +1,7 @@
 -- What a seat's bytes do at a node, as the rules have it.
 use Rattle.std.specs.Prelude.{◌≡◌, ℕ, ◌+◌, ◌≤◌, ◌<◌, false, List, Option, Some, None, Result, Ok, Err, length}
 use Rattle.paxos_wire.specs.declared.ballot.Ballot.{Ballot}
-use Rattle.paxos_wire.specs.Fits.{IsAct, IsInRange}
+use Rattle.paxos_wire.specs.Fits.{MayGoOn, IsInRange}
 use Rattle.slot_log.specs.Hand.{Match}
 use Rattle.slot_log.specs.declared.command.Command.{Command}
 use Rattle.seat_session.specs.Feeds.{line_feeds}
@@ -10,8 +10,8 @@ use Rattle.seat_session.specs.declared.said.Said.{Said}
 use Rattle.seat_session.specs.declared.said.Said.TheVariants.{Ready, Act}
 use Rattle.seat_session.specs.declared.session_fault.SessionFault.{SessionFault}
 use Rattle.node_rules.specs.Standings.{Place, applied}
-use Rattle.node_rules.specs.Turns.{Turn, joined}
-use Rattle.node_rules.specs.Seats.{answering, answering_all, Drains, left}
+use Rattle.node_rules.specs.Turns.{Turn, sending, joined}
+use Rattle.node_rules.specs.Seats.{pending_act, forwarding, answering, answering_all, Drains, left}
 use Rattle.dealer_node.specs.Outs.{Told, both_told}
 use Rattle.dealer_node.specs.Turned.{told_of, talk_of}
 use Rattle.dealer_node.specs.Fitting.{AreMessages}
@@ -20,7 +20,7 @@ use Rattle.dealer_node.specs.Scenes.{IsTableOf}
 -- what is said can be handed on: an act has its numbers in their ranges
 abbrev pub IsForwardable : Result Said SessionFault → Type 0
 IsForwardable (Ok Ready) = Unit {0}
-IsForwardable (Ok (Act command)) = IsAct command × IsInRange command
+IsForwardable (Ok (Act command)) = MayGoOn command × IsInRange command
 IsForwardable (Err fault) = Unit {0}
 
 -- the table, the promise, the act that waits, and what was made behind other things, are those of a turn, whose messages have frames
@@ -30,6 +30,12 @@ pub record IsHeard (place : Place) (table : Match) (promised : Ballot) (turn : T
   pub waits : pending ≡ turn.after.pending
   pub told : now ≡ both_told before (told_of turn)
   pub fits : AreMessages turn.frames
+
+-- an act is taken, of a seat or by an order: it waits where none does, and goes on
+abbrev pub TakesAct : Place → Match → Ballot → Command → Option Command → Option Command → Told → Told → Type 0
+TakesAct place table promised act old new earlier later =
+    (turn : Turn) (before : Told) → IsHeard place table promised turn old before earlier
+    → IsHeard place table promised (joined turn (sending (forwarding place act turn.after) (pending_act place act turn.after))) new before later
 
 -- one answer is taken
 abbrev pub TakesAnswer : Place → Match → Ballot → ℕ → Result Said SessionFault → Option Command → Option Command → Told → Told → Type 0

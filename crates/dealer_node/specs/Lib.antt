@@ -23,3 +23,4 @@ pub mod NodeInside
 pub mod Seeing
 pub mod Taking
 pub mod Calling
+pub mod Most

@@ -4,6 +4,7 @@ use Rattle.promise_store.specs.declared.disk.Disk.{Ghosts}
 use Rattle.promise_store.specs.Keeping.{disk_of, Leaves}
 use Rattle.acceptor.specs.Stored.{store_of}
 use Rattle.node_rules.specs.Standings.{Standing, stopped}
+use Rattle.slot_log.specs.Slots.{front}
 use Rattle.dealer_node.specs.Nodes.{Node}
 use Rattle.dealer_node.specs.declared.fault.NodeFault.{NodeFault}
 use Rattle.dealer_node.specs.declared.fault.NodeFault.TheVariants as fault
@@ -22,6 +23,14 @@ module _ {D : Type 0} where
 
   abbrev pub runs : Node D → Bool
   runs node = is_up node.up
+
+  -- the first slot whose command what runs doesn't know
+  abbrev pub front_by : Option (Up D) → ℕ
+  front_by None = 0
+  front_by (Some up) = front up.running.learner.learned.log
+
+  abbrev pub front_in : Node D → ℕ
+  front_in node = front_by node.up
 
   -- the disk is its store's while the node runs
   abbrev pub disk_by : Option (Up D) → Option D → Option D

@@ -14,8 +14,8 @@ use Rattle.protocol_model.specs.Stores.{Store}
 use Rattle.node_rules.specs.Standings.{Place, Standing, started}
 use Rattle.node_rules.specs.Sending.{Frame}
 use Rattle.node_rules.specs.Showing.{Piece, SeatFault}
-use Rattle.node_rules.specs.Turns.{Turn, Refusal, Down, Spent, BadFrame, Conflict}
-use Rattle.node_rules.specs.Calls.{Call, Start, Tick, Line, Connect, Drop, Stop}
+use Rattle.node_rules.specs.Turns.{Turn, Refusal, Down, Spent, BadFrame, Conflict, NothingToAct}
+use Rattle.node_rules.specs.Calls.{Call, Start, Tick, Away, Line, Connect, Drop, Stop}
 use Rattle.node_rules.specs.Calls as call
 use Rattle.node_rules.specs.Rules.{IsTurn, standing_after}
 use Rattle.node_rules.specs.Called.{Ends, took, refused, failed, unchanged}
@@ -37,6 +37,7 @@ refusal_fault Down = fault.Down
 refusal_fault Spent = fault.Spent
 refusal_fault (BadFrame why) = fault.BadFrame why
 refusal_fault (Conflict store) = fault.Conflict
+refusal_fault NothingToAct = fault.NothingToAct
 
 -- only a start of a node that is down may find a failed disk and change nothing
 abbrev pub IsStart : Bool → Call → Type 0
@@ -55,6 +56,7 @@ Answered place s called after frames shown (unchanged e f g) faults answer =
 -- only a call that may store something fails in the disk, and only where its rule has a turn, or another command was known
 abbrev pub MayFail : Call → Result Turn Refusal → Type 0
 MayFail Tick outcome = IsDone outcome
+MayFail Away outcome = IsDone outcome
 MayFail (call.Frame from bytes) outcome = IsDone outcome
 MayFail (Line seat bytes) outcome = IsDone outcome
 MayFail other outcome = ⊥
@@ -93,7 +95,7 @@ module _ {D : Type 0} where
     -- 90 is what a node that is down answers, and no other
     pub down : runs old ≡ false → answer ≡ Err fault.Down
     pub up : answer ≡ Err fault.Down → runs old ≡ false
-    -- by 90, 92, 93 and 94 it runs or is down as before, and its disk was neither read nor written
+    -- by 90, 92, 93, 94 and 96 it runs or is down as before, and its disk was neither read nor written
     pub stands : HasNoEffect answer → runs new ≡ runs old
     pub disk : HasNoEffect answer → disk_in new ≡ disk_in old
     -- by 91 and 95 it is down

@@ -25,10 +25,12 @@ pub enum NodeFault {
     BadFrame(FrameFault),
     /// 95: another command is known at the slot; the node is down until it is started.
     Conflict,
+    /// 96: no hand runs at the node, so that there is nobody to play for. Nothing has changed.
+    NothingToAct,
 }
 
 impl NodeFault {
-    /// The fault's number, 90 to 95.
+    /// The fault's number, 90 to 96.
     pub fn code(self) -> u8
         ensures { result ≡ code_of self }
     {
@@ -39,6 +41,7 @@ impl NodeFault {
             NodeFault::Spent => 93,
             NodeFault::BadFrame(_) => 94,
             NodeFault::Conflict => 95,
+            NodeFault::NothingToAct => 96,
         }
     }
 }
@@ -69,6 +72,7 @@ impl fmt::Display for NodeFault {
             NodeFault::Spent => f.write_str("93 Spent"),
             NodeFault::BadFrame(fault) => write!(f, "94 BadFrame {fault}"),
             NodeFault::Conflict => f.write_str("95 Conflict"),
+            NodeFault::NothingToAct => f.write_str("96 NothingToAct"),
         }
     }
 }

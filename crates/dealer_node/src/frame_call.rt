@@ -8,13 +8,14 @@ ghost use Rattle.node_rules.specs.Calls.{Frame as Letter};
 ghost use Rattle.node_rules.specs.Rules.{on_message};
 ghost use Rattle.dealer_node.specs.Outs.{told_by, nothing_told};
 ghost use Rattle.dealer_node.specs.Posts.{place_at};
-ghost use Rattle.dealer_node.specs.Running.{IsAt};
+ghost use Rattle.dealer_node.specs.Running.{IsAt, ahead_of};
 ghost use Rattle.dealer_node.specs.Working.{IsOfPart};
 ghost use Rattle.dealer_node.specs.Handling.{IsWithin, AnswersUp};
 ghost use Rattle.dealer_node.specs.Calling.{frame_need};
+ghost use Rattle.dealer_node.specs.Most.{most_after, ShowsWithin};
 
 use crate::fault::NodeFault;
-use crate::limits::FRAMES_OF_A_MESSAGE;
+use crate::limits::{COMMANDS_OF_A_CALL, FRAMES_OF_A_MESSAGE};
 use crate::made::{Made, Need};
 use crate::post::Post;
 use crate::running::Running;
@@ -35,7 +36,7 @@ fn read(bytes: &[u8]) -> Result<Message, FrameFault>
 fn frame_need(running: &Running) -> Need
     ensures { result ≡ frame_need running.now }
 {
-    running.need(2, FRAMES_OF_A_MESSAGE)
+    running.need(COMMANDS_OF_A_CALL, FRAMES_OF_A_MESSAGE)
 }
 
 impl<D: Disk + Drop> Up<D> {
@@ -82,12 +83,13 @@ impl<D: Disk + Drop> Up<D> {
         ensures answers { AnswersUp self.old self.new result }
         ensures at { IsAt post.now self.new.running }
         ensures unmade { IsErr result → told_by out.new ≡ told_by out.old }
+        ensures shows { ShowsWithin (most_after (ahead_of self.old.running)) (told_by out.old) (told_by out.new) }
     {
         match read(bytes) {
             Err(fault) => Err(NodeFault::BadFrame(fault)),
             Ok(message) => {
                 let need = frame_need(&self.running);
-                let mut made = self.ready(alloc, 2, &need, out)?;
+                let mut made = self.ready(alloc, COMMANDS_OF_A_CALL, &need, out)?;
                 self.message(post, from, &message, &mut made)?;
                 out.append(made);
                 Ok(())

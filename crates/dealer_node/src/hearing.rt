@@ -1,7 +1,7 @@
 ghost use Rattle.std.specs.Prelude.{◌≡◌, ◌+◌, ◌*◌, ◌≤◌, ◌<◌, ◌++◌, ◌&&◌, false, map, is_none, if◌then◌else◌, [], Ok, Err, Some, None, IfSome, vec_len, vec_capacity};
 ghost use Rattle.std.specs.Option.{ForSome};
 ghost use Rattle.slot_log.specs.Dealer.{reason_of};
-ghost use Rattle.paxos_wire.specs.Fits.{IsAct, IsInRange};
+ghost use Rattle.paxos_wire.specs.Fits.{MayGoOn, IsInRange};
 ghost use Rattle.paxos_wire.specs.declared.message.Message.TheVariants.{Forward as Forwarding};
 ghost use Rattle.seat_session.specs.Feeds.{line_feeds};
 ghost use Rattle.seat_session.specs.Session.{is_closed};
@@ -13,7 +13,7 @@ ghost use Rattle.dealer_node.specs.Posts.{place_at};
 ghost use Rattle.dealer_node.specs.Turned.{posted};
 ghost use Rattle.dealer_node.specs.Fitting.{AreMessages};
 ghost use Rattle.dealer_node.specs.Rooms.{Grows, Tells};
-ghost use Rattle.dealer_node.specs.Hearing.{IsForwardable, TakesAnswer, Hears, HearsPiece, CanHear};
+ghost use Rattle.dealer_node.specs.Hearing.{IsForwardable, TakesAct, TakesAnswer, Hears, HearsPiece, CanHear};
 
 use crate::lines::show_line;
 use crate::made::Made;
@@ -46,7 +46,7 @@ fn is_others(post: &Post, promised: Ballot) -> bool
 
 /// Hands an act on to the node whose ballot was promised, where that is another.
 fn forward(frames: &mut Texts<u8>, post: &Post, promised: Ballot, act: &Command)
-    requires act { IsAct act.now }
+    requires act { MayGoOn act.now }
     requires numbers { IsInRange act.now }
     requires texts { 1 ≤ frames.old.text_room }
     requires bytes { 46 ≤ frames.old.byte_room }
@@ -88,9 +88,8 @@ fn take_ready(
 }
 
 /// An act waits where it fits and none does, and goes on to the node whose ballot was promised, where that is another.
-fn take_act(
+pub(crate) fn take_act(
     act: &Command,
-    seat: usize,
     post: &Post,
     promised: Ballot,
     table: &Table,
@@ -100,7 +99,7 @@ fn take_act(
     requires act { IsForwardable (Ok (SaidAct act.now)) }
     requires texts { 1 ≤ made.old.frames.text_room }
     requires bytes { 46 ≤ made.old.frames.byte_room }
-    ensures taken { TakesAnswer (place_at post.now) table.now promised seat (Ok (SaidAct act.now)) pending.old pending.new (told_by made.old) (told_by made.new) }
+    ensures taken { TakesAct (place_at post.now) table.now promised act.now pending.old pending.new (told_by made.old) (told_by made.new) }
     ensures frames { Grows made.old.frames made.new.frames 1 46 }
     ensures rest { made.new ≡ record made.old { frames = made.new.frames } }
     ensures act { IfSome pending.old (λ command. IsInRange command) → IfSome pending.new (λ command. IsInRange command) }
@@ -153,7 +152,7 @@ fn take_said(
 {
     match said {
         Said::Ready => take_ready(seat, post, promised, table, pending, made),
-        Said::Act(act) => take_act(act, seat, post, promised, table, pending, made),
+        Said::Act(act) => take_act(act, post, promised, table, pending, made),
     }
 }
 

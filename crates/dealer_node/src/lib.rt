@@ -2,14 +2,14 @@
 //! lines, log lines and faults go out.
 //!
 //! `Node::new` makes it, down; `create` a new store on its disk, once, and `start` opens it. From then on `on_frame`,
-//! `on_line`, `on_tick`, `connect` and `drop_seat` are its calls, each of which puts what it makes into an `Out`, until
+//! `on_line`, `on_tick`, `on_away`, `connect` and `drop_seat` are its calls, each of which puts what it makes into an `Out`, until
 //! `stop`. `running`, `front`, `table`, `pending` and `connected` read it. The test `a_tick_asks_for_promises` of
 //! `match_tests` walks this way.
 //!
 //! The rules of a node are pure functions (`node_rules`, with the table in `docs/NODES.md`), and each call is one of them,
 //! whatever memory and disk do: `Takes` in `specs/Taking.antt` says how, for every call and every answer. Refused are 90
-//! `Down`, 91 `Store`, 92 `OutOfMemory`, 93 `Spent`, 94 `BadFrame` and 95 `Conflict` (`NodeFault`); by each of them the
-//! `Out` is as it was, after 91 and 95 the node is down, after the others it is as before.
+//! `Down`, 91 `Store`, 92 `OutOfMemory`, 93 `Spent`, 94 `BadFrame`, 95 `Conflict` and 96 `NothingToAct` (`NodeFault`); by
+//! each of them the `Out` is as it was, after 91 and 95 the node is down, after the others it is as before.
 //!
 //! A call makes all its room first, by counts alone; its work in memory takes none and can't fail; what it stores is one
 //! append. `Running` is what a node that runs holds in memory, `Up` has its acceptor beside it; their methods each carry
@@ -23,6 +23,7 @@
 mod accepting;
 mod answering;
 mod applying;
+mod away_call;
 mod chosen_frames;
 mod fault;
 mod frame_call;
@@ -35,6 +36,7 @@ mod line_call;
 mod lines;
 mod made;
 mod memory;
+mod most_shown;
 mod node;
 mod out;
 mod post;
@@ -56,6 +58,7 @@ mod values;
 mod voting;
 
 pub use fault::{NodeFault, is_out_of_memory};
+pub use most_shown::MostShown;
 pub use node::Node;
 pub use out::Out;
 pub use reader::Reader;

@@ -18,6 +18,10 @@ pub(crate) const FRAMES_OF_A_CLOSE: usize = 2 * FRAMES_TO_ALL;
 /// those of the close, and a question.
 pub(crate) const FRAMES_OF_A_MESSAGE: usize = WINDOW + FRAMES_OF_A_CLOSE + 1;
 
+/// The most commands that a call learns: one that a message tells, or that it completes a majority for, and one that the
+/// close proposes.
+pub(crate) const COMMANDS_OF_A_CALL: usize = 2;
+
 /// The most texts that a command shows: a line to each seat, and what the log has further.
 pub(crate) const TEXTS_OF_A_COMMAND: usize = PLAYERS + 1;
 

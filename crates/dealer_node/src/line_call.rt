@@ -8,10 +8,11 @@ ghost use Rattle.dealer_node.specs.Outs.{told_by, nothing_told, HasRoom};
 ghost use Rattle.dealer_node.specs.Posts.{Post as Station};
 ghost use Rattle.dealer_node.specs.Rooms.{Grows, Tells};
 ghost use Rattle.dealer_node.specs.Seated.{feeds_with, HasRoomAt};
-ghost use Rattle.dealer_node.specs.Running.{IsAt};
+ghost use Rattle.dealer_node.specs.Running.{IsAt, ahead_of};
 ghost use Rattle.dealer_node.specs.Working.{IsOfPart};
 ghost use Rattle.dealer_node.specs.Handling.{IsWithin, AnswersUp};
 ghost use Rattle.dealer_node.specs.Calling.{line_need};
+ghost use Rattle.dealer_node.specs.Most.{most_after, ShowsWithin};
 
 use crate::fault::NodeFault;
 use crate::limits::{FRAMES_OF_A_CLOSE, TEXT_BYTES_OF_A_COMMAND, TEXTS_OF_A_COMMAND};
@@ -101,6 +102,7 @@ impl<D: Disk + Drop> Up<D> {
         requires { seat < length self.old.running.seats.talks }
         ensures unmoved { Unmoved D.Disk self.old self.new }
         ensures at { (post : Station) → IsAt post self.old.running → IsAt post self.new.running }
+        ensures ahead { ahead_of self.new.running ≡ ahead_of self.old.running }
         ensures same { told_by out.new ≡ told_by out.old }
         ensures memory { IfErr result (λ fault. fault ≡ NodeFault.OutOfMemory) }
         ensures limit { IfOk result (λ ready. feeds_with (session_at self.new.running.seats.talks seat) bytes.now < ready.1) }
@@ -137,6 +139,7 @@ impl<D: Disk + Drop> Up<D> {
         ensures answers { AnswersUp self.old self.new result }
         ensures at { IsAt post.now self.new.running }
         ensures unmade { IsErr result → told_by out.new ≡ told_by out.old }
+        ensures shows { ShowsWithin (most_after (ahead_of self.old.running)) (told_by out.old) (told_by out.new) }
     {
         let (mut made, limit) = self.ready_line(alloc, seat, bytes, out)?;
         self.line(post, seat, bytes, limit, &mut made)?;

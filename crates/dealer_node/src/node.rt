@@ -3,7 +3,7 @@ ghost use Rattle.protocol_model.specs.Stores.{Store as Kept, empty_store};
 ghost use Rattle.node_rules.specs.Standings.{Standing, applied, front_of, place_of, stopped};
 ghost use Rattle.node_rules.specs.Showing.{is_connected as is_talk_ready};
 ghost use Rattle.node_rules.specs.Seats.{session_at};
-ghost use Rattle.node_rules.specs.Calls.{Start, Tick, Frame, Line, Connect, Drop as Dropping, Stop};
+ghost use Rattle.node_rules.specs.Calls.{Start, Tick, Away, Frame, Line, Connect, Drop as Dropping, Stop};
 ghost use Rattle.promise_store.specs.Disks.{Within, During, Rose};
 ghost use Rattle.promise_store.specs.Journals.{header};
 ghost use Rattle.promise_store.specs.Keeping.{Leaves};
@@ -13,8 +13,10 @@ ghost use Rattle.dealer_node.specs.Outs.{nothing_told};
 ghost use Rattle.dealer_node.specs.Posts.{place_at};
 ghost use Rattle.dealer_node.specs.Scenes.{IsTableOf};
 ghost use Rattle.dealer_node.specs.Running.{IsAt};
+ghost use Rattle.dealer_node.specs.Most.{ShowsWithin};
 
 use crate::fault::NodeFault;
+use crate::most_shown::{MostShown, most_after};
 use crate::out::Out;
 use crate::post::Post;
 use crate::starting::{open, ready};
@@ -33,7 +35,7 @@ use std::marker::Model;
 /// until it is stopped or its store fails.
 ///
 /// Contracts see it as a standing of the rules (`IsSeen`), and have for each call, whatever it answers, what it made of
-/// that standing (`Takes`): by Ok the turn of its rule; by 90, 92, 93 and 94 nothing has changed; by 91 and 95 the node
+/// that standing (`Takes`): by Ok the turn of its rule; by 90, 92, 93, 94 and 96 nothing has changed; by 91 and 95 the node
 /// is down; by every fault the `Out` is as it was.
 pub struct Node<D: Disk> {
     alloc: Global,
@@ -76,9 +78,10 @@ impl<D: Disk> Model for Node<D> {
 }
 
 impl<D: Disk + Drop> Node<D> {
-    ghost use Rattle.dealer_node.specs.Seeing.{post_in, runs, disk_in, IsSeen, begun_of, bytes_of, failures_of, images_of, since_of, downed, settled};
+    ghost use Rattle.dealer_node.specs.Seeing.{post_in, runs, front_in, disk_in, IsSeen, begun_of, bytes_of, failures_of, images_of, since_of, downed, settled};
     ghost use Rattle.promise_store.specs.Refusals.{Refuses};
     ghost use Rattle.dealer_node.specs.Working.{head_of};
+    ghost use Rattle.dealer_node.specs.Most.{most_shown_of};
     ghost use Rattle.dealer_node.specs.Taking.{Takes, StaysItself, AnswersRightly, LeavesDisk, IsOfStart, FindsStore, OnlyReadsDisk, StopsBy};
 
     /// The node of this number, counted from 0, of a match, over this disk. It is down. An `Err` comes only where
@@ -141,6 +144,7 @@ impl<D: Disk + Drop> Node<D> {
         ensures found { IsTrue D.is_honest → runs self.old ≡ false → OnOk result (FindsStore D.Disk self.old self.new) }
         ensures reads { OnlyReadsDisk D.Disk self.old self.new }
         ensures stays { StaysItself D.Disk self.old self.new out.old out.new result }
+        ensures shows { ShowsWithin (most_shown_of self.old) out.old out.new }
         ensures running { runs self.old ≡ true → (self.new ≡ self.old) × (out.new ≡ out.old) × (result ≡ Ok tt) }
         ensures down { IsErr result → runs self.new ≡ false }
         ensures faults { IfErr result IsOfStart }
@@ -175,6 +179,7 @@ impl<D: Disk + Drop> Node<D> {
         ensures taken { (s : Standing) → IsTrue D.is_honest → IsSeen D.Disk self.old s
             → Takes D.Disk (Frame from bytes.now) s self.old self.new out.old out.new result }
         ensures stays { StaysItself D.Disk self.old self.new out.old out.new result }
+        ensures shows { ShowsWithin (most_shown_of self.old) out.old out.new }
         ensures answers { AnswersRightly self.old self.new result }
         ensures untouched { (s : Standing) → IsTrue D.is_honest → IsSeen D.Disk self.old s → OnOk result (LeavesDisk (Frame from bytes.now) s self.old self.new) }
     {
@@ -197,6 +202,7 @@ impl<D: Disk + Drop> Node<D> {
         ensures taken { (s : Standing) → IsTrue D.is_honest → IsSeen D.Disk self.old s
             → Takes D.Disk (Line seat bytes.now) s self.old self.new out.old out.new result }
         ensures stays { StaysItself D.Disk self.old self.new out.old out.new result }
+        ensures shows { ShowsWithin (most_shown_of self.old) out.old out.new }
         ensures answers { AnswersRightly self.old self.new result }
         ensures untouched { (s : Standing) → IsTrue D.is_honest → IsSeen D.Disk self.old s → OnOk result (LeavesDisk (Line seat bytes.now) s self.old self.new) }
     {
@@ -217,6 +223,7 @@ impl<D: Disk + Drop> Node<D> {
         ensures taken { (s : Standing) → IsTrue D.is_honest → IsSeen D.Disk self.old s
             → Takes D.Disk Tick s self.old self.new out.old out.new result }
         ensures stays { StaysItself D.Disk self.old self.new out.old out.new result }
+        ensures shows { ShowsWithin (most_shown_of self.old) out.old out.new }
         ensures answers { AnswersRightly self.old self.new result }
         ensures untouched { (s : Standing) → IsTrue D.is_honest → IsSeen D.Disk self.old s → OnOk result (LeavesDisk Tick s self.old self.new) }
     {
@@ -224,6 +231,29 @@ impl<D: Disk + Drop> Node<D> {
             None => Err(NodeFault::Down),
             Some(up) => {
                 let answer = up.on_tick(self.alloc, &self.post, &mut out.made);
+                self.settle(answer)
+            }
+        }
+    }
+
+    /// Takes an order that the player to act is played for: he folds where he faces something, and else calls.
+    ///
+    /// The player is whoever is to act at this node, by the hands that it knows. The command that plays for him waits
+    /// where none does, until it no longer fits or the node is down, and goes on to the node whose ballot was promised,
+    /// where that is another. Refused are 90, 96 where no hand runs, 92, 91 where the disk failed, and 95 where another
+    /// command is known at a slot.
+    pub fn on_away(&mut self, out: &mut Out) -> Result<(), NodeFault>
+        ensures taken { (s : Standing) → IsTrue D.is_honest → IsSeen D.Disk self.old s
+            → Takes D.Disk Away s self.old self.new out.old out.new result }
+        ensures stays { StaysItself D.Disk self.old self.new out.old out.new result }
+        ensures shows { ShowsWithin (most_shown_of self.old) out.old out.new }
+        ensures answers { AnswersRightly self.old self.new result }
+        ensures untouched { (s : Standing) → IsTrue D.is_honest → IsSeen D.Disk self.old s → OnOk result (LeavesDisk Away s self.old self.new) }
+    {
+        match &mut self.up {
+            None => Err(NodeFault::Down),
+            Some(up) => {
+                let answer = up.on_away(self.alloc, &self.post, &mut out.made);
                 self.settle(answer)
             }
         }
@@ -293,6 +323,7 @@ impl<D: Disk + Drop> Node<D> {
 
     /// The first slot whose command the node doesn't know; 0 while it is down.
     pub fn front(&self) -> u32
+        ensures value { result ≡ front_in self.now }
         ensures seen { (s : Standing) → IsSeen D.Disk self.now s → result ≡ front_of s }
         ensures down { runs self.now ≡ false → result ≡ 0 }
     {
@@ -333,6 +364,17 @@ impl<D: Disk + Drop> Node<D> {
         match &self.up {
             None => false,
             Some(up) => up.running.is_connected(seat),
+        }
+    }
+
+    /// How many pieces the node's next call shows at most, and how many bytes they have in all: beside what the call
+    /// learns it may apply all commands that the node knows beyond its front. The clause `shows` of each call says so.
+    pub fn most_shown(&self) -> MostShown
+        ensures { result ≡ most_shown_of self.now }
+    {
+        match &self.up {
+            None => most_after(0),
+            Some(up) => up.running.most_shown(),
         }
     }
 

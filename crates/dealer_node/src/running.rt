@@ -1,21 +1,26 @@
-ghost use Rattle.std.specs.Prelude.{◌≡◌, ◌+◌, ◌*◌, ◌≤◌, ◌<◌, length, IfOk, IfSome, OnOk, vec_len, vec_capacity};
+ghost use Rattle.std.specs.Prelude.{◌≡◌, ◌+◌, ◌*◌, ◌≤◌, ◌<◌, length, Ok, IfOk, IfSome, OnOk, vec_len, vec_capacity};
 ghost use Rattle.paxos_wire.specs.declared.limits.TheConstants.{SLOTS};
 ghost use Rattle.slot_log.specs.Slots.{front};
 ghost use Rattle.protocol_model.specs.Stores.{Store};
 ghost use Rattle.node_rules.specs.Standings.{Standing, started};
 ghost use Rattle.node_rules.specs.Rules.{seeing};
-ghost use Rattle.node_rules.specs.Seats.{session_at, connecting, dropping, taking_over};
+ghost use Rattle.node_rules.specs.Turns.{sending};
+ghost use Rattle.node_rules.specs.Seats.{session_at, connecting, dropping, pending_act, forwarding, taking_over};
 ghost use Rattle.node_rules.specs.Showing.{is_connected as is_talk_ready};
 ghost use Rattle.dealer_node.specs.Posts.{Post as Station, place_at};
 ghost use Rattle.dealer_node.specs.Outs.{told_by};
 ghost use Rattle.dealer_node.specs.Rooms.{Grows, Tells};
 ghost use Rattle.dealer_node.specs.Seated.{feeds_with, HasRoomAt};
-ghost use Rattle.dealer_node.specs.Running.{IsRunning, TakesPiece, IsAt, ahead_of};
+ghost use Rattle.seat_session.specs.declared.said.Said.TheVariants.{Act as SaidAct};
+ghost use Rattle.dealer_node.specs.Hearing.{IsForwardable};
+ghost use Rattle.dealer_node.specs.Running.{IsRunning, IsTaken, TakesPiece, IsAt, ahead_of};
 ghost use Rattle.dealer_node.specs.Calling.{need_of};
+ghost use Rattle.dealer_node.specs.Most.{most_after};
 
-use crate::hearing::wait;
+use crate::hearing::{take_act, wait};
 use crate::limits::{TEXT_BYTES_OF_A_COMMAND, TEXTS_OF_A_COMMAND};
 use crate::made::{Made, Need};
+use crate::most_shown::{MostShown, most_after};
 use crate::post::Post;
 use crate::seats::Seats;
 use crate::seen_ballot::seen_in;
@@ -109,6 +114,13 @@ impl Running {
         ensures most { result ≤ SLOTS + commands }
     {
         ahead(self.learner.log()) + commands
+    }
+
+    /// How much the next call shows at most.
+    pub(crate) fn most_shown(&self) -> MostShown
+        ensures { result ≡ most_after (ahead_of self.now) }
+    {
+        most_after(ahead(self.learner.log()))
     }
 
     /// What a call makes at most that learns so many commands and sends so many frames.
@@ -228,6 +240,23 @@ impl Running {
             &mut self.pending,
             made,
         );
+    }
+
+    /// Takes what an order means: it waits where nothing does, and goes on to the node whose ballot was promised, where
+    /// that is another. The ballot is the one that the node's store has promised.
+    pub(crate) fn play_for(&mut self, post: &Post, promised: Ballot, act: &Command, made: &mut Made)
+        requires at { IsAt post.now self.old }
+        requires act { IsForwardable (Ok (SaidAct act.now)) }
+        requires texts { 1 ≤ made.old.frames.text_room }
+        requires bytes { 46 ≤ made.old.frames.byte_room }
+        ensures taken { (s : Standing) → IsRunning post.now self.old s → s.store.promise ≡ promised
+            → IsTaken post.now self.new (told_by made.old) (told_by made.new) (sending (forwarding (place_at post.now) act.now s) (pending_act (place_at post.now) act.now s)) }
+        ensures at { IsAt post.now self.new }
+        ensures frames { Grows made.old.frames made.new.frames 1 46 }
+        ensures rest { made.new ≡ record made.old { frames = made.new.frames } }
+        ensures same { self.new ≡ record self.old { pending = self.new.pending } }
+    {
+        take_act(act, post, promised, &self.table, &mut self.pending, made);
     }
 
     /// Lets an act that another node hands on wait, where it fits and none does.

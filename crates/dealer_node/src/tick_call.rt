@@ -7,10 +7,11 @@ ghost use Rattle.node_rules.specs.Calls.{Tick};
 ghost use Rattle.node_rules.specs.Proposing.{is_over, ticking, closing};
 ghost use Rattle.dealer_node.specs.Outs.{told_by, nothing_told};
 ghost use Rattle.dealer_node.specs.Posts.{place_at};
-ghost use Rattle.dealer_node.specs.Running.{IsAt, is_spent_at};
+ghost use Rattle.dealer_node.specs.Running.{IsAt, ahead_of, is_spent_at};
 ghost use Rattle.dealer_node.specs.Working.{IsOfPart};
 ghost use Rattle.dealer_node.specs.Handling.{IsWithin, AnswersUp};
 ghost use Rattle.dealer_node.specs.Calling.{close_need};
+ghost use Rattle.dealer_node.specs.Most.{most_after, ShowsWithin};
 
 use crate::fault::NodeFault;
 use crate::limits::FRAMES_OF_A_CLOSE;
@@ -73,6 +74,7 @@ impl<D: Disk + Drop> Up<D> {
         ensures answers { AnswersUp self.old self.new result }
         ensures at { IsAt post.now self.new.running }
         ensures unmade { IsErr result → told_by out.new ≡ told_by out.old }
+        ensures shows { ShowsWithin (most_after (ahead_of self.old.running)) (told_by out.old) (told_by out.new) }
     {
         let promised = self.acceptor.promised();
         let over = self.running.is_over(post);

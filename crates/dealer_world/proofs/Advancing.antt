@@ -11,7 +11,7 @@ use Rattle.dealer_node.specs.declared.fault.NodeFault.{NodeFault}
 use Rattle.dealer_node.specs.declared.fault.NodeFault.TheVariants as fault
 use Rattle.dealer_node.specs.Outs.{Told}
 use Rattle.dealer_node.specs.Posts.{place_at}
-use Rattle.dealer_node.specs.Seeing.{post_in, runs, IsSeen, begun_of}
+use Rattle.dealer_node.specs.Seeing.{post_in, runs, front_in, IsSeen, begun_of}
 use Rattle.dealer_world.specs.declared.event.Event.{Event}
 use Rattle.dealer_world.specs.Records.{Record}
 use Rattle.dealer_world.specs.Views.{grown}
@@ -59,7 +59,7 @@ module _ {D : Type 0} (g : Ghosts D) where
   pub behind_on : (opened : Bool) (plan : Plan) (nodes : List (Node D)) (e : Event) (old new : Node D) (told : Told) (answer : Result (Unit {0}) NodeFault) (all : Record)
       → length nodes ≡ length plan.sources → IsForMatch plan e → get_or nodes (node_of e) old ≡ old → ∥ ArePosted plan nodes ∥₁ → ((s : Standing) → IsSeen g old s → runs old ≡ s.up)
       → IsGiven g e old new told answer → (answer ≡ Err fault.OutOfMemory → ⊥) → IsBehind g opened plan nodes all
-      → IsBehind g opened plan (set nodes (node_of e) new) (grown all (node_of e) (arrived_by_event (runs old) e) (made_by (node_of e) told (begins_by_event (runs old) e answer)))
+      → IsBehind g opened plan (set nodes (node_of e) new) (grown all (node_of e) (arrived_by_event (runs old) (front_in old) e) (made_by (node_of e) told (begins_by_event (runs old) e answer)))
   behind_on opened plan nodes e old new told answer all count is_for_match at posted is_up given ample behind before goes honest =
       let is_for : IsFor (length nodes) plan.setting.game.players e = subst (λ n. IsFor n plan.setting.game.players e) (sym count) is_for_match in
       let less = node_within (length nodes) plan.setting.game.players e is_for in
@@ -82,33 +82,36 @@ same_node : {A : Type 0} (xs : List A) (i : ℕ) (x y : A) → i < length xs →
 same_node xs i x y less is also = is ∙ (get_or_default xs i x y less ∙ sym also)
 
 -- what the record gained
-recorded : (e : Event) (up is_up : Bool) (between old new : Record) (told : Told) (begins : Bool) (answer : Result (Unit {0}) NodeFault)
-    → new ≡ grown between (node_of e) (arrived_by_event up e) (made_by (node_of e) told begins) → begins ≡ begins_by_event up e answer → up ≡ is_up → between ≡ old
-    → new ≡ grown old (node_of e) (arrived_by_event is_up e) (made_by (node_of e) told (begins_by_event is_up e answer))
-recorded e up is_up between old new told begins answer is begun runs same =
-    is ∙ (ap (λ b. grown between (node_of e) (arrived_by_event up e) (made_by (node_of e) told b)) begun
-    ∙ (ap (λ u. grown between (node_of e) (arrived_by_event u e) (made_by (node_of e) told (begins_by_event u e answer))) runs
-    ∙ ap (λ (all : Record). grown all (node_of e) (arrived_by_event is_up e) (made_by (node_of e) told (begins_by_event is_up e answer))) same))
+recorded : (e : Event) (up is_up : Bool) (front is_front : ℕ) (between old new : Record) (told : Told) (begins : Bool) (answer : Result (Unit {0}) NodeFault)
+    → new ≡ grown between (node_of e) (arrived_by_event up front e) (made_by (node_of e) told begins) → begins ≡ begins_by_event up e answer → up ≡ is_up → front ≡ is_front
+    → between ≡ old
+    → new ≡ grown old (node_of e) (arrived_by_event is_up is_front e) (made_by (node_of e) told (begins_by_event is_up e answer))
+recorded e up is_up front is_front between old new told begins answer is begun runs fronts same =
+    is ∙ (ap (λ b. grown between (node_of e) (arrived_by_event up front e) (made_by (node_of e) told b)) begun
+    ∙ (ap (λ u. grown between (node_of e) (arrived_by_event u front e) (made_by (node_of e) told (begins_by_event u e answer))) runs
+    ∙ (ap (λ n. grown between (node_of e) (arrived_by_event is_up n e) (made_by (node_of e) told (begins_by_event is_up e answer))) fronts
+    ∙ ap (λ (all : Record). grown all (node_of e) (arrived_by_event is_up is_front e) (made_by (node_of e) told (begins_by_event is_up e answer))) same)))
 
 -- the event's node is one of these
 pub node_in : {N : Type 0} (plan : Plan) (nodes : List N) (e : Event) → length nodes ≡ length plan.sources → IsForMatch plan e → node_of e < length nodes
 node_in plan nodes e count is_for = subst (λ n. node_of e < n) (sym count) (node_within (length plan.sources) plan.setting.game.players e is_for)
 
 module _ {D : Type 0} where
-  -- by a call of a node that was seen to run before it was given the event
-  pub record_gained : (nodes : List (Node D)) (e : Event) (i : ℕ) (seen old : Node D) (up : Bool) (between before new : Record) (told : Told) (begins : Bool) (answer : Result (Unit {0}) NodeFault)
-      → i ≡ node_of e → node_of e < length nodes → seen ≡ get_or nodes i seen → old ≡ get_or nodes i old → up ≡ runs seen
-      → new ≡ grown between (node_of e) (arrived_by_event up e) (made_by (node_of e) told begins) → begins ≡ begins_by_event up e answer → between ≡ before
-      → new ≡ grown before (node_of e) (arrived_by_event (runs old) e) (made_by (node_of e) told (begins_by_event (runs old) e answer))
-  record_gained nodes e i seen old up between before new told begins answer is less read again is_up grew begun same =
+  -- by a call of a node whose running and whose front were seen before it was given the event
+  pub record_gained : (nodes : List (Node D)) (e : Event) (i : ℕ) (seen looked old : Node D) (up : Bool) (front : ℕ) (between before new : Record) (told : Told) (begins : Bool) (answer : Result (Unit {0}) NodeFault)
+      → i ≡ node_of e → node_of e < length nodes → seen ≡ get_or nodes i seen → looked ≡ get_or nodes i looked → old ≡ get_or nodes i old → up ≡ runs seen → front ≡ front_in looked
+      → new ≡ grown between (node_of e) (arrived_by_event up front e) (made_by (node_of e) told begins) → begins ≡ begins_by_event up e answer → between ≡ before
+      → new ≡ grown before (node_of e) (arrived_by_event (runs old) (front_in old) e) (made_by (node_of e) told (begins_by_event (runs old) e answer))
+  record_gained nodes e i seen looked old up front between before new told begins answer is less read looked_at again is_up is_front grew begun same =
       let within : i < length nodes = subst (λ k. k < length nodes) (sym is) less in
-      recorded e up (runs old) between before new told begins answer grew begun (is_up ∙ ap (runs {D = D}) (same_node nodes i seen old within read again)) same
+      recorded e up (runs old) front (front_in old) between before new told begins answer grew begun (is_up ∙ ap (runs {D = D}) (same_node nodes i seen old within read again))
+      (is_front ∙ ap (front_in {D = D}) (same_node nodes i looked old within looked_at again)) same
 
 module _ {D : Type 0} (g : Ghosts D) where
   -- one event, by the node that it was given to
   pub stepped_to : (old new : View (Node D)) (e : Event) (answer : Result (Unit {0}) NodeFault) (before after : Node D) (told : Told) (i : ℕ) → i ≡ node_of e
       → new.config ≡ old.config → new.opened ≡ old.opened → length old.nodes ≡ length old.config.sources → IsForMatch old.config e
-      → before ≡ get_or old.nodes i before → new.nodes ≡ set old.nodes i after → IsGiven g e before after told answer → Gains e (runs before) told old new answer
+      → before ≡ get_or old.nodes i before → new.nodes ≡ set old.nodes i after → IsGiven g e before after told answer → Gains e (runs before) (front_in before) told old new answer
       → Stepped g old e answer new
   stepped_to old new e answer before after told i is same_config same_opened count is_for read put given gains = record {
     same_config = same_config;

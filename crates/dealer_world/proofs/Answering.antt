@@ -6,10 +6,10 @@ use denote.Struct.Props.{props}
 use Rattle.std.proofs.lemmas.List.{append-nil, get_or_default}
 use Rattle.promise_store.specs.declared.disk.Disk.{Ghosts}
 use Rattle.protocol_model.specs.Stores.{Store, empty_store}
-use Rattle.node_rules.specs.Standings.{Place, Standing, place_of, stopped}
+use Rattle.node_rules.specs.Standings.{Place, Standing, place_of, front_of, stopped}
 use Rattle.node_rules.specs.Sending.{Frame as Outgoing}
 use Rattle.node_rules.specs.Showing.{Piece as Shown, SeatFault}
-use Rattle.node_rules.specs.Turns.{Refusal, Down, Spent, BadFrame, Conflict}
+use Rattle.node_rules.specs.Turns.{Refusal, Down, Spent, BadFrame, Conflict, NothingToAct}
 use Rattle.node_rules.specs.Calls.{Call}
 use Rattle.node_rules.specs.Rules.{IsTurn}
 use Rattle.node_rules.specs.Called.{Ends, took, refused, failed, unchanged}
@@ -18,7 +18,7 @@ use Rattle.dealer_node.specs.declared.fault.NodeFault.{NodeFault}
 use Rattle.dealer_node.specs.declared.fault.NodeFault.TheVariants as fault
 use Rattle.dealer_node.specs.Outs.{Told, nothing_told}
 use Rattle.dealer_node.specs.Posts.{place_at}
-use Rattle.dealer_node.specs.Seeing.{post_in, runs, IsSeen}
+use Rattle.dealer_node.specs.Seeing.{post_in, runs, front_in, IsSeen}
 use Rattle.dealer_node.specs.Taking.{Answered, refusal_fault}
 use Rattle.dealer_world.specs.declared.event.Event.{Event}
 use Rattle.dealer_world.specs.Records.{Record, Frame, Arrived}
@@ -31,7 +31,7 @@ use Rattle.dealer_world.specs.RuleRuns.{IsAddressed, RunsSendToNodes, RunsNeverC
 use Rattle.dealer_world.specs.Stepping.{View, Gains, nothing, call as gained, Stepped, arrived_by_event, begins_by_event}
 use Rattle.dealer_world.specs.Promise.{IsForMatch, AreAddressed, NeverConflicts}
 use Rattle.dealer_world.specs.Ruling.{ArePosted, IsBehind}
-use Rattle.dealer_world.proofs.Ruled.{err_is, arrives, same_count, seen_at, seated}
+use Rattle.dealer_world.proofs.Ruled.{err_is, arrives, front_seen, same_count, seen_at, seated}
 
 addressed_prop : (n : ℕ) (frame : Frame) → IsProp (IsAddressed n frame)
 addressed_prop n frame = hlevel props
@@ -42,6 +42,7 @@ fault_of Down e = absurd cc
 fault_of Spent e = absurd cc
 fault_of (BadFrame why) e = absurd cc
 fault_of (Conflict store) e = (store, refl)
+fault_of NothingToAct e = absurd cc
 
 -- a call that was answered so was refused so
 refused_so : (place : Place) (s : Standing) (called : Call) (after : Standing) (frames : List Outgoing) (shown : List Shown) (faults : List SeatFault) (answer : Result (Unit {0}) NodeFault)
@@ -54,10 +55,10 @@ refused_so place s called after frames shown faults answer is (failed outcome be
 refused_so place s called after frames shown faults answer is (unchanged a b c) (told, inl none) = absurd (let e = err_is _ _ answer none is in cc)
 refused_so place s called after frames shown faults answer is (unchanged a b c) (told, inr (start, err)) = absurd (let e = err_is _ _ answer err is in cc)
 
-pub all_is : {N : Type 0} (e : Event) (is_up : Bool) (told : Told) (old new : View N) (answer : Result (Unit {0}) NodeFault) → Gains e is_up told old new answer → (answer ≡ Err fault.OutOfMemory → ⊥)
-    → new.all ≡ grown old.all (node_of e) (arrived_by_event is_up e) (made_by (node_of e) told (begins_by_event is_up e answer))
-all_is e is_up told old new answer (nothing a none_left all last) ample = absurd (ample none_left)
-all_is e is_up told old new answer (gained a some all last) ample = all
+pub all_is : {N : Type 0} (e : Event) (is_up : Bool) (front : ℕ) (told : Told) (old new : View N) (answer : Result (Unit {0}) NodeFault) → Gains e is_up front told old new answer → (answer ≡ Err fault.OutOfMemory → ⊥)
+    → new.all ≡ grown old.all (node_of e) (arrived_by_event is_up front e) (made_by (node_of e) told (begins_by_event is_up e answer))
+all_is e is_up front told old new answer (nothing a none_left all last) ample = absurd (ample none_left)
+all_is e is_up front told old new answer (gained a some all last) ample = all
 
 is_an_err : (answer : Result (Unit {0}) NodeFault) (why : NodeFault) → answer ≡ Err why → IsErr answer
 is_an_err answer why is = subst (λ (r : Result (Unit {0}) NodeFault). IsErr r) (sym is) refl
@@ -98,9 +99,11 @@ module _ {D : Type 0} (g : Ghosts D) where
       placed (takes.ends, takes.answered) in
       let turn = refused_so (place_of old.config i) s called takes.after takes.frames takes.shown takes.faults answer is moved.0 moved.1 in
       let ample : answer ≡ Err fault.OutOfMemory → ⊥ = (λ none. let other = err_is _ _ answer is none in cc) in
-      let all = all_is e (runs stepped.before) stepped.told old new answer stepped.gains ample in
-      let came : arrived_by_event (runs stepped.before) e ≡ arrived_at s.up i called = arrives (runs stepped.before) e t.0 ∙ ap (λ u. arrived_at u i called) (tells stepped.before s seen) in
-      let clean = unforged_with old.all i stepped.told (begins_by_event (runs stepped.before) e answer) (arrived_by_event (runs stepped.before) e) (arrived_at s.up i called)
+      let all = all_is e (runs stepped.before) (front_in stepped.before) stepped.told old new answer stepped.gains ample in
+      let came : arrived_by_event (runs stepped.before) (front_in stepped.before) e ≡ arrived_at s.up i (front_of s) called =
+      arrives (runs stepped.before) (front_in stepped.before) e t.0 ∙ (ap (λ u. arrived_at u i (front_in stepped.before) called) (tells stepped.before s seen)
+      ∙ ap (λ n. arrived_at s.up i n called) (front_seen g stepped.before s seen)) in
+      let clean = unforged_with old.all i stepped.told (begins_by_event (runs stepped.before) e answer) (arrived_by_event (runs stepped.before) (front_in stepped.before) e) (arrived_at s.up i (front_of s) called)
       (stepped.given.stays.unmade (is_an_err answer fault.Conflict is)) came (subst (λ (now : Record). IsUnforged now.sent now.delivered) all unforged) in
       law old.config.setting (length old.config.sources) before old.config.sources (record { standings = ruled.standings; now = old.all }) i s called turn.0 ruled.runs below
       (get_or_default ruled.standings i s d below) (seated (length old.config.sources) old.config.setting.game.players e t.0 is_for) clean turn.1))

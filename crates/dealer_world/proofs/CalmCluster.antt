@@ -35,7 +35,7 @@ use Rattle.dealer_node.specs.declared.fault.NodeFault.{NodeFault}
 use Rattle.dealer_node.specs.declared.fault.NodeFault.TheVariants as fault
 use Rattle.dealer_node.specs.Posts.{Post, place_at}
 use Rattle.dealer_node.specs.declared.up.Up.{Up}
-use Rattle.dealer_node.specs.Seeing.{post_in, runs, IsSeenBy, IsSeen, failures_of}
+use Rattle.dealer_node.specs.Seeing.{post_in, runs, IsSeenBy, IsSeen, failures_of, front_in}
 use Rattle.dealer_node.specs.Taking.{Answered}
 use Rattle.dealer_world.specs.declared.event.Event.{Event}
 use Rattle.dealer_world.specs.declared.event.Event.TheVariants as event
@@ -47,7 +47,7 @@ use Rattle.dealer_world.specs.Stepping.{View, Stepped, Ran, none, more, arrived_
 use Rattle.dealer_world.specs.Ruling.{ArePosted, AreSeen, IsBehind}
 use Rattle.dealer_world.specs.CalmRun.{standing_at, IsUntroubled, TakesEvent, TakesEvents, RoundsMoveOn}
 use Rattle.dealer_world.specs.CalmCluster.{IsEvent, AreEvents, HaveNotFailed, MovesOn}
-use Rattle.dealer_world.proofs.Ruled.{ruled_by, same_count, seen_at, seen_set}
+use Rattle.dealer_world.proofs.Ruled.{ruled_by, front_seen, same_count, seen_at, seen_set}
 use Rattle.dealer_world.proofs.Advancing.{same_place}
 use Rattle.dealer_world.proofs.Answering.{all_is, TellsUp}
 
@@ -73,6 +73,7 @@ same_node (event.Frame from to bytes) (Delivers sender receiver spelled) is = is
 same_node (event.Line node seat bytes) other is = absurd is
 same_node (event.Tick number) (Ticks node) is = is
 same_node (event.Tick number) (Delivers sender receiver spelled) is = absurd is
+same_node (event.Away node) other is = absurd is
 same_node (event.Connect node seat) other is = absurd is
 same_node (event.Drop node seat) other is = absurd is
 same_node (event.Stop node pick) other is = absurd is
@@ -84,6 +85,7 @@ same_call (event.Frame from to bytes) (Delivers sender receiver spelled) found i
 same_call (event.Line node seat bytes) other found is = absurd is
 same_call (event.Tick number) (Ticks node) found is = refl
 same_call (event.Tick number) (Delivers sender receiver spelled) found is = absurd is
+same_call (event.Away node) other found is = absurd is
 same_call (event.Connect node seat) other found is = absurd is
 same_call (event.Drop node seat) other found is = absurd is
 same_call (event.Stop node pick) other found is = absurd is
@@ -228,6 +230,7 @@ is_seated : (players : ℕ) (e : Event) (y : calm.Event) (found : Store) → IsE
 is_seated players (event.Frame from to bytes) y found is = tt
 is_seated players (event.Line node seat bytes) y found is = absurd is
 is_seated players (event.Tick number) y found is = tt
+is_seated players (event.Away node) y found is = absurd is
 is_seated players (event.Connect node seat) y found is = absurd is
 is_seated players (event.Drop node seat) y found is = absurd is
 is_seated players (event.Stop node pick) y found is = absurd is
@@ -269,13 +272,13 @@ module _ {D : Type 0} (g : Ghosts D) where
             before = s;
             at = get_or_default standings i s d (subst (λ n. i < n) count less);
             called = called;
-            arrived = arrived_by_event (runs stepped.before) e;
+            arrived = arrived_by_event (runs stepped.before) (front_in stepped.before) e;
             made = made_by i stepped.told (begins_by_event (runs stepped.before) e answer);
             after = takes.after;
-            ruled = ruled_by (place_of plan i) s e t.0 takes.after takes.frames takes.shown takes.faults answer stepped.told (runs stepped.before) refl (up stepped.before s seen) ample
+            ruled = ruled_by (place_of plan i) s e t.0 takes.after takes.frames takes.shown takes.faults answer stepped.told (runs stepped.before) (front_in stepped.before) refl (up stepped.before s seen) (front_seen g stepped.before s seen) ample
                 (is_seated plan.setting.game.players e y t.0 is) moved.0 moved.1 takes.told takes.fits;
             standings = refl;
-            grows = all_is e (runs stepped.before) stepped.told old new answer stepped.gains ample;
+            grows = all_is e (runs stepped.before) (front_in stepped.before) stepped.told old new answer stepped.gains ample;
           };
           node = same_node e y is;
           called = same_call e y t.0 is;

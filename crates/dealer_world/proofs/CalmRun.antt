@@ -76,7 +76,7 @@ pub record Turned (place : Place) (s : Standing) (called : Call) (after : Standi
   pub rule : IsTurn place s called (Ok turn)
   pub after_is : after ≡ turn.after
   pub frames_are : frames ≡ turn.frames
-  pub came : arrived ≡ arrived_at s.up place.node called
+  pub came : arrived ≡ arrived_at s.up place.node (front_of s) called
 
 turned : (place : Place) (s : Standing) (called : Call) (after : Standing) (frames : List Outgoing) (shown : List Shown) (ends : Ends place s called after frames shown) (arrived : List Arrived) (began : Bool)
     → ((refusal : Refusal) → IsTurn place s called (Err refusal) → ⊥)
@@ -87,14 +87,14 @@ turned place s called after frames shown (failed outcome begun up rule b e f g) 
 turned place s called after frames shown (unchanged e f g) arrived began never is keeps = absurd is
 
 -- what it brings was sent
-brought : (event : Event) (sent : List Sent) (frames : List Frame) (up : Bool) (what : Arrived) → IsOnItsWay sent event → IsRecorded sent frames → In what (arrived_at up (node_of event) (call_of event))
+brought : (event : Event) (sent : List Sent) (frames : List Frame) (up : Bool) (front : ℕ) (what : Arrived) → IsOnItsWay sent event → IsRecorded sent frames → In what (arrived_at up (node_of event) front (call_of event))
     → IsAmong frames what
-brought (Ticks node) sent frames true what way known h = absurd h
-brought (Ticks node) sent frames false what way known h = absurd h
-brought (Delivers from to bytes) sent frames false what way known h = absurd h
-brought (Delivers from to bytes) sent frames true what (message, same, here) known (inl e) =
+brought (Ticks node) sent frames true front what way known h = absurd h
+brought (Ticks node) sent frames false front what way known h = absurd h
+brought (Delivers from to bytes) sent frames false front what way known h = absurd h
+brought (Delivers from to bytes) sent frames true front what (message, same, here) known (inl e) =
     subst (IsAmong frames) (sym e) (subst (λ (b : List ℕ). In (record { from = from; to = to; bytes = b }) frames) (sym same) (known (record { from = from; to = to; message = message }) here))
-brought (Delivers from to bytes) sent frames true what way known (inr none) = absurd none
+brought (Delivers from to bytes) sent frames true front what way known (inr none) = absurd none
 
 -- what is placed now
 placed_what : (count : ℕ) (arrived : List Arrived) (arrival : Arrival) → In arrival (map (placed_at count) arrived) → In arrival.what arrived × (arrival.sent_before ≡ count)
@@ -173,9 +173,9 @@ further plan IsSo event events st sent old new on (way, goes) t =
     let back : AreReadBack g.0.frames = subst AreReadBack frames (written_reads s.node s.ruled.frames s.made.frames s.ruled.written) in
     let after : s.after ≡ g.0.after = r.after_is ∙ ap (λ (x : Turn). x.after) same in
     let among : (what : Arrived) → In what s.arrived → IsAmong old.now.sent what =
-    (λ what h. brought event sent old.now.sent s.before.up what way on.known
-    (subst (λ (n : ℕ). In what (arrived_at s.before.up n (call_of event))) t.node
-    (subst (λ (c : Call). In what (arrived_at s.before.up s.node c)) t.called (subst (In what) r.came h)))) in
+    (λ what h. brought event sent old.now.sent s.before.up (front_of s.before) what way on.known
+    (subst (λ (n : ℕ). In what (arrived_at s.before.up n (front_of s.before) (call_of event))) t.node
+    (subst (λ (c : Call). In what (arrived_at s.before.up s.node (front_of s.before) c)) t.called (subst (In what) r.came h)))) in
     record {
       st = put st (node_of event) g.0.after;
       sent = sent_by (node_of event) g.0.frames ++ sent;

@@ -6,7 +6,7 @@ use Rattle.std.proofs.lemmas.Slice.Eq.{bytes_eq-Decides}
 use Rattle.card_core.specs.Deal.{IsDeal, player_count}
 use Rattle.deck_draw.specs.Deck.{drawn}
 use Rattle.slot_log.specs.declared.command.Command.{Command}
-use Rattle.slot_log.specs.declared.command.Command.TheVariants.{Deal, Act}
+use Rattle.slot_log.specs.declared.command.Command.TheVariants.{Deal, Act, Away}
 use Rattle.match_log.specs.Check.{DealsFairly}
 use Rattle.protocol_model.specs.Quorums.{IsChosen, AreChosen}
 use Rattle.dealer_kind.specs.Kind.{Setting}
@@ -60,6 +60,7 @@ chosen_fairly : DrawsAreDeals → (setting : Setting) (n : ℕ) (eras : List Era
     → (command : Command) → HasOrigin (dealer_in setting eras) n eras command → DealsFairly command
 chosen_fairly draws setting n eras few have (Deal hand deal) origin = fair setting.game.players deal (owned_deal draws setting eras origin.0 hand deal few have origin.2)
 chosen_fairly draws setting n eras few have (Act hand index action) origin = tt
+chosen_fairly draws setting n eras few have (Away hand index) origin = tt
 
 all_fairly : (n : ℕ) (eras : List Era) → ((slot : ℕ) (command : Command) → IsChosen n (said_in eras) slot command → DealsFairly command)
     → (commands : List Command) → AreChosen n (said_in eras) commands → AllByRecursion DealsFairly commands

@@ -342,14 +342,14 @@ number_of_no_text (below, rest) = let is : 2 < 2 = below in omega arith
 
 -- ---- events
 
-seat_arrives : (node_of (event.Connect 1 0) ≡ 1) × (brought_by (event.Connect 1 0) ≡ Connected 1 0 ∷ [])
+seat_arrives : (node_of (event.Connect 1 0) ≡ 1) × (brought_by 7 (event.Connect 1 0) ≡ Connected 1 0 ∷ [])
 seat_arrives = (refl, refl)
 
-tick_brings_nothing : brought_by (event.Tick 1) ≡ []
+tick_brings_nothing : brought_by 7 (event.Tick 1) ≡ []
 tick_brings_nothing = refl
 
 -- what comes to a node that is down doesn't arrive
-down_gets_nothing : (arrived_by_event false (event.Connect 1 0) ≡ []) × (arrived_by_event true (event.Connect 1 0) ≡ Connected 1 0 ∷ [])
+down_gets_nothing : (arrived_by_event false 7 (event.Connect 1 0) ≡ []) × (arrived_by_event true 7 (event.Connect 1 0) ≡ Connected 1 0 ∷ [])
 down_gets_nothing = (refl, refl)
 
 -- a start of a node that runs begins nothing, nor does one that fails

@@ -8,18 +8,19 @@ use Rattle.protocol_model.specs.Arrivals as model
 use Rattle.protocol_model.specs.Nodes.{Node as WorldNode}
 use Rattle.protocol_model.specs.Dealers.{Dealer}
 use Rattle.protocol_model.specs.Worlds.{World, Reached, IsAfter, new_world}
-use Rattle.dealer_world.specs.Records.{Record, Frame, Arrived, Delivered, Came, Connected, Dropped, Arrival, Start, log_in, log_of, start_count, last_start, said}
+use Rattle.dealer_world.specs.Records.{Record, Frame, Arrived, Delivered, Came, Connected, Dropped, Ordered, Arrival, Start, log_in, log_of, start_count, last_start, said}
 use Rattle.dealer_world.specs.Unforged.{IsUnforged, ArePlaced}
 use Rattle.dealer_world.specs.Hearing.{heard_by}
 use Rattle.dealer_world.specs.Headline.{Era, said_in}
 use Rattle.dealer_world.specs.Calls.{Made, Called, Calls, IsSound, IsOwn, frames_in, log_after, AreTold}
 use Rattle.dealer_world.specs.Views.{placed_at, starts_after, grown}
-use Rattle.dealer_world.specs.Behind.{Behind, EachNode, AreHeard, ArePieces, IsHeardNow}
-use Rattle.dealer_world.specs.Given.{Reaches}
+use Rattle.dealer_world.specs.Behind.{Behind, EachNode, AreHeard, ArePieces, IsHeardNow, AreOrdered}
+use Rattle.dealer_world.specs.Given.{Reaches, KnownIsChosen}
 use Rattle.protocol_model.proofs.Sets.{in_first, in_later, in_split}
 use Rattle.dealer_world.proofs.Saying.{said_append, in_said, unforged_before, came_was_sent}
 use Rattle.dealer_world.proofs.Pieces.{newest_first, log_own, log_other, log_before_it, pieces_more, begun_after, headers_after, count_own, count_after_other}
 use Rattle.dealer_world.proofs.Heard.{IsAt, hears, was_heard_on, others_at}
+use Rattle.dealer_world.proofs.Ordering.{orders_later}
 
 -- each node but one stays so
 each_later : {Node : Type 0} (IsSo WillBe : ℕ → Node → Type 0) (k : ℕ) (nodes : List Node)
@@ -54,6 +55,7 @@ frame_at i (Delivered first ∷ more) frame at (inr there) = frame_at i more fra
 frame_at i (Came node seat bytes ∷ more) frame at there = frame_at i more frame (λ what later. at what (inr later)) there
 frame_at i (Connected node seat ∷ more) frame at there = frame_at i more frame (λ what later. at what (inr later)) there
 frame_at i (Dropped node seat ∷ more) frame at there = frame_at i more frame (λ what later. at what (inr later)) there
+frame_at i (Ordered node front ∷ more) frame at there = frame_at i more frame (λ what later. at what (inr later)) there
 
 -- a frame that was sent is sound for the node that it goes to
 pub sound_of : {Node : Type 0} (IsOf : ℕ → Node → WorldNode → List ℕ → Type 0) (dealer : Dealer) (nodes : List Node) (now : Record) (before : List Era) (i : ℕ)
@@ -150,10 +152,10 @@ hears_later IsOf dealer n i world later log arrived made new delivered count bef
 
 pub extends : {Node : Type 0} (IsOf : ℕ → Node → WorldNode → List ℕ → Type 0) (dealer : Dealer) (i : ℕ) (nodes : List Node) (old new : Node) (arrived : List Arrived) (made : Made)
     (now : Record) (before : List Era)
-    → Reaches → i < length nodes → get_or nodes i old ≡ old → Calls IsOf dealer (length nodes) i old arrived made new
+    → Reaches → KnownIsChosen → i < length nodes → get_or nodes i old ≡ old → Calls IsOf dealer (length nodes) i old arrived made new
     → ((what : Arrived) → In what arrived → IsAt i what) → ((frame : Frame) → In frame (frames_in arrived) → In frame now.sent)
     → Behind IsOf dealer nodes now before → Behind IsOf dealer (set nodes i new) (grown now i arrived made) before
-extends IsOf dealer i nodes old new arrived made now before reach within at calls is_at were_sent b =
+extends IsOf dealer i nodes old new arrived made now before reach known within at calls is_at were_sent b =
     let n = length nodes in
     let zero_i : 0 + i ≡ i = omega arith in
     let log = log_of now.shown i (last_start now.starts i) in
@@ -239,16 +241,19 @@ extends IsOf dealer i nodes old new arrived made now before reach within at call
       headers = headers_after now i arrived made called.header b.headers;
       heard = heard.heard;
       heard_now = subst (λ m. IsHeardNow m later (now.delivered ++ map (placed_at (length now.sent)) arrived)) (sym (length-set nodes i new)) heard.now;
+      ordered = subst (λ m. AreOrdered m later.came (grown now i arrived made) before) (sym (length-set nodes i new))
+          (orders_later known dealer n i b.world later.came called.output.came made.began arrived made now before b.reached b.accepted
+          (elim called.came [ inl brings ↦ inl brings | inr none ↦ inr none.0 ]) after.came called.knew b.ordered);
     }
 
 -- A step's fact about the world, from the one before.
 pub stepped : {Node : Type 0} (IsOf : ℕ → Node → WorldNode → List ℕ → Type 0) (dealer : Dealer) (i : ℕ) (nodes : List Node) (old new : Node) (arrived : List Arrived) (made : Made)
     (now : Record) (before : List Era)
-    → Reaches → i < length nodes → get_or nodes i old ≡ old → Calls IsOf dealer (length nodes) i old arrived made new
+    → Reaches → KnownIsChosen → i < length nodes → get_or nodes i old ≡ old → Calls IsOf dealer (length nodes) i old arrived made new
     → ((what : Arrived) → In what arrived → IsAt i what) → ArePlaced now.sent now.delivered
     → (IsUnforged now.sent now.delivered → ∥ Behind IsOf dealer nodes now before ∥₁)
     → IsUnforged (grown now i arrived made).sent (grown now i arrived made).delivered
     → ∥ Behind IsOf dealer (set nodes i new) (grown now i arrived made) before ∥₁
-stepped IsOf dealer i nodes old new arrived made now before reach within at calls is_at placed behind unforged =
+stepped IsOf dealer i nodes old new arrived made now before reach known within at calls is_at placed behind unforged =
     ∥∥₁_map (behind (unforged_before now.sent made.frames now.delivered (map (placed_at (length now.sent)) arrived) placed unforged))
-    (extends IsOf dealer i nodes old new arrived made now before reach within at calls is_at (came_was_sent now.sent made.frames now.delivered arrived unforged))
+    (extends IsOf dealer i nodes old new arrived made now before reach known within at calls is_at (came_was_sent now.sent made.frames now.delivered arrived unforged))

@@ -51,6 +51,7 @@ module _ {D : Type 0} (g : Ghosts D) where
   nothing_of_disk (event.Frame from to bytes) node answer none = tt
   nothing_of_disk (event.Line number seat bytes) node answer none = tt
   nothing_of_disk (event.Tick number) node answer none = tt
+  nothing_of_disk (event.Away number) node answer none = tt
   nothing_of_disk (event.Connect number seat) node answer none = tt
   nothing_of_disk (event.Drop number seat) node answer none = tt
   nothing_of_disk (event.Stop number pick) node answer none = λ honest. subst (λ (a : Result (Unit {0}) NodeFault). OnOk a (StopsBy g pick node node)) (sym none) tt

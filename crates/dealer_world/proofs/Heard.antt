@@ -6,7 +6,7 @@ use Rattle.std.proofs.lemmas.Bool.{cases_eq}
 use Rattle.protocol_model.specs.Sets.{In, IsBeginning}
 use Rattle.protocol_model.specs.Arrivals as model
 use Rattle.protocol_model.proofs.Hearing.{none_own}
-use Rattle.dealer_world.specs.Records.{Arrived, Delivered, Came, Connected, Dropped, Arrival}
+use Rattle.dealer_world.specs.Records.{Arrived, Delivered, Came, Connected, Dropped, Ordered, Arrival}
 use Rattle.dealer_world.specs.Hearing.{heard_after, heard_from, heard_by, WasHeard}
 use Rattle.dealer_world.specs.Headline.{Era, InSome}
 use Rattle.dealer_world.specs.Calls.{Brings, BringsAll}
@@ -153,12 +153,27 @@ then_on i came between all delivered now latest before first second = record {
   others = λ j seat ne. second.others j seat ne ∙ first.others j seat ne;
 }
 
+-- an arrival that is nothing to any seat
+unheard : (i : ℕ) (came : List model.Arrival) (delivered : List Arrival) (before : List Era) (placed : Arrival)
+    → ((j seat : ℕ) (heard : Option (List ℕ)) → heard_after placed.what j seat heard ≡ heard)
+    → AreHeard came delivered before → HearsOn i came came delivered (delivered ++ placed ∷ []) before
+unheard i came delivered before placed quiet heard = record {
+  heard = λ earlier node seat bytes beginning is. elim (heard earlier node seat bytes beginning is) [
+    | inl here ↦ inl (was_heard_on delivered (placed ∷ []) node seat bytes here)
+    | inr there ↦ inr there
+  ];
+  own = λ seat tells bytes is. heard_on None delivered (placed ∷ []) i seat ∙ (quiet i seat (heard_by delivered i seat) ∙ tells bytes is);
+  world_others = λ j seat ne. refl;
+  others = λ j seat ne. heard_on None delivered (placed ∷ []) j seat ∙ quiet j seat (heard_by delivered j seat);
+}
+
 -- an arrival at node i: of a node's own frames and seats only
 abbrev pub IsAt : ℕ → Arrived → Type 0
 IsAt i (Delivered frame) = frame.to ≡ i
 IsAt i (Came node seat bytes) = node ≡ i
 IsAt i (Connected node seat) = node ≡ i
 IsAt i (Dropped node seat) = node ≡ i
+IsAt i (Ordered node front) = node ≡ i
 
 hears_by : (i : ℕ) (what : Arrived) (count : ℕ) (out came : List model.Arrival) (delivered : List Arrival) (before : List Era) → IsAt i what
     → Brings i what (map (λ (arrival : model.Arrival). arrival.event) out)
@@ -166,15 +181,17 @@ hears_by : (i : ℕ) (what : Arrived) (count : ℕ) (out came : List model.Arriv
     → AreHeard came delivered before → HearsOn i came (out ++ came) delivered (delivered ++ placed_at count what ∷ []) before
 hears_by i (Delivered frame) count out came delivered before at brings now heard =
     subst (λ all. HearsOn i came (all ++ came) delivered (delivered ++ placed_at count (Delivered frame) ∷ []) before) (sym (no_event out brings))
-    (record {
-      heard = λ earlier node seat bytes beginning is. elim (heard earlier node seat bytes beginning is) [
-        | inl here ↦ inl (was_heard_on delivered (placed_at count (Delivered frame) ∷ []) node seat bytes here)
-        | inr there ↦ inr there
-      ];
-      own = λ seat tells bytes is. heard_on None delivered (placed_at count (Delivered frame) ∷ []) i seat ∙ tells bytes is;
-      world_others = λ j seat ne. refl;
-      others = λ j seat ne. heard_on None delivered (placed_at count (Delivered frame) ∷ []) j seat;
-    })
+    (unheard i came delivered before (placed_at count (Delivered frame)) (λ j seat h. refl) heard)
+hears_by i (Ordered node front) count out came delivered before at brings now heard = elim brings [
+  | inl one ↦
+      let found = one_event out (model.Ordered node front) one in
+      subst (λ all. HearsOn i came (all ++ came) delivered (delivered ++ placed_at count (Ordered node front) ∷ []) before) (sym found.1)
+      (one_alike i came delivered before found.0 (model.Ordered node front) (placed_at count (Ordered node front)) found.2
+      (λ j place h ne. refl) (λ j place h ne. refl) (λ place world told tells. tells) now heard)
+  | inr none ↦
+      subst (λ all. HearsOn i came (all ++ came) delivered (delivered ++ placed_at count (Ordered node front) ∷ []) before) (sym (no_event out none))
+      (unheard i came delivered before (placed_at count (Ordered node front)) (λ j seat h. refl) heard)
+]
 hears_by i (Connected node seat) count out came delivered before at brings now heard =
     let found = one_event out (model.Connected node seat) brings in
     subst (λ all. HearsOn i came (all ++ came) delivered (delivered ++ placed_at count (Connected node seat) ∷ []) before) (sym found.1)
@@ -265,6 +282,7 @@ what_other : (i j seat : ℕ) (what : Arrived) (heard : Option (List ℕ)) → I
 what_other i j seat (Delivered frame) heard at ne = refl
 what_other i j seat (Came node place bytes) heard at ne = none_own j node place seat (option_map (λ first. first ++ bytes) heard) heard (λ same. ne (same ∙ at))
 what_other i j seat (Connected node place) heard at ne = none_own j node place seat (Some []) heard (λ same. ne (same ∙ at))
+what_other i j seat (Ordered node front) heard at ne = refl
 what_other i j seat (Dropped node place) heard at ne = none_own j node place seat None heard (λ same. ne (same ∙ at))
 
 others_from : (i j seat count : ℕ) (arrived : List Arrived) (heard : Option (List ℕ)) → ((what : Arrived) → In what arrived → IsAt i what) → j ≢ i

@@ -21,11 +21,11 @@ use Rattle.dealer_kind.specs.Owning.{OwnsDeals, either}
 use Rattle.dealer_kind.specs.Sources.{owns, deal_of, is_deal, deals as deals_of}
 use Rattle.dealer_kind.specs.Plans.{Plan, IsPlan}
 use Rattle.dealer_kind.specs.declared.source.Source.{Source}
-use Rattle.node_rules.specs.Standings.{Place, Standing, place_of, deals_from, stopped}
+use Rattle.node_rules.specs.Standings.{Place, Standing, place_of, front_of, deals_from, stopped}
 use Rattle.node_rules.specs.Turns.{Turn, Refusal}
 use Rattle.std.specs.Prelude.{Result}
 use Rattle.node_rules.specs.Rules.{IsTurn, standing_after}
-use Rattle.node_rules.specs.Calls.{Call, Start, Tick, Line, Connect, Drop, Stop}
+use Rattle.node_rules.specs.Calls.{Call, Start, Tick, Away, Line, Connect, Drop, Stop}
 use Rattle.node_rules.specs.Calls as call
 use Rattle.node_rules.specs.Being.{IsPlace}
 use Rattle.node_rules.specs.Called.{Ends, took, refused, failed, unchanged}
@@ -38,15 +38,15 @@ use Rattle.dealer_world.specs.Views.{grown, placed_at}
 use Rattle.dealer_world.specs.Behind.{Behind, EachNode}
 use Rattle.dealer_world.specs.Openings.{BehindEras, LeftInside}
 use Rattle.dealer_world.specs.Runs.{Ruled, Keeps, IsSeated, arrived_at, arrived_by, IsOfRule}
-use Rattle.dealer_world.specs.Given.{Reaches, Given}
+use Rattle.dealer_world.specs.Given.{Reaches, KnownIsChosen, Given}
 use Rattle.dealer_world.specs.RuleRuns.{State, IsCreated, EndsAs, at_rest, in_a_call, AreReopened, plan_of, RunsTo, fresh, step, opened, RunsShowOneList, IsBacked, RunsAreBacked}
 use Rattle.protocol_model.proofs.Sets.{in_later}
 use Rattle.dealer_world.proofs.Saying.{in_said, unforged_before, placed_after, came_was_sent}
 use Rattle.dealer_world.proofs.Heard.{IsAt}
 use Rattle.dealer_world.proofs.Extends.{extends, each_at, frame_at, sound_of}
 use Rattle.dealer_world.proofs.Opening.{era_of, begins, no_eras, no_eras_world, behind_eras, broken_off, MayLeave, all_rest, widened}
-use Rattle.dealer_world.proofs.OneList.{IsOneDealer, ChosenAreDealtOrSaid, one_list_of}
-use Rattle.dealer_world.proofs.Ruling.{called_by_rule, comes_up, events_left}
+use Rattle.dealer_world.proofs.OneList.{IsOneDealer, IsOneChoice, ChosenAreDealtOrSaid, one_list_of}
+use Rattle.dealer_world.proofs.Ruling.{called_by_rule, knew_at, comes_up, events_left}
 
 -- ---- whose deals are whose
 
@@ -84,28 +84,30 @@ IsNode setting sources before i s there log = IsOfRule (own_of setting sources b
 
 -- ---- what arrived
 
-pub arrived_here : (i : ℕ) (up : Bool) (called : Call) (what : Arrived) → In what (arrived_at up i called) → IsAt i what
-arrived_here i false called what there = elim there [ ]
-arrived_here i true (Start found) what there = elim there [ ]
-arrived_here i true Tick what there = elim there [ ]
-arrived_here i true (call.Frame from bytes) what (inl is) = subst (IsAt i) (sym is) refl
-arrived_here i true (call.Frame from bytes) what (inr none) = elim none [ ]
-arrived_here i true (Line seat bytes) what (inl is) = subst (IsAt i) (sym is) refl
-arrived_here i true (Line seat bytes) what (inr none) = elim none [ ]
-arrived_here i true (Connect seat) what (inl is) = subst (IsAt i) (sym is) refl
-arrived_here i true (Connect seat) what (inr none) = elim none [ ]
-arrived_here i true (Drop seat) what (inl is) = subst (IsAt i) (sym is) refl
-arrived_here i true (Drop seat) what (inr none) = elim none [ ]
-arrived_here i true Stop what there = elim there [ ]
+pub arrived_here : (i front : ℕ) (up : Bool) (called : Call) (what : Arrived) → In what (arrived_at up i front called) → IsAt i what
+arrived_here i front false called what there = elim there [ ]
+arrived_here i front true (Start found) what there = elim there [ ]
+arrived_here i front true Tick what there = elim there [ ]
+arrived_here i front true Away what (inl is) = subst (IsAt i) (sym is) refl
+arrived_here i front true Away what (inr none) = elim none [ ]
+arrived_here i front true (call.Frame from bytes) what (inl is) = subst (IsAt i) (sym is) refl
+arrived_here i front true (call.Frame from bytes) what (inr none) = elim none [ ]
+arrived_here i front true (Line seat bytes) what (inl is) = subst (IsAt i) (sym is) refl
+arrived_here i front true (Line seat bytes) what (inr none) = elim none [ ]
+arrived_here i front true (Connect seat) what (inl is) = subst (IsAt i) (sym is) refl
+arrived_here i front true (Connect seat) what (inr none) = elim none [ ]
+arrived_here i front true (Drop seat) what (inl is) = subst (IsAt i) (sym is) refl
+arrived_here i front true (Drop seat) what (inr none) = elim none [ ]
+arrived_here i front true Stop what there = elim there [ ]
 
 at_node : (place : Place) (s : Standing) (called : Call) (arrived : List Arrived) (made : Made) (new : Standing) → Ruled place s called arrived made new
     → (what : Arrived) → In what arrived → IsAt place.node what
 at_node place s called arrived made new r what there = by_end r.ends r.keeps
   where
     by_end : (ends : Ends place s called new r.frames r.shown) → Keeps place s called new r.frames r.shown ends arrived made.began → IsAt place.node what
-    by_end (took turn turned same frames shown) (came, began) = arrived_here place.node s.up called what (subst (In what) came there)
-    by_end (refused refusal turn same frames shown) (came, began) = arrived_here place.node s.up called what (subst (In what) came there)
-    by_end (failed outcome begun up turn either same frames shown) (came, began) = arrived_here place.node s.up called what (subst (In what) came there)
+    by_end (took turn turned same frames shown) (came, began) = arrived_here place.node (front_of s) s.up called what (subst (In what) came there)
+    by_end (refused refusal turn same frames shown) (came, began) = arrived_here place.node (front_of s) s.up called what (subst (In what) came there)
+    by_end (failed outcome begun up turn either same frames shown) (came, began) = arrived_here place.node (front_of s) s.up called what (subst (In what) came there)
     by_end (unchanged same frames shown) (came, began) = elim (subst (In what) came there) [ ]
 
 -- ---- the calls of the rules, in the world
@@ -221,24 +223,24 @@ ended_at_rest setting sources before old begun reach b are =
     (λ i less. leaves_at_rest setting sources before i (get_or old.standings i d) (b.world.nodes i) _ (begun i) (each_here _ i old.standings d less b.are_of) (each_here _ i old.standings d less are))
     (λ i other less. (each_here _ i old.standings other less b.are_of).of.store)
 
-ended_in_a_call : (setting : Setting) (sources : List Source) (before : List Era) (old : State) (begun : ℕ → Store) (node : ℕ) (s : Standing) (called : Call) (outcome : Result Turn Refusal) → Reaches → AppendsAreBegun
+ended_in_a_call : (setting : Setting) (sources : List Source) (before : List Era) (old : State) (begun : ℕ → Store) (node : ℕ) (s : Standing) (called : Call) (outcome : Result Turn Refusal) → Reaches → KnownIsChosen → AppendsAreBegun
     → IsPlan (plan_of setting sources) → length old.standings ≡ length sources → node < length old.standings → get_or old.standings node s ≡ s → s.up ≡ true
     → IsSeated setting.game.players called → IsTurn (place_of (plan_of setting sources) node) s called outcome
-    → IsUnforged (grown old.now node (arrived_by node called) nothing_made).sent (grown old.now node (arrived_by node called) nothing_made).delivered
+    → IsUnforged (grown old.now node (arrived_by node (front_of s) called) nothing_made).sent (grown old.now node (arrived_by node (front_of s) called) nothing_made).delivered
     → begun node ≡ (standing_after (place_of (plan_of setting sources) node) s outcome).begun → EachNode (λ i other. i ≢ node → begun i ≡ other.begun) 0 old.standings
-    → BehindRules setting sources before old → Ended setting sources before old (era_of sources (grown old.now node (arrived_by node called) nothing_made) ∷ before) begun
-ended_in_a_call setting sources before old begun node s called outcome reach appends kept count less at up seated turn unforged begun_here others b =
+    → BehindRules setting sources before old → Ended setting sources before old (era_of sources (grown old.now node (arrived_by node (front_of s) called) nothing_made) ∷ before) begun
+ended_in_a_call setting sources before old begun node s called outcome reach known appends kept count less at up seated turn unforged begun_here others b =
     let own = own_of setting sources before in
     let dealer = dealer_of setting own in
     let place = place_of (plan_of setting sources) node in
-    let arrived = arrived_by node called in
+    let arrived = arrived_by node (front_of s) called in
     let within : node < length sources = subst (λ m. node < m) count less in
-    let is_at : (what : Arrived) → In what arrived → IsAt node what = λ what there. arrived_here node true called what there in
+    let is_at : (what : Arrived) → In what arrived → IsAt node what = λ what there. arrived_here node (front_of s) true called what there in
     let IsSo : ℕ → Standing → Type 0 = λ i k. IsNode setting sources before i k (b.world.nodes i) (log_of old.now.shown i (last_start old.now.starts i)) in
     let IsBegun : ℕ → Standing → Type 0 = λ i k. i ≢ node → begun i ≡ k.begun in
     let of = subst (IsSo node) at (each_here IsSo node old.standings s less b.are_of) in
     let stands : Stands own place b.world s = record { is_place = is_place setting sources before node kept within; reached = subst (λ m. Reached dealer m b.world) count b.reached; of = of.of } in
-    let comes = comes_up place b.world.ever called arrived seated refl (λ frame there.
+    let comes = comes_up place (front_of s) b.world.ever called arrived seated refl (λ frame there.
     subst (λ m. IsSound m node b.world.ever frame) count
     (sound_of (IsNode setting sources before) dealer old.standings old.now before node b frame (came_was_sent old.now.sent [] old.now.delivered arrived unforged frame there) (frame_at node arrived frame is_at there))) in
     let begins = appends own place b.world s called outcome stands comes up turn in
@@ -249,9 +251,10 @@ ended_in_a_call setting sources before old begun node s called outcome reach app
       left = subst (IsLeft node begins.last) (sym begun_here) begins.left;
       none_accepted = begins.unaccepted;
       none_shown = begins.unshown;
-      came = events_left node called begins.output.came begins.happened;
+      knew = λ other front there. knew_at own place b.world s called other front of.of up there;
+      came = events_left node (front_of s) called begins.output.came begins.happened;
     } in
-    let bo = broken_off (IsNode setting sources before) dealer old.standings old.now sources before node arrived (begun node) reach less is_at b (λ some. of.of.up ∙ up) inside in
+    let bo = broken_off (IsNode setting sources before) dealer old.standings old.now sources before node arrived (begun node) reach known less is_at b (λ some. of.of.up ∙ up) inside in
     let d : Standing = stopped (place_of (plan_of setting sources) 0) empty_store empty_store in
     ended_by setting sources before old (era_of sources (grown old.now node arrived nothing_made) ∷ before) begun reach bo.behind
     (λ i below. elim (cases_eq i node) [
@@ -291,9 +294,9 @@ ended_as laws setting n before sources old latest begun was (at_rest all each) s
     (ended_at_rest setting sources before old begun laws.reach (was.behind (subst (λ (r : Record). IsUnforged r.sent r.delivered) all unforged)) each)
 ended_as laws setting n before sources old latest begun was (in_a_call node s called outcome less at up seated turn all begun_here others) same unforged =
     let now_unforged = subst (λ (r : Record). IsUnforged r.sent r.delivered) all unforged in
-    subst (λ (era : Era). Ended setting sources before old (era ∷ before) begun) (era_is latest sources (grown old.now node (arrived_by node called) nothing_made) same all)
-    (ended_in_a_call setting sources before old begun node s called outcome laws.reach laws.appends was.plan (was.count ∙ sym was.sources_are) less at up seated turn now_unforged begun_here others
-    (was.behind (unforged_before old.now.sent [] old.now.delivered (map (placed_at (length old.now.sent)) (arrived_by node called)) was.placed now_unforged)))
+    subst (λ (era : Era). Ended setting sources before old (era ∷ before) begun) (era_is latest sources (grown old.now node (arrived_by node (front_of s) called) nothing_made) same all)
+    (ended_in_a_call setting sources before old begun node s called outcome laws.reach laws.known laws.appends was.plan (was.count ∙ sym was.sources_are) less at up seated turn now_unforged begun_here others
+    (was.behind (unforged_before old.now.sent [] old.now.delivered (map (placed_at (length old.now.sent)) (arrived_by node (front_of s) called)) was.placed now_unforged)))
 
 begun_behind : (setting : Setting) (others : List Source) (eras : List Era) (dealer : Dealer) (m : ℕ) (standings : List Standing) → length standings ≡ m → (be : BehindEras dealer m eras)
     → ((i : ℕ) → i < m → (be.world.nodes i).up ≡ false) → EachNode (λ i t. IsNode setting others eras i t (be.world.nodes i) []) 0 standings
@@ -350,7 +353,7 @@ run_keeps laws setting n _ _ _ (step before sources old state run s) =
           let now_unforged : IsUnforged (grown old.now s.node s.arrived s.made).sent (grown old.now s.node s.arrived s.made).delivered = subst (λ (now : Record). IsUnforged now.sent now.delivered) s.grows unforged in
           subst (λ (standings : List Standing). Behind (IsNode setting sources before) dealer standings state.now before) (sym s.standings)
           (subst (λ (now : Record). Behind (IsNode setting sources before) dealer (set old.standings s.node s.after) now before) (sym s.grows)
-          (extends (IsNode setting sources before) dealer s.node old.standings s.before s.after s.arrived s.made old.now before laws.reach s.is_node s.at
+          (extends (IsNode setting sources before) dealer s.node old.standings s.before s.after s.arrived s.made old.now before laws.reach laws.known s.is_node s.at
           (calls_by_rule setting sources before (length old.standings) s.node s.before s.called s.arrived s.made s.after laws.calls laws.refused_down was.plan (was.count ∙ sym was.sources_are) s.is_node s.ruled)
           (at_node (place_of (plan_of setting sources) s.node) s.before s.called s.arrived s.made s.after s.ruled)
           (came_was_sent old.now.sent s.made.frames old.now.delivered s.arrived now_unforged)
@@ -368,11 +371,11 @@ run_keeps laws setting n _ _ _ (opened before sources old latest begun others st
       behind = λ now_unforged. opened_behind laws setting before sources old latest begun others state same (ended_as laws setting n before sources old latest begun was ends same unforged) reopened empty;
     }
 
-pub runs_show_one_list : Given → IsOneDealer → ChosenAreDealtOrSaid → RunsShowOneList
-runs_show_one_list laws one_dealer dealt setting n before sources state run unforged =
+pub runs_show_one_list : Given → IsOneDealer → IsOneChoice → ChosenAreDealtOrSaid → RunsShowOneList
+runs_show_one_list laws one_dealer one_choice dealt setting n before sources state run unforged =
     let was = run_keeps laws setting n before sources state run in
     subst (λ m. OneList (dealer_in setting (era_of sources state.now ∷ before)) m (era_of sources state.now ∷ before)) was.count
-    (one_list_of (IsNode setting sources before) setting state.standings (era_of sources state.now) before one_dealer dealt was.deals (was.behind unforged))
+    (one_list_of (IsNode setting sources before) setting state.standings (era_of sources state.now) before one_dealer one_choice dealt was.deals (was.behind unforged))
 
 -- ---- what was said is backed
 

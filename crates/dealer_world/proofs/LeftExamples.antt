@@ -1,5 +1,6 @@
--- Files from which a cluster may be opened, after a stop inside an append; and files from which none may, since a promise is lost.
-use Rattle.std.proofs.Common.{◌≡◌, ◌≢◌, ℕ, zero, suc, ◌<◌, inl, inr, true, List, [], ◌∷◌, ◌++◌, length, get_or, set, length-set, length-append, Err, Result, refl, ap, sym, ◌∙◌, subst, arith}
+-- Files from which a cluster may be opened, after a stop inside an append or as new stores; and files from which none may, since a promise is lost or a
+-- store isn't new.
+use Rattle.std.proofs.Common.{◌≡◌, ◌≢◌, ◌⊎◌, ℕ, zero, suc, ◌<◌, inl, inr, true, List, [], ◌∷◌, ◌++◌, length, get_or, set, length-set, length-append, Err, Result, refl, ap, sym, ◌∙◌, subst, arith}
 use Rattle.std.proofs.Math.Logic.{∥∥₁_elim}
 use Rattle.std.proofs.lemmas.List.{get_or-set_same, get_or-set_other}
 use Rattle.std.proofs.lemmas.Bool.{cases_eq}
@@ -24,7 +25,7 @@ use Rattle.dealer_kind.specs.Plans.{Plan, IsPlan}
 use Rattle.dealer_kind.specs.Sources.{HasDeals}
 use Rattle.dealer_kind.specs.declared.source.Source.{Source}
 use Rattle.dealer_kind.specs.declared.source.Source.TheVariants.{Seed}
-use Rattle.node_rules.specs.Standings.{Standing, place_of, stopped, started}
+use Rattle.node_rules.specs.Standings.{Standing, place_of, stopped, started, front_of}
 use Rattle.node_rules.specs.Calls.{Call, Start, Tick}
 use Rattle.node_rules.specs.Turns.{Turn, Refusal, and_then}
 use Rattle.node_rules.specs.Proposing.{ticking, closing}
@@ -37,7 +38,7 @@ use Rattle.dealer_node.specs.declared.fault.NodeFault.TheVariants as fault
 use Rattle.dealer_world.specs.declared.event.Event.TheVariants as event
 use Rattle.dealer_world.specs.Stepping.{View, MakesOfDisk, none}
 use Rattle.dealer_world.specs.Promise.{IsForMatch, WasReached}
-use Rattle.dealer_world.specs.Beginning.{IsFirstNoStore, IsUnopened}
+use Rattle.dealer_world.specs.Beginning.{HaveStores, IsFirstNoStore, IsUnopened}
 use Rattle.dealer_world.specs.Records.{Record, Frame, no_record, said_by}
 use Rattle.dealer_world.specs.Unforged.{IsUnforged}
 use Rattle.dealer_world.specs.Headline.{Era}
@@ -55,7 +56,7 @@ use Rattle.dealer_world.proofs.ListExamples.{prepare, prepare_said}
 abbrev sources : List Source
 sources = Seed 7 ∷ Seed 8 ∷ Seed 9 ∷ []
 
-abbrev plan : Plan
+abbrev pub plan : Plan
 plan = plan_of setting sources
 
 is_plan : IsPlan plan
@@ -144,13 +145,13 @@ abbrev begun : ℕ → Store
 begun zero = next
 begun (suc node) = empty_store
 
-abbrev with_promise : List ℕ
+abbrev pub with_promise : List ℕ
 with_promise = 72 ∷ 68 ∷ 74 ∷ 49 ∷ 0 ∷ 3 ∷ 0 ∷ 0 ∷ 1 ∷ 0 ∷ 6 ∷ 1 ∷ 0 ∷ 0 ∷ 0 ∷ 1 ∷ 0 ∷ 0 ∷ []
 
-abbrev created : ℕ → List ℕ
+abbrev pub created : ℕ → List ℕ
 created node = 72 ∷ 68 ∷ 74 ∷ 49 ∷ node ∷ 3 ∷ 0 ∷ 0 ∷ 0 ∷ []
 
-stands_created : (node : ℕ) → StandsFor (header node 3) (created node) empty_store
+pub stands_created : (node : ℕ) → StandsFor (header node 3) (created node) empty_store
 stands_created node = record { records = []; journal = record { gate = 0; rest = []; shut = λ e. omega (arith, e); each = tt; text = refl }; is = refl }
 
 stands_promised : StandsFor (header 0 3) with_promise next
@@ -164,9 +165,9 @@ stands_promised = record {
 abbrev era : Era
 era = record { sources = sources; record_of = grown begun_state.now 0 [] nothing_made }
 
--- the promise went through; the other two have the stores that were made
-goes_on_from_a_stop : GoesOn true setting 3 (era ∷ []) (with_promise ∷ created 1 ∷ created 2 ∷ [])
-goes_on_from_a_stop = ∣ (a_run (record {
+-- node 0 was stopped inside that append, with a file that stands for the store before it or for the one behind it; the other two have the stores that were made
+goes_on_with : (file : List ℕ) → StandsFor (header 0 3) file empty_store ⊎ StandsFor (header 0 3) file next → GoesOn true setting 3 (era ∷ []) (file ∷ created 1 ∷ created 2 ∷ [])
+goes_on_with file stands = ∣ (a_run (record {
   before = [];
   latest = era;
   are = refl;
@@ -177,24 +178,27 @@ goes_on_from_a_stop = ∣ (a_run (record {
   ends = in_a_call 0 first_node Tick ticked (omega arith) refl refl tt refl refl refl ((λ ne. absurd (ne refl)), ((λ ne. refl), ((λ ne. refl), tt)));
   same = refl;
   unforged = λ arrival there. elim there [ ];
-  held = (inr stands_promised, (inl (stands_created 1), (inl (stands_created 2), tt)));
+  held = (stands, (inl (stands_created 1), (inl (stands_created 2), tt)));
 })) ∣₁
 
--- it didn't: the disks as they were made go on as well
+-- the append went through
+goes_on_from_a_stop : GoesOn true setting 3 (era ∷ []) (with_promise ∷ created 1 ∷ created 2 ∷ [])
+goes_on_from_a_stop = goes_on_with with_promise (inr stands_promised)
+
+-- a part of its bytes is there, and the gate in front of them is shut
+abbrev torn : List ℕ
+torn = 72 ∷ 68 ∷ 74 ∷ 49 ∷ 0 ∷ 3 ∷ 0 ∷ 0 ∷ 0 ∷ 0 ∷ 6 ∷ 1 ∷ 99 ∷ []
+
+goes_on_from_a_torn_append : GoesOn true setting 3 (era ∷ []) (torn ∷ created 1 ∷ created 2 ∷ [])
+goes_on_from_a_torn_append = goes_on_with torn (inl (record {
+  records = [];
+  journal = record { gate = 0; rest = 0 ∷ 6 ∷ 1 ∷ 99 ∷ []; shut = λ e. omega (arith, e); each = tt; text = refl };
+  is = refl;
+}))
+
+-- nothing of it is there: the file as it was made goes on as well
 goes_on_without : GoesOn true setting 3 (era ∷ []) (created 0 ∷ created 1 ∷ created 2 ∷ [])
-goes_on_without = ∣ (a_run (record {
-  before = [];
-  latest = era;
-  are = refl;
-  sources = sources;
-  old = begun_state;
-  runs = step [] sources new begun_state (fresh sources new is_plan refl (record { count = refl; each = (refl, (refl, (refl, tt))); empty = refl })) starts;
-  begun = begun;
-  ends = in_a_call 0 first_node Tick ticked (omega arith) refl refl tt refl refl refl ((λ ne. absurd (ne refl)), ((λ ne. refl), ((λ ne. refl), tt)));
-  same = refl;
-  unforged = λ arrival there. elim there [ ];
-  held = (inl (stands_created 0), (inl (stands_created 1), (inl (stands_created 2), tt)));
-})) ∣₁
+goes_on_without = goes_on_with (created 0) (inl (stands_created 0))
 
 -- files of new stores go on from no era
 new_files : GoesOn true setting 3 [] (created 0 ∷ created 1 ∷ created 2 ∷ [])
@@ -205,6 +209,37 @@ new_files = ∣ (new_stores refl refl have) ∣₁
     have (suc zero) less = stands_created 1
     have (suc (suc zero)) less = stands_created 2
     have (suc (suc (suc i))) less = absurd (omega (arith, less))
+
+-- other files go on from no era only if they are those of new stores
+only_new_stores : (files : List (List ℕ)) → (length files ≡ 3 → HaveStores 3 files (λ i. empty_store) → ⊥) → GoesOn true setting 3 [] files → ⊥
+only_new_stores files other goes = ∥∥₁_elim goes (hlevel) (λ left. by_left left)
+  where
+    by_left : Leaves setting 3 [] files → ⊥
+    by_left (new_stores absent count have) = other count have
+    by_left (a_run left) = let absent : [] ≡ left.latest ∷ left.before = left.are in cc
+
+-- a file with a promise
+pub no_promise : StandsFor (header 0 3) with_promise empty_store → ⊥
+unfolding stands_promised
+no_promise stands =
+    let promised : stands.records ≡ Promised (ballot 1 0) ∷ [] = one_journal (header 0 3) with_promise stands.records (Promised (ballot 1 0) ∷ []) stands.journal stands_promised.journal in
+    let same : empty_store ≡ store_of (holding (header 0 3) (Promised (ballot 1 0) ∷ [])) = stands.is ∙ ap (λ (records : List Stored). store_of (holding (header 0 3) records)) promised in
+    let round : 0 ≡ 1 = ap (λ (store : Store). store.promise.round) same in
+    omega (arith, round)
+
+promised_file : GoesOn true setting 3 [] (with_promise ∷ created 1 ∷ created 2 ∷ []) → ⊥
+promised_file = only_new_stores (with_promise ∷ created 1 ∷ created 2 ∷ []) (λ count have. no_promise (have 0 (omega arith)))
+
+-- a file of another node, though its store is new
+file_of_another_node : GoesOn true setting 3 [] (created 1 ∷ created 1 ∷ created 2 ∷ []) → ⊥
+file_of_another_node = only_new_stores (created 1 ∷ created 1 ∷ created 2 ∷ []) (λ count have. not_of_node_0 (have 0 (omega arith)))
+  where
+    not_of_node_0 : StandsFor (header 0 3) (created 1) empty_store → ⊥
+    not_of_node_0 stands = let node : 1 ≡ 0 = ap (λ (l : List ℕ). get_or l 4 9) stands.journal.text in omega (arith, node)
+
+-- one file too few
+two_files : GoesOn true setting 3 [] (created 0 ∷ created 1 ∷ []) → ⊥
+two_files = only_new_stores (created 0 ∷ created 1 ∷ []) (λ count have. omega (arith, count))
 
 -- ---- why files aren't opened
 
@@ -225,7 +260,7 @@ closed_store : (files : List (List ℕ)) → IsFirstNoStore 3 files Closed → �
 closed_store files first = first.kind
 
 -- a file of another node, where one before it is empty
-stands_for_none : (head : List ℕ) (store : Store) → length head ≡ 8 → StandsFor head [] store → ⊥
+pub stands_for_none : (head : List ℕ) (store : Store) → length head ≡ 8 → StandsFor head [] store → ⊥
 stands_for_none head store eight stands =
     let whole = ap length stands.journal.text in
     omega (
@@ -262,7 +297,7 @@ broken_off : (setting : Setting) (n : ℕ) (before : List Era) (sources : List S
     → let place = place_of (plan_of setting sources) node in
     RunsTo setting n before sources (record {
       standings = set old.standings node (stopped place s.store (standing_after place s outcome).begun);
-      now = grown old.now node (arrived_by node called) nothing_made;
+      now = grown old.now node (arrived_by node (front_of s) called) nothing_made;
     })
 broken_off setting n before sources old node s called outcome run less at up seated turn =
     let place = place_of (plan_of setting sources) node in
@@ -273,7 +308,7 @@ broken_off setting n before sources old node s called outcome run less at up sea
       before = s;
       at = at;
       called = called;
-      arrived = arrived_by node called;
+      arrived = arrived_by node (front_of s) called;
       made = nothing_made;
       after = after;
       ruled = record {
@@ -283,7 +318,7 @@ broken_off setting n before sources old node s called outcome run less at up sea
         seated = seated;
         written = tt;
         texts = refl;
-        keeps = (ap (λ u. arrived_at u node called) (sym up), refl);
+        keeps = (ap (λ u. arrived_at u node (front_of s) called) (sym up), refl);
       };
       standings = refl;
       grows = refl;
@@ -308,18 +343,18 @@ ends_backed setting n before sources old s0 others all begun frame message law r
     let here = subst (λ (now : Record). In frame now.sent) grew sent in
     elim (cases_eq 0 node) [
       | inl is ↦
-          let stands : IsBacked (grown old.now node (arrived_by node called) nothing_made).sent node after =
-          subst (IsBacked (grown old.now node (arrived_by node called) nothing_made).sent node) (get_or-set_same old.standings node after after less)
-          (each_here (IsBacked (grown old.now node (arrived_by node called) nothing_made).sent) node (set old.standings node after) after (omega (arith, less, length-set old.standings node after)) back) in
+          let stands : IsBacked (grown old.now node (arrived_by node (front_of s) called) nothing_made).sent node after =
+          subst (IsBacked (grown old.now node (arrived_by node (front_of s) called) nothing_made).sent node) (get_or-set_same old.standings node after after less)
+          (each_here (IsBacked (grown old.now node (arrived_by node (front_of s) called) nothing_made).sent) node (set old.standings node after) after (omega (arith, less, length-set old.standings node after)) back) in
           let both = stands frame message here (from ∙ is) says in
           let same : s ≡ s0 = sym at ∙ (ap (λ k. get_or old.standings k s) (sym is) ∙ ap (λ standings. get_or standings 0 s) first) in
           let now : begun 0 ≡ (standing_after place s outcome).begun = ap begun is ∙ began in
           (subst (λ (k : Standing). Backs k.store message) same both.0, subst (λ store. Backs store message) (sym now) both.1)
       | inr ne ↦
           let size : 0 < length old.standings = omega (arith, ap length first) in
-          let stands : IsBacked (grown old.now node (arrived_by node called) nothing_made).sent 0 s0 =
-          subst (IsBacked (grown old.now node (arrived_by node called) nothing_made).sent 0) (get_or-set_other old.standings node 0 after s0 ne ∙ ap (λ standings. get_or standings 0 s0) first)
-          (each_here (IsBacked (grown old.now node (arrived_by node called) nothing_made).sent) 0 (set old.standings node after) s0 (omega (arith, size, length-set old.standings node after)) back) in
+          let stands : IsBacked (grown old.now node (arrived_by node (front_of s) called) nothing_made).sent 0 s0 =
+          subst (IsBacked (grown old.now node (arrived_by node (front_of s) called) nothing_made).sent 0) (get_or-set_other old.standings node 0 after s0 ne ∙ ap (λ standings. get_or standings 0 s0) first)
+          (each_here (IsBacked (grown old.now node (arrived_by node (front_of s) called) nothing_made).sent) 0 (set old.standings node after) s0 (omega (arith, size, length-set old.standings node after)) back) in
           let both = stands frame message here from says in
           let now : begun 0 ≡ s0.begun = (subst (λ standings. EachNode (λ i other. i ≢ node → begun i ≡ other.begun) 0 standings) first rest).0 ne in
           (both.0, subst (λ store. Backs store message) (sym now) both.1)
@@ -353,7 +388,7 @@ lost law (s0 ∷ others) left is (held, rest) =
     head_of : {a b : Era} {xs ys : List Era} → a ∷ xs ≡ b ∷ ys → a ≡ b
     head_of same = cc
 
--- from what has lost the promise no cluster goes on: whatever run there was, what it said is backed
+-- from what has lost the promise no cluster goes on, by the law that in every run what was said is backed (`laws::runs_are_backed`)
 promise_lost : RunsAreBacked → GoesOn true setting 3 (asked ∷ []) (created 0 ∷ created 1 ∷ created 2 ∷ []) → ⊥
 promise_lost law goes = ∥∥₁_elim goes (hlevel) (λ left. by_left left)
   where

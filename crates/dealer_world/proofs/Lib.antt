@@ -7,6 +7,7 @@ mod Sharing
 mod Pieces
 mod Counting
 mod Heard
+mod Ordering
 mod Extends
 mod Starting
 mod OneList
@@ -21,6 +22,8 @@ mod CalmRun
 mod Ruled
 mod Giving
 mod Advancing
+mod Showing
+mod ShowsExamples
 mod Answering
 mod Reached
 mod Opened
@@ -34,4 +37,6 @@ mod Promising
 pub mod Forging
 pub mod Examples
 mod ListExamples
+mod OrderExamples
 mod LeftExamples
+mod DiskExamples

@@ -1,6 +1,6 @@
--- A match of one hand, as three nodes kept it: the record of their frames, what came, and what they showed. One list is behind it, where the
--- first source's deal is that of its cards; behind no record that differs in a card, an action, a payoff, in a line whose command nobody had accepted, or by a hidden
--- card, is any list.
+-- A match of one hand: a record of the frames of three nodes, of what came, and of what they showed. None of its frames is forged, and one list is
+-- behind it, of the deal that is drawn from seed 0. Behind no record that differs in a card, an action or a payoff, by a hidden card, or by a line whose
+-- command nobody had accepted, is any list.
 use Rattle.std.proofs.Common.{◌≡◌, ℕ, zero, suc, ◌+◌, ◌*◌, ◌<◌, ◌≤◌, ◌⊎◌, inl, inr, Bool, true, false, true≢false, not, ◌&&◌, eqb, if◌then◌else◌, Option, Some, None, List, [], ◌∷◌, ◌++◌, length, take, refl, ap, sym, ◌∙◌, subst, arith}
 use Rattle.std.specs.Prelude.{codes, bytes_eq, ◌||◌}
 use Rattle.std.proofs.lemmas.Bool.{false≢true}
@@ -8,7 +8,8 @@ use Rattle.std.proofs.lemmas.Slice.Eq.{bytes_eq-Decides}
 use Rattle.betting.specs.declared.action.Action.TheVariants.{Fold}
 use Rattle.slot_log.specs.declared.command.Command.{Command}
 use Rattle.slot_log.specs.declared.command.Command.TheVariants.{Deal, Act}
-use Rattle.match_log.proofs.Examples.{opened, two_players, ten_ace, alice_and_bob}
+use Rattle.match_log.proofs.Examples.{opened, two_players, alice_and_bob}
+use Rattle.deck_draw.proofs.Examples.{drawn_of_zero}
 use Rattle.paxos_wire.specs.declared.ballot.Ballot.{Ballot}
 use Rattle.paxos_wire.specs.Reading.{body_of, message_at, of_ballot_at, ballot_at, below_at, promise_at, entries_at, accept_at, command_at, dealt_at, deal_at, deal_of, acted_at, action_at, action_of, ask_at}
 use Rattle.paxos_wire.specs.Faults.{header_fault, reading}
@@ -21,17 +22,22 @@ use Rattle.protocol_model.specs.Laws.{IsOfBeginning, NeverGoesBack}
 use Rattle.dealer_kind.specs.Kind.{Setting, line_of, log_of}
 use Rattle.dealer_kind.specs.Sources.{deal_of as own_deal, is_deal}
 use Rattle.dealer_kind.specs.declared.source.Source.{Source}
+use Rattle.dealer_kind.specs.declared.source.Source.TheVariants.{Seed}
 use Rattle.dealer_world.specs.Records.{Frame, Arrived, Delivered, Came, Connected, Arrival, Start, Piece, Record, Line, Written, lines_of, logs_of, said_by, said}
 use Rattle.dealer_world.specs.Unforged.{IsAmong, IsUnforged}
 use Rattle.dealer_world.specs.Headline.{Era, dealer_in, AreTexts, IsLineOf, IsLogOf, HasOrigin, OneList}
 
 -- ---- the match
 
-abbrev setting : Setting
+abbrev pub setting : Setting
 setting = record { game = two_players; title = record { name = codes "m"; game = codes "l2.game"; hands = 1 }; names = alice_and_bob }
 
-abbrev deal : Command
-deal = Deal 0 ten_ace
+-- 6d4h|2d9d/TdAdAc/3h/Ts, the first hand of seed 0
+abbrev cards : List ℕ
+cards = 17 ∷ 10 ∷ 1 ∷ 29 ∷ 33 ∷ 49 ∷ 48 ∷ 6 ∷ 35 ∷ []
+
+abbrev pub deal : Command
+deal = Deal 0 cards
 
 -- bob's, the first to act
 abbrev fold : Command
@@ -42,13 +48,13 @@ header = codes "# name/game/hands m l2.game 1\n"
 
 -- what bob is shown after the deal, and after his fold
 abbrev deal_line : List ℕ
-deal_line = codes "MATCHSTATE:1:0::|8hTc"
+deal_line = codes "MATCHSTATE:1:0::|2d9d"
 
 abbrev fold_line : List ℕ
-fold_line = codes "MATCHSTATE:1:0:f:|8hTc"
+fold_line = codes "MATCHSTATE:1:0:f:|2d9d"
 
 abbrev finished : List ℕ
-finished = codes "STATE:0:f:TdAs|8hTc:5|-5:alice|bob\nSCORE:5|-5:alice|bob\n"
+finished = codes "STATE:0:f:6d4h|2d9d:5|-5:alice|bob\nSCORE:5|-5:alice|bob\n"
 
 no_line_yet : line_of setting [] 1 ≡ None
 unfolding opened
@@ -76,20 +82,20 @@ log_after_the_fold = refl
 
 -- ---- the frames, byte for byte
 
-abbrev ballot : Ballot
+abbrev pub ballot : Ballot
 ballot = record { round = 1; node = 0 }
 
 pub prepare : List ℕ
 prepare = 0 ∷ 0 ∷ 0 ∷ 11 ∷ 1 ∷ 1 ∷ 0 ∷ 0 ∷ 0 ∷ 1 ∷ 0 ∷ 0 ∷ 0 ∷ 0 ∷ 0 ∷ []
 
-promise : List ℕ
+pub promise : List ℕ
 promise = 0 ∷ 0 ∷ 0 ∷ 12 ∷ 1 ∷ 2 ∷ 0 ∷ 0 ∷ 0 ∷ 1 ∷ 0 ∷ 0 ∷ 0 ∷ 0 ∷ 0 ∷ 0 ∷ []
 
-accept_deal : List ℕ
-accept_deal = 0 ∷ 0 ∷ 0 ∷ 26 ∷ 1 ∷ 4 ∷ 0 ∷ 0 ∷ 0 ∷ 1 ∷ 0 ∷ 0 ∷ 0 ∷ 0 ∷ 0 ∷ 1 ∷ 0 ∷ 0 ∷ 0 ∷ 0 ∷ 9 ∷ 33 ∷ 51 ∷ 26 ∷ 32 ∷ 0 ∷ 24 ∷ 6 ∷ 28 ∷ 46 ∷ []
+pub accept_deal : List ℕ
+accept_deal = 0 ∷ 0 ∷ 0 ∷ 26 ∷ 1 ∷ 4 ∷ 0 ∷ 0 ∷ 0 ∷ 1 ∷ 0 ∷ 0 ∷ 0 ∷ 0 ∷ 0 ∷ 1 ∷ 0 ∷ 0 ∷ 0 ∷ 0 ∷ 9 ∷ 17 ∷ 10 ∷ 1 ∷ 29 ∷ 33 ∷ 49 ∷ 48 ∷ 6 ∷ 35 ∷ []
 
-accepted_deal : List ℕ
-accepted_deal = 0 ∷ 0 ∷ 0 ∷ 26 ∷ 1 ∷ 5 ∷ 0 ∷ 0 ∷ 0 ∷ 1 ∷ 0 ∷ 0 ∷ 0 ∷ 0 ∷ 0 ∷ 1 ∷ 0 ∷ 0 ∷ 0 ∷ 0 ∷ 9 ∷ 33 ∷ 51 ∷ 26 ∷ 32 ∷ 0 ∷ 24 ∷ 6 ∷ 28 ∷ 46 ∷ []
+pub accepted_deal : List ℕ
+accepted_deal = 0 ∷ 0 ∷ 0 ∷ 26 ∷ 1 ∷ 5 ∷ 0 ∷ 0 ∷ 0 ∷ 1 ∷ 0 ∷ 0 ∷ 0 ∷ 0 ∷ 0 ∷ 1 ∷ 0 ∷ 0 ∷ 0 ∷ 0 ∷ 9 ∷ 17 ∷ 10 ∷ 1 ∷ 29 ∷ 33 ∷ 49 ∷ 48 ∷ 6 ∷ 35 ∷ []
 
 accept_fold : List ℕ
 accept_fold = 0 ∷ 0 ∷ 0 ∷ 23 ∷ 1 ∷ 4 ∷ 0 ∷ 0 ∷ 0 ∷ 1 ∷ 0 ∷ 0 ∷ 0 ∷ 0 ∷ 1 ∷ 2 ∷ 0 ∷ 0 ∷ 0 ∷ 0 ∷ 0 ∷ 0 ∷ 0 ∷ 0 ∷ 0 ∷ 0 ∷ 0 ∷ []
@@ -100,11 +106,11 @@ accepted_fold = 0 ∷ 0 ∷ 0 ∷ 23 ∷ 1 ∷ 5 ∷ 0 ∷ 0 ∷ 0 ∷ 1 ∷ 0 �
 asking : List ℕ
 asking = 0 ∷ 0 ∷ 0 ∷ 6 ∷ 1 ∷ 7 ∷ 0 ∷ 0 ∷ 0 ∷ 0 ∷ []
 
-abbrev from_to : ℕ → ℕ → List ℕ → Frame
+abbrev pub from_to : ℕ → ℕ → List ℕ → Frame
 from_to from to bytes = record { from = from; to = to; bytes = bytes }
 
 -- node 0 begins a ballot, node 1 promises it, and both accept the deal
-abbrev sent_before_the_fold : List Frame
+abbrev pub sent_before_the_fold : List Frame
 sent_before_the_fold =
     from_to 0 1 prepare ∷ from_to 0 2 prepare ∷ from_to 1 0 promise ∷ from_to 0 1 accept_deal ∷ from_to 0 2 accept_deal ∷ from_to 0 1 accepted_deal ∷ from_to 0 2 accepted_deal
     ∷ from_to 1 0 accepted_deal ∷ from_to 1 2 accepted_deal ∷ []
@@ -115,7 +121,7 @@ sent =
     sent_before_the_fold ++ from_to 0 1 accept_fold ∷ from_to 0 2 accept_fold ∷ from_to 0 1 accepted_fold ∷ from_to 0 2 accepted_fold ∷ from_to 1 0 accepted_fold ∷ from_to 1 2 accepted_fold
     ∷ from_to 1 0 asking ∷ []
 
-abbrev messages_before_the_fold : List Message
+abbrev pub messages_before_the_fold : List Message
 messages_before_the_fold =
     Prepare ballot 0 ∷ Prepare ballot 0 ∷ Promise 1 ballot 0 [] ∷ Accept ballot 0 deal ∷ Accept ballot 0 deal ∷ Accepted 0 ballot 0 deal ∷ Accepted 0 ballot 0 deal ∷ Accepted 1 ballot 0 deal
     ∷ Accepted 1 ballot 0 deal ∷ []
@@ -124,7 +130,7 @@ abbrev messages : List Message
 messages =
     messages_before_the_fold ++ Accept ballot 1 fold ∷ Accept ballot 1 fold ∷ Accepted 0 ballot 1 fold ∷ Accepted 0 ballot 1 fold ∷ Accepted 1 ballot 1 fold ∷ Accepted 1 ballot 1 fold ∷ Ask 1 0 ∷ []
 
-said_before_the_fold : said sent_before_the_fold ≡ messages_before_the_fold
+pub said_before_the_fold : said sent_before_the_fold ≡ messages_before_the_fold
 unfolding prepare promise accept_deal accepted_deal reading header_fault body_of message_at of_ballot_at ballot_at below_at promise_at entries_at accept_at command_at dealt_at deal_at deal_of
 said_before_the_fold = refl
 
@@ -143,7 +149,7 @@ abbrev ended : List ℕ → List ℕ
 ended line = line ++ 13 ∷ 10 ∷ []
 
 abbrev folding : List ℕ
-folding = codes "MATCHSTATE:1:0::|8hTc:f"
+folding = codes "MATCHSTATE:1:0::|2d9d:f"
 
 abbrev at : ℕ → Arrived → Arrival
 at count what = record { what = what; sent_before = count }
@@ -163,7 +169,7 @@ line_of_bob text = record { node = 0; start = 0; reader = Seat 1; text = text }
 abbrev headers : List Piece
 headers = logged 0 header ∷ logged 1 header ∷ logged 2 header ∷ []
 
-abbrev started : List Start
+abbrev pub started : List Start
 started = (record { node = 0; start = 0 }) ∷ (record { node = 1; start = 0 }) ∷ (record { node = 2; start = 0 }) ∷ []
 
 -- the record of a match that sent these frames, and showed these pieces behind the headers of its logs
@@ -209,7 +215,7 @@ not_forged arrival there = each_in (λ (a : Arrival). IsAmong (take a.sent_befor
 -- ---- what was chosen
 
 -- nodes 0 and 1
-abbrev both : ℕ → Bool
+abbrev pub both : ℕ → Bool
 both zero = true
 both (suc zero) = true
 both (suc (suc node)) = false
@@ -233,7 +239,7 @@ none_of_three quorum a b c =
     ap (λ x. if x then 1 + count quorum 2 else count quorum 2) c
     ∙ (ap (λ x. if x then 1 + count quorum 1 else count quorum 1) b ∙ ap (λ x. if x then 1 + count quorum 0 else count quorum 0) a)
 
-some_member : (quorum : ℕ → Bool) → 3 < 2 * count quorum 3 → (node : ℕ) × (node < 3) × (quorum node ≡ true)
+pub some_member : (quorum : ℕ → Bool) → 3 < 2 * count quorum 3 → (node : ℕ) × (node < 3) × (quorum node ≡ true)
 some_member quorum most = by_tests (quorum 0) (quorum 1) (quorum 2) refl refl refl
   where
     by_tests : (a b c : Bool) → quorum 0 ≡ a → quorum 1 ≡ b → quorum 2 ≡ c → (node : ℕ) × (node < 3) × (quorum node ≡ true)
@@ -270,7 +276,7 @@ chosen_before_is slot command (voted, (quorum, most, members)) =
 abbrev IsOneOf : List Command → Type 0
 IsOneOf commands = (commands ≡ []) ⊎ ((commands ≡ deal ∷ []) ⊎ (commands ≡ fold ∷ deal ∷ []))
 
-abbrev IsAtMostTheDeal : List Command → Type 0
+abbrev pub IsAtMostTheDeal : List Command → Type 0
 IsAtMostTheDeal commands = (commands ≡ []) ⊎ (commands ≡ deal ∷ [])
 
 nothing_of_no_length : {A : Type 0} (xs : List A) → length xs ≡ 0 → xs ≡ []
@@ -287,7 +293,7 @@ only_these (command ∷ before) (here, rest) = by_slot (chosen_is (length before
     by_slot (inr (one, is)) (inr (inl first)) = inr (inr (ap (λ c. c ∷ before) is ∙ ap (λ (b : List Command). fold ∷ b) first))
     by_slot (inr (one, is)) (inr (inr both_of)) = let two : length before ≡ 2 = ap length both_of in absurd (omega (arith, one, two))
 
-only_the_deal : (commands : List Command) → AreChosen 3 messages_before_the_fold commands → IsAtMostTheDeal commands
+pub only_the_deal : (commands : List Command) → AreChosen 3 messages_before_the_fold commands → IsAtMostTheDeal commands
 only_the_deal [] chosen_so = inl refl
 only_the_deal (command ∷ before) (here, rest) =
     let is = chosen_before_is (length before) command here in
@@ -462,7 +468,7 @@ module _ (first : Source) (others : List Source) where
   fold_fits = refl
 
   -- the deal is node 0's own, and bob said that he folds
-  origin : is_deal (own_deal 2 first 0) ten_ace ≡ true → (slot : ℕ) (command : Command) → IsChosen 3 messages slot command → HasOrigin (dealer_of kept) 3 (era_of kept ∷ []) command
+  origin : is_deal (own_deal 2 first 0) cards ≡ true → (slot : ℕ) (command : Command) → IsChosen 3 messages slot command → HasOrigin (dealer_of kept) 3 (era_of kept ∷ []) command
   origin own slot command is_chosen = elim (chosen_is slot command is_chosen) [
     | inl (at_0, is) ↦ subst (HasOrigin (dealer_of kept) 3 (era_of kept ∷ [])) (sym is) (0, omega arith, ap (λ b. b || false) own)
     | inr (at_1, is) ↦ subst (HasOrigin (dealer_of kept) 3 (era_of kept ∷ [])) (sym is) (record {
@@ -485,8 +491,9 @@ module _ (first : Source) (others : List Source) where
     })
   ]
 
-  one_list : is_deal (own_deal 2 first 0) ten_ace ≡ true → OneList (dealer_of kept) 3 (era_of kept ∷ [])
-  one_list own = record {
+  -- where the deal of the cards is the first source's own
+  one_list_of : is_deal (own_deal 2 first 0) cards ≡ true → OneList (dealer_of kept) 3 (era_of kept ∷ [])
+  one_list_of own = record {
     commands = fold ∷ deal ∷ [];
     chosen = subst (λ ms. AreChosen 3 ms (fold ∷ deal ∷ [])) (sym all_said) chosen;
     fitting = (fold_fits, (deal_fits, tt));
@@ -524,28 +531,28 @@ module _ (first : Source) (others : List Source) where
 
   -- another card
   abbrev with_another_card : Record
-  with_another_card = with_shown sent (line_of_bob (codes "MATCHSTATE:1:0::|8hTd") ∷ line_of_bob fold_line ∷ logged 0 finished ∷ [])
+  with_another_card = with_shown sent (line_of_bob (codes "MATCHSTATE:1:0::|2d9c") ∷ line_of_bob fold_line ∷ logged 0 finished ∷ [])
 
   no_other_card : OneList (dealer_of with_another_card) 3 (era_of with_another_card ∷ []) → ⊥
-  no_other_card = no_such_line with_another_card (codes "MATCHSTATE:1:0::|8hTd") refl (inl refl) refl refl
+  no_other_card = no_such_line with_another_card (codes "MATCHSTATE:1:0::|2d9c") refl (inl refl) refl refl
 
   -- a call in place of the fold
   abbrev with_a_call : Record
-  with_a_call = with_shown sent (line_of_bob deal_line ∷ line_of_bob (codes "MATCHSTATE:1:0:c:|8hTc") ∷ logged 0 finished ∷ [])
+  with_a_call = with_shown sent (line_of_bob deal_line ∷ line_of_bob (codes "MATCHSTATE:1:0:c:|2d9d") ∷ logged 0 finished ∷ [])
 
   no_other_action : OneList (dealer_of with_a_call) 3 (era_of with_a_call ∷ []) → ⊥
-  no_other_action = no_such_line with_a_call (codes "MATCHSTATE:1:0:c:|8hTc") refl (inr (inl refl)) refl refl
+  no_other_action = no_such_line with_a_call (codes "MATCHSTATE:1:0:c:|2d9d") refl (inr (inl refl)) refl refl
 
   -- alice's cards, which are hidden from bob
   abbrev with_hidden_cards : Record
-  with_hidden_cards = with_shown sent (line_of_bob (codes "MATCHSTATE:1:0::TdAs|8hTc") ∷ line_of_bob fold_line ∷ logged 0 finished ∷ [])
+  with_hidden_cards = with_shown sent (line_of_bob (codes "MATCHSTATE:1:0::6d4h|2d9d") ∷ line_of_bob fold_line ∷ logged 0 finished ∷ [])
 
   no_hidden_card : OneList (dealer_of with_hidden_cards) 3 (era_of with_hidden_cards ∷ []) → ⊥
-  no_hidden_card = no_such_line with_hidden_cards (codes "MATCHSTATE:1:0::TdAs|8hTc") refl (inl refl) refl refl
+  no_hidden_card = no_such_line with_hidden_cards (codes "MATCHSTATE:1:0::6d4h|2d9d") refl (inl refl) refl refl
 
   -- another payoff
   abbrev paid_wrongly : List ℕ
-  paid_wrongly = codes "STATE:0:f:TdAs|8hTc:6|-6:alice|bob\nSCORE:6|-6:alice|bob\n"
+  paid_wrongly = codes "STATE:0:f:6d4h|2d9d:6|-6:alice|bob\nSCORE:6|-6:alice|bob\n"
 
   abbrev with_another_payoff : Record
   with_another_payoff = with_shown sent (line_of_bob deal_line ∷ line_of_bob fold_line ∷ logged 0 paid_wrongly ∷ [])
@@ -562,9 +569,15 @@ module _ (first : Source) (others : List Source) where
         ]
       ]
 
-  -- the line after the fold, before anybody accepted the fold
+  -- the line after the fold, once bob had said it and before anybody accepted it
   abbrev too_early : Record
-  too_early = with_shown sent_before_the_fold (line_of_bob deal_line ∷ line_of_bob fold_line ∷ [])
+  too_early = record (with_shown sent_before_the_fold (line_of_bob deal_line ∷ line_of_bob fold_line ∷ [])) { delivered = take 7 came }
+
+  too_early_not_forged : IsUnforged too_early.sent too_early.delivered
+  too_early_not_forged arrival there = each_in (λ (a : Arrival). IsAmong (take a.sent_before sent_before_the_fold) a.what) (take 7 came) (
+    tt,
+    (tt, (inl refl, (inr (inr (inl refl)), (inr (inr (inr (inl refl))), (inr (inr (inr (inr (inr (inr (inr (inl refl))))))), (tt, tt)))))),
+  ) arrival there
 
   no_line_before_its_command : OneList (dealer_of too_early) 3 (era_of too_early ∷ []) → ⊥
   no_line_before_its_command one =
@@ -575,3 +588,7 @@ module _ (first : Source) (others : List Source) where
         | inl empty ↦ no_text fold_line (sym no_line_yet ∙ (ap (λ (cs : List Command). line_of setting cs 1) (sym empty) ∙ is.2))
         | inr one_command ↦ other_text deal_line fold_line refl (sym line_after_the_deal ∙ (ap (λ (cs : List Command). line_of setting cs 1) (sym one_command) ∙ is.2))
       ]
+
+-- the deal is that of seed 0, whatever the other nodes deal
+one_list : (others : List Source) → OneList (dealer_of (Seed 0) others kept) 3 (era_of (Seed 0) others kept ∷ [])
+one_list others = one_list_of (Seed 0) others (ap (λ drawn. is_deal (Some drawn) cards) drawn_of_zero)

@@ -1,10 +1,10 @@
 -- The headline, read off the world behind the records.
-use Rattle.std.proofs.Common.{◌≡◌, ℕ, ◌+◌, ◌-◌, ◌≤◌, inl, inr, ◌==◌, ◌&&◌, Bool, true, false, cond, Some, List, [], ◌∷◌, ◌++◌, map, reverse, length, refl, ap, sym, ◌∙◌, subst, eq-eqb, eqb-true, arith}
-use Rattle.std.proofs.lemmas.List.{append-nil}
+use Rattle.std.proofs.Common.{◌≡◌, ℕ, ◌+◌, ◌-◌, ◌<◌, ◌≤◌, inl, inr, ◌==◌, ◌&&◌, Bool, true, false, cond, Some, List, [], ◌∷◌, ◌++◌, map, reverse, length, take, refl, ap, sym, ◌∙◌, subst, eq-eqb, eqb-true, arith}
+use Rattle.std.proofs.lemmas.List.{append-nil, length-append}
 use Rattle.std.proofs.lemmas.Bool.{and_from, and_parts, false≢true}
 use Rattle.paxos_wire.specs.declared.ballot.Ballot.{Ballot}
 use Rattle.slot_log.specs.declared.command.Command.{Command}
-use Rattle.slot_log.specs.declared.command.Command.TheVariants.{Deal, Act}
+use Rattle.slot_log.specs.declared.command.Command.TheVariants.{Deal, Act, Away}
 use Rattle.protocol_model.specs.Sets.{In, IsBeginning}
 use Rattle.protocol_model.specs.Messages.{Message, Accepted}
 use Rattle.protocol_model.specs.Quorums.{IsChosen, AreChosen}
@@ -14,12 +14,15 @@ use Rattle.protocol_model.specs.Moves.{Shown}
 use Rattle.protocol_model.specs.Worlds.{World, Reached}
 use Rattle.protocol_model.specs.Laws.{OneDealer, IsOfBeginning, NeverGoesBack}
 use Rattle.dealer_kind.specs.Kind.{Setting, dealer_of}
-use Rattle.dealer_kind.specs.Owning.{OwnsDeals, IsDealtOrSaid}
-use Rattle.dealer_world.specs.Records.{Record, Piece, Line, Written, Start, logged_by, log_in, log_of, line_by, lines_of, logs_of}
-use Rattle.dealer_world.specs.Headline.{Era, said_in, owned_in, dealer_in, text_by, AreTexts, IsLineOf, IsLogOf, IsOfOneList, InEach, HasOrigin, OneList}
-use Rattle.dealer_world.specs.Behind.{Behind, IsPiece, ArePieces, HaveHeaders, AreEras, no_era, one_more}
+use Rattle.dealer_kind.specs.Owning.{OwnsDeals, IsDealtSaidOrOrdered}
+use Rattle.protocol_model.specs.Arrivals as model
+use Rattle.dealer_world.specs.Records.{Record, Ordered, said, Piece, Line, Written, Start, logged_by, log_in, log_of, line_by, lines_of, logs_of}
+use Rattle.dealer_world.specs.Headline.{Era, said_in, owned_in, dealer_in, text_by, AreTexts, IsLineOf, IsLogOf, IsOfOneList, InEach, WasOrderedIn, WasOrdered, HasOrigin, OneList}
+use Rattle.dealer_world.specs.Behind.{Behind, IsOrderIn, IsOrderOf, IsPiece, ArePieces, HaveHeaders, AreEras, no_era, one_more}
 use Rattle.protocol_model.proofs.Sets.{in_first, in_later, in_split}
 use Rattle.dealer_world.proofs.Lists.{in_reverse}
+use Rattle.dealer_world.proofs.Saying.{said_of_first}
+use Rattle.dealer_world.proofs.Ordering.{chosen_in}
 
 -- ---- what was shown, with its starts counted from 0
 
@@ -211,27 +214,73 @@ eras_of_one_list dealer commands shown eras (one_more base latest older _ era be
       eras_of_one_list dealer commands older before rest (λ text there. of text (subst (In text) (sym all) (in_later latest older text there))) (forward_rest latest older now),
     )
 
-chosen_in : (n : ℕ) (told there : List Message) (commands : List Command)
-    → ((sender : ℕ) (ballot : Ballot) (slot : ℕ) (command : Command) → In (Accepted sender ballot slot command) told → In (Accepted sender ballot slot command) there)
-    → AreChosen n told commands → AreChosen n there commands
-chosen_in n told there [] moves h = tt
-chosen_in n told there (command ∷ before) moves ((ballot, (quorum, is, all)), h) =
-    ((ballot, (quorum, is, λ node less q. moves node ballot (length before) command (all node less q))), chosen_in n told there before moves h)
-
 -- the laws of the protocol and of the dealer that the headline stands on
 abbrev pub IsOneDealer : Type 0
 IsOneDealer = (dealer : Dealer) (n : ℕ) (world : World) → Reached dealer n world → OneDealer dealer n world
 
+abbrev pub IsOneChoice : Type 0
+IsOneChoice = (dealer : Dealer) (n : ℕ) (world : World) (shorter longer : List Command)
+    → Reached dealer n world → AreChosen n world.ever shorter → AreChosen n world.ever longer → length shorter ≤ length longer → IsBeginning shorter longer
+
 abbrev pub ChosenAreDealtOrSaid : Type 0
 ChosenAreDealtOrSaid = (setting : Setting) (own : ℕ → Command → Bool) (n : ℕ) (world : World) (slot : ℕ) (command : Command)
     → OwnsDeals own → Reached (dealer_of setting own) n world → IsChosen n world.ever slot command
-    → IsDealtOrSaid (dealer_of setting own) n world.ever world.came command
+    → IsDealtSaidOrOrdered (dealer_of setting own) n world.ever world.came command
+
+-- ---- orders
+
+-- of as many commands the one list begins the other only where they are the same
+same_list : (shorter longer : List Command) → IsBeginning shorter longer → length shorter ≡ length longer → shorter ≡ longer
+same_list shorter longer ([], is) same = sym is
+same_list shorter longer (first ∷ later, is) same = absurd (omega (arith, ap length is, length-append (first ∷ later) shorter))
+
+-- the commands that the order met are those that the world had
+ordered_in : (dealer : Dealer) (n : ℕ) (world : World) (era : Era) (before : List Era) (node : ℕ) (commands : List Command) (command : Command) → IsOneChoice → Reached dealer n world
+    → ((message : Message) → In message (said_in (era ∷ before)) → In message world.ever) → AreChosen n world.ever commands
+    → node < n → dealer.orders commands command ≡ true → IsOrderIn n era.record_of before node (length commands) → WasOrderedIn dealer n era before command
+ordered_in dealer n world era before node commands command one reached carried chosen within orders o =
+    let there : AreChosen n world.ever o.known =
+    chosen_in n (said_in before ++ said (take o.arrival.sent_before era.record_of.sent)) world.ever o.known
+    (λ sender ballot slot c h. carried (Accepted sender ballot slot c)
+    (elim (in_split (said_in before) (said (take o.arrival.sent_before era.record_of.sent)) (Accepted sender ballot slot c) h) [
+      | inl first ↦ in_first (said_in before) (said era.record_of.sent) (Accepted sender ballot slot c) first
+      | inr later ↦ in_later (said_in before) (said era.record_of.sent) (Accepted sender ballot slot c) (said_of_first o.arrival.sent_before era.record_of.sent (Accepted sender ballot slot c) later)
+    ])) o.chosen in
+    let same : o.known ≡ commands = same_list o.known commands (one dealer n world o.known commands reached there chosen (omega (arith, o.all_below))) o.all_below in
+    record {
+      node = node;
+      is_node = within;
+      arrival = o.arrival;
+      came = o.came;
+      known = o.known;
+      order = o.order ∙ ap (λ k. Ordered node k) (sym o.all_below);
+      chosen = o.chosen;
+      orders = subst (λ (l : List Command). dealer.orders l command ≡ true) (sym same) orders;
+    }
+
+ordered_of : (dealer : Dealer) (n : ℕ) (world : World) (eras : List Era) (node : ℕ) (commands : List Command) (command : Command) → IsOneChoice → Reached dealer n world
+    → ((message : Message) → In message (said_in eras) → In message world.ever) → AreChosen n world.ever commands
+    → node < n → dealer.orders commands command ≡ true → IsOrderOf n eras node (length commands) → WasOrdered dealer n eras command
+ordered_of dealer n world [] node commands command one reached carried chosen within orders o = o
+ordered_of dealer n world (era ∷ before) node commands command one reached carried chosen within orders (inl here) =
+    inl (ordered_in dealer n world era before node commands command one reached carried chosen within orders here)
+ordered_of dealer n world (era ∷ before) node commands command one reached carried chosen within orders (inr old) =
+    inr (ordered_of dealer n world before node commands command one reached (λ message h. carried message (in_first (said_in before) (said era.record_of.sent) message h)) chosen within orders old)
 
 origin_by : {Node : Type 0} (IsOf : ℕ → Node → WorldNode → List ℕ → Type 0) (dealer : Dealer) (nodes : List Node) (era : Era) (before : List Era) (command : Command)
-    → (b : Behind IsOf dealer nodes era.record_of before)
-    → IsDealtOrSaid dealer (length nodes) b.world.ever b.world.came command → HasOrigin dealer (length nodes) (era ∷ before) command
-origin_by IsOf dealer nodes era before (Deal hand deal) b owned = owned
-origin_by IsOf dealer nodes era before (Act hand index action) b said = record {
+    → IsOneChoice → (b : Behind IsOf dealer nodes era.record_of before)
+    → IsDealtSaidOrOrdered dealer (length nodes) b.world.ever b.world.came command → HasOrigin dealer (length nodes) (era ∷ before) command
+origin_by IsOf dealer nodes era before (Deal hand deal) one b owned = owned
+origin_by IsOf dealer nodes era before (Away hand index) one b order =
+    let arrival : model.Arrival = record { event = model.Ordered order.node (length order.before); sent = length order.sent } in
+    ordered_of dealer (length nodes) b.world (era ∷ before) order.node order.before (Away hand index) one b.reached b.carried
+    (chosen_in (length nodes) order.sent b.world.ever order.before
+    (λ sender ballot slot command there.
+    subst (In (Accepted sender ballot slot command)) (sym order.moment.all_sent) (in_later order.moment.sent_later order.sent (Accepted sender ballot slot command) there)) order.chosen)
+    order.is_node order.orders
+    (b.ordered order.node (length order.before) (length order.sent)
+    (subst (In arrival) (sym order.moment.all_came) (in_later order.moment.came_later order.earlier arrival (subst (In arrival) (sym order.newest) (inl refl)))))
+origin_by IsOf dealer nodes era before (Act hand index action) one b said = record {
   node = said.node;
   is_node = said.is_node;
   seat = said.seat;
@@ -249,9 +298,9 @@ origin_by IsOf dealer nodes era before (Act hand index action) b said = record {
 
 -- The headline, from the world behind the records.
 pub one_list_of : {Node : Type 0} (IsOf : ℕ → Node → WorldNode → List ℕ → Type 0) (setting : Setting) (nodes : List Node) (era : Era) (before : List Era)
-    → IsOneDealer → ChosenAreDealtOrSaid → OwnsDeals (owned_in setting.game.players (era ∷ before))
+    → IsOneDealer → IsOneChoice → ChosenAreDealtOrSaid → OwnsDeals (owned_in setting.game.players (era ∷ before))
     → Behind IsOf (dealer_in setting (era ∷ before)) nodes era.record_of before → OneList (dealer_in setting (era ∷ before)) (length nodes) (era ∷ before)
-one_list_of IsOf setting nodes era before one_dealer dealt owns b =
+one_list_of IsOf setting nodes era before one_dealer one_choice dealt owns b =
     let one = one_dealer (dealer_in setting (era ∷ before)) (length nodes) b.world b.reached in
     let forward : NeverGoesBack (b.latest ++ b.older) = subst NeverGoesBack b.shown one.forward in
     record {
@@ -265,7 +314,7 @@ one_list_of IsOf setting nodes era before one_dealer dealt owns b =
             (λ text there. one.shown text (subst (In text) (sym b.shown) (in_later b.latest b.older text there))) (forward_rest b.latest b.older forward),
       );
       origin = λ slot command (ballot, (quorum, is, all)).
-          origin_by IsOf (dealer_in setting (era ∷ before)) nodes era before command b
+          origin_by IsOf (dealer_in setting (era ∷ before)) nodes era before command one_choice b
           (dealt setting (owned_in setting.game.players (era ∷ before)) (length nodes) b.world slot command owns b.reached
           (ballot, (quorum, is, λ node less q. b.carried (Accepted node ballot slot command) (all node less q))));
     }

@@ -202,6 +202,7 @@ module _ {D : Type 0} (g : Ghosts D) where
   by_fault first k fault.Spent node of less refused have = absurd of
   by_fault first k (fault.BadFrame f) node of less refused have = absurd of
   by_fault first k fault.Conflict node of less refused have = absurd of
+  by_fault first k fault.NothingToAct node of less refused have = absurd of
 
   pub step_refused : (first : List (Node D)) (old new : View (Node D)) (k : ℕ) (answer : Result (Unit {0}) NodeFault) (why : NodeFault) → Stepped g old (event.Start k) answer new → answer ≡ Err why
       → IsTrue g.is_honest → Wait first k old.nodes → k < length first → HaveFirst first k → IsRefusedStart first why

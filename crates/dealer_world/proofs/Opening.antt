@@ -21,8 +21,9 @@ use Rattle.dealer_world.specs.Views.{placed_at, grown}
 use Rattle.dealer_world.specs.Behind.{Behind, EachNode, AreEras, ArePieces, no_era, one_more, AreHeard}
 use Rattle.dealer_world.specs.Openings.{BehindEras, LeftInside}
 use Rattle.protocol_model.proofs.Sets.{in_later, in_split}
-use Rattle.dealer_world.specs.Given.{Reaches, MayWiden}
+use Rattle.dealer_world.specs.Given.{Reaches, KnownIsChosen, MayWiden}
 use Rattle.dealer_world.proofs.Heard.{IsAt, hears, was_heard_on}
+use Rattle.dealer_world.proofs.Ordering.{orders_later}
 
 -- ---- the end of an era
 
@@ -39,6 +40,7 @@ behind_eras IsOf dealer nodes now sources before b = record {
   accepted = b.accepted;
   shown = one_more b.base b.latest b.older b.world.shown (era_of sources now) before (era_of sources now ∷ before) b.shown refl b.pieces b.headers b.eras;
   heard = b.heard;
+  ordered = b.ordered;
 }
 
 -- the world after a call of node i that was begun and broken off: that node is as the call left it, the others as they were
@@ -50,12 +52,12 @@ pub record BrokenOff (dealer : Dealer) (n i : ℕ) (first : World) (last : World
 -- what came to it counts as delivered
 pub broken_off : {Node : Type 0} (IsOf : ℕ → Node → WorldNode → List ℕ → Type 0) (dealer : Dealer) (nodes : List Node) (now : Record) (sources : List Source) (before : List Era)
     (i : ℕ) (arrived : List Arrived) (store : Store)
-    → Reaches → i < length nodes → ((what : Arrived) → In what arrived → IsAt i what)
+    → Reaches → KnownIsChosen → i < length nodes → ((what : Arrived) → In what arrived → IsAt i what)
     → (b : Behind IsOf dealer nodes now before)
     → (arrived ≢ [] → (b.world.nodes i).up ≡ true)
     → (inside : LeftInside dealer (length nodes) i b.world.ever (b.world.nodes i) arrived store)
     → BrokenOff dealer (length nodes) i b.world inside.last (era_of sources (grown now i arrived nothing_made) ∷ before)
-broken_off IsOf dealer nodes now sources before i arrived store reach within at b runs inside =
+broken_off IsOf dealer nodes now sources before i arrived store reach known within at b runs inside =
     let reached = reach dealer (length nodes) i new_world b.world inside.output inside.last b.reached within inside.chain in
     let later = reached.0 in
     let after : IsAfter b.world i inside.output inside.last later = reached.2 in
@@ -90,6 +92,7 @@ broken_off IsOf dealer nodes now sources before i arrived store reach within at 
             (λ begun there. let found = b.headers begun there in
             (found.0, subst (In found.0) (sym same_shown) found.1, found.2, found.3, found.4)) b.eras;
         heard = heard;
+        ordered = orders_later known dealer (length nodes) i b.world later.came inside.output.came false arrived nothing_made now before b.reached b.accepted inside.came after.came inside.knew b.ordered;
       };
       moved = after.moved;
       others = after.others;
@@ -202,6 +205,7 @@ all_rest dealer n eras stores reach b may =
         accepted = λ sender ballot slot command h. b.accepted sender ballot slot command (subst (In (Accepted sender ballot slot command)) all.ever h);
         shown = subst (λ shown. AreEras shown eras) (sym all.shown) b.shown;
         heard = λ earlier node seat bytes beginning is. b.heard earlier node seat bytes (subst (IsBeginning earlier) all.came beginning) is;
+        ordered = λ node front sent there. b.ordered node front sent (subst (In _) all.came there);
       };
       down = all.down;
       store = all.store;
@@ -234,6 +238,7 @@ begins IsOf dealer nodes before b down of = record {
   headers = λ begun h. elim h [ ];
   heard = λ earlier node seat bytes beginning is. inr (b.heard earlier node seat bytes beginning is);
   heard_now = λ i seat bytes less up is. absurd (false≢true (sym (down i less) ∙ up));
+  ordered = λ node front sent there. inr (b.ordered node front sent there);
 }
 
 -- before any era there is the new world
@@ -245,6 +250,7 @@ no_eras dealer n = record {
   accepted = λ sender ballot slot command h. elim h [ ];
   shown = no_era [] [] refl refl;
   heard = λ earlier node seat bytes beginning is. absurd (none_heard earlier node seat bytes beginning is);
+  ordered = λ node front sent there. elim there [ ];
 }
   where
     none_heard : (earlier : List model.Arrival) (node seat : ℕ) (bytes : List ℕ) → IsBeginning earlier [] → model.heard_in earlier node seat ≡ Some bytes → ⊥
@@ -266,6 +272,7 @@ widened dealer own n eras widen more b = (
     accepted = b.accepted;
     shown = b.shown;
     heard = b.heard;
+    ordered = b.ordered;
   },
   refl,
 )

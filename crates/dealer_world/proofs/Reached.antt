@@ -11,7 +11,7 @@ use Rattle.dealer_node.specs.declared.fault.NodeFault.{NodeFault}
 use Rattle.dealer_node.specs.declared.fault.NodeFault.TheVariants as fault
 use Rattle.dealer_kind.specs.Kind.{Setting}
 use Rattle.dealer_kind.specs.declared.source.Source.{Source}
-use Rattle.dealer_node.specs.Seeing.{runs, begun_of}
+use Rattle.dealer_node.specs.Seeing.{runs, front_in, begun_of}
 use Rattle.dealer_world.specs.declared.event.Event.{Event}
 use Rattle.dealer_world.specs.Records.{Record}
 use Rattle.dealer_world.specs.Events.{node_of}
@@ -51,13 +51,13 @@ module _ {D : Type 0} (g : Ghosts D) where
   -- the record with the event's call
   abbrev grew : {old new : View (Node D)} {e : Event} {answer : Result (Unit {0}) NodeFault} → Stepped g old e answer new → Record
   grew {old} {new} {e} {answer} stepped =
-      grown old.all (node_of e) (arrived_by_event (runs stepped.before) e) (made_by (node_of e) stepped.told (begins_by_event (runs stepped.before) e answer))
+      grown old.all (node_of e) (arrived_by_event (runs stepped.before) (front_in stepped.before) e) (made_by (node_of e) stepped.told (begins_by_event (runs stepped.before) e answer))
 
   behind_by : (old new : View (Node D)) (e : Event) (answer : Result (Unit {0}) NodeFault) → TellsUp g → IsCluster old → IsForMatch old.config e → (stepped : Stepped g old e answer new)
       → IsBehind g old.opened old.config new.nodes new.all
   behind_by old new e answer tells kept is_for stepped = by_gain stepped.gains
     where
-      by_gain : Gains e (runs stepped.before) stepped.told old new answer → IsBehind g old.opened old.config new.nodes new.all
+      by_gain : Gains e (runs stepped.before) (front_in stepped.before) stepped.told old new answer → IsBehind g old.opened old.config new.nodes new.all
       by_gain (nothing _ absent all last) =
           subst (λ (r : Record). IsBehind g old.opened old.config new.nodes r) (sym all)
           (subst (λ (nodes : List (Node D)). IsBehind g old.opened old.config nodes old.all) (sym stepped.others)
@@ -124,9 +124,9 @@ module _ {D : Type 0} (g : Ghosts D) where
   unforged_behind : (old new : View (Node D)) (e : Event) (answer : Result (Unit {0}) NodeFault) → Stepped g old e answer new → ArePlaced old.all.sent old.all.delivered → HasNoForged new → HasNoForged old
   unforged_behind old new e answer stepped placed unforged = by_gain stepped.gains
     where
-      by_gain : Gains e (runs stepped.before) stepped.told old new answer → HasNoForged old
+      by_gain : Gains e (runs stepped.before) (front_in stepped.before) stepped.told old new answer → HasNoForged old
       by_gain (nothing _ absent all last) = subst (λ (now : Record). IsUnforged now.sent now.delivered) all unforged
-      by_gain (call _ ample all last) = unforged_before old.all.sent (map (frame_by (node_of e)) stepped.told.frames) old.all.delivered (map (placed_at (length old.all.sent)) (arrived_by_event (runs stepped.before) e)) placed (subst (λ (now : Record). IsUnforged now.sent now.delivered) all unforged)
+      by_gain (call _ ample all last) = unforged_before old.all.sent (map (frame_by (node_of e)) stepped.told.frames) old.all.delivered (map (placed_at (length old.all.sent)) (arrived_by_event (runs stepped.before) (front_in stepped.before) e)) placed (subst (λ (now : Record). IsUnforged now.sent now.delivered) all unforged)
 
   pub none_conflicts : (first : View (Node D)) → RunsNeverConflict → TellsUp g → IsCluster g first → NoneConflicts g first
   none_conflicts first law tells kept events last eras ran are_for goes honest unforged = by_run events last ran are_for unforged

@@ -17,21 +17,22 @@ use Rattle.protocol_model.specs.Moves
 use Rattle.protocol_model.specs.Moves.{Shown, nothing}
 use Rattle.protocol_model.specs.Worlds.{World, Reached}
 use Rattle.dealer_kind.specs.Kind.{dealer_of, log_of}
-use Rattle.node_rules.specs.Standings.{Place, Standing, applied}
+use Rattle.node_rules.specs.Standings.{Place, Standing, applied, front_of}
 use Rattle.node_rules.specs.Sending.{Frame as Outgoing}
 use Rattle.node_rules.specs.Showing.{Piece, header}
 use Rattle.node_rules.specs.Turns.{Turn, Refusal, Down, still}
 use Rattle.node_rules.specs.Rules.{IsTurn, IsTurnDown, IsTurnBy, standing_after, starting}
-use Rattle.node_rules.specs.Calls.{Call, Start, Tick, Line, Connect, Drop, Stop}
+use Rattle.node_rules.specs.Calls.{Call, Start, Tick, Away, Line, Connect, Drop, Stop}
 use Rattle.node_rules.specs.Calls as call
-use Rattle.node_rules.specs.Being.{IsPlace}
+use Rattle.node_rules.specs.Being.{IsPlace, IsOf}
 use Rattle.node_rules.specs.Called.{Comes, IsSaidTo, IsSaid, AreShown, text_in, text_with, texts_of, log_with, came_in, Called as RuleCalled, Ends, took, refused, failed, unchanged, events_by, events_of}
 use Rattle.node_rules.specs.Called as rule
 use Rattle.node_rules.specs.Sound.{Stands, CallsAreSound, LinesAreRefusedDown}
-use Rattle.dealer_world.specs.Records.{Frame, Arrived, said, said_by, messages_of}
-use Rattle.dealer_world.specs.Calls.{Made, nothing_made, AreTold, added_by, log_after, read_by, BringsAll, frames_in, log_before, IsSound, HasHeader, Called}
+use Rattle.dealer_world.specs.Records.{Frame, Arrived, Delivered, Came, Connected, Dropped, Ordered, said, said_by, messages_of}
+use Rattle.dealer_world.specs.Calls.{Made, nothing_made, AreTold, added_by, log_after, read_by, HasKnown, BringsAll, frames_in, log_before, IsSound, HasHeader, Called}
 use Rattle.dealer_world.specs.Runs.{AreWritten, text_by_rule, arrived_by, arrived_at, begins_by, Keeps, IsSeated, Ruled, IsOfRule}
 use Rattle.node_rules.proofs.Results.{ok_is, err_is, ok_not}
+use Rattle.node_rules.proofs.Beginning.{commands_known}
 use Rattle.protocol_model.proofs.Sets.{in_first, in_later, in_split, only_in}
 use Rattle.slot_log.proofs.Hands.{reverse-cons}
 use Rattle.dealer_world.proofs.Lists.{reverse_map}
@@ -145,8 +146,9 @@ built : (own : ℕ → Command → Bool) (place : Place) (world : World) (log ba
     → CameBy place.node arrived made.began c.output.came c.last
     → (made.began ≡ true → HasHeader made.texts) → (arrived ≢ [] → (world.nodes place.node).up ≡ true)
     → (made.began ≡ false → made.texts ≢ [] → (world.nodes place.node).up ≡ true)
+    → ((node front : ℕ) → In (Ordered node front) arrived → HasKnown (world.nodes place.node) front)
     → Called (IsOfRule own place) (dealer_of place.setting own) place.nodes place.node world.ever (world.nodes place.node) log arrived made new
-built own place world log base called events frames shown arrived made new c within written texts same came header runs speaks =
+built own place world log base called events frames shown arrived made new c within written texts same came header runs speaks knew =
     let i = place.node in
     let counts = chain_counts (dealer_of place.setting own) place.nodes i world.ever (world.nodes i) c.output c.last c.chain in
     let newest : reverse made.texts ≡ map text_by_rule (reverse shown) = ap reverse texts ∙ reverse_map text_by_rule shown in
@@ -180,6 +182,7 @@ built own place world log base called events frames shown arrived made new c wit
       runs = runs;
       awake = λ still up. counts.awake (came.starts ∙ ap (λ b. cond b 1 0) still) up;
       speaks = speaks;
+      knew = knew;
       came = came.brings;
     }
   where
@@ -218,6 +221,7 @@ still_called own place world log s arrived made new of same none_arrived none_ma
       runs = λ some. absurd (some refl);
       awake = λ still up. up;
       speaks = λ still some. absurd (some refl);
+      knew = λ node front h. elim h [ ];
       came = inl refl;
     }))
 
@@ -244,48 +248,54 @@ no_event [] is = refl
 no_event (arrival ∷ out) is = absurd cc
 
 -- what a call that was taken by a node that runs brought
-took_up : (i : ℕ) (called : Call) (events : List model.Event) → In events (rule.taken_events i true called) → BringsAll i false (arrived_by i called) events × (starts_of events ≡ 0)
+took_up : (i front : ℕ) (called : Call) (events : List model.Event) → In events (rule.taken_events i front true called) → BringsAll i false (arrived_by i front called) events × (starts_of events ≡ 0)
 unfolding starts_of
-took_up i (Start found) events (inl is) = (is, ap starts_of is)
-took_up i (Start found) events (inr none) = elim none [ ]
-took_up i Tick events (inl is) = (is, ap starts_of is)
-took_up i Tick events (inr none) = elim none [ ]
-took_up i (call.Frame from bytes) events (inl is) = ((refl, refl, is), ap starts_of is)
-took_up i (call.Frame from bytes) events (inr none) = elim none [ ]
-took_up i (Line seat bytes) events (inl is) = ((refl, refl, inl is), ap starts_of is)
-took_up i (Line seat bytes) events (inr (inl is)) = ((refl, refl, inr is), ap starts_of is)
-took_up i (Line seat bytes) events (inr (inr none)) = elim none [ ]
-took_up i (Connect seat) events (inl is) = ((refl, refl, is), ap starts_of is)
-took_up i (Connect seat) events (inr none) = elim none [ ]
-took_up i (Drop seat) events (inl is) = ((refl, refl, is), ap starts_of is)
-took_up i (Drop seat) events (inr none) = elim none [ ]
-took_up i Stop events (inl is) = (is, ap starts_of is)
-took_up i Stop events (inr none) = elim none [ ]
+took_up i front (Start found) events (inl is) = (is, ap starts_of is)
+took_up i front (Start found) events (inr none) = elim none [ ]
+took_up i front Tick events (inl is) = (is, ap starts_of is)
+took_up i front Tick events (inr none) = elim none [ ]
+took_up i front Away events (inl is) = ((refl, refl, inl is), ap starts_of is)
+took_up i front Away events (inr none) = elim none [ ]
+took_up i front (call.Frame from bytes) events (inl is) = ((refl, refl, is), ap starts_of is)
+took_up i front (call.Frame from bytes) events (inr none) = elim none [ ]
+took_up i front (Line seat bytes) events (inl is) = ((refl, refl, inl is), ap starts_of is)
+took_up i front (Line seat bytes) events (inr (inl is)) = ((refl, refl, inr is), ap starts_of is)
+took_up i front (Line seat bytes) events (inr (inr none)) = elim none [ ]
+took_up i front (Connect seat) events (inl is) = ((refl, refl, is), ap starts_of is)
+took_up i front (Connect seat) events (inr none) = elim none [ ]
+took_up i front (Drop seat) events (inl is) = ((refl, refl, is), ap starts_of is)
+took_up i front (Drop seat) events (inr none) = elim none [ ]
+took_up i front Stop events (inl is) = (is, ap starts_of is)
+took_up i front Stop events (inr none) = elim none [ ]
 
 -- one that failed
-failed_up : (i : ℕ) (called : Call) (events : List model.Event) → In events (rule.failed_events i called) → (BringsAll i false (arrived_by i called) events ⊎ (events ≡ [])) × (starts_of events ≡ 0)
+failed_up : (i front : ℕ) (called : Call) (events : List model.Event) → In events (rule.failed_events i front called) → (BringsAll i false (arrived_by i front called) events ⊎ (events ≡ [])) × (starts_of events ≡ 0)
 unfolding starts_of
-failed_up i (Start found) events (inl is) = (inr is, ap starts_of is)
-failed_up i (Start found) events (inr none) = elim none [ ]
-failed_up i Tick events (inl is) = (inr is, ap starts_of is)
-failed_up i Tick events (inr none) = elim none [ ]
-failed_up i (call.Frame from bytes) events (inl is) = (inr is, ap starts_of is)
-failed_up i (call.Frame from bytes) events (inr none) = elim none [ ]
-failed_up i (Line seat bytes) events (inl is) = (inr is, ap starts_of is)
-failed_up i (Line seat bytes) events (inr (inl is)) = (inl (refl, refl, inl is), ap starts_of is)
-failed_up i (Line seat bytes) events (inr (inr none)) = elim none [ ]
-failed_up i (Connect seat) events (inl is) = (inr is, ap starts_of is)
-failed_up i (Connect seat) events (inr none) = elim none [ ]
-failed_up i (Drop seat) events (inl is) = (inr is, ap starts_of is)
-failed_up i (Drop seat) events (inr none) = elim none [ ]
-failed_up i Stop events (inl is) = (inr is, ap starts_of is)
-failed_up i Stop events (inr none) = elim none [ ]
+failed_up i front (Start found) events (inl is) = (inr is, ap starts_of is)
+failed_up i front (Start found) events (inr none) = elim none [ ]
+failed_up i front Tick events (inl is) = (inr is, ap starts_of is)
+failed_up i front Tick events (inr none) = elim none [ ]
+failed_up i front Away events (inl is) = (inr is, ap starts_of is)
+failed_up i front Away events (inr (inl is)) = (inl (refl, refl, inl is), ap starts_of is)
+failed_up i front Away events (inr (inr none)) = elim none [ ]
+failed_up i front (call.Frame from bytes) events (inl is) = (inr is, ap starts_of is)
+failed_up i front (call.Frame from bytes) events (inr none) = elim none [ ]
+failed_up i front (Line seat bytes) events (inl is) = (inr is, ap starts_of is)
+failed_up i front (Line seat bytes) events (inr (inl is)) = (inl (refl, refl, inl is), ap starts_of is)
+failed_up i front (Line seat bytes) events (inr (inr none)) = elim none [ ]
+failed_up i front (Connect seat) events (inl is) = (inr is, ap starts_of is)
+failed_up i front (Connect seat) events (inr none) = elim none [ ]
+failed_up i front (Drop seat) events (inl is) = (inr is, ap starts_of is)
+failed_up i front (Drop seat) events (inr none) = elim none [ ]
+failed_up i front Stop events (inl is) = (inr is, ap starts_of is)
+failed_up i front Stop events (inr none) = elim none [ ]
 
 -- one that was refused: nothing came, and of what would have come from a seat the node is down
 refused_up : LinesAreRefusedDown → (place : Place) (s : Standing) (called : Call) (refusal : Refusal) (events : List model.Event) → s.up ≡ true
-    → IsTurn place s called (Err refusal) → events ≡ [] → BringsAll place.node false (arrived_by place.node called) events ⊎ ((standing_after place s (Err refusal)).up ≡ false)
+    → IsTurn place s called (Err refusal) → events ≡ [] → BringsAll place.node false (arrived_by place.node (front_of s) called) events ⊎ ((standing_after place s (Err refusal)).up ≡ false)
 refused_up law place s (Start found) refusal events up turn none = inl none
 refused_up law place s Tick refusal events up turn none = inl none
+refused_up law place s Away refusal events up turn none = inl (refl, refl, inr none)
 refused_up law place s (call.Frame from bytes) refusal events up turn none = inl (refl, refl, none)
 refused_up law place s (Line seat bytes) refusal events up turn none = inr (law place s seat bytes refusal turn up)
 refused_up law place s (Connect seat) refusal events up turn none = absurd (ok_not _ refusal (sym (subst (λ b. IsTurnBy b place s (Connect seat) (Err refusal)) up turn)))
@@ -295,6 +305,7 @@ refused_up law place s Stop refusal events up turn none = inl none
 not_begun_up : (called : Call) → begins_by true called ≡ false
 not_begun_up (Start found) = refl
 not_begun_up Tick = refl
+not_begun_up Away = refl
 not_begun_up (call.Frame from bytes) = refl
 not_begun_up (Line seat bytes) = refl
 not_begun_up (Connect seat) = refl
@@ -307,6 +318,7 @@ not_begun_up Stop = refl
 down_refused : (place : Place) (s : Standing) (called : Call) (refusal : Refusal) → IsTurnDown place s called (Err refusal) → refusal ≡ Down
 down_refused place s (Start found) refusal (which, is) = absurd (ok_not _ refusal (sym is))
 down_refused place s Tick refusal is = err_is refusal Down is
+down_refused place s Away refusal is = err_is refusal Down is
 down_refused place s (call.Frame from bytes) refusal is = err_is refusal Down is
 down_refused place s (Line seat bytes) refusal is = err_is refusal Down is
 down_refused place s (Connect seat) refusal is = err_is refusal Down is
@@ -323,6 +335,7 @@ IsStarting place called turn = (found : Store) × (called ≡ Start found) × (t
 down_took : (place : Place) (s : Standing) (called : Call) (turn : Turn) → IsTurnDown place s called (Ok turn) → IsStill s called turn ⊎ IsStarting place called turn
 down_took place s (Start found) turn (which, is) = inr (found, refl, ok_is turn _ is)
 down_took place s Tick turn is = absurd (ok_not turn Down is)
+down_took place s Away turn is = absurd (ok_not turn Down is)
 down_took place s (call.Frame from bytes) turn is = absurd (ok_not turn Down is)
 down_took place s (Line seat bytes) turn is = absurd (ok_not turn Down is)
 down_took place s (Connect seat) turn is = absurd (ok_not turn Down is)
@@ -334,11 +347,12 @@ messages_are from (Ok content) = refl
 messages_are from (Err fault) = refl
 
 -- what came to a node that runs may come
-pub comes_up : (place : Place) (ever : List Message) (called : Call) (arrived : List Arrived) → IsSeated place.setting.game.players called → arrived ≡ arrived_by place.node called
+pub comes_up : (place : Place) (front : ℕ) (ever : List Message) (called : Call) (arrived : List Arrived) → IsSeated place.setting.game.players called → arrived ≡ arrived_by place.node front called
     → ((frame : Frame) → In frame (frames_in arrived) → IsSound place.nodes place.node ever frame) → Comes place ever called
-comes_up place ever (Start found) arrived seated is sound = tt
-comes_up place ever Tick arrived seated is sound = tt
-comes_up place ever (call.Frame from bytes) arrived seated is sound =
+comes_up place front ever (Start found) arrived seated is sound = tt
+comes_up place front ever Tick arrived seated is sound = tt
+comes_up place front ever Away arrived seated is sound = tt
+comes_up place front ever (call.Frame from bytes) arrived seated is sound =
     let frame : Frame = record { from = from; to = place.node; bytes = bytes } in
     let good = sound frame (subst (λ (a : List Arrived). In frame (frames_in a)) (sym is) (inl refl)) in
     record {
@@ -347,14 +361,14 @@ comes_up place ever (call.Frame from bytes) arrived seated is sound =
       sent = λ message h. good.sent message (subst (In message) (sym (messages_are from (reading bytes))) h);
       sender = λ message h. good.own message (subst (In message) (sym (messages_are from (reading bytes))) h);
     }
-comes_up place ever (Line seat bytes) arrived seated is sound = seated
-comes_up place ever (Connect seat) arrived seated is sound = seated
-comes_up place ever (Drop seat) arrived seated is sound = seated
-comes_up place ever Stop arrived seated is sound = tt
+comes_up place front ever (Line seat bytes) arrived seated is sound = seated
+comes_up place front ever (Connect seat) arrived seated is sound = seated
+comes_up place front ever (Drop seat) arrived seated is sound = seated
+comes_up place front ever Stop arrived seated is sound = tt
 
-arrived_some : (i : ℕ) (up : Bool) (called : Call) (arrived : List Arrived) → arrived ≡ arrived_at up i called → arrived ≢ [] → up ≡ true
-arrived_some i true called arrived is some = refl
-arrived_some i false called arrived is some = absurd (some is)
+arrived_some : (i front : ℕ) (up : Bool) (called : Call) (arrived : List Arrived) → arrived ≡ arrived_at up i front called → arrived ≢ [] → up ≡ true
+arrived_some i front true called arrived is some = refl
+arrived_some i front false called arrived is some = absurd (some is)
 
 starts_of_one : (i : ℕ) → starts_of (model.Started i ∷ []) ≡ 1
 unfolding starts_of
@@ -363,6 +377,32 @@ starts_of_one i = refl
 starts_of_none : starts_of [] ≡ 0
 unfolding starts_of
 starts_of_none = refl
+
+-- ---- what a node knew when an order came
+
+-- of the calls an order alone brings one, with the node's front
+order_of : (i front : ℕ) (called : Call) (node below : ℕ) → In (Ordered node below) (arrived_by i front called) → below ≡ front
+order_of i front (Start found) node below there = elim there [ ]
+order_of i front Tick node below there = elim there [ ]
+order_of i front Away node below (inl is) = cc
+order_of i front Away node below (inr none) = elim none [ ]
+order_of i front (call.Frame from bytes) node below (inl is) = absurd cc
+order_of i front (call.Frame from bytes) node below (inr none) = elim none [ ]
+order_of i front (Line seat bytes) node below (inl is) = absurd cc
+order_of i front (Line seat bytes) node below (inr none) = elim none [ ]
+order_of i front (Connect seat) node below (inl is) = absurd cc
+order_of i front (Connect seat) node below (inr none) = elim none [ ]
+order_of i front (Drop seat) node below (inl is) = absurd cc
+order_of i front (Drop seat) node below (inr none) = elim none [ ]
+order_of i front Stop node below there = elim there [ ]
+
+pub knew_at : (own : ℕ → Command → Bool) (place : Place) (world : World) (s : Standing) (called : Call) (node front : ℕ) → IsOf own place s (world.nodes place.node) → s.up ≡ true
+    → In (Ordered node front) (arrived_by place.node (front_of s) called) → HasKnown (world.nodes place.node) front
+knew_at own place world s called node front of up there = (
+  applied s,
+  sym (order_of place.node (front_of s) called node front there),
+  commands_known s.learned.log (world.nodes place.node).known (of.runs up).knows.learner.knows,
+)
 
 -- ---- a call by the rules, at a node that runs
 
@@ -375,8 +415,9 @@ up_built : (own : ℕ → Command → Bool) (place : Place) (world : World) (log
     → (c : RuleCalled own place world.ever (world.nodes place.node) (rule.log_before place s) (came_in called) events frames shown new)
     → AreWritten place.node frames made.frames → made.texts ≡ map text_by_rule shown → made.began ≡ false
     → (BringsAll place.node false arrived (events_of c.output.came) ⊎ ((c.output.came ≡ []) × (c.last.up ≡ false))) → starts_of (events_of c.output.came) ≡ 0
+    → arrived ≡ arrived_by place.node (front_of s) called
     → IsRuled own place world log arrived made new
-up_built own place world log s called events frames shown arrived made new within of up c written texts not_begun brings none =
+up_built own place world log s called events frames shown arrived made new within of up c written texts not_begun brings none came =
     let first_up : (world.nodes place.node).up ≡ true = of.of.up ∙ up in
     let base : rule.log_before place s ≡ log_before made.began log =
     ap (λ b. cond b (log_of place.setting (applied s)) []) up ∙ (sym (of.logs up) ∙ ap (λ b. log_before b log) (sym not_begun)) in
@@ -387,6 +428,7 @@ up_built own place world log s called events frames shown arrived made new withi
     })
     (λ begun. absurd (true≢false (sym begun ∙ not_begun)))
     (λ some. first_up) (λ still some. first_up)
+    (λ node front there. knew_at own place world s called node front of.of up (subst (In (Ordered node front)) came there))
 
 -- ---- a call by the rules
 
@@ -408,55 +450,56 @@ called_by_rule own place world log s called arrived made new law refused_down is
     by_end (refused refusal turn same no_frames no_pieces) is false down (came, not_begun) =
         let is_down = down_refused place s called refusal (subst (λ b. IsTurnBy b place s called (Err refusal)) down turn) in
         still_by own place world log s r.frames r.shown arrived made new of (same ∙ ap (λ (k : Refusal). standing_after place s (Err k)) is_down) no_frames no_pieces
-        (came ∙ ap (λ b. arrived_at b place.node called) down) not_begun r.written r.texts
+        (came ∙ ap (λ b. arrived_at b place.node (front_of s) called) down) not_begun r.written r.texts
     by_end (failed outcome begun up turn either same no_frames no_pieces) is false down (came, not_begun) = absurd (true≢false (sym up ∙ down))
     by_end (took turn turned same frames_are pieces_are) is false down (came, begins) = elim (down_took place s called turn (subst (λ b. IsTurnBy b place s called (Ok turn)) down turned)) [
       | inl (is_still, not_begun) ↦
           still_by own place world log s r.frames r.shown arrived made new of (same ∙ ap (λ (t : Turn). t.after) is_still) (frames_are ∙ ap (λ (t : Turn). t.frames) is_still) (pieces_are ∙ ap (λ (t : Turn). t.shown) is_still)
-          (came ∙ ap (λ b. arrived_at b place.node called) down) (begins ∙ (ap (λ b. begins_by b called) down ∙ not_begun)) r.written r.texts
+          (came ∙ ap (λ b. arrived_at b place.node (front_of s) called) down) (begins ∙ (ap (λ b. begins_by b called) down ∙ not_begun)) r.written r.texts
       | inr (found, is_start_call, is_starting) ↦
           let c = law own place world s called new r.frames r.shown stands (subst (Comes place world.ever) (sym is_start_call) tt) (took turn turned same frames_are pieces_are) in
           let begun : made.began ≡ true = begins ∙ (ap (λ b. begins_by b called) down ∙ ap (begins_by false) is_start_call) in
-          let none_arrived : arrived ≡ [] = came ∙ ap (λ b. arrived_at b place.node called) down in
+          let none_arrived : arrived ≡ [] = came ∙ ap (λ b. arrived_at b place.node (front_of s) called) down in
           let base : rule.log_before place s ≡ log_before made.began log = ap (λ b. cond b (log_of place.setting (applied s)) []) down ∙ ap (λ b. log_before b log) (sym begun) in
           let events : In (events_of c.output.came) ((model.Started place.node ∷ []) ∷ []) =
-          subst (λ (k : Call). In (events_of c.output.came) (rule.taken_events place.node false k)) is_start_call (subst (λ b. In (events_of c.output.came) (rule.taken_events place.node b called)) down c.happened) in
+          subst (λ (k : Call). In (events_of c.output.came) (rule.taken_events place.node (front_of s) false k)) is_start_call (subst (λ b. In (events_of c.output.came) (rule.taken_events place.node (front_of s) b called)) down c.happened) in
           let one : events_of c.output.came ≡ model.Started place.node ∷ [] = only_in _ _ events in
           let text : made.texts ≡ text_by_rule (header place.setting) ∷ [] = r.texts ∙ ap (map text_by_rule) (pieces_are ∙ ap (λ (t : Turn). t.shown) is_starting) in
-          built own place world log (rule.log_before place s) called (rule.taken_events place.node s.up called) r.frames r.shown arrived made new c is_place.node r.written r.texts base
+          built own place world log (rule.log_before place s) called (rule.taken_events place.node (front_of s) s.up called) r.frames r.shown arrived made new c is_place.node r.written r.texts base
           (record {
             brings = inl (subst (λ b. BringsAll place.node b arrived (events_of c.output.came)) (sym begun) (subst (λ (a : List Arrived). BringsAll place.node true a (events_of c.output.came)) (sym none_arrived) one));
             starts = starts_in_events c.output.came ∙ (ap starts_of one ∙ (starts_of_one place.node ∙ ap (λ b. cond b 1 0) (sym begun)));
           })
           (λ is_begun. (text_by_rule (header place.setting), subst (In (text_by_rule (header place.setting))) (sym text) (inl refl), refl))
           (λ some. absurd (some none_arrived)) (λ still_now some. absurd (true≢false (sym begun ∙ still_now)))
+          (λ node front there. elim (subst (In (Ordered node front)) none_arrived there) [ ])
     ]
     by_end (took turn turned same frames_are pieces_are) is true up (came, begins) =
-        let came_up : arrived ≡ arrived_by place.node called = came ∙ ap (λ b. arrived_at b place.node called) up in
-        let c = law own place world s called new r.frames r.shown stands (comes_up place world.ever called arrived r.seated came_up sound) (took turn turned same frames_are pieces_are) in
-        let events = took_up place.node called (events_of c.output.came) (subst (λ b. In (events_of c.output.came) (rule.taken_events place.node b called)) up c.happened) in
-        up_built own place world log s called (rule.taken_events place.node s.up called) r.frames r.shown arrived made new is_place.node of up c r.written r.texts
+        let came_up : arrived ≡ arrived_by place.node (front_of s) called = came ∙ ap (λ b. arrived_at b place.node (front_of s) called) up in
+        let c = law own place world s called new r.frames r.shown stands (comes_up place (front_of s) world.ever called arrived r.seated came_up sound) (took turn turned same frames_are pieces_are) in
+        let events = took_up place.node (front_of s) called (events_of c.output.came) (subst (λ b. In (events_of c.output.came) (rule.taken_events place.node (front_of s) b called)) up c.happened) in
+        up_built own place world log s called (rule.taken_events place.node (front_of s) s.up called) r.frames r.shown arrived made new is_place.node of up c r.written r.texts
         (begins ∙ (ap (λ b. begins_by b called) up ∙ not_begun_up called))
-        (inl (subst (λ (a : List Arrived). BringsAll place.node false a (events_of c.output.came)) (sym came_up) events.0)) events.1
+        (inl (subst (λ (a : List Arrived). BringsAll place.node false a (events_of c.output.came)) (sym came_up) events.0)) events.1 came_up
     by_end (refused refusal turn same no_frames no_pieces) is true up (came, not_begun) =
-        let came_up : arrived ≡ arrived_by place.node called = came ∙ ap (λ b. arrived_at b place.node called) up in
-        let c = law own place world s called new r.frames r.shown stands (comes_up place world.ever called arrived r.seated came_up sound) (refused refusal turn same no_frames no_pieces) in
+        let came_up : arrived ≡ arrived_by place.node (front_of s) called = came ∙ ap (λ b. arrived_at b place.node (front_of s) called) up in
+        let c = law own place world s called new r.frames r.shown stands (comes_up place (front_of s) world.ever called arrived r.seated came_up sound) (refused refusal turn same no_frames no_pieces) in
         let none : events_of c.output.came ≡ [] = only_in _ _ c.happened in
         up_built own place world log s called ([] ∷ []) r.frames r.shown arrived made new is_place.node of up c r.written r.texts not_begun
         (elim (refused_up refused_down place s called refusal (events_of c.output.came) up turn none) [
           | inl brings ↦ inl (subst (λ (a : List Arrived). BringsAll place.node false a (events_of c.output.came)) (sym came_up) brings)
           | inr down ↦ inr (no_event c.output.came none, c.of.up ∙ (ap (λ (n : Standing). n.up) same ∙ down))
-        ]) (ap starts_of none ∙ starts_of_none)
+        ]) (ap starts_of none ∙ starts_of_none) came_up
     by_end (failed outcome begun was_up turn either same no_frames no_pieces) is true up (came, not_begun) =
-        let came_up : arrived ≡ arrived_by place.node called = came ∙ ap (λ b. arrived_at b place.node called) up in
-        let c = law own place world s called new r.frames r.shown stands (comes_up place world.ever called arrived r.seated came_up sound) (failed outcome begun was_up turn either same no_frames no_pieces) in
-        let events = failed_up place.node called (events_of c.output.came) c.happened in
-        up_built own place world log s called (rule.failed_events place.node called) r.frames r.shown arrived made new is_place.node of up c r.written r.texts not_begun
+        let came_up : arrived ≡ arrived_by place.node (front_of s) called = came ∙ ap (λ b. arrived_at b place.node (front_of s) called) up in
+        let c = law own place world s called new r.frames r.shown stands (comes_up place (front_of s) world.ever called arrived r.seated came_up sound) (failed outcome begun was_up turn either same no_frames no_pieces) in
+        let events = failed_up place.node (front_of s) called (events_of c.output.came) c.happened in
+        up_built own place world log s called (rule.failed_events place.node (front_of s) called) r.frames r.shown arrived made new is_place.node of up c r.written r.texts not_begun
         (elim events.0 [
           | inl brings ↦ inl (subst (λ (a : List Arrived). BringsAll place.node false a (events_of c.output.came)) (sym came_up) brings)
           | inr none ↦ inr (no_event c.output.came none, c.of.up ∙ ap (λ (n : Standing). n.up) same)
-        ]) events.1
+        ]) events.1 came_up
 
 -- what a call that was broken off brought
-pub events_left : (i : ℕ) (called : Call) (came : List model.Arrival) → In (events_of came) (rule.failed_events i called) → BringsAll i false (arrived_by i called) (events_of came) ⊎ (came ≡ [])
-events_left i called came there = elim (failed_up i called (events_of came) there).0 [ inl brings ↦ inl brings | inr none ↦ inr (no_event came none) ]
+pub events_left : (i front : ℕ) (called : Call) (came : List model.Arrival) → In (events_of came) (rule.failed_events i front called) → BringsAll i false (arrived_by i front called) (events_of came) ⊎ (came ≡ [])
+events_left i front called came there = elim (failed_up i front called (events_of came) there).0 [ inl brings ↦ inl brings | inr none ↦ inr (no_event came none) ]

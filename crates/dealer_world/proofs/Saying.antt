@@ -1,10 +1,10 @@
 -- What frames say, and what came by frames was sent.
-use Rattle.std.proofs.Common.{◌≡◌, ℕ, inl, inr, List, [], ◌∷◌, ◌++◌, map, length, refl, ap, sym, ◌∙◌, subst, append_assoc, arith}
+use Rattle.std.proofs.Common.{◌≡◌, ℕ, zero, suc, inl, inr, List, [], ◌∷◌, ◌++◌, map, length, take, refl, ap, sym, ◌∙◌, subst, append_assoc, arith}
 use Rattle.std.proofs.lemmas.List.{take-append-le, length-append}
 use Rattle.std.proofs.Math.Seq.{take-append_seam}
 use Rattle.protocol_model.specs.Sets.{In}
 use Rattle.protocol_model.specs.Messages.{Message}
-use Rattle.dealer_world.specs.Records.{Frame, Arrived, Delivered, Came, Connected, Dropped, Arrival, said, said_by}
+use Rattle.dealer_world.specs.Records.{Frame, Arrived, Delivered, Came, Connected, Dropped, Ordered, Arrival, said, said_by}
 use Rattle.dealer_world.specs.Unforged.{IsAmong, IsUnforged, ArePlaced}
 use Rattle.dealer_world.specs.Calls.{frames_in}
 use Rattle.dealer_world.specs.Views.{placed_at}
@@ -13,6 +13,24 @@ use Rattle.protocol_model.proofs.Sets.{in_first, in_later, in_split}
 pub said_append : (xs ys : List Frame) → said (xs ++ ys) ≡ said xs ++ said ys
 said_append [] ys = refl
 said_append (x ∷ xs) ys = ap (λ ms. said_by x ++ ms) (said_append xs ys) ∙ sym (append_assoc (said_by x) (said xs) (said ys))
+
+-- what the first frames say is said where more follow
+pub said_more : (count : ℕ) (xs ys : List Frame) (message : Message) → In message (said (take count xs)) → In message (said (take count (xs ++ ys)))
+said_more zero xs ys message h = elim h [ ]
+said_more (suc count) [] ys message h = elim h [ ]
+said_more (suc count) (x ∷ xs) ys message h = elim (in_split (said_by x) (said (take count xs)) message h) [
+  | inl here ↦ in_first (said_by x) (said (take count (xs ++ ys))) message here
+  | inr later ↦ in_later (said_by x) (said (take count (xs ++ ys))) message (said_more count xs ys message later)
+]
+
+-- and what they say is said
+pub said_of_first : (count : ℕ) (xs : List Frame) (message : Message) → In message (said (take count xs)) → In message (said xs)
+said_of_first zero xs message h = elim h [ ]
+said_of_first (suc count) [] message h = elim h [ ]
+said_of_first (suc count) (x ∷ xs) message h = elim (in_split (said_by x) (said (take count xs)) message h) [
+  | inl here ↦ in_first (said_by x) (said xs) message here
+  | inr later ↦ in_later (said_by x) (said xs) message (said_of_first count xs message later)
+]
 
 pub in_said : (frame : Frame) (frames : List Frame) (message : Message) → In frame frames → In message (said_by frame) → In message (said frames)
 in_said frame [] message there h = elim there [ ]
@@ -46,8 +64,9 @@ each_among sent (Delivered first ∷ more) among frame (inr h) = each_among sent
 each_among sent (Came node seat bytes ∷ more) among frame h = each_among sent more (λ what later. among what (inr later)) frame h
 each_among sent (Connected node seat ∷ more) among frame h = each_among sent more (λ what later. among what (inr later)) frame h
 each_among sent (Dropped node seat ∷ more) among frame h = each_among sent more (λ what later. among what (inr later)) frame h
+each_among sent (Ordered node front ∷ more) among frame h = each_among sent more (λ what later. among what (inr later)) frame h
 
-in_map_placed : (count : ℕ) (arrived : List Arrived) (what : Arrived) → In what arrived → In (placed_at count what) (map (placed_at count) arrived)
+pub in_map_placed : (count : ℕ) (arrived : List Arrived) (what : Arrived) → In what arrived → In (placed_at count what) (map (placed_at count) arrived)
 in_map_placed count [] what h = elim h [ ]
 in_map_placed count (other ∷ more) what (inl e) = inl (ap (placed_at count) e)
 in_map_placed count (other ∷ more) what (inr h) = inr (in_map_placed count more what h)

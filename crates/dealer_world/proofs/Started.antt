@@ -18,7 +18,7 @@ use Rattle.dealer_node.specs.declared.fault.NodeFault.{NodeFault}
 use Rattle.dealer_node.specs.Outs.{Told, nothing_told, both_told}
 use Rattle.dealer_node.specs.Posts.{place_at}
 use Rattle.dealer_node.specs.Turned.{posted, printed, fault_of}
-use Rattle.dealer_node.specs.Seeing.{post_in, runs, IsSeen, begun_of}
+use Rattle.dealer_node.specs.Seeing.{post_in, runs, front_in, IsSeen, begun_of}
 use Rattle.promise_store.specs.Journals.{header as store_header}
 use Rattle.promise_store.specs.Holding.{StandsFor}
 use Rattle.dealer_node.specs.Taking.{Answered}
@@ -109,10 +109,10 @@ start_more plan stores k told frames shown faults made asks shows =
 
 -- ---- one start after another
 
-gained : {N : Type 0} (e : Event) (up : Bool) (told : Told) (old new : View N) (answer : Result (Unit {0}) NodeFault) → answer ≡ Ok tt → Gains e up told old new answer
-    → new.all ≡ grown old.all (node_of e) (arrived_by_event up e) (made_by (node_of e) told (begins_by_event up e answer))
-gained e up told old new answer ok (nothing a absent all last) = absurd (not_err _ answer ok absent)
-gained e up told old new answer ok (call a ample all last) = all
+gained : {N : Type 0} (e : Event) (up : Bool) (front : ℕ) (told : Told) (old new : View N) (answer : Result (Unit {0}) NodeFault) → answer ≡ Ok tt → Gains e up front told old new answer
+    → new.all ≡ grown old.all (node_of e) (arrived_by_event up front e) (made_by (node_of e) told (begins_by_event up e answer))
+gained e up front told old new answer ok (nothing a absent all last) = absurd (not_err _ answer ok absent)
+gained e up front told old new answer ok (call a ample all last) = all
 
 module _ {D : Type 0} (g : Ghosts D) where
   -- node i of a plan, down, with this store
@@ -154,8 +154,8 @@ module _ {D : Type 0} (g : Ghosts D) where
       let start = start_turn place (stores j) t.0 takes.after takes.frames takes.shown takes.faults moved.0 moved.1 in
       let e = event.Start j in
       let grows : last.all ≡ first_record plan stores (suc j) =
-      gained e (runs node) stepped.told between last (Ok tt) refl stepped.gains
-      ∙ (ap (λ u. grown between.all j (arrived_by_event u e) (made_by j stepped.told (begins_by_event u e (Ok tt)))) waits.down
+      gained e (runs node) (front_in node) stepped.told between last (Ok tt) refl stepped.gains
+      ∙ (ap (λ u. grown between.all j (arrived_by_event u (front_in node) e) (made_by j stepped.told (begins_by_event u e (Ok tt)))) waits.down
       ∙ (ap (λ (all : Record). grown all j [] (made_by j stepped.told true)) before.all
       ∙ start_more plan stores j stepped.told takes.frames takes.shown takes.faults takes.told start.asks start.shows)) in
       let here : (d : Node D) → get_or last.nodes j d ≡ stepped.after = λ d.

@@ -1,7 +1,7 @@
 -- Starts in a chain of moves: what came tells of each, and a node that is down does nothing else.
 use Rattle.std.proofs.Common.{◌≡◌, ℕ, ◌+◌, true, List, [], ◌∷◌, ◌++◌, refl, ap, sym, ◌∙◌, arith}
 use Rattle.protocol_model.specs.Messages.{Message}
-use Rattle.protocol_model.specs.Arrivals.{Event, Arrival, Started, Connected, Dropped, Closed, Came}
+use Rattle.protocol_model.specs.Arrivals.{Event, Arrival, Started, Connected, Dropped, Closed, Came, Ordered}
 use Rattle.protocol_model.specs.Nodes.{Node}
 use Rattle.protocol_model.specs.Dealers.{Dealer}
 use Rattle.protocol_model.specs.Moves
@@ -11,6 +11,7 @@ abbrev pub is_start : Event → ℕ
 is_start (Started node) = 1
 is_start (Connected node seat) = 0
 is_start (Dropped node seat) = 0
+is_start (Ordered node front) = 0
 is_start (Closed node seat) = 0
 is_start (Came node seat bytes) = 0
 
@@ -41,6 +42,7 @@ move_counts dealer n i ever old out new (Moves.drops seat up eo en) = quiet old 
 move_counts dealer n i ever old out new (Moves.closes seat up eo en) = quiet old out _ new _ eo en refl refl up
 move_counts dealer n i ever old out new (Moves.hears seat bytes up eo en) = quiet old out _ new _ eo en refl refl up
 move_counts dealer n i ever old out new (Moves.notes seat bytes before line command up heard knows holds says eo en) = quiet old out _ new _ eo en refl refl up
+move_counts dealer n i ever old out new (Moves.ordered before command up knows hole orders eo en) = quiet old out _ new _ eo en refl refl up
 move_counts dealer n i ever old out new (Moves.begins ballot slot told up own below tells eo en) = quiet old out _ new _ eo en refl refl up
 move_counts dealer n i ever old out new (Moves.promises ballot slot told up has below tells eo en) = quiet old out _ new _ eo en refl refl up
 move_counts dealer n i ever old out new (Moves.proposes ballot first slot command up prepared unproposed own may eo en) = quiet old out _ new _ eo en refl refl up

@@ -8,14 +8,14 @@ use Rattle.promise_store.specs.Journals.{header}
 use Rattle.promise_store.specs.Holding.{StandsFor}
 use Rattle.protocol_model.specs.Stores.{Store, empty_store}
 use Rattle.dealer_kind.specs.Kind.{Setting}
-use Rattle.node_rules.specs.Standings.{Place, Standing, place_of, stopped}
+use Rattle.node_rules.specs.Standings.{Place, Standing, place_of, front_of, stopped}
 use Rattle.node_rules.specs.Turns.{Turn, Refusal}
 use Rattle.node_rules.specs.Calls.{Call}
 use Rattle.node_rules.specs.Rules.{IsTurn, standing_after}
 use Rattle.dealer_node.specs.Nodes.{Node}
 use Rattle.dealer_node.specs.declared.fault.NodeFault.{NodeFault}
 use Rattle.dealer_node.specs.Posts.{place_at}
-use Rattle.dealer_node.specs.Seeing.{post_in, IsSeen, begun_of, images_of, since_of, moment_of, head_of}
+use Rattle.dealer_node.specs.Seeing.{post_in, front_in, IsSeen, begun_of, images_of, since_of, moment_of, head_of}
 use Rattle.dealer_node.specs.Taking.{MayBegin}
 use Rattle.dealer_world.specs.declared.event.Event.{Event}
 use Rattle.dealer_world.specs.Records.{Arrived}
@@ -29,7 +29,8 @@ use Rattle.dealer_world.specs.Stepping.{View, Stepped}
 use Rattle.dealer_world.specs.Promise.{IsForMatch, era_of, with_brought, HasNoForged, GoesOnFrom}
 use Rattle.dealer_world.specs.Beginning.{AreImagesDuring}
 use Rattle.dealer_world.proofs.Keeping.{each_from}
-use Rattle.dealer_world.proofs.Ruled.{same_count, seen_at, brought, seated}
+use Rattle.dealer_world.specs.Runs.{arrived_by}
+use Rattle.dealer_world.proofs.Ruled.{front_seen, same_count, seen_at, brought, seated}
 use Rattle.dealer_world.proofs.Advancing.{node_in}
 use Rattle.dealer_world.proofs.Leaving.{ImagesAreSeen, IsLeftBy, left_from, left_at, all_left, rests}
 
@@ -56,15 +57,15 @@ module _ {D : Type 0} (g : Ghosts D) where
   MomentsPass = (node : Node D) (image : List ℕ) → since_of g node (moment_of g node) image → images_of g node image
 
   -- a call was broken off with its append begun
-  breaks : (view : View (Node D)) (eras : List Era) (files : List (List ℕ)) (d : Standing) (e : Event) (found : Store) (outcome : Result Turn Refusal)
-      → length files ≡ length view.nodes → length view.nodes ≡ length view.config.sources → IsForMatch view.config e → HasNoForged (with_brought view e)
+  breaks : (view : View (Node D)) (eras : List Era) (files : List (List ℕ)) (d : Standing) (front : ℕ) (e : Event) (found : Store) (outcome : Result Turn Refusal)
+      → length files ≡ length view.nodes → length view.nodes ≡ length view.config.sources → IsForMatch view.config e → HasNoForged (with_brought view front e)
       → (ruled : AreRuled g view.config eras view.nodes view.all)
-      → let s : Standing = get_or ruled.standings (node_of e) d in s.up ≡ true → IsTurn (place_of view.config (node_of e)) s (call_of found e) outcome
+      → let s : Standing = get_or ruled.standings (node_of e) d in s.up ≡ true → front ≡ front_of s → IsTurn (place_of view.config (node_of e)) s (call_of found e) outcome
       → StandsFor (header (node_of e) (length view.config.sources)) (get_or files (node_of e) []) (standing_after (place_of view.config (node_of e)) s outcome).begun
       → ((i : ℕ) → i < length view.nodes → i ≢ node_of e
       → IsLeftBy (length view.config.sources) i (get_or ruled.standings i d).store (get_or ruled.standings i d).begun (get_or files i []))
-      → Leaves view.config.setting (length view.config.sources) (era_of (with_brought view e) ∷ eras) files
-  breaks view eras files d e found outcome count nodes_are is_for unforged ruled up turn stands others =
+      → Leaves view.config.setting (length view.config.sources) (era_of (with_brought view front e) ∷ eras) files
+  breaks view eras files d front e found outcome count nodes_are is_for unforged ruled up same_front turn stands others =
       let i = node_of e in
       let n = length view.config.sources in
       let standings = ruled.standings in
@@ -75,14 +76,14 @@ module _ {D : Type 0} (g : Ghosts D) where
       let less : i < length standings = subst (λ m. i < m) size (node_in view.config view.nodes e nodes_are is_for) in
       a_run (record {
         before = eras;
-        latest = era_of (with_brought view e);
+        latest = era_of (with_brought view front e);
         are = refl;
         sources = view.config.sources;
         old = record { standings = standings; now = view.all };
         runs = ruled.runs;
         begun = begun;
         ends = in_a_call i s (call_of found e) outcome less (get_or_default standings i s d less) up (seated n view.config.setting.game.players e found is_for) turn
-            (ap (λ (arrived : List Arrived). grown view.all i arrived nothing_made) (brought e found)) (with_own standings d i next)
+            (ap (λ (arrived : List Arrived). grown view.all i arrived nothing_made) (brought front e found ∙ ap (λ n. arrived_by i n (call_of found e)) same_front)) (with_own standings d i next)
             (each_from (λ j other. j ≢ i → begun j ≡ other.begun) 0 standings d (λ j within ne.
             let f : j ≡ 0 + j = omega arith in
             subst (λ k. k ≢ i → begun k ≡ (get_or standings j d).begun) f (λ ne'. with_other standings d i next j ne') ne));
@@ -101,9 +102,9 @@ module _ {D : Type 0} (g : Ghosts D) where
   -- inside a call: its record is that before the call, or that with what the call brought
   left_inside : (view after : View (Node D)) (e : Event) (answer : Result (Unit {0}) NodeFault) (eras : List Era) (files : List (List ℕ)) → ImagesAreSeen g → MomentsPass → ArePosted view.config view.nodes
       → length view.nodes ≡ length view.config.sources → (stepped : Stepped g view e answer after) → IsForMatch view.config e
-      → AreImagesDuring g (node_of e) stepped.before stepped.after view.nodes files → IsTrue g.is_honest → HasNoForged view → HasNoForged (with_brought view e)
+      → AreImagesDuring g (node_of e) stepped.before stepped.after view.nodes files → IsTrue g.is_honest → HasNoForged view → HasNoForged (with_brought view (front_in stepped.before) e)
       → AreRuled g view.config eras view.nodes view.all
-      → Leaves view.config.setting (length view.config.sources) (era_of view ∷ eras) files ⊎ Leaves view.config.setting (length view.config.sources) (era_of (with_brought view e) ∷ eras) files
+      → Leaves view.config.setting (length view.config.sources) (era_of view ∷ eras) files ⊎ Leaves view.config.setting (length view.config.sources) (era_of (with_brought view (front_in stepped.before) e) ∷ eras) files
   left_inside view after e answer eras files law moments posted nodes_are stepped is_for images honest unforged brought_unforged ruled =
       let i = node_of e in
       let n = length view.config.sources in
@@ -130,11 +131,11 @@ module _ {D : Type 0} (g : Ghosts D) where
           | inl old ↦ inl (rest (inl (subst (λ (h : List ℕ). StandsFor h file s.store) head old)))
           | inr new ↦
               let here : StandsFor (header i n) file t.1.next = subst (λ (h : List ℕ). StandsFor h file t.1.next) head new in
-              by_begun s.up (place_of view.config i) s (call_of t.0 e) t.1.next (Leaves view.config.setting n (era_of view ∷ eras) files) (Leaves view.config.setting n (era_of (with_brought view e) ∷ eras) files)
+              by_begun s.up (place_of view.config i) s (call_of t.0 e) t.1.next (Leaves view.config.setting n (era_of view ∷ eras) files) (Leaves view.config.setting n (era_of (with_brought view (front_in stepped.before) e) ∷ eras) files)
               refl (subst (λ (p : Place). MayBegin s.up p s (call_of t.0 e) t.1.next) placed t.1.may_begin)
               (λ is. rest (inr (subst (λ (store : Store). StandsFor (header i n) file store) is here)))
               (λ is. rest (inl (subst (λ (store : Store). StandsFor (header i n) file store) is here)))
-              (λ up outcome turn is. breaks view eras files d e t.0 outcome images.count nodes_are is_for brought_unforged ruled up turn
+              (λ up outcome turn is. breaks view eras files d (front_in node) e t.0 outcome images.count nodes_are is_for brought_unforged ruled up (front_seen g node s seen) turn
               (subst (λ (store : Store). StandsFor (header i n) file store) is here) others)
         ]
       ]
@@ -143,8 +144,8 @@ module _ {D : Type 0} (g : Ghosts D) where
   pub goes_on_inside : (view after now : View (Node D)) (e : Event) (answer : Result (Unit {0}) NodeFault) (eras : List Era) → ImagesAreSeen g → MomentsPass → ∥ ArePosted view.config view.nodes ∥₁
       → IsBehind g view.opened view.config view.nodes view.all → length view.nodes ≡ length view.config.sources → now.opened ≡ true → view.config.setting ≡ now.config.setting
       → length view.config.sources ≡ length now.config.sources → (stepped : Stepped g view e answer after) → IsForMatch view.config e
-      → AreImagesDuring g (node_of e) stepped.before stepped.after view.nodes (map (begun_of g) now.nodes) → GoesOnFrom g view eras → IsTrue g.is_honest → HasNoForged view → HasNoForged (with_brought view e)
-      → ∥ GoesOnFrom g now (era_of view ∷ eras) ⊎ GoesOnFrom g now (era_of (with_brought view e) ∷ eras) ∥₁
+      → AreImagesDuring g (node_of e) stepped.before stepped.after view.nodes (map (begun_of g) now.nodes) → GoesOnFrom g view eras → IsTrue g.is_honest → HasNoForged view → HasNoForged (with_brought view (front_in stepped.before) e)
+      → ∥ GoesOnFrom g now (era_of view ∷ eras) ⊎ GoesOnFrom g now (era_of (with_brought view (front_in stepped.before) e) ∷ eras) ∥₁
   goes_on_inside view after now e answer eras law moments posted behind nodes_are opened setting count stepped is_for images goes honest unforged brought_unforged =
       let files = map (begun_of g) now.nodes in
       let there : (found : List Era) → Leaves view.config.setting (length view.config.sources) found files → GoesOnFrom g now found = λ found left.
@@ -153,5 +154,5 @@ module _ {D : Type 0} (g : Ghosts D) where
       ∥∥₁_elim posted (hlevel) (λ each. ∥∥₁_map (behind eras goes honest) (λ ruled.
       elim (left_inside view after e answer eras files law moments each nodes_are stepped is_for images honest unforged brought_unforged ruled) [
         | inl left ↦ inl (there (era_of view ∷ eras) left)
-        | inr left ↦ inr (there (era_of (with_brought view e) ∷ eras) left)
+        | inr left ↦ inr (there (era_of (with_brought view (front_in stepped.before) e) ∷ eras) left)
       ]))

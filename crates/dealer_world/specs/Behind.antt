@@ -1,5 +1,5 @@
 -- The world behind a cluster and all its eras.
-use Rattle.std.specs.Prelude.{◌≡◌, ℕ, suc, ◌+◌, ◌<◌, ◌≤◌, ◌⊎◌, true, Some, List, [], ◌∷◌, ◌++◌, length, reverse}
+use Rattle.std.specs.Prelude.{◌≡◌, ℕ, suc, ◌+◌, ◌<◌, ◌≤◌, ◌⊎◌, true, Some, List, [], ◌∷◌, ◌++◌, length, take, reverse}
 use Rattle.paxos_wire.specs.declared.ballot.Ballot.{Ballot}
 use Rattle.slot_log.specs.declared.command.Command.{Command}
 use Rattle.protocol_model.specs.Sets.{In, IsBeginning}
@@ -9,8 +9,9 @@ use Rattle.protocol_model.specs.Nodes.{Node as WorldNode}
 use Rattle.protocol_model.specs.Dealers.{Dealer, Log}
 use Rattle.protocol_model.specs.Moves.{Shown}
 use Rattle.protocol_model.specs.Worlds.{World, Reached}
+use Rattle.protocol_model.specs.Quorums.{AreChosen}
 use Rattle.dealer_world.specs.Calls.{IsOwn}
-use Rattle.dealer_world.specs.Records.{Record, Frame, Piece, Arrival, Start, log_of, last_start, start_count, said}
+use Rattle.dealer_world.specs.Records.{Record, Frame, Piece, Arrival, Ordered, Start, log_of, last_start, start_count, said}
 use Rattle.dealer_world.specs.Hearing.{heard_by, WasHeard}
 use Rattle.dealer_world.specs.Headline.{Era, said_in, text_by, InSome}
 
@@ -50,6 +51,29 @@ AreHeard came now before = (earlier : List model.Arrival) (node seat : ℕ) (byt
 abbrev pub IsHeardNow : ℕ → World → List Arrival → Type 0
 IsHeardNow n world delivered = (i seat : ℕ) (bytes : List ℕ) → i < n → (world.nodes i).up ≡ true
     → model.heard_in world.came i seat ≡ Some bytes → heard_by delivered i seat ≡ Some bytes
+
+-- the order is in this record, behind those of the eras before it; and there are commands, as many as lay below the front that it met, which were chosen by
+-- what the frames said that had been sent before it came
+pub record IsOrderIn (n : ℕ) (now : Record) (before : List Era) (node front : ℕ) : Type 0 where
+  pub arrival : Arrival
+  pub came : In arrival now.delivered
+  pub order : arrival.what ≡ Ordered node front
+  pub known : List Command
+  pub all_below : length known ≡ front
+  pub chosen : AreChosen n (said_in before ++ said (take arrival.sent_before now.sent)) known
+
+-- in one of these eras
+abbrev pub IsOrderOf : ℕ → List Era → ℕ → ℕ → Type 0
+IsOrderOf n [] node front = ⊥
+IsOrderOf n (era ∷ before) node front = IsOrderIn n era.record_of before node front ⊎ IsOrderOf n before node front
+
+-- the world was given this order, when so many messages had been sent
+abbrev pub CameAs : List model.Arrival → ℕ → ℕ → ℕ → Type 0
+CameAs came node front sent = In (let arrival : model.Arrival = record { event = model.Ordered node front; sent = sent } in arrival) came
+
+-- each order of the world is in the records
+abbrev pub AreOrdered : ℕ → List model.Arrival → Record → List Era → Type 0
+AreOrdered n came now before = (node front sent : ℕ) → CameAs came node front sent → IsOrderIn n now before node front ⊎ IsOrderOf n before node front
 
 -- what is shown belongs to a start that was begun
 abbrev pub AreBegun : Record → Type 0
@@ -93,3 +117,4 @@ pub record Behind {Node : Type 0} (IsOf : ℕ → Node → WorldNode → List �
   pub headers : HaveHeaders now
   pub heard : AreHeard world.came now.delivered before
   pub heard_now : IsHeardNow (length nodes) world now.delivered
+  pub ordered : AreOrdered (length nodes) world.came now before

@@ -1,15 +1,15 @@
 -- What a call of a node makes, and what it is in the world.
-use Rattle.std.specs.Prelude.{◌≡◌, ◌≢◌, ℕ, suc, ◌<◌, ◌⊎◌, Bool, true, false, if◌then◌else◌, List, [], ◌∷◌, ◌++◌, map, reverse}
+use Rattle.std.specs.Prelude.{◌≡◌, ◌≢◌, ℕ, suc, ◌<◌, ◌⊎◌, Bool, true, false, if◌then◌else◌, List, [], ◌∷◌, ◌++◌, length, map, reverse}
 use Rattle.paxos_wire.specs.declared.ballot.Ballot.{Ballot}
 use Rattle.slot_log.specs.declared.command.Command.{Command}
 use Rattle.protocol_model.specs.Sets.{In}
 use Rattle.protocol_model.specs.Messages.{Message, Accept, Accepted, sender_of}
 use Rattle.protocol_model.specs.Arrivals as model
-use Rattle.protocol_model.specs.Nodes.{Node as WorldNode}
+use Rattle.protocol_model.specs.Nodes.{Node as WorldNode, Knows}
 use Rattle.protocol_model.specs.Dealers.{Dealer, Reader, Seat, Log}
 use Rattle.protocol_model.specs.Moves.{Output, Shown, Chain}
 use Rattle.protocol_model.specs.Worlds.{World, Reached}
-use Rattle.dealer_world.specs.Records.{Frame, Arrived, Delivered, Came, Connected, Dropped, said, said_by}
+use Rattle.dealer_world.specs.Records.{Frame, Arrived, Delivered, Came, Connected, Dropped, Ordered, said, said_by}
 
 -- a text for one reader: a line, or what is added to the log
 pub record Text : Type 0 where
@@ -54,13 +54,18 @@ AreTold i start log [] (text ∷ texts) = ⊥
 AreTold i start log (latest ∷ before) [] = ⊥
 AreTold i start log (latest ∷ before) (text ∷ texts) = Tells i start (log_after log texts) text latest × AreTold i start log before texts
 
--- what an arrival brings into the world, newest first: an own closing of the connection may follow a seat's bytes
+-- the node knows so many commands, from the first slot on
+abbrev pub HasKnown : WorldNode → ℕ → Type 0
+HasKnown node front = (known : List Command) × (length known ≡ front) × Knows node.known known
+
+-- what an arrival brings into the world, newest first: an own closing of the connection may follow a seat's bytes, and an order that was refused brings nothing
 abbrev pub Brings : ℕ → Arrived → List model.Event → Type 0
 Brings i (Delivered frame) events = events ≡ []
 Brings i (Came node seat bytes) events =
     (events ≡ model.Came node seat bytes ∷ []) ⊎ (events ≡ model.Closed node seat ∷ model.Came node seat bytes ∷ [])
 Brings i (Connected node seat) events = events ≡ model.Connected node seat ∷ []
 Brings i (Dropped node seat) events = events ≡ model.Dropped node seat ∷ []
+Brings i (Ordered node front) events = (events ≡ model.Ordered node front ∷ []) ⊎ (events ≡ [])
 
 -- what a call brings: the one arrival, or where there is none, its node's start
 abbrev pub BringsAll : ℕ → Bool → List Arrived → List model.Event → Type 0
@@ -74,6 +79,7 @@ frames_in (Delivered frame ∷ more) = frame ∷ frames_in more
 frames_in (Came node seat bytes ∷ more) = frames_in more
 frames_in (Connected node seat ∷ more) = frames_in more
 frames_in (Dropped node seat ∷ more) = frames_in more
+frames_in (Ordered node front ∷ more) = frames_in more
 
 -- the log behind which a call shows what it shows: a start begins one
 abbrev pub log_before : Bool → List ℕ → List ℕ
@@ -119,6 +125,8 @@ pub record Called {Node : Type 0} (IsOf : Node → WorldNode → List ℕ → Ty
   pub runs : arrived ≢ [] → first.up ≡ true
   pub awake : made.began ≡ false → last.up ≡ true → first.up ≡ true
   pub speaks : made.began ≡ false → made.texts ≢ [] → first.up ≡ true
+  -- an order met as many commands as the node knows below its front
+  pub knew : (node front : ℕ) → In (Ordered node front) arrived → HasKnown first front
   pub came : BringsAll i made.began arrived (map (λ (arrival : model.Arrival). arrival.event) output.came)
       ⊎ ((output.came ≡ []) × (last.up ≡ false))
 

@@ -23,6 +23,7 @@ IsEvent (event.Frame from to bytes) (Delivers sender receiver spelled) = (from �
 IsEvent (event.Line node seat bytes) other = ⊥
 IsEvent (event.Tick number) (Ticks node) = number ≡ node
 IsEvent (event.Tick number) (Delivers sender receiver spelled) = ⊥
+IsEvent (event.Away node) other = ⊥
 IsEvent (event.Connect node seat) other = ⊥
 IsEvent (event.Drop node seat) other = ⊥
 IsEvent (event.Stop node pick) other = ⊥

@@ -4,7 +4,9 @@ use Rattle.slot_log.specs.declared.command.Command.{Command}
 use Rattle.protocol_model.specs.Dealers.{Dealer}
 use Rattle.protocol_model.specs.Nodes.{Node as WorldNode}
 use Rattle.protocol_model.specs.Moves.{Output, Chain}
-use Rattle.protocol_model.specs.Worlds.{World, Run, IsAfter}
+use Rattle.protocol_model.specs.Sets.{In}
+use Rattle.protocol_model.specs.Quorums.{IsChosen}
+use Rattle.protocol_model.specs.Worlds.{World, Run, Reached, IsAfter}
 use Rattle.protocol_model.specs.Laws.{OwnsMore, with_own}
 use Rattle.dealer_kind.specs.Kind.{Setting, dealer_of}
 use Rattle.dealer_kind.specs.Owning.{OwnsDeals, either}
@@ -22,8 +24,14 @@ Reaches = (dealer : Dealer) (n i : ℕ) (first world : World) (out : Output) (no
 abbrev pub MayWiden : Type 0
 MayWiden = (dealer : Dealer) (own : ℕ → Command → Bool) (n : ℕ) (first last : World) → OwnsMore dealer own → Run dealer n first last → Run (with_own dealer own) n first last
 
+-- what a node knows was chosen
+abbrev pub KnownIsChosen : Type 0
+KnownIsChosen = (dealer : Dealer) (n i : ℕ) (world : World) (slot : ℕ) (command : Command)
+    → Reached dealer n world → In (slot, command) (world.nodes i).known → IsChosen n world.ever slot command
+
 pub record Given : Type 0 where
   pub reach : Reaches
+  pub known : KnownIsChosen
   pub calls : CallsAreSound
   pub refused_down : LinesAreRefusedDown
   pub appends : AppendsAreBegun

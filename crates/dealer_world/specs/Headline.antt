@@ -1,7 +1,7 @@
 -- One list of decks and acts behind all that was ever shown.
-use Rattle.std.specs.Prelude.{◌≡◌, ℕ, ◌<◌, ◌⊎◌, Bool, true, false, Some, List, [], ◌∷◌, ◌++◌, reverse}
+use Rattle.std.specs.Prelude.{◌≡◌, ℕ, ◌<◌, ◌⊎◌, Bool, true, false, Some, List, [], ◌∷◌, ◌++◌, length, take, reverse}
 use Rattle.slot_log.specs.declared.command.Command.{Command}
-use Rattle.slot_log.specs.declared.command.Command.TheVariants.{Deal, Act}
+use Rattle.slot_log.specs.declared.command.Command.TheVariants.{Deal, Act, Away}
 use Rattle.protocol_model.specs.Sets.{In, IsBeginning}
 use Rattle.protocol_model.specs.Messages.{Message}
 use Rattle.protocol_model.specs.Quorums.{IsChosen, AreChosen}
@@ -12,7 +12,7 @@ use Rattle.dealer_kind.specs.Kind.{Setting, dealer_of}
 use Rattle.dealer_kind.specs.Owning.{either}
 use Rattle.dealer_kind.specs.Sources.{owns}
 use Rattle.dealer_kind.specs.declared.source.Source.{Source}
-use Rattle.dealer_world.specs.Records.{Record, Piece, Line, Written, log_in, lines_of, logs_of, said}
+use Rattle.dealer_world.specs.Records.{Record, Arrival, Ordered, Piece, Line, Written, log_in, lines_of, logs_of, said}
 use Rattle.dealer_world.specs.Hearing.{WasHeard}
 
 -- the time from one `new` or `open` of a cluster to the next: where each node's deals came from, and the record
@@ -92,10 +92,28 @@ pub record WasSaid (dealer : Dealer) (n : ℕ) (eras : List Era) (command : Comm
   pub chosen : AreChosen n (said_in eras) before
   pub says : dealer.says before seat line command ≡ true
 
--- a deal is some node's own, and an act was said
+-- in this era, behind those before it, it was ordered: an order came to a node of the match, and after commands, as many as lay below its front, which were
+-- chosen by what the frames said that had been sent before it came, such an order means the command
+pub record WasOrderedIn (dealer : Dealer) (n : ℕ) (era : Era) (before : List Era) (command : Command) : Type 0 where
+  pub node : ℕ
+  pub is_node : node < n
+  pub arrival : Arrival
+  pub came : In arrival era.record_of.delivered
+  pub known : List Command
+  pub order : arrival.what ≡ Ordered node (length known)
+  pub chosen : AreChosen n (said_in before ++ said (take arrival.sent_before era.record_of.sent)) known
+  pub orders : dealer.orders known command ≡ true
+
+-- the command was ordered in one of the eras
+abbrev pub WasOrdered : Dealer → ℕ → List Era → Command → Type 0
+WasOrdered dealer n [] command = ⊥
+WasOrdered dealer n (era ∷ before) command = WasOrderedIn dealer n era before command ⊎ WasOrdered dealer n before command
+
+-- a deal is some node's own, an act was said, and it was ordered that a player who is away is played for
 abbrev pub HasOrigin : Dealer → ℕ → List Era → Command → Type 0
 HasOrigin dealer n eras (Deal hand deal) = IsOwned dealer n (Deal hand deal)
 HasOrigin dealer n eras (Act hand index action) = WasSaid dealer n eras (Act hand index action)
+HasOrigin dealer n eras (Away hand index) = WasOrdered dealer n eras (Away hand index)
 
 -- there is one list of chosen commands, each fitting after those before it, behind all that the records show; and no chosen command is invented
 pub record OneList (dealer : Dealer) (n : ℕ) (eras : List Era) : Type 0 where

@@ -1,7 +1,7 @@
 -- What a seat had sent to a node, by the record.
 use Rattle.std.specs.Prelude.{◌≡◌, ℕ, ◌==◌, ◌&&◌, if◌then◌else◌, List, [], ◌∷◌, ◌++◌, Option, Some, None, take}
 use Rattle.std.specs.Option.{option_map}
-use Rattle.dealer_world.specs.Records.{Arrived, Delivered, Came, Connected, Dropped, Arrival}
+use Rattle.dealer_world.specs.Records.{Arrived, Delivered, Came, Connected, Dropped, Ordered, Arrival}
 
 -- what an arrival makes of the bytes that a seat has sent to a node since it connected there
 abbrev pub heard_after : Arrived → ℕ → ℕ → Option (List ℕ) → Option (List ℕ)
@@ -9,6 +9,7 @@ heard_after (Delivered frame) node seat heard = heard
 heard_after (Came other place bytes) node seat heard = if node == other && seat == place then option_map (λ before. before ++ bytes) heard else heard
 heard_after (Connected other place) node seat heard = if node == other && seat == place then Some [] else heard
 heard_after (Dropped other place) node seat heard = if node == other && seat == place then None else heard
+heard_after (Ordered other front) node seat heard = heard
 
 abbrev pub heard_from : Option (List ℕ) → List Arrival → ℕ → ℕ → Option (List ℕ)
 heard_from heard [] node seat = heard

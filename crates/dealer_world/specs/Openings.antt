@@ -11,11 +11,11 @@ use Rattle.protocol_model.specs.Dealers.{Dealer}
 use Rattle.protocol_model.specs.Moves.{Output, Chain}
 use Rattle.protocol_model.specs.Worlds.{World, Reached}
 use Rattle.protocol_model.specs.Laws.{IsLeft}
-use Rattle.dealer_world.specs.Records.{Arrived}
+use Rattle.dealer_world.specs.Records.{Arrived, Ordered}
 use Rattle.dealer_world.specs.Hearing.{WasHeard}
 use Rattle.dealer_world.specs.Headline.{Era, said_in, InSome}
-use Rattle.dealer_world.specs.Calls.{BringsAll}
-use Rattle.dealer_world.specs.Behind.{AreEras, EachNode}
+use Rattle.dealer_world.specs.Calls.{HasKnown, BringsAll}
+use Rattle.dealer_world.specs.Behind.{AreEras, EachNode, CameAs, IsOrderOf}
 
 -- a reached world of n nodes, in which all was sent that the eras' frames say, and nothing accepted but what they say, and which showed what they show
 pub record BehindEras (dealer : Dealer) (n : ℕ) (eras : List Era) : Type 0 where
@@ -27,6 +27,7 @@ pub record BehindEras (dealer : Dealer) (n : ℕ) (eras : List Era) : Type 0 whe
   pub shown : AreEras world.shown eras
   pub heard : (earlier : List model.Arrival) (node seat : ℕ) (bytes : List ℕ) → IsBeginning earlier world.came
       → model.heard_in earlier node seat ≡ Some bytes → InSome (λ era. WasHeard era.record_of.delivered node seat bytes) eras
+  pub ordered : (node front sent : ℕ) → CameAs world.came node front sent → IsOrderOf n eras node front
 
 -- a run that made these eras may end so that its nodes' stores are in these files; `Stands i file store` says that a file is that of node i and has the store
 pub record Leaves (Stands : ℕ → List ℕ → Store → Type 0) (dealer : Dealer) (n : ℕ) (eras : List Era) (files : List (List ℕ)) : Type 0 where
@@ -44,4 +45,5 @@ pub record LeftInside (dealer : Dealer) (n i : ℕ) (ever : List Message) (first
   pub left : IsLeft i last store
   pub none_accepted : (sender : ℕ) (ballot : Ballot) (slot : ℕ) (command : Command) → In (Accepted sender ballot slot command) output.sent → ⊥
   pub none_shown : output.shown ≡ []
+  pub knew : (node front : ℕ) → In (Ordered node front) arrived → HasKnown first front
   pub came : BringsAll i false arrived (map (λ (arrival : model.Arrival). arrival.event) output.came) ⊎ (output.came ≡ [])

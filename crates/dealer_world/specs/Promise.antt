@@ -36,9 +36,9 @@ pub record IsSameMatch {N : Type 0} (a b : View N) : Type 0 where
 abbrev pub era_of : {N : Type 0} → View N → Era
 era_of view = record { sources = view.config.sources; record_of = view.all }
 
--- the same cluster, with what an event brings in its record beside, as where a call was broken off in its middle
-abbrev pub with_brought : {N : Type 0} → View N → Event → View N
-with_brought view e = record view { all = grown view.all (node_of e) (brought_by e) nothing_made }
+-- the same cluster, with what an event brings to its node, which had this front, in its record beside, as where a call was broken off in its middle
+abbrev pub with_brought : {N : Type 0} → View N → ℕ → Event → View N
+with_brought view front e = record view { all = grown view.all (node_of e) (brought_by front e) nothing_made }
 
 -- in the present era no frame was forged
 abbrev pub HasNoForged : {N : Type 0} → View N → Type 0

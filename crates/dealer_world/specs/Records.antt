@@ -19,6 +19,8 @@ pub data Arrived : Type 0 where
   Came : (node seat : ℕ) (bytes : List ℕ) → Arrived
   Connected : (node seat : ℕ) → Arrived
   Dropped : (node seat : ℕ) → Arrived
+  -- it was ordered that the player to act is played for, at a node with this front
+  Ordered : (node front : ℕ) → Arrived
 
 -- and how many frames had been sent when it came
 pub record Arrival : Type 0 where

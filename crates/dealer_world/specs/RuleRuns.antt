@@ -8,7 +8,7 @@ use Rattle.protocol_model.specs.Backing.{Backs}
 use Rattle.dealer_kind.specs.Kind.{Setting}
 use Rattle.dealer_kind.specs.Plans.{Plan, IsPlan}
 use Rattle.dealer_kind.specs.declared.source.Source.{Source}
-use Rattle.node_rules.specs.Standings.{Standing, place_of, stopped}
+use Rattle.node_rules.specs.Standings.{Standing, place_of, front_of, stopped}
 use Rattle.node_rules.specs.Calls.{Call}
 use Rattle.node_rules.specs.Turns.{Turn, Refusal, Conflict}
 use Rattle.node_rules.specs.Rules.{IsTurn, standing_after}
@@ -55,7 +55,7 @@ pub data EndsAs (plan : Plan) (old : State) (all : Record) (begun : ℕ → Stor
   at_rest : all ≡ old.now → EachNode (λ i s. begun i ≡ s.begun) 0 old.standings → EndsAs plan old all begun
   in_a_call : (node : ℕ) (s : Standing) (called : Call) (outcome : Result Turn Refusal) → node < length old.standings → get_or old.standings node s ≡ s → s.up ≡ true
       → IsSeated plan.setting.game.players called → IsTurn (place_of plan node) s called outcome
-      → all ≡ grown old.now node (arrived_by node called) nothing_made
+      → all ≡ grown old.now node (arrived_by node (front_of s) called) nothing_made
       → begun node ≡ (standing_after (place_of plan node) s outcome).begun → EachNode (λ i other. i ≢ node → begun i ≡ other.begun) 0 old.standings
       → EndsAs plan old all begun
 
@@ -105,7 +105,7 @@ RunsSendToNodes = (setting : Setting) (n : ℕ) (before : List Era) (sources : L
 abbrev pub RunsNeverConflict : Type 0
 RunsNeverConflict = (setting : Setting) (n : ℕ) (before : List Era) (sources : List Source) (state : State) (node : ℕ) (s : Standing) (called : Call) (store : Store)
     → RunsTo setting n before sources state → node < length state.standings → get_or state.standings node s ≡ s → IsSeated setting.game.players called
-    → IsUnforged state.now.sent (state.now.delivered ++ map (placed_at (length state.now.sent)) (arrived_at s.up node called))
+    → IsUnforged state.now.sent (state.now.delivered ++ map (placed_at (length state.now.sent)) (arrived_at s.up node (front_of s) called))
     → IsTurn (place_of (plan_of setting sources) node) s called (Err (Conflict store)) → ⊥
 
 -- in every run of the rules in which no frame was forged there is one list behind all that was shown, in all eras

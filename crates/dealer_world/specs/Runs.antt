@@ -5,14 +5,14 @@ use Rattle.paxos_wire.specs.Faults.{reading}
 use Rattle.paxos_wire.specs.Spelling.{frame as bytes_of}
 use Rattle.protocol_model.specs.Nodes.{Node as WorldNode}
 use Rattle.dealer_kind.specs.Kind.{log_of}
-use Rattle.node_rules.specs.Standings.{Place, Standing, applied}
+use Rattle.node_rules.specs.Standings.{Place, Standing, applied, front_of}
 use Rattle.node_rules.specs.Sending.{Frame as Outgoing}
 use Rattle.node_rules.specs.Showing.{Piece as Shown}
-use Rattle.node_rules.specs.Calls.{Call, Start, Tick, Line, Connect, Drop, Stop}
+use Rattle.node_rules.specs.Calls.{Call, Start, Tick, Away, Line, Connect, Drop, Stop}
 use Rattle.node_rules.specs.Calls as call
 use Rattle.node_rules.specs.Being.{IsOf}
 use Rattle.node_rules.specs.Called.{Ends, took, refused, failed, unchanged}
-use Rattle.dealer_world.specs.Records.{Frame, Arrived, Delivered, Came, Connected, Dropped}
+use Rattle.dealer_world.specs.Records.{Frame, Arrived, Delivered, Came, Connected, Dropped, Ordered}
 use Rattle.dealer_world.specs.Calls.{Text, Made}
 
 -- the frames are those that the rules send, each from node i, with the bytes of its message, which read back as it
@@ -26,23 +26,25 @@ AreWritten i (outgoing ∷ more) (frame ∷ frames) =
 abbrev pub text_by_rule : Shown → Text
 text_by_rule piece = record { reader = piece.reader; text = piece.text }
 
--- what a call is in the record, where its node runs
-abbrev pub arrived_by : ℕ → Call → List Arrived
-arrived_by i (Start found) = []
-arrived_by i Tick = []
-arrived_by i (call.Frame from bytes) = (Delivered (record { from = from; to = i; bytes = bytes })) ∷ []
-arrived_by i (Line seat bytes) = Came i seat bytes ∷ []
-arrived_by i (Connect seat) = Connected i seat ∷ []
-arrived_by i (Drop seat) = Dropped i seat ∷ []
-arrived_by i Stop = []
+-- what a call is in the record, where its node runs and has this front
+abbrev pub arrived_by : ℕ → ℕ → Call → List Arrived
+arrived_by i front (Start found) = []
+arrived_by i front Tick = []
+arrived_by i front Away = Ordered i front ∷ []
+arrived_by i front (call.Frame from bytes) = (Delivered (record { from = from; to = i; bytes = bytes })) ∷ []
+arrived_by i front (Line seat bytes) = Came i seat bytes ∷ []
+arrived_by i front (Connect seat) = Connected i seat ∷ []
+arrived_by i front (Drop seat) = Dropped i seat ∷ []
+arrived_by i front Stop = []
 
-abbrev pub arrived_at : Bool → ℕ → Call → List Arrived
-arrived_at true i called = arrived_by i called
-arrived_at false i called = []
+abbrev pub arrived_at : Bool → ℕ → ℕ → Call → List Arrived
+arrived_at true i front called = arrived_by i front called
+arrived_at false i front called = []
 
 -- a start begins where a node that was down is started
 abbrev pub begins_by : Bool → Call → Bool
 begins_by up Tick = false
+begins_by up Away = false
 begins_by up (call.Frame from bytes) = false
 begins_by up (Line seat bytes) = false
 begins_by up (Connect seat) = false
@@ -54,15 +56,16 @@ begins_by false (Start found) = true
 -- by how the call ended: what arrived stands in the record unless the call found no memory, and a start begins where it was taken
 abbrev pub Keeps : (place : Place) (s : Standing) (called : Call) (after : Standing) (frames : List Outgoing) (shown : List Shown)
     → Ends place s called after frames shown → List Arrived → Bool → Type 0
-Keeps place s called after frames shown (took turn rule e f g) arrived began = (arrived ≡ arrived_at s.up place.node called) × (began ≡ begins_by s.up called)
-Keeps place s called after frames shown (refused refusal rule e f g) arrived began = (arrived ≡ arrived_at s.up place.node called) × (began ≡ false)
-Keeps place s called after frames shown (failed outcome begun up rule b e f g) arrived began = (arrived ≡ arrived_at s.up place.node called) × (began ≡ false)
+Keeps place s called after frames shown (took turn rule e f g) arrived began = (arrived ≡ arrived_at s.up place.node (front_of s) called) × (began ≡ begins_by s.up called)
+Keeps place s called after frames shown (refused refusal rule e f g) arrived began = (arrived ≡ arrived_at s.up place.node (front_of s) called) × (began ≡ false)
+Keeps place s called after frames shown (failed outcome begun up rule b e f g) arrived began = (arrived ≡ arrived_at s.up place.node (front_of s) called) × (began ≡ false)
 Keeps place s called after frames shown (unchanged e f g) arrived began = (arrived ≡ []) × (began ≡ false)
 
 -- the seat of a call is one of the table
 abbrev pub IsSeated : ℕ → Call → Type 0
 IsSeated players (Start found) = Unit {0}
 IsSeated players Tick = Unit {0}
+IsSeated players Away = Unit {0}
 IsSeated players (call.Frame from bytes) = Unit {0}
 IsSeated players (Line seat bytes) = seat < players
 IsSeated players (Connect seat) = seat < players

@@ -12,7 +12,7 @@ use Rattle.dealer_node.specs.Nodes.{Node}
 use Rattle.dealer_node.specs.declared.fault.NodeFault.{NodeFault}
 use Rattle.dealer_node.specs.declared.fault.NodeFault.TheVariants as fault
 use Rattle.dealer_node.specs.Outs.{Told, nothing_told}
-use Rattle.dealer_node.specs.Seeing.{head_of, post_in, runs, IsSeen, bytes_of}
+use Rattle.dealer_node.specs.Seeing.{head_of, post_in, runs, front_in, IsSeen, bytes_of}
 use Rattle.dealer_node.specs.Taking.{Takes, StaysItself, IsOfStart, FindsStore, OnlyReadsDisk, StopsBy}
 use Rattle.dealer_world.specs.declared.event.Event.{Event}
 use Rattle.dealer_world.specs.declared.event.Event.TheVariants as event
@@ -34,6 +34,7 @@ abbrev pub IsFor : ℕ → ℕ → Event → Type 0
 IsFor nodes players (event.Frame from to bytes) = (from < nodes) × (to < nodes)
 IsFor nodes players (event.Line node seat bytes) = (node < nodes) × (seat < players)
 IsFor nodes players (event.Tick node) = node < nodes
+IsFor nodes players (event.Away node) = node < nodes
 IsFor nodes players (event.Connect node seat) = (node < nodes) × (seat < players)
 IsFor nodes players (event.Drop node seat) = (node < nodes) × (seat < players)
 IsFor nodes players (event.Stop node pick) = node < nodes
@@ -44,20 +45,22 @@ pub for_prop : (nodes players : ℕ) (e : Event) → IsProp (IsFor nodes players
 for_prop nodes players (event.Frame from to bytes) = ×_prop le_prop le_prop
 for_prop nodes players (event.Line node seat bytes) = ×_prop le_prop le_prop
 for_prop nodes players (event.Tick node) = le_prop
+for_prop nodes players (event.Away node) = le_prop
 for_prop nodes players (event.Connect node seat) = ×_prop le_prop le_prop
 for_prop nodes players (event.Drop node seat) = ×_prop le_prop le_prop
 for_prop nodes players (event.Stop node pick) = le_prop
 for_prop nodes players (event.Start node) = le_prop
 
--- what the event brings arrives at a node that runs
-abbrev pub arrived_by_event : Bool → Event → List Arrived
-arrived_by_event is_up e = if is_up then brought_by e else []
+-- what the event brings arrives at a node that runs, which had this front
+abbrev pub arrived_by_event : Bool → ℕ → Event → List Arrived
+arrived_by_event is_up front e = if is_up then brought_by front e else []
 
 -- a start begins where a node that is down is started
 abbrev pub may_begin : Bool → Event → Bool
 may_begin is_up (event.Frame from to bytes) = false
 may_begin is_up (event.Line node seat bytes) = false
 may_begin is_up (event.Tick node) = false
+may_begin is_up (event.Away node) = false
 may_begin is_up (event.Connect node seat) = false
 may_begin is_up (event.Drop node seat) = false
 may_begin is_up (event.Stop node pick) = false
@@ -81,6 +84,7 @@ module _ {D : Type 0} (g : Ghosts D) where
   MakesOfDisk (event.Frame from to bytes) old new answer = Unit {0}
   MakesOfDisk (event.Line node seat bytes) old new answer = Unit {0}
   MakesOfDisk (event.Tick node) old new answer = Unit {0}
+  MakesOfDisk (event.Away node) old new answer = Unit {0}
   MakesOfDisk (event.Connect node seat) old new answer = Unit {0}
   MakesOfDisk (event.Drop node seat) old new answer = Unit {0}
   MakesOfDisk (event.Stop node pick) old new answer = IsTrue g.is_honest → OnOk answer (StopsBy g pick old new)
@@ -93,14 +97,14 @@ module _ {D : Type 0} (g : Ghosts D) where
     pub disk : MakesOfDisk e old new answer
 
 -- what the record gains: all of a call but one that found no memory, by which nothing changes
-pub data Gains {N : Type 0} (e : Event) (is_up : Bool) (told : Told) (old new : View N) : Result (Unit {0}) NodeFault → Type 0 where
-  nothing : (answer : Result (Unit {0}) NodeFault) → answer ≡ Err fault.OutOfMemory → new.all ≡ old.all → new.last ≡ old.last → Gains e is_up told old new answer
+pub data Gains {N : Type 0} (e : Event) (is_up : Bool) (front : ℕ) (told : Told) (old new : View N) : Result (Unit {0}) NodeFault → Type 0 where
+  nothing : (answer : Result (Unit {0}) NodeFault) → answer ≡ Err fault.OutOfMemory → new.all ≡ old.all → new.last ≡ old.last → Gains e is_up front told old new answer
   call : (answer : Result (Unit {0}) NodeFault) → (answer ≡ Err fault.OutOfMemory → ⊥)
-      → new.all ≡ grown old.all (node_of e) (arrived_by_event is_up e) (made_by (node_of e) told (begins_by_event is_up e answer)) → new.last ≡ told
-      → Gains e is_up told old new answer
+      → new.all ≡ grown old.all (node_of e) (arrived_by_event is_up front e) (made_by (node_of e) told (begins_by_event is_up e answer)) → new.last ≡ told
+      → Gains e is_up front told old new answer
 
 module _ {D : Type 0} (g : Ghosts D) where
-  -- one event: it is given to its node alone, and the record gains that call
+  -- one event: it is given to its node alone, and the record gains that call, an order with the front that the node had before it
   pub record Stepped (old : View (Node D)) (e : Event) (answer : Result (Unit {0}) NodeFault) (new : View (Node D)) : Type 0 where
     pub same_config : new.config ≡ old.config
     pub same_opened : new.opened ≡ old.opened
@@ -111,7 +115,7 @@ module _ {D : Type 0} (g : Ghosts D) where
     pub others : new.nodes ≡ set old.nodes (node_of e) after
     pub told : Told
     pub given : IsGiven g e before after told answer
-    pub gains : Gains e (runs before) told old new answer
+    pub gains : Gains e (runs before) (front_in before) told old new answer
 
   -- events, one after another, none of which found no memory
   pub data Ran (first : View (Node D)) : List Event → View (Node D) → Type 0 where

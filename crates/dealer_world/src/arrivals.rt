@@ -16,6 +16,9 @@ pub enum What {
     Connect { node: u8, seat: u8 },
     /// The seat was dropped there; it has no bytes.
     Drop { node: u8, seat: u8 },
+    /// It was ordered there that the player to act is played for, when the node knew so many commands below the first slot
+    /// that it didn't know; it has no bytes.
+    Away { node: u8, front: u32 },
 }
 
 /// What reached a node, and how many frames had been sent before.

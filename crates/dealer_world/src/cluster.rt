@@ -4,13 +4,15 @@ ghost use Rattle.dealer_world.specs.KeptArrivals.{arrival_of};
 ghost use Rattle.dealer_world.specs.Recordings.{start_by};
 ghost use Rattle.std.specs.List.{All, AllZip};
 ghost use Rattle.dealer_node.specs.Outs.{nothing_told};
-ghost use Rattle.dealer_node.specs.Seeing.{post_in, runs, IsSeen, begun_of};
+ghost use Rattle.dealer_node.specs.Most.{most_shown_of, ShowsWithin};
+ghost use Rattle.dealer_node.specs.Seeing.{post_in, runs, front_in, IsSeen, begun_of};
 ghost use Rattle.node_rules.specs.Standings.{Standing};
 ghost use Rattle.dealer_world.specs.Records.{no_record, log_of};
 ghost use Rattle.dealer_world.specs.Headline.{Era};
 ghost use Rattle.dealer_world.specs.Beginning.{AreImages, AreImagesDuring, AreStarted, StartsAll, HaveStores, HasStore, AreEach, IsWant, IsOver, IsOnlyRead, MayBeFound, AreImagesOf, LeaveNoMore, IsFirstRefused, IsUnopened};
 ghost use Rattle.protocol_model.specs.Stores.{Store, empty_store};
 ghost use Rattle.dealer_world.specs.Stepping.{View, IsFor, IsGiven, begins_by_event, Stepped, Ran};
+ghost use Rattle.dealer_world.specs.Shows.{GrowsWithin, most_shown_at};
 ghost use Rattle.dealer_world.specs.CalmCluster.{MovesOn};
 ghost use Rattle.dealer_world.specs.Events.{node_of};
 ghost use Rattle.dealer_world.specs.declared.event.Event.{Event as Call};
@@ -33,7 +35,7 @@ use crate::shown::Piece;
 use crate::stopped::Stopped;
 use dealer_kind::Config;
 use dealer_node::laws::{images_are_seen, moments_pass, seen_as_one};
-use dealer_node::{Node, NodeFault, Out, is_out_of_memory};
+use dealer_node::{MostShown, Node, NodeFault, Out, is_out_of_memory};
 use promise_store::Disk;
 use std::alloc::{AllocError, Global};
 
@@ -43,12 +45,14 @@ fn give<D: Disk + Drop>(node: &mut Node<D>, event: &Event, made: &mut Out) -> Re
     requires nothing { made.old ≡ nothing_told }
     ensures given { IsGiven D.Disk event.now node.old node.new made.new result }
     ensures up { (s : Standing) → IsSeen D.Disk node.old s → runs node.old ≡ s.up }
+    ensures shows { ShowsWithin (most_shown_of node.old) nothing_told made.new }
 {
     let _up = node.running();
     match event {
         Event::Frame { from, bytes, .. } => node.on_frame(*from as usize, bytes, made),
         Event::Line { seat, bytes, .. } => node.on_line(*seat as usize, bytes, made),
         Event::Tick { .. } => node.on_tick(made),
+        Event::Away { .. } => node.on_away(made),
         Event::Connect { seat, .. } => node.connect(*seat as usize),
         Event::Drop { seat, .. } => node.drop_seat(*seat as usize),
         Event::Stop { pick, .. } => {
@@ -101,9 +105,12 @@ impl<D: Disk + Drop> Cluster<D> {
         requires { IsForMatch self.old.config event.now }
         ensures stepped { Stepped D.Disk (view_of self.old) event.now result (view_of self.new) }
         ensures begun { map (begun_of D.Disk) self.new.nodes.items ≡ map (begun_of D.Disk) self.old.nodes.items }
+        ensures shows { GrowsWithin (most_shown_at (view_of self.old) (node_of event.now)) (view_of self.old).all (view_of self.new).all }
     {
         let number = event.node() as usize;
         let is_up = self.nodes[number].running();
+        // What an order is of is said by the front that it met, not by the one that it left.
+        let front = self.nodes[number].front();
         self.recording.make_place(event.size())?;
         let mut made = Out::new(self.alloc);
         let answer = give(&mut self.nodes[number], event, &mut made);
@@ -111,7 +118,7 @@ impl<D: Disk + Drop> Cluster<D> {
             return answer;
         }
         let begins = begins(is_up, event, answer);
-        self.recording.take(event, is_up, begins, made);
+        self.recording.take(event, front, is_up, begins, made);
         answer
     }
 
@@ -129,6 +136,7 @@ impl<D: Disk + Drop> Cluster<D> {
         ensures backed { IsBackedBy D.Disk (view_of self.new) }
         ensures addressed { AreAddressed D.Disk (view_of self.new) }
         ensures conflict { NeverConflicts D.Disk (view_of self.old) result (view_of self.new) }
+        ensures shows { GrowsWithin (most_shown_at (view_of self.old) (node_of event.now)) (view_of self.old).all (view_of self.new).all }
     {
         runs_show_one_list();
         runs_are_backed();
@@ -232,8 +240,8 @@ impl<D: Disk + Drop> Cluster<D> {
 
     /// A cluster that goes on from the stores that its disks have; all nodes are started.
     ///
-    /// Each disk is synced first and begun anew, and then only read. Refused is 92, or 91 of a disk that failed or of the
-    /// first one, in order, that has no store of its node; then the disks are dropped.
+    /// Where it goes well, each disk was synced first and begun anew, and only read since. Refused is 92, 91 with 63, or 91
+    /// of the first disk, in order, that has no store of its node; then the disks are dropped, and nothing is said of them.
     pub fn open(alloc: Global, config: Config, disks: Vec<D>) -> Result<Cluster<D>, NodeFault>
         requires { length disks.items ≡ length config.sources }
         ensures config { IfOk result (λ made. (view_of made).config ≡ config) }
@@ -254,10 +262,10 @@ impl<D: Disk + Drop> Cluster<D> {
         ensures goes_on_inside { IfOk result (λ made. (first : Cluster D D.Disk) (before after : View (Node D)) (event : Call) (answer : Result (Unit {0}) Fault) (eras : List Era)
             → WasReached D.Disk (view_of first) before → IsSameMatch before (view_of made) → (stepped : Stepped D.Disk before event answer after) → IsForMatch before.config event
             → AreImagesDuring D.Disk (node_of event) stepped.before stepped.after before.nodes (map D.seen disks.items)
-            → GoesOnFrom D.Disk before eras → IsTrue D.is_honest → HasNoForged before → HasNoForged (with_brought before event)
-            → ∥ GoesOnFrom D.Disk (view_of made) (era_of before ∷ eras) ⊎ GoesOnFrom D.Disk (view_of made) (era_of (with_brought before event) ∷ eras) ∥₁) }
-        // Where it was itself broken off after some of its starts, the disks leave no more than they did before; so where
-        // they were handed on from a cluster, the next one goes on from that.
+            → GoesOnFrom D.Disk before eras → IsTrue D.is_honest → HasNoForged before → HasNoForged (with_brought before (front_in stepped.before) event)
+            → ∥ GoesOnFrom D.Disk (view_of made) (era_of before ∷ eras) ⊎ GoesOnFrom D.Disk (view_of made) (era_of (with_brought before (front_in stepped.before) event) ∷ eras) ∥₁) }
+        // Where it goes well, the disks left no more at any moment of it than they did before. So where it is broken off and
+        // would have gone well, over disks that were handed on from a cluster, the next one goes on from that cluster.
         ensures within { IfOk result (λ made. (files : List (List ℕ)) → MayBeFound D.Disk disks.items (view_of made).nodes files → AreImagesOf D.Disk disks.items files) }
         ensures resumes { IfOk result (λ made. (before : View (Node D)) (files : List (List ℕ)) → LeaveNoMore D.Disk disks.items before.nodes
             → MayBeFound D.Disk disks.items (view_of made).nodes files → AreImages D.Disk before.nodes files) }
@@ -306,6 +314,15 @@ impl<D: Disk + Drop> Cluster<D> {
         &self.nodes[number]
     }
 
+    /// How many pieces the next call of the node of this number, counted from 0, shows at most, and how many bytes they
+    /// have in all: what the record gains of them by `step`.
+    pub fn most_shown(&self, number: usize) -> MostShown
+        requires { number < length (view_of self.now).config.sources }
+        ensures { result ≡ most_shown_at (view_of self.now) number }
+    {
+        self.nodes[number].most_shown()
+    }
+
     /// What the last call made; empty where it was answered by a fault. A call that found no memory isn't counted.
     pub fn last(&self) -> &Out
         ensures { result.now ≡ (view_of self.now).last }
@@ -352,7 +369,7 @@ impl<D: Disk + Drop> Cluster<D> {
         self.recording.put_log(of, log)
     }
 
-    /// How many arrivals there are: frames, bytes of seats, connections and drops that reached running nodes.
+    /// How many arrivals there are: frames, bytes of seats, connections, drops and orders that reached running nodes.
     pub fn arrival_count(&self) -> usize
         ensures { result ≡ length (view_of self.now).all.delivered }
     {

@@ -10,6 +10,8 @@ pub enum Event {
     Line { node: u8, seat: u8, bytes: Vec<u8> },
     /// The node's clock.
     Tick { node: u8 },
+    /// It is ordered at a node that the player to act is played for.
+    Away { node: u8 },
     /// A seat connects to a node.
     Connect { node: u8, seat: u8 },
     /// A seat is dropped at a node.
@@ -29,6 +31,7 @@ impl Event {
             Event::Frame { to, .. } => *to,
             Event::Line { node, .. }
             | Event::Tick { node }
+            | Event::Away { node }
             | Event::Connect { node, .. }
             | Event::Drop { node, .. }
             | Event::Stop { node, .. }
@@ -43,6 +46,7 @@ impl Event {
         match self {
             Event::Frame { bytes, .. } | Event::Line { bytes, .. } => bytes.len(),
             Event::Tick { .. }
+            | Event::Away { .. }
             | Event::Connect { .. }
             | Event::Drop { .. }
             | Event::Stop { .. }

@@ -16,12 +16,13 @@ ghost use Rattle.dealer_world.specs.RecordLaws.{LinesOfRecordsAgree, AlikeListsS
 ghost use Rattle.dealer_world.specs.CalmRun.{RoundsMoveOn, FreshClustersAreCalm};
 ghost use Rattle.dealer_world.specs.RuleRuns.{RunsShowOneList, RunsAreBacked, RunsSendToNodes, RunsNeverConflict};
 
-use dealer_kind::laws::{deals_are_owned_and_acts_are_said, owners_may_widen};
+use dealer_kind::laws::{deals_are_owned_acts_are_said_and_aways_are_ordered, owners_may_widen};
 use deck_draw::laws::draws_are_deals;
 use matchstate::laws::{agree, beginnings_are_alike};
 use node_rules::laws::{calls_are_sound, calm_rounds_move, refusals_have_reasons};
 use protocol_model::laws::{
-    backing_lasts, chains_reach, one_dealer as protocol_one_dealer, owners_may_change,
+    backing_lasts, chains_reach, known_is_chosen, one_dealer as protocol_one_dealer,
+    owners_may_change,
 };
 
 /// What the layers below promise of runs by the rules, together.
@@ -30,7 +31,8 @@ fn layers_below()
 {
     calls_are_sound();
     chains_reach();
-    deals_are_owned_and_acts_are_said();
+    deals_are_owned_acts_are_said_and_aways_are_ordered();
+    known_is_chosen();
     owners_may_change();
     owners_may_widen();
 }
@@ -102,8 +104,9 @@ pub fn runs_show_one_list()
     ensures { RunsShowOneList }
 {
     layers_below();
+    one_choice();
     protocol_one_dealer();
-    deals_are_owned_and_acts_are_said();
+    deals_are_owned_acts_are_said_and_aways_are_ordered();
 }
 
 /// And what each node said by its frames both stores back that its next start may find.

@@ -149,11 +149,11 @@ fn put_start(starts: &mut Starts, node: u8, begins: bool) -> usize
     starts.last_of(node)
 }
 
-/// Puts down what an event brings, after so many frames, into room that was reserved for it.
-fn put_brought(arrivals: &mut Arrivals, event: &Event, sent_before: usize)
+/// Puts down what an event brings to a node with this front, after so many frames, into room that was reserved for it.
+fn put_brought(arrivals: &mut Arrivals, event: &Event, front: u32, sent_before: usize)
     requires arrival { 1 ≤ arrivals.old.arrival_room }
     requires bytes { length (bytes_in event.now) ≤ arrivals.old.byte_room }
-    ensures { arrivals.new.arrivals ≡ arrivals.old.arrivals ++ map (placed_at sent_before) (brought_by event.now) }
+    ensures { arrivals.new.arrivals ≡ arrivals.old.arrivals ++ map (placed_at sent_before) (brought_by front event.now) }
 {
     match event {
         Event::Frame { from, to, bytes } => {
@@ -184,18 +184,28 @@ fn put_brought(arrivals: &mut Arrivals, event: &Event, sent_before: usize)
             };
             arrivals.push_reserved(what, &[], sent_before);
         }
+        Event::Away { node } => {
+            let what = What::Away { node: *node, front };
+            arrivals.push_reserved(what, &[], sent_before);
+        }
         Event::Tick { .. } | Event::Stop { .. } | Event::Start { .. } => {}
     }
 }
 
 /// The same where it arrives; where it doesn't, nothing is put down.
-fn put_arrival(arrivals: &mut Arrivals, event: &Event, arrives: bool, sent_before: usize)
+fn put_arrival(
+    arrivals: &mut Arrivals,
+    event: &Event,
+    front: u32,
+    arrives: bool,
+    sent_before: usize,
+)
     requires arrival { 1 ≤ arrivals.old.arrival_room }
     requires bytes { length (bytes_in event.now) ≤ arrivals.old.byte_room }
-    ensures { arrivals.new.arrivals ≡ arrivals.old.arrivals ++ map (placed_at sent_before) (if arrives then brought_by event.now else []) }
+    ensures { arrivals.new.arrivals ≡ arrivals.old.arrivals ++ map (placed_at sent_before) (if arrives then brought_by front event.now else []) }
 {
     if arrives {
-        put_brought(arrivals, event, sent_before);
+        put_brought(arrivals, event, front, sent_before);
     }
 }
 
@@ -298,18 +308,19 @@ impl Recording {
         self.starts.reserve(1)
     }
 
-    /// Puts a call down, for which there is a place: what arrived by the event, if it did, whether a start began, and
-    /// what the node made.
-    pub(crate) fn take(&mut self, event: &Event, arrives: bool, begins: bool, made: Out)
+    /// Puts a call down, for which there is a place: what arrived by the event at a node with this front, if it did,
+    /// whether a start began, and what the node made.
+    pub(crate) fn take(&mut self, event: &Event, front: u32, arrives: bool, begins: bool, made: Out)
         requires settled { self.old.is_settled ≡ true }
         requires arrival { 1 ≤ self.old.arrival_room }
         requires bytes { length (bytes_in event.now) ≤ self.old.byte_room }
         requires start { 1 ≤ self.old.start_room }
-        ensures all { self.new.all ≡ grown self.old.all (node_of event.now) (if arrives then brought_by event.now else []) (made_by (node_of event.now) made begins) }
+        ensures all { self.new.all ≡ grown self.old.all (node_of event.now) (if arrives then brought_by front event.now else []) (made_by (node_of event.now) made begins) }
         ensures last { self.new.last ≡ made }
     {
         let node = event.node();
-        put_arrival(&mut self.arrivals, event, arrives, self.frames.len());
+        let sent_before = self.frames.len();
+        put_arrival(&mut self.arrivals, event, front, arrives, sent_before);
         let start = put_start(&mut self.starts, node, begins);
         self.last_of = Some(Begun { node, start });
         self.last = made;

@@ -19,6 +19,8 @@ A script comes on standard input, one line after another:
   c             he calls, or checks
   r             he raises, in a limit game
   rN            he raises to N chips over the whole hand, in a no-limit game
+  away          he is played for: he folds where he faces something, and
+                else calls
 Each line ends with LF; a last line without one isn't read. Words are
 separated by one space, and no line may be empty.
 
@@ -117,6 +119,8 @@ way until the script delivers it.
 A script comes on standard input, one line after another. I is a node, S a
 seat, K a frame, each counted from 0:
   tick I         node I begins a new ballot, so that it may deal or go on
+  away I         it is ordered at node I that the player to act is played
+                 for: he folds where he faces something, and else calls
   deliver K      frame K is delivered, again if it was before
   flush N        at most N times: the first frame that was never delivered is
   connect I S    seat S connects to node I
@@ -151,21 +155,25 @@ Example:
 /// Of `serve`: the match file's keys, ports and notes, the exit statuses, an example.
 pub(crate) const AFTER_SERVE_HELP: &str = "\
 MATCH is a match file: TOML with name, game, hands, names, a node table for
-each of three or five nodes, stores, logs, port, and perhaps outage. Its paths
-go from the working folder. The stores must be there: holdem_table init makes
-them. They are locked while serve runs, and match.kept beside them must say
-this match. A log that an earlier start left, node0.log and so on, is kept as
-node0.log.1 and so on, unless all of it stands in the newest kept one too.
+each of three or five nodes, stores, logs, port, and perhaps outage and away.
+Its paths go from the working folder. The stores must be there: holdem_table
+init makes them. They are locked while serve runs, and match.kept beside them
+must say this match. A log that an earlier start left, node0.log and so on, is
+kept as node0.log.1 and so on, unless all of it stands in the newest kept one
+too.
 
 Seat S is awaited at node I at port + I * (seats) + S on 127.0.0.1, first at
 node 0. It names the version, and then answers each line on which it is to
-act. Where its connection ends or is refused it dials the next node. Started
-again, serve goes on with the match that the stores have.
+act. Where its connection ends or is refused it dials the next node. Where
+MATCH says away = \"play\", a seat that was dropped is played for to the end of
+serve: it folds where it faces something, and else calls, and is turned away
+where it comes again. Started again, serve goes on with the match that the
+stores have, and awaits all seats.
 
 Standard error has notes, one a line: ports, who is awaited where, whom all
-wait for, who was seated or is gone, faults in what seats sent, nodes stopped
-and started, and at the end the score; with --times the time (UTC) stands
-before each. Nothing is printed on standard output.
+wait for, who was seated, is gone or is played for, faults in what seats sent,
+nodes stopped and started, and at the end the score; with --times the time
+(UTC) stands before each. Nothing is printed on standard output.
 
 Exit status:
   0  the match is over

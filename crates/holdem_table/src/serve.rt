@@ -196,6 +196,7 @@ fn begin<'a>(
         logs: folder,
         port,
         outages,
+        absent,
     } = service;
     let nodes = config.nodes();
     config.limits();
@@ -206,7 +207,8 @@ fn begin<'a>(
     let logs = open_logs(rt, folder, nodes, notes)?;
     let cluster = open_cluster(rt, config, disks, stores, notes)?;
     add_logs(rt, folder, logs, &mut links, old_logs, notes)?;
-    match Server::new(rt.alloc(), cluster, links, Outages::new(outages)) {
+    let outages = Outages::new(outages);
+    match Server::new(rt.alloc(), cluster, links, outages, absent) {
         Ok(server) => Ok(server),
         Err(fault) => Err(unbegun(folder, fault, notes)),
     }

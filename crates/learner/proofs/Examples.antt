@@ -3,7 +3,7 @@ use Rattle.std.proofs.Common.{◌≡◌, ℕ, inl, true, false, [], ◌∷◌, S
 use Rattle.betting.specs.declared.action.Action.TheVariants.{Fold, Call, Raise}
 use Rattle.paxos_wire.specs.declared.ballot.Ballot.{Ballot}
 use Rattle.slot_log.specs.declared.command.Command.{Command}
-use Rattle.slot_log.specs.declared.command.Command.TheVariants.{Deal, Act}
+use Rattle.slot_log.specs.declared.command.Command.TheVariants.{Deal, Act, Away}
 use Rattle.slot_log.specs.declared.slot_fault.SlotFault.TheVariants.{Conflict}
 use Rattle.slot_log.specs.Slots.{front, known_at}
 use Rattle.protocol_model.specs.Messages.{Accepted}
@@ -38,6 +38,19 @@ more_cards = refl
 pub other_amount : is_same (Act 1 2 (Raise 20)) (Act 1 2 (Raise 21)) ≡ false
 unfolding is_same
 other_amount = refl
+
+pub same_turn : is_same (Away 1 2) (Away 1 2) ≡ true
+unfolding is_same
+same_turn = refl
+
+pub other_turn : is_same (Away 1 2) (Away 1 3) ≡ false
+unfolding is_same
+other_turn = refl
+
+-- a player who is away isn't the same as an act, whichever it stands for
+pub fold_for_another : is_same (Away 0 0) fold ≡ false
+unfolding is_same
+fold_for_another = refl
 
 -- ---- nodes
 

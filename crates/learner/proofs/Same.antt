@@ -5,7 +5,7 @@ use Rattle.std.proofs.lemmas.Bool.{eqb-true, eq-eqb}
 use Rattle.betting.specs.declared.action.Action.{Action}
 use Rattle.betting.specs.declared.action.Action.TheVariants.{Fold, Call, Raise}
 use Rattle.slot_log.specs.declared.command.Command.{Command}
-use Rattle.slot_log.specs.declared.command.Command.TheVariants.{Deal, Act}
+use Rattle.slot_log.specs.declared.command.Command.TheVariants.{Deal, Act, Away}
 use Rattle.learner.specs.Same.{is_same_deal, is_same_action, is_same}
 
 deal_by : (c d : ℕ) (cs ds : List ℕ) (x : Bool) → (c == d) ≡ x → (if x then is_same_deal cs ds else false) ≡ true → (is_same_deal cs ds ≡ true → cs ≡ ds) → c ∷ cs ≡ d ∷ ds
@@ -47,17 +47,27 @@ dealing_by : (h k : ℕ) (c d : List ℕ) (x : Bool) → (h == k) ≡ x → (if 
 dealing_by h k c d true ex e = λ t. Deal (eqb-true h k ex t) (same_deal c d e t)
 dealing_by h k c d false ex e = absurd (cc)
 
+away_by : (h k i j : ℕ) (x : Bool) → (h == k) ≡ x → (if x then i == j else false) ≡ true → Away h i ≡ Away k j
+away_by h k i j true ex e = λ t. Away (eqb-true h k ex t) (eqb-true i j e t)
+away_by h k i j false ex e = absurd (cc)
+
 pub same : (c d : Command) → is_same c d ≡ true → c ≡ d
 unfolding is_same
 same (Deal h c) (Deal k d) e = dealing_by h k c d _ refl e
 same (Deal h c) (Act k j b) e = absurd (cc)
+same (Deal h c) (Away k j) e = absurd (cc)
 same (Act h i a) (Deal k d) e = absurd (cc)
 same (Act h i a) (Act k j b) e = act_by h k i j a b _ _ refl refl e
+same (Act h i a) (Away k j) e = absurd (cc)
+same (Away h i) (Deal k d) e = absurd (cc)
+same (Away h i) (Act k j b) e = absurd (cc)
+same (Away h i) (Away k j) e = away_by h k i j _ refl e
 
 pub is_itself : (c : Command) → is_same c c ≡ true
 unfolding is_same
 is_itself (Deal h c) = rw (eq-eqb h h refl) (deal_is_same c)
 is_itself (Act h i a) = rw (eq-eqb h h refl, eq-eqb i i refl) (action_is_same a)
+is_itself (Away h i) = rw (eq-eqb h h refl) (eq-eqb i i refl)
 
 pub if_equal : (c d : Command) → c ≡ d → is_same c d ≡ true
 if_equal c d e = ap (is_same c) (sym e) ∙ is_itself c

@@ -3,7 +3,7 @@ use Rattle.std.specs.Prelude.{ℕ, Bool, true, false, ◌==◌, if◌then◌else
 use Rattle.betting.specs.declared.action.Action.{Action}
 use Rattle.betting.specs.declared.action.Action.TheVariants.{Fold, Call, Raise}
 use Rattle.slot_log.specs.declared.command.Command.{Command}
-use Rattle.slot_log.specs.declared.command.Command.TheVariants.{Deal, Act}
+use Rattle.slot_log.specs.declared.command.Command.TheVariants.{Deal, Act, Away}
 
 abbrev pub is_same_deal : List ℕ → List ℕ → Bool
 is_same_deal [] [] = true
@@ -25,5 +25,10 @@ is_same_action (Raise m) (Raise n) = m == n
 unfoldable pub is_same : Command → Command → Bool
 is_same (Deal h c) (Deal k d) = if h == k then is_same_deal c d else false
 is_same (Deal h c) (Act k j b) = false
+is_same (Deal h c) (Away k j) = false
 is_same (Act h i a) (Deal k d) = false
 is_same (Act h i a) (Act k j b) = if h == k then (if i == j then is_same_action a b else false) else false
+is_same (Act h i a) (Away k j) = false
+is_same (Away h i) (Deal k d) = false
+is_same (Away h i) (Act k j b) = false
+is_same (Away h i) (Away k j) = if h == k then i == j else false

@@ -8,7 +8,8 @@ use Rattle.toml.specs.Data.{Data, string, integer, array, table, Members, no_mem
 use Rattle.toml.specs.View.{items_of}
 use Rattle.toml.proofs.OnLiterals.{toml_on_literals}
 use Rattle.match_file.specs.declared.key.Key.{Key}
-use Rattle.match_file.specs.declared.key.Key.TheVariants.{Name, Game, Hands, Names, Port}
+use Rattle.match_file.specs.declared.absent.Absent.TheVariants.{Wait, Play}
+use Rattle.match_file.specs.declared.key.Key.TheVariants.{Name, Game, Hands, Names, Port, Away}
 use Rattle.match_file.specs.declared.outage.Outage.{Outage}
 use Rattle.match_file.specs.declared.match_fault.MatchFault.TheVariants.{BadEntry, Unreadable}
 use Rattle.match_file.specs.declared.difference.Difference.TheVariants as other
@@ -21,6 +22,7 @@ use Rattle.match_file.proofs.Each.{each-length}
 use Rattle.match_file.proofs.Views.{items_of-same}
 use Rattle.match_file.proofs.Told.{some_array}
 use Rattle.match_file.specs.Matches.{HasMembers, SaysTitle, SaysHands, SaysNames, SaysPort}
+use Rattle.match_file.specs.Absences.{SaysAbsent}
 use Rattle.match_file.specs.Outages.{out_at, LeaveMost}
 use Rattle.match_file.specs.Refusals.{IsNamed, IsRefused, IsUnnamed, IsUnserved}
 use Rattle.match_file.proofs.Outing.{starts_are_enough}
@@ -270,6 +272,38 @@ other_stacks = (refl, refl, refl, λ same. let e : 201 ≡ 200 = stack_said same
 -- what differs behind the first isn't told
 no_values_before_the_name : IsFirst (kept (codes "today") (codes "l2.game") 20 seats 3 (limit_game 201)) tonight other.Values → ⊥
 no_values_before_the_name first = let e : codes "today" ≡ codes "tonight" = ap (λ title. title.name) first.0 in cc
+
+-- ---- seats that were dropped
+
+waited_for_without_an_entry : SaysAbsent no_members Wait
+waited_for_without_an_entry = refl
+
+not_played_for_without_an_entry : SaysAbsent no_members Play → ⊥
+not_played_for_without_an_entry says = cc
+
+waited_for : SaysAbsent (only Away (string (codes "wait"))) Wait
+waited_for = refl
+
+played_for : SaysAbsent (only Away (string (codes "play"))) Play
+played_for = refl
+
+-- the first byte of a text
+abbrev first_byte : List ℕ → ℕ
+first_byte [] = 0
+first_byte (byte ∷ bytes) = byte
+
+same_first : (text other : List ℕ) → string text ≡ string other → first_byte text ≡ first_byte other
+same_first text other e = let same : text ≡ other = cc in ap first_byte same
+
+not_both : SaysAbsent (only Away (string (codes "play"))) Wait → ⊥
+not_both says = omega (arith, same_first (codes "play") (codes "wait") says)
+
+no_other_word : IsAbsent (SaysAbsent (only Away (string (codes "never"))))
+no_other_word Wait says = omega (arith, same_length (codes "never") (codes "wait") (ap Some says))
+no_other_word Play says = omega (arith, same_length (codes "never") (codes "play") (ap Some says))
+
+no_number : IsAbsent (SaysAbsent (only Away (integer (pos 1))))
+no_number absent says = cc
 
 -- ---- keys that no command reads
 

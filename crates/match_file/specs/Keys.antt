@@ -1,7 +1,7 @@
 -- The keys of a match file.
 use Rattle.std.specs.Prelude.{ℕ, List, codes}
 use Rattle.match_file.specs.declared.key.Key.{Key}
-use Rattle.match_file.specs.declared.key.Key.TheVariants.{Name, Game, Hands, Names, Node, Stores, Logs, Port, Outage}
+use Rattle.match_file.specs.declared.key.Key.TheVariants.{Name, Game, Hands, Names, Node, Stores, Logs, Port, Outage, Away}
 
 -- a key as it stands in the file
 abbrev pub key_text : Key → List ℕ
@@ -14,3 +14,4 @@ key_text Stores = codes "stores"
 key_text Logs = codes "logs"
 key_text Port = codes "port"
 key_text Outage = codes "outage"
+key_text Away = codes "away"

@@ -3,6 +3,7 @@ pub mod Fault
 pub mod Said
 pub mod Outages
 pub mod Matches
+pub mod Absences
 pub mod Refusals
 pub mod MatchFile
 pub mod Unused

@@ -4,11 +4,12 @@ use Rattle.game_def.specs.Game.{Game}
 use Rattle.game_def.specs.WholeFile.{read_game}
 use Rattle.toml.specs.Data.{Members}
 use Rattle.match_file.specs.declared.key.Key.{Key}
-use Rattle.match_file.specs.declared.key.Key.TheVariants.{Name, Game as GameKey, Hands, Names, Node, Stores, Logs, Port, Outage}
+use Rattle.match_file.specs.declared.key.Key.TheVariants.{Name, Game as GameKey, Hands, Names, Node, Stores, Logs, Port, Outage, Away}
 use Rattle.match_file.specs.declared.match_fault.MatchFault.{MatchFault}
 use Rattle.match_file.specs.declared.match_fault.MatchFault.TheVariants.{NotToml, BadEntry, Game as BadGame, Unreadable, OutOfMemory}
 use Rattle.match_file.specs.Said.{IsAbsent, IsThere}
 use Rattle.match_file.specs.Matches.{HasMembers, SaysTitle, SaysGame, SaysHands, SaysNames, SaysSources, DefinesGame, SaysFolder, SaysPort, SaysOutages}
+use Rattle.match_file.specs.Absences.{SaysAbsent}
 
 -- of a text: it is no UTF-8 or no TOML, or memory was refused
 abbrev pub IsNoToml : List ℕ → MatchFault → Type 0
@@ -59,13 +60,15 @@ abbrev pub HasNoStores : Members → MatchFault → Type 0
 HasNoStores table (BadEntry Stores) = IsAbsent (SaysFolder Stores table)
 HasNoStores table fault = ⊥
 
--- of the last four keys, for so many nodes, or memory was refused
+-- of the last five keys, for so many nodes, or memory was refused
 abbrev pub IsUnserved : ℕ → Members → MatchFault → Type 0
 IsUnserved nodes table (BadEntry Stores) = IsAbsent (SaysFolder Stores table)
 IsUnserved nodes table (BadEntry Logs) = IsThere (SaysFolder Stores table) × IsAbsent (SaysFolder Logs table)
 IsUnserved nodes table (BadEntry Port) = IsThere (SaysFolder Stores table) × IsThere (SaysFolder Logs table) × IsAbsent (SaysPort table)
 IsUnserved nodes table (BadEntry Outage) =
     IsThere (SaysFolder Stores table) × IsThere (SaysFolder Logs table) × IsThere (SaysPort table) × IsAbsent (SaysOutages nodes table)
+IsUnserved nodes table (BadEntry Away) =
+    IsThere (SaysFolder Stores table) × IsThere (SaysFolder Logs table) × IsThere (SaysPort table) × IsThere (SaysOutages nodes table) × IsAbsent (SaysAbsent table)
 IsUnserved nodes table OutOfMemory = Unit {0}
 IsUnserved nodes table fault = ⊥
 

@@ -3,7 +3,7 @@ use Rattle.std.specs.Prelude.{ℕ, Bool, not, List, [], ◌∷◌, filter, bytes
 use Rattle.std.specs.List.{list_any}
 use Rattle.toml.specs.Data.{Members, no_members, member}
 use Rattle.match_file.specs.Keys.{key_text}
-use Rattle.match_file.specs.declared.key.Key.TheVariants.{Name, Game, Hands, Names, Node, Stores, Logs, Port, Outage}
+use Rattle.match_file.specs.declared.key.Key.TheVariants.{Name, Game, Hands, Names, Node, Stores, Logs, Port, Outage, Away}
 
 -- the keys of a table, in its order
 abbrev pub keys_of : Members → List (List ℕ)
@@ -12,7 +12,7 @@ keys_of (member key entry more) = key ∷ keys_of more
 
 -- some command reads what stands at this key
 abbrev pub is_used : List ℕ → Bool
-is_used key = list_any (λ used. bytes_eq key (key_text used)) (Name ∷ Game ∷ Hands ∷ Names ∷ Node ∷ Stores ∷ Logs ∷ Port ∷ Outage ∷ [])
+is_used key = list_any (λ used. bytes_eq key (key_text used)) (Name ∷ Game ∷ Hands ∷ Names ∷ Node ∷ Stores ∷ Logs ∷ Port ∷ Outage ∷ Away ∷ [])
 
 -- the others
 abbrev pub unused_keys : Members → List (List ℕ)

@@ -22,6 +22,8 @@ pub enum Key {
     Port,
     /// When nodes are out.
     Outage,
+    /// What is done about seats that were dropped.
+    Away,
 }
 
 impl Key {
@@ -39,6 +41,7 @@ impl Key {
             Key::Logs => "logs",
             Key::Port => "port",
             Key::Outage => "outage",
+            Key::Away => "away",
         }
     }
 }

@@ -10,6 +10,7 @@
 //! Faults: `MatchFault`, 100 to 102, 104 and 92, the first in the order that `specs/Refusals.antt` states.
 #![tactic(auto)]
 
+mod absent;
 mod config;
 mod difference;
 mod entries;
@@ -27,6 +28,7 @@ mod seat_names;
 mod service;
 mod unused;
 
+pub use absent::Absent;
 pub use difference::Difference;
 pub use kept::{kept_difference, kept_text};
 pub use key::Key;

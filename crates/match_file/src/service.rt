@@ -1,10 +1,12 @@
 ghost use Rattle.std.specs.Prelude.{◌≡◌, IfOk, IfErr, MatchOption, MatchResult};
 ghost use Rattle.dealer_kind.specs.Plans.{HasNodes};
 ghost use Rattle.match_file.specs.Matches.{SaysFolder, SaysPort, SaysOutages};
+ghost use Rattle.match_file.specs.Absences.{SaysAbsent};
 ghost use Rattle.match_file.specs.Said.{IsAbsent};
 ghost use Rattle.match_file.specs.Refusals.{HasNoStores, IsUnserved};
 ghost use Rattle.match_file.specs.declared.key.Key.TheVariants.{Stores, Logs};
 
+use crate::absent::Absent;
 use crate::entries::{number_at, text_at};
 use crate::key::Key;
 use crate::match_fault::MatchFault;
@@ -28,6 +30,8 @@ pub struct Service<'a> {
     pub port: u16,
     /// When nodes are out.
     pub outages: Vec<Outage>,
+    /// What is done about seats that were dropped.
+    pub absent: Absent,
 }
 
 impl MatchFile {
@@ -45,13 +49,14 @@ impl MatchFile {
     }
 
     /// What a match of so many nodes needs to be served. The fault is 101 `BadEntry` of the first wrong one of
-    /// `stores`, `logs`, `port` and `outage`, or 92 `OutOfMemory`.
+    /// `stores`, `logs`, `port`, `outage` and `away`, or 92 `OutOfMemory`.
     pub fn service(&self, alloc: Global, nodes: usize) -> Result<Service<'_>, MatchFault>
         requires { HasNodes nodes }
         ensures stores { IfOk result (λ service. SaysFolder Stores (members self.now) service.stores.now) }
         ensures logs { IfOk result (λ service. SaysFolder Logs (members self.now) service.logs.now) }
         ensures port { IfOk result (λ service. SaysPort (members self.now) service.port) }
         ensures outages { IfOk result (λ service. SaysOutages nodes (members self.now) service.outages.items) }
+        ensures absent { IfOk result (λ service. SaysAbsent (members self.now) service.absent) }
         ensures fault { IfErr result (IsUnserved nodes (members self.now)) }
     {
         let stores = self.stores()?;
@@ -62,11 +67,15 @@ impl MatchFile {
             return Err(MatchFault::BadEntry(Key::Port));
         };
         let outages = self.outages(alloc, nodes)?;
+        let Some(absent) = self.absent() else {
+            return Err(MatchFault::BadEntry(Key::Away));
+        };
         Ok(Service {
             stores,
             logs,
             port,
             outages,
+            absent,
         })
     }
 

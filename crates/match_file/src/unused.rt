@@ -6,7 +6,7 @@ use crate::match_file::MatchFile;
 use std::alloc::{AllocError, Global};
 
 /// The keys that commands read.
-const KEYS: [Key; 9] = [
+const KEYS: [Key; 10] = [
     Key::Name,
     Key::Game,
     Key::Hands,
@@ -16,6 +16,7 @@ const KEYS: [Key; 9] = [
     Key::Logs,
     Key::Port,
     Key::Outage,
+    Key::Away,
 ];
 
 impl MatchFile {

@@ -1,5 +1,5 @@
 -- What one more passage leaves of the lines and the logs.
-use Rattle.std.proofs.Common.{◌≡◌, ℕ, zero, suc, ◌<◌, ◌==◌, if◌then◌else◌, List, [], ◌∷◌, ◌++◌, map, length, get_or, set, refl, ap, ◌∙◌, arith, rules}
+use Rattle.std.proofs.Common.{◌≡◌, ℕ, zero, suc, ◌+◌, ◌≤◌, ◌<◌, ◌==◌, if◌then◌else◌, List, [], ◌∷◌, ◌++◌, map, length, get_or, set, refl, ap, subst, ◌∙◌, arith, rules}
 use Rattle.std.proofs.lemmas.List.{append-nil}
 use Rattle.match_links.specs.Passages.{Passage, Came, Told, Emptied, Logged, sat, came, lines_in, logged_by, log_after, log_of}
 
@@ -89,3 +89,38 @@ pub in_place : {A : Type 0} (f : A → List ℕ) (xs : List A) (n : ℕ) (d : A)
 in_place f [] n d within = absurd (omega (arith, within))
 in_place f (x ∷ xs) zero d within = refl
 in_place f (x ∷ xs) (suc n) d within = in_place f xs n d (omega (arith, within))
+
+-- ---- what is counted of each
+
+pub count_at : {A : Type 0} (f : A → ℕ) (xs : List A) (n : ℕ) (d : A) → n < length xs → f (get_or xs n d) ≡ get_or (map f xs) n 0
+count_at f [] n d within = absurd (omega (arith, within))
+count_at f (x ∷ xs) zero d within = refl
+count_at f (x ∷ xs) (suc n) d within = count_at f xs n d (omega (arith, within))
+
+-- where one is put at its place of which as much is counted, and so much more was, no more than that is lost there, and nothing elsewhere
+pub count_left : {A : Type 0} (f : A → ℕ) (xs : List A) (n i used : ℕ) (v : A) → n < length xs → get_or (map f xs) n 0 ≤ f v + used
+    → get_or (map f xs) i 0 ≤ get_or (map f (set xs n v)) i 0 + (if n == i then used else 0)
+count_left f [] n i used v within is = absurd (omega (arith, within))
+count_left f (x ∷ xs) zero zero used v within is = is
+count_left f (x ∷ xs) zero (suc i) used v within is = omega arith
+count_left f (x ∷ xs) (suc n) zero used v within is = omega arith
+count_left f (x ∷ xs) (suc n) (suc i) used v within is =
+    subst (λ b. get_or (map f xs) i 0 ≤ get_or (map f (set xs n v)) i 0 + (if b then used else 0)) (same n i) (count_left f xs n i used v (omega (arith, within)) is)
+
+-- and where as much is counted of it as before, nothing is lost
+pub count_kept : {A : Type 0} (f : A → ℕ) (xs : List A) (n i : ℕ) (v : A) → n < length xs → get_or (map f xs) n 0 ≤ f v → get_or (map f xs) i 0 ≤ get_or (map f (set xs n v)) i 0
+count_kept f [] n i v within is = absurd (omega (arith, within))
+count_kept f (x ∷ xs) zero zero v within is = is
+count_kept f (x ∷ xs) zero (suc i) v within is = omega arith
+count_kept f (x ∷ xs) (suc n) zero v within is = omega arith
+count_kept f (x ∷ xs) (suc n) (suc i) v within is = count_kept f xs n i v (omega (arith, within)) is
+
+-- where so much is counted of each before it, and of the one that is put at its place
+pub count_more : {A : Type 0} (f : A → ℕ) (xs : List A) (n text : ℕ) (v : A) → n < length xs → text ≤ f v → ((i : ℕ) → i < n → text ≤ get_or (map f xs) i 0)
+    → (i : ℕ) → i < n + 1 → text ≤ get_or (map f (set xs n v)) i 0
+count_more f [] n text v within here before i below = absurd (omega (arith, within))
+count_more f (x ∷ xs) zero text v within here before zero below = here
+count_more f (x ∷ xs) zero text v within here before (suc i) below = absurd (omega (arith, below))
+count_more f (x ∷ xs) (suc n) text v within here before zero below = before zero (omega arith)
+count_more f (x ∷ xs) (suc n) text v within here before (suc i) below =
+    count_more f xs n text v (omega (arith, within)) here (λ k less. before (suc k) (omega (arith, less))) i (omega (arith, below))

@@ -1,6 +1,6 @@
 //! Connections of seats in memory.
 
-ghost use Rattle.std.specs.Prelude.{◌≡◌, ◌+◌, ◌≤◌, ◌<◌, [], length, take, drop, position, vec_len, IfOk, IfSome, OnErr};
+ghost use Rattle.std.specs.Prelude.{◌≡◌, ◌+◌, ◌≤◌, ◌<◌, [], length, take, drop, position, is_some, vec_len, IfOk, IfSome, OnErr};
 ghost use Rattle.match_links.specs.Pieces.{part_len};
 
 use crate::input::give;
@@ -117,7 +117,9 @@ impl Callers {
     }
 
     /// Whether a seat has a connection to a node.
-    pub(crate) fn is_open(&self, node: u8, seat: u8) -> bool {
+    pub(crate) fn is_open(&self, node: u8, seat: u8) -> bool
+        ensures { result ≡ is_some (position (is_open_for node seat) self.now.all.items) }
+    {
         self.open_at(node, seat).is_some()
     }
 

@@ -3,10 +3,10 @@
 //! `Links` is the trait; `TcpLinks` are sockets of this machine and files, `MemoryLinks` stand for them in tests.
 //!
 //! The way through it: `TcpLinks::bind` takes the ports of a match and joins its nodes, and `add_log` gives each node its
-//! log, from node 0 on. Then come the calls of `Links`: `open` and `empty_log` for a node that starts; `accept` for a seat
-//! that is awaited, and `read` for each piece that it sends; `send` and `receive` for a frame between two nodes; `write`
-//! and `add_to_log` for what a node shows; `hang_up` for a seat that is dropped, and `close` for a node that stops; at the
-//! end `part`.
+//! log, from node 0 on. Then come the calls of `Links`: `reserve` for the room that the others may want; `open` and
+//! `empty_log` for a node that starts; `accept` for a seat that is awaited, and `read` for each piece that it sends; `send`
+//! and `receive` for a frame between two nodes; `write` and `add_to_log` for what a node shows; `hang_up` for a seat that is
+//! dropped, and `close` for a node that stops; at the end `part`.
 //!
 //! Both kinds serve a whole match in tests of `match_tests`: `a_match_outlives_a_node`, and the same over sockets.
 //!
@@ -24,6 +24,7 @@
 //! seats' ports, what is waited for at once (`Watch`) and who is turned away (`TurnedAway`).
 #![tactic(auto)]
 
+mod blank;
 mod callers;
 mod deadline;
 mod held;

@@ -7,6 +7,12 @@ pub const NODES: usize = 5;
 /// The most bytes of a piece: one more than those of the longest line, so that a line that is too long is seen to be.
 pub const PIECE: usize = 4097;
 
+/// The most bytes of a line that a seat is told, without its line end.
+pub const LINE: usize = PIECE - 1;
+
+/// The most bytes of a frame.
+pub const FRAME: usize = 2576;
+
 /// How many seconds a wait for a seat takes at most: for its connection, or for a piece of what it sends.
 pub const WAIT_SECONDS: u64 = 5;
 

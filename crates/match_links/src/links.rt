@@ -2,6 +2,9 @@
 
 ghost use Rattle.std.specs.Prelude.{◌≡◌, ◌≤◌, List, [], ◌∷◌, ◌++◌, length, take, IfOk, OnOk, OnErr};
 ghost use Rattle.match_links.specs.Passages.{Passage, Told, Emptied, Logged, sat, came};
+ghost use Rattle.match_links.specs.declared.links.LinkFault.TheVariants.{OutOfMemory};
+
+use std::alloc::AllocError;
 
 /// Why a call of a link did nothing.
 #[derive(Clone, Copy, Debug, PartialEq, Eq)]
@@ -15,6 +18,14 @@ pub enum LinkFault {
     OutOfMemory,
 }
 
+impl From<AllocError> for LinkFault {
+    ghost from_gives = { λ _ answer. answer ≡ OutOfMemory };
+
+    fn from(_: AllocError) -> LinkFault {
+        LinkFault::OutOfMemory
+    }
+}
+
 /// The links of a match: the connections of seats to nodes, one for each ordered pair of nodes, and a log for each
 /// node. Nodes and seats are counted from 0.
 ///
@@ -24,6 +35,12 @@ pub enum LinkFault {
 pub trait Links {
     /// What passed so far, in order.
     ghost passed: { Self → List Passage };
+
+    /// Makes the room that the links want in memory to tell seats so many lines more, of at most 4,096 bytes each, to put
+    /// so many bytes more of text into each log, and to carry one frame. It is called before anything of an event is taken
+    /// or given. By an `Err` nothing has changed but room, and the same call may be made again.
+    fn reserve(&mut self, lines: usize, text: usize) -> Result<(), AllocError>
+        ensures { passed self.new ≡ passed self.old };
 
     /// Waits for a connection of a seat at a node, which has sent something; slow where none comes in the time that a wait
     /// takes at most. Those that ended before they sent anything are passed over.
@@ -45,6 +62,11 @@ pub trait Links {
     fn write(&mut self, node: u8, seat: u8, line: &[u8]) -> Result<(), LinkFault>
         ensures told { OnOk result (passed self.new ≡ passed self.old ++ Told node seat line.now ∷ []) }
         ensures failed { OnErr result (passed self.new ≡ passed self.old) };
+
+    /// Turns away, from now on and to the end, whoever comes for a seat: in each wait, of an accept and of a read, at every
+    /// node that runs.
+    fn turn_away(&mut self, seat: u8)
+        ensures { passed self.new ≡ passed self.old };
 
     /// Closes the connection of a seat to a node.
     fn hang_up(&mut self, node: u8, seat: u8)

@@ -1,18 +1,21 @@
 //! Links in memory, of whose calls one may fail.
 
-ghost use Rattle.std.specs.Prelude.{◌≡◌, ◌≤◌, ◌++◌, ◌==◌, [], ℕ, if◌then◌else◌, ◌∷◌, length, take, map, get_or, IfOk, OnOk, OnErr};
+ghost use Rattle.std.specs.Prelude.{◌≡◌, ◌≤◌, ◌<◌, ◌+◌, ◌++◌, ◌==◌, [], ℕ, if◌then◌else◌, ◌∷◌, length, take, map, get_or, nat_lt, is_some, position, vec_len, Ok, IfOk, IsOk, OnOk, OnErr};
 ghost use Rattle.match_links.specs.Memory.{told_by, AreTold, told_prop, AreLogged, logged_prop};
 ghost use Rattle.match_links.specs.Counting.{is_due, one_less, passing};
-ghost use Rattle.match_links.specs.Passages.{sat, came, lines_in, log_of, Told as WasTold};
+ghost use Rattle.match_links.specs.Passages.{sat, came, lines_in, log_of, Told as WasTold, Emptied as WasEmptied, Logged as WasLogged};
+ghost use Rattle.match_links.specs.Room.{line_room, log_room, reaching};
 
+use crate::blank::Blank;
 use crate::callers::Callers;
-use crate::limits::NODES;
+use crate::limits::{FRAME, NODES};
 use crate::links::{LinkFault, Links};
 use crate::passages::Passages;
 use std::alloc::{AllocError, Global};
 
-/// How many bytes of a log, and of a frame, there is room for from the start.
-const ROOM: usize = 8192;
+/// How many bytes of each log there is room for from the start: the header of a match with short names, so that what comes
+/// behind it finds its room by `reserve` alone.
+const ROOM: usize = 64;
 
 /// What a call of a link reaches.
 #[derive(Clone, Copy, Debug, PartialEq, Eq)]
@@ -41,10 +44,16 @@ pub struct Told {
 /// Connections that wait at a node when its ports are closed, or while the seat is awaited elsewhere, go on waiting: they
 /// stand for bots that dial again. Nobody comes later than the start: a call that nobody is there for fails at once, and
 /// is slow only where it was told to be.
+///
+/// Where `reserve` made room, no other call grows anything, once the connections that wait were put there: `write` of a
+/// line of at most 4,096 bytes, `add_to_log` and `send` put what they are given into that room, and so fail only where they
+/// are told to or where nobody is there. Where there is no room they grow as it comes.
 pub struct MemoryLinks {
     alloc: Global,
     callers: Callers,
     told: Vec<Told>,
+    /// The rooms of lines that seats will be told.
+    blanks: Vec<Blank>,
     logs: Vec<Vec<u8>>,
     /// The last frame, and the nodes whose connection it is in.
     wire: Vec<u8>,
@@ -72,6 +81,7 @@ impl Drop for MemoryLinks {
             alloc: _,
             callers: _,
             told: _,
+            blanks: _,
             logs: _,
             wire: _,
             ends: _,
@@ -103,24 +113,48 @@ fn count_down(left: &mut Option<u64>) -> bool
     }
 }
 
-/// Puts a line behind those that seats got; fails without memory for it.
+/// Puts a line behind those that seats got, into room that was made for it; where there is none, it takes memory.
 fn tell_one(
     alloc: Global,
     told: &mut Vec<Told>,
+    blanks: &mut Vec<Blank>,
     node: u8,
     seat: u8,
     line: &[u8],
-) -> Result<(), LinkFault>
+) -> Result<(), AllocError>
     ensures told { OnOk result (map told_by told.new.items ≡ map told_by told.old.items ++ WasTold node seat line.now ∷ []) }
     ensures failed { OnErr result (told.new.items ≡ told.old.items) }
+    ensures ample { 1 ≤ line_room told.old blanks.old → length line.now ≤ 4096 → IsOk result }
+    ensures used { line_room told.old blanks.old ≤ line_room told.new blanks.new + 1 }
 {
-    let Ok(line) = Vec::from_slice(alloc, line) else {
-        return Err(LinkFault::Failed);
+    let blank = match blanks.pop() {
+        Some(blank) => blank,
+        None => Blank::new(alloc)?,
     };
-    match told.push(Told { node, seat, line }) {
-        Ok(()) => Ok(()),
-        Err(_) => Err(LinkFault::Failed),
+    let line = blank.filled(line)?;
+    told.push(Told { node, seat, line })?;
+    Ok(())
+}
+
+/// Makes the rooms of so many lines.
+fn reserve_blanks(alloc: Global, blanks: &mut Vec<Blank>, lines: usize) -> Result<(), AllocError>
+    ensures room { OnOk result (lines ≤ vec_len blanks.new) }
+{
+    for _ in blanks.len()..lines {
+        blanks.push(Blank::new(alloc)?)?;
     }
+    Ok(())
+}
+
+/// Makes the room of so many bytes more in each log.
+fn reserve_logs(logs: &mut Vec<Vec<u8>>, text: usize) -> Result<(), AllocError>
+    ensures same { map (λ log. log.items) logs.new.items ≡ map (λ log. log.items) logs.old.items }
+    ensures room { OnOk result ((node : ℕ) → node < length logs.new.items → text ≤ log_room logs.new.items node) }
+{
+    for node in 0..logs.len() {
+        logs[node].reserve(text)?;
+    }
+    Ok(())
 }
 
 /// The logs of so many nodes, with nothing in them.
@@ -130,7 +164,7 @@ fn empty_logs(alloc: Global, nodes: usize) -> Result<Vec<Vec<u8>>, AllocError>
 {
     let mut logs = Vec::new(alloc);
     for _ in 0..nodes {
-        logs.push(Vec::with_capacity(alloc, ROOM)?)?;
+        logs.push(Vec::new(alloc))?;
     }
     Ok(logs)
 }
@@ -140,6 +174,7 @@ fn empty_logs(alloc: Global, nodes: usize) -> Result<Vec<Vec<u8>>, AllocError>
 fn empty_one(logs: &mut Vec<Vec<u8>>, node: usize) -> Result<(), LinkFault>
     ensures emptied { OnOk result ((i : ℕ) → get_or (map (λ log. log.items) logs.new.items) i [] ≡ (if node == i then [] else get_or (map (λ log. log.items) logs.old.items) i [])) }
     ensures failed { OnErr result (map (λ log. log.items) logs.new.items ≡ map (λ log. log.items) logs.old.items) }
+    ensures kept { (i : ℕ) → log_room logs.old.items i ≤ log_room logs.new.items i }
 {
     if node >= logs.len() {
         return Err(LinkFault::Failed);
@@ -148,35 +183,42 @@ fn empty_one(logs: &mut Vec<Vec<u8>>, node: usize) -> Result<(), LinkFault>
     Ok(())
 }
 
-/// Puts text behind the log of this number; fails where there is none, or no room for it.
+/// Puts text behind the log of this number, into room that was made for it, and takes memory where there is none; fails
+/// where there is no such log.
 #[tactic(auto, using(crate::proofs::Passed::put_in))]
 fn add_to_one(logs: &mut Vec<Vec<u8>>, node: usize, text: &[u8]) -> Result<(), LinkFault>
     ensures added { OnOk result ((i : ℕ) → get_or (map (λ log. log.items) logs.new.items) i [] ≡
         (if node == i then get_or (map (λ log. log.items) logs.old.items) i [] ++ text.now else get_or (map (λ log. log.items) logs.old.items) i [])) }
     ensures failed { OnErr result (map (λ log. log.items) logs.new.items ≡ map (λ log. log.items) logs.old.items) }
+    ensures ample { length text.now ≤ log_room logs.old.items node → result ≡ reaching (Ok tt) (nat_lt node (length logs.old.items)) }
+    ensures used { (i : ℕ) → log_room logs.old.items i ≤ log_room logs.new.items i + (if node == i then length text.now else 0) }
 {
     if node >= logs.len() {
         return Err(LinkFault::Failed);
     }
     match logs[node].extend_from_slice(text) {
         Ok(()) => Ok(()),
-        Err(_) => Err(LinkFault::Failed),
+        Err(_) => Err(LinkFault::OutOfMemory),
     }
 }
 
 impl MemoryLinks {
     ghost use Rattle.match_links.specs.MemoryPassed.{passed_of};
+    ghost use Rattle.match_links.specs.MemoryRoom.{room_of};
+    ghost use Rattle.match_links.specs.Room.{IsAmple};
 
     /// Links of so many nodes. The call of this number fails, counted from 1; with 0 none does.
     pub fn new(alloc: Global, nodes: usize, call: u64) -> Result<MemoryLinks, AllocError>
-        ensures { IfOk result (λ links. passed_of links ≡ []) }
+        ensures passed { IfOk result (λ links. passed_of links ≡ []) }
+        ensures room { IfOk result (λ links. IsAmple (room_of links) 0 64) }
     {
-        Ok(MemoryLinks {
+        let mut links = MemoryLinks {
             alloc,
             callers: Callers::new(alloc),
             told: Vec::new(alloc),
+            blanks: Vec::new(alloc),
             logs: empty_logs(alloc, nodes)?,
-            wire: Vec::with_capacity(alloc, ROOM)?,
+            wire: Vec::new(alloc),
             ends: (0, 0),
             closed: [false; NODES],
             left: call.checked_sub(1),
@@ -184,7 +226,9 @@ impl MemoryLinks {
             left_to_slow: None,
             slowed: None,
             passed: Passages::new(),
-        })
+        };
+        links.reserve(0, ROOM)?;
+        Ok(links)
     }
 
     /// Puts a connection of a seat to a node behind those that wait there. It sends these bytes, and ends.
@@ -243,7 +287,11 @@ impl MemoryLinks {
     }
 
     fn set_closed(&mut self, node: u8, closed: bool)
-        ensures { self.new.passed ≡ self.old.passed }
+        ensures same { self.new.passed ≡ self.old.passed }
+        ensures told { self.new.told ≡ self.old.told }
+        ensures blanks { self.new.blanks ≡ self.old.blanks }
+        ensures logs { self.new.logs ≡ self.old.logs }
+        ensures wire { self.new.wire ≡ self.old.wire }
     {
         if (node as usize) < NODES {
             self.closed[node as usize] = closed;
@@ -257,6 +305,10 @@ impl MemoryLinks {
         ensures left { self.new.left ≡ one_less self.old.left }
         ensures left_to_slow { self.new.left_to_slow ≡ one_less self.old.left_to_slow }
         ensures same { self.new.passed ≡ self.old.passed }
+        ensures told { self.new.told ≡ self.old.told }
+        ensures blanks { self.new.blanks ≡ self.old.blanks }
+        ensures logs { self.new.logs ≡ self.old.logs }
+        ensures wire { self.new.wire ≡ self.old.wire }
     {
         let fails = count_down(&mut self.left);
         let is_slow = count_down(&mut self.left_to_slow);
@@ -274,14 +326,31 @@ impl MemoryLinks {
 
 impl Links for MemoryLinks {
     ghost use Rattle.match_links.specs.MemoryPassed.{passed_of, callers_of};
+    ghost use Rattle.match_links.specs.MemoryRoom.{room_of};
+    ghost use Rattle.match_links.specs.Room.{IsAmple, Leaves};
+    ghost use Rattle.match_links.specs.Callers.{is_open_for};
 
     ghost passed = { λ links. links.passed.items };
+
+    fn reserve(&mut self, lines: usize, text: usize) -> Result<(), AllocError>
+        ensures same { passed_of self.new ≡ passed_of self.old }
+        ensures callers { callers_of self.new ≡ callers_of self.old }
+        ensures left { self.new.left ≡ self.old.left }
+        ensures left_to_slow { self.new.left_to_slow ≡ self.old.left_to_slow }
+        ensures room { OnOk result (IsAmple (room_of self.new) lines text) }
+    {
+        self.told.reserve(lines)?;
+        reserve_blanks(self.alloc, &mut self.blanks, lines)?;
+        reserve_logs(&mut self.logs, text)?;
+        self.wire.reserve(FRAME)
+    }
 
     #[tactic(auto, using(crate::proofs::Passed::lines_when_sat, crate::proofs::Passed::log_when_sat))]
     fn accept(&mut self, node: u8, seat: u8) -> Result<(), LinkFault>
         ensures sat { OnOk result (passed_of self.new ≡ passed_of self.old ++ sat node seat ∷ []) }
         ensures failed { OnErr result (passed_of self.new ≡ passed_of self.old) }
         ensures nothing_taken { OnErr result (callers_of self.new ≡ callers_of self.old) }
+        ensures room { Leaves (room_of self.old) 0 (λ _. 0) (room_of self.new) }
     {
         self.pass(Reached::Seat)?;
         if self.is_closed(node) {
@@ -298,6 +367,7 @@ impl Links for MemoryLinks {
         ensures came { IfOk result (λ count. passed_of self.new ≡ passed_of self.old ++ came node seat (take count piece.new)) }
         ensures failed { OnErr result (passed_of self.new ≡ passed_of self.old) }
         ensures nothing_taken { OnErr result (callers_of self.new ≡ callers_of self.old) }
+        ensures room { Leaves (room_of self.old) 0 (λ _. 0) (room_of self.new) }
     {
         self.pass(Reached::Seat)?;
         let count = self.callers.read(node, seat, piece)?;
@@ -306,31 +376,62 @@ impl Links for MemoryLinks {
     }
 
     #[tactic(auto, using(crate::proofs::Passed::lines_when_told, crate::proofs::Passed::log_when_told))]
-    fn write(&mut self, node: u8, seat: u8, line: &[u8]) -> Result<(), LinkFault> {
+    fn write(&mut self, node: u8, seat: u8, line: &[u8]) -> Result<(), LinkFault>
+        ensures told { OnOk result (passed_of self.new ≡ passed_of self.old ++ WasTold node seat line.now ∷ []) }
+        ensures failed { OnErr result (passed_of self.new ≡ passed_of self.old) }
+        ensures answer { 1 ≤ (room_of self.old).lines → length line.now ≤ 4096
+            → result ≡ reaching (passing self.old.left self.old.left_to_slow) (is_some (position (is_open_for node seat) (callers_of self.old))) }
+        ensures room { Leaves (room_of self.old) 1 (λ _. 0) (room_of self.new) }
+    {
         self.pass(Reached::Seat)?;
         if !self.callers.is_open(node, seat) {
             return Err(LinkFault::Failed);
         }
-        tell_one(self.alloc, &mut self.told, node, seat, line)?;
+        tell_one(
+            self.alloc,
+            &mut self.told,
+            &mut self.blanks,
+            node,
+            seat,
+            line,
+        )?;
         self.passed.told(node, seat, line);
         Ok(())
     }
 
-    fn hang_up(&mut self, node: u8, seat: u8) {
+    /// Those who wait go on waiting: nobody asks for that seat any more.
+    fn turn_away(&mut self, seat: u8)
+        ensures same { passed_of self.new ≡ passed_of self.old }
+        ensures room { Leaves (room_of self.old) 0 (λ _. 0) (room_of self.new) }
+    {
+        let _ = seat;
+    }
+
+    fn hang_up(&mut self, node: u8, seat: u8)
+        ensures same { passed_of self.new ≡ passed_of self.old }
+        ensures room { Leaves (room_of self.old) 0 (λ _. 0) (room_of self.new) }
+    {
         self.callers.close_seat(node, seat);
     }
 
-    fn send(&mut self, from: u8, to: u8, frame: &[u8]) -> Result<(), LinkFault> {
+    fn send(&mut self, from: u8, to: u8, frame: &[u8]) -> Result<(), LinkFault>
+        ensures same { passed_of self.new ≡ passed_of self.old }
+        ensures answer { length frame.now ≤ (room_of self.old).frame → result ≡ passing self.old.left self.old.left_to_slow }
+        ensures room { Leaves (room_of self.old) 0 (λ _. 0) (room_of self.new) }
+    {
         self.pass(Reached::Peer)?;
         self.wire.clear();
         self.ends = (from, to);
         match self.wire.extend_from_slice(frame) {
             Ok(()) => Ok(()),
-            Err(_) => Err(LinkFault::Failed),
+            Err(_) => Err(LinkFault::OutOfMemory),
         }
     }
 
-    fn receive(&mut self, from: u8, to: u8, frame: &mut [u8]) -> Result<(), LinkFault> {
+    fn receive(&mut self, from: u8, to: u8, frame: &mut [u8]) -> Result<(), LinkFault>
+        ensures same { passed_of self.new ≡ passed_of self.old }
+        ensures room { Leaves (room_of self.old) 0 (λ _. 0) (room_of self.new) }
+    {
         self.pass(Reached::Peer)?;
         if self.ends.0 != from || self.ends.1 != to || frame.len() != self.wire.len() {
             return Err(LinkFault::Failed);
@@ -340,7 +441,11 @@ impl Links for MemoryLinks {
     }
 
     #[tactic(auto, using(crate::proofs::Passed::lines_when_emptied, crate::proofs::Passed::log_when_emptied))]
-    fn empty_log(&mut self, node: u8) -> Result<(), LinkFault> {
+    fn empty_log(&mut self, node: u8) -> Result<(), LinkFault>
+        ensures emptied { OnOk result (passed_of self.new ≡ passed_of self.old ++ WasEmptied node ∷ []) }
+        ensures failed { OnErr result (passed_of self.new ≡ passed_of self.old) }
+        ensures room { Leaves (room_of self.old) 0 (λ _. 0) (room_of self.new) }
+    {
         self.pass(Reached::Log)?;
         empty_one(&mut self.logs, node as usize)?;
         self.passed.emptied(node);
@@ -348,24 +453,39 @@ impl Links for MemoryLinks {
     }
 
     #[tactic(auto, using(crate::proofs::Passed::lines_when_logged, crate::proofs::Passed::log_when_logged))]
-    fn add_to_log(&mut self, node: u8, text: &[u8]) -> Result<(), LinkFault> {
+    fn add_to_log(&mut self, node: u8, text: &[u8]) -> Result<(), LinkFault>
+        ensures logged { OnOk result (passed_of self.new ≡ passed_of self.old ++ WasLogged node text.now ∷ []) }
+        ensures failed { OnErr result (passed_of self.new ≡ passed_of self.old) }
+        ensures answer { length text.now ≤ get_or (room_of self.old).logs node 0
+            → result ≡ reaching (passing self.old.left self.old.left_to_slow) (nat_lt node (length (room_of self.old).logs)) }
+        ensures room { Leaves (room_of self.old) 0 (λ i. if node == i then length text.now else 0) (room_of self.new) }
+    {
         self.pass(Reached::Log)?;
         add_to_one(&mut self.logs, node as usize, text)?;
         self.passed.logged(node, text);
         Ok(())
     }
 
-    fn open(&mut self, node: u8) -> Result<(), LinkFault> {
+    fn open(&mut self, node: u8) -> Result<(), LinkFault>
+        ensures same { passed_of self.new ≡ passed_of self.old }
+        ensures room { Leaves (room_of self.old) 0 (λ _. 0) (room_of self.new) }
+    {
         self.pass(Reached::Ports)?;
         self.set_closed(node, false);
         Ok(())
     }
 
-    fn part(&mut self, node: u8) {
+    fn part(&mut self, node: u8)
+        ensures same { passed_of self.new ≡ passed_of self.old }
+        ensures room { Leaves (room_of self.old) 0 (λ _. 0) (room_of self.new) }
+    {
         self.callers.close_node(node);
     }
 
-    fn close(&mut self, node: u8) {
+    fn close(&mut self, node: u8)
+        ensures same { passed_of self.new ≡ passed_of self.old }
+        ensures room { Leaves (room_of self.old) 0 (λ _. 0) (room_of self.new) }
+    {
         self.set_closed(node, true);
         self.callers.close_node(node);
     }

@@ -22,6 +22,8 @@ pub(crate) struct Seats {
     /// The seats' ports, node by node.
     ports: Vec<SeatPort>,
     watch: Watch,
+    /// By seat: whether it is turned away wherever it comes, to the end.
+    unwanted: Vec<bool>,
     /// Who came to a port at which the seat isn't awaited; nobody between two calls.
     turned_away: TurnedAway,
     /// How long a wait takes at most.
@@ -41,6 +43,7 @@ impl Seats {
             numbers,
             ports: Vec::with_capacity(alloc, numbers.nodes * numbers.players)?,
             watch,
+            unwanted: vec![in alloc; false; numbers.players]?,
             turned_away: TurnedAway::new(alloc),
             wait: Duration::from_secs(WAIT_SECONDS),
             line: Vec::with_capacity(alloc, LINE)?,
@@ -86,7 +89,7 @@ impl Seats {
             if left.is_zero() {
                 break;
             }
-            self.turn_away(rt, node, seat);
+            self.turn_others_away(rt, node, seat);
             self.pause(rt, left)?;
         }
         Err(LinkFault::Slow)
@@ -104,17 +107,48 @@ impl Seats {
         }
     }
 
-    /// Turns away who waits for a seat at other nodes than this, and closes those whose time has come.
-    fn turn_away(&mut self, rt: &HostRuntime, node: u8, seat: u8) {
-        self.turned_away.close_due(rt);
+    /// Whoever comes for a seat is turned away from now on, in each wait and at every node.
+    pub(crate) fn turn_away(&mut self, seat: u8) {
+        if let Some(unwanted) = self.unwanted.get_mut(seat as usize) {
+            *unwanted = true;
+        }
+    }
+
+    /// Turns away who waits for a seat at other nodes than this, and for seats that are turned away at all; and closes those
+    /// whose time has come.
+    fn turn_others_away(&mut self, rt: &HostRuntime, node: u8, seat: u8) {
+        self.turn_unwanted_away(rt);
         for other in 0..self.numbers.nodes as u8 {
-            let place = self.numbers.place(other, seat);
-            if other == node {
-                continue;
+            if other != node {
+                self.turn_away_at(rt, other, seat);
             }
-            if let Some(port) = self.ports.get_mut(place) {
-                port.turn_away(rt, &mut self.turned_away);
+        }
+    }
+
+    /// Turns away who waits for seats that are turned away at all, and closes those whose time has come.
+    fn turn_unwanted_away(&mut self, rt: &HostRuntime) {
+        self.turned_away.close_due(rt);
+        for seat in 0..self.numbers.players as u8 {
+            if self.is_unwanted(seat) {
+                self.turn_away_everywhere(rt, seat);
             }
+        }
+    }
+
+    fn is_unwanted(&self, seat: u8) -> bool {
+        self.unwanted.get(seat as usize).copied().unwrap_or(false)
+    }
+
+    fn turn_away_everywhere(&mut self, rt: &HostRuntime, seat: u8) {
+        for node in 0..self.numbers.nodes as u8 {
+            self.turn_away_at(rt, node, seat);
+        }
+    }
+
+    fn turn_away_at(&mut self, rt: &HostRuntime, node: u8, seat: u8) {
+        let place = self.numbers.place(node, seat);
+        if let Some(port) = self.ports.get_mut(place) {
+            port.turn_away(rt, &mut self.turned_away);
         }
     }
 
@@ -128,7 +162,8 @@ impl Seats {
         }
     }
 
-    /// Waits for the next piece of a seat at a node, and reads it.
+    /// Waits for the next piece of a seat at a node, and reads it. Meanwhile those are turned away who come for seats that
+    /// are turned away at all.
     pub(crate) fn read(
         &mut self,
         rt: &HostRuntime,
@@ -138,11 +173,58 @@ impl Seats {
     ) -> Result<usize, LinkFault>
         ensures { IfOk result (λ count. count ≤ length piece.new) }
     {
+        if !self.unwanted.iter().any(|unwanted| *unwanted) {
+            return self.read_at(rt, node, seat, self.wait, piece);
+        }
+        let answer = self.read_between(rt, node, seat, piece);
+        self.turned_away.close_all();
+        answer
+    }
+
+    /// Waits for the next piece of a seat at a node, so long at most, and reads it.
+    fn read_at(
+        &mut self,
+        rt: &HostRuntime,
+        node: u8,
+        seat: u8,
+        most: Duration,
+        piece: &mut [u8],
+    ) -> Result<usize, LinkFault>
+        ensures { IfOk result (λ count. count ≤ length piece.new) }
+    {
         let place = self.numbers.place(node, seat);
         match self.ports.get_mut(place) {
-            Some(port) => port.read(rt, self.wait, piece),
+            Some(port) => port.read(rt, most, piece),
             None => Err(LinkFault::Failed),
         }
+    }
+
+    /// Waits for the next piece in short waits, and between them turns those away who come for seats that are turned away
+    /// at all.
+    fn read_between(
+        &mut self,
+        rt: &HostRuntime,
+        node: u8,
+        seat: u8,
+        piece: &mut [u8],
+    ) -> Result<usize, LinkFault>
+        ensures { IfOk result (λ count. count ≤ length piece.new) }
+    {
+        let Ok(deadline) = Deadline::after(rt, self.wait) else {
+            return Err(LinkFault::Failed);
+        };
+        for _ in 0..u64::MAX {
+            self.turn_unwanted_away(rt);
+            let Ok(left) = deadline.left(rt) else {
+                return Err(LinkFault::Failed);
+            };
+            let most = left.min(self.turned_away.next_due(rt));
+            match self.read_at(rt, node, seat, most, piece) {
+                Err(LinkFault::Slow) if !left.is_zero() => {}
+                answer => return answer,
+            }
+        }
+        Err(LinkFault::Slow)
     }
 
     /// Sends a line to a seat at a node.

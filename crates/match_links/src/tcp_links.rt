@@ -26,7 +26,8 @@ use std::time::Duration;
 /// of arrival. Who ended without a byte is passed over, and who sends nothing holds nobody else. At most 16 are held at a
 /// port, and the rest stay in the system's queue; so they do where the system has no handle left. While nobody can be
 /// seated, who comes to that seat's port at another running node, or waits there, is turned away: the connection is
-/// closed 0.2 s later, and at the latest when the wait ends.
+/// closed 0.2 s later, and at the latest when the wait ends. So is, in each wait, whoever comes for a seat that is turned
+/// away to the end, at every running node.
 pub struct TcpLinks<'a> {
     rt: &'a HostRuntime,
     numbers: PortNumbers,
@@ -152,6 +153,11 @@ fn add(logs: &mut Vec<File>, node: u8, text: &[u8]) -> io::Result<()> {
 impl Links for TcpLinks<'_> {
     ghost passed = { λ links. links.passed.items };
 
+    /// What is told, logged and sent goes to the system at once, and wants no room here.
+    fn reserve(&mut self, _lines: usize, _text: usize) -> Result<(), AllocError> {
+        Ok(())
+    }
+
     fn accept(&mut self, node: u8, seat: u8) -> Result<(), LinkFault> {
         self.seats.accept(self.rt, node, seat)?;
         self.passed.sat(node, seat);
@@ -168,6 +174,10 @@ impl Links for TcpLinks<'_> {
         self.seats.write(node, seat, line)?;
         self.passed.told(node, seat, line);
         Ok(())
+    }
+
+    fn turn_away(&mut self, seat: u8) {
+        self.seats.turn_away(seat);
     }
 
     fn hang_up(&mut self, node: u8, seat: u8) {

@@ -9,7 +9,7 @@ use Rattle.hand_rank.specs.Worth.{Worth}
 use Rattle.hand_rank.specs.Five.{counts_of, is_flush, straight_top, groups_of, category_of, ranks_coming, by_count_then_height, deciding_ranks, worth_of_five}
 use Rattle.side_pots.specs.Pots.{is_eligible, pot_of, opens_pot, is_winner, share, won_at, won}
 use Rattle.slot_log.specs.Dealer.{hands_of}
-use Rattle.slot_log.specs.declared.command.Command.TheVariants.{Deal, Act}
+use Rattle.slot_log.specs.declared.command.Command.TheVariants.{Deal, Act, Away}
 use Rattle.match_log.specs.BestFive.{choices, greatest_of, best_worth}
 use Rattle.match_log.specs.Payoffs.{values_of, amounts_of, folds_of, payoffs_of, total_of, totals_of}
 use Rattle.match_log.specs.Lines.{header_line, state_text, state_line, score_text, score_line}
@@ -143,6 +143,15 @@ call_adds_nothing = refl
 deal_adds_nothing : log_added two_players 2 alice_and_bob (Act 0 0 Fold ∷ Deal 0 ten_ace ∷ []) (Deal 1 twos_threes) ≡ []
 unfolding opened
 deal_adds_nothing = refl
+
+-- a fold for a player who is away ends a hand as his own does, and a call for him leaves it running
+fold_for_him_adds : log_added two_players 2 alice_and_bob (Deal 0 ten_ace ∷ []) (Away 0 0) ≡ codes "STATE:0:f:TdAs|8hTc:5|-5:alice|bob\n"
+unfolding opened
+fold_for_him_adds = refl
+
+call_for_him_adds_nothing : log_added two_players 2 alice_and_bob (Act 0 0 Call ∷ Deal 0 ten_ace ∷ []) (Away 0 1) ≡ []
+unfolding opened
+call_for_him_adds_nothing = refl
 
 -- and neither does what doesn't fit, though a finished hand stands there
 second_fold_adds_nothing : log_added two_players 2 alice_and_bob (Act 0 0 Fold ∷ Deal 0 ten_ace ∷ []) (Act 0 0 Fold) ≡ []

@@ -9,9 +9,9 @@ use Rattle.std.proofs.lemmas.List.Sums.{sum_by-cons}
 use Rattle.game_def.specs.Game.{Game}
 use Rattle.betting.specs.declared.action.Action.{Action}
 use Rattle.slot_log.specs.Hand.{Hand}
-use Rattle.slot_log.specs.Dealer.{is_finished, finished_count, is_match_over, reason_of, deal_reason, act_reason, hands_of, with_command}
+use Rattle.slot_log.specs.Dealer.{is_finished, finished_count, is_match_over, reason_of, deal_reason, act_reason, act_for, hands_of, with_action, with_command}
 use Rattle.slot_log.specs.declared.command.Command.{Command}
-use Rattle.slot_log.specs.declared.command.Command.TheVariants.{Deal, Act}
+use Rattle.slot_log.specs.declared.command.Command.TheVariants.{Deal, Act, Away}
 use Rattle.slot_log.specs.declared.reason.Reason.{Reason}
 use Rattle.match_log.specs.Lines.{header_line, state_line, score_line}
 use Rattle.match_log.specs.Log.{Title, state_lines, log_of, log_lines}
@@ -34,6 +34,7 @@ finished_same game newest earlier runs =
 goes_on : (game : Game) (count : ℕ) (hands : List Hand) (command : Command) → reason_of game count hands command ≡ None → is_match_over game count hands ≡ false
 goes_on game count hands (Deal hand deal) fits = (past_test (is_match_over game count hands) _ (deal_reason game hands hand deal) fits).0
 goes_on game count hands (Act hand index action) fits = (past_test (is_match_over game count hands) _ (act_reason game hands hand index action) fits).0
+goes_on game count hands (Away hand index) fits = (past_test (is_match_over game count hands) _ (act_reason game hands hand index (act_for game hands)) fits).0
 
 -- the newest hand runs where one acts
 newest_runs : (game : Game) (count : ℕ) (newest : Hand) (earlier : List Hand) (hand index : ℕ) (action : Action) → reason_of game count (newest ∷ earlier) (Act hand index action) ≡ None → is_finished game newest ≡ false
@@ -81,18 +82,26 @@ grown game title names before newest earlier same goes finished all =
           ap (λ z. head ++ ((lines ++ []) ++ z)) none ∙ ap (λ z. head ++ z) (append-nil (lines ++ []) ∙ append-nil lines) ∙ sym so_far ∙ sym (append-nil (log_of game title names before))
     ] refl
 
--- the log after a command that takes effect
-pub log_grows : (game : Game) (title : Title) (names : List (List ℕ)) (hands : List Hand) (command : Command) → EarlierOver game hands → reason_of game title.hands hands command ≡ None → log_of game title names (with_command hands command) ≡ log_of game title names hands ++ further_lines game title.hands names (with_command hands command)
+-- the log after an act that takes effect
+act_grows : (game : Game) (title : Title) (names : List (List ℕ)) (hands : List Hand) (hand index : ℕ) (action : Action) → EarlierOver game hands
+    → reason_of game title.hands hands (Act hand index action) ≡ None
+    → log_of game title names (with_action hands action) ≡ log_of game title names hands ++ further_lines game title.hands names (with_action hands action)
 unfolding state_lines
-log_grows game title names hands (Deal hand deal) over fits =
-    grown game title names hands (record { deal = deal; past = [] }) hands refl (goes_on game title.hands hands (Deal hand deal) fits) refl (all_over game hands over (none_runs game title.hands hands hand deal fits))
-log_grows game title names [] (Act hand index action) over fits =
+act_grows game title names [] hand index action over fits =
     let none = (past_test (is_match_over game title.hands []) _ (act_reason game [] hand index action) fits).1 in cc
-log_grows game title names (newest ∷ earlier) (Act hand index action) over fits =
+act_grows game title names (newest ∷ earlier) hand index action over fits =
     let runs : is_finished game newest ≡ false = newest_runs game title.hands newest earlier hand index action fits in
     let before : state_lines game names (newest ∷ earlier) ≡ state_lines game names earlier =
     ap (λ b. state_lines game names earlier ++ cond b (state_line game names (length earlier) newest) []) runs ∙ append-nil (state_lines game names earlier) in
     grown game title names (newest ∷ earlier) (record newest { past = action ∷ newest.past }) earlier before (goes_on game title.hands (newest ∷ earlier) (Act hand index action) fits) (finished_same game newest earlier runs) over
+
+-- the log after a command that takes effect
+pub log_grows : (game : Game) (title : Title) (names : List (List ℕ)) (hands : List Hand) (command : Command) → EarlierOver game hands → reason_of game title.hands hands command ≡ None → log_of game title names (with_command game hands command) ≡ log_of game title names hands ++ further_lines game title.hands names (with_command game hands command)
+unfolding state_lines
+log_grows game title names hands (Deal hand deal) over fits =
+    grown game title names hands (record { deal = deal; past = [] }) hands refl (goes_on game title.hands hands (Deal hand deal) fits) refl (all_over game hands over (none_runs game title.hands hands hand deal fits))
+log_grows game title names hands (Act hand index action) over fits = act_grows game title names hands hand index action over fits
+log_grows game title names hands (Away hand index) over fits = act_grows game title names hands hand index (act_for game hands) over fits
 
 -- ---- the log after a command
 
@@ -104,8 +113,8 @@ commands_add game title names commands command = by (reason_of game title.hands 
     hands = hands_of game title.hands commands
 
     by : (r : Option Reason) → reason_of game title.hands hands command ≡ r
-        → log_of game title names (elim r [ None ↦ with_command hands command | Some reason ↦ hands ])
-        ≡ log_of game title names hands ++ cond (is_none r) (further_lines game title.hands names (elim r [ None ↦ with_command hands command | Some reason ↦ hands ])) []
+        → log_of game title names (elim r [ None ↦ with_command game hands command | Some reason ↦ hands ])
+        ≡ log_of game title names hands ++ cond (is_none r) (further_lines game title.hands names (elim r [ None ↦ with_command game hands command | Some reason ↦ hands ])) []
     by None fits = log_grows game title names hands command (earlier_over game title.hands commands) fits
     by (Some reason) refused = sym (append-nil (log_of game title names hands))
 

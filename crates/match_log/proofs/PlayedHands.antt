@@ -6,12 +6,13 @@ use Rattle.std.proofs.lemmas.Bool.Decides.{nat_tests}
 use Rattle.std.proofs.lemmas.List.Sums.{sum_by-cons}
 use Rattle.game_def.specs.Game.{Game}
 use Rattle.card_core.specs.Deal.{IsDeal, player_count}
+use Rattle.betting.specs.declared.action.Action.{Action}
 use Rattle.betting.specs.Legal.{Legal}
 use Rattle.betting.specs.Laws.{AllowedWithoutFault}
 use Rattle.slot_log.specs.Hand.{Hand}
-use Rattle.slot_log.specs.Dealer.{is_finished, finished_count, is_running, hands_of, reason_of, with_command}
+use Rattle.slot_log.specs.Dealer.{is_finished, finished_count, is_running, hands_of, reason_of, act_for, with_action, with_command, ActFits}
 use Rattle.slot_log.specs.declared.command.Command.{Command}
-use Rattle.slot_log.specs.declared.command.Command.TheVariants.{Deal, Act}
+use Rattle.slot_log.specs.declared.command.Command.TheVariants.{Deal, Act, Away}
 use Rattle.slot_log.specs.declared.reason.Reason.{Reason}
 use Rattle.match_log.specs.Check.{DealsFairly, IsPlayed}
 use Rattle.match_log.specs.Verdict.{HandsEndFinished}
@@ -39,7 +40,16 @@ all_played game [] in_order none_runs = tt
 all_played game (newest ∷ earlier) in_order none_runs =
     (record { dealt = in_order.0.dealt; legal = in_order.0.legal; finished = not-false (is_finished game newest) none_runs }, in_order.1)
 
-command_fits : AllowedWithoutFault → (game : Game) (count : ℕ) (hands : List Hand) (command : Command) → DealsFairly command → reason_of game count hands command ≡ None → IsCourse game count hands → IsCourse game count (with_command hands command)
+act_fits : (game : Game) (count : ℕ) (newest : Hand) (earlier : List Hand) (number index : ℕ) (action : Action) → ActFits game count newest earlier number index action
+    → IsCourse game count (newest ∷ earlier) → IsCourse game count (with_action (newest ∷ earlier) action)
+act_fits game count newest earlier number index action fits course =
+    let few = course.few in
+    record {
+      in_order = (record { dealt = course.in_order.0.dealt; legal = (course.in_order.0.legal, fits.allowed) }, course.in_order.1);
+      few = omega arith;
+    }
+
+command_fits : AllowedWithoutFault → (game : Game) (count : ℕ) (hands : List Hand) (command : Command) → DealsFairly command → reason_of game count hands command ≡ None → IsCourse game count hands → IsCourse game count (with_command game hands command)
 command_fits law game count hands (Deal number deal) fair none course =
     let fits = fits_from_none law game count hands (Deal number deal) none in
     let before : AllByRecursion (IsPlayed game) hands = all_played game hands course.in_order fits.none_runs in
@@ -50,19 +60,17 @@ command_fits law game count hands (Deal number deal) fair none course =
     }
 command_fits law game count [] (Act number index action) fair none course = absurd (fits_from_none law game count [] (Act number index action) none)
 command_fits law game count (newest ∷ earlier) (Act number index action) fair none course =
-    let few = course.few in
-    let fits = fits_from_none law game count (newest ∷ earlier) (Act number index action) none in
-    record {
-      in_order = (record { dealt = course.in_order.0.dealt; legal = (course.in_order.0.legal, fits.allowed) }, course.in_order.1);
-      few = omega arith;
-    }
+    act_fits game count newest earlier number index action (fits_from_none law game count (newest ∷ earlier) (Act number index action) none) course
+command_fits law game count [] (Away number index) fair none course = absurd (fits_from_none law game count [] (Away number index) none)
+command_fits law game count (newest ∷ earlier) (Away number index) fair none course =
+    act_fits game count newest earlier number index (act_for game (newest ∷ earlier)) (fits_from_none law game count (newest ∷ earlier) (Away number index) none) course
 
 course_of : (law : AllowedWithoutFault) (game : Game) (count : ℕ) (commands : List Command) → AllByRecursion DealsFairly commands → IsCourse game count (hands_of game count commands)
 unfolding hands_of
 course_of law game count [] fair = record { in_order = tt; few = omega arith }
 course_of law game count (command ∷ earlier) fair = by (course_of law game count earlier fair.1) (reason_of game count (hands_of game count earlier) command) refl
   where
-    by : IsCourse game count (hands_of game count earlier) → (reason : Option Reason) → reason_of game count (hands_of game count earlier) command ≡ reason → IsCourse game count (elim reason [ None ↦ with_command (hands_of game count earlier) command | Some why ↦ hands_of game count earlier ])
+    by : IsCourse game count (hands_of game count earlier) → (reason : Option Reason) → reason_of game count (hands_of game count earlier) command ≡ reason → IsCourse game count (elim reason [ None ↦ with_command game (hands_of game count earlier) command | Some why ↦ hands_of game count earlier ])
     by before None e = command_fits law game count (hands_of game count earlier) command fair.0 e before
     by before (Some why) e = before
 

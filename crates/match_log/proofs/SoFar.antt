@@ -7,7 +7,7 @@ use Rattle.card_core.specs.Deal.{IsDeal, player_count}
 use Rattle.game_def.specs.Game.{Game}
 use Rattle.slot_log.specs.Hand.{Hand}
 use Rattle.slot_log.specs.declared.command.Command.{Command}
-use Rattle.slot_log.specs.declared.command.Command.TheVariants.{Deal, Act}
+use Rattle.slot_log.specs.declared.command.Command.TheVariants.{Deal, Act, Away}
 use Rattle.slot_log.specs.Dealer.{is_finished, finished_count, is_match_over, hands_of}
 use Rattle.slot_log.specs.Laws.{HandsComeOfCommands, CommandsDealTheHands}
 use Rattle.slot_log.specs.Played.{commands_of, deals_of, IsLegalHand, AreEarlierFinished}
@@ -140,6 +140,7 @@ fair_commands : (commands : List Command) → AllByRecursion (λ deal. IsDeal (p
 fair_commands [] all = tt
 fair_commands (Deal hand deal ∷ commands) all = (all.0, fair_commands commands all.1)
 fair_commands (Act hand index action ∷ commands) all = (tt, fair_commands commands all)
+fair_commands (Away hand index ∷ commands) all = (tt, fair_commands commands all)
 
 over_log : (game : Game) (title : Title) (names : List (List ℕ)) (commands : List Command) (hands : List Hand) → hands_of game title.hands commands ≡ hands → is_match_over game title.hands hands ≡ true
     → log_lines game title names commands ≡ header_line title.name title.game title.hands ++ (state_lines game names hands ++ score_line game names hands)

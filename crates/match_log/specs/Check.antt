@@ -11,7 +11,7 @@ use Rattle.betting.specs.Text.{text}
 use Rattle.slot_log.specs.Hand.{Hand}
 use Rattle.slot_log.specs.Dealer.{is_finished, is_match_over, hands_of}
 use Rattle.slot_log.specs.declared.command.Command.{Command}
-use Rattle.slot_log.specs.declared.command.Command.TheVariants.{Deal, Act}
+use Rattle.slot_log.specs.declared.command.Command.TheVariants.{Deal, Act, Away}
 use Rattle.match_log.specs.Names.{IsName, IsGameWord, AreNames, names_by_position}
 use Rattle.match_log.specs.Payoffs.{payoffs_of}
 use Rattle.match_log.specs.Lines.{header_line, shown_cards, with_bars, names_field, score_line}
@@ -32,6 +32,7 @@ pub record IsTitle (title : Title) : Type 0 where
 abbrev pub DealsFairly : Command → Type 0
 DealsFairly (Deal hand deal) = IsDeal (player_count deal) deal
 DealsFairly (Act hand index action) = Unit {0}
+DealsFairly (Away hand index) = Unit {0}
 
 -- the whole log after some list of commands that ends the match
 pub record IsMatchLog (game : Game) (bytes : List ℕ) : Type 0 where

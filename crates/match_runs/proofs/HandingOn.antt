@@ -55,6 +55,7 @@ taken_for_none : (e : Event) → (flat_map put_by (taken_for e) ≡ []) × (flat
 taken_for_none (event.Frame from to bytes) = (refl, refl)
 taken_for_none (event.Line node seat bytes) = (refl, refl)
 taken_for_none (event.Tick node) = (refl, refl)
+taken_for_none (event.Away node) = (refl, refl)
 taken_for_none (event.Connect node seat) = (refl, refl)
 taken_for_none (event.Drop node seat) = (refl, refl)
 taken_for_none (event.Stop node pick) = (refl, refl)
@@ -110,10 +111,10 @@ hands_here s within =
     }
 
 -- the record only grows
-shown_grows : {N : Type 0} (e : Event) (is_up : _) (told : Made) (old new : View N) (answer : Result (Unit {0}) NodeFault) → Gains e is_up told old new answer
+shown_grows : {N : Type 0} (e : Event) (is_up : _) (front : ℕ) (told : Made) (old new : View N) (answer : Result (Unit {0}) NodeFault) → Gains e is_up front told old new answer
     → (more : List Piece) × (new.all.shown ≡ old.all.shown ++ more)
-shown_grows e is_up told old new answer (nothing want is all last) = ([], ap (λ r. r.shown) all ∙ sym (append-nil old.all.shown))
-shown_grows e is_up told old new answer (call got is all last) = (_, ap (λ r. r.shown) all)
+shown_grows e is_up front told old new answer (nothing want is all last) = ([], ap (λ r. r.shown) all ∙ sym (append-nil old.all.shown))
+shown_grows e is_up front told old new answer (call got is all last) = (_, ap (λ r. r.shown) all)
 
 gives_on : {D : Type 0} (g : Ghosts D) (waiting : Waiting) (old new : Served (Node D)) (answer : Result Turn ServeFault) → Gave g waiting (taken old.waiting (Some waiting)) old answer new → HandsOn old new
 gives_on g waiting old new answer gave =
@@ -121,7 +122,7 @@ gives_on g waiting old new answer gave =
     let given = gave.passes.given in
     let gives = gave.passes.gives in
     let none = taken_none old.waiting waiting in
-    let grows = shown_grows _ _ _ _ _ _ gave.stepped.gains in
+    let grows = shown_grows _ _ _ _ _ _ _ gave.stepped.gains in
     record {
       passing = took ++ given;
       passed = gave.passes.passed;

@@ -7,5 +7,6 @@ pub mod GoingOn
 mod SeatLines
 mod Answering
 mod Waiting
+mod Playing
 pub mod Scripting
 pub mod KeptLogs

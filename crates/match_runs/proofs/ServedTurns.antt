@@ -48,7 +48,7 @@ ends_in_fault g ports first before after start held told awaited count waits why
 pub one_more : {D : Type 0} (g : Ghosts D) (ports : SeatPorts) (first before last : Served (Node D)) (start held between told : Option (List ℕ)) (awaited : Option (ℕ × ℕ)) (count waits : ℕ)
     (turn : Turn) → IsAwaited g before awaited → Turns g ports first start count waits before held → Turned g before (Ok turn) last
     → AreNoted (map note_line (first_notes waits (names_in before.view) ports awaited)) held between
-    → TellsAfter ports (is_some awaited) (waits_after turn waits) turn last between told → Turns g ports first start (count + 1) (waits_after turn waits) last told
+    → TellsAfter g ports (is_some awaited) (waits_after turn waits) turn last between told → Turns g ports first start (count + 1) (waits_after turn waits) last told
 one_more g ports first before last start held between told awaited count waits turn is turns turned noted after =
     more count waits turn before last held told turns turned (record { awaited = awaited; is_awaited = is; between = between; first = noted; after = after })
 
@@ -59,6 +59,7 @@ few_waits (turn.Delivered frame) waits count few = omega arith
 few_waits (turn.Stopped node) waits count few = omega arith
 few_waits (turn.Started node) waits count few = omega arith
 few_waits (turn.Ticked node) waits count few = omega arith
+few_waits (turn.Away seat node) waits count few = omega arith
 few_waits (turn.Read seat) waits count few = omega arith
 few_waits (turn.Gone seat) waits count few = omega arith
 few_waits (turn.Waits seat node) waits count few = omega arith

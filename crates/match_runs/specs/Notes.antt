@@ -10,7 +10,7 @@ use Rattle.dealer_world.specs.Stepping.{View}
 use Rattle.serving.specs.declared.turn.Turn.{Turn}
 use Rattle.serving.specs.declared.turn.Turn.TheVariants as turn
 use Rattle.match_runs.specs.declared.note.About.{About}
-use Rattle.match_runs.specs.declared.note.About.TheVariants.{Seated, Gone, Faulty, Refused}
+use Rattle.match_runs.specs.declared.note.About.TheVariants.{Seated, Gone, Played, Faulty, Refused}
 use Rattle.match_runs.specs.declared.note.Note.{Note}
 use Rattle.match_runs.specs.declared.note.Note.TheVariants as note
 use Rattle.match_runs.specs.declared.seat_ports.SeatPorts.{SeatPorts}
@@ -58,10 +58,15 @@ abbrev pub refused_text : ℕ → ℕ → List ℕ → SessionFault → Bool →
 refused_text node hand action fault late =
     codes " at node " ++ decimal node ++ codes ", hand " ++ decimal hand ++ codes ": " ++ action ++ codes ": " ++ fault_text fault ++ late_text late
 
+-- that a seat is played for at a node, and in which hand
+abbrev pub played_text : ℕ → ℕ → List ℕ
+played_text node hand = codes " at node " ++ decimal node ++ codes ", hand " ++ decimal hand ++ codes ": " ++ codes "played for"
+
 -- what is told of a seat: at which node, and what
 abbrev pub about_text : About → List ℕ
 about_text (Seated node) = codes " at node " ++ decimal node ++ codes ": seated"
 about_text (Gone node) = codes " at node " ++ decimal node ++ codes ": gone"
+about_text (Played node hand) = played_text node hand
 about_text (Faulty node fault) = faulty_text node fault
 about_text (Refused node hand action fault late) = refused_text node hand action.now fault late
 
@@ -126,7 +131,7 @@ waiting_lines names ports seat node line =
 abbrev pub seat_lines : List (List ℕ) → ℕ → List ℕ → List (List ℕ)
 seat_lines names seat text = elim (slice_get names seat) [ Some name ↦ (seat_text seat name ++ text ++ 10 ∷ []) ∷ [] | None ↦ [] ]
 
--- what is told of a turn that called this node last, but for what was read
+-- what is told of a turn that called this node last, but for what was read and for an order
 abbrev pub turn_lines : List (List ℕ) → ℕ → Turn → List (List ℕ)
 turn_lines names node (turn.Seated seat i) = seat_lines names seat (about_text (Seated i))
 turn_lines names node (turn.Gone seat) = seat_lines names seat (about_text (Gone node))

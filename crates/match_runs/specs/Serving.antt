@@ -34,7 +34,7 @@ module _ {D : Type 0} (g : Ghosts D) (ports : SeatPorts) where
     pub is_awaited : IsAwaited g old awaited
     pub between : Option (List ℕ)
     pub first : AreNoted (map note_line (first_notes waits (names_in old.view) ports awaited)) held between
-    pub after : TellsAfter ports (is_some awaited) (waits_after turn waits) turn new between held_after
+    pub after : TellsAfter g ports (is_some awaited) (waits_after turn waits) turn new between held_after
 
   -- so many turns after one another, each of which was answered Ok and told; so many of the last of them waited
   pub data Turns (first : Served (Node D)) (start : Option (List ℕ)) : ℕ → ℕ → Served (Node D) → Option (List ℕ) → Type 0 where

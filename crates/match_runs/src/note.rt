@@ -2,7 +2,7 @@
 
 ghost use Rattle.std.specs.Prelude.{◌≡◌, ◌++◌, codes, decimal, OnOk};
 ghost use Rattle.dealer_node.specs.FaultText.{fault_text};
-ghost use Rattle.match_runs.specs.Notes.{IsNoted, seat_text, port_text, ports_text, place_text, node_text, faulty_text, refused_text, late_text, about_text, note_text, note_line};
+ghost use Rattle.match_runs.specs.Notes.{IsNoted, seat_text, port_text, ports_text, place_text, node_text, faulty_text, played_text, refused_text, late_text, about_text, note_text, note_line};
 ghost use Rattle.match_runs.specs.Causes.{cause_text};
 ghost use Rattle.match_runs.specs.declared.note.Note.TheVariants.{Waiting as NotedWaiting};
 
@@ -22,6 +22,11 @@ pub enum About<'a> {
     Seated(u8),
     /// Its connection ended, failed or was closed.
     Gone(u8),
+    /// It was ordered there that it is played for, in this hand.
+    Played {
+        node: u8,
+        hand: u32,
+    },
     /// What it sent there was refused.
     Faulty {
         node: u8,
@@ -280,6 +285,7 @@ fn put_about(out: &mut Vec<u8>, about: &About<'_>) -> Result<(), AllocError>
             let text = format!(in *out.allocator(); " at node {node}: gone")?;
             out.extend_from_slice(text.as_bytes())
         }
+        About::Played { node, hand } => put_played(out, *node, *hand),
         About::Faulty { node, fault } => put_faulty(out, *node, fault),
         About::Refused {
             node,
@@ -289,6 +295,15 @@ fn put_about(out: &mut Vec<u8>, about: &About<'_>) -> Result<(), AllocError>
             is_late,
         } => put_refused(out, *node, *hand, action, fault, *is_late),
     }
+}
+
+/// Appends that a seat is played for, and in which hand.
+fn put_played(out: &mut Vec<u8>, node: u8, hand: u32) -> Result<(), AllocError>
+    ensures { OnOk result (out.new.items ≡ out.old.items ++ played_text node hand) }
+{
+    let front = format!(in *out.allocator(); " at node {node}, hand {hand}: ")?;
+    out.extend_from_slice(front.as_bytes())?;
+    out.extend_from_slice(b"played for")
 }
 
 /// Appends what is wrong with what a seat sent.

@@ -25,9 +25,9 @@ use std::io::Write;
 /// Serves a match to its end: turn after turn, until one answers that all is over, or is refused.
 ///
 /// What happens is told to the writer of notes, one line each: who is awaited at which of these ports, a seat seated or
-/// gone, a fault in what a seat sent, a node stopped or started, and at the end the score. Whom all wait for is told where
-/// it sends nothing, after the first of the turns in a row that waited and after each twelfth. A note that can't be written
-/// is left out, and changes nothing of the match.
+/// gone, who is played for, a fault in what a seat sent, a node stopped or started, and at the end the score. Whom all
+/// wait for is told where it sends nothing, after the first of the turns in a row that waited and after each twelfth. A
+/// note that can't be written is left out, and changes nothing of the match.
 ///
 /// Over honest disks one list of chosen commands is behind what was shown (`one_list`), together with the eras that the
 /// cluster goes on from, if no frame was forged before; by `Cluster::open` there are none of these where it was opened on
@@ -113,7 +113,7 @@ fn tell_after<D: Disk + Drop, L: Links + Drop, W: Write>(
     turn: Turn,
     notes: &mut W,
 )
-    ensures { TellsAfter ports (is_some awaited) waits turn (served_of server.now) (W.contents notes.old) (W.contents notes.new) }
+    ensures { TellsAfter D.Disk ports (is_some awaited) waits turn (served_of server.now) (W.contents notes.old) (W.contents notes.new) }
 {
     let cluster = server.cluster();
     match turn {
@@ -134,7 +134,7 @@ fn tell_call<D: Disk + Drop, L: Links + Drop, W: Write>(
     turn: Turn,
     notes: &mut W,
 )
-    ensures { TellsCall turn (served_of server.now) (W.contents notes.old) (W.contents notes.new) }
+    ensures { TellsCall D.Disk turn (served_of server.now) (W.contents notes.old) (W.contents notes.new) }
 {
     let node = server.last_node();
     tell_turn(

@@ -5,7 +5,7 @@ ghost use Rattle.dealer_world.specs.Viewing.{view_of};
 ghost use Rattle.streamed.specs.Script.{HasNoFeed};
 ghost use Rattle.match_runs.specs.Notes.{AreNoted, note_line, names_in, ports_notes, awaited_notes, seat_lines, waiting_lines, about_text, failure_notes};
 ghost use Rattle.match_runs.specs.Refusals.{TellsFault, TellsFaults};
-ghost use Rattle.match_runs.specs.Turning.{TellsDone, TellsWaiting};
+ghost use Rattle.match_runs.specs.Turning.{HasDealt, TellsPlayed, TellsDone, TellsWaiting};
 ghost use Rattle.match_runs.specs.Score.{IsLastLine, EndsInFeed, IsLastLog, HasNoLog, TellsScore};
 
 use crate::note::{About, Note, tell};
@@ -130,8 +130,8 @@ fn tell_wait_with<W: Write>(
     }
 }
 
-/// Tells what a turn did that called this node last, and for which this piece was read, if any was: a seat seated or
-/// gone, a node stopped or started, and of a piece the faults that were found in it.
+/// Tells what a turn did that called this node last, and for which this piece was read, if any was: a seat seated, gone or
+/// played for, a node stopped or started, and of a piece the faults that were found in it.
 pub(crate) fn tell_turn<D: Disk + Drop, W: Write>(
     alloc: Global,
     cluster: &Cluster<D>,
@@ -140,7 +140,7 @@ pub(crate) fn tell_turn<D: Disk + Drop, W: Write>(
     turn: Turn,
     notes: &mut W,
 )
-    ensures { TellsDone (view_of cluster.now) node piece.now turn (W.contents notes.old) (W.contents notes.new) }
+    ensures { TellsDone D.Disk (view_of cluster.now) node piece.now turn (W.contents notes.old) (W.contents notes.new) }
 {
     let config = cluster.config();
     match turn {
@@ -148,6 +148,7 @@ pub(crate) fn tell_turn<D: Disk + Drop, W: Write>(
             tell_seat(alloc, config, seat as usize, About::Seated(node), notes)
         }
         Turn::Gone(seat) => tell_seat(alloc, config, seat as usize, About::Gone(node), notes),
+        Turn::Away { seat, node } => tell_played(alloc, cluster, seat as usize, node, notes),
         Turn::Stopped(node) => tell(alloc, notes, &Note::Stopped(node)),
         Turn::Started(node) => tell(alloc, notes, &Note::Started(node)),
         Turn::Read(_) => {
@@ -155,6 +156,39 @@ pub(crate) fn tell_turn<D: Disk + Drop, W: Write>(
         }
         Turn::Delivered(_) | Turn::Ticked(_) | Turn::Waits { .. } | Turn::Over => {}
     }
+}
+
+/// Tells that it was ordered at a node that a seat is played for, and in which hand: the newest of that node's table.
+/// Nothing is told where none was dealt there.
+fn tell_played<D: Disk + Drop, W: Write>(
+    alloc: Global,
+    cluster: &Cluster<D>,
+    seat: usize,
+    node: u8,
+    notes: &mut W,
+)
+    ensures { TellsPlayed D.Disk (view_of cluster.now) seat node (W.contents notes.old) (W.contents notes.new) }
+{
+    match newest_hand(cluster, node) {
+        Some(hand) => {
+            let about = About::Played { node, hand };
+            tell_seat(alloc, cluster.config(), seat, about, notes);
+        }
+        None => {}
+    }
+}
+
+/// The newest hand of a node's table; none where none was dealt there, or where no node has this number.
+fn newest_hand<D: Disk + Drop>(cluster: &Cluster<D>, node: u8) -> Option<u32>
+    ensures found { IfSome result (λ hand. HasDealt D.Disk (view_of cluster.now) node (hand + 1)) }
+    ensures missing { IsNone result → HasDealt D.Disk (view_of cluster.now) node 0 }
+{
+    let number = node as usize;
+    if number >= cluster.node_count() {
+        return None;
+    }
+    let dealt = cluster.node(number).table().dealt();
+    if dealt == 0 { None } else { Some(dealt - 1) }
 }
 
 /// Tells that the store of the node failed that was called last, if that is why it was refused.

@@ -1,9 +1,9 @@
 //! A match of two hands that is served, and what came of it.
 
-use crate::samples::{assert_bytes_of, assert_holds, two_hands};
+use crate::samples::{assert_bytes, assert_bytes_of, assert_holds, two_hands};
 use dealer_node::NodeFault;
 use dealer_world::Cluster;
-use match_file::Outage;
+use match_file::{Absent, Outage};
 use match_links::{Links, MemoryLinks, Reached, Told};
 use promise_store::{Disk, OnceDisk};
 use serving::{Outages, Place, ServeFault, Server, Turn};
@@ -60,7 +60,8 @@ pub(crate) fn assert_places<D: Disk + Drop, L: Links + Drop>(
     assert!(rt; server.place(2).is_none());
 }
 
-/// A server of a new cluster over these disks; none where a node or a log refuses.
+/// A server of a new cluster over these disks, which waits for seats that were dropped; none where a node or a log
+/// refuses.
 pub(crate) fn server<D: Disk + Drop, L: Links + Drop>(
     rt: &impl Abort,
     alloc: Global,
@@ -68,12 +69,24 @@ pub(crate) fn server<D: Disk + Drop, L: Links + Drop>(
     links: L,
     outages: Outages,
 ) -> Result<Option<Server<D, L>>, AllocError> {
+    server_that(rt, alloc, disks, links, outages, Absent::Wait)
+}
+
+/// The same, with this choice of what is done about them.
+pub(crate) fn server_that<D: Disk + Drop, L: Links + Drop>(
+    rt: &impl Abort,
+    alloc: Global,
+    disks: Vec<D>,
+    links: L,
+    outages: Outages,
+    absent: Absent,
+) -> Result<Option<Server<D, L>>, AllocError> {
     let config = two_hands(rt, alloc)?;
     assert!(rt; disks.len() == config.nodes());
     let Ok(cluster) = Cluster::new(alloc, config, disks) else {
         return Ok(None);
     };
-    Ok(Server::new(alloc, cluster, links, outages).ok())
+    Ok(Server::new(alloc, cluster, links, outages, absent).ok())
 }
 
 /// Lets a server take turns until all is over or a fault comes. A turn that found no memory is taken again.
@@ -201,6 +214,24 @@ pub(crate) fn outage(
     Ok(Outages::new(listed))
 }
 
+/// Node 0 is out before the first command, and node 1 from that to the second: so node 0 leads while the seats are at node
+/// 2, behind which it is the next.
+pub(crate) fn outages_before_the_leader(alloc: Global) -> Result<Outages, AllocError> {
+    let first = Outage {
+        node: 0,
+        at: 0,
+        back: Some(1),
+    };
+    let second = Outage {
+        node: 1,
+        at: 1,
+        back: Some(2),
+    };
+    let mut listed = vec![in alloc; first]?;
+    listed.push(second)?;
+    Ok(Outages::new(listed))
+}
+
 /// Both seats' bots call each node: they send all their lines, of which those that are old are refused.
 fn call_each(links: &mut MemoryLinks) -> Result<(), AllocError> {
     for node in 0..3 {
@@ -216,6 +247,33 @@ pub(crate) fn bots_everywhere(alloc: Global, call: u64) -> Result<MemoryLinks, A
     call_each(&mut links)?;
     call_each(&mut links)?;
     Ok(links)
+}
+
+/// Both seats' bots call each node: they name the version, and are lost.
+fn call_each_and_end(links: &mut MemoryLinks) -> Result<(), AllocError> {
+    for node in 0..3 {
+        links.call(node, 0, VERSION)?;
+        links.call(node, 1, VERSION)?;
+    }
+    Ok(())
+}
+
+/// Both seats' bots at each node, twice; each is lost once it has named the version. The call of a link of this number
+/// fails; with 0 none does.
+pub(crate) fn lost_bots(alloc: Global, call: u64) -> Result<MemoryLinks, AllocError> {
+    let mut links = MemoryLinks::new(alloc, 3, call)?;
+    call_each_and_end(&mut links)?;
+    call_each_and_end(&mut links)?;
+    Ok(links)
+}
+
+/// Asserts that three logs, one behind the other, are each the whole log of the match.
+pub(crate) fn assert_whole(rt: &impl Abort, logs: &[u8]) {
+    let each = LOG.len();
+    assert!(rt; logs.len() == 3 * each);
+    for log in logs.chunks(each) {
+        assert_bytes(rt, log, LOG);
+    }
 }
 
 /// Asserts that all three nodes have the whole log.

@@ -10,12 +10,18 @@
 //! - `course` and `server_tests`: a match that is served over links in memory, whose calls fail in turn, and over disks
 //!   whose calls do; `slow_tests`: the same, each call of a link being slow in turn; `tcp_tests`: over sockets and files.
 //!   `lost_leader` looks at what one node passes on to another that is down.
+//! - `absent_tests`: the match where seats were dropped, and are played for or waited for; `absent_fault_tests`: the same
+//!   where a call of a link or of a disk fails.
 //! - `links_tests`: who is seated at a port and who isn't, and how long that is waited for.
 //!
 //! Each call with a long contract is made in one small function that says nothing of its own, so that what the prover
 //! knows there isn't carried through all tests; and each of these is written for any disk, so that it is proved once.
 #![tactic(auto)]
 
+#[cfg(test)]
+mod absent_fault_tests;
+#[cfg(test)]
+mod absent_tests;
 #[cfg(test)]
 mod choice_tests;
 #[cfg(test)]

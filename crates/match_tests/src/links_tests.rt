@@ -237,6 +237,24 @@ fn who_is_held_where_the_seat_was_awaited_is_turned_away(rt: HostRuntime) -> Res
     assert_ended(&rt, &mut silent)
 }
 
+/// Who comes for a seat that is turned away at all is turned away at every node, while another seat is awaited or read
+/// from.
+#[test]
+fn who_comes_for_an_unwanted_seat_is_turned_away(rt: HostRuntime) -> Result<(), Fail> {
+    let mut links = links(&rt).expect(&rt, "free ports");
+    links.turn_away(1);
+    let mut here = call(&rt, &links, (0, 1), VERSION)?;
+    let mut there = call(&rt, &links, (2, 1), VERSION)?;
+    assert_nobody(&rt, &mut links, 0, 0);
+    assert_ended(&rt, &mut here)?;
+    assert_ended(&rt, &mut there)?;
+    let _other = call(&rt, &links, (0, 0), VERSION)?;
+    assert_seated(&rt, &mut links, (0, 0), VERSION);
+    let mut later = call(&rt, &links, (1, 1), VERSION)?;
+    assert_slow(&rt, &mut links, 0, 0);
+    assert_ended(&rt, &mut later)
+}
+
 /// Where one can be seated at the port, no other port is looked at.
 #[test]
 fn who_dials_before_it_is_awaited_waits(rt: HostRuntime) -> Result<(), Fail> {

@@ -70,9 +70,10 @@ fn is_for<D: Disk + Drop>(cluster: &Cluster<D>, event: &Event) -> bool
         Event::Line { node, seat, .. }
         | Event::Connect { node, seat }
         | Event::Drop { node, seat } => (*node as usize) < nodes && (*seat as usize) < players,
-        Event::Tick { node } | Event::Stop { node, .. } | Event::Start { node } => {
-            (*node as usize) < nodes
-        }
+        Event::Tick { node }
+        | Event::Away { node }
+        | Event::Stop { node, .. }
+        | Event::Start { node } => (*node as usize) < nodes,
     }
 }
 
@@ -156,13 +157,15 @@ fn assert_same_piece(rt: &impl Abort, found: Piece<'_>, due: Piece<'_>) {
     assert_bytes(rt, found.text, due.text);
 }
 
-/// What came, by numbers: its kind, and from where to where, or which seat's it is at which node.
-fn told(what: What) -> (u8, u8, u8) {
+/// What came, by numbers: its kind, and from where to where, or which seat's it is at which node; of an order the node and
+/// its front.
+fn told(what: What) -> (u8, u8, u32) {
     match what {
-        What::Frame { from, to } => (0, from, to),
-        What::Line { node, seat } => (1, node, seat),
-        What::Connect { node, seat } => (2, node, seat),
-        What::Drop { node, seat } => (3, node, seat),
+        What::Frame { from, to } => (0, from, to as u32),
+        What::Line { node, seat } => (1, node, seat as u32),
+        What::Connect { node, seat } => (2, node, seat as u32),
+        What::Drop { node, seat } => (3, node, seat as u32),
+        What::Away { node, front } => (4, node, front),
     }
 }
 

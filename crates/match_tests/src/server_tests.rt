@@ -24,6 +24,17 @@ const TOLD: &[u8] = b"0 0 MATCHSTATE:0:0::TdAs|
 1 1 MATCHSTATE:0:1:f:2d2h|
 ";
 
+/// What the seats are told where both stay at node 0: each deal and each fold, alice before bob.
+const TOLD_AT_NODE_0: &[u8] = b"0 0 MATCHSTATE:0:0::TdAs|
+0 1 MATCHSTATE:1:0::|8hTc
+0 0 MATCHSTATE:0:0:f:TdAs|
+0 1 MATCHSTATE:1:0:f:|8hTc
+0 0 MATCHSTATE:1:1::|3d3s
+0 1 MATCHSTATE:0:1::2d2h|
+0 0 MATCHSTATE:1:1:f:|3d3s
+0 1 MATCHSTATE:0:1:f:2d2h|
+";
+
 /// Both seats call node 0, and then node 1.
 fn bots_of_two_nodes(alloc: Global) -> Result<MemoryLinks, AllocError> {
     let mut links = MemoryLinks::new(alloc, 3, 0)?;
@@ -73,21 +84,30 @@ fn played_about_an_outage(
     played(rt, alloc, failing, links, outages)
 }
 
-/// Where nothing fails the match is played at node 0. `tests/serve_growths` runs this test and refuses it memory: a turn
-/// that finds none is taken again, and a node whose disk finds none is started again.
+/// Where nothing fails the match is played at node 0, and each seat is told all there. `tests/serve_growths` runs this
+/// test and refuses it memory: a turn that finds none is taken again, and drops no seat; a node whose disk finds none is
+/// started again.
 #[test]
 fn a_match_is_played_to_its_end(rt: HostRuntime) -> Result<(), Fail> {
     match played_everywhere(&rt, rt.alloc(), (0, 0))? {
         None => Err(Fail::from(NodeFault::OutOfMemory)),
         Some(course) => {
             assert_mended(&rt, &course, 0);
+            assert_stayed(&rt, &course);
             Ok(())
         }
     }
 }
 
+/// Asserts that both seats stayed at node 0, where no disk failed.
+fn assert_stayed(rt: &impl Abort, course: &Course) {
+    if course.failures == 0 {
+        assert_bytes(rt, course.told.as_slice(), TOLD_AT_NODE_0);
+    }
+}
+
 /// Asserts that the match is over and wholly logged, and that a node was started for each call of a disk that failed.
-fn assert_mended(rt: &impl Abort, course: &Course, call: u64) {
+pub(crate) fn assert_mended(rt: &impl Abort, course: &Course, call: u64) {
     let is_mended = match course.ending {
         Ending::Over { starts } => starts == course.failures,
         Ending::Refused(_) | Ending::Never => false,
@@ -141,7 +161,7 @@ fn a_match_outlives_a_node(rt: HostRuntime) -> Result<(), Fail> {
 }
 
 /// Asserts that the match is over and wholly logged.
-fn assert_over(rt: &impl Abort, course: &Course, call: u64) {
+pub(crate) fn assert_over(rt: &impl Abort, course: &Course, call: u64) {
     assert_holds(rt, call, matches!(course.ending, Ending::Over { .. }));
     assert_logged(rt, course, call);
 }
@@ -157,7 +177,7 @@ fn assert_refused(rt: &impl Abort, course: &Course, call: u64, due: ServeFault) 
 
 /// Asserts how a match ended whose links' call failed: a seat's link that fails ends no match; one between nodes or to
 /// a port is 105, one to a log 106. What that call was to reach.
-fn assert_ended(rt: &impl Abort, course: &Course, call: u64) -> Option<Reached> {
+pub(crate) fn assert_ended(rt: &impl Abort, course: &Course, call: u64) -> Option<Reached> {
     match course.failed {
         None | Some(Reached::Seat) => assert_over(rt, course, call),
         Some(Reached::Peer | Reached::Ports) => {
@@ -178,7 +198,7 @@ fn fails_at(rt: &impl Abort, alloc: Global, call: u64) -> Result<Option<Reached>
 }
 
 /// A bit for each kind of link.
-fn bit(reached: Reached) -> u8 {
+pub(crate) fn bit(reached: Reached) -> u8 {
     match reached {
         Reached::Seat => 1,
         Reached::Peer => 2,
@@ -205,7 +225,7 @@ fn each_call_of_a_link_fails_in_turn(rt: HostRuntime) -> Result<(), Fail> {
 
 /// Where the call of a disk failed that was to.
 #[derive(Clone, Copy)]
-enum Failing {
+pub(crate) enum Failing {
     /// Before the match: no server could be made.
     Before,
     /// In the match.
@@ -215,7 +235,7 @@ enum Failing {
 }
 
 /// Where the call of a disk failed, of which this came.
-fn failed_in(course: &Course) -> Failing {
+pub(crate) fn failed_in(course: &Course) -> Failing {
     if course.failures == 0 {
         Failing::Nowhere
     } else {
@@ -253,7 +273,7 @@ fn fails_about_an_outage(rt: &impl Abort, alloc: Global, call: u64) -> Result<Fa
 
 /// Counts a call that failed in a match: whether another is to fail. Up to the first that isn't made at least four did,
 /// since a node promises at least once, which is one append.
-fn goes_on(rt: &impl Abort, failing: Failing, within: &mut u32) -> bool {
+pub(crate) fn goes_on(rt: &impl Abort, failing: Failing, within: &mut u32) -> bool {
     match failing {
         Failing::Before => true,
         Failing::Within => {

@@ -13,10 +13,10 @@ use Rattle.betting.specs.Laws.{BettingTextsExtend}
 use Rattle.betting.specs.Text.{text}
 use Rattle.card_core.specs.Deal.{hole_of}
 use Rattle.slot_log.specs.Hand.{Hand}
-use Rattle.slot_log.specs.Dealer.{hands_of, hands_after, with_command, with_action, with_deal, reason_of, hand_at}
+use Rattle.slot_log.specs.Dealer.{act_for, hands_of, hands_after, with_command, with_action, with_deal, reason_of, hand_at}
 use Rattle.slot_log.specs.declared.reason.Reason.{Reason}
 use Rattle.slot_log.specs.declared.command.Command.{Command}
-use Rattle.slot_log.specs.declared.command.Command.TheVariants.{Deal, Act}
+use Rattle.slot_log.specs.declared.command.Command.TheVariants.{Deal, Act, Away}
 use Rattle.slot_log.proofs.Hands.{got_before, reverse-cons}
 use Rattle.matchstate.specs.Cards.{boards_of}
 use Rattle.matchstate.specs.View.{View, view_of, sees, rounds_seen, position_of, seat_view}
@@ -95,9 +95,10 @@ Kept-action (newest ∷ earlier) action number h at =
 Kept-after : (game : Game) (count : ℕ) (hands : List Hand) (command : Command) → Kept hands (hands_after game count hands command)
 Kept-after game count hands command = by_reason command (reason_of game count hands command)
   where
-    by_reason : (c : Command) (reason : Option Reason) → Kept hands (elim reason as (λ _. List Hand) [ None ↦ with_command hands c | Some why ↦ hands ])
+    by_reason : (c : Command) (reason : Option Reason) → Kept hands (elim reason as (λ _. List Hand) [ None ↦ with_command game hands c | Some why ↦ hands ])
     by_reason (Deal hand deal) None = Kept-deal hands deal
     by_reason (Act hand index action) None = Kept-action hands action
+    by_reason (Away hand index) None = Kept-action hands (act_for game hands)
     by_reason c (Some why) = Kept-same hands
 
 Kept-commands : (game : Game) (count : ℕ) (newer earlier : List Command) → Kept (hands_of game count earlier) (hands_of game count (newer ++ earlier))

@@ -12,7 +12,7 @@ use Rattle.betting.specs.Rounds.{turns}
 use Rattle.betting.proofs.Legal.{can_act-none, none-can_act}
 use Rattle.slot_log.specs.Dealer.{ActFits, hands_of}
 use Rattle.slot_log.specs.declared.command.Command.{Command}
-use Rattle.slot_log.specs.declared.command.Command.TheVariants.{Deal, Act}
+use Rattle.slot_log.specs.declared.command.Command.TheVariants.{Deal, Act, Away}
 use Rattle.matchstate.specs.View.{view_of, sees, seat_of, position_of}
 use Rattle.matchstate.specs.Laws.{IsBeginning, Place, hole, board, card_at, shown_at, Agree, SeatSees, Alike}
 use Rattle.matchstate.proofs.Examples.{opened, limit_pair, no_limit_pair, first_deal, like_first_deal, played}
@@ -210,6 +210,39 @@ not_alike_with_another_flop alike = let same : ◌≡◌ {A = Option ℕ} (Some 
 -- an action isn't hidden from anybody
 not_alike_with_another_action : Alike limit_pair 1 0 (Act 0 0 Call ∷ Deal 0 first_deal ∷ []) (Act 0 0 Fold ∷ Deal 0 first_deal ∷ []) → ⊥
 not_alike_with_another_action alike = let same = alike.0.2 in cc
+
+-- ---- a player who is away
+
+-- bob, who faces the big blind, is away
+abbrev played_for : List ℕ → List Command
+played_for deal = Away 0 0 ∷ Deal 0 deal ∷ []
+
+-- so he folds, and alice sees her own cards alone
+not_seen_after_the_fold : (p : ℕ) → IsTrue (sees limit_pair (Fold ∷ []) 0 (suc p)) → ⊥
+unfolding opened
+not_seen_after_the_fold p seen =
+    let other : eqb (suc p) 0 ≡ false = grind (arith, nat_tests) in
+    let clash : ◌≡◌ {A = Bool} false true = rw other at seen in
+    cc
+
+own_cards_after_the_fold : (place : Place) → SeatSees limit_pair (hands_of limit_pair 1 (played_for first_deal)) 0 0 place ⊎ SeatSees limit_pair (hands_of limit_pair 1 (played_for like_first_deal)) 0 0 place → card_at first_deal place ≡ card_at like_first_deal place
+unfolding opened
+own_cards_after_the_fold (hole zero i) seen = refl
+own_cards_after_the_fold (hole (suc p) i) (inl seen) = absurd (not_seen_after_the_fold p seen)
+own_cards_after_the_fold (hole (suc p) i) (inr seen) = absurd (not_seen_after_the_fold p seen)
+own_cards_after_the_fold (board i) (inl seen) = absurd (omega arith)
+own_cards_after_the_fold (board i) (inr seen) = absurd (omega arith)
+
+alike_where_one_is_played_for : Alike limit_pair 1 0 (played_for first_deal) (played_for like_first_deal)
+unfolding opened
+alike_where_one_is_played_for = ((refl, refl), ((refl, refl, own_cards_after_the_fold), tt))
+
+-- whether he acts himself isn't hidden, nor at which turn he is played for
+not_alike_with_his_own_fold : Alike limit_pair 1 0 (played_for first_deal) (Act 0 0 Fold ∷ Deal 0 first_deal ∷ []) → ⊥
+not_alike_with_his_own_fold alike = alike.0
+
+not_alike_with_another_turn : Alike limit_pair 1 0 (played_for first_deal) (Away 0 1 ∷ Deal 0 first_deal ∷ []) → ⊥
+not_alike_with_another_turn alike = absurd (omega (arith, alike.0.1))
 
 -- ---- positions
 

@@ -9,11 +9,11 @@ use Rattle.game_def.specs.Game.{Game}
 use Rattle.betting.specs.declared.action.Action.{Action}
 use Rattle.card_core.specs.Deal.{hole_of, board_of}
 use Rattle.slot_log.specs.Hand.{Hand}
-use Rattle.slot_log.specs.Dealer.{hands_of, hands_after, with_action, with_deal, reason_of, act_reason, is_finished, is_running, is_match_over, finished_count}
+use Rattle.slot_log.specs.Dealer.{act_for, hands_of, hands_after, with_action, with_deal, reason_of, act_reason, is_finished, is_running, is_match_over, finished_count}
 use Rattle.slot_log.specs.declared.reason.Reason.{Reason}
 use Rattle.slot_log.specs.declared.reason.Reason.TheVariants.{MatchDone, HandRunning, WrongHand}
 use Rattle.slot_log.specs.declared.command.Command.{Command}
-use Rattle.slot_log.specs.declared.command.Command.TheVariants.{Deal, Act}
+use Rattle.slot_log.specs.declared.command.Command.TheVariants.{Deal, Act, Away}
 use Rattle.slot_log.proofs.Allowed.{past_test}
 use Rattle.matchstate.specs.Cards.{boards_of, holes_seen}
 use Rattle.matchstate.specs.View.{View, view_of, sees, rounds_seen, position_of, seat_view}
@@ -101,6 +101,14 @@ module _ (Seen : ℕ → Place → Type 0) (game : Game) (count : ℕ) where
   unfolding AlikeHands
   alike_deal hs ks deal cards a same count_is = (refl, same, count_is, a)
 
+  -- who is away is played for alike
+  alike_away : (hs ks : List Hand) → AlikeHands Seen hs ks → act_for game hs ≡ act_for game ks
+  unfolding AlikeHands
+  alike_away [] [] a = refl
+  alike_away [] (k ∷ ks) a = absurd a
+  alike_away (h ∷ hs) [] a = absurd a
+  alike_away (h ∷ hs) (k ∷ ks) a = ap (λ past. act_for game (let x : Hand = record { deal = h.deal; past = past } in x ∷ hs)) a.0
+
   alike_after : (hs ks : List Hand) (command other : Command) → AlikeHands Seen hs ks → EarlierOver game hs → SameButUnseen Seen command other → AlikeHands Seen (hands_after game count hs command) (hands_after game count ks other)
   alike_after hs ks (Deal hand deal) (Deal number cards) a tidy same =
       let reasons : reason_of game count hs (Deal hand deal) ≡ reason_of game count ks (Deal number cards) =
@@ -126,6 +134,22 @@ module _ (Seen : ℕ → Place → Type 0) (game : Game) (count : ℕ) where
       by_reason : (reason : Option Reason) → AlikeHands Seen (elim reason as (λ _. List Hand) [ None ↦ with_action hs action | Some why ↦ hs ]) (elim reason as (λ _. List Hand) [ None ↦ with_action ks action | Some why ↦ ks ])
       by_reason None = alike_action hs ks action a
       by_reason (Some why) = a
+  alike_after hs ks (Deal hand deal) (Away number index) a tidy same = absurd same
+  alike_after hs ks (Act hand index action) (Away number place) a tidy same = absurd same
+  alike_after hs ks (Away hand index) (Deal number cards) a tidy same = absurd same
+  alike_after hs ks (Away hand index) (Act number place step) a tidy same = absurd same
+  alike_after hs ks (Away hand index) (Away number place) a tidy same =
+      let command_is : Away hand index ≡ Away number place = ap (λ n. Away n index) same.0 ∙ ap (λ i. Away number i) same.1 in
+      let actions : act_for game hs ≡ act_for game ks = alike_away hs ks a in
+      let reasons : reason_of game count hs (Away hand index) ≡ reason_of game count ks (Away hand index) =
+      alike_reason_act hs ks hand index (act_for game hs) a ∙ ap (λ action. reason_of game count ks (Act hand index action)) actions in
+      subst (λ c. AlikeHands Seen (hands_after game count hs (Away hand index)) (hands_after game count ks c)) command_is
+      (subst (λ r. AlikeHands Seen (hands_after game count hs (Away hand index)) (elim r as (λ _. List Hand) [ None ↦ with_action ks (act_for game ks) | Some why ↦ ks ])) reasons
+      (by_reason (reason_of game count hs (Away hand index)) actions))
+    where
+      by_reason : (reason : Option Reason) → act_for game hs ≡ act_for game ks → AlikeHands Seen (elim reason as (λ _. List Hand) [ None ↦ with_action hs (act_for game hs) | Some why ↦ hs ]) (elim reason as (λ _. List Hand) [ None ↦ with_action ks (act_for game ks) | Some why ↦ ks ])
+      by_reason None same_action = subst (λ action. AlikeHands Seen (with_action hs (act_for game hs)) (with_action ks action)) same_action (alike_action hs ks (act_for game hs) a)
+      by_reason (Some why) same_action = a
 
   alike_hands : (first second : List Command) → AllSameButUnseen Seen first second → AlikeHands Seen (hands_of game count first) (hands_of game count second) × EarlierOver game (hands_of game count first)
   unfolding hands_of AlikeHands

@@ -6,7 +6,7 @@ use Rattle.game_def.specs.Game.{Game}
 use Rattle.slot_log.specs.Hand.{Hand}
 use Rattle.slot_log.specs.Dealer.{is_finished, finished_count, is_running, is_match_over, deal_reason, reason_of, with_command, hands_after}
 use Rattle.slot_log.specs.declared.command.Command.{Command}
-use Rattle.slot_log.specs.declared.command.Command.TheVariants.{Deal, Act}
+use Rattle.slot_log.specs.declared.command.Command.TheVariants.{Deal, Act, Away}
 use Rattle.slot_log.proofs.Allowed.{past_test}
 
 pub finished_more : (game : Game) (newest : Hand) (earlier : List Hand) → is_finished game newest ≡ true → finished_count game (newest ∷ earlier) ≡ suc (finished_count game earlier)
@@ -30,14 +30,16 @@ all_over game (newest ∷ earlier) over none =
 pub none_runs : (game : Game) (count : ℕ) (hands : List Hand) (hand : ℕ) (deal : List ℕ) → reason_of game count hands (Deal hand deal) ≡ None → is_running game hands ≡ false
 none_runs game count hands hand deal fits = (past_test (is_running game hands) _ _ (past_test (is_match_over game count hands) _ (deal_reason game hands hand deal) fits).1).0
 
-over_with : (game : Game) (count : ℕ) (hands : List Hand) (command : Command) → EarlierOver game hands → reason_of game count hands command ≡ None → EarlierOver game (with_command hands command)
+over_with : (game : Game) (count : ℕ) (hands : List Hand) (command : Command) → EarlierOver game hands → reason_of game count hands command ≡ None → EarlierOver game (with_command game hands command)
 over_with game count hands (Deal hand deal) over fits = all_over game hands over (none_runs game count hands hand deal fits)
 over_with game count [] (Act hand index action) over fits = tt
 over_with game count (newest ∷ earlier) (Act hand index action) over fits = over
+over_with game count [] (Away hand index) over fits = tt
+over_with game count (newest ∷ earlier) (Away hand index) over fits = over
 
 pub over_after : (game : Game) (count : ℕ) (hands : List Hand) (command : Command) → EarlierOver game hands → EarlierOver game (hands_after game count hands command)
 over_after game count hands command over =
-    elim (reason_of game count hands command) as (λ r. reason_of game count hands command ≡ r → EarlierOver game (elim r [ None ↦ with_command hands command | Some reason ↦ hands ])) [
+    elim (reason_of game count hands command) as (λ r. reason_of game count hands command ≡ r → EarlierOver game (elim r [ None ↦ with_command game hands command | Some reason ↦ hands ])) [
       | None ↦ λ fits. over_with game count hands command over fits
       | Some reason ↦ λ does_nothing. over
     ] refl

@@ -13,9 +13,9 @@ use Rattle.betting.specs.Laws.{AllowedWithoutFault}
 use Rattle.betting.specs.Rounds.{over, turns, with_turn, current_round, is_alone, ends_round, can_bet_on}
 use Rattle.betting.specs.Legal.{Legal, CanAct}
 use Rattle.slot_log.specs.Hand.{Hand}
-use Rattle.slot_log.specs.Dealer.{hands_of, hands_after, with_command, with_action, with_deal, reason_of}
+use Rattle.slot_log.specs.Dealer.{act_for, hands_of, hands_after, with_command, with_action, with_deal, reason_of}
 use Rattle.slot_log.specs.declared.command.Command.{Command}
-use Rattle.slot_log.specs.declared.command.Command.TheVariants.{Deal, Act}
+use Rattle.slot_log.specs.declared.command.Command.TheVariants.{Deal, Act, Away}
 use Rattle.slot_log.specs.declared.reason.Reason.{Reason}
 use Rattle.matchstate.specs.View.{sees, rounds_seen, position_of}
 use Rattle.matchstate.specs.Laws.{IsBeginning, Place, hole, board, board_count, SeesPlace, past_at, SeatSees, SameButUnseen, AllSameButUnseen}
@@ -132,18 +132,23 @@ module _ (without : AllowedWithoutFault) (game : Game) (count : ℕ) where
   Grow-after : (hands : List Hand) (command : Command) → Grow hands (hands_after game count hands command)
   Grow-after hands command = by_reason command (reason_of game count hands command)
     where
-      by_reason : (c : Command) (reason : Option Reason) → Grow hands (elim reason as (λ _. List Hand) [ None ↦ with_command hands c | Some why ↦ hands ])
+      by_reason : (c : Command) (reason : Option Reason) → Grow hands (elim reason as (λ _. List Hand) [ None ↦ with_command game hands c | Some why ↦ hands ])
       by_reason (Deal hand deal) None = Grow-deal hands deal
       by_reason (Act hand index action) None = Grow-action hands action
+      by_reason (Away hand index) None = Grow-action hands (act_for game hands)
       by_reason c (Some why) = Grow-same hands
 
   AllLegal-after : (hands : List Hand) (command : Command) → AllLegal game hands → AllLegal game (hands_after game count hands command)
   AllLegal-after hands command legal = by_reason hands command legal (reason_of game count hands command) refl
     where
-      by_reason : (hs : List Hand) (c : Command) → AllLegal game hs → (reason : Option Reason) → reason_of game count hs c ≡ reason → AllLegal game (elim reason as (λ _. List Hand) [ None ↦ with_command hs c | Some why ↦ hs ])
+      by_reason : (hs : List Hand) (c : Command) → AllLegal game hs → (reason : Option Reason) → reason_of game count hs c ≡ reason → AllLegal game (elim reason as (λ _. List Hand) [ None ↦ with_command game hs c | Some why ↦ hs ])
       by_reason hs (Deal hand deal) before None e = AllLegal-deal game hs deal before
       by_reason [] (Act hand index action) before None e = before
       by_reason (newest ∷ earlier) (Act hand index action) before None e = AllLegal-action game newest earlier action (newest_allows without game count (newest ∷ earlier) hand index action e).1 before
+      by_reason [] (Away hand index) before None e = before
+      by_reason (newest ∷ earlier) (Away hand index) before None e =
+          let action = act_for game (newest ∷ earlier) in
+          AllLegal-action game newest earlier action (newest_allows without game count (newest ∷ earlier) hand index action e).1 before
       by_reason hs c before (Some why) e = before
 
   Grow-commands : (newer earlier : List Command) → Grow (hands_of game count earlier) (hands_of game count (newer ++ earlier))
@@ -250,6 +255,11 @@ less_seen Seen Shown (command ∷ commands) (other ∷ others) covers same = (on
     one (Deal hand deal) (Act number index action) e = absurd e
     one (Act hand index action) (Deal number cards) e = absurd e
     one (Act hand index action) (Act number place step) e = e
+    one (Deal hand deal) (Away number index) e = absurd e
+    one (Act hand index action) (Away number place) e = absurd e
+    one (Away hand index) (Deal number cards) e = absurd e
+    one (Away hand index) (Act number place step) e = absurd e
+    one (Away hand index) (Away number place) e = e
 
 pub same_length : (Seen : ℕ → Place → Type 0) (first second : List Command) → AllSameButUnseen Seen first second → length first ≡ length second
 same_length Seen [] [] same = refl

@@ -10,7 +10,7 @@ pub use Rattle.slot_log.specs.Beginnings.{IsBeginning}
 use Rattle.slot_log.specs.Hand.{Hand}
 use Rattle.slot_log.specs.Dealer.{hands_of, hand_at}
 use Rattle.slot_log.specs.declared.command.Command.{Command}
-use Rattle.slot_log.specs.declared.command.Command.TheVariants.{Deal, Act}
+use Rattle.slot_log.specs.declared.command.Command.TheVariants.{Deal, Act, Away}
 use Rattle.matchstate.specs.Cards.{boards_of}
 use Rattle.matchstate.specs.View.{View, sees, rounds_seen, position_of, seat_view}
 use Rattle.matchstate.specs.Line.{line, line_text}
@@ -76,8 +76,13 @@ abbrev pub SameButUnseen : (ℕ → Place → Type 0) → Command → Command �
 SameButUnseen Seen (Deal hand deal) (Deal other cards) =
     (hand ≡ other) × (length deal ≡ length cards) × ((place : Place) → Seen hand place → card_at deal place ≡ card_at cards place)
 SameButUnseen Seen (Deal hand deal) (Act other index action) = ⊥
+SameButUnseen Seen (Deal hand deal) (Away other index) = ⊥
 SameButUnseen Seen (Act hand index action) (Deal other cards) = ⊥
 SameButUnseen Seen (Act hand index action) (Act other place step) = (hand ≡ other) × (index ≡ place) × (action ≡ step)
+SameButUnseen Seen (Act hand index action) (Away other place) = ⊥
+SameButUnseen Seen (Away hand index) (Deal other cards) = ⊥
+SameButUnseen Seen (Away hand index) (Act other place step) = ⊥
+SameButUnseen Seen (Away hand index) (Away other place) = (hand ≡ other) × (index ≡ place)
 
 abbrev pub AllSameButUnseen : (ℕ → Place → Type 0) → List Command → List Command → Type 0
 AllSameButUnseen Seen [] [] = Unit {0}

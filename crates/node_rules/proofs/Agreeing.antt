@@ -9,7 +9,7 @@ use Rattle.protocol_model.specs.Messages.{Vote, Message, Prepare, Accept}
 use Rattle.protocol_model.specs.Dealers.{Dealer}
 use Rattle.protocol_model.specs.Stores.{Store, voted, StoreMove, own_promise, promise, vote, Append, unchanged, moved}
 use Rattle.protocol_model.specs.Nodes.{Node}
-use Rattle.protocol_model.specs.Moves.{Output, Move, gets, connects, drops, closes, hears, notes, begins, promises, proposes, accepts, repeats, refuses, learns, believes, tells, asks, forwards, shows, stops, starts}
+use Rattle.protocol_model.specs.Moves.{Output, Move, gets, connects, drops, closes, hears, notes, ordered, begins, promises, proposes, accepts, repeats, refuses, learns, believes, tells, asks, forwards, shows, stops, starts}
 use Rattle.protocol_model.specs.Worlds.{World, start, more as further, IsAfter, Reached}
 use Rattle.node_rules.specs.Given.{Given}
 use Rattle.protocol_model.proofs.Sets.{in_later, in_split}
@@ -66,6 +66,7 @@ proposed_by dealer n i ever old out new b l c (drops seat up eo en) h = other_se
 proposed_by dealer n i ever old out new b l c (closes seat up eo en) h = other_sent old out _ b l c eo tt h
 proposed_by dealer n i ever old out new b l c (hears seat bytes up eo en) h = other_sent old out _ b l c eo tt h
 proposed_by dealer n i ever old out new b l c (notes seat bytes before line command up heard knows line_had says eo en) h = other_sent old out _ b l c eo (tt, tt) h
+proposed_by dealer n i ever old out new b l c (ordered before command up knows hole orders eo en) h = other_sent old out _ b l c eo (tt, tt) h
 proposed_by dealer n i ever old out new b l c (begins ballot slot told up mine above tells_it eo en) h = other_sent old out _ b l c eo (tt, (tt, tt)) h
 proposed_by dealer n i ever old out new b l c (promises ballot slot told up had above tells_it eo en) h = other_sent old out _ b l c eo (tt, tt) h
 proposed_by dealer n i ever old out new b l c (proposes ballot first slot command up began once mine may eo en) h = proposed_only old out ballot first slot command b l c eo began once h
@@ -147,6 +148,7 @@ for_after dealer n i ever messages old out new (drops seat up eo en) sent are = 
 for_after dealer n i ever messages old out new (closes seat up eo en) sent are = same_for _ new messages en are
 for_after dealer n i ever messages old out new (hears seat bytes up eo en) sent are = same_for _ new messages en are
 for_after dealer n i ever messages old out new (notes seat bytes before line command up heard knows line_had says eo en) sent are = same_for _ new messages en are
+for_after dealer n i ever messages old out new (ordered before command up knows hole orders eo en) sent are = same_for _ new messages en are
 for_after dealer n i ever messages old out new (begins ballot slot told up mine above tells_it eo en) sent are = same_for _ new messages en (are.0, are.0)
 for_after dealer n i ever messages old out new (promises ballot slot told up had above tells_it eo en) sent are = same_for _ new messages en (are.0, are.0)
 for_after dealer n i ever messages old out new (proposes ballot first slot command up began once mine may eo en) sent are = same_for _ new messages en are

@@ -28,7 +28,7 @@ use Rattle.node_rules.specs.Accepting.{refusing, promising, preparing, voting}
 use Rattle.node_rules.specs.Proposing.{greatest_seen, is_over, is_spent, beginning}
 use Rattle.proposer.specs.Campaigns.{next_ballot}
 use Rattle.node_rules.specs.Seats.{session_at, with_session, connecting, dropping, left, forwarding, answering, answering_all, HearsPiece}
-use Rattle.node_rules.specs.Calls.{Call, Start, Tick, Line, Connect, Drop, Stop}
+use Rattle.node_rules.specs.Calls.{Call, Start, Tick, Away, Line, Connect, Drop, Stop}
 use Rattle.node_rules.specs.Calls as call
 use Rattle.node_rules.specs.Rules.{seeing, taking, asking, starting, stopping, IsTurnUp, IsTurnDown, IsTurnBy}
 use Rattle.node_rules.specs.Being.{IsSession}
@@ -43,7 +43,8 @@ use Rattle.node_rules.proofs.Settling.{below_front}
 use Rattle.node_rules.proofs.Results.{ok_is, ok_not}
 use Rattle.node_rules.proofs.Resting.{Closed, rests, proposes}
 use Rattle.node_rules.proofs.Finished.{none_past}
-use Rattle.node_rules.proofs.Led.{tick_splits, piece_splits, frame_turn}
+use Rattle.node_rules.proofs.Led.{tick_splits, order_turn, piece_splits, frame_turn}
+use Rattle.node_rules.proofs.Noting.{played_for}
 use Rattle.node_rules.proofs.Asked.{asked_same}
 
 -- ---- the close
@@ -262,6 +263,13 @@ sends_up g own place world s Tick turn st up comes h = elim (tick_splits g own p
       (ok_is turn (joined split.first split.closes.turn) (h ∙ split.whole))
   | inr none ↦ absurd (ok_not turn none.0 (h ∙ none.2))
 ]
+sends_up g own place world s Away turn st up comes h =
+    let o = order_turn g own place world s st up turn h in (
+      o.act,
+      o.next,
+      two place turn (played_for place o.act s) o.closes.turn (forwards place (world.nodes place.node).store.promise (o.act ∷ [])) o.whole o.closes.closed
+          (sym (append-nil (forwarding place o.act s)) ∙ ap (λ (store : Store). forwards place store.promise (o.act ∷ [])) (sym st.of.store)),
+    )
 sends_up g own place world s (call.Frame from bytes) turn st up comes h =
     let f = frame_turn g own place world s st up from bytes turn comes h in
     let first : Turn = f.split.first in
@@ -285,6 +293,7 @@ sends_up g own place world s Stop turn st up comes h = ap (λ (t : Turn). t.fram
 sends_down : (place : Place) (s : Standing) (called : Call) (turn : Turn) → IsTurnDown place s called (Ok turn) → SendsDown place called turn
 sends_down place s (Start found) turn (left, h) = ap (λ (t : Turn). t.frames) (ok_is turn (starting place found) h)
 sends_down place s Tick turn h = ok_not turn Down h
+sends_down place s Away turn h = ok_not turn Down h
 sends_down place s (call.Frame from bytes) turn h = ok_not turn Down h
 sends_down place s (Line seat bytes) turn h = ok_not turn Down h
 sends_down place s (Connect seat) turn h = ok_not turn Down h

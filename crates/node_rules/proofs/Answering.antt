@@ -12,7 +12,7 @@ use Rattle.slot_log.specs.Hand.{Hand}
 use Rattle.slot_log.specs.Dealer.{is_finished, finished_count, Fits}
 use Rattle.slot_log.specs.Played.{AreHands}
 use Rattle.slot_log.specs.declared.command.Command.{Command}
-use Rattle.slot_log.specs.declared.command.Command.TheVariants.{Deal, Act}
+use Rattle.slot_log.specs.declared.command.Command.TheVariants.{Deal, Act, Away}
 use Rattle.matchstate.specs.View.{View, view_of, position_of}
 use Rattle.seat_session.specs.Lines.{text_of}
 use Rattle.seat_session.specs.Saying.{SaysAct, Says}
@@ -63,6 +63,7 @@ says_fits : (game : Game) (count : ℕ) (hands : List Hand) (seat : ℕ) (phase 
     → Says game hands seat phase text (Ok (SaidAct act)) → Fits game count hands act
 says_fits game count hands seat Greeting text act are said = absurd said
 says_fits game count hands seat InPlay text (Deal hand deal) are said = absurd said
+says_fits game count hands seat InPlay text (Away hand index) are said = absurd said
 says_fits game count hands seat InPlay text (Act hand index action) are said = act_fits game count hands seat text hand index action are said
 says_fits game count hands seat (Closed fault) text act are said = absurd said
 
@@ -91,5 +92,14 @@ answer_heard g setting before seat bytes old new (Deal hand deal) seated rest an
     no_deal Greeting h = h
     no_deal InPlay h = h
     no_deal (Closed fault) h = h
+answer_heard g setting before seat bytes old new (Away hand index) seated rest answers = absurd (no_away old.phase said.2)
+  where
+    said : (line : List ℕ) × HoldsLine bytes line × Says setting.game (hands_after setting before) seat old.phase (text_of line) (Ok (SaidAct (Away hand index)))
+    said = g.whole.said setting.game (hands_after setting before) seat bytes old (SaidAct (Away hand index)) new rest answers
+
+    no_away : (phase : Phase) → Says setting.game (hands_after setting before) seat phase (text_of said.0) (Ok (SaidAct (Away hand index))) → ⊥
+    no_away Greeting h = h
+    no_away InPlay h = h
+    no_away (Closed fault) h = h
 answer_heard g setting before seat bytes old new (Act hand index action) seated rest answers =
     g.heard setting before seat bytes old new hand index action seated rest answers (answer_fits g setting before seat bytes old new (Act hand index action) rest answers)

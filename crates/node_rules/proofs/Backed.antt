@@ -32,7 +32,7 @@ use Rattle.protocol_model.specs.Votes.{is_of_ballot, stored_in, storing}
 use Rattle.node_rules.specs.Accepting.{refusing, promising, preparing, voting}
 use Rattle.node_rules.specs.Proposing.{higher, greatest_seen, is_over, is_spent, beginning}
 use Rattle.node_rules.specs.Seats.{session_at, with_session, connecting, dropping, left, answering, answering_all, HearsPiece}
-use Rattle.node_rules.specs.Calls.{Call, Start, Tick, Line, Connect, Drop, Stop}
+use Rattle.node_rules.specs.Calls.{Call, Start, Tick, Away, Line, Connect, Drop, Stop}
 use Rattle.node_rules.specs.Calls as call
 use Rattle.node_rules.specs.Rules.{seeing, taking, starting, stopping, IsTurnUp, IsTurnDown, IsTurnBy, IsTurn, standing_after}
 use Rattle.node_rules.specs.Being.{IsOf}
@@ -49,7 +49,8 @@ use Rattle.node_rules.proofs.Results.{ok_is, ok_not}
 use Rattle.node_rules.proofs.Chaining.{turns_are_chains}
 use Rattle.node_rules.proofs.Sounding.{harmless_by, harmless_still}
 use Rattle.node_rules.proofs.Resting.{Closed, rests, proposes}
-use Rattle.node_rules.proofs.Led.{tick_splits, piece_splits, frame_turn}
+use Rattle.node_rules.proofs.Led.{tick_splits, order_turn, piece_splits, frame_turn}
+use Rattle.node_rules.proofs.Noting.{played_for}
 use Rattle.node_rules.proofs.Asked.{asked_same}
 
 -- what the model says of backing
@@ -237,6 +238,11 @@ up_keeps g b own place world s called turn st up comes h = by_call called comes 
           (tick_keeps b place s split.first (is_over place s) (is_spent s) split.is m k)))
       | inr none ↦ absurd (ok_not turn none.0 (h ∙ none.2))
     ]
+    by_call Away comes h =
+        let o = order_turn g own place world s st up turn h in
+        let c = o.closes in
+        by_turn (joined (played_for place o.act s) c.turn) o.whole (closed_begun place (played_for place o.act s).after c.turn o.sits.path.unbegun c.closed)
+        (λ m k. closed_keeps b place (played_for place o.act s).after c.turn (subst IsWithinPromise o.sits.path.knows.store o.sits.path.knows.within) c.closed m k)
     by_call (call.Frame from bytes) comes h =
         let f = frame_turn g own place world s st up from bytes turn comes h in
         let c = f.split.closes in
@@ -265,6 +271,7 @@ down_keeps place s (Start found) turn (from, h) m k =
     let back : Backs found m = elim from [ inl e ↦ subst (λ (st : Store). Backs st m) (sym e) k.0 | inr e ↦ subst (λ (st : Store). Backs st m) (sym e) k.1 ] in
     subst (λ (t : Turn). AllBack t.after m) (sym (ok_is turn (starting place found) h)) (back, back)
 down_keeps place s Tick turn h m k = absurd (ok_not turn Down h)
+down_keeps place s Away turn h m k = absurd (ok_not turn Down h)
 down_keeps place s (call.Frame from bytes) turn h m k = absurd (ok_not turn Down h)
 down_keeps place s (Line seat bytes) turn h m k = absurd (ok_not turn Down h)
 down_keeps place s (Connect seat) turn h m k = absurd (ok_not turn Down h)

@@ -26,8 +26,8 @@ use Rattle.node_rules.specs.Turns.{Turn, Refusal, Spent, still, joined, behind}
 use Rattle.node_rules.specs.Learning.{comes_to_window, told_of, telling_from, next_window, telling}
 use Rattle.node_rules.specs.Accepting.{preparing}
 use Rattle.node_rules.specs.Proposing.{greatest_seen, is_over, is_spent, beginning}
-use Rattle.node_rules.specs.Seats.{session_at, with_session, connecting, dropping, left, is_others, HearsPiece}
-use Rattle.node_rules.specs.Calls.{Call, Start, Tick, Line, Connect, Drop, Stop}
+use Rattle.node_rules.specs.Seats.{session_at, with_session, connecting, dropping, left, is_others, forwarding, HearsPiece}
+use Rattle.node_rules.specs.Calls.{Call, Start, Tick, Away, Line, Connect, Drop, Stop}
 use Rattle.node_rules.specs.Calls as call
 use Rattle.node_rules.specs.Rules.{seeing, taking, asking, stopping, IsTurnUp, IsTurnBy}
 use Rattle.node_rules.specs.Being.{IsLearner}
@@ -45,7 +45,8 @@ use Rattle.node_rules.proofs.Results.{ok_is, ok_not}
 use Rattle.node_rules.proofs.Closing.{campaigns_of}
 use Rattle.node_rules.proofs.Counting.{counts_vote, had_in_time}
 use Rattle.node_rules.proofs.Resting.{Closed, rests, proposes}
-use Rattle.node_rules.proofs.Led.{tick_splits, piece_splits, frame_turn}
+use Rattle.node_rules.proofs.Led.{tick_splits, order_turn, piece_splits, frame_turn}
+use Rattle.node_rules.proofs.Noting.{played_for}
 use Rattle.node_rules.proofs.Asked.{question, asked_same}
 use Rattle.node_rules.proofs.Answered.{prepare_answer, learned_frames, chosen_frames, accept_answer, answers_frames}
 
@@ -256,6 +257,11 @@ own_up g own place world s Tick turn st up comes h ballot slot command said = el
       (ap (λ (t : Turn). t.frames) whole ∙ sym (append-nil (split.first.frames ++ split.closes.turn.frames))) ballot slot command said))
   | inr none ↦ absurd (ok_not turn none.0 (h ∙ none.2))
 ]
+own_up g own place world s Away turn st up comes h ballot slot command said =
+    let o = order_turn g own place world s st up turn h in
+    subst (λ (y : Standing). OwnVote place y ballot slot command) (sym (ap (λ (t : Turn). t.after) o.whole))
+    (whole_own _ _ _ (played_for place o.act s) o.sits.path o.closes.turn [] o.closes.closed (by_forward place s.store.promise o.act (is_others place s.store.promise)) nothing_at_all turn.frames
+    (ap (λ (t : Turn). t.frames) o.whole ∙ sym (append-nil (forwarding place o.act s ++ o.closes.turn.frames))) ballot slot command said)
 own_up g own place world s (call.Frame from bytes) turn st up comes h ballot slot command said =
     let f = frame_turn g own place world s st up from bytes turn comes h in
     let c : Turn = f.split.closes.turn in

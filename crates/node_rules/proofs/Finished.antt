@@ -10,7 +10,7 @@ use Rattle.slot_log.specs.Hand.{Hand}
 use Rattle.slot_log.specs.Dealer.{is_finished, finished_count, is_running, is_match_over, reason_of, with_command, hands_of, hand_at}
 use Rattle.slot_log.specs.declared.reason.Reason.{Reason}
 use Rattle.slot_log.specs.declared.command.Command.{Command}
-use Rattle.slot_log.specs.declared.command.Command.TheVariants.{Deal, Act}
+use Rattle.slot_log.specs.declared.command.Command.TheVariants.{Deal, Act, Away}
 use Rattle.match_log.specs.Lines.{state_text, state_line}
 use Rattle.match_log.specs.Further.{last_line, score_of, further_lines}
 use Rattle.dealer_kind.specs.Kind.{Setting, hands_after, fits}
@@ -22,21 +22,23 @@ use Rattle.dealer_kind.proofs.Fitting.{none_then}
 abbrev AreSome : List Hand → Type 0
 AreSome hands = (newest : Hand) × (earlier : List Hand) × (hands ≡ newest ∷ earlier)
 
-no_act : (game : Game) (count : ℕ) (hand index : ℕ) (command : Command) (over : Bool) (done other : Reason) → ◌≡◌ {A = Option Reason} (if over then Some done else Some other) None → ⊥
-no_act game count hand index command true done other e = cc
-no_act game count hand index command false done other e = cc
+no_act : (over : Bool) (done other : Reason) → ◌≡◌ {A = Option Reason} (if over then Some done else Some other) None → ⊥
+no_act true done other e = cc
+no_act false done other e = cc
 
-some_hands : (game : Game) (count : ℕ) (hands : List Hand) (command : Command) → reason_of game count hands command ≡ None → AreSome (with_command hands command)
+some_hands : (game : Game) (count : ℕ) (hands : List Hand) (command : Command) → reason_of game count hands command ≡ None → AreSome (with_command game hands command)
 some_hands game count hands (Deal hand deal) e = (_, hands, refl)
-some_hands game count [] (Act hand index action) e = absurd (no_act game count hand index (Act hand index action) (is_match_over game count []) _ _ e)
+some_hands game count [] (Act hand index action) e = absurd (no_act (is_match_over game count []) _ _ e)
 some_hands game count (newest ∷ earlier) (Act hand index action) e = (_, earlier, refl)
+some_hands game count [] (Away hand index) e = absurd (no_act (is_match_over game count []) _ _ e)
+some_hands game count (newest ∷ earlier) (Away hand index) e = (_, earlier, refl)
 
 hands_then : (setting : Setting) (before : List Command) (command : Command) → fits setting before command ≡ true → AreSome (hands_after setting (command ∷ before))
 unfolding hands_of
 hands_then setting before command e =
     let reason = none_then (reason_of setting.game setting.title.hands (hands_after setting before) command) e in
     let some = some_hands setting.game setting.title.hands (hands_after setting before) command reason in
-    (some.0, some.1, ap (λ (o : Option Reason). elim o [ None ↦ with_command (hands_after setting before) command | Some why ↦ hands_after setting before ]) reason ∙ some.2)
+    (some.0, some.1, ap (λ (o : Option Reason). elim o [ None ↦ with_command setting.game (hands_after setting before) command | Some why ↦ hands_after setting before ]) reason ∙ some.2)
 
 -- ---- the line of a finished hand
 

@@ -1,5 +1,5 @@
 -- The stages of each call: its rule, its close, and last the question.
-use Rattle.std.proofs.Common.{◌≡◌, ℕ, ◌⊎◌, inl, inr, Bool, true, List, [], Result, Ok, Err, refl, ap, subst, ◌∙◌}
+use Rattle.std.proofs.Common.{◌≡◌, ℕ, ◌⊎◌, inl, inr, Bool, true, List, [], Option, Some, None, Result, Ok, Err, refl, sym, ap, subst, ◌∙◌}
 use Rattle.paxos_wire.specs.declared.fault.FrameFault.{FrameFault}
 use Rattle.paxos_wire.specs.declared.message.Message.{Message as Wire}
 use Rattle.paxos_wire.specs.Faults.{reading}
@@ -7,10 +7,10 @@ use Rattle.slot_log.specs.declared.command.Command.{Command}
 use Rattle.protocol_model.specs.Arrivals.{Arrival}
 use Rattle.protocol_model.specs.Worlds.{World}
 use Rattle.node_rules.specs.Standings.{Place, Standing, applied}
-use Rattle.node_rules.specs.Turns.{Turn, Refusal, BadFrame, still, joined, and_then}
+use Rattle.node_rules.specs.Turns.{Turn, Refusal, BadFrame, NothingToAct, still, joined, behind, and_then}
 use Rattle.node_rules.specs.Proposing.{ticking, closing}
-use Rattle.node_rules.specs.Seats.{session_at, HearsPiece}
-use Rattle.node_rules.specs.Calls.{Call, Start, Tick, Line, Connect, Drop, Stop}
+use Rattle.node_rules.specs.Seats.{session_at, away_at, ordering_by, HearsPiece}
+use Rattle.node_rules.specs.Calls.{Call, Start, Tick, Away, Line, Connect, Drop, Stop}
 use Rattle.node_rules.specs.Calls as call
 use Rattle.node_rules.specs.Rules.{seeing, taking, asking, on_read, IsTurnUp}
 use Rattle.node_rules.specs.Called.{came_in, said_in, IsSent, Comes}
@@ -21,7 +21,8 @@ use Rattle.node_rules.proofs.Beginning.{hearing_of, begin}
 use Rattle.node_rules.proofs.Asking.{behind_still}
 use Rattle.node_rules.proofs.Ticking.{tick}
 use Rattle.node_rules.proofs.Framing.{taken}
-use Rattle.node_rules.proofs.Hearing.{piece_sits}
+use Rattle.node_rules.proofs.Hearing.{Sits, piece_sits}
+use Rattle.node_rules.proofs.Noting.{played_for, order_events, order_sits}
 use Rattle.node_rules.proofs.Results.{ok_is, ok_not}
 use Rattle.node_rules.proofs.Chaining.{scope_of, runs_in}
 use Rattle.node_rules.proofs.Resting.{Closes, close_is, Splits, splits}
@@ -67,6 +68,40 @@ piece_splits g own place world s st up seat bytes heard comes hears =
     let x : Scope = scope g own place world s st (Line seat bytes) in
     let sits = (piece_sits x s seat bytes heard (runs_in g own place world s st up true []) refl comes hears).0 in
     record { came = sits.came; hearing = sits.heard; path = sits.path; closes = close_is x sits.came sits.heard heard sits.path }
+
+-- ---- an order's turn
+
+-- a hand runs: what the order means waits and goes on, and then the close
+pub record OrderTurn (x : Scope) (s : Standing) (turn : Turn) : Type 0 where
+  pub act : Command
+  pub next : away_at x.place s ≡ Some act
+  pub sits : Sits x (played_for x.place act s) (order_events x s)
+  pub closes : Closes x.place (played_for x.place act s).after (closing x.place (played_for x.place act s).after)
+  pub whole : turn ≡ joined (played_for x.place act s) closes.turn
+
+-- an order has such a turn, or no hand runs
+pub order_splits : (g : Given) (own : ℕ → Command → Bool) (place : Place) (world : World) (s : Standing) (st : Stands own place world s) → s.up ≡ true
+    → (outcome : Result Turn Refusal) → IsTurnUp place s Away outcome
+    → ((turn : Turn) × (outcome ≡ Ok turn) × OrderTurn (scope g own place world s st Away) s turn) ⊎ ((away_at place s ≡ None) × (outcome ≡ Err NothingToAct))
+order_splits g own place world s st up outcome h = by_act (away_at place s) refl h
+  where
+    x : Scope
+    x = scope g own place world s st Away
+
+    by_act : (act : Option Command) → away_at place s ≡ act → outcome ≡ and_then (ordering_by place act s) (closing place)
+        → ((turn : Turn) × (outcome ≡ Ok turn) × OrderTurn x s turn) ⊎ ((away_at place s ≡ None) × (outcome ≡ Err NothingToAct))
+    by_act None e k = inr (e, k)
+    by_act (Some act) e k =
+        let sits = order_sits x s act (runs_in g own place world s st up true []) refl e in
+        let c = close_is x sits.came sits.heard (played_for place act s) sits.path in
+        inl (joined (played_for place act s) c.turn, k ∙ ap (λ (r : Result Turn Refusal). behind (played_for place act s) r) c.is, record { act = act; next = e; sits = sits; closes = c; whole = refl })
+
+pub order_turn : (g : Given) (own : ℕ → Command → Bool) (place : Place) (world : World) (s : Standing) (st : Stands own place world s) → s.up ≡ true
+    → (turn : Turn) → IsTurnUp place s Away (Ok turn) → OrderTurn (scope g own place world s st Away) s turn
+order_turn g own place world s st up turn h = elim (order_splits g own place world s st up (Ok turn) h) [
+  | inl split ↦ subst (λ (t : Turn). OrderTurn (scope g own place world s st Away) s t) (sym (ok_is turn split.0 split.1)) split.2
+  | inr none ↦ absurd (ok_not turn NothingToAct none.1)
+]
 
 -- ---- a frame's turn
 

@@ -19,12 +19,13 @@ pub mod Asked
 mod Closing
 mod Settled
 mod Ticking
-mod Beginning
+pub mod Beginning
 mod Framing
 mod Halting
 mod Answering
 mod Sitting
 mod Hearing
+mod Noting
 mod Starting
 mod AtRest
 mod Chaining
@@ -48,11 +49,13 @@ mod Finished
 mod Applied
 mod Shown
 mod Seated
+mod Orders
 mod Refused
 mod Counted
 mod Valued
 mod Created
 pub mod Examples
 pub mod TurnExamples
+mod OrderExamples
 pub mod OutcomeExamples
 pub mod CalmExamples

@@ -32,13 +32,13 @@ use Rattle.seat_session.specs.declared.said.Said.{Said as Saying}
 use Rattle.seat_session.specs.declared.session_fault.SessionFault.{SessionFault}
 use Rattle.node_rules.specs.Standings.{Place, Standing, front_of, with_stored, idle, applied}
 use Rattle.node_rules.specs.Sending.{one, to_others}
-use Rattle.node_rules.specs.Turns.{Turn, Refusal, Spent, still, sending, joined, and_then}
+use Rattle.node_rules.specs.Turns.{Turn, Refusal, Spent, still, sending, joined, behind, and_then}
 use Rattle.protocol_model.specs.Votes.{is_of_ballot, stored_in, storing}
 use Rattle.node_rules.specs.Accepting.{promising, refusing, voting}
 use Rattle.node_rules.specs.Learning.{learning, counting_vote, asking_on, believing}
 use Rattle.node_rules.specs.Proposing.{greatest_seen, is_over, is_spent, beginning, ticking, closing}
 use Rattle.node_rules.specs.Seats.{session_at, with_session, left, connecting, dropping, answering, answering_all, HearsPiece}
-use Rattle.node_rules.specs.Calls.{Call, Start, Tick, Line, Connect, Drop, Stop}
+use Rattle.node_rules.specs.Calls.{Call, Start, Tick, Away, Line, Connect, Drop, Stop}
 use Rattle.node_rules.specs.Calls as call
 use Rattle.node_rules.specs.Rules.{seeing, taking, asking, on_message, on_read, stopping, IsTurnUp, IsTurnBy}
 use Rattle.node_rules.specs.Called.{said_in, came_in, Comes, IsSent}
@@ -53,6 +53,8 @@ use Rattle.node_rules.proofs.Framing.{stood, taken}
 use Rattle.node_rules.proofs.Ticking.{tick}
 use Rattle.node_rules.proofs.Sitting.{same_learned}
 use Rattle.node_rules.proofs.Hearing.{piece_sits}
+use Rattle.node_rules.proofs.Noting.{played_for}
+use Rattle.node_rules.proofs.Led.{scope, order_turn}
 use Rattle.node_rules.proofs.Asked.{asked_on, asked_same}
 use Rattle.node_rules.proofs.Settled.{Closes, gives_up, rests, makes, closes, behind_ok}
 use Rattle.node_rules.proofs.Results.{ok_is}
@@ -394,6 +396,12 @@ stage_of g own place world s st up Tick node turn old comes h runs store counts 
     stage_closed x [] (hearing_of s (first_in x)) s Tick node old (ticking place s) turn
     (stood x [] (hearing_of s (first_in x)) s (ticking place s) (tick x [] (hearing_of s (first_in x)) (still s) refl (begin x s r refl)))
     (λ u eu. quiet_stage place s Tick node old u.after.learned refl (same_grows old s.learned u.after.learned (tick_same place s u eu) counts)) (sym h)
+stage_of g own place world s st up Away node turn old comes h runs store counts =
+    let o = order_turn g own place world s st up turn h in
+    stage_closed (scope g own place world s st Away) o.sits.came o.sits.heard s Away node old (Ok (played_for place o.act s)) turn o.sits.path
+    (λ u eu. quiet_stage place s Away node old u.after.learned refl
+    (same_grows old s.learned u.after.learned (ap (λ (t : Turn). t.after.learned) (sym (ok_is (played_for place o.act s) u eu))) counts))
+    (ap (λ (r : Result Turn Refusal). behind (played_for place o.act s) r) o.closes.is ∙ ap (λ (t : Turn). let r : Result Turn Refusal = Ok t in r) (sym o.whole))
 stage_of g own place world s st up (call.Frame from bytes) node turn old comes h runs store counts =
     frame_by g own place world s st up from bytes node turn old comes store counts (reading bytes) refl (sym h)
 stage_of g own place world s st up (Line seat bytes) node turn old comes (heard, hears, h) runs store counts =

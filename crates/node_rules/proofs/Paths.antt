@@ -12,7 +12,7 @@ use Rattle.protocol_model.specs.Worlds.{World, Reached}
 use Rattle.seat_session.specs.Session.{Standing as Talk}
 use Rattle.dealer_kind.specs.Kind.{dealer_of, log_of}
 use Rattle.node_rules.specs.Standings.{Place, Standing, applied}
-use Rattle.node_rules.specs.Turns.{Turn, Refusal, Down, Spent, BadFrame, Conflict, joined, behind, and_then}
+use Rattle.node_rules.specs.Turns.{Turn, Refusal, Down, Spent, BadFrame, Conflict, NothingToAct, joined, behind, and_then}
 use Rattle.node_rules.specs.Being.{IsPlace, Knows}
 use Rattle.node_rules.specs.Called.{Carry, CarryAll, AreShown, log_after}
 use Rattle.protocol_model.proofs.Sets.{in_first}
@@ -77,6 +77,7 @@ IsHarmless Down = Unit {0}
 IsHarmless Spent = Unit {0}
 IsHarmless (BadFrame fault) = Unit {0}
 IsHarmless (Conflict store) = ⊥
+IsHarmless NothingToAct = Unit {0}
 
 -- a turn that a path leads through, with all that it applies shown; or a refusal that changes nothing
 abbrev pub Goes : (x : Scope) (came : List Arrival) (heard : Hearing) → Result Turn Refusal → Type 0

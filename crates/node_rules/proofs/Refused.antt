@@ -13,14 +13,14 @@ use Rattle.proposer.specs.Campaigns.{next_ballot}
 use Rattle.learner.specs.Learning.{Learned, answer_to, hearing, answer_to_chosen, believing as with_chosen}
 use Rattle.node_rules.specs.Standings.{Place, Standing, front_of, with_stored, idle}
 use Rattle.node_rules.specs.Sending.{Frame, to_others}
-use Rattle.node_rules.specs.Turns.{Turn, Refusal, Down, Spent, BadFrame, Conflict, still, sending, joined, behind, and_then}
+use Rattle.node_rules.specs.Turns.{Turn, Refusal, Down, Spent, BadFrame, Conflict, NothingToAct, still, sending, joined, behind, and_then}
 use Rattle.node_rules.specs.Applying.{applying}
 use Rattle.node_rules.specs.Learning.{learning, asking_on}
 use Rattle.protocol_model.specs.Votes.{stored_in, storing}
 use Rattle.node_rules.specs.Accepting.{refusing, voting}
 use Rattle.node_rules.specs.Proposing.{greatest_seen, is_over, is_spent, beginning}
 use Rattle.node_rules.specs.Seats.{connecting, dropping}
-use Rattle.node_rules.specs.Calls.{Call, Start, Tick, Line, Connect, Drop, Stop}
+use Rattle.node_rules.specs.Calls.{Call, Start, Tick, Away, Line, Connect, Drop, Stop}
 use Rattle.node_rules.specs.Calls as call
 use Rattle.node_rules.specs.Rules.{asking, seeing, taking, on_read, stopping, IsTurnUp, IsTurnDown, IsTurnBy}
 use Rattle.node_rules.specs.Called.{came_in, said_in, Comes, IsSent}
@@ -32,7 +32,7 @@ use Rattle.node_rules.proofs.Beginning.{hearing_of}
 use Rattle.node_rules.proofs.Framing.{taken}
 use Rattle.node_rules.proofs.Results.{ok_not, err_is}
 use Rattle.node_rules.proofs.Chaining.{runs_in}
-use Rattle.node_rules.proofs.Led.{scope, tick_splits, message_splits, piece_splits}
+use Rattle.node_rules.proofs.Led.{scope, tick_splits, order_splits, message_splits, piece_splits}
 
 -- ---- a message is refused only where another command is known, which it isn't
 
@@ -90,6 +90,10 @@ refused_up g own place world s Tick why st up comes h = elim (tick_splits g own 
   | inl split ↦ absurd (ok_not (joined split.first split.closes.turn) why (sym (h ∙ split.whole)))
   | inr none ↦ err_is why none.0 (h ∙ none.2) ∙ tick_refused place s none.0 (is_over place s) (is_spent s) none.1
 ]
+refused_up g own place world s Away why st up comes h = elim (order_splits g own place world s st up (Err why) h) [
+  | inl split ↦ absurd (ok_not split.0 why (sym split.1))
+  | inr none ↦ err_is why NothingToAct none.1
+]
 refused_up g own place world s (call.Frame from bytes) why st up comes h = by_read (reading bytes) refl
   where
     by_read : (read : Result Wire FrameFault) → reading bytes ≡ read → (fault : FrameFault) × (reading bytes ≡ Err fault) × (why ≡ BadFrame fault)
@@ -114,6 +118,7 @@ refused_up g own place world s Stop why st up comes h = ok_not (stopping place s
 refused_down : (place : Place) (s : Standing) (called : Call) (why : Refusal) → IsTurnDown place s called (Err why) → RefusesDown called why
 refused_down place s (Start found) why (from, h) = ok_not _ why (sym h)
 refused_down place s Tick why h = err_is why Down h
+refused_down place s Away why h = err_is why Down h
 refused_down place s (call.Frame from bytes) why h = err_is why Down h
 refused_down place s (Line seat bytes) why h = err_is why Down h
 refused_down place s (Connect seat) why h = err_is why Down h

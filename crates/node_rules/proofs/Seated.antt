@@ -31,7 +31,7 @@ use Rattle.protocol_model.specs.Votes.{stored_in, storing}
 use Rattle.node_rules.specs.Accepting.{preparing, promising, refusing, voting}
 use Rattle.node_rules.specs.Proposing.{greatest_seen, is_over, is_spent, beginning}
 use Rattle.node_rules.specs.Seats.{session_at, with_session, connecting, dropping, left, answering, answering_all, Drains, HearsPiece}
-use Rattle.node_rules.specs.Calls.{Call, Start, Tick, Line, Connect, Drop, Stop}
+use Rattle.node_rules.specs.Calls.{Call, Start, Tick, Away, Line, Connect, Drop, Stop}
 use Rattle.node_rules.specs.Calls as call
 use Rattle.node_rules.specs.Rules.{asking, seeing, taking, stopping, IsTurnUp, IsTurnBy}
 use Rattle.node_rules.specs.Being.{IsSession, IsTalk, AreSessions}
@@ -41,11 +41,12 @@ use Rattle.node_rules.specs.Sound.{Stands}
 use Rattle.node_rules.specs.LawsAnswers.{acts_in, forwards}
 use Rattle.node_rules.specs.LawsShown.{ready_lines}
 use Rattle.node_rules.specs.LawsPending.{first_of}
-use Rattle.node_rules.specs.LawsSeats.{IsLed, IsAway, asked_each, Leaves, goes_on, closes, fault_in, faults_in, TakesAnswers, PassesOver, PiecesAreHeard, OthersArePassedOver, ConnectBeginsAnew, DropEnds, IsAbout, SessionsStay, IsPiece, FaultsAreOfPieces, LivesAreWhole, AwayIsUnconnected}
+use Rattle.node_rules.specs.LawsSeats.{IsLed, IsUnconnected, asked_each, Leaves, goes_on, closes, fault_in, faults_in, TakesAnswers, PassesOver, PiecesAreHeard, OthersArePassedOver, ConnectBeginsAnew, DropEnds, IsAbout, SessionsStay, IsPiece, FaultsAreOfPieces, LivesAreWhole, UnconnectedSeatsShowSo}
 use Rattle.node_rules.proofs.Beginning.{commands_known}
 use Rattle.node_rules.proofs.Results.{ok_is, ok_not}
 use Rattle.node_rules.proofs.Resting.{Closed}
-use Rattle.node_rules.proofs.Led.{tick_splits, piece_splits, frame_turn}
+use Rattle.node_rules.proofs.Led.{tick_splits, order_turn, piece_splits, frame_turn}
+use Rattle.node_rules.proofs.Noting.{played_for}
 use Rattle.node_rules.proofs.Asked.{question, question_on, question_faults, asked_same}
 use Rattle.node_rules.proofs.Answered.{two, answers_frames}
 use Rattle.node_rules.proofs.Sitting.{drained_asked}
@@ -204,10 +205,10 @@ takes_by g own place world s seat bytes events turn heard c st up low (Some talk
     by_talk are = rest_of (session_at s.sessions seat) ((world.nodes place.node).heard seat) e (are seat)
 
 passes_by : (place : Place) (s : Standing) (seat : ℕ) (bytes : List ℕ) (turn heard c : Turn) (session : Option Talk) → session_at s.sessions seat ≡ session → HearsPiece place seat bytes session s heard
-    → IsAway s seat → Closed place heard.after c → turn ≡ joined heard c → PassesOver place s seat turn
-passes_by place s seat bytes turn heard c (Some talk) e hears away closed whole = absurd (let clash : ◌≡◌ {A = Option Talk} None (Some talk) = sym away ∙ e in cc)
-passes_by place s seat bytes turn heard c None e hears away closed whole = record {
-  away = ap (λ (t : Turn). session_at t.after.sessions seat) whole ∙ (ap (λ (l : List (Option Talk)). session_at l seat) (closed_sessions place heard.after c closed ∙ ap (λ (t : Turn). t.after.sessions) hears) ∙ away);
+    → IsUnconnected s seat → Closed place heard.after c → turn ≡ joined heard c → PassesOver place s seat turn
+passes_by place s seat bytes turn heard c (Some talk) e hears unconnected closed whole = absurd (let clash : ◌≡◌ {A = Option Talk} None (Some talk) = sym unconnected ∙ e in cc)
+passes_by place s seat bytes turn heard c None e hears unconnected closed whole = record {
+  unconnected = ap (λ (t : Turn). session_at t.after.sessions seat) whole ∙ (ap (λ (l : List (Option Talk)). session_at l seat) (closed_sessions place heard.after c closed ∙ ap (λ (t : Turn). t.after.sessions) hears) ∙ unconnected);
   faults = ap (λ (t : Turn). t.faults) whole ∙ (ap (λ (l : List SeatFault). heard.faults ++ l) (closed_faults place heard.after c closed) ∙ (append-nil heard.faults ∙ ap (λ (t : Turn). t.faults) hears));
   shown = two_shown place turn heard c [] whole closed (ap (λ (t : Turn). t.shown) hears);
   pending = ap (λ (t : Turn). t.after.pending) whole ∙ (closed_pending place heard.after c closed ∙ ap (λ (t : Turn). t.after.pending) hears);
@@ -224,12 +225,12 @@ pieces_are_heard g own place world s seat bytes events turn (st, comes, up, h) l
         (ok_is turn (joined heard p.closes.turn) (e ∙ ap (λ (k : Result Turn Refusal). behind heard k) p.closes.is))
 
 pub others_are_passed_over : Given → OthersArePassedOver
-others_are_passed_over g own place world s seat bytes turn (st, comes, up, h) away = by_turn (subst (λ b. IsTurnBy b place s (Line seat bytes) (Ok turn)) up h)
+others_are_passed_over g own place world s seat bytes turn (st, comes, up, h) unconnected = by_turn (subst (λ b. IsTurnBy b place s (Line seat bytes) (Ok turn)) up h)
   where
     by_turn : IsTurnUp place s (Line seat bytes) (Ok turn) → PassesOver place s seat turn
     by_turn (heard, hears, e) =
         let p = piece_splits g own place world s st up seat bytes heard comes hears in
-        passes_by place s seat bytes turn heard p.closes.turn (session_at s.sessions seat) refl hears away p.closes.closed
+        passes_by place s seat bytes turn heard p.closes.turn (session_at s.sessions seat) refl hears unconnected p.closes.closed
         (ok_is turn (joined heard p.closes.turn) (e ∙ ap (λ (k : Result Turn Refusal). behind heard k) p.closes.is))
 
 -- ---- connecting and dropping
@@ -268,6 +269,10 @@ stays_up g own place world s Tick seat turn st up comes h other = elim (tick_spl
       ∙ ap (λ (l : List (Option Talk)). session_at l seat) (closed_sessions place split.first.after split.closes.turn split.closes.closed ∙ split.path.talks)
   | inr none ↦ absurd (ok_not turn none.0 (h ∙ none.2))
 ]
+stays_up g own place world s Away seat turn st up comes h other =
+    let o = order_turn g own place world s st up turn h in
+    ap (λ (t : Turn). session_at t.after.sessions seat) o.whole
+    ∙ ap (λ (l : List (Option Talk)). session_at l seat) (closed_sessions place (played_for place o.act s).after o.closes.turn o.closes.closed)
 stays_up g own place world s (call.Frame from bytes) seat turn st up comes h other =
     let f = frame_turn g own place world s st up from bytes turn comes h in
     let c : Turn = f.split.closes.turn in
@@ -351,6 +356,9 @@ faults_up g own place world s Tick turn st up comes h other = elim (tick_splits 
       ∙ (append-nil split.first.faults ∙ tick_faults place s split.first (is_over place s) (is_spent s) split.is))
   | inr none ↦ absurd (ok_not turn none.0 (h ∙ none.2))
 ]
+faults_up g own place world s Away turn st up comes h other =
+    let o = order_turn g own place world s st up turn h in
+    ap (λ (t : Turn). t.faults) o.whole ∙ closed_faults place (played_for place o.act s).after o.closes.turn o.closes.closed
 faults_up g own place world s (call.Frame from bytes) turn st up comes h other =
     let f = frame_turn g own place world s st up from bytes turn comes h in
     let c : Turn = f.split.closes.turn in
@@ -376,5 +384,5 @@ lives_are_whole any place s seat events led =
     let all = any place.setting.game seat fresh events led.talk led.happened in
     (all.0, all.1, all.2, ap is_connected led.session)
 
-pub away_is_unconnected : AwayIsUnconnected
-away_is_unconnected s seat away = ap is_connected away
+pub unconnected_seats_show_so : UnconnectedSeatsShowSo
+unconnected_seats_show_so s seat unconnected = ap is_connected unconnected

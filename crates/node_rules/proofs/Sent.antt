@@ -4,7 +4,7 @@ use Rattle.protocol_model.specs.Sets.{In}
 use Rattle.protocol_model.specs.Messages.{Message}
 use Rattle.protocol_model.specs.Dealers.{Dealer}
 use Rattle.protocol_model.specs.Nodes.{Node}
-use Rattle.protocol_model.specs.Moves.{Output, Move, gets, connects, drops, closes, hears, notes, begins, promises, proposes, accepts, repeats, refuses, learns, believes, tells, asks, forwards, shows, stops, starts, Chain, none, more}
+use Rattle.protocol_model.specs.Moves.{Output, Move, gets, connects, drops, closes, hears, notes, ordered, begins, promises, proposes, accepts, repeats, refuses, learns, believes, tells, asks, forwards, shows, stops, starts, Chain, none, more}
 use Rattle.protocol_model.proofs.Sets.{in_later, in_first, in_split}
 
 -- ---- what a chain of moves sent
@@ -26,6 +26,8 @@ sent_after_move dealer n i ever old out new m (drops seat up eo en) h = inr (sam
 sent_after_move dealer n i ever old out new m (closes seat up eo en) h = inr (same_sent new _ m en h)
 sent_after_move dealer n i ever old out new m (hears seat bytes up eo en) h = inr (same_sent new _ m en h)
 sent_after_move dealer n i ever old out new m (notes seat bytes before line command up heard knows line_had says eo en) h =
+    sent_one new old.sent _ out m (ap (λ (k : Node). k.sent) en) (ap (λ (o : Output). o.sent) eo) h
+sent_after_move dealer n i ever old out new m (ordered before command up knows hole orders eo en) h =
     sent_one new old.sent _ out m (ap (λ (k : Node). k.sent) en) (ap (λ (o : Output). o.sent) eo) h
 sent_after_move dealer n i ever old out new m (begins ballot slot told up mine above tells_it eo en) h =
     sent_one new old.sent _ out m (ap (λ (k : Node). k.sent) en) (ap (λ (o : Output). o.sent) eo) h

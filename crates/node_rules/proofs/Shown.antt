@@ -24,11 +24,11 @@ use Rattle.dealer_kind.specs.Kind.{fits, line_of, dealer_of}
 use Rattle.node_rules.specs.Standings.{Place, Standing, applied, front_of, hands_at, started, stopped}
 use Rattle.node_rules.specs.Sending.{one}
 use Rattle.node_rules.specs.Showing.{Piece, is_connected, seat_line}
-use Rattle.node_rules.specs.Turns.{Turn, Refusal, Down, Spent, BadFrame, Conflict, still, joined, behind}
+use Rattle.node_rules.specs.Turns.{Turn, Refusal, Down, Spent, BadFrame, Conflict, NothingToAct, still, joined, behind}
 use Rattle.node_rules.specs.Applying.{taking_all, scene_of}
 use Rattle.node_rules.specs.Proposing.{greatest_seen, is_over, is_spent, beginning}
 use Rattle.node_rules.specs.Seats.{session_at, with_session, connecting, dropping, left, pending_act, answering, answering_all, Drains, HearsPiece}
-use Rattle.node_rules.specs.Calls.{Call, Start, Tick, Line, Connect, Drop, Stop}
+use Rattle.node_rules.specs.Calls.{Call, Start, Tick, Away, Line, Connect, Drop, Stop}
 use Rattle.node_rules.specs.Calls as call
 use Rattle.node_rules.specs.Rules.{asking, seeing, taking, starting, stopping, IsTurnUp, IsTurnDown, IsTurnBy, standing_after}
 use Rattle.node_rules.specs.Being.{IsPending, IsSession}
@@ -45,7 +45,8 @@ use Rattle.node_rules.proofs.Starting.{none_seated}
 use Rattle.node_rules.proofs.Sitting.{same_hands}
 use Rattle.node_rules.proofs.Results.{ok_is, ok_not}
 use Rattle.node_rules.proofs.Resting.{Closed, rests, proposes}
-use Rattle.node_rules.proofs.Led.{tick_splits, piece_splits, frame_turn}
+use Rattle.node_rules.proofs.Led.{scope, tick_splits, OrderTurn, order_turn, piece_splits, frame_turn}
+use Rattle.node_rules.proofs.Noting.{ordered_fits, played_for, order_meant}
 use Rattle.node_rules.proofs.Asked.{asked_same, asked_shown}
 use Rattle.node_rules.proofs.Applied.{seat_line_is, takes_all, keeps_all, scene_over, waits_then, Applies, message_applies, passed_now}
 
@@ -144,6 +145,8 @@ shows_up g own place world s Tick turn st up comes h = elim (tick_splits g own p
       (tick_shown place s split.first (is_over place s) (is_spent s) split.is).0
   | inr none ↦ absurd (ok_not turn none.0 (h ∙ none.2))
 ]
+shows_up g own place world s Away turn st up comes h =
+    let o = order_turn g own place world s st up turn h in two_shown place turn (played_for place o.act s) o.closes.turn [] o.whole o.closes.closed refl
 shows_up g own place world s (call.Frame from bytes) turn st up comes h =
     let f = frame_turn g own place world s st up from bytes turn comes h in
     let first : Turn = f.split.first in
@@ -183,6 +186,7 @@ shows_down g own place world s (Start found) turn st (from, h) =
     ap (λ (t : Turn). t.shown) (ok_is turn (starting place found) h)
     ∙ ap (λ (l : List ℕ). let pieces : List Piece = (record { reader = ToLog; text = l }) ∷ [] in pieces) (sym (g.header place.setting.game place.setting.title place.setting.names st.is_place.match.least))
 shows_down g own place world s Tick turn st h = ok_not turn Down h
+shows_down g own place world s Away turn st h = ok_not turn Down h
 shows_down g own place world s (call.Frame from bytes) turn st h = ok_not turn Down h
 shows_down g own place world s (Line seat bytes) turn st h = ok_not turn Down h
 shows_down g own place world s (Connect seat) turn st h = ok_not turn Down h
@@ -227,6 +231,9 @@ up_after g own place world s Tick turn st up comes h = elim (tick_splits g own p
       ∙ (closed_up place split.first.after split.closes.turn split.closes.closed ∙ split.path.runs))
   | inr none ↦ absurd (ok_not turn none.0 (h ∙ none.2))
 ]
+up_after g own place world s Away turn st up comes h =
+    let o = order_turn g own place world s st up turn h in
+    inl (ap (λ (t : Turn). t.after.up) o.whole ∙ (closed_up place (played_for place o.act s).after o.closes.turn o.closes.closed ∙ o.sits.path.runs))
 up_after g own place world s (call.Frame from bytes) turn st up comes h =
     let f = frame_turn g own place world s st up from bytes turn comes h in
     let c : Turn = f.split.closes.turn in
@@ -242,6 +249,7 @@ up_after g own place world s Stop turn st up comes h = inr (ok_is turn (stopping
 down_after : (place : Place) (s : Standing) (called : Call) (turn : Turn) → IsTurnDown place s called (Ok turn) → ShowsNothing place s → ShowsNothing place turn.after
 down_after place s (Start found) turn (from, h) was = subst (λ (t : Turn). ShowsNothing place t.after) (sym (ok_is turn (starting place found) h)) (started_shows place found)
 down_after place s Tick turn h was = absurd (ok_not turn Down h)
+down_after place s Away turn h was = absurd (ok_not turn Down h)
 down_after place s (call.Frame from bytes) turn h was = absurd (ok_not turn Down h)
 down_after place s (Line seat bytes) turn h was = absurd (ok_not turn Down h)
 down_after place s (Connect seat) turn h was = absurd (ok_not turn Down h)
@@ -262,6 +270,7 @@ refusal_shows place s Down was why = was (elim why [ inl d ↦ d | inr d ↦ d ]
 refusal_shows place s Spent was why = was (elim why [ inl d ↦ d | inr d ↦ d ])
 refusal_shows place s (BadFrame fault) was why = was (elim why [ inl d ↦ d | inr d ↦ d ])
 refusal_shows place s (Conflict store) was why = stopped_shows place s.store store
+refusal_shows place s NothingToAct was why = was (elim why [ inl d ↦ d | inr d ↦ d ])
 
 pub down_shows_nothing : Given → DownShowsNothing
 down_shows_nothing g own place world s called after frames shown st comes (took turn rule e f p) was why =
@@ -367,6 +376,15 @@ message_waits g own place s from (frame.Forward act) first is =
           ∙ (waiting_by s.pending act (fits place.setting (applied s) act) ∙ sym (kept_none (dealer_of place.setting own) (applied s) (first_of s.pending (if fits place.setting (applied s) act then act ∷ [] else []))));
     }
 
+-- what an order means fits, so that it waits where none does
+pub order_waits : (g : Given) (own : ℕ → Command → Bool) (place : Place) (world : World) (s : Standing) (turn : Turn) (st : Stands own place world s)
+    → (o : OrderTurn (scope g own place world s st Away) s turn) → turn.after.pending ≡ first_of s.pending (o.act ∷ [])
+order_waits g own place world s turn st o =
+    let fit : fits place.setting (applied s) o.act ≡ true = ordered_fits place.setting (applied s) o.act (order_meant (scope g own place world s st Away) s o.act o.next) in
+    ap (λ (t : Turn). t.after.pending) o.whole
+    ∙ (closed_pending place (played_for place o.act s).after o.closes.turn o.closes.closed
+    ∙ (waiting_by s.pending o.act (fits place.setting (applied s) o.act) ∙ ap (λ b. first_of s.pending (if b then o.act ∷ [] else [])) fit))
+
 waits_up : (g : Given) (own : ℕ → Command → Bool) (place : Place) (world : World) (s : Standing) (called : Call) (turn : Turn) (st : Stands own place world s) → s.up ≡ true
     → Comes place world.ever called → IsTurnUp place s called (Ok turn) → WaitsUp own place s (world.nodes place.node) called turn
 waits_up g own place world s (Start found) turn st up comes h = ap (λ (t : Turn). t.after.pending) (ok_is turn (still s) h)
@@ -375,6 +393,8 @@ waits_up g own place world s Tick turn st up comes h = elim (tick_splits g own p
       ∙ (closed_pending place split.first.after split.closes.turn split.closes.closed ∙ (tick_shown place s split.first (is_over place s) (is_spent s) split.is).1)
   | inr none ↦ absurd (ok_not turn none.0 (h ∙ none.2))
 ]
+waits_up g own place world s Away turn st up comes h =
+    let o = order_turn g own place world s st up turn h in (o.act, o.next, order_waits g own place world s turn st o)
 waits_up g own place world s (call.Frame from bytes) turn st up comes h =
     let f = frame_turn g own place world s st up from bytes turn comes h in
     let first : Turn = f.split.first in

@@ -65,7 +65,7 @@ showing_so_far x came heard upto t p ends = record { shown = p.shown; last = p.n
 
 -- ---- an act
 
-forward_by : (x : Scope) (came : List Arrival) (heard : Hearing) (upto : List Command) (t : Turn) (act : Command) (b : Bool) → is_others x.place t.after.store.promise ≡ b
+pub forward_by : (x : Scope) (came : List Arrival) (heard : Hearing) (upto : List Command) (t : Turn) (act : Command) (b : Bool) → is_others x.place t.after.store.promise ≡ b
     → (p : Path x came heard upto t) → In (Said x.place.node act) p.node.sent
     → Path x came heard upto (joined t (sending (if b then one t.after.store.promise.node (frame.Forward act) else []) t.after))
 forward_by x came heard upto t act false e p said = go_on x came heard upto t p
@@ -76,7 +76,7 @@ forward_by x came heard upto t act true e p said =
     send_one x came heard upto t (Forward x.place.node act) promise.node (frame.Forward act) p tt (λ q. tt) (forwards act p.knows.up said refl refl) refl (λ all. all) refl
     (ltb-true promise.node x.place.nodes b.0) (eqb-false promise.node x.place.node (not-true (promise.node == x.place.node) b.1))
 
-waits_by : (x : Scope) (came : List Arrival) (heard : Hearing) (t : Turn) (p : Path x came heard (applied t.after) t) (act : Command) (a b : Bool)
+pub waits_by : (x : Scope) (came : List Arrival) (heard : Hearing) (t : Turn) (p : Path x came heard (applied t.after) t) (act : Command) (a b : Bool)
     → fits x.place.setting (applied t.after) act ≡ b → In (Said x.place.node act) p.node.sent
     → IsPending (dealer_in x) x.place.node p.node (applied t.after) (if a && b then Some act else t.after.pending)
 waits_by x came heard t p act true true e said = (inr (inl said), e)

@@ -19,13 +19,13 @@ use Rattle.learner.specs.Learning.{Learned, answer_to, hearing}
 use Rattle.node_rules.specs.Standings.{Place, Standing, applied, front_of, stopped, with_stored, idle}
 use Rattle.node_rules.specs.Sending.{Frame, to_others}
 use Rattle.node_rules.specs.Showing.{Piece}
-use Rattle.node_rules.specs.Turns.{Turn, Refusal, Down, Spent, BadFrame, Conflict, still, sending, behind}
+use Rattle.node_rules.specs.Turns.{Turn, Refusal, Down, Spent, BadFrame, Conflict, NothingToAct, still, sending, behind, and_then}
 use Rattle.node_rules.specs.Learning.{learning, counting_vote}
 use Rattle.protocol_model.specs.Votes.{stored_in, storing}
 use Rattle.node_rules.specs.Accepting.{voting}
 use Rattle.node_rules.specs.Proposing.{proposing, closing_by, proposal_at, closing}
-use Rattle.node_rules.specs.Seats.{connecting, dropping}
-use Rattle.node_rules.specs.Calls.{Call, Start, Tick, Line, Connect, Drop, Stop}
+use Rattle.node_rules.specs.Seats.{connecting, dropping, away_at, ordering_by}
+use Rattle.node_rules.specs.Calls.{Call, Start, Tick, Away, Line, Connect, Drop, Stop}
 use Rattle.node_rules.specs.Calls as call
 use Rattle.node_rules.specs.Rules.{stopping, IsTurnUp, IsTurnDown, IsTurnBy, IsTurn, standing_after}
 use Rattle.node_rules.specs.Called.{came_in, Comes, log_before, events_of, taken_events, failed_events, Called, Begins, took, refused, failed, unchanged}
@@ -37,6 +37,7 @@ use Rattle.node_rules.proofs.Beginning.{hearing_of, begin}
 use Rattle.node_rules.proofs.Framing.{frame_goes, tick_goes}
 use Rattle.node_rules.proofs.Closing.{close}
 use Rattle.node_rules.proofs.Hearing.{piece_sits}
+use Rattle.node_rules.proofs.Noting.{played_for, order_sits}
 use Rattle.node_rules.proofs.Halting.{Halted, halt_same, Leaves, frame_leaves, tick_leaves, then_closes}
 use Rattle.node_rules.proofs.Starting.{nothing_taken}
 use Rattle.node_rules.proofs.Results.{ok_is, ok_not, err_is}
@@ -49,6 +50,7 @@ harmless_still place s Down h = refl
 harmless_still place s Spent h = refl
 harmless_still place s (BadFrame fault) h = refl
 harmless_still place s (Conflict store) h = absurd h
+harmless_still place s NothingToAct h = refl
 
 harmless_up : (g : Given) (own : ℕ → Command → Bool) (place : Place) (world : World) (s : Standing) (r : Refusal) (called : Call) (st : Stands own place world s) → s.up ≡ true
     → Comes place world.ever called → IsTurnUp place s called (Err r) → IsHarmless r
@@ -56,6 +58,14 @@ harmless_up g own place world s r (Start found) st up comes h = absurd (ok_not (
 harmless_up g own place world s r Tick st up comes h =
     let x : Scope = scope_of g own place world s st true [] in
     subst (Goes x [] (hearing_of s (first_in x))) (sym h) (tick_goes x s refl (runs_in g own place world s st up true []) refl)
+harmless_up g own place world s r Away st up comes h = by_act (away_at place s) refl h
+  where
+    by_act : (act : Option Command) → away_at place s ≡ act → ◌≡◌ {A = Result Turn Refusal} (Err r) (and_then (ordering_by place act s) (closing place)) → IsHarmless r
+    by_act None e k = subst IsHarmless (sym (err_is r NothingToAct k)) tt
+    by_act (Some act) e k =
+        let x : Scope = scope_of g own place world s st true [] in
+        let sits = order_sits x s act (runs_in g own place world s st up true []) refl e in
+        subst (Goes x sits.came sits.heard) (sym k) (close x sits.came sits.heard (played_for place act s) refl sits.path)
 harmless_up g own place world s r (call.Frame from bytes) st up comes h =
     let x : Scope = scope_of g own place world s st true (came_in (call.Frame from bytes)) in
     subst (Goes x [] (hearing_of s (first_in x))) (sym h) (frame_goes x s from (reading bytes) refl (runs_in g own place world s st up true (came_in (call.Frame from bytes))) refl comes)
@@ -73,6 +83,7 @@ down_is r e = subst IsHarmless (sym (err_is r Down e)) tt
 harmless_down : (place : Place) (s : Standing) (r : Refusal) (called : Call) → IsTurnDown place s called (Err r) → IsHarmless r
 harmless_down place s r (Start found) (left, h) = absurd (ok_not _ r (sym h))
 harmless_down place s r Tick h = down_is r h
+harmless_down place s r Away h = down_is r h
 harmless_down place s r (call.Frame from bytes) h = down_is r h
 harmless_down place s r (Line seat bytes) h = down_is r h
 harmless_down place s r (Connect seat) h = down_is r h
@@ -105,7 +116,7 @@ begins_of x came store events h happened = record {
 pub record Halts (g : Given) (own : ℕ → Command → Bool) (place : Place) (world : World) (s : Standing) (st : Stands own place world s) (called : Call) (store : Store) : Type 0 where
   pub came : List Arrival
   pub halted : Halted (scope_of g own place world s st false (came_in called)) came store
-  pub happened : In (events_of came) (failed_events place.node called)
+  pub happened : In (events_of came) (failed_events place.node (front_of s) called)
 
 quiet_halted : (g : Given) (own : ℕ → Command → Bool) (place : Place) (world : World) (s : Standing) (st : Stands own place world s) → s.up ≡ true → (messages : List Message) (store : Store) → store ≡ s.store
     → Halted (scope_of g own place world s st false messages) [] store
@@ -124,21 +135,22 @@ quiet_halted g own place world s st up messages store same =
       got = λ m k. elim (h.got m k) [ inl a ↦ inl a | inr b ↦ elim b [ inl none ↦ absurd none | inr c ↦ inr (inr c) ] ];
     }
 
-first_event : (i : ℕ) (called : Call) → In [] (failed_events i called)
-first_event i (Start found) = inl refl
-first_event i Tick = inl refl
-first_event i (call.Frame from bytes) = inl refl
-first_event i (Line seat bytes) = inl refl
-first_event i (Connect seat) = inl refl
-first_event i (Drop seat) = inl refl
-first_event i Stop = inl refl
+first_event : (i front : ℕ) (called : Call) → In [] (failed_events i front called)
+first_event i front (Start found) = inl refl
+first_event i front Tick = inl refl
+first_event i front Away = inl refl
+first_event i front (call.Frame from bytes) = inl refl
+first_event i front (Line seat bytes) = inl refl
+first_event i front (Connect seat) = inl refl
+first_event i front (Drop seat) = inl refl
+first_event i front Stop = inl refl
 
 same_halts : (g : Given) (own : ℕ → Command → Bool) (place : Place) (world : World) (s : Standing) (st : Stands own place world s) (called : Call) (store : Store) → s.up ≡ true → store ≡ s.store
     → Halts g own place world s st called store
 same_halts g own place world s st called store up same = record {
   came = [];
   halted = quiet_halted g own place world s st up (came_in called) store same;
-  happened = first_event place.node called;
+  happened = first_event place.node (front_of s) called;
 }
 
 unbegun_of : (own : ℕ → Command → Bool) (place : Place) (world : World) (s : Standing) (st : Stands own place world s) → s.up ≡ true → s.begun ≡ s.store
@@ -164,6 +176,26 @@ halts_up g own place world s st Tick turn up comes h =
       halted = subst (Halted x []) (sym path.unbegun) (subst (Leaves x []) (sym h) (tick_leaves x s refl refl (runs_in g own place world s st up false []) refl));
       happened = inl refl;
     }
+halts_up g own place world s st Away turn up comes h = by_act (away_at place s) refl h
+  where
+    x : Scope
+    x = scope_of g own place world s st false []
+
+    y : Scope
+    y = scope_of g own place world s st true []
+
+    by_act : (act : Option Command) → away_at place s ≡ act → ◌≡◌ {A = Result Turn Refusal} (Ok turn) (and_then (ordering_by place act s) (closing place)) → Halts g own place world s st Away turn.after.begun
+    by_act None e k = absurd (ok_not turn NothingToAct k)
+    by_act (Some act) e k =
+        let sits = order_sits y s act (runs_in g own place world s st up true []) refl e in
+        let path : Path y sits.came sits.heard (applied turn.after) turn =
+        subst (Goes y sits.came sits.heard) (sym k) (close y sits.came sits.heard (played_for place act s) refl sits.path) in
+        let quiet = order_sits x s act (runs_in g own place world s st up false []) refl e in
+        record {
+          came = quiet.came;
+          halted = subst (Halted x quiet.came) (sym path.unbegun) (subst (Leaves x quiet.came) (sym k) (then_closes x quiet.came quiet.heard (Ok (played_for place act s)) refl refl (inl quiet.path)));
+          happened = inr quiet.happened;
+        }
 halts_up g own place world s st (call.Frame from bytes) turn up comes h =
     let ms : List Message = came_in (call.Frame from bytes) in
     let x : Scope = scope_of g own place world s st false ms in
@@ -204,12 +236,12 @@ rule_up place s called outcome up h = subst (λ (b : Bool). IsTurnBy b place s c
 pub appends_are_begun : Given → AppendsAreBegun
 appends_are_begun g own place world s called outcome st comes up h =
     let k = halts g own place world s st called outcome up comes (rule_up place s called outcome up h) in
-    begins_of (scope_of g own place world s st false (came_in called)) k.came (standing_after place s outcome).begun (failed_events place.node called) k.halted k.happened
+    begins_of (scope_of g own place world s st false (came_in called)) k.came (standing_after place s outcome).begun (failed_events place.node (front_of s) called) k.halted k.happened
 
 -- ---- a call that failed
 
 failed_called : (g : Given) (own : ℕ → Command → Bool) (place : Place) (world : World) (s : Standing) (st : Stands own place world s) (called : Call) (begun : Store) → Halts g own place world s st called begun
-    → Called own place world.ever (world.nodes place.node) (log_before place s) (came_in called) (failed_events place.node called) [] [] (stopped place s.store begun)
+    → Called own place world.ever (world.nodes place.node) (log_before place s) (came_in called) (failed_events place.node (front_of s) called) [] [] (stopped place s.store begun)
 failed_called g own place world s st called begun k =
     let h = k.halted in
     record {
@@ -250,17 +282,17 @@ unchanged_called own place world s st messages after frames shown ea ef es =
 pub calls_are_sound : Given → CallsAreSound
 calls_are_sound g own place world s called after frames shown st comes (took turn h ea ef es) =
     let t = (turns_are_chains g called own place world s turn st comes h).called in
-    subst (λ (a : Standing). Called own place world.ever (world.nodes place.node) (log_before place s) (came_in called) (taken_events place.node s.up called) frames shown a) (sym ea)
-    (subst (λ (f : List Frame). Called own place world.ever (world.nodes place.node) (log_before place s) (came_in called) (taken_events place.node s.up called) f shown turn.after) (sym ef)
-    (subst (λ (p : List Piece). Called own place world.ever (world.nodes place.node) (log_before place s) (came_in called) (taken_events place.node s.up called) turn.frames p turn.after) (sym es) t))
+    subst (λ (a : Standing). Called own place world.ever (world.nodes place.node) (log_before place s) (came_in called) (taken_events place.node (front_of s) s.up called) frames shown a) (sym ea)
+    (subst (λ (f : List Frame). Called own place world.ever (world.nodes place.node) (log_before place s) (came_in called) (taken_events place.node (front_of s) s.up called) f shown turn.after) (sym ef)
+    (subst (λ (p : List Piece). Called own place world.ever (world.nodes place.node) (log_before place s) (came_in called) (taken_events place.node (front_of s) s.up called) turn.frames p turn.after) (sym es) t))
 calls_are_sound g own place world s called after frames shown st comes (refused refusal h ea ef es) =
     unchanged_called own place world s st (came_in called) after frames shown
     (ea ∙ harmless_still place s refusal (harmless_by g own place world s refusal called s.up st refl comes h)) ef es
 calls_are_sound g own place world s called after frames shown st comes (failed outcome begun up h made ea ef es) =
     let t = failed_called g own place world s st called begun (begun_halts g own place world s st called outcome begun up comes (rule_up place s called outcome up h) made) in
-    subst (λ (a : Standing). Called own place world.ever (world.nodes place.node) (log_before place s) (came_in called) (failed_events place.node called) frames shown a) (sym ea)
-    (subst (λ (f : List Frame). Called own place world.ever (world.nodes place.node) (log_before place s) (came_in called) (failed_events place.node called) f shown (stopped place s.store begun)) (sym ef)
-    (subst (λ (p : List Piece). Called own place world.ever (world.nodes place.node) (log_before place s) (came_in called) (failed_events place.node called) [] p (stopped place s.store begun)) (sym es) t))
+    subst (λ (a : Standing). Called own place world.ever (world.nodes place.node) (log_before place s) (came_in called) (failed_events place.node (front_of s) called) frames shown a) (sym ea)
+    (subst (λ (f : List Frame). Called own place world.ever (world.nodes place.node) (log_before place s) (came_in called) (failed_events place.node (front_of s) called) f shown (stopped place s.store begun)) (sym ef)
+    (subst (λ (p : List Piece). Called own place world.ever (world.nodes place.node) (log_before place s) (came_in called) (failed_events place.node (front_of s) called) [] p (stopped place s.store begun)) (sym es) t))
 calls_are_sound g own place world s called after frames shown st comes (unchanged ea ef es) =
     unchanged_called own place world s st (came_in called) after frames shown ea ef es
 
@@ -273,6 +305,7 @@ OnlyConflict (Err Down) = ⊥
 OnlyConflict (Err Spent) = ⊥
 OnlyConflict (Err (BadFrame fault)) = ⊥
 OnlyConflict (Err (Conflict store)) = Unit {0}
+OnlyConflict (Err NothingToAct) = ⊥
 
 behind_only : (u : Turn) (r : Result Turn Refusal) → OnlyConflict r → OnlyConflict (behind u r)
 unfolding OnlyConflict
@@ -309,6 +342,7 @@ conflict_down place s Down h = absurd h
 conflict_down place s Spent h = absurd h
 conflict_down place s (BadFrame fault) h = absurd h
 conflict_down place s (Conflict store) h = refl
+conflict_down place s NothingToAct h = absurd h
 
 pub lines_are_refused_down : LinesAreRefusedDown
 lines_are_refused_down place s seat bytes refusal h up =

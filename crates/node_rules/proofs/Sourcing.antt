@@ -29,6 +29,7 @@ move_has dealer n i ever old out new (move.drops seat up o e) m h = keeps old ne
 move_has dealer n i ever old out new (move.closes seat up o e) m h = keeps old new _ ever e refl m h
 move_has dealer n i ever old out new (move.hears seat bytes up o e) m h = keeps old new _ ever e refl m h
 move_has dealer n i ever old out new (move.notes seat bytes before line command up heard knows has says o e) m h = keeps old new _ ever e refl m h
+move_has dealer n i ever old out new (move.ordered before command up knows hole orders o e) m h = keeps old new _ ever e refl m h
 move_has dealer n i ever old out new (move.begins ballot slot told up own below tells o e) m h = keeps old new _ ever e refl m h
 move_has dealer n i ever old out new (move.promises ballot slot told up had below tells o e) m h = keeps old new _ ever e refl m h
 move_has dealer n i ever old out new (move.proposes ballot first slot command up began none own may o e) m h = keeps old new _ ever e refl m h

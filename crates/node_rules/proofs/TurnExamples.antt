@@ -36,13 +36,13 @@ use Rattle.node_rules.specs.LawsAnswers as answers
 use Rattle.node_rules.specs.LawsBacking.{IsBacked}
 use Rattle.node_rules.specs.LawsShown.{IsShownOf}
 use Rattle.node_rules.specs.LawsPending.{first_of, kept_over, WaitsUp}
-use Rattle.node_rules.specs.LawsSeats.{IsAway, Leaves, goes_on, closes, faults_in}
+use Rattle.node_rules.specs.LawsSeats.{IsUnconnected, Leaves, goes_on, closes, faults_in}
 use Rattle.node_rules.proofs.Examples.{opened, setting, place, ballot, dealt, to, first, dealt_0}
 
-abbrev runs : Node
+abbrev pub runs : Node
 runs = record new_node { up = true }
 
-no_own : ℕ → Command → Bool
+pub no_own : ℕ → Command → Bool
 no_own node command = false
 
 abbrev frames_of : Result Turn Refusal → List Frame
@@ -203,9 +203,9 @@ faults_in_order : faults_in 1 (Ok Ready ∷ Err NotCurrent ∷ Err BadVersion �
 faults_in_order = refl
 
 -- a seat that is dropped, where no answer closed its session
-dropped_without_a_fault : (after : Standing) (events : List Event) → IsAway after 0 → Leaves (place 0) after 0 events [] [] [] → ⊥
-dropped_without_a_fault after events away (goes_on led) = let clash : ◌≡◌ {A = Option Talk} None (Some led.talk) = sym away ∙ led.session in cc
-dropped_without_a_fault after events away (closes before last talk closed whole happened open_then answers over gone) = ends_in before last whole
+dropped_without_a_fault : (after : Standing) (events : List Event) → IsUnconnected after 0 → Leaves (place 0) after 0 events [] [] [] → ⊥
+dropped_without_a_fault after events unconnected (goes_on led) = let clash : ◌≡◌ {A = Option Talk} None (Some led.talk) = sym unconnected ∙ led.session in cc
+dropped_without_a_fault after events unconnected (closes before last talk closed whole happened open_then answers over gone) = ends_in before last whole
   where
     ends_in : (xs : List (Result Said SessionFault)) (x : Result Said SessionFault) → [] ≡ xs ++ x ∷ [] → ⊥
     ends_in [] x e = cc

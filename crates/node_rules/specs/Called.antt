@@ -11,16 +11,16 @@ use Rattle.protocol_model.specs.Frames.{carried}
 use Rattle.protocol_model.specs.Stores.{Store}
 use Rattle.protocol_model.specs.Nodes.{Node}
 use Rattle.protocol_model.specs.Dealers.{Reader, Seat, Log}
-use Rattle.protocol_model.specs.Arrivals.{Event, Arrival, Started, Connected, Dropped, Closed, Came}
+use Rattle.protocol_model.specs.Arrivals.{Event, Arrival, Started, Connected, Dropped, Closed, Came, Ordered}
 use Rattle.protocol_model.specs.Moves.{Shown, Output, Chain}
 use Rattle.protocol_model.specs.Calls.{HasGotAtMost}
 use Rattle.protocol_model.specs.Laws.{IsLeft}
 use Rattle.dealer_kind.specs.Kind.{dealer_of, log_of}
-use Rattle.node_rules.specs.Standings.{Place, Standing, applied, stopped}
+use Rattle.node_rules.specs.Standings.{Place, Standing, applied, front_of, stopped}
 use Rattle.node_rules.specs.Sending.{Frame}
 use Rattle.node_rules.specs.Showing.{Piece}
 use Rattle.node_rules.specs.Turns.{Turn, Refusal}
-use Rattle.node_rules.specs.Calls.{Call, Start, Tick, Line, Connect, Drop, Stop}
+use Rattle.node_rules.specs.Calls.{Call, Start, Tick, Away, Line, Connect, Drop, Stop}
 use Rattle.node_rules.specs.Calls as call
 use Rattle.node_rules.specs.Rules.{IsTurn, standing_after}
 use Rattle.node_rules.specs.Being.{IsOf}
@@ -35,6 +35,7 @@ said_in from (Err fault) = []
 abbrev pub came_in : Call → List Message
 came_in (Start found) = []
 came_in Tick = []
+came_in Away = []
 came_in (call.Frame from bytes) = said_in from (reading bytes)
 came_in (Line seat bytes) = []
 came_in (Connect seat) = []
@@ -52,6 +53,7 @@ pub record IsSent (place : Place) (ever : List Message) (from : ℕ) (messages :
 abbrev pub Comes : Place → List Message → Call → Type 0
 Comes place ever (Start found) = Unit {0}
 Comes place ever Tick = Unit {0}
+Comes place ever Away = Unit {0}
 Comes place ever (call.Frame from bytes) = IsSent place ever from (said_in from (reading bytes))
 Comes place ever (Line seat bytes) = seat < place.setting.game.players
 Comes place ever (Connect seat) = seat < place.setting.game.players
@@ -151,18 +153,20 @@ log_before place s = if s.up then log_of place.setting (applied s) else []
 abbrev pub events_of : List Arrival → List Event
 events_of came = map (λ (arrival : Arrival). arrival.event) came
 
--- the events of a call that was taken, newest first; of a line one of these: the node may close the seat
-abbrev pub taken_events : ℕ → Bool → Call → List (List Event)
-taken_events i true (Line seat bytes) = (Came i seat bytes ∷ []) ∷ (Closed i seat ∷ Came i seat bytes ∷ []) ∷ []
-taken_events i true (Connect seat) = (Connected i seat ∷ []) ∷ []
-taken_events i true (Drop seat) = (Dropped i seat ∷ []) ∷ []
-taken_events i false (Start found) = (Started i ∷ []) ∷ []
-taken_events i up other = [] ∷ []
+-- the events of a call that was taken, newest first, of a node whose front was this; of a line one of these: the node may close the seat
+abbrev pub taken_events : ℕ → ℕ → Bool → Call → List (List Event)
+taken_events i front true Away = (Ordered i front ∷ []) ∷ []
+taken_events i front true (Line seat bytes) = (Came i seat bytes ∷ []) ∷ (Closed i seat ∷ Came i seat bytes ∷ []) ∷ []
+taken_events i front true (Connect seat) = (Connected i seat ∷ []) ∷ []
+taken_events i front true (Drop seat) = (Dropped i seat ∷ []) ∷ []
+taken_events i front false (Start found) = (Started i ∷ []) ∷ []
+taken_events i front up other = [] ∷ []
 
--- of a call that failed: a line may have come
-abbrev pub failed_events : ℕ → Call → List (List Event)
-failed_events i (Line seat bytes) = [] ∷ (Came i seat bytes ∷ []) ∷ []
-failed_events i other = [] ∷ []
+-- of a call that failed: a line may have come, and so may an order
+abbrev pub failed_events : ℕ → ℕ → Call → List (List Event)
+failed_events i front Away = [] ∷ (Ordered i front ∷ []) ∷ []
+failed_events i front (Line seat bytes) = [] ∷ (Came i seat bytes ∷ []) ∷ []
+failed_events i front other = [] ∷ []
 
 -- ---- the whole
 
@@ -207,7 +211,7 @@ pub data Ends (place : Place) (s : Standing) (called : Call) (after : Standing) 
   -- Ok: its turn
   took : (turn : Turn) → IsTurn place s called (Ok turn) → after ≡ turn.after → frames ≡ turn.frames → shown ≡ turn.shown
       → Ends place s called after frames shown
-  -- 90, 93, 94, 95: the reason why there is none
+  -- 90, 93, 94, 95, 96: the reason why there is none
   refused : (refusal : Refusal) → IsTurn place s called (Err refusal) → after ≡ standing_after place s (Err refusal) → frames ≡ [] → shown ≡ []
       → Ends place s called after frames shown
   -- 91 of a node that ran: it is down, with its append begun or not
@@ -220,7 +224,7 @@ pub data Ends (place : Place) (s : Standing) (called : Call) (after : Standing) 
 -- what may have come from outside
 abbrev pub events_by : (place : Place) (s : Standing) (called : Call) (after : Standing) (frames : List Frame) (shown : List Piece)
     → Ends place s called after frames shown → List (List Event)
-events_by place s called after frames shown (took turn rule e f g) = taken_events place.node s.up called
+events_by place s called after frames shown (took turn rule e f g) = taken_events place.node (front_of s) s.up called
 events_by place s called after frames shown (refused refusal rule e f g) = [] ∷ []
-events_by place s called after frames shown (failed outcome begun up rule b e f g) = failed_events place.node called
+events_by place s called after frames shown (failed outcome begun up rule b e f g) = failed_events place.node (front_of s) called
 events_by place s called after frames shown (unchanged e f g) = [] ∷ []

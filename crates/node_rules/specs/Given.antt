@@ -18,7 +18,7 @@ use Rattle.proposer.specs.Laws as proposer
 use Rattle.learner.specs.Laws as learner
 use Rattle.match_log.specs.Laws.{CommandsAddToTheLog, LogsBeginWithTheirHeader}
 use Rattle.seat_session.specs.Laws.{WholeLines, RunsGoOn}
-use Rattle.dealer_kind.specs.Laws.{AnswersAreHeard}
+use Rattle.dealer_kind.specs.Laws.{AnswersAreHeard, OrdersPlayForTheNext}
 
 pub record Given : Type 0 where
   pub reach : (dealer : Dealer) (n i : ℕ) (first world : World) (out : Output) (node : Node)
@@ -88,3 +88,4 @@ pub record Given : Type 0 where
   pub make : CommandsMakeHands
   pub fits : FitsWithoutReason
   pub heard : AnswersAreHeard
+  pub orders : OrdersPlayForTheNext

@@ -23,8 +23,8 @@ use Rattle.node_rules.specs.Sending.{Frame, one, to_others}
 use Rattle.node_rules.specs.Turns.{Turn}
 use Rattle.node_rules.specs.Learning.{comes_to_window, next_window}
 use Rattle.protocol_model.specs.Votes.{stored_in}
-use Rattle.node_rules.specs.Seats.{is_others, Drains}
-use Rattle.node_rules.specs.Calls.{Call, Start, Tick, Line, Connect, Drop, Stop}
+use Rattle.node_rules.specs.Seats.{is_others, away_at, Drains}
+use Rattle.node_rules.specs.Calls.{Call, Start, Tick, Away, Line, Connect, Drop, Stop}
 use Rattle.node_rules.specs.Calls as call
 use Rattle.node_rules.specs.Rules.{IsTurn}
 use Rattle.node_rules.specs.Being.{IsTalk}
@@ -130,6 +130,11 @@ IsTicked place s turn =
     (prepares : List Frame) × ((prepares ≡ []) ⊎ ((ballot : Ballot) × (ballot.node ≡ place.node) × (prepares ≡ to_others place (frame.Prepare ballot (front_of s)))))
     × Sends place turn prepares []
 
+-- what an order sends: the command that plays for the player to act of the node's hands goes on as an act does
+abbrev pub IsPlayedFor : Place → Standing → Node → Turn → Type 0
+IsPlayedFor place s node turn =
+    (act : Command) × (away_at place s ≡ Some act) × Sends place turn (forwards place node.store.promise (act ∷ [])) []
+
 -- a start asks all others for what was chosen, where the store that it found has promised anything
 abbrev pub IsStarted : Place → Store → Turn → Type 0
 IsStarted place found turn = turn.frames ≡ (if nat_lt 0 found.promise.round then to_others place (frame.Ask 0) else [])
@@ -138,6 +143,7 @@ IsStarted place found turn = turn.frames ≡ (if nat_lt 0 found.promise.round th
 abbrev pub SendsUp : Place → Standing → Node → Call → Turn → Type 0
 SendsUp place s node (Start found) turn = turn.frames ≡ []
 SendsUp place s node Tick turn = IsTicked place s turn
+SendsUp place s node Away turn = IsPlayedFor place s node turn
 SendsUp place s node (call.Frame from bytes) turn = (message : Message) × (reading bytes ≡ Ok message) × IsAnswered place s node from message turn
 SendsUp place s node (Line seat bytes) turn = IsHeard place s node seat bytes (node.heard seat) turn
 SendsUp place s node (Connect seat) turn = turn.frames ≡ []
@@ -148,6 +154,7 @@ SendsUp place s node Stop turn = turn.frames ≡ []
 abbrev pub SendsDown : Place → Call → Turn → Type 0
 SendsDown place (Start found) turn = IsStarted place found turn
 SendsDown place Tick turn = ⊥
+SendsDown place Away turn = ⊥
 SendsDown place (call.Frame from bytes) turn = ⊥
 SendsDown place (Line seat bytes) turn = ⊥
 SendsDown place (Connect seat) turn = ⊥

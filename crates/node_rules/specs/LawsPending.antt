@@ -13,7 +13,8 @@ use Rattle.seat_session.specs.declared.session_fault.SessionFault.{SessionFault}
 use Rattle.dealer_kind.specs.Kind.{dealer_of}
 use Rattle.node_rules.specs.Standings.{Place, Standing, front_of, hands_at}
 use Rattle.node_rules.specs.Turns.{Turn}
-use Rattle.node_rules.specs.Calls.{Call, Start, Tick, Line, Connect, Drop, Stop}
+use Rattle.node_rules.specs.Seats.{away_at}
+use Rattle.node_rules.specs.Calls.{Call, Start, Tick, Away, Line, Connect, Drop, Stop}
 use Rattle.node_rules.specs.Calls as call
 use Rattle.node_rules.specs.Rules.{IsTurn}
 use Rattle.node_rules.specs.Called.{Comes}
@@ -61,10 +62,15 @@ WaitsHeard place s seat bytes (Some heard) turn =
     (answers : List (Result Said SessionFault)) × Hears place.setting.game (hands_at place s) seat heard bytes answers
     × (turn.after.pending ≡ first_of s.pending (acts_in answers))
 
+-- an order: the command that plays for the player to act of the node's hands waits, where none does
+abbrev pub WaitsPlayedFor : Place → Standing → Turn → Type 0
+WaitsPlayedFor place s turn = (act : Command) × (away_at place s ≡ Some act) × (turn.after.pending ≡ first_of s.pending (act ∷ []))
+
 -- which act waits after a call of a node that runs
 abbrev pub WaitsUp : (own : ℕ → Command → Bool) → Place → Standing → Node → Call → Turn → Type 0
 WaitsUp own place s node (Start found) turn = turn.after.pending ≡ s.pending
 WaitsUp own place s node Tick turn = turn.after.pending ≡ s.pending
+WaitsUp own place s node Away turn = WaitsPlayedFor place s turn
 WaitsUp own place s node (call.Frame from bytes) turn =
     (message : Message) × (before : List Command) × (later : List Command) × (reading bytes ≡ Ok message) × Passes own place node s turn before later
     × (turn.after.pending ≡ kept_over (dealer_of place.setting own) before later (first_of s.pending (handed_on (dealer_of place.setting own) before message)))

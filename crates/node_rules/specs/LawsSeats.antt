@@ -14,7 +14,7 @@ use Rattle.node_rules.specs.Standings.{Place, Standing, front_of, hands_at}
 use Rattle.node_rules.specs.Showing.{SeatFault}
 use Rattle.node_rules.specs.Turns.{Turn}
 use Rattle.node_rules.specs.Seats.{session_at}
-use Rattle.node_rules.specs.Calls.{Call, Start, Tick, Line, Connect, Drop, Stop}
+use Rattle.node_rules.specs.Calls.{Call, Start, Tick, Away, Line, Connect, Drop, Stop}
 use Rattle.node_rules.specs.Calls as call
 use Rattle.node_rules.specs.Rules.{IsTurn}
 use Rattle.node_rules.specs.Called.{Comes}
@@ -32,8 +32,8 @@ pub record IsLed (place : Place) (s : Standing) (seat : ℕ) (events : List Even
   pub happened : Happens place.setting.game seat fresh events talk
 
 -- it has none
-abbrev pub IsAway : Standing → ℕ → Type 0
-IsAway s seat = session_at s.sessions seat ≡ None
+abbrev pub IsUnconnected : Standing → ℕ → Type 0
+IsUnconnected s seat = session_at s.sessions seat ≡ None
 
 -- the session was asked and gave these answers, by these hands
 abbrev pub asked_each : List Hand → List (Result Said SessionFault) → List Event
@@ -47,7 +47,7 @@ pub data Leaves (place : Place) (after : Standing) (seat : ℕ) (events : List E
   -- the last one, and none before it, closed the session, and the seat is dropped
   closes : (before : List (Result Said SessionFault)) (last : Result Said SessionFault) (talk closed : Talk) → answers ≡ before ++ last ∷ []
       → Happens place.setting.game seat fresh (events ++ fed bytes ∷ asked_each hands before) talk → is_closed talk.phase ≡ false
-      → Answers place.setting.game hands seat talk (Some last) closed → is_closed closed.phase ≡ true → IsAway after seat → Leaves place after seat events hands bytes answers
+      → Answers place.setting.game hands seat talk (Some last) closed → is_closed closed.phase ≡ true → IsUnconnected after seat → Leaves place after seat events hands bytes answers
 
 -- ---- a piece
 
@@ -75,7 +75,7 @@ pub record TakesAnswers (own : ℕ → Command → Bool) (place : Place) (node :
 
 -- the piece is passed over
 pub record PassesOver (place : Place) (s : Standing) (seat : ℕ) (turn : Turn) : Type 0 where
-  pub away : IsAway turn.after seat
+  pub unconnected : IsUnconnected turn.after seat
   pub faults : turn.faults ≡ []
   pub shown : turn.shown ≡ []
   pub pending : turn.after.pending ≡ s.pending
@@ -96,7 +96,7 @@ PiecesAreHeard =
 abbrev pub OthersArePassedOver : Type 0
 OthersArePassedOver =
     (own : ℕ → Command → Bool) (place : Place) (world : World) (s : Standing) (seat : ℕ) (bytes : List ℕ) (turn : Turn)
-    → IsCall own place world s (Line seat bytes) turn → IsAway s seat → PassesOver place s seat turn
+    → IsCall own place world s (Line seat bytes) turn → IsUnconnected s seat → PassesOver place s seat turn
 
 -- a seat that connects, again too, has a new session
 abbrev pub ConnectBeginsAnew : Type 0
@@ -107,12 +107,13 @@ ConnectBeginsAnew =
 abbrev pub DropEnds : Type 0
 DropEnds =
     (own : ℕ → Command → Bool) (place : Place) (world : World) (s : Standing) (seat : ℕ) (turn : Turn)
-    → IsCall own place world s (Drop seat) turn → IsAway turn.after seat
+    → IsCall own place world s (Drop seat) turn → IsUnconnected turn.after seat
 
 -- the call is about the seat, or ends all sessions
 abbrev pub IsAbout : ℕ → Call → Type 0
 IsAbout seat (Start found) = ⊥
 IsAbout seat Tick = ⊥
+IsAbout seat Away = ⊥
 IsAbout seat (call.Frame from bytes) = ⊥
 IsAbout seat (Line other bytes) = other ≡ seat
 IsAbout seat (Connect other) = other ≡ seat
@@ -129,6 +130,7 @@ SessionsStay =
 abbrev pub IsPiece : Call → Type 0
 IsPiece (Start found) = ⊥
 IsPiece Tick = ⊥
+IsPiece Away = ⊥
 IsPiece (call.Frame from bytes) = ⊥
 IsPiece (Line seat bytes) = Unit {0}
 IsPiece (Connect seat) = ⊥
@@ -148,5 +150,5 @@ LivesAreWhole =
     → (last : Talk) × Gives place.setting.game seat (with_piece fresh (joined events)) (given events) last × SkipsTo last led.talk
     × (connected_at s seat ≡ is_ready led.talk.phase)
 
-abbrev pub AwayIsUnconnected : Type 0
-AwayIsUnconnected = (s : Standing) (seat : ℕ) → IsAway s seat → connected_at s seat ≡ false
+abbrev pub UnconnectedSeatsShowSo : Type 0
+UnconnectedSeatsShowSo = (s : Standing) (seat : ℕ) → IsUnconnected s seat → connected_at s seat ≡ false

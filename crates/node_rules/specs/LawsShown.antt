@@ -14,7 +14,7 @@ use Rattle.node_rules.specs.Sending.{Frame}
 use Rattle.node_rules.specs.Showing.{Piece, is_connected}
 use Rattle.node_rules.specs.Turns.{Turn}
 use Rattle.node_rules.specs.Seats.{session_at}
-use Rattle.node_rules.specs.Calls.{Call, Start, Tick, Line, Connect, Drop, Stop}
+use Rattle.node_rules.specs.Calls.{Call, Start, Tick, Away, Line, Connect, Drop, Stop}
 use Rattle.node_rules.specs.Calls as call
 use Rattle.node_rules.specs.Rules.{IsTurn}
 use Rattle.node_rules.specs.Being.{IsOf}
@@ -95,6 +95,7 @@ ShowsHeard own place s node seat bytes (Some heard) turn =
 abbrev pub ShowsUp : (own : ℕ → Command → Bool) → Place → Standing → Node → Call → Turn → Type 0
 ShowsUp own place s node (Start found) turn = turn.shown ≡ []
 ShowsUp own place s node Tick turn = turn.shown ≡ []
+ShowsUp own place s node Away turn = turn.shown ≡ []
 ShowsUp own place s node (call.Frame from bytes) turn =
     (before : List Command) × (later : List Command) × Passes own place node s turn before later
     × AreShownOf (dealer_of place.setting own) (connected_at s) place.setting.game.players before later turn.shown
@@ -107,6 +108,7 @@ ShowsUp own place s node Stop turn = turn.shown ≡ []
 abbrev pub ShowsDown : (own : ℕ → Command → Bool) → Place → Call → Turn → Type 0
 ShowsDown own place (Start found) turn = turn.shown ≡ (record { reader = Log; text = (dealer_of place.setting own).log [] }) ∷ []
 ShowsDown own place Tick turn = ⊥
+ShowsDown own place Away turn = ⊥
 ShowsDown own place (call.Frame from bytes) turn = ⊥
 ShowsDown own place (Line seat bytes) turn = ⊥
 ShowsDown own place (Connect seat) turn = ⊥

@@ -28,3 +28,4 @@ pub mod LawsRefused
 pub mod LawsVotes
 pub mod LawsValue
 pub mod LawsCreated
+pub mod LawsOrder

@@ -26,7 +26,7 @@ use Rattle.node_rules.specs.Sound.{Stands}
 -- the turn of a call of the node, as a chain of its moves that has lost nothing
 abbrev pub IsTaken : (ℕ → Command → Bool) → Place → World → Standing → Call → Turn → Type 0
 IsTaken own place world s called turn =
-    Taken own place world.ever (world.nodes place.node) (log_before place s) (came_in called) (taken_events place.node s.up called)
+    Taken own place world.ever (world.nodes place.node) (log_before place s) (came_in called) (taken_events place.node (front_of s) s.up called)
     turn.frames turn.shown turn.after
 
 -- a call that was taken, of a standing of a node of a reached world, and the node still runs

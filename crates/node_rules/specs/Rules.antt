@@ -10,13 +10,13 @@ use Rattle.protocol_model.specs.Stores.{Store}
 use Rattle.node_rules.specs.Standings.{Place, Standing, started, stopped}
 use Rattle.node_rules.specs.Sending.{Frame, to_others}
 use Rattle.node_rules.specs.Showing.{header}
-use Rattle.node_rules.specs.Turns.{Turn, Refusal, Down, Spent, BadFrame, Conflict, still, and_then}
-use Rattle.node_rules.specs.Calls.{Call, Start, Tick, Line, Connect, Drop, Stop}
+use Rattle.node_rules.specs.Turns.{Turn, Refusal, Down, Spent, BadFrame, Conflict, NothingToAct, still, and_then}
+use Rattle.node_rules.specs.Calls.{Call, Start, Tick, Away, Line, Connect, Drop, Stop}
 use Rattle.node_rules.specs.Calls as call
 use Rattle.node_rules.specs.Learning.{counting_vote, believing, telling, asking_above}
 use Rattle.node_rules.specs.Accepting.{preparing, accepting}
 use Rattle.node_rules.specs.Proposing.{higher, ticking, counting_promise, hearing_refusal, closing}
-use Rattle.node_rules.specs.Seats.{session_at, connecting, dropping, taking_over, HearsPiece}
+use Rattle.node_rules.specs.Seats.{session_at, connecting, dropping, taking_over, ordering, HearsPiece}
 
 -- ---- frames
 
@@ -89,6 +89,7 @@ stopping place s = still (stopped place s.store s.store)
 abbrev pub IsTurnUp : Place → Standing → Call → Result Turn Refusal → Type 0
 IsTurnUp place s (Start found) outcome = outcome ≡ Ok (still s)
 IsTurnUp place s Tick outcome = outcome ≡ and_then (ticking place s) (closing place)
+IsTurnUp place s Away outcome = outcome ≡ and_then (ordering place s) (closing place)
 IsTurnUp place s (call.Frame from bytes) outcome = outcome ≡ on_read place from (reading bytes) s
 IsTurnUp place s (Line seat bytes) outcome =
     (heard : Turn) × HearsPiece place seat bytes (session_at s.sessions seat) s heard × (outcome ≡ and_then (Ok heard) (closing place))
@@ -100,6 +101,7 @@ IsTurnUp place s Stop outcome = outcome ≡ Ok (stopping place s)
 abbrev pub IsTurnDown : Place → Standing → Call → Result Turn Refusal → Type 0
 IsTurnDown place s (Start found) outcome = ((found ≡ s.store) ⊎ (found ≡ s.begun)) × (outcome ≡ Ok (starting place found))
 IsTurnDown place s Tick outcome = outcome ≡ Err Down
+IsTurnDown place s Away outcome = outcome ≡ Err Down
 IsTurnDown place s (call.Frame from bytes) outcome = outcome ≡ Err Down
 IsTurnDown place s (Line seat bytes) outcome = outcome ≡ Err Down
 IsTurnDown place s (Connect seat) outcome = outcome ≡ Err Down
@@ -120,6 +122,7 @@ standing_after place s (Err Down) = s
 standing_after place s (Err Spent) = s
 standing_after place s (Err (BadFrame fault)) = s
 standing_after place s (Err (Conflict store)) = stopped place s.store store
+standing_after place s (Err NothingToAct) = s
 
 -- a failed append leaves the node down, with the append begun
 abbrev pub failed : Place → Standing → Turn → Standing

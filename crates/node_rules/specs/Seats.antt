@@ -2,6 +2,7 @@
 use Rattle.std.specs.Prelude.{◌≡◌, ℕ, ◌⊎◌, Bool, true, false, nat_lt, not, ◌==◌, ◌&&◌, if◌then◌else◌, List, [], ◌∷◌, Option, Some, None, is_none, Result, Ok, Err, slice_index_or, slice_set}
 use Rattle.game_def.specs.Game.{Game}
 use Rattle.slot_log.specs.Hand.{Hand}
+use Rattle.slot_log.specs.Dealer.{next_away}
 use Rattle.slot_log.specs.declared.command.Command.{Command}
 use Rattle.paxos_wire.specs.declared.ballot.Ballot.{Ballot}
 use Rattle.paxos_wire.specs.declared.message.Message.TheVariants.{Forward}
@@ -13,7 +14,7 @@ use Rattle.dealer_kind.specs.Kind.{fits}
 use Rattle.node_rules.specs.Standings.{Place, Standing, applied, hands_at}
 use Rattle.node_rules.specs.Sending.{Frame, one}
 use Rattle.node_rules.specs.Showing.{seat_line}
-use Rattle.node_rules.specs.Turns.{Turn, still, sending, joined}
+use Rattle.node_rules.specs.Turns.{Turn, Refusal, NothingToAct, still, sending, joined}
 
 -- the session of a seat
 abbrev pub session_at : List (Option Talk) → ℕ → Option Talk
@@ -49,6 +50,21 @@ forwarding place act s = if is_others place s.store.promise then one s.store.pro
 -- an act that another node hands on waits
 abbrev pub taking_over : Place → Command → Standing → Turn
 taking_over place act s = still (pending_act place act s)
+
+-- ---- an order
+
+-- the command that plays for the player to act of the hand that runs at the node; none where none runs
+abbrev pub away_at : Place → Standing → Option Command
+away_at place s = next_away place.setting.game (hands_at place s)
+
+-- it waits and goes on, as an act of the player's
+abbrev pub ordering_by : Place → Option Command → Standing → Result Turn Refusal
+ordering_by place None s = Err NothingToAct
+ordering_by place (Some act) s = Ok (sending (forwarding place act s) (pending_act place act s))
+
+-- it is ordered that the player to act is played for
+abbrev pub ordering : Place → Standing → Result Turn Refusal
+ordering place s = ordering_by place (away_at place s) s
 
 -- ---- a piece of a seat's bytes
 

@@ -3,7 +3,7 @@ use Rattle.std.specs.Prelude.{◌≡◌, ℕ, Bool, true, false, List, Result, O
 use Rattle.slot_log.specs.declared.command.Command.{Command}
 use Rattle.protocol_model.specs.Worlds.{World, Reached}
 use Rattle.dealer_kind.specs.Kind.{dealer_of}
-use Rattle.node_rules.specs.Standings.{Place, Standing}
+use Rattle.node_rules.specs.Standings.{Place, Standing, front_of}
 use Rattle.node_rules.specs.Sending.{Frame}
 use Rattle.node_rules.specs.Showing.{Piece}
 use Rattle.node_rules.specs.Turns.{Turn, Refusal}
@@ -23,7 +23,7 @@ abbrev pub IsChained : Call → Type 0
 IsChained called =
     (own : ℕ → Command → Bool) (place : Place) (world : World) (s : Standing) (turn : Turn)
     → Stands own place world s → Comes place world.ever called → IsTurn place s called (Ok turn)
-    → Taken own place world.ever (world.nodes place.node) (log_before place s) (came_in called) (taken_events place.node s.up called)
+    → Taken own place world.ever (world.nodes place.node) (log_before place s) (came_in called) (taken_events place.node (front_of s) s.up called)
     turn.frames turn.shown turn.after
 
 abbrev pub TurnsAreChains : Type 0
@@ -34,7 +34,7 @@ abbrev pub AppendsAreBegun : Type 0
 AppendsAreBegun =
     (own : ℕ → Command → Bool) (place : Place) (world : World) (s : Standing) (called : Call) (outcome : Result Turn Refusal)
     → Stands own place world s → Comes place world.ever called → s.up ≡ true → IsTurn place s called outcome
-    → Begins own place world.ever (world.nodes place.node) (failed_events place.node called) (standing_after place s outcome).begun
+    → Begins own place world.ever (world.nodes place.node) (failed_events place.node (front_of s) called) (standing_after place s outcome).begun
 
 -- however a call ends, it is one
 abbrev pub CallsAreSound : Type 0

@@ -22,6 +22,8 @@ pub data Refusal : Type 0 where
   BadFrame : (fault : FrameFault) → Refusal
   -- 95: another command is known at the slot; the node has this store then
   Conflict : (store : Store) → Refusal
+  -- 96: no hand runs at the node, so that there is nobody to play for
+  NothingToAct : Refusal
 
 -- nothing is sent, shown or told
 abbrev pub still : Standing → Turn

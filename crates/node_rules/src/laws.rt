@@ -7,15 +7,16 @@ ghost use Rattle.node_rules.specs.Sound.{TurnsAreChains, AppendsAreBegun, CallsA
 ghost use Rattle.node_rules.specs.LawsAnswers.{FramesAnswer};
 ghost use Rattle.node_rules.specs.LawsBacking.{SentIsBacked, BackedStaysSo};
 ghost use Rattle.node_rules.specs.LawsCreated.{CreatedIsNew};
+ghost use Rattle.node_rules.specs.LawsOrder.{OrdersAreTaken};
 ghost use Rattle.node_rules.specs.LawsPending.{ActsWait, WaitingFits};
 ghost use Rattle.node_rules.specs.LawsRefused.{RefusalsHaveReasons};
-ghost use Rattle.node_rules.specs.LawsSeats.{PiecesAreHeard, OthersArePassedOver, ConnectBeginsAnew, DropEnds, SessionsStay, FaultsAreOfPieces, LivesAreWhole, AwayIsUnconnected};
+ghost use Rattle.node_rules.specs.LawsSeats.{PiecesAreHeard, OthersArePassedOver, ConnectBeginsAnew, DropEnds, SessionsStay, FaultsAreOfPieces, LivesAreWhole, UnconnectedSeatsShowSo};
 ghost use Rattle.node_rules.specs.LawsShown.{CallsShow, DownShowsNothing};
 ghost use Rattle.node_rules.specs.LawsTick.{TicksPrepare};
 ghost use Rattle.node_rules.specs.LawsValue.{DealsComeFirst};
 ghost use Rattle.node_rules.specs.LawsVotes.{OwnVotesAreInTime, RefusedBallotsEnd};
 
-use dealer_kind::laws::answers_are_heard;
+use dealer_kind::laws::{answers_are_heard, orders_play_for_the_next};
 use learner::laws::{
     chosen_is_known, completed_is_chosen, counts_are_kept as votes_are_kept, same_is_equal,
 };
@@ -51,6 +52,7 @@ fn layers_below()
     logs_begin_with_their_header();
     one_choice();
     one_more_is_known();
+    orders_play_for_the_next();
     proposals_are_safe();
     runs_go_on();
     same_is_equal();
@@ -146,8 +148,8 @@ pub fn calls_show()
     layers_below();
 }
 
-/// An act that a seat says, or that another node hands on, waits where none does and it fits, until it no longer fits or the node is down; nothing else
-/// waits, and what waits fits.
+/// An act that a seat says, or that another node hands on, waits where none does and it fits, and so does the command that
+/// an order means, until it no longer fits or the node is down; nothing else waits, and what waits fits.
 pub fn acts_wait()
     ensures calls { ActsWait }
     ensures fits { WaitingFits }
@@ -165,16 +167,26 @@ pub fn seats_are_heard()
     ensures stays { SessionsStay }
     ensures faults { FaultsAreOfPieces }
     ensures lives { LivesAreWhole }
-    ensures away { AwayIsUnconnected }
+    ensures unconnected { UnconnectedSeatsShowSo }
 {
     layers_below();
     any_pieces();
 }
 
-/// A call is refused for its reason alone: of a node that is down each but start and stop; of one that runs a tick where no round or no slot is left, and
-/// bytes that are no frame. In a reached world that holds what came no other command is ever known where one was chosen.
+/// A call is refused for its reason alone: of a node that is down each but start and stop; of one that runs a tick where
+/// no round or no slot is left, an order where no hand runs, and bytes that are no frame. In a reached world that holds
+/// what came no other command is ever known where one was chosen.
 pub fn refusals_have_reasons()
     ensures { RefusalsHaveReasons }
+{
+    layers_below();
+}
+
+/// An order that the player to act is played for is taken wherever a hand runs at the node: the command that does so, of
+/// that hand and of the number of its actions so far, waits where none does, and goes to the other node whose ballot was
+/// promised. Where no hand runs it is 96, and nothing changes.
+pub fn orders_are_taken()
+    ensures { OrdersAreTaken }
 {
     layers_below();
 }

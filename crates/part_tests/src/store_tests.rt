@@ -7,6 +7,7 @@ use crate::journal::{
 use crate::samples::{assert_bytes, assert_same, prints};
 use paxos_wire::Ballot;
 use promise_store::{Call, Disk, MemoryDisk, Store, StoreFault};
+use slot_log::Command;
 use std::alloc::Global;
 use std::process::Abort;
 use std::test::Fail;
@@ -188,6 +189,59 @@ fn malformed_journals(rt: HostRuntime) -> Result<(), Fail> {
         answers(&rt, alloc, bytes, code)?;
     }
     opens_shut(&rt, alloc)
+}
+
+/// That the first player to act of the first hand is away.
+const AWAY: Command = Command::Away { hand: 0, index: 0 };
+
+/// Node 0 of 3 after a promise of (1, 0) and an accept of that in it at slot 1.
+static AWAY_JOURNAL: [u8; 38] = [
+    0x48, 0x44, 0x4a, 0x31, 0, 3, 0, 0, 1, 0, 6, 1, 0, 0, 0, 1, 0, 1, 0, 17, 2, 0, 0, 0, 1, 0, 0,
+    0, 0, 1, 3, 0, 0, 0, 0, 0, 0, 0,
+];
+
+/// Stores that at slot 1.
+fn accept_away<D: Disk>(store: &mut Store<D>) -> Result<(), StoreFault> {
+    store.accept(FIRST, 1, &AWAY)
+}
+
+/// The disk of a new store that stored the promise and that.
+fn disk_of_away(rt: &impl Abort, alloc: Global) -> Result<MemoryDisk, Fail> {
+    let mut store = created_in_memory(rt, alloc, &[])?;
+    promise(&mut store)?;
+    accept_away(&mut store)?;
+    Ok(store.close())
+}
+
+/// Two bytes of that journal in place of its own: hand 10000, index 256, and a fourth kind of command.
+static NO_AWAYS: [(usize, [u8; 2]); 3] = [(33, [0x27, 0x10]), (35, [1, 0]), (30, [4, 0])];
+
+/// That journal with these two bytes is refused.
+fn refuses_changed(rt: &impl Abort, alloc: Global, at: usize, bytes: [u8; 2]) -> Result<(), Fail> {
+    let mut changed = AWAY_JOURNAL;
+    if at < 37 {
+        changed[at] = bytes[0];
+        changed[at + 1] = bytes[1];
+    }
+    answers(rt, alloc, &changed, 62)
+}
+
+/// A record that somebody is away is written byte by byte and found again; cut anywhere, or with a number out of its range, it
+/// is none.
+#[test]
+fn journal_of_one_who_is_away(rt: HostRuntime) -> Result<(), Fail> {
+    let alloc = rt.alloc();
+    let disk = disk_of_away(&rt, alloc)?;
+    assert_bytes(&rt, disk.bytes(), AWAY_JOURNAL.as_slice());
+    let mut store = opened(&rt, alloc, disk);
+    assert!(rt; entry(&mut store, 1)? == Some((FIRST, AWAY)));
+    for len in 9..38usize {
+        answers(&rt, alloc, &AWAY_JOURNAL[..len], 62)?;
+    }
+    for &(at, bytes) in &NO_AWAYS {
+        refuses_changed(&rt, alloc, at, bytes)?;
+    }
+    Ok(())
 }
 
 /// Stores a promise of the round after the slot, and that the deal was accepted in it at the slot.

@@ -9,14 +9,14 @@ use Rattle.card_core.specs.Deal.{player_count}
 use Rattle.betting.specs.declared.action.Action.{Action}
 use Rattle.betting.specs.declared.action.Action.TheVariants.{Fold, Call, Raise}
 use Rattle.slot_log.specs.declared.command.Command.{Command}
-use Rattle.slot_log.specs.declared.command.Command.TheVariants.{Deal, Act}
+use Rattle.slot_log.specs.declared.command.Command.TheVariants.{Deal, Act, Away}
 use Rattle.slot_log.specs.Range.{IsAmount}
 use Rattle.paxos_wire.specs.declared.limits.TheConstants.{NODES, HANDS, ACTIONS, MOST_CHIPS}
 use Rattle.paxos_wire.specs.declared.ballot.Ballot.{Ballot}
 use Rattle.byteorder.specs.Endian.{big_bytes}
 use Rattle.paxos_wire.specs.Fits.{IsBallot, AreDealt, IsCommand}
 use Rattle.paxos_wire.specs.Spelling.{ballot_text, action_text, deal_text, command_text}
-use Rattle.paxos_wire.specs.Reading.{◌>>=◌, when, byte_at, number_at, below_at, ballot_at, action_of, action_at, are_cards, are_distinct, is_count, deal_of, bytes_at, deal_at, dealt_at, acted_at, command_at}
+use Rattle.paxos_wire.specs.Reading.{◌>>=◌, when, byte_at, number_at, below_at, ballot_at, action_of, action_at, are_cards, are_distinct, is_count, deal_of, bytes_at, deal_at, dealt_at, acted_at, away_at, command_at}
 use Rattle.paxos_wire.proofs.Steps.{IsBytes, IsBytes-drop, bind_some, when_some, then_some, either, Takes, both}
 use Rattle.paxos_wire.proofs.Numbers.{byte_text, byte_takes, wide2, wide4, number_takes, number_again, below_takes, below_again}
 use Rattle.paxos_wire.proofs.Distinct.{is_distinct, are_distinct-from}
@@ -157,30 +157,48 @@ acted_takes hand bytes x fits e =
     subst (λ (y : Command × List ℕ). (index : ℕ) × (action : Action) × (y.0 ≡ Act hand index action) × (bytes ≡ (big_bytes 2 index ++ action_text action) ++ y.1) × IsBytes y.1 × (index < ACTIONS) × IsAmount action) is
     (a.0.0, b.0.0, refl, both bytes (big_bytes 2 a.0.0) a.0.1 (action_text b.0.0) b.0.1 t0.parts t1.parts, t1.rest, t0.fits, t1.fits)
 
+pub away_takes : (hand : ℕ) (bytes : List ℕ) (x : Command × List ℕ) → IsBytes bytes → away_at hand bytes ≡ Some x
+    → (index : ℕ) × (x.0 ≡ Away hand index) × (bytes ≡ big_bytes 2 index ++ x.1) × IsBytes x.1 × (index < ACTIONS)
+unfolding away_at
+away_takes hand bytes x fits e =
+    let a = bind_some (below_at 2 ACTIONS bytes) (λ index. Some (Away hand index.0, index.1)) x e in
+    let t = below_takes 2 ACTIONS wide2 bytes a.0 fits a.1 in
+    let is = same_Some (Away hand a.0.0, a.0.1) x a.2 in
+    subst (λ (y : Command × List ℕ). (index : ℕ) × (y.0 ≡ Away hand index) × (bytes ≡ big_bytes 2 index ++ y.1) × IsBytes y.1 × (index < ACTIONS)) is
+    (a.0.0, refl, t.parts, t.rest, t.fits)
+
 pub command_takes : (bytes : List ℕ) (x : Command × List ℕ) → IsBytes bytes → command_at bytes ≡ Some x → Takes command_text IsCommand bytes x
 unfolding command_at
 command_takes bytes x fits e =
-    let a = bind_some (byte_at bytes) (λ kind. below_at 4 HANDS kind.1 >>= λ hand. cond (eqb kind.0 1) (dealt_at hand.0 hand.1) (cond (eqb kind.0 2) (acted_at hand.0 hand.1) None)) x e in
-    let b = bind_some (below_at 4 HANDS a.0.1) (λ hand. cond (eqb a.0.0 1) (dealt_at hand.0 hand.1) (cond (eqb a.0.0 2) (acted_at hand.0 hand.1) None)) x a.2 in
+    let a = bind_some (byte_at bytes) (λ kind. below_at 4 HANDS kind.1 >>= λ hand. cond (eqb kind.0 1) (dealt_at hand.0 hand.1) (cond (eqb kind.0 2) (acted_at hand.0 hand.1) (cond (eqb kind.0 3) (away_at hand.0 hand.1) None))) x e in
+    let b = bind_some (below_at 4 HANDS a.0.1) (λ hand. cond (eqb a.0.0 1) (dealt_at hand.0 hand.1) (cond (eqb a.0.0 2) (acted_at hand.0 hand.1) (cond (eqb a.0.0 3) (away_at hand.0 hand.1) None))) x a.2 in
     let t0 = byte_takes bytes a.0 fits a.1 in
     let t1 = below_takes 4 HANDS wide4 a.0.1 b.0 t0.rest b.1 in
     let front = both bytes (byte_text a.0.0) a.0.1 (big_bytes 4 b.0.0) b.0.1 t0.parts t1.parts in
-    elim (either (eqb a.0.0 1) (dealt_at b.0.0 b.0.1) (cond (eqb a.0.0 2) (acted_at b.0.0 b.0.1) None) x b.2) [
+    elim (either (eqb a.0.0 1) (dealt_at b.0.0 b.0.1) (cond (eqb a.0.0 2) (acted_at b.0.0 b.0.1) (cond (eqb a.0.0 3) (away_at b.0.0 b.0.1) None)) x b.2) [
       | inl (one, read) ↦
           let d = dealt_takes b.0.0 b.0.1 x t1.rest read in
           let k : a.0.0 ≡ 1 = eqb-true _ _ one in
           let whole : bytes ≡ command_text (Deal b.0.0 d.0) ++ x.1 = both bytes (byte_text a.0.0 ++ big_bytes 4 b.0.0) b.0.1 (deal_text d.0) x.1 front d.2 ∙ ap (λ (n : ℕ). n ∷ ((big_bytes 4 b.0.0 ++ deal_text d.0) ++ x.1)) k in
           record { parts = whole ∙ ap (λ (c : Command). command_text c ++ x.1) (sym d.1); rest = d.3; fits = subst IsCommand (sym d.1) (record { numbers = t1.fits; cards = d.4 }) }
-      | inr (other, read) ↦
-          let s = then_some (eqb a.0.0 2) (acted_at b.0.0 b.0.1) x read in
-          let d = acted_takes b.0.0 b.0.1 x t1.rest s.1 in
-          let k : a.0.0 ≡ 2 = eqb-true _ _ s.0 in
-          let whole : bytes ≡ command_text (Act b.0.0 d.0 d.1) ++ x.1 = both bytes (byte_text a.0.0 ++ big_bytes 4 b.0.0) b.0.1 (big_bytes 2 d.0 ++ action_text d.1) x.1 front d.3 ∙ ap (λ (n : ℕ). n ∷ ((big_bytes 4 b.0.0 ++ (big_bytes 2 d.0 ++ action_text d.1)) ++ x.1)) k in
-          record { parts = whole ∙ ap (λ (c : Command). command_text c ++ x.1) (sym d.2); rest = d.4; fits = subst IsCommand (sym d.2) (record { numbers = (t1.fits, d.5, d.6); cards = tt }) }
+      | inr (not_dealt, others) ↦
+          elim (either (eqb a.0.0 2) (acted_at b.0.0 b.0.1) (cond (eqb a.0.0 3) (away_at b.0.0 b.0.1) None) x others) [
+            | inl (two, read) ↦
+                let d = acted_takes b.0.0 b.0.1 x t1.rest read in
+                let k : a.0.0 ≡ 2 = eqb-true _ _ two in
+                let whole : bytes ≡ command_text (Act b.0.0 d.0 d.1) ++ x.1 = both bytes (byte_text a.0.0 ++ big_bytes 4 b.0.0) b.0.1 (big_bytes 2 d.0 ++ action_text d.1) x.1 front d.3 ∙ ap (λ (n : ℕ). n ∷ ((big_bytes 4 b.0.0 ++ (big_bytes 2 d.0 ++ action_text d.1)) ++ x.1)) k in
+                record { parts = whole ∙ ap (λ (c : Command). command_text c ++ x.1) (sym d.2); rest = d.4; fits = subst IsCommand (sym d.2) (record { numbers = (t1.fits, d.5, d.6); cards = tt }) }
+            | inr (not_acted, read) ↦
+                let s = then_some (eqb a.0.0 3) (away_at b.0.0 b.0.1) x read in
+                let d = away_takes b.0.0 b.0.1 x t1.rest s.1 in
+                let k : a.0.0 ≡ 3 = eqb-true _ _ s.0 in
+                let whole : bytes ≡ command_text (Away b.0.0 d.0) ++ x.1 = both bytes (byte_text a.0.0 ++ big_bytes 4 b.0.0) b.0.1 (big_bytes 2 d.0) x.1 front d.2 ∙ ap (λ (n : ℕ). n ∷ ((big_bytes 4 b.0.0 ++ big_bytes 2 d.0) ++ x.1)) k in
+                record { parts = whole ∙ ap (λ (c : Command). command_text c ++ x.1) (sym d.1); rest = d.3; fits = subst IsCommand (sym d.1) (record { numbers = (t1.fits, d.4); cards = tt }) }
+          ]
     ]
 
 pub command_again : (c : Command) (rest : List ℕ) → IsCommand c → command_at (command_text c ++ rest) ≡ Some (c, rest)
-unfolding command_at dealt_at acted_at
+unfolding command_at dealt_at acted_at away_at
 command_again (Deal hand cards) rest fits =
     let regrouped : command_text (Deal hand cards) ++ rest ≡ 1 ∷ (big_bytes 4 hand ++ (deal_text cards ++ rest)) = ap (λ (t : List ℕ). 1 ∷ t) (append_assoc (big_bytes 4 hand) (deal_text cards) rest) in
     ap command_at regrouped ∙ rw (below_again 4 HANDS hand (deal_text cards ++ rest) fits.numbers (omega arith), deal_again cards rest fits.cards) refl
@@ -188,3 +206,6 @@ command_again (Act hand index action) rest fits =
     let regrouped : command_text (Act hand index action) ++ rest ≡ 2 ∷ (big_bytes 4 hand ++ (big_bytes 2 index ++ (action_text action ++ rest))) =
     ap (λ (t : List ℕ). 2 ∷ t) (append_assoc (big_bytes 4 hand) (big_bytes 2 index ++ action_text action) rest ∙ ap (λ (t : List ℕ). big_bytes 4 hand ++ t) (append_assoc (big_bytes 2 index) (action_text action) rest)) in
     ap command_at regrouped ∙ rw (below_again 4 HANDS hand (big_bytes 2 index ++ (action_text action ++ rest)) fits.numbers.0 (omega arith), below_again 2 ACTIONS index (action_text action ++ rest) fits.numbers.1 (omega arith), action_again action rest fits.numbers.2) refl
+command_again (Away hand index) rest fits =
+    let regrouped : command_text (Away hand index) ++ rest ≡ 3 ∷ (big_bytes 4 hand ++ (big_bytes 2 index ++ rest)) = ap (λ (t : List ℕ). 3 ∷ t) (append_assoc (big_bytes 4 hand) (big_bytes 2 index) rest) in
+    ap command_at regrouped ∙ rw (below_again 4 HANDS hand (big_bytes 2 index ++ rest) fits.numbers.0 (omega arith), below_again 2 ACTIONS index rest fits.numbers.1 (omega arith)) refl

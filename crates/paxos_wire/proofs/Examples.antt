@@ -4,16 +4,16 @@ use Rattle.std.specs.List.{IsDistinct}
 use Rattle.std.proofs.lemmas.Map.Keys.{apart_from_distinct}
 use Rattle.std.specs.Fmt.{digits}
 use Rattle.betting.specs.declared.action.Action.TheVariants.{Fold, Call, Raise}
-use Rattle.slot_log.specs.declared.command.Command.TheVariants.{Deal, Act}
+use Rattle.slot_log.specs.declared.command.Command.TheVariants.{Deal, Act, Away}
 use Rattle.slot_log.specs.Range.{IsAmount, IsInRange}
 use Rattle.paxos_wire.specs.declared.limits.TheConstants.{WINDOW, MOST_FRAME, MOST_SINGLE_FRAME}
 use Rattle.paxos_wire.specs.declared.ballot.Ballot.{Ballot}
 use Rattle.paxos_wire.specs.declared.entry.Entry.{Entry}
 use Rattle.paxos_wire.specs.declared.fault.FrameFault.TheVariants.{TooShort, TooLong, BadVersion, BadKind, BadBody}
 use Rattle.paxos_wire.specs.declared.message.Message.TheVariants.{Prepare, Promise, Refuse, Accept, Accepted, Chosen, Ask, Forward}
-use Rattle.paxos_wire.specs.Fits.{IsBallot, IsSlot, AreDealt, IsCommand, IsAct, Rise, IsSingle, IsMessage}
+use Rattle.paxos_wire.specs.Fits.{IsBallot, IsSlot, AreDealt, IsCommand, MayGoOn, Rise, IsSingle, IsMessage}
 use Rattle.paxos_wire.specs.Spelling.{ballot_text, slot_text, action_text, command_text, entry_text, entries_text, frame}
-use Rattle.paxos_wire.specs.Reading.{below_at, ballot_at, action_of, action_at, is_count, deal_of, deal_at, dealt_at, acted_at, command_at, of_ballot_at, ask_at, message_at, body_of}
+use Rattle.paxos_wire.specs.Reading.{below_at, ballot_at, action_of, action_at, is_count, deal_of, deal_at, dealt_at, acted_at, away_at, command_at, of_ballot_at, ask_at, forward_at, message_at, body_of}
 use Rattle.paxos_wire.specs.Faults.{header_fault, fault_of, reading}
 use Rattle.paxos_wire.specs.Stream.{needed, IsPartial, IsFaulty, Takes, stream_of, Splits}
 use Rattle.paxos_wire.specs.Order.{is_below, is_same_ballot}
@@ -76,6 +76,9 @@ call_command = refl
 pub raise_command : command_text (Act 9999 255 (Raise 300)) ≡ 2 ∷ 0 ∷ 0 ∷ 39 ∷ 15 ∷ 0 ∷ 255 ∷ 2 ∷ 0 ∷ 0 ∷ 1 ∷ 44 ∷ []
 raise_command = refl
 
+pub away_command : command_text (Away 9999 255) ≡ 3 ∷ 0 ∷ 0 ∷ 39 ∷ 15 ∷ 0 ∷ 255 ∷ []
+away_command = refl
+
 abbrev pub first_entry : Entry
 first_entry = record { slot = 0; ballot = first_ballot; command = Deal 0 cards }
 
@@ -100,6 +103,18 @@ accepted = refl
 pub forward : frame (Forward (Act 0 0 Call)) ≡ 0 ∷ 0 ∷ 0 ∷ 14 ∷ 1 ∷ 8 ∷ 2 ∷ 0 ∷ 0 ∷ 0 ∷ 0 ∷ 0 ∷ 0 ∷ 1 ∷ 0 ∷ 0 ∷ 0 ∷ 0 ∷ []
 unfolding frame
 forward = refl
+
+pub forward_of_an_away : frame (Forward (Away 0 0)) ≡ 0 ∷ 0 ∷ 0 ∷ 9 ∷ 1 ∷ 8 ∷ 3 ∷ 0 ∷ 0 ∷ 0 ∷ 0 ∷ 0 ∷ 0 ∷ []
+unfolding frame
+forward_of_an_away = refl
+
+pub accept_of_an_away : frame (Accept first_ballot 1 (Away 0 0)) ≡ 0 ∷ 0 ∷ 0 ∷ 18 ∷ 1 ∷ 4 ∷ 0 ∷ 0 ∷ 0 ∷ 1 ∷ 0 ∷ 0 ∷ 0 ∷ 0 ∷ 1 ∷ 3 ∷ 0 ∷ 0 ∷ 0 ∷ 0 ∷ 0 ∷ 0 ∷ []
+unfolding frame
+accept_of_an_away = refl
+
+pub chosen_away : frame (Chosen 1 (Away 0 0)) ≡ 0 ∷ 0 ∷ 0 ∷ 13 ∷ 1 ∷ 6 ∷ 0 ∷ 0 ∷ 0 ∷ 1 ∷ 3 ∷ 0 ∷ 0 ∷ 0 ∷ 0 ∷ 0 ∷ 0 ∷ []
+unfolding frame
+chosen_away = refl
 
 pub ask : frame (Ask 1) ≡ 0 ∷ 0 ∷ 0 ∷ 6 ∷ 1 ∷ 7 ∷ 0 ∷ 0 ∷ 0 ∷ 1 ∷ []
 unfolding frame
@@ -166,6 +181,9 @@ even_count-none dealt = let count = dealt.deal.count in absurd cc
 pub deal_is_command : IsCommand (Deal 0 cards)
 deal_is_command = record { numbers = lit< tt; cards = cards_dealt }
 
+pub away_is_command : IsCommand (Away 0 0)
+away_is_command = record { numbers = (lit< tt, lit< tt); cards = tt }
+
 -- a deal for ten players
 abbrev pub many_cards : List ℕ
 many_cards = 0 ∷ 1 ∷ 2 ∷ 3 ∷ 4 ∷ 5 ∷ 6 ∷ 7 ∷ 8 ∷ 9 ∷ 10 ∷ 11 ∷ 12 ∷ 13 ∷ 14 ∷ 15 ∷ 16 ∷ 17 ∷ 18 ∷ 19 ∷ 20 ∷ 21 ∷ 22 ∷ 23 ∷ 51 ∷ []
@@ -199,11 +217,14 @@ pub longest : length (frame (Promise first_ballot 0 (deals_at WINDOW 0))) ≡ MO
 unfolding frame
 longest = refl
 
-pub call_is_act : IsAct (Act 0 0 Call)
-call_is_act = tt
+pub call_may_go_on : MayGoOn (Act 0 0 Call)
+call_may_go_on = tt
 
-pub deal-no_act : IsAct (Deal 0 cards) → ⊥
-deal-no_act h = h
+pub away_may_go_on : MayGoOn (Away 0 0)
+away_may_go_on = tt
+
+pub deal_may_go_on-none : MayGoOn (Deal 0 cards) → ⊥
+deal_may_go_on-none h = h
 
 abbrev pub entry_at_slot : ℕ → Entry
 entry_at_slot slot = record { slot = slot; ballot = first_ballot; command = Act 0 0 Call }
@@ -259,6 +280,26 @@ pub call_read : command_at (2 ∷ 0 ∷ 0 ∷ 0 ∷ 0 ∷ 0 ∷ 0 ∷ 1 ∷ 0 �
 unfolding command_at acted_at action_at action_of below_at
 call_read = refl
 
+pub away_read : command_at (3 ∷ 0 ∷ 0 ∷ 0 ∷ 0 ∷ 0 ∷ 0 ∷ 9 ∷ []) ≡ Some (Away 0 0, 9 ∷ [])
+unfolding command_at away_at below_at
+away_read = refl
+
+pub short_away : command_at (3 ∷ 0 ∷ 0 ∷ 0 ∷ 0 ∷ 0 ∷ []) ≡ None
+unfolding command_at away_at below_at
+short_away = refl
+
+pub away_of_hand_10000 : command_at (3 ∷ 0 ∷ 0 ∷ 39 ∷ 16 ∷ 0 ∷ 0 ∷ []) ≡ None
+unfolding command_at away_at below_at
+away_of_hand_10000 = refl
+
+pub away_of_index_256 : command_at (3 ∷ 0 ∷ 0 ∷ 0 ∷ 0 ∷ 1 ∷ 0 ∷ []) ≡ None
+unfolding command_at away_at below_at
+away_of_index_256 = refl
+
+pub fourth_kind : command_at (4 ∷ 0 ∷ 0 ∷ 0 ∷ 0 ∷ 0 ∷ 0 ∷ []) ≡ None
+unfolding command_at below_at
+fourth_kind = refl
+
 pub deal_read : command_at (1 ∷ 0 ∷ 0 ∷ 0 ∷ 0 ∷ 9 ∷ 33 ∷ 51 ∷ 26 ∷ 32 ∷ 0 ∷ 24 ∷ 6 ∷ 28 ∷ 46 ∷ []) ≡ Some (Deal 0 cards, [])
 unfolding command_at dealt_at deal_at deal_of below_at
 deal_read = refl
@@ -300,6 +341,15 @@ pub ask_read : reading (0 ∷ 0 ∷ 0 ∷ 6 ∷ 1 ∷ 7 ∷ 0 ∷ 0 ∷ 0 ∷ 1 
 unfolding reading header_fault body_of message_at ask_at below_at
 ask_read = refl
 
+pub forward_of_an_away_read : reading (0 ∷ 0 ∷ 0 ∷ 9 ∷ 1 ∷ 8 ∷ 3 ∷ 0 ∷ 0 ∷ 0 ∷ 0 ∷ 0 ∷ 0 ∷ []) ≡ Ok (Forward (Away 0 0))
+unfolding reading header_fault body_of message_at forward_at command_at away_at below_at
+forward_of_an_away_read = refl
+
+-- a byte more than its index
+pub byte_behind_an_away : reading (0 ∷ 0 ∷ 0 ∷ 10 ∷ 1 ∷ 8 ∷ 3 ∷ 0 ∷ 0 ∷ 0 ∷ 0 ∷ 0 ∷ 0 ∷ 0 ∷ []) ≡ Err BadBody
+unfolding reading header_fault body_of message_at forward_at command_at away_at below_at
+byte_behind_an_away = refl
+
 -- ---- streams
 
 pub needed_for_the_length : needed (0 ∷ 0 ∷ 16 ∷ []) ≡ 4
@@ -339,6 +389,10 @@ accept_line = refl
 pub forward_line : message_line (Forward (Act 0 2 (Raise 300))) ≡ codes "Forward act 2 of hand 0: raise to 300"
 unfolding digits
 forward_line = refl
+
+pub away_line : message_line (Forward (Away 0 2)) ≡ codes "Forward away at act 2 of hand 0"
+unfolding digits
+away_line = refl
 
 pub promise_line : message_line (Promise (record { round = 2; node = 2 }) 0 (first_entry ∷ [])) ≡ codes "Promise (2, 2) from 0: 1 accepted"
 unfolding digits

@@ -4,7 +4,7 @@ use Rattle.std.specs.List.{flat_map, AllByRecursion}
 use Rattle.std.proofs.lemmas.Bool.{ltb-false, le-ltb, leb-true, eqb-true, eq-eqb, not-false, and_parts}
 use Rattle.std.proofs.lemmas.List.Concat.{flat_map-cons}
 use Rattle.slot_log.specs.declared.command.Command.{Command}
-use Rattle.slot_log.specs.declared.command.Command.TheVariants.{Deal, Act}
+use Rattle.slot_log.specs.declared.command.Command.TheVariants.{Deal, Act, Away}
 use Rattle.betting.specs.declared.action.Action.TheVariants.{Fold, Call, Raise}
 use Rattle.paxos_wire.specs.declared.limits.TheConstants.{VERSION, LEAST_LENGTH, MOST_LENGTH, MOST_FRAME, MOST_SINGLE_FRAME}
 use Rattle.paxos_wire.specs.declared.entry.Entry.{Entry}
@@ -31,6 +31,7 @@ command_most (Deal hand cards) dealt = omega (arith, dealt.most, dealt.deal.coun
 command_most (Act hand index Fold) dealt = omega arith
 command_most (Act hand index Call) dealt = omega arith
 command_most (Act hand index (Raise amount)) dealt = omega arith
+command_most (Away hand index) dealt = omega arith
 
 entries_most : (es : List Entry) → AllByRecursion IsDealt (map (λ e. e.command) es) → length (flat_map entry_text es) ≤ 40 * length es
 entries_most [] cards = omega arith

@@ -5,15 +5,15 @@ use Rattle.std.proofs.lemmas.Bool.{leb-true, leb-false, le-leb, eqb-true, eqb-fa
 use Rattle.std.proofs.lemmas.List.{append-nil, nil_from_length}
 use Rattle.std.proofs.lemmas.Option.{same_Some}
 use Rattle.slot_log.specs.declared.command.Command.{Command}
-use Rattle.slot_log.specs.declared.command.Command.TheVariants.{Deal, Act}
+use Rattle.slot_log.specs.declared.command.Command.TheVariants.{Deal, Act, Away}
 use Rattle.paxos_wire.specs.declared.limits.TheConstants.{SLOTS, WINDOW}
 use Rattle.paxos_wire.specs.declared.ballot.Ballot.{Ballot}
 use Rattle.paxos_wire.specs.declared.entry.Entry.{Entry}
 use Rattle.paxos_wire.specs.declared.message.Message.{Message}
 use Rattle.paxos_wire.specs.declared.message.Message.TheVariants.{Prepare, Promise, Refuse, Accept, Accepted, Chosen, Ask, Forward}
-use Rattle.paxos_wire.specs.Fits.{IsBallot, IsDealt, AreEntries, IsMessage, IsAct}
+use Rattle.paxos_wire.specs.Fits.{IsBallot, IsDealt, AreEntries, IsMessage, MayGoOn}
 use Rattle.paxos_wire.specs.Spelling.{ballot_text, slot_text, command_text, entry_text, entries_text, kind, body}
-use Rattle.paxos_wire.specs.Reading.{◌>>=◌, when, byte_at, below_at, ballot_at, command_at, entries_at, promise_at, refuse_at, accept_at, of_ballot_at, chosen_at, ask_at, is_act, forward_at, message_at, body_of}
+use Rattle.paxos_wire.specs.Reading.{◌>>=◌, when, byte_at, below_at, ballot_at, command_at, entries_at, promise_at, refuse_at, accept_at, of_ballot_at, chosen_at, ask_at, may_go_on, forward_at, message_at, body_of}
 use Rattle.paxos_wire.proofs.Steps.{IsBytes, bind_some, when_some, then_some, either, both}
 use Rattle.paxos_wire.proofs.Numbers.{byte_text, byte_takes, wide4, below_takes, below_again}
 use Rattle.paxos_wire.proofs.CommandLaws.{ballot_takes, ballot_again, command_takes, command_again}
@@ -114,21 +114,23 @@ ask_takes bytes x fits e =
     let t = below_takes 4 SLOTS wide4 bytes a.0 fits a.1 in
     subst (λ (y : Message × List ℕ). TakesMessage 7 bytes y) (same_Some (Ask a.0.0, a.0.1) x a.2) (record { parts = t.parts; rest = t.rest; kind_is = refl; fits = record { numbers = t.fits; cards = tt } })
 
-act_is : (c : Command) → is_act c ≡ true → IsAct c
-act_is (Deal hand cards) e = absurd cc
-act_is (Act hand index action) e = tt
+goes_on : (c : Command) → may_go_on c ≡ true → MayGoOn c
+goes_on (Deal hand cards) e = absurd cc
+goes_on (Act hand index action) e = tt
+goes_on (Away hand index) e = tt
 
-act_passes : (c : Command) → IsAct c → is_act c ≡ true
-act_passes (Deal hand cards) h = absurd h
-act_passes (Act hand index action) h = refl
+passes : (c : Command) → MayGoOn c → may_go_on c ≡ true
+passes (Deal hand cards) h = absurd h
+passes (Act hand index action) h = refl
+passes (Away hand index) h = refl
 
 forward_takes : (bytes : List ℕ) (x : Message × List ℕ) → IsBytes bytes → forward_at bytes ≡ Some x → TakesMessage 8 bytes x
 unfolding forward_at
 forward_takes bytes x fits e =
-    let a = bind_some (command_at bytes) (λ command. when (is_act command.0) (Forward command.0, command.1)) x e in
+    let a = bind_some (command_at bytes) (λ command. when (may_go_on command.0) (Forward command.0, command.1)) x e in
     let t = command_takes bytes a.0 fits a.1 in
-    let g = when_some (is_act a.0.0) (Forward a.0.0, a.0.1) x a.2 in
-    subst (λ (y : Message × List ℕ). TakesMessage 8 bytes y) g.1 (record { parts = t.parts; rest = t.rest; kind_is = refl; fits = record { numbers = (act_is a.0.0 g.0, t.fits.numbers); cards = (t.fits.cards, tt) } })
+    let g = when_some (may_go_on a.0.0) (Forward a.0.0, a.0.1) x a.2 in
+    subst (λ (y : Message × List ℕ). TakesMessage 8 bytes y) g.1 (record { parts = t.parts; rest = t.rest; kind_is = refl; fits = record { numbers = (goes_on a.0.0 g.0, t.fits.numbers); cards = (t.fits.cards, tt) } })
 
 pub message_takes : (k : ℕ) (bytes : List ℕ) (x : Message × List ℕ) → 1 ≤ k → k ≤ 8 → IsBytes bytes → message_at k bytes ≡ Some x → TakesMessage k bytes x
 unfolding message_at
@@ -187,7 +189,7 @@ message_again (Chosen s c) rest fits =
     rw (below_again 4 SLOTS s (command_text c ++ rest) fits.numbers.0 (omega arith), command_again c rest (record { numbers = fits.numbers.1; cards = fits.cards.0 })) refl
 message_again (Ask s) rest fits = rw (below_again 4 SLOTS s rest fits.numbers (omega arith)) refl
 message_again (Forward c) rest fits =
-    rw (command_again c rest (record { numbers = fits.numbers.1; cards = fits.cards.0 }), act_passes c fits.numbers.0) refl
+    rw (command_again c rest (record { numbers = fits.numbers.1; cards = fits.cards.0 }), passes c fits.numbers.0) refl
 
 pub body_again : (m : Message) → IsMessage m → body_of (kind m) (body m) ≡ Some m
 unfolding body_of

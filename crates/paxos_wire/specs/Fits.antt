@@ -3,7 +3,7 @@ use Rattle.std.specs.Prelude.{ℕ, ◌+◌, ◌^◌, ◌<◌, ◌≤◌, List, [
 use Rattle.std.specs.List.{AllByRecursion}
 use Rattle.card_core.specs.Deal.{IsDeal, player_count}
 use Rattle.slot_log.specs.declared.command.Command.{Command}
-use Rattle.slot_log.specs.declared.command.Command.TheVariants.{Deal, Act}
+use Rattle.slot_log.specs.declared.command.Command.TheVariants.{Deal, Act, Away}
 pub use Rattle.slot_log.specs.Range.{IsInRange}
 use Rattle.paxos_wire.specs.declared.limits.TheConstants.{NODES, SLOTS, WINDOW}
 use Rattle.paxos_wire.specs.declared.ballot.Ballot.{Ballot}
@@ -31,16 +31,18 @@ pub record AreDealt (cards : List ℕ) : Type 0 where
 abbrev pub IsDealt : Command → Type 0
 IsDealt (Deal hand cards) = AreDealt cards
 IsDealt (Act hand index action) = Unit {0}
+IsDealt (Away hand index) = Unit {0}
 
 -- a command that has a text
 pub record IsCommand (c : Command) : Type 0 where
   pub numbers : IsInRange c
   pub cards : IsDealt c
 
--- the command is an act of a player
-abbrev pub IsAct : Command → Type 0
-IsAct (Deal hand cards) = ⊥
-IsAct (Act hand index action) = Unit {0}
+-- the command may be handed on for another node to propose: an act of a player, or what stands for one who is away, and no deal
+abbrev pub MayGoOn : Command → Type 0
+MayGoOn (Deal hand cards) = ⊥
+MayGoOn (Act hand index action) = Unit {0}
+MayGoOn (Away hand index) = Unit {0}
 
 -- an entry's numbers are within their ranges
 pub record IsEntry (e : Entry) : Type 0 where
@@ -59,7 +61,7 @@ pub record AreEntries (slot : ℕ) (entries : List Entry) : Type 0 where
   pub each : AllByRecursion IsEntry entries
   pub rise : Rise slot (slot + WINDOW) entries
 
--- the numbers of a message are within their ranges, and what is forwarded is an act
+-- the numbers of a message are within their ranges, and what is forwarded may go on
 abbrev pub Fits : Message → Type 0
 Fits (Prepare ballot slot) = IsBallot ballot × IsSlot slot
 Fits (Promise ballot slot entries) = IsBallot ballot × IsSlot slot × AreEntries slot entries
@@ -68,7 +70,7 @@ Fits (Accept ballot slot command) = IsBallot ballot × IsSlot slot × IsInRange 
 Fits (Accepted ballot slot command) = IsBallot ballot × IsSlot slot × IsInRange command
 Fits (Chosen slot command) = IsSlot slot × IsInRange command
 Fits (Ask slot) = IsSlot slot
-Fits (Forward command) = IsAct command × IsInRange command
+Fits (Forward command) = MayGoOn command × IsInRange command
 
 -- a message of one command at most: any but a Promise, which tells what was accepted at many slots
 abbrev pub IsSingle : Message → Type 0

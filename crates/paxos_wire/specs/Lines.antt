@@ -4,7 +4,7 @@ use Rattle.std.specs.Fmt.{decimal}
 use Rattle.betting.specs.declared.action.Action.{Action}
 use Rattle.betting.specs.declared.action.Action.TheVariants.{Fold, Call, Raise}
 use Rattle.slot_log.specs.declared.command.Command.{Command}
-use Rattle.slot_log.specs.declared.command.Command.TheVariants.{Deal, Act}
+use Rattle.slot_log.specs.declared.command.Command.TheVariants.{Deal, Act, Away}
 use Rattle.paxos_wire.specs.declared.ballot.Ballot.{Ballot}
 use Rattle.paxos_wire.specs.declared.fault.FrameFault.{FrameFault}
 use Rattle.paxos_wire.specs.declared.fault.FrameFault.TheVariants.{TooShort, TooLong, BadVersion, BadKind, BadBody}
@@ -37,10 +37,11 @@ action_line Fold = codes "fold"
 action_line Call = codes "call"
 action_line (Raise amount) = codes "raise to " ++ decimal amount
 
--- as in deal of hand 0, or act 2 of hand 0: call
+-- as in deal of hand 0, act 2 of hand 0: call, or away at act 2 of hand 0
 abbrev pub command_line : Command → List ℕ
 command_line (Deal hand cards) = codes "deal of hand " ++ decimal hand
 command_line (Act hand index action) = codes "act " ++ decimal index ++ codes " of hand " ++ decimal hand ++ codes ": " ++ action_line action
+command_line (Away hand index) = codes "away at act " ++ decimal index ++ codes " of hand " ++ decimal hand
 
 -- as in Accept (3, 1) at 7: deal of hand 0
 abbrev pub message_line : Message → List ℕ

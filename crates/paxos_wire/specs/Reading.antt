@@ -5,7 +5,7 @@ use Rattle.byteorder.specs.Endian.{big_number}
 use Rattle.betting.specs.declared.action.Action.{Action}
 use Rattle.betting.specs.declared.action.Action.TheVariants.{Fold, Call, Raise}
 use Rattle.slot_log.specs.declared.command.Command.{Command}
-use Rattle.slot_log.specs.declared.command.Command.TheVariants.{Deal, Act}
+use Rattle.slot_log.specs.declared.command.Command.TheVariants.{Deal, Act, Away}
 use Rattle.paxos_wire.specs.declared.limits.TheConstants.{NODES, SLOTS, HANDS, ACTIONS, MOST_CHIPS, WINDOW}
 use Rattle.paxos_wire.specs.declared.ballot.Ballot.{Ballot}
 use Rattle.paxos_wire.specs.declared.entry.Entry.{Entry}
@@ -97,11 +97,18 @@ acted_at hand bytes = do
   action ← action_at index.1
   Some (Act hand index.0 action.0, action.1)
 
+unfoldable pub away_at : ℕ → List ℕ → Option (Command × List ℕ)
+away_at hand bytes = do
+  index ← below_at 2 ACTIONS bytes
+  Some (Away hand index.0, index.1)
+
 unfoldable pub command_at : List ℕ → Option (Command × List ℕ)
 command_at bytes = do
   kind ← byte_at bytes
   hand ← below_at 4 HANDS kind.1
-  if kind.0 == 1 then dealt_at hand.0 hand.1 else (if kind.0 == 2 then acted_at hand.0 hand.1 else None)
+  (if kind.0 == 1 then dealt_at hand.0 hand.1
+      else (if kind.0 == 2 then acted_at hand.0 hand.1
+      else (if kind.0 == 3 then away_at hand.0 hand.1 else None)))
 
 unfoldable pub entry_at : List ℕ → Option (Entry × List ℕ)
 entry_at bytes = do
@@ -163,14 +170,15 @@ ask_at bytes = do
   slot ← below_at 4 SLOTS bytes
   Some (Ask slot.0, slot.1)
 
-abbrev pub is_act : Command → Bool
-is_act (Deal hand cards) = false
-is_act (Act hand index action) = true
+abbrev pub may_go_on : Command → Bool
+may_go_on (Deal hand cards) = false
+may_go_on (Act hand index action) = true
+may_go_on (Away hand index) = true
 
 unfoldable pub forward_at : List ℕ → Option (Message × List ℕ)
 forward_at bytes = do
   command ← command_at bytes
-  when (is_act command.0) (Forward command.0, command.1)
+  when (may_go_on command.0) (Forward command.0, command.1)
 
 -- the fields of a kind from 1 to 8
 unfoldable pub message_at : ℕ → List ℕ → Option (Message × List ℕ)

@@ -5,7 +5,7 @@ use Rattle.byteorder.specs.Endian.{big_bytes}
 use Rattle.betting.specs.declared.action.Action.{Action}
 use Rattle.betting.specs.declared.action.Action.TheVariants.{Fold, Call, Raise}
 use Rattle.slot_log.specs.declared.command.Command.{Command}
-use Rattle.slot_log.specs.declared.command.Command.TheVariants.{Deal, Act}
+use Rattle.slot_log.specs.declared.command.Command.TheVariants.{Deal, Act, Away}
 use Rattle.paxos_wire.specs.declared.limits.TheConstants.{VERSION}
 use Rattle.paxos_wire.specs.declared.ballot.Ballot.{Ballot}
 use Rattle.paxos_wire.specs.declared.entry.Entry.{Entry}
@@ -30,10 +30,11 @@ action_text (Raise amount) = 2 ∷ big_bytes 4 amount
 abbrev pub deal_text : List ℕ → List ℕ
 deal_text cards = length cards ∷ cards
 
--- a byte for the kind, the hand, and the deal or the act of an index
+-- a byte for the kind, the hand, and the deal, or the index of an act and what it is, or that index alone for a player who is away
 abbrev pub command_text : Command → List ℕ
 command_text (Deal hand cards) = 1 ∷ (big_bytes 4 hand ++ deal_text cards)
 command_text (Act hand index action) = 2 ∷ (big_bytes 4 hand ++ (big_bytes 2 index ++ action_text action))
+command_text (Away hand index) = 3 ∷ (big_bytes 4 hand ++ big_bytes 2 index)
 
 -- the slot, the ballot and the command
 abbrev pub entry_text : Entry → List ℕ

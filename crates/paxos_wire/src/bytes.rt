@@ -34,7 +34,7 @@ pub fn slot_bytes(slot: u32) -> [u8; SLOT_BYTES]
     bytes
 }
 
-/// The bytes of a command: 15 to 31 for a deal, 12 for an act.
+/// The bytes of a command: 15 to 31 for a deal, 12 for an act, 7 for a player who is away.
 pub fn command_bytes(command: &Command) -> ArrayVec<u8, MOST_COMMAND>
     ensures text { result.items ≡ command_text command.now }
     ensures dealt { IsDealt command.now }
@@ -57,6 +57,11 @@ pub fn command_bytes(command: &Command) -> ArrayVec<u8, MOST_COMMAND>
             push_number(&mut bytes, *hand);
             push_short(&mut bytes, *index);
             push_action(&mut bytes, *action);
+        }
+        Command::Away { hand, index } => {
+            bytes.push(3);
+            push_number(&mut bytes, *hand);
+            push_short(&mut bytes, *index);
         }
     }
     bytes

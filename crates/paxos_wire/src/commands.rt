@@ -2,7 +2,7 @@
 
 ghost use Rattle.std.specs.Prelude.{◌≡◌, ◌<◌, ◌≤◌, ◌^◌, length, take, IsTrue, IsSome, IfSome, ◌↔◌, true, false, nat_eq, Some, ◌∷◌, []};
 ghost use Rattle.std.specs.List.{IsDistinct};
-ghost use Rattle.paxos_wire.specs.Reading.{Gives, are_cards, is_count, deal_of, deal_at, dealt_at, acted_at, command_at, entry_at, entry_within};
+ghost use Rattle.paxos_wire.specs.Reading.{Gives, are_cards, is_count, deal_of, deal_at, dealt_at, acted_at, away_at, command_at, entry_at, entry_within};
 
 use crate::entry::Entry;
 use crate::fields::{read_action, read_ballot, read_below, read_byte, read_short_below, read_slot};
@@ -86,6 +86,15 @@ fn read_acted(hand: u32, bytes: &[u8]) -> Option<(Command, &[u8])>
     ))
 }
 
+/// That the player to act is away, of a hand, and the bytes after it.
+#[tactic(auto, unfolding(crate::specs::Reading::away_at))]
+fn read_away(hand: u32, bytes: &[u8]) -> Option<(Command, &[u8])>
+    ensures { Gives (λ x. (x.0, x.1.now)) result (away_at hand bytes.now) }
+{
+    let (index, after) = read_short_below(bytes, ACTIONS)?;
+    Some((Command::Away { hand, index }, after))
+}
+
 /// A command, and the bytes after it.
 #[tactic(auto, unfolding(crate::specs::Reading::command_at))]
 pub(crate) fn read_command(bytes: &[u8]) -> Option<(Command, &[u8])>
@@ -96,6 +105,7 @@ pub(crate) fn read_command(bytes: &[u8]) -> Option<(Command, &[u8])>
     match kind {
         1 => read_dealt(hand, rest),
         2 => read_acted(hand, rest),
+        3 => read_away(hand, rest),
         _ => None,
     }
 }

@@ -10,7 +10,8 @@ use crate::limits::{LENGTH_BYTES, MOST_COMMAND, MOST_FRAME, MOST_SINGLE_FRAME, W
 use crate::message::Message;
 use slot_log::Command;
 
-/// How many bytes a command takes in a frame or a record: 15 to 31 for a deal, 12 for an act.
+/// How many bytes a command takes in a frame or a record: 15 to 31 for a deal, 12 for an act, 7
+/// for a player who is away.
 pub fn command_len(command: &Command) -> usize
     ensures value { result ≡ length (command_text command.now) }
     ensures most { result ≤ MOST_COMMAND }
@@ -21,6 +22,7 @@ pub fn command_len(command: &Command) -> usize
             6 + deal.cards().len()
         }
         Command::Act { .. } => 12,
+        Command::Away { .. } => 7,
     }
 }
 

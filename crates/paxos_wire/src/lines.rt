@@ -42,6 +42,7 @@ impl fmt::Display for CommandLine {
                 write!(f, "act {index} of hand {hand}: ")?;
                 write!(f, "{}", ActionLine(action))
             }
+            Command::Away { hand, index } => write!(f, "away at act {index} of hand {hand}"),
         }
     }
 }

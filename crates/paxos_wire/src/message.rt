@@ -43,7 +43,7 @@ pub enum Message {
     Ask {
         slot: u32,
     },
-    /// Hands on an act for the node that leads to propose.
+    /// Hands on an act, or that a player is away, for the node that leads to propose.
     Forward {
         command: Command,
     },

@@ -160,7 +160,7 @@ fn read_forward(bytes: &[u8]) -> Option<(Message, &[u8])>
     };
     match command {
         Command::Deal { .. } => None,
-        Command::Act { .. } => Some((Message::Forward { command }, rest)),
+        Command::Act { .. } | Command::Away { .. } => Some((Message::Forward { command }, rest)),
     }
 }
 

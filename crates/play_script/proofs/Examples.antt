@@ -4,7 +4,7 @@ use Rattle.std.specs.Prelude.{codes}
 use Rattle.std.specs.Fmt.{digits}
 use Rattle.hex.specs.Hex.{encode_with}
 use Rattle.play_script.specs.declared.bounds.Bounds.{Bounds}
-use Rattle.play_script.specs.declared.order.Order.TheVariants.{Tick, Flush, Connect}
+use Rattle.play_script.specs.declared.order.Order.TheVariants.{Tick, Away, Flush, Connect}
 use Rattle.matchstate.specs.Free.{IsFreeOf}
 use Rattle.play_script.specs.Orders.{IsNumber, Names, NamesSeat, AddressesSeat, SaysBehind, Says}
 use Rattle.play_script.specs.Shown.{whole_line, frame_text, seat_text, node_text}
@@ -31,6 +31,13 @@ no_sign number is = let e = is.digits in cc
 
 second_ticks : Says bounds (codes "tick 2") (Tick 2)
 second_ticks = (codes "2", refl, (record { digits = refl; some = omega arith; value = refl; fits = omega arith }, omega arith))
+
+first_is_ordered : Says bounds (codes "away 0") (Away 0)
+first_is_ordered = (codes "0", refl, (zero_is_a_number, omega arith))
+
+-- an order is to one of the nodes
+no_order_elsewhere : SaysBehind bounds (codes "3") (Away 3) → ⊥
+no_order_elsewhere says = let node : 3 < 3 = says.1 in absurd (omega arith)
 
 flushes : Says bounds (codes "flush 0009") (Flush 9)
 flushes = (codes "0009", refl, nine)

@@ -6,11 +6,12 @@ use Rattle.play_script.specs.declared.bounds.Bounds.{Bounds}
 use Rattle.play_script.specs.declared.word.Word.{Word}
 use Rattle.play_script.specs.declared.word.Word.TheVariants as word
 use Rattle.play_script.specs.declared.order.Order.{Order}
-use Rattle.play_script.specs.declared.order.Order.TheVariants.{Tick, Deliver, Flush, Connect, Drop, Line, Stop, Start}
+use Rattle.play_script.specs.declared.order.Order.TheVariants.{Tick, Away, Deliver, Flush, Connect, Drop, Line, Stop, Start}
 
 -- a word as it stands in a script
 abbrev pub word_text : Word → List ℕ
 word_text word.Tick = codes "tick"
+word_text word.Away = codes "away"
 word_text word.Deliver = codes "deliver"
 word_text word.Flush = codes "flush"
 word_text word.Connect = codes "connect"
@@ -22,6 +23,7 @@ word_text word.Start = codes "start"
 -- the word of what a line says
 abbrev pub word_of : Order → Word
 word_of (Tick node) = word.Tick
+word_of (Away node) = word.Away
 word_of (Deliver frame) = word.Deliver
 word_of (Flush most) = word.Flush
 word_of (Connect node seat) = word.Connect
@@ -57,6 +59,7 @@ AddressesSeat bounds text node seat line =
 -- what stands behind the word
 abbrev pub SaysBehind : Bounds → List ℕ → Order → Type 0
 SaysBehind bounds text (Tick node) = Names bounds.nodes text node
+SaysBehind bounds text (Away node) = Names bounds.nodes text node
 SaysBehind bounds text (Deliver frame) = Names bounds.frames text frame
 SaysBehind bounds text (Flush most) = IsNumber text most
 SaysBehind bounds text (Connect node seat) = NamesSeat bounds text node seat

@@ -5,6 +5,10 @@ pub enum Order<'a> {
     Tick {
         node: usize,
     },
+    /// `away I`: it is ordered at the node that the player to act is played for.
+    Away {
+        node: usize,
+    },
     /// `deliver K`: the frame is delivered, again if it was before.
     Deliver {
         frame: u64,

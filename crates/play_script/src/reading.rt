@@ -40,6 +40,9 @@ fn order<'a>(word: Word, text: &'a [u8], bounds: Bounds) -> Option<Order<'a>>
         Word::Tick => Some(Order::Tick {
             node: place(text, bounds.nodes)?,
         }),
+        Word::Away => Some(Order::Away {
+            node: place(text, bounds.nodes)?,
+        }),
         Word::Deliver => Some(Order::Deliver {
             frame: named(text, bounds.frames)?,
         }),

@@ -6,6 +6,7 @@ ghost use Rattle.play_script.specs.declared.word.Word.{Word as Said};
 #[derive(Clone, Copy, Debug, PartialEq, Eq)]
 pub enum Word {
     Tick,
+    Away,
     Deliver,
     Flush,
     Connect,
@@ -22,6 +23,7 @@ impl Word {
     {
         match bytes {
             b"tick" => Some(Word::Tick),
+            b"away" => Some(Word::Away),
             b"deliver" => Some(Word::Deliver),
             b"flush" => Some(Word::Flush),
             b"connect" => Some(Word::Connect),

@@ -6,7 +6,7 @@ use Rattle.hex.specs.Hex.{encode_with}
 use Rattle.dealer_node.specs.Texts.{Marked}
 use Rattle.play_script.specs.declared.bounds.Bounds.{Bounds}
 use Rattle.play_script.specs.declared.order.Order.{Order}
-use Rattle.play_script.specs.declared.order.Order.TheVariants.{Tick, Deliver, Flush, Connect, Drop, Line, Stop, Start}
+use Rattle.play_script.specs.declared.order.Order.TheVariants.{Tick, Away, Deliver, Flush, Connect, Drop, Line, Stop, Start}
 use Rattle.play_script.specs.Orders.{Says}
 use Rattle.protocol_model.specs.Dealers.{Log}
 use Rattle.playing.specs.Marks.{AreDelivered, IsFirstMissing}
@@ -75,6 +75,7 @@ second_letter x y z w xs ys same = cc
 -- no word begins so
 no_such_word : (bounds : Bounds) (order : Order) → ¬ (Says bounds (codes "tock 0") order)
 no_such_word bounds (Tick node) says = omega (arith, second_letter _ _ _ _ _ _ says.1)
+no_such_word bounds (Away node) says = omega (arith, front_letter _ _ _ _ says.1)
 no_such_word bounds (Deliver frame) says = omega (arith, front_letter _ _ _ _ says.1)
 no_such_word bounds (Flush most) says = omega (arith, front_letter _ _ _ _ says.1)
 no_such_word bounds (Connect node seat) says = omega (arith, front_letter _ _ _ _ says.1)

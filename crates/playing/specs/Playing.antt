@@ -17,7 +17,7 @@ use Rattle.dealer_world.specs.Stepping.{View, Stepped}
 use Rattle.dealer_world.specs.Beginning.{AreStarted}
 use Rattle.play_script.specs.declared.bounds.Bounds.{Bounds}
 use Rattle.play_script.specs.declared.order.Order.{Order}
-use Rattle.play_script.specs.declared.order.Order.TheVariants.{Tick, Deliver, Flush, Connect, Drop, Line, Stop, Start}
+use Rattle.play_script.specs.declared.order.Order.TheVariants.{Tick, Away, Deliver, Flush, Connect, Drop, Line, Stop, Start}
 use Rattle.play_script.specs.Orders.{Says}
 use Rattle.play_script.specs.Shown.{whole_line, bad_script_text}
 use Rattle.playing.specs.Showing.{event_text, text_for}
@@ -57,7 +57,7 @@ pub record Delivery (old : Scene) (number : ℕ) (text : List ℕ) (new : Scene)
   pub frame : Frame
   pub sent : slice_get old.cluster.all.sent number ≡ Some frame
   pub event : Event
-  pub brings : brought_by event ≡ Delivered frame ∷ []
+  pub brings : (front : ℕ) → brought_by front event ≡ Delivered frame ∷ []
   pub happens : Happens (delivering number old) event text new
 
 -- so many times the frame of least number that was never delivered is delivered
@@ -77,12 +77,13 @@ pub record FlushesUpTo (most : ℕ) (old : Scene) (text : List ℕ) (new : Scene
 -- a seat's line comes to a node, with CR LF behind it
 pub record Arrives (node seat : ℕ) (line : List ℕ) (old : Scene) (text : List ℕ) (new : Scene) : Type 0 where
   pub event : Event
-  pub brings : brought_by event ≡ Came node seat (line ++ 13 ∷ 10 ∷ []) ∷ []
+  pub brings : (front : ℕ) → brought_by front event ≡ Came node seat (line ++ 13 ∷ 10 ∷ []) ∷ []
   pub happens : Happens old event text new
 
 -- what comes of an order, and what is printed of it
 abbrev pub Obeys : Scene → Order → List ℕ → Scene → Type 0
 Obeys old (Tick node) text new = Happens old (event.Tick node) text new
+Obeys old (Away node) text new = Happens old (event.Away node) text new
 Obeys old (Deliver number) text new = Delivery old number text new
 Obeys old (Flush most) text new = FlushesUpTo most old text new
 Obeys old (Connect node seat) text new = Happens old (event.Connect node seat) text new

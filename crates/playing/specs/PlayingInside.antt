@@ -8,7 +8,7 @@ use Rattle.dealer_world.specs.Unforged.{IsAmong}
 use Rattle.dealer_world.specs.Viewing.{view_of}
 use Rattle.play_script.specs.declared.bounds.Bounds.{Bounds}
 use Rattle.play_script.specs.declared.order.Order.{Order}
-use Rattle.play_script.specs.declared.order.Order.TheVariants.{Tick, Deliver, Flush, Connect, Drop, Line, Stop, Start}
+use Rattle.play_script.specs.declared.order.Order.TheVariants.{Tick, Away, Deliver, Flush, Connect, Drop, Line, Stop, Start}
 use Rattle.playing.specs.declared.playing.Playing.{Playing}
 use Rattle.playing.specs.Playing.{Scene}
 
@@ -22,6 +22,7 @@ scene_of p = record { cluster = view_of p.cluster; delivered = marks_of (length 
 -- the nodes, seats and frames that an order names are there
 abbrev pub IsWithin : Bounds → Order → Type 0
 IsWithin bounds (Tick node) = node < bounds.nodes
+IsWithin bounds (Away node) = node < bounds.nodes
 IsWithin bounds (Deliver number) = number < bounds.frames
 IsWithin bounds (Flush most) = Unit {0}
 IsWithin bounds (Connect node seat) = (node < bounds.nodes) × (seat < bounds.seats)
@@ -30,6 +31,6 @@ IsWithin bounds (Line node seat line) = (node < bounds.nodes) × (seat < bounds.
 IsWithin bounds (Stop node pick) = node < bounds.nodes
 IsWithin bounds (Start node) = node < bounds.nodes
 
--- the frame that the event brings, where it brings one, is among these
+-- the frame that the event brings, where it brings one, is among these; its node's front is nothing to that
 abbrev pub BringsSent : List Frame → Event → Type 0
-BringsSent sent e = AllByRecursion (IsAmong sent) (brought_by e)
+BringsSent sent e = AllByRecursion (IsAmong sent) (brought_by 0 e)

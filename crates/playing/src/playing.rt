@@ -118,6 +118,7 @@ impl Playing {
         self.cluster.config().limits();
         match order {
             Order::Tick { node } => self.happen(&Event::Tick { node: node as u8 }, out),
+            Order::Away { node } => self.happen(&Event::Away { node: node as u8 }, out),
             Order::Deliver { frame } => self.deliver(frame as usize, out),
             Order::Flush { most } => self.flush(most, out),
             Order::Connect { node, seat } => {

@@ -2,9 +2,9 @@
 use Rattle.std.proofs.Common.{◌≡◌, inl, inr, ℕ, length, List, [], ◌∷◌, ◌++◌, take, drop, Some, None, true, false, get_or, refl, sym, ◌∙◌, arith, ap, length-append, Vec, Global}
 use Rattle.std.specs.Prelude.{codes}
 use Rattle.slot_log.specs.declared.command.Command.{Command}
-use Rattle.slot_log.specs.declared.command.Command.TheVariants.{Deal}
+use Rattle.slot_log.specs.declared.command.Command.TheVariants.{Deal, Away}
 use Rattle.paxos_wire.specs.declared.ballot.Ballot.{Ballot}
-use Rattle.paxos_wire.proofs.Examples.{first_ballot, cards, ballot_fits, deal_is_command}
+use Rattle.paxos_wire.proofs.Examples.{first_ballot, cards, ballot_fits, deal_is_command, away_is_command}
 use Rattle.protocol_model.specs.Messages.{Vote}
 use Rattle.promise_store.specs.declared.call.Call.TheVariants.{Wrote, Synced}
 use Rattle.promise_store.specs.declared.records.Record.{Record}
@@ -54,6 +54,24 @@ journal = record {
   rest = [];
   shut = λ e. omega (arith, e);
   each = (ballot_fits, ((ballot_fits, omega arith, deal_is_command), tt));
+  text = refl;
+}
+
+-- the same promise, and that the first player to act is away, accepted at slot 1
+abbrev pub away_bytes : List ℕ
+away_bytes =
+    72 ∷ 68 ∷ 74 ∷ 49 ∷ 0 ∷ 3 ∷ 0 ∷ 0
+    ∷ 1 ∷ 0 ∷ 6 ∷ 1 ∷ 0 ∷ 0 ∷ 0 ∷ 1 ∷ 0
+    ∷ 1 ∷ 0 ∷ 17 ∷ 2 ∷ 0 ∷ 0 ∷ 0 ∷ 1 ∷ 0 ∷ 0 ∷ 0 ∷ 0 ∷ 1
+    ∷ 3 ∷ 0 ∷ 0 ∷ 0 ∷ 0 ∷ 0 ∷ 0
+    ∷ 0 ∷ []
+
+pub journal_of_an_away : IsJournal (header 0 3) away_bytes (Promised first_ballot ∷ Voted first_ballot 1 (Away 0 0) ∷ [])
+journal_of_an_away = record {
+  gate = 0;
+  rest = [];
+  shut = λ e. omega (arith, e);
+  each = (ballot_fits, ((ballot_fits, omega arith, away_is_command), tt));
   text = refl;
 }
 

@@ -32,6 +32,7 @@ talk = record {
   line = λ before seat. None;
   log = λ before. [];
   says = λ before seat line command. is_c line;
+  orders = λ before command. false;
 }
 
 step : (world : World) (out : Output) (node : Node) → Reached talk 1 world → Move talk 1 0 world.ever (world.nodes 0) out node
@@ -77,7 +78,7 @@ act_is_said action =
     let pass : Move talk 1 0 after_note.ever (after_note.nodes 0) (sending (Forward 0 act)) (with_sent (after_note.nodes 0) (Forward 0 act ∷ []))
     = Moves.forwards act refl (inl refl) refl refl in (
       step after_note _ _ (step hearing _ _ run_hearing note) pass,
-      inr (let said : WasSaid talk 1 after_pass.ever after_pass.came act = record {
+      inr (inl (let said : WasSaid talk 1 after_pass.ever after_pass.came act = record {
         sent = [];
         earlier = hearing.came;
         moment = record {
@@ -98,7 +99,7 @@ act_is_said action =
         before = [];
         chosen = tt;
         says = refl;
-      } in said),
+      } in said)),
       refl,
     )
   where

@@ -5,16 +5,16 @@ use Rattle.protocol_model.specs.Sets.{In}
 use Rattle.protocol_model.specs.Messages.{Message, Ask}
 use Rattle.protocol_model.specs.Arrivals.{Event, Arrival, Started, Connected, Dropped, Closed, Came, heard_in, AreInOrder, started_below}
 use Rattle.protocol_model.specs.Dealers.{Dealer}
-use Rattle.protocol_model.specs.Laws.{IsMoment, WasSaid, HasOrigin, IsStarted}
+use Rattle.protocol_model.specs.Laws.{IsMoment, WasSaid, WasOrdered, HasOrigin, IsStarted}
 use Rattle.protocol_model.specs.Nodes.{Node}
 use Rattle.protocol_model.proofs.ActExample.{talk}
 
 -- when nothing had been sent
-abbrev at : ℕ → Event → Arrival
+abbrev pub at : ℕ → Event → Arrival
 at sent event = record { event = event; sent = sent }
 
 -- `a`, then `b`: the bytes of the seat at the node, oldest first
-abbrev two_pieces : List Arrival
+abbrev pub two_pieces : List Arrival
 two_pieces = at 5 (Came 0 1 (98 ∷ [])) ∷ at 3 (Came 0 1 (97 ∷ [])) ∷ at 3 (Connected 0 1) ∷ at 0 (Started 0) ∷ []
 
 both_pieces : heard_in two_pieces 0 1 ≡ Some (97 ∷ 98 ∷ [])
@@ -100,9 +100,18 @@ nothing_said dealer n ever command said = none (none_before said.moment.came_lat
     none : said.earlier ≡ [] → ⊥
     none e = not_connected said.bytes (sym (ap (λ came. heard_in came said.node said.seat) e) ∙ said.connected)
 
+-- nor ordered
+pub nothing_ordered : (dealer : Dealer) (n : ℕ) (ever : List Message) (command : Command) → WasOrdered dealer n ever [] command → ⊥
+nothing_ordered dealer n ever command order = none order.moment.came_later order.earlier order.moment.all_came order.newest
+  where
+    none : (later earlier : List Arrival) {one : Arrival} {older : List Arrival} → [] ≡ later ++ earlier → earlier ≡ one ∷ older → ⊥
+    none [] earlier e newest = let clash = e ∙ newest in cc
+    none (arrival ∷ later) earlier e newest = cc
+
 invented : (ever : List Message) (command : Command) → HasOrigin talk 1 ever [] command → ⊥
 invented ever command (inl owned) = cc (owned.2)
-invented ever command (inr said) = nothing_said talk 1 ever command said
+invented ever command (inr (inl said)) = nothing_said talk 1 ever command said
+invented ever command (inr (inr order)) = nothing_ordered talk 1 ever command order
 
 -- a node that was started again was started once more than before
 not_the_same_start : (node new : Node) → IsStarted node node.store new → new.starts ≡ node.starts → ⊥

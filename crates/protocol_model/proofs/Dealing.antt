@@ -12,7 +12,7 @@ use Rattle.protocol_model.proofs.Choice.{chosen_was_proposed, one_list}
 use Rattle.protocol_model.proofs.Facts.{Facts, HasSource}
 use Rattle.protocol_model.proofs.Runs.{world_facts}
 use Rattle.protocol_model.proofs.Showing.{shown_facts}
-use Rattle.protocol_model.proofs.Saying.{was_said}
+use Rattle.protocol_model.proofs.Saying.{was_given}
 
 -- chosen commands fit after those before them
 all_fit : (dealer : Dealer) (n : ℕ) (ever : List Message) (commands : List Command) → Facts dealer n ever → AreChosen n ever commands → AllFit dealer commands
@@ -84,7 +84,7 @@ one_dealer dealer n world run =
 has_origin : (dealer : Dealer) (n : ℕ) (world : World) (command : Command) → Reached dealer n world → HasSource dealer n world.ever command
     → HasOrigin dealer n world.ever world.came command
 has_origin dealer n world command run (inl own) = inl own
-has_origin dealer n world command run (inr source) = inr (was_said dealer n world source.0 command run source.1)
+has_origin dealer n world command run (inr source) = inr (was_given dealer n world source.0 command run source.1)
 
 pub chosen_has_origin : (dealer : Dealer) (n : ℕ) (world : World) (slot : ℕ) (command : Command) → Reached dealer n world
     → IsChosen n world.ever slot command → HasOrigin dealer n world.ever world.came command

@@ -43,6 +43,7 @@ toy = record {
   line = shown_to;
   log = λ commands. [];
   says = λ before seat line act. false;
+  orders = λ before act. false;
 }
 
 abbrev ballot : Ballot

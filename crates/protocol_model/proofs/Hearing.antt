@@ -6,7 +6,7 @@ use Rattle.protocol_model.specs.Sets.{In, put}
 use Rattle.protocol_model.specs.Messages.{Message}
 use Rattle.protocol_model.specs.Dealers.{Dealer}
 use Rattle.protocol_model.specs.Nodes.{Node}
-use Rattle.protocol_model.specs.Arrivals.{Event, Arrival, Started, Connected, Dropped, Closed, Came, heard_after, heard_in, AreInOrder}
+use Rattle.protocol_model.specs.Arrivals.{Event, Arrival, Started, Connected, Dropped, Closed, Came, Ordered, heard_after, heard_in, AreInOrder}
 use Rattle.protocol_model.specs.Moves
 use Rattle.protocol_model.specs.Moves.{Output, Move}
 use Rattle.protocol_model.specs.Worlds
@@ -82,6 +82,12 @@ move_takes dealer n i ever old out new (Moves.hears place bytes up eo en) = inr 
   (λ j seat heard ne. none_own j i place seat (option_map (λ before. before ++ bytes) heard) heard ne),
   λ seat. ap (λ v. v.heard seat) en ∙ put_more old.heard place seat bytes
       ∙ ap (λ b. cond b (option_map (λ before. before ++ bytes) (old.heard seat)) (old.heard seat)) (sym (own i (seat == place))),
+)
+move_takes dealer n i ever old out new (Moves.ordered before command up knows hole orders eo en) = inr (
+  Ordered i (length before),
+  ap (λ o. o.came) eo,
+  (λ j seat heard ne. refl),
+  λ seat. ap (λ v. v.heard seat) en,
 )
 move_takes dealer n i ever old out new (Moves.starts store down found eo en) = inr (
   Started i,

@@ -19,6 +19,7 @@ pub mod Examples
 pub mod NearMisses
 pub mod ActExample
 pub mod ArrivalExamples
+mod OrderExamples
 pub mod BackingExamples
 pub mod CallExamples
 pub mod Widening

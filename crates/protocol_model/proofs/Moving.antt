@@ -255,6 +255,8 @@ move_keeps dealer n i ever old out new within facts kept (Moves.closes seat up e
     moved dealer n i ever out _ new _ eo en (silent dealer n i ever _ facts (same_facts n i ever old old.shown _ kept))
 move_keeps dealer n i ever old out new within facts kept (Moves.notes seat bytes before line act up connected knows heard says eo en) =
     moved dealer n i ever out _ new _ eo en (sends dealer n i ever old (Said i act) facts kept refl tt tt tt tt)
+move_keeps dealer n i ever old out new within facts kept (Moves.ordered before act up knows hole orders eo en) =
+    moved dealer n i ever out _ new _ eo en (sends dealer n i ever old (Said i act) facts kept refl tt tt tt tt)
 move_keeps dealer n i ever old out new within facts kept (Moves.begins ballot slot told up own below tells eo en) =
     moved dealer n i ever out _ new _ eo en (begins_keeps dealer n i ever old ballot slot told facts kept own below tells)
 move_keeps dealer n i ever old out new within facts kept (Moves.promises ballot slot told up here below tells eo en) =

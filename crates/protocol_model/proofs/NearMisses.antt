@@ -209,6 +209,7 @@ down_is_silent dealer n i ever old out new (Moves.connects seat up eo en) off = 
 down_is_silent dealer n i ever old out new (Moves.drops seat up eo en) off = absurd (wrong_state old.up up off)
 down_is_silent dealer n i ever old out new (Moves.closes seat up eo en) off = absurd (wrong_state old.up up off)
 down_is_silent dealer n i ever old out new (Moves.notes seat bytes before line act up connected knows heard says eo en) off = absurd (wrong_state old.up up off)
+down_is_silent dealer n i ever old out new (Moves.ordered before act up knows hole orders eo en) off = absurd (wrong_state old.up up off)
 down_is_silent dealer n i ever old out new (Moves.begins ballot slot told up own below tells eo en) off = absurd (wrong_state old.up up off)
 down_is_silent dealer n i ever old out new (Moves.promises ballot slot told up here below tells eo en) off = absurd (wrong_state old.up up off)
 down_is_silent dealer n i ever old out new (Moves.proposes ballot first slot command up prepared none own may eo en) off = absurd (wrong_state old.up up off)

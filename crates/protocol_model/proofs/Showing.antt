@@ -47,6 +47,7 @@ move_shows dealer n i ever old out new (Moves.connects seat up eo en) = quiet de
 move_shows dealer n i ever old out new (Moves.drops seat up eo en) = quiet dealer i old out new _ _ eo en refl refl refl
 move_shows dealer n i ever old out new (Moves.closes seat up eo en) = quiet dealer i old out new _ _ eo en refl refl refl
 move_shows dealer n i ever old out new (Moves.notes seat bytes before line act up connected knows heard says eo en) = quiet dealer i old out new _ _ eo en refl refl refl
+move_shows dealer n i ever old out new (Moves.ordered before act up knows hole orders eo en) = quiet dealer i old out new _ _ eo en refl refl refl
 move_shows dealer n i ever old out new (Moves.begins ballot slot told up own below tells eo en) = quiet dealer i old out new _ _ eo en refl refl refl
 move_shows dealer n i ever old out new (Moves.promises ballot slot told up here below tells eo en) = quiet dealer i old out new _ _ eo en refl refl refl
 move_shows dealer n i ever old out new (Moves.proposes ballot first slot command up prepared none own may eo en) = quiet dealer i old out new _ _ eo en refl refl refl

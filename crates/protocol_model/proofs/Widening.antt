@@ -30,6 +30,7 @@ move_widens dealer wider n i ever old out new owns (Moves.connects seat up eo en
 move_widens dealer wider n i ever old out new owns (Moves.drops seat up eo en) = Moves.drops seat up eo en
 move_widens dealer wider n i ever old out new owns (Moves.closes seat up eo en) = Moves.closes seat up eo en
 move_widens dealer wider n i ever old out new owns (Moves.notes seat bytes before line act up connected knows heard says eo en) = Moves.notes seat bytes before line act up connected knows heard says eo en
+move_widens dealer wider n i ever old out new owns (Moves.ordered before act up knows hole orders eo en) = Moves.ordered before act up knows hole orders eo en
 move_widens dealer wider n i ever old out new owns (Moves.begins ballot slot told up own below tells eo en) = Moves.begins ballot slot told up own below tells eo en
 move_widens dealer wider n i ever old out new owns (Moves.promises ballot slot told up here below tells eo en) = Moves.promises ballot slot told up here below tells eo en
 move_widens dealer wider n i ever old out new owns (Moves.proposes ballot first slot command up prepared none own may eo en) = Moves.proposes ballot first slot command up prepared none own (may_propose_widens dealer wider n i old ballot slot command owns may) eo en

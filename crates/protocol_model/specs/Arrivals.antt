@@ -13,6 +13,8 @@ pub data Event : Type 0 where
   Closed : (node seat : ℕ) → Event
   -- bytes of the seat came to the node
   Came : (node seat : ℕ) (bytes : List ℕ) → Event
+  -- it was ordered at the node that the player to act is played for, when it knew so many commands below the first slot that it doesn't know
+  Ordered : (node front : ℕ) → Event
 
 pub record Arrival : Type 0 where
   pub event : Event
@@ -27,6 +29,7 @@ heard_after (Dropped other place) node seat heard = if node == other && seat == 
 heard_after (Closed other place) node seat heard = if node == other && seat == place then None else heard
 heard_after (Came other place bytes) node seat heard =
     if node == other && seat == place then option_map (λ before. before ++ bytes) heard else heard
+heard_after (Ordered other front) node seat heard = heard
 
 -- the bytes that a seat sent to a node since it connected there, oldest first; none where it isn't connected
 abbrev pub heard_in : List Arrival → ℕ → ℕ → Option (List ℕ)

@@ -14,6 +14,8 @@ pub record Dealer : Type 0 where
   pub log : List Command → List ℕ
   -- after these, this line of the seat, without its line feed, says the command
   pub says : List Command → ℕ → List ℕ → Command → Bool
+  -- after these, an order that the player to act is played for means the command
+  pub orders : List Command → Command → Bool
 
 -- each command takes effect after those before it
 abbrev pub AllFit : Dealer → List Command → Type 0

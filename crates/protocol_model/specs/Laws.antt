@@ -7,7 +7,7 @@ use Rattle.protocol_model.specs.Stores.{Store, Append}
 use Rattle.protocol_model.specs.Dealers.{Dealer, AllFit, text_of, HasLine}
 use Rattle.protocol_model.specs.Nodes.{Node}
 use Rattle.protocol_model.specs.Messages.{Message}
-use Rattle.protocol_model.specs.Arrivals.{Arrival, heard_in, started_below}
+use Rattle.protocol_model.specs.Arrivals.{Arrival, Ordered, heard_in, started_below}
 use Rattle.protocol_model.specs.Moves.{Shown}
 use Rattle.protocol_model.specs.Worlds.{World, Run}
 
@@ -61,9 +61,24 @@ pub record WasSaid (dealer : Dealer) (n : ℕ) (ever : List Message) (came : Lis
 abbrev pub IsOwned : Dealer → ℕ → Command → Type 0
 IsOwned dealer n command = (node : ℕ) × (node < n) × (dealer.own node command ≡ true)
 
--- where a command comes from: some node owns it, or it was said
+-- the command was ordered: at some moment the newest of all that had come was an order to a node, and after commands that were chosen by then such an order
+-- means the command
+pub record WasOrdered (dealer : Dealer) (n : ℕ) (ever : List Message) (came : List Arrival) (command : Command) : Type 0 where
+  pub sent : List Message
+  pub earlier : List Arrival
+  pub moment : IsMoment ever came sent earlier
+  pub node : ℕ
+  pub is_node : node < n
+  -- what the node knew then
+  pub before : List Command
+  pub older : List Arrival
+  pub newest : earlier ≡ (record { event = Ordered node (length before); sent = length sent }) ∷ older
+  pub chosen : AreChosen n sent before
+  pub orders : dealer.orders before command ≡ true
+
+-- where a command comes from: some node owns it, or it was said, or ordered
 abbrev pub HasOrigin : Dealer → ℕ → List Message → List Arrival → Command → Type 0
-HasOrigin dealer n ever came command = IsOwned dealer n command ⊎ WasSaid dealer n ever came command
+HasOrigin dealer n ever came command = IsOwned dealer n command ⊎ (WasSaid dealer n ever came command ⊎ WasOrdered dealer n ever came command)
 
 -- what a start finds of the node where its run ends here, at any moment, inside an append too
 abbrev pub IsLeft : ℕ → Node → Store → Type 0

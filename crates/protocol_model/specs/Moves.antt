@@ -11,7 +11,7 @@ use Rattle.protocol_model.specs.Quorums.{IsChosen, IsFree, IsGreatestTold}
 use Rattle.protocol_model.specs.Stores.{Store, promised, voted, Tells, Append}
 use Rattle.protocol_model.specs.Dealers.{Dealer, Reader, text_of, HasLine}
 use Rattle.protocol_model.specs.Nodes.{Node, Knows}
-use Rattle.protocol_model.specs.Arrivals.{Arrival, Event, Started, Connected, Dropped, Closed, Came}
+use Rattle.protocol_model.specs.Arrivals.{Arrival, Event, Started, Connected, Dropped, Closed, Came, Ordered}
 
 -- a text that a node showed: a line to a seat, or its log of this start as it then stood
 pub record Shown : Type 0 where
@@ -89,6 +89,12 @@ pub data Move (dealer : Dealer) (n i : ℕ) (ever : List Message) (old : Node) (
   notes : (seat : ℕ) (bytes : List ℕ) (before : List Command) (line : List ℕ) (command : Command) → old.up ≡ true → old.heard seat ≡ Some bytes
       → Knows old.known before → HasLine bytes line → dealer.says before seat line command ≡ true
       → out ≡ sending (Said i command) → new ≡ with_sent old (Said i command ∷ []) → Move dealer n i ever old out new
+  -- it is ordered that the player to act is played for, and the node notes the command that this means after all that it knows below the first slot that it
+  -- doesn't know
+  ordered : (before : List Command) (command : Command) → old.up ≡ true
+      → Knows old.known before → ((other : Command) → In (length before, other) old.known → ⊥) → dealer.orders before command ≡ true
+      → out ≡ record { sent = Said i command ∷ []; shown = []; came = (record { event = Ordered i (length before); sent = length ever }) ∷ [] }
+      → new ≡ with_sent old (Said i command ∷ []) → Move dealer n i ever old out new
   -- it begins a ballot of its own above its promise, and promises it first itself
   begins : (ballot : Ballot) (slot : ℕ) (told : List Entry) → old.up ≡ true
       → ballot.node ≡ i → Below old.store.promise ballot → Tells old.store slot told

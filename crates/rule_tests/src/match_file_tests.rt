@@ -2,7 +2,7 @@ use crate::asserting::{holds, same};
 use crate::samples::{L2, next, ten_ace, with_changed_bit};
 use card_core::Deal;
 use dealer_kind::Config;
-use match_file::{MatchFault, MatchFile, Outage, Service};
+use match_file::{Absent, MatchFault, MatchFile, Outage, Service};
 use std::alloc::{AllocError, Global};
 use std::process::Abort;
 use std::test::Fail;
@@ -159,7 +159,7 @@ fn is_told_with(
 }
 
 /// A line of the match that is listed, another in its place, and what is told of that with its game.
-static LISTED_CHANGES: [(&str, &str, &str); 23] = [
+static LISTED_CHANGES: [(&str, &str, &str); 24] = [
     ("name = \"m1\"", "name = \"\"", "101 BadEntry name"),
     ("name = \"m1\"", "name = 1", "101 BadEntry name"),
     ("name = \"m1\"\n", "", "101 BadEntry name"),
@@ -190,6 +190,7 @@ static LISTED_CHANGES: [(&str, &str, &str); 23] = [
         "100 NotToml",
     ),
     ("hands = 1", "hands = 1\nport = \"none\"\noutage = 3", ""),
+    ("hands = 1", "hands = 1\naway = \"Play\"", ""),
     ("/Kh\"]", "/Kh\", \"2d2h|3d3s/4c5c6c/7c/8d\"]", ""),
 ];
 
@@ -252,6 +253,7 @@ fn is_as_said(rt: &impl Abort, service: &Service) {
     same!(rt; service.logs, "a folder");
     same!(rt; service.port, 2000);
     holds!(rt; service.outages.as_slice() == OUTAGES.as_slice());
+    same!(rt; service.absent, Absent::Wait);
 }
 
 /// Sees what a file says for serving, with three nodes.
@@ -265,6 +267,41 @@ fn what_is_served_is_what_the_file_says(rt: HostRuntime) {
     let file = file(rt.alloc(), SERVED.as_bytes()).expect(&rt, "a file");
     same!(&rt; file.stores().expect(&rt, "a folder"), "stores");
     says_what_is_served(&rt, rt.alloc(), &file);
+}
+
+/// What a file says is done about seats that were dropped; none where it is told a fault of.
+fn absent_of(alloc: Global, file: &MatchFile) -> Option<Absent> {
+    match file.service(alloc, 3) {
+        Ok(service) => Some(service.absent),
+        Err(_) => None,
+    }
+}
+
+/// The same of a text.
+fn absent_in(alloc: Global, text: &[u8]) -> Option<Absent> {
+    match file(alloc, text) {
+        Ok(file) => absent_of(alloc, &file),
+        Err(_) => None,
+    }
+}
+
+/// What stands at `away`, and what it says.
+static ABSENT: [(&str, Option<Absent>); 6] = [
+    ("port = 2000\naway = \"wait\"", Some(Absent::Wait)),
+    ("port = 2000\naway = \"play\"", Some(Absent::Play)),
+    ("port = 2000\naway = 'play'", Some(Absent::Play)),
+    ("port = 2000", Some(Absent::Wait)),
+    ("port = 2000\naway = \"Play\"", None),
+    ("port = 2000\naway = true", None),
+];
+
+#[test]
+fn what_is_done_about_absent_seats_is_what_the_file_says(rt: HostRuntime) -> Result<(), Fail> {
+    for &(new, expected) in &ABSENT {
+        let text = with(rt.alloc(), SERVED, "port = 2000", new)?;
+        same!(&rt; absent_in(rt.alloc(), text.as_bytes()), expected);
+    }
+    Ok(())
 }
 
 /// Sees what is told of what is said for serving, with one line in place of another.
@@ -281,7 +318,7 @@ fn is_told_of_service_with(
 }
 
 /// A line of what is said for serving, another in its place, and what is told of that.
-static SERVED_CHANGES: [(&str, &str, &str); 17] = [
+static SERVED_CHANGES: [(&str, &str, &str); 25] = [
     ("stores = \"stores\"\n", "", "101 BadEntry stores"),
     ("stores = \"stores\"", "stores = 1", "101 BadEntry stores"),
     ("logs = \"a folder\"\n", "", "101 BadEntry logs"),
@@ -306,6 +343,34 @@ static SERVED_CHANGES: [(&str, &str, &str); 17] = [
         "outage = [{node = 0, at = 1, back = 5}, {node = 1, at = 5}]\n",
         "",
         "",
+    ),
+    ("port = 2000", "port = 2000\naway = \"wait\"", ""),
+    ("port = 2000", "port = 2000\naway = \"play\"", ""),
+    ("port = 2000", "port = 2000\naway = 1", "101 BadEntry away"),
+    (
+        "port = 2000",
+        "port = 2000\naway = [\"play\"]",
+        "101 BadEntry away",
+    ),
+    (
+        "port = 2000",
+        "port = 2000\naway = \"Play\"",
+        "101 BadEntry away",
+    ),
+    (
+        "port = 2000",
+        "port = 2000\naway = \"\"",
+        "101 BadEntry away",
+    ),
+    (
+        "port = 2000",
+        "port = 2000\naway = \"play\"\naway = \"play\"",
+        "100 NotToml",
+    ),
+    (
+        "outage = [{node = 0, at = 1, back = 5}, {node = 1, at = 5}]",
+        "outage = 1\naway = 1",
+        "101 BadEntry outage",
     ),
 ];
 

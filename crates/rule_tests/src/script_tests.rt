@@ -20,8 +20,9 @@ fn reads_as(rt: &impl Abort, line: &[u8], wanted: Result<Order, BadScript>) {
 }
 
 /// Lines of a script, and what they order.
-static ORDERS: [(&[u8], Order); 12] = [
+static ORDERS: [(&[u8], Order); 13] = [
     (b"tick 2", Order::Tick { node: 2 }),
+    (b"away 0", Order::Away { node: 0 }),
     (b"deliver 9", Order::Deliver { frame: 9 }),
     (b"deliver 0009", Order::Deliver { frame: 9 }),
     (
@@ -75,7 +76,7 @@ fn each_word_says_its_order(rt: HostRuntime) {
 }
 
 /// Lines that order nothing.
-static NO_ORDERS: [&[u8]; 34] = [
+static NO_ORDERS: [&[u8]; 37] = [
     b"",
     b" ",
     b"tick",
@@ -92,6 +93,9 @@ static NO_ORDERS: [&[u8]; 34] = [
     b"tick\t0",
     b"tick 18446744073709551616",
     b"ticks 0",
+    b"away",
+    b"away 3",
+    b"away 0 1",
     b"deliver 10",
     b"deliver 1 2",
     b"flush 18446744073709551616",
@@ -148,9 +152,10 @@ fn what_comes_is_printed(rt: HostRuntime) -> Result<(), Fail> {
 /// Whether a line ends with an order within its bounds, or with the fault.
 fn is_named(line: &[u8]) -> bool {
     match read(line, BOUNDS) {
-        Ok(Order::Tick { node }) | Ok(Order::Start { node }) | Ok(Order::Stop { node, .. }) => {
-            node < BOUNDS.nodes
-        }
+        Ok(Order::Tick { node })
+        | Ok(Order::Away { node })
+        | Ok(Order::Start { node })
+        | Ok(Order::Stop { node, .. }) => node < BOUNDS.nodes,
         Ok(Order::Deliver { frame }) => frame < BOUNDS.frames,
         Ok(Order::Flush { .. }) => true,
         Ok(Order::Connect { node, seat }) | Ok(Order::Drop { node, seat }) => {

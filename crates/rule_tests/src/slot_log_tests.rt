@@ -24,13 +24,14 @@ fn act(hand: u32, index: u16, action: Action) -> Command {
     }
 }
 
-/// What a command says of its hand: a deal, or an action with its index.
+/// What a command says of its hand: a deal, an action with its index, or that its player is away.
 #[derive(Clone, Copy)]
 enum Said {
     First,
     Second,
     OfThree,
     Act(u16, Action),
+    Away(u16),
 }
 
 /// The command of a hand that says this.
@@ -40,6 +41,7 @@ fn command_of(rt: &impl Abort, hand: u32, said: Said) -> Command {
         Said::Second => second_deal(rt),
         Said::OfThree => three_handed_deal(rt),
         Said::Act(index, action) => return act(hand, index, action),
+        Said::Away(index) => return Command::Away { hand, index },
     };
     Command::Deal { hand, deal }
 }
@@ -256,6 +258,154 @@ fn a_command_that_does_not_fit_does_nothing(rt: HostRuntime) -> Result<(), Fail>
     takes_all(&rt, &mut table, &ONE_HAND, false)?;
     let actions = [Action::Call, Action::Raise(20), Action::Fold];
     has_actions(&rt, &table, 0, &actions);
+    Ok(())
+}
+
+/// A step, and the hand and the index at which the player to act is played for then.
+type AwayStep = (Step, Option<(u32, u16)>);
+
+/// Sees at which hand and index the player to act is played for.
+fn plays_for(rt: &impl Abort, table: &Table, wanted: Option<(u32, u16)>) {
+    let found = match table.away() {
+        Some(Command::Away { hand, index }) => Some((hand, index)),
+        _ => None,
+    };
+    holds!(rt; found == wanted);
+}
+
+/// The courses of a match of two hands: before it, in the first hand, between the two, in the second, and after it.
+const FIRST_RUNS: Course = (1, 0, true, false);
+
+const BETWEEN: Course = (1, 1, false, false);
+
+const SECOND_RUNS: Course = (2, 1, true, false);
+
+const BOTH_OVER: Course = (2, 2, false, true);
+
+/// Two hands with players who are away. In the first the one who faces a raise is played for, by a fold; in the second the big
+/// blind after a call and the first to act on the flop, by calls, and who faces a raise there.
+static AWAY: [AwayStep; 19] = [
+    (
+        (0, Said::Away(0), Effect::None(Reason::NoHand), UNDEALT),
+        None,
+    ),
+    ((0, Said::First, Effect::Dealt, FIRST_RUNS), Some((0, 0))),
+    (
+        (
+            1,
+            Said::Away(0),
+            Effect::None(Reason::WrongHand),
+            FIRST_RUNS,
+        ),
+        Some((0, 0)),
+    ),
+    (
+        (
+            0,
+            Said::Away(1),
+            Effect::None(Reason::WrongIndex),
+            FIRST_RUNS,
+        ),
+        Some((0, 0)),
+    ),
+    (
+        (
+            0,
+            Said::Act(0, Action::Raise(20)),
+            Effect::Acted,
+            FIRST_RUNS,
+        ),
+        Some((0, 1)),
+    ),
+    (
+        (
+            0,
+            Said::Away(0),
+            Effect::None(Reason::WrongIndex),
+            FIRST_RUNS,
+        ),
+        Some((0, 1)),
+    ),
+    ((0, Said::Away(1), Effect::HandOver, BETWEEN), None),
+    (
+        (
+            0,
+            Said::Act(1, Action::Raise(30)),
+            Effect::None(Reason::NoHand),
+            BETWEEN,
+        ),
+        None,
+    ),
+    (
+        (0, Said::Away(2), Effect::None(Reason::NoHand), BETWEEN),
+        None,
+    ),
+    ((1, Said::Second, Effect::Dealt, SECOND_RUNS), Some((1, 0))),
+    (
+        (1, Said::Act(0, Action::Call), Effect::Acted, SECOND_RUNS),
+        Some((1, 1)),
+    ),
+    ((1, Said::Away(1), Effect::Acted, SECOND_RUNS), Some((1, 2))),
+    (
+        (
+            1,
+            Said::Act(1, Action::Raise(20)),
+            Effect::None(Reason::WrongIndex),
+            SECOND_RUNS,
+        ),
+        Some((1, 2)),
+    ),
+    (
+        (
+            1,
+            Said::Away(1),
+            Effect::None(Reason::WrongIndex),
+            SECOND_RUNS,
+        ),
+        Some((1, 2)),
+    ),
+    ((1, Said::Away(2), Effect::Acted, SECOND_RUNS), Some((1, 3))),
+    (
+        (
+            1,
+            Said::Act(3, Action::Raise(20)),
+            Effect::Acted,
+            SECOND_RUNS,
+        ),
+        Some((1, 4)),
+    ),
+    (
+        (
+            0,
+            Said::Away(4),
+            Effect::None(Reason::WrongHand),
+            SECOND_RUNS,
+        ),
+        Some((1, 4)),
+    ),
+    ((1, Said::Away(4), Effect::MatchOver, BOTH_OVER), None),
+    (
+        (1, Said::Away(5), Effect::None(Reason::MatchDone), BOTH_OVER),
+        None,
+    ),
+];
+
+#[test]
+fn a_player_who_is_away_is_played_for(rt: HostRuntime) -> Result<(), Fail> {
+    let mut table = Table::new(rt.alloc(), game(&rt, L2), 2);
+    for &(step, wanted) in &AWAY {
+        takes_all(&rt, &mut table, &[step], true)?;
+        plays_for(&rt, &table, wanted);
+    }
+    has_actions(&rt, &table, 0, &[Action::Raise(20), Action::Fold]);
+    let second = [
+        Action::Call,
+        Action::Call,
+        Action::Call,
+        Action::Raise(20),
+        Action::Fold,
+    ];
+    has_actions(&rt, &table, 1, &second);
     Ok(())
 }
 

@@ -31,12 +31,26 @@ const PROMISE: [u8; 40] = [
     0x21, 0x33, 0x1a, 0x20, 0, 0x18, 6, 0x1c, 0x2e,
 ];
 
-/// These four frames, and what is printed of their messages.
-static FRAMES: [(&[u8], &str); 4] = [
+/// Forward of who is away at the first act of hand 0.
+const FORWARD_AWAY: [u8; 13] = [0, 0, 0, 9, 1, 8, 3, 0, 0, 0, 0, 0, 0];
+
+/// Accept of the same in (1, 0) at slot 1.
+const ACCEPT_AWAY: [u8; 22] = [
+    0, 0, 0, 0x12, 1, 4, 0, 0, 0, 1, 0, 0, 0, 0, 1, 3, 0, 0, 0, 0, 0, 0,
+];
+
+/// That it is chosen at slot 1.
+const CHOSEN_AWAY: [u8; 17] = [0, 0, 0, 0x0d, 1, 6, 0, 0, 0, 1, 3, 0, 0, 0, 0, 0, 0];
+
+/// These frames, and what is printed of their messages.
+static FRAMES: [(&[u8], &str); 7] = [
     (&PREPARE, "Prepare (1, 0) from 0"),
     (&ACCEPT, "Accept (1, 0) at 0: deal of hand 0"),
     (&FORWARD, "Forward act 0 of hand 0: call"),
     (&PROMISE, "Promise (2, 2) from 0: 1 accepted"),
+    (&FORWARD_AWAY, "Forward away at act 0 of hand 0"),
+    (&ACCEPT_AWAY, "Accept (1, 0) at 1: away at act 0 of hand 0"),
+    (&CHOSEN_AWAY, "Chosen at 1: away at act 0 of hand 0"),
 ];
 
 /// Prepare of (1, 0) at slot 0.
@@ -120,7 +134,7 @@ fn frames_read_and_write_alike(rt: HostRuntime) -> Result<(), Fail> {
 }
 
 /// Bytes that are no frame, each with its fault and the fault's number.
-static NO_FRAMES: [(&[u8], FrameFault, u8); 10] = [
+static NO_FRAMES: [(&[u8], FrameFault, u8); 14] = [
     (&[0, 0, 0, 2, 2, 1], FrameFault::BadVersion, 52),
     (&[0, 0, 0, 2, 1, 9], FrameFault::BadKind, 53),
     (&[0, 0, 0, 2, 1, 1], FrameFault::BadBody, 54),
@@ -145,6 +159,27 @@ static NO_FRAMES: [(&[u8], FrameFault, u8); 10] = [
         FrameFault::BadBody,
         54,
     ),
+    // who is away in hand 10000, at index 256, with a byte more; and a fourth kind of command
+    (
+        &[0, 0, 0, 9, 1, 8, 3, 0, 0, 0x27, 0x10, 0, 0],
+        FrameFault::BadBody,
+        54,
+    ),
+    (
+        &[0, 0, 0, 9, 1, 8, 3, 0, 0, 0, 0, 1, 0],
+        FrameFault::BadBody,
+        54,
+    ),
+    (
+        &[0, 0, 0, 10, 1, 8, 3, 0, 0, 0, 0, 0, 0, 0],
+        FrameFault::BadBody,
+        54,
+    ),
+    (
+        &[0, 0, 0, 9, 1, 8, 4, 0, 0, 0, 0, 0, 0],
+        FrameFault::BadBody,
+        54,
+    ),
     (&[0, 0, 0], FrameFault::TooShort, 50),
     (&[0, 0, 0, 1, 1], FrameFault::TooShort, 50),
     (&[0, 0, 0x10, 1], FrameFault::TooLong, 51),
@@ -155,6 +190,18 @@ fn frames_at_fault(rt: HostRuntime) {
     for &(bytes, fault, code) in &NO_FRAMES {
         same!(&rt; fault_of(bytes), Some(fault));
         same!(&rt; fault.code(), code);
+    }
+}
+
+#[test]
+fn a_frame_that_is_cut_is_none(rt: HostRuntime) {
+    for cut in 0..ACCEPT_AWAY.len() {
+        let fault = if cut < 4 {
+            FrameFault::TooShort
+        } else {
+            FrameFault::BadBody
+        };
+        same!(&rt; fault_of(&ACCEPT_AWAY[..cut]), Some(fault));
     }
 }
 
@@ -224,6 +271,27 @@ fn the_longest_promise_reads_the_same_cut_at_any_place(rt: HostRuntime) -> Resul
     same!(&rt; bytes.len(), 4 + 2572);
     let whole = message_of(&bytes).ok_or("the bytes are a frame")?;
     reads_cut_anywhere(&rt, rt.alloc(), &bytes, &whole)?;
+    Ok(())
+}
+
+/// A Promise of (2, 2) from slot 0 that tells at each of its 64 slots of who is away at the first act of hand 0.
+fn promise_of_aways(alloc: Global) -> Result<Vec<u8>, AllocError> {
+    let front = [0, 0, 0x04, 0x0c, 1, 2, 0, 0, 0, 2, 2, 0, 0, 0, 0, 64];
+    let mut bytes = Vec::from_slice(alloc, &front)?;
+    for slot in 0..64u8 {
+        bytes.extend_from_slice(&[0, 0, 0, slot, 0, 0, 0, 1, 0, 3, 0, 0, 0, 0, 0, 0])?;
+    }
+    Ok(bytes)
+}
+
+#[test]
+fn who_is_away_reads_the_same_cut_at_any_place(rt: HostRuntime) -> Result<(), Fail> {
+    let promise = promise_of_aways(rt.alloc())?;
+    let frames = [&FORWARD_AWAY[..], &ACCEPT_AWAY[..], promise.as_slice()];
+    for bytes in frames {
+        let whole = message_of(bytes).ok_or("the bytes are a frame")?;
+        reads_cut_anywhere(&rt, rt.alloc(), bytes, &whole)?;
+    }
     Ok(())
 }
 

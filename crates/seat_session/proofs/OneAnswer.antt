@@ -9,7 +9,7 @@ use Rattle.betting.specs.Rounds.{turns}
 use Rattle.betting.specs.Legal.{CanAct, fault_of}
 use Rattle.betting.specs.Laws.{AllowedWithoutFault}
 use Rattle.slot_log.specs.Hand.{Hand}
-use Rattle.slot_log.specs.declared.command.Command.TheVariants.{Deal, Act as Acts}
+use Rattle.slot_log.specs.declared.command.Command.TheVariants.{Deal, Act as Acts, Away}
 use Rattle.matchstate.specs.Answer.{AnswerReadsAs}
 use Rattle.matchstate.specs.View.{View, seat_view}
 use Rattle.matchstate.specs.declared.line_fault.LineFault.{LineFault}
@@ -52,6 +52,7 @@ meaning_of : (game : Game) (hands : List Hand) (seat : ℕ) (text : List ℕ) (s
     → (meaning : Meaning) × Means game hands seat text meaning × (said ≡ said_of meaning)
 meaning_of game hands seat text (Ok Ready) plays = absurd plays
 meaning_of game hands seat text (Ok (Act (Deal hand deal))) plays = absurd plays
+meaning_of game hands seat text (Ok (Act (Away hand index))) plays = absurd plays
 meaning_of game hands seat text (Ok (Act (Acts hand index action))) plays = (right hand index action, plays, refl)
 meaning_of game hands seat text (Err BadVersion) plays = absurd plays
 meaning_of game hands seat text (Err LineTooLong) plays = absurd plays

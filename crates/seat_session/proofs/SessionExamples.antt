@@ -10,7 +10,7 @@ use Rattle.betting.specs.Rounds.{turns}
 use Rattle.betting.specs.Legal.{Legal}
 use Rattle.betting.proofs.Legal.{none-can_act}
 use Rattle.slot_log.specs.Hand.{Hand, Match}
-use Rattle.slot_log.specs.declared.command.Command.TheVariants.{Act as Acts}
+use Rattle.slot_log.specs.declared.command.Command.TheVariants.{Act as Acts, Away}
 use Rattle.matchstate.specs.Answer.{SaysAction}
 use Rattle.matchstate.specs.Line.{IsLine}
 use Rattle.matchstate.specs.View.{View, view_of}
@@ -254,6 +254,10 @@ not_the_second_action says =
     let same : ◌≡◌ {A = Option View} (Some (view_of limit_pair 1 0 (played first_deal []))) (Some says.view) = says.echoes.current in
     let view : view_of limit_pair 1 0 (played first_deal []) ≡ says.view = cc in
     omega (arith, says.next_index, ap (λ (v : View). length v.past) view)
+
+-- no line says that a player is away
+away_is_not_said : Plays limit_pair dealt 1 (codes "MATCHSTATE:1:0::|8hTc:f") (Ok (Act (Away 0 0))) → ⊥
+away_is_not_said says = says
 
 seat_0_is_not_to_act : Plays limit_pair dealt 0 (codes "MATCHSTATE:0:0::TdAs|:c") (Err NotYourTurn)
 unfolding opened other_view

@@ -7,7 +7,7 @@ use Rattle.betting.specs.Legal.{CanAct, fault_of}
 use Rattle.slot_log.specs.Hand.{Hand, Match}
 use Rattle.slot_log.specs.Dealer.{Fits}
 use Rattle.slot_log.specs.Range.{IsInRange}
-use Rattle.slot_log.specs.declared.command.Command.TheVariants.{Deal, Act as Acts}
+use Rattle.slot_log.specs.declared.command.Command.TheVariants.{Deal, Act as Acts, Away}
 use Rattle.matchstate.specs.ActionText.{IsActionText}
 use Rattle.matchstate.specs.Answer.{AnswerReadsAs}
 use Rattle.matchstate.specs.Line.{line_text}
@@ -52,6 +52,7 @@ pub record SaysAct (game : Game) (hands : List Hand) (seat : ℕ) (text : List �
 abbrev pub Plays : Game → List Hand → ℕ → List ℕ → Result Said SessionFault → Type 0
 Plays game hands seat text (Ok Ready) = ⊥
 Plays game hands seat text (Ok (Act (Deal hand deal))) = ⊥
+Plays game hands seat text (Ok (Act (Away hand index))) = ⊥
 Plays game hands seat text (Ok (Act (Acts hand index action))) = SaysAct game hands seat text hand index action
 Plays game hands seat text (Err BadVersion) = ⊥
 Plays game hands seat text (Err LineTooLong) = ⊥

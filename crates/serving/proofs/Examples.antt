@@ -1,9 +1,9 @@
 -- What is due, on values.
 use Rattle.std.proofs.Common.{◌≡◌, ℕ, refl, sym, true, false, inl, inr, [], ◌∷◌, ◌∙◌, Option, Some, None, Ok, Err}
-use Rattle.serving.specs.declared.place.Place.TheVariants.{Awaited, Seated, Leaving}
+use Rattle.serving.specs.declared.place.Place.TheVariants.{Awaited, Seated, Leaving, Played}
 use Rattle.serving.specs.declared.known.NodeSight.{NodeSight}
 use Rattle.serving.specs.declared.known.Repair.TheVariants as repair
-use Rattle.serving.specs.declared.due.Due.TheVariants.{Stop, Start, Drop, Await, Read, Deliver, Tick, Over}
+use Rattle.serving.specs.declared.due.Due.TheVariants.{Stop, Start, Drop, Await, Read, Away, Deliver, Tick, Over}
 use Rattle.dealer_kind.specs.Plans.{Plan}
 use Rattle.promise_store.specs.declared.disk.Disk.{Ghosts}
 use Rattle.dealer_node.specs.Nodes.{Node}
@@ -15,7 +15,8 @@ use Rattle.serving.specs.declared.waiting.Waiting.{Waiting}
 use Rattle.serving.specs.Dues.{next_frame, IsDue}
 use Rattle.serving.specs.Going.{delivered_after, ends_in_line_feed, piece_after}
 use Rattle.serving.specs.Next.{due_by, running_from}
-use Rattle.serving.specs.Placing.{moved}
+use Rattle.match_file.specs.declared.absent.Absent.TheVariants.{Wait, Play}
+use Rattle.serving.specs.Placing.{moved, dropped_at}
 use Rattle.serving.specs.Repairs.{stopped, started, greeted_after}
 use Rattle.serving.specs.Served.{Served}
 use Rattle.serving.specs.Turned.{DidNothing}
@@ -105,7 +106,39 @@ not_while_one_has_further_to_go = refl
 one_that_is_behind_ticks : due_by (at 2 (Some 0) ∷ at 5 (Some 1) ∷ at 5 (Some 1) ∷ []) (Seated 1 ∷ Seated 1 ∷ []) 2 None None ≡ Tick 0
 one_that_is_behind_ticks = refl
 
+-- ---- a seat that is played for
+
+played_for_where_its_node_sees_it_to_act : due_by (out ∷ at 1 (Some 1) ∷ at 1 (Some 1) ∷ []) (Awaited 1 ∷ Played 1 ∷ []) 2 None None ≡ Away 1 1
+played_for_where_its_node_sees_it_to_act = refl
+
+played_for_at_the_next_node_where_its_own_is_out : due_by (at 1 (Some 1) ∷ out ∷ at 1 (Some 1) ∷ []) (Seated 0 ∷ Played 1 ∷ []) 2 None None ≡ Away 1 2
+played_for_at_the_next_node_where_its_own_is_out = refl
+
+not_at_a_node_that_is_behind : due_by (at 5 (Some 1) ∷ at 2 (Some 1) ∷ at 5 (Some 1) ∷ []) (Seated 0 ∷ Played 1 ∷ []) 2 None None ≡ Tick 1
+not_at_a_node_that_is_behind = refl
+
+nor_where_an_act_waits : due_by (at 1 (Some 1) ∷ asked 1 (Some 1) ∷ at 1 (Some 1) ∷ []) (Seated 0 ∷ Played 1 ∷ []) 2 None None ≡ Tick 1
+nor_where_an_act_waits = refl
+
+nor_where_another_seat_is_to_act : due_by (at 1 (Some 1) ∷ at 1 (Some 0) ∷ at 1 (Some 1) ∷ []) (Seated 0 ∷ Played 1 ∷ []) 2 None None ≡ Tick 1
+nor_where_another_seat_is_to_act = refl
+
 -- ---- how what is known goes on
+
+dropped_seat_is_awaited : dropped_at Wait 1 (Seated 0 ∷ Seated 0 ∷ []) 1 ≡ Seated 0 ∷ Awaited 1 ∷ []
+dropped_seat_is_awaited = refl
+
+or_played_for : dropped_at Play 1 (Seated 0 ∷ Seated 0 ∷ []) 1 ≡ Seated 0 ∷ Played 1 ∷ []
+or_played_for = refl
+
+so_is_one_that_leaves : dropped_at Play 1 (Seated 0 ∷ Leaving 0 ∷ []) 1 ≡ Seated 0 ∷ Played 1 ∷ []
+so_is_one_that_leaves = refl
+
+but_none_that_was_awaited : dropped_at Play 1 (Seated 0 ∷ Awaited 0 ∷ []) 1 ≡ Seated 0 ∷ Awaited 1 ∷ []
+but_none_that_was_awaited = refl
+
+played_for_behind_a_stopped_node : moved 1 2 (Played 1) ≡ Played 2
+played_for_behind_a_stopped_node = refl
 
 seat_of_a_stopped_node_is_awaited_behind_it : moved 1 2 (Seated 1) ≡ Awaited 2
 seat_of_a_stopped_node_is_awaited_behind_it = refl
@@ -154,13 +187,25 @@ frame_to_a_node_that_is_down_is_lost bytes = refl
 tick_of_a_node_that_is_down_ends_all : goes_on (event.Tick 0) (Err fault.Down) ≡ false
 tick_of_a_node_that_is_down_ends_all = refl
 
-line_is_its_seats : (bytes : _) → turn_of 0 (event.Line 0 1 bytes) ≡ turn.Read 1
+line_is_its_seats : (bytes : _) → turn_of 0 0 (event.Line 0 1 bytes) ≡ turn.Read 1
 line_is_its_seats bytes = refl
 
-line_of_another_seat_is_not_due : (bytes : _) → IsForDue (Read 1 0) 0 (event.Line 0 0 bytes) → ⊥
+line_of_another_seat_is_not_due : (bytes : _) → IsForDue (Read 1 0) 0 0 (event.Line 0 0 bytes) → ⊥
 line_of_another_seat_is_not_due bytes (same, other) = cc
 
-tick_is_not_due_where_a_seat_is_read : IsForDue (Read 1 0) 0 (event.Tick 0) → ⊥
+order_is_told_as_its_seats : turn_of 0 1 (event.Away 2) ≡ turn.Away 1 2
+order_is_told_as_its_seats = refl
+
+order_is_its_seats : IsForDue (Away 1 2) 0 1 (event.Away 2)
+order_is_its_seats = (refl, refl)
+
+order_for_another_seat_is_not_due : IsForDue (Away 1 2) 0 0 (event.Away 2) → ⊥
+order_for_another_seat_is_not_due (same, other) = cc
+
+order_at_another_node_is_not_due : IsForDue (Away 1 2) 0 1 (event.Away 0) → ⊥
+order_at_another_node_is_not_due (other, same) = cc
+
+tick_is_not_due_where_a_seat_is_read : IsForDue (Read 1 0) 0 0 (event.Tick 0) → ⊥
 tick_is_not_due_where_a_seat_is_read is = is
 
 seat_that_is_read_breaks_no_log : (plan : Plan) → MayFail plan (Read 1 0) LogFailed → ⊥

@@ -1,12 +1,13 @@
 -- What is given of a record, piece by piece.
-use Rattle.std.proofs.Common.{◌≡◌, ℕ, zero, suc, ◌+◌, ◌<◌, ◌≤◌, List, [], ◌∷◌, ◌++◌, length, take, drop, slice_get, Some, inl, inr, refl, ap, sym, subst, ◌∙◌, arith, add-one}
+use Rattle.std.proofs.Common.{◌≡◌, ℕ, zero, suc, ◌+◌, ◌<◌, ◌≤◌, List, [], ◌∷◌, ◌++◌, length, take, drop, replicate, slice_get, Some, inl, inr, refl, ap, sym, subst, ◌∙◌, arith, add-one}
 use Rattle.std.proofs.lemmas.List.{append_assoc, append-nil, drop-take, drop-append-le, length-take-le}
 use Rattle.std.proofs.lemmas.Option.{slice_get_within}
 use Rattle.dealer_world.specs.Records.{Piece}
 use Rattle.dealer_world.proofs.Logging.{take_next}
 use Rattle.match_links.specs.Passages.{Passage, Came, came}
 use Rattle.serving.specs.declared.place.Place.{Place}
-use Rattle.serving.specs.Giving.{IsGiven, AreGiven, Gives, FewerSeated}
+use Rattle.serving.specs.declared.place.Place.TheVariants.{Awaited}
+use Rattle.serving.specs.Giving.{IsGiven, AreGiven, Gives, FewerSeated, NoneSeated, StayUnseated}
 
 -- ---- lists
 
@@ -82,3 +83,15 @@ front_of zero len piece rest within long = refl
 front_of (suc count) len [] rest within long = absurd (omega (arith, within))
 front_of (suc count) zero (byte ∷ piece) rest within long = absurd (omega (arith, long))
 front_of (suc count) (suc len) (byte ∷ piece) rest within long = ap (λ bs. byte ∷ bs) (front_of count len piece rest (omega (arith, within)) (omega (arith, long)))
+
+-- ---- where nobody has a connection
+
+pub stay_longer : (first old new : List Place) → StayUnseated first old → StayUnseated old new → StayUnseated first new
+stay_longer first old new before now = λ none. let same : old ≡ first = before none in now (subst NoneSeated (sym same) none) ∙ same
+
+-- where all are awaited nobody has one
+pub none_seated : (count node : ℕ) → NoneSeated (replicate count (Awaited node))
+none_seated zero at zero node is = cc
+none_seated zero at (suc seat) node is = cc
+none_seated (suc count) at zero node is = cc
+none_seated (suc count) at (suc seat) node is = none_seated count at seat node is

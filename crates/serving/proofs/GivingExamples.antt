@@ -84,6 +84,9 @@ log_is_never_left_out each = other (given_whole (Leaving 0 ∷ Leaving 0 ∷ [])
 nothing_for_a_tick : taken_for (event.Tick 1) ≡ []
 nothing_for_a_tick = refl
 
+nothing_for_an_order : taken_for (event.Away 1) ≡ []
+nothing_for_an_order = refl
+
 a_seat_that_is_seated : taken_for (event.Connect 1 0) ≡ sat 1 0 ∷ []
 a_seat_that_is_seated = refl
 

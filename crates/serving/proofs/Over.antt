@@ -2,13 +2,13 @@
 use Rattle.std.proofs.Common.{◌≡◌, ℕ, Bool, true, false, List, Option, Some, None, refl}
 use Rattle.std.specs.Prelude.{unwrap_or, slice_get, position, if◌then◌else◌, not, ◌&&◌}
 use Rattle.serving.specs.declared.place.Place.{Place}
-use Rattle.serving.specs.declared.place.Place.TheVariants.{Awaited, Seated, Leaving}
+use Rattle.serving.specs.declared.place.Place.TheVariants.{Awaited, Seated, Leaving, Played}
 use Rattle.serving.specs.declared.known.NodeSight.{NodeSight}
 use Rattle.serving.specs.declared.known.Repair.{Repair}
 use Rattle.serving.specs.declared.known.Repair.TheVariants as repair
 use Rattle.serving.specs.declared.due.Due.{Due}
-use Rattle.serving.specs.declared.due.Due.TheVariants.{Over, Tick, Read}
-use Rattle.serving.specs.Next.{repairing_or, leaving, leaving_at, dropped, is_leaving, greeting, greeting_at, is_over, delivering, outing, starting, stopping, playing, playing_at, as_seen_by, going_on, acting, acting_at, is_to_tick, is_behind, finishing, ticking, running, due_by}
+use Rattle.serving.specs.declared.due.Due.TheVariants.{Over, Tick, Read, Away}
+use Rattle.serving.specs.Next.{repairing_or, leaving, leaving_at, dropped, is_leaving, greeting, greeting_at, is_over, delivering, outing, starting, stopping, playing, playing_at, as_seen_by, going_on, acting, acting_at, played, has_to_act, is_to_tick, is_behind, running_from, finishing, ticking, running, due_by}
 
 -- ---- each step but the end is something else
 
@@ -17,10 +17,24 @@ repair_is_none later None is = is
 repair_is_none later (Some (repair.Stop node)) is = cc
 repair_is_none later (Some (repair.Start node)) is = cc
 
+neither : (test : Bool) (a b : Due) → (a ≡ Over → ⊥) → (b ≡ Over → ⊥) → (if test then a else b) ≡ Over → ⊥
+neither true a b first second is = first is
+neither false a b first second is = second is
+
+tick_is_not : (node : ℕ) → Tick node ≡ Over → ⊥
+tick_is_not node is = cc
+
+away_is_not : (seat node : ℕ) → Away seat node ≡ Over → ⊥
+away_is_not seat node is = cc
+
+played_is_not : (nodes : List NodeSight) (seat node : ℕ) → played nodes seat node ≡ Over → ⊥
+played_is_not nodes seat node is = neither (not (is_to_tick nodes node) && has_to_act nodes node seat) (Away seat node) (Tick node) (away_is_not seat node) (tick_is_not node) is
+
 drop_is_none : (seat : ℕ) (place : Option Place) (later : Due) → unwrap_or (dropped seat place) later ≡ Over → later ≡ Over
 drop_is_none seat None later is = is
 drop_is_none seat (Some (Awaited node)) later is = is
 drop_is_none seat (Some (Seated node)) later is = is
+drop_is_none seat (Some (Played node)) later is = is
 drop_is_none seat (Some (Leaving node)) later is = cc
 
 leaving_is_none : (places : List Place) (found : Option ℕ) (later : Due) → unwrap_or (leaving_at places found) later ≡ Over → later ≡ Over
@@ -32,6 +46,7 @@ greeting_is_none nodes seat None later is = is
 greeting_is_none nodes seat (Some (Awaited node)) later is = cc
 greeting_is_none nodes seat (Some (Seated node)) later is = cc
 greeting_is_none nodes seat (Some (Leaving node)) later is = cc
+greeting_is_none nodes seat (Some (Played node)) later is = absurd (played_is_not nodes seat (running_from nodes node) is)
 
 stopping_is_none : (found : Option ℕ) (later : Due) → unwrap_or (stopping found) later ≡ Over → later ≡ Over
 stopping_is_none None later is = is
@@ -47,13 +62,6 @@ frame_is_none later (Some number) is = cc
 
 -- ---- the match goes on
 
-neither : (test : Bool) (a b : Due) → (a ≡ Over → ⊥) → (b ≡ Over → ⊥) → (if test then a else b) ≡ Over → ⊥
-neither true a b first second is = first is
-neither false a b first second is = second is
-
-tick_is_not : (node : ℕ) → Tick node ≡ Over → ⊥
-tick_is_not node is = cc
-
 read_is_not : (seat node : ℕ) → Read seat node ≡ Over → ⊥
 read_is_not seat node is = cc
 
@@ -65,6 +73,7 @@ acting_is_not : (nodes : List NodeSight) (seat : ℕ) (place : Option Place) →
 acting_is_not nodes seat None is = cc
 acting_is_not nodes seat (Some (Awaited node)) is = cc
 acting_is_not nodes seat (Some (Leaving node)) is = cc
+acting_is_not nodes seat (Some (Played node)) is = played_is_not nodes seat (running_from nodes node) is
 acting_is_not nodes seat (Some (Seated node)) is = neither (is_to_tick nodes node) (Tick node) (Read seat node) (tick_is_not node) (read_is_not seat node) is
 
 going_on_is_not : (nodes : List NodeSight) (places : List Place) (lowest : ℕ) (sight : NodeSight) (seat : Option ℕ) → going_on nodes places lowest sight seat ≡ Over → ⊥

@@ -14,16 +14,17 @@ use Rattle.dealer_world.proofs.Forging.{in_at, unforged_after as unforged_by}
 use Rattle.std.specs.List.{AllByRecursion}
 use Rattle.serving.specs.Turning.{IsSent}
 
-brings_sent : (sent : List Frame) (number : ℕ) (e : Event) → IsSent sent number e → AllByRecursion (IsAmong sent) (brought_by e)
-brings_sent sent number (event.Frame from to bytes) is_sent = (in_at sent number _ is_sent, tt)
-brings_sent sent number (event.Line node seat bytes) is_sent = (tt, tt)
-brings_sent sent number (event.Tick node) is_sent = tt
-brings_sent sent number (event.Connect node seat) is_sent = (tt, tt)
-brings_sent sent number (event.Drop node seat) is_sent = (tt, tt)
-brings_sent sent number (event.Stop node pick) is_sent = tt
-brings_sent sent number (event.Start node) is_sent = tt
+brings_sent : (sent : List Frame) (number front : ℕ) (e : Event) → IsSent sent number e → AllByRecursion (IsAmong sent) (brought_by front e)
+brings_sent sent number front (event.Frame from to bytes) is_sent = (in_at sent number _ is_sent, tt)
+brings_sent sent number front (event.Line node seat bytes) is_sent = (tt, tt)
+brings_sent sent number front (event.Tick node) is_sent = tt
+brings_sent sent number front (event.Away node) is_sent = (tt, tt)
+brings_sent sent number front (event.Connect node seat) is_sent = (tt, tt)
+brings_sent sent number front (event.Drop node seat) is_sent = (tt, tt)
+brings_sent sent number front (event.Stop node pick) is_sent = tt
+brings_sent sent number front (event.Start node) is_sent = tt
 
 -- where the frame that is given was sent, no frame is forged by it
 pub unforged_after : {D : Type 0} (g : Ghosts D) (old new : View (Node D)) (e : Event) (number : ℕ) (answer : Result (Unit {0}) NodeFault)
     → Stepped g old e answer new → IsSent old.all.sent number e → HasNoForged old → HasNoForged new
-unforged_after g old new e number answer stepped is_sent = unforged_by g old new e answer stepped (brings_sent old.all.sent number e is_sent)
+unforged_after g old new e number answer stepped is_sent = unforged_by g old new e answer stepped (λ front. brings_sent old.all.sent number front e is_sent)

@@ -6,7 +6,7 @@ use Rattle.promise_store.specs.declared.disk.Disk.{Ghosts}
 use Rattle.match_links.specs.Passages.{Passage}
 use Rattle.dealer_node.specs.Nodes.{Node}
 use Rattle.dealer_node.specs.Outs.{Told}
-use Rattle.dealer_node.specs.Seeing.{runs}
+use Rattle.dealer_node.specs.Seeing.{runs, front_in}
 use Rattle.dealer_node.specs.declared.fault.NodeFault.{NodeFault}
 use Rattle.dealer_world.specs.declared.event.Event.{Event}
 use Rattle.dealer_world.specs.Records.{Record}
@@ -98,15 +98,15 @@ passes_none old new passed shown within = record {
 no_shorter : {A : Type 0} (n : ℕ) (xs ys : List A) → n ≤ length xs → n ≤ length (xs ++ ys)
 no_shorter n xs ys within = omega (arith, within, length-append xs ys)
 
-grows : {N : Type 0} (n : ℕ) (e : Event) (up : Bool) (told : Told) (old new : View N) (answer : Result (Unit {0}) NodeFault) → Gains e up told old new answer
+grows : {N : Type 0} (n : ℕ) (e : Event) (up : Bool) (front : ℕ) (told : Told) (old new : View N) (answer : Result (Unit {0}) NodeFault) → Gains e up front told old new answer
     → n ≤ length old.all.shown → n ≤ length new.all.shown
-grows n e up told old new answer (nothing a is same last) within = subst (λ (all : Record). n ≤ length all.shown) (sym same) within
-grows n e up told old new answer (call a ample more last) within =
+grows n e up front told old new answer (nothing a is same last) within = subst (λ (all : Record). n ≤ length all.shown) (sym same) within
+grows n e up front told old new answer (call a ample more last) within =
     subst (λ (all : Record). n ≤ length all.shown) (sym more) (no_shorter n old.all.shown _ within)
 
 pub still_within : {D : Type 0} (g : Ghosts D) (n : ℕ) (old new : View (Node D)) (e : Event) (answer : Result (Unit {0}) NodeFault) → Stepped g old e answer new
     → n ≤ length old.all.shown → n ≤ length new.all.shown
-still_within g n old new e answer stepped = grows n e (runs stepped.before) stepped.told old new answer stepped.gains
+still_within g n old new e answer stepped = grows n e (runs stepped.before) (front_in stepped.before) stepped.told old new answer stepped.gains
 
 -- what waited is none of what an event changes
 pub gave_from : {D : Type 0} (g : Ghosts D) (w : Waiting) (took : List Passage) (between old : Served (Node D)) (answer : Result Turn ServeFault) (new : Served (Node D))
@@ -135,6 +135,7 @@ mended_ends fault.OutOfMemory w old mended new (goes, same) kept = subst (λ (p 
 mended_ends fault.Spent w old mended new (goes, same) kept = subst (λ (p : Progress). IsKept p new) same kept
 mended_ends (fault.BadFrame bytes) w old mended new (goes, same) kept = subst (λ (p : Progress). IsKept p new) same kept
 mended_ends fault.Conflict w old mended new (goes, same) kept = subst (λ (p : Progress). IsKept p new) same kept
+mended_ends fault.NothingToAct w old mended new (goes, same) kept = subst (λ (p : Progress). IsKept p new) same kept
 
 -- where there is no event nothing is taken
 pub taken_nothing : (waiting : Option Waiting) → taken waiting None ≡ []

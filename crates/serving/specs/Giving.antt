@@ -49,12 +49,12 @@ abbrev pub given_as : Piece → Passage
 given_as piece = given_to piece.reader piece.node piece.text
 
 -- it is a line of a seat that has no connection to the node
-abbrev pub IsAway : List Place → Piece → Type 0
-IsAway places piece = (seat : ℕ) × (piece.reader ≡ Seat seat) × (slice_get places seat ≡ Some (Seated piece.node) → ⊥)
+abbrev pub HasNoLink : List Place → Piece → Type 0
+HasNoLink places piece = (seat : ℕ) × (piece.reader ≡ Seat seat) × (slice_get places seat ≡ Some (Seated piece.node) → ⊥)
 
--- a piece was given once, or left out where its reader is away
+-- a piece was given once, or left out where its reader has no connection
 abbrev pub IsGiven : List Place → Piece → List Passage → Type 0
-IsGiven places piece given = (given ≡ given_as piece ∷ []) ⊎ (IsAway places piece × (given ≡ []))
+IsGiven places piece given = (given ≡ given_as piece ∷ []) ⊎ (HasNoLink places piece × (given ≡ []))
 
 -- pieces were given in their order, and nothing else was
 abbrev pub AreGiven : List Place → List Piece → List Passage → Type 0
@@ -74,3 +74,11 @@ counted pieces = min (length pieces) (2 ^ 64 - 1)
 -- no seat has a connection that it hadn't before
 abbrev pub FewerSeated : List Place → List Place → Type 0
 FewerSeated old new = (seat node : ℕ) → slice_get new seat ≡ Some (Seated node) → slice_get old seat ≡ Some (Seated node)
+
+-- no seat has a connection
+abbrev pub NoneSeated : List Place → Type 0
+NoneSeated places = (seat node : ℕ) → slice_get places seat ≡ Some (Seated node) → ⊥
+
+-- where no seat has a connection, each stays where it is
+abbrev pub StayUnseated : List Place → List Place → Type 0
+StayUnseated old new = NoneSeated old → new ≡ old

@@ -13,7 +13,7 @@ use Rattle.serving.specs.declared.known.NodeSight.{NodeSight}
 use Rattle.serving.specs.declared.known.Repair.TheVariants as repair
 use Rattle.serving.specs.declared.progress.Progress.{Progress}
 use Rattle.serving.specs.declared.place.Place.{Place}
-use Rattle.serving.specs.declared.place.Place.TheVariants.{Awaited, Seated, Leaving}
+use Rattle.serving.specs.declared.place.Place.TheVariants.{Seated, Leaving}
 use Rattle.serving.specs.declared.turn.Turn.{Turn}
 use Rattle.serving.specs.declared.turn.Turn.TheVariants as turn
 use Rattle.match_file.specs.declared.outage.Outage.{Outage}
@@ -21,7 +21,7 @@ use Rattle.serving.specs.Lowest.{IsCounted}
 use Rattle.serving.specs.Next.{running_from}
 use Rattle.serving.specs.Outing.{outages_in}
 use Rattle.serving.specs.Placed.{places_in}
-use Rattle.serving.specs.Placing.{moved}
+use Rattle.serving.specs.Placing.{moved, dropped_at}
 use Rattle.serving.specs.Repairs.{repair_after, greeted_after}
 use Rattle.serving.specs.Sights.{AreSights}
 
@@ -40,9 +40,10 @@ abbrev pub piece_after : Event → List ℕ → List ℕ
 piece_after (event.Line node seat bytes) before = bytes.items
 piece_after other before = before
 
--- what changes at a stop alone is left out: the outages, the count of commands, who was greeted, whose store failed
+-- what changes at a stop alone is left out: the outages, what is done about absent seats, the count of commands, who was greeted, whose store failed
 pub record IsSame (old new : Progress) : Type 0 where
   pub outages : new.outages ≡ old.outages
+  pub absent : new.absent ≡ old.absent
   pub greeted : new.greeted ≡ old.greeted
   pub count : new.count ≡ old.count
   pub failed : new.failed ≡ old.failed
@@ -78,22 +79,24 @@ module _ {D : Type 0} (g : Ghosts D) where
     pub seen : AreSights g view.nodes outages count sights
     pub first : next ≡ running_from sights (min (node + 1) 255)
 
-  -- where the seats are after an event: one that came has a connection; one that was dropped is awaited at the next node, and so are
-  -- those of a node that was stopped; one whose connection ended or whose session was closed leaves
+  -- where the seats are after an event: one that came has a connection; one that was dropped is awaited at the next node, or played for from there on, and
+  -- so are those of a node that was stopped; one whose connection ended or whose session was closed leaves
   abbrev pub PlacesAfter : View (Node D) → Progress → Event → List Place → List Place → Type 0
   PlacesAfter view progress (event.Connect node seat) old new = new ≡ set old seat (Seated node)
   PlacesAfter view progress (event.Line node seat bytes) old new = new ≡ (if leaves seat bytes.items view.last.faults then set old seat (Leaving node) else old)
   PlacesAfter view progress (event.Drop node seat) old new =
-      (next : ℕ) × IsNextNode view (outages_in progress.outages) progress.count node next × (new ≡ set old seat (Awaited next))
+      (next : ℕ) × IsNextNode view (outages_in progress.outages) progress.count node next × (new ≡ dropped_at progress.absent next old seat)
   PlacesAfter view progress (event.Stop node pick) old new =
       (next : ℕ) × IsNextNode view (outages_in progress.outages) progress.count node next × (new ≡ map (moved node next) old)
   PlacesAfter view progress (event.Frame from to bytes) old new = new ≡ old
   PlacesAfter view progress (event.Tick node) old new = new ≡ old
+  PlacesAfter view progress (event.Away node) old new = new ≡ old
   PlacesAfter view progress (event.Start node) old new = new ≡ old
 
   -- what is known after an event was given to the cluster, which is as it is seen now
   pub record Settled (view : View (Node D)) (e : Event) (t : Turn) (old new : Progress) : Type 0 where
     pub outages : new.outages ≡ old.outages
+    pub absent : new.absent ≡ old.absent
     pub failed : new.failed ≡ old.failed
     pub counted : IsCounted g view.nodes old.count new.count
     pub delivered : new.delivered ≡ delivered_after t old.delivered

@@ -14,3 +14,5 @@ pub mod Going
 pub mod Served
 pub mod Serving
 pub mod Waits
+pub mod Played
+pub mod Most

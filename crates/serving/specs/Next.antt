@@ -1,14 +1,14 @@
 -- What a server does next, by what is known.
-use Rattle.std.specs.Prelude.{ℕ, ◌+◌, Bool, true, false, not, ◌&&◌, ◌||◌, if◌then◌else◌, nat_lt, List, Option, Some, None, unwrap_or, position, drop, slice_get}
+use Rattle.std.specs.Prelude.{ℕ, ◌+◌, ◌==◌, Bool, true, false, not, ◌&&◌, ◌||◌, if◌then◌else◌, nat_lt, List, Option, Some, None, unwrap_or, position, drop, slice_get}
 use Rattle.std.specs.List.{list_all, list_any}
 use Rattle.serving.specs.declared.place.Place.{Place}
-use Rattle.serving.specs.declared.place.Place.TheVariants.{Awaited, Seated, Leaving}
+use Rattle.serving.specs.declared.place.Place.TheVariants.{Awaited, Seated, Leaving, Played}
 use Rattle.serving.specs.declared.known.NodeSight.{NodeSight}
 use Rattle.serving.specs.declared.known.Repair.{Repair}
 use Rattle.serving.specs.declared.known.Repair.TheVariants as repair
 use Rattle.serving.specs.declared.known.Known.{Known}
 use Rattle.serving.specs.declared.due.Due.{Due}
-use Rattle.serving.specs.declared.due.Due.TheVariants.{Stop, Start, Drop, Await, Read, Deliver, Tick, Over}
+use Rattle.serving.specs.declared.due.Due.TheVariants.{Stop, Start, Drop, Await, Read, Away, Deliver, Tick, Over}
 
 abbrev pub repairing : Repair → Due
 repairing (repair.Stop node) = Stop node
@@ -20,6 +20,7 @@ abbrev pub is_leaving : Place → Bool
 is_leaving (Leaving node) = true
 is_leaving (Awaited node) = false
 is_leaving (Seated node) = false
+is_leaving (Played node) = false
 
 abbrev pub dropped : ℕ → Option Place → Option Due
 dropped seat (Some (Leaving node)) = Some (Drop seat node)
@@ -45,11 +46,40 @@ or_around nodes node None = unwrap_or (running nodes) node
 abbrev pub running_from : List NodeSight → ℕ → ℕ
 running_from nodes node = or_around nodes node (running (drop node nodes))
 
--- a seat with a connection is read from, one without is awaited
+-- some running node has applied more than so many commands
+abbrev pub is_behind : List NodeSight → ℕ → Bool
+is_behind nodes front = list_any (λ sight. sight.runs && nat_lt front sight.front) nodes
+
+-- an act waits at the node, or it is behind
+abbrev pub has_to_go_on : List NodeSight → Option NodeSight → Bool
+has_to_go_on nodes None = false
+has_to_go_on nodes (Some sight) = sight.pends || is_behind nodes sight.front
+
+abbrev pub is_to_tick : List NodeSight → ℕ → Bool
+is_to_tick nodes node = has_to_go_on nodes (slice_get nodes node)
+
+-- by a node's own table this seat is to act
+abbrev pub is_seat : Option ℕ → ℕ → Bool
+is_seat None seat = false
+is_seat (Some to_act) seat = to_act == seat
+
+abbrev pub acts_by : Option NodeSight → ℕ → Bool
+acts_by None seat = false
+acts_by (Some sight) seat = is_seat sight.to_act seat
+
+abbrev pub has_to_act : List NodeSight → ℕ → ℕ → Bool
+has_to_act nodes node seat = acts_by (slice_get nodes node) seat
+
+-- a seat is played for at a node: where the node has to go on first, or another seat is to act there, it ticks
+abbrev pub played : List NodeSight → ℕ → ℕ → Due
+played nodes seat node = if not (is_to_tick nodes node) && has_to_act nodes node seat then Away seat node else Tick node
+
+-- a seat with a connection is read from, one without is awaited, or played for where it was dropped
 abbrev pub meeting : List NodeSight → ℕ → Place → Due
 meeting nodes seat (Awaited node) = Await seat (running_from nodes node)
 meeting nodes seat (Seated node) = Read seat node
 meeting nodes seat (Leaving node) = Drop seat node
+meeting nodes seat (Played node) = played nodes seat (running_from nodes node)
 
 abbrev pub greeting_at : List NodeSight → ℕ → Option Place → Option Due
 greeting_at nodes seat None = None
@@ -79,23 +109,12 @@ outing nodes = starting nodes (position (λ sight. not sight.runs && not sight.i
 
 -- ---- the match
 
--- some running node has applied more than so many commands
-abbrev pub is_behind : List NodeSight → ℕ → Bool
-is_behind nodes front = list_any (λ sight. sight.runs && nat_lt front sight.front) nodes
-
--- an act waits at the node, or it is behind
-abbrev pub has_to_go_on : List NodeSight → Option NodeSight → Bool
-has_to_go_on nodes None = false
-has_to_go_on nodes (Some sight) = sight.pends || is_behind nodes sight.front
-
-abbrev pub is_to_tick : List NodeSight → ℕ → Bool
-is_to_tick nodes node = has_to_go_on nodes (slice_get nodes node)
-
 abbrev pub acting_at : List NodeSight → ℕ → Option Place → Due
 acting_at nodes seat None = Tick 0
 acting_at nodes seat (Some (Seated node)) = if is_to_tick nodes node then Tick node else Read seat node
 acting_at nodes seat (Some (Awaited node)) = Await seat (running_from nodes node)
 acting_at nodes seat (Some (Leaving node)) = Drop seat node
+acting_at nodes seat (Some (Played node)) = played nodes seat (running_from nodes node)
 
 -- it is a seat's turn: where its node has to go on first, that node ticks; else the seat is met
 abbrev pub acting : List NodeSight → List Place → ℕ → Due

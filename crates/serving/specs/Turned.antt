@@ -12,6 +12,7 @@ use Rattle.serving.specs.declared.due.Due.{Due}
 use Rattle.serving.specs.declared.turn.Turn.{Turn}
 use Rattle.serving.specs.declared.turn.Turn.TheVariants as turn
 use Rattle.serving.specs.declared.serve_fault.ServeFault.{ServeFault}
+use Rattle.serving.specs.declared.serve_fault.ServeFault.TheVariants as serve
 use Rattle.match_links.specs.Passages.{Passage}
 use Rattle.serving.specs.Served.{Served}
 use Rattle.serving.specs.Giving.{Gives, counted, all_emptied, taken}
@@ -53,7 +54,7 @@ module _ {D : Type 0} (g : Ghosts D) where
   -- what is known after an event was given and answered so
   pub record Went (view : View (Node D)) (waiting : Waiting) (called : Result (Unit {0}) NodeFault) (old new : Progress) : Type 0 where
     pub settled : Progress
-    pub settles : Settled g view waiting.event (turn_of waiting.number waiting.event) old settled
+    pub settles : Settled g view waiting.event (turn_of waiting.number waiting.seat waiting.event) old settled
     pub ends : Ends called waiting settled new
 
   -- this event was given to the cluster, for which this was taken from the links, and answered so; where it found no memory it waits
@@ -61,7 +62,7 @@ module _ {D : Type 0} (g : Ghosts D) where
     pub called : Result (Unit {0}) NodeFault
     pub of_match : IsWaiting old.view waiting
     pub stepped : Stepped g old.view waiting.event called new.view
-    pub tells : Tells (turn_of waiting.number waiting.event) waiting.event called answer
+    pub tells : Tells (turn_of waiting.number waiting.seat waiting.event) waiting.event called answer
     pub again : called ≡ Err fault.OutOfMemory → (new.waiting ≡ Some waiting) × (new.progress ≡ old.progress) × (new.piece ≡ old.piece)
     pub given : (called ≡ Err fault.OutOfMemory → ⊥) → new.waiting ≡ None
     pub went : OnOk answer (Went new.view waiting called old.progress new.progress)
@@ -71,10 +72,14 @@ module _ {D : Type 0} (g : Ghosts D) where
     pub named : (called ≡ Err fault.OutOfMemory → ⊥) → new.called ≡ node_of waiting.event
     pub piece : (called ≡ Err fault.OutOfMemory → ⊥) → new.piece ≡ piece_after waiting.event old.piece
 
-  -- no call was made: all is over, a seat sent nothing, or what is due couldn't be taken from the links
+  -- what is due couldn't be taken from the links
+  abbrev pub FailsAt : Served (Node D) → ServeFault → Type 0
+  FailsAt old why = (what : Due) × IsDue g old.view old.progress what × MayFail old.view.config what why
+
+  -- no call was made: all is over, a seat sent nothing, the links had no room for what a turn may show, or what is due couldn't be taken
   abbrev pub DidNothing : Served (Node D) → Result Turn ServeFault → Type 0
   DidNothing old (Ok t) = ((t ≡ turn.Over) × IsNext g old.view old.progress old.waiting None) ⊎ SentNothing g old.view old.progress old.waiting t
-  DidNothing old (Err why) = (what : Due) × IsDue g old.view old.progress what × MayFail old.view.config what why
+  DidNothing old (Err why) = (why ≡ serve.Node fault.OutOfMemory) ⊎ FailsAt old why
 
   -- a turn did what is due: it gave the one event that is next to the cluster, or nothing
   abbrev pub Turned : Served (Node D) → Result Turn ServeFault → Served (Node D) → Type 0

@@ -18,21 +18,23 @@ use Rattle.serving.specs.declared.turn.Turn.TheVariants as turn
 use Rattle.serving.specs.declared.serve_fault.ServeFault.{ServeFault}
 use Rattle.serving.specs.declared.serve_fault.ServeFault.TheVariants as serve
 
--- the turn that gives an event to the cluster; of a frame it names its number
-abbrev pub turn_of : ℕ → Event → Turn
-turn_of number (event.Frame from to bytes) = turn.Delivered number
-turn_of number (event.Line node seat bytes) = turn.Read seat
-turn_of number (event.Tick node) = turn.Ticked node
-turn_of number (event.Connect node seat) = turn.Seated seat node
-turn_of number (event.Drop node seat) = turn.Gone seat
-turn_of number (event.Stop node pick) = turn.Stopped node
-turn_of number (event.Start node) = turn.Started node
+-- the turn that gives an event to the cluster; of a frame it names its number, and of an order the seat that is played for
+abbrev pub turn_of : ℕ → ℕ → Event → Turn
+turn_of number whose (event.Frame from to bytes) = turn.Delivered number
+turn_of number whose (event.Line node seat bytes) = turn.Read seat
+turn_of number whose (event.Tick node) = turn.Ticked node
+turn_of number whose (event.Away node) = turn.Away whose node
+turn_of number whose (event.Connect node seat) = turn.Seated seat node
+turn_of number whose (event.Drop node seat) = turn.Gone seat
+turn_of number whose (event.Stop node pick) = turn.Stopped node
+turn_of number whose (event.Start node) = turn.Started node
 
 -- a frame is that of its number among those that were sent: its sender, its receiver and all its bytes
 abbrev pub IsSent : List Frame → ℕ → Event → Type 0
 IsSent sent number (event.Frame from to bytes) = slice_get sent number ≡ Some (record { from = from; to = to; bytes = bytes.items })
 IsSent sent number (event.Line node seat bytes) = Unit {0}
 IsSent sent number (event.Tick node) = Unit {0}
+IsSent sent number (event.Away node) = Unit {0}
 IsSent sent number (event.Connect node seat) = Unit {0}
 IsSent sent number (event.Drop node seat) = Unit {0}
 IsSent sent number (event.Stop node pick) = Unit {0}
@@ -42,27 +44,30 @@ abbrev pub IsFrameless : Event → Type 0
 IsFrameless (event.Frame from to bytes) = ⊥
 IsFrameless (event.Line node seat bytes) = Unit {0}
 IsFrameless (event.Tick node) = Unit {0}
+IsFrameless (event.Away node) = Unit {0}
 IsFrameless (event.Connect node seat) = Unit {0}
 IsFrameless (event.Drop node seat) = Unit {0}
 IsFrameless (event.Stop node pick) = Unit {0}
 IsFrameless (event.Start node) = Unit {0}
 
--- what is due, as the event that does it; a seat that is awaited or read from may turn out to be gone
-abbrev pub IsForDue : Due → ℕ → Event → Type 0
-IsForDue (due.Stop node) number (event.Stop i pick) = i ≡ node
-IsForDue (due.Start node) number (event.Start i) = i ≡ node
-IsForDue (due.Tick node) number (event.Tick i) = i ≡ node
-IsForDue (due.Drop seat node) number (event.Drop i s) = (i ≡ node) × (s ≡ seat)
-IsForDue (due.Await seat node) number (event.Connect i s) = (i ≡ node) × (s ≡ seat)
-IsForDue (due.Await seat node) number (event.Drop i s) = (i ≡ node) × (s ≡ seat)
-IsForDue (due.Read seat node) number (event.Line i s bytes) = (i ≡ node) × (s ≡ seat)
-IsForDue (due.Read seat node) number (event.Drop i s) = (i ≡ node) × (s ≡ seat)
-IsForDue (due.Deliver k) number (event.Frame from to bytes) = number ≡ k
-IsForDue other number e = ⊥
+-- what is due, as the event that does it, of a frame with its number and of an order with the seat that is played for; a seat that is awaited or read from
+-- may turn out to be gone
+abbrev pub IsForDue : Due → ℕ → ℕ → Event → Type 0
+IsForDue (due.Stop node) number whose (event.Stop i pick) = i ≡ node
+IsForDue (due.Start node) number whose (event.Start i) = i ≡ node
+IsForDue (due.Tick node) number whose (event.Tick i) = i ≡ node
+IsForDue (due.Away seat node) number whose (event.Away i) = (i ≡ node) × (whose ≡ seat)
+IsForDue (due.Drop seat node) number whose (event.Drop i s) = (i ≡ node) × (s ≡ seat)
+IsForDue (due.Await seat node) number whose (event.Connect i s) = (i ≡ node) × (s ≡ seat)
+IsForDue (due.Await seat node) number whose (event.Drop i s) = (i ≡ node) × (s ≡ seat)
+IsForDue (due.Read seat node) number whose (event.Line i s bytes) = (i ≡ node) × (s ≡ seat)
+IsForDue (due.Read seat node) number whose (event.Drop i s) = (i ≡ node) × (s ≡ seat)
+IsForDue (due.Deliver k) number whose (event.Frame from to bytes) = number ≡ k
+IsForDue other number whose e = ⊥
 
 -- what is due was taken up: by this event, or by none where all is over
 abbrev pub IsTaken : Due → Option Waiting → Type 0
-IsTaken what (Some waiting) = IsForDue what waiting.number waiting.event
+IsTaken what (Some waiting) = IsForDue what waiting.number waiting.seat waiting.event
 IsTaken due.Over None = Unit {0}
 IsTaken other None = ⊥
 
@@ -109,7 +114,7 @@ Tells t e answer (Err serve.LinkFailed) = ⊥
 
 -- an event of what is due names a node or a seat that the match hasn't
 abbrev pub IsOutside : Plan → Due → Type 0
-IsOutside plan what = (e : Event) × IsForDue what 0 e × (IsForMatch plan e → ⊥)
+IsOutside plan what = (whose : ℕ) × (e : Event) × IsForDue what 0 whose e × (IsForMatch plan e → ⊥)
 
 -- want of memory comes where a link's bytes are awaited or a frame is copied
 abbrev pub MayWant : Due → Type 0

@@ -17,6 +17,7 @@ sent_prop : (sent : List Frame) (number : ℕ) (e : Event) → IsProp (IsSent se
 sent_prop sent number (event.Frame from to bytes) = Coded-set (coded_option coded_frame) _ _
 sent_prop sent number (event.Line node seat bytes) = Unit-prop
 sent_prop sent number (event.Tick node) = Unit-prop
+sent_prop sent number (event.Away node) = Unit-prop
 sent_prop sent number (event.Connect node seat) = Unit-prop
 sent_prop sent number (event.Drop node seat) = Unit-prop
 sent_prop sent number (event.Stop node pick) = Unit-prop

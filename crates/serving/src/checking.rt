@@ -25,28 +25,35 @@ pub(crate) fn is_for<D: Disk + Drop>(cluster: &Cluster<D>, event: &Event) -> boo
         Event::Line { node, seat, .. }
         | Event::Connect { node, seat }
         | Event::Drop { node, seat } => (*node as usize) < nodes && (*seat as usize) < players,
-        Event::Tick { node } | Event::Stop { node, .. } | Event::Start { node } => {
-            (*node as usize) < nodes
-        }
+        Event::Tick { node }
+        | Event::Away { node }
+        | Event::Stop { node, .. }
+        | Event::Start { node } => (*node as usize) < nodes,
     }
 }
 
-/// An event that is no frame, for what is due, as it is to be given to a cluster of its match.
+/// An event that is no frame, for what is due, as it is to be given to a cluster of its match; the seat is that of an
+/// order, else 0.
 pub(crate) fn checked<D: Disk + Drop>(
     cluster: &Cluster<D>,
     due: Due,
+    seat: u8,
     event: Event,
 ) -> Result<Taking, ServeFault>
     requires frameless { IsFrameless event }
-    requires due { IsForDue due 0 event }
-    ensures event { IfOk result (λ taking. taking ≡ Gives (record { event = event; number = 0 })) }
+    requires due { IsForDue due 0 seat event }
+    ensures event { IfOk result (λ taking. taking ≡ Gives (record { event = event; number = 0; seat = seat })) }
     ensures due { IfOk result (IsTakenUp due) }
     ensures waiting { IfOk result (λ taking. ForSome (event_in taking) (λ waiting. IsWaiting (view_of cluster.now) waiting)) }
     ensures fault { IfErr result (λ fault. (fault ≡ LinkFailed) × IsOutside (view_of cluster.now).config due) }
 {
     let _ = due;
     if is_for(cluster, &event) {
-        Ok(Taking::Gives(Waiting { event, number: 0 }))
+        Ok(Taking::Gives(Waiting {
+            event,
+            number: 0,
+            seat,
+        }))
     } else {
         Err(ServeFault::LinkFailed)
     }

@@ -1,15 +1,16 @@
-ghost use Rattle.std.specs.Prelude.{◌≡◌, ◌≤◌, ◌⊎◌, ◌++◌, List, [], ◌∷◌, length, slice_get, Some, OnOk, OnErr, IfErr};
+ghost use Rattle.std.specs.Prelude.{◌≡◌, ◌≤◌, ◌⊎◌, ◌++◌, List, [], ◌∷◌, length, replicate, slice_get, Some, OnOk, OnErr, IfErr};
 ghost use Rattle.dealer_world.specs.Events.{node_of};
 ghost use Rattle.dealer_world.specs.KeptShown.{piece_by};
 ghost use Rattle.dealer_world.specs.Viewing.{view_of};
 ghost use Rattle.match_links.specs.Passages.{Passage, Told};
 ghost use Rattle.seat_session.specs.Fault.{closes as closes_session};
-ghost use Rattle.serving.specs.Giving.{Gives, IsGiven, FewerSeated, counted};
+ghost use Rattle.serving.specs.Giving.{Gives, IsGiven, FewerSeated, StayUnseated, counted};
 ghost use Rattle.serving.specs.Going.{Settled, IsKept, closes, ends_in_line_feed, leaves};
+ghost use Rattle.serving.specs.Outing.{outages_in};
 ghost use Rattle.serving.specs.Placed.{places_in};
 ghost use Rattle.serving.specs.Turning.{turn_of};
 ghost use Rattle.std.specs.List.{list_any};
-ghost use Rattle.serving.specs.declared.place.Place.TheVariants.{Seated};
+ghost use Rattle.serving.specs.declared.place.Place.TheVariants.{Awaited, Seated};
 ghost use Rattle.serving.specs.declared.serve_fault.ServeFault.TheVariants.{LogFailed};
 
 use crate::outages::Outages;
@@ -18,6 +19,7 @@ use crate::serve_fault::ServeFault;
 use crate::waiting::Waiting;
 use dealer_node::{NodeFault, Reader, SeatFault};
 use dealer_world::{Cluster, Event, Piece};
+use match_file::Absent;
 use match_links::Links;
 use promise_store::Disk;
 use seat_session::SessionFault;
@@ -49,14 +51,17 @@ impl<L: Links + Drop> Drop for Desk<L> {
 
 impl<L: Links + Drop> Desk<L> {
     /// Nothing is done yet; so many seats are awaited.
-    pub(crate) fn new(links: L, outages: Outages, seats: usize) -> Desk<L>
+    pub(crate) fn new(links: L, outages: Outages, absent: Absent, seats: usize) -> Desk<L>
         requires { seats ≤ 10 }
         ensures links { result.links ≡ links }
+        ensures outages { outages_in result.progress.outages ≡ outages_in outages }
+        ensures absent { result.progress.absent ≡ absent }
+        ensures places { places_in result.progress.places ≡ replicate seats (Awaited 0) }
         ensures shown { result.shown ≡ 0 }
     {
         Desk {
             links,
-            progress: Progress::new(outages, seats),
+            progress: Progress::new(outages, absent, seats),
             shown: 0,
             last_node: 0,
             last_fault: None,
@@ -65,7 +70,7 @@ impl<L: Links + Drop> Desk<L> {
 
     /// What is known goes on after an event that was given to the cluster.
     pub(crate) fn settle<D: Disk + Drop>(&mut self, cluster: &Cluster<D>, waiting: &Waiting)
-        ensures settled { Settled D.Disk (view_of cluster.now) waiting.now.event (turn_of waiting.now.number waiting.now.event) self.old.progress self.new.progress }
+        ensures settled { Settled D.Disk (view_of cluster.now) waiting.now.event (turn_of waiting.now.number waiting.now.seat waiting.now.event) self.old.progress self.new.progress }
         ensures passed { L.passed self.new.links ≡ L.passed self.old.links }
         ensures shown { self.new.shown ≡ self.old.shown }
         ensures called { self.new.last_node ≡ node_of waiting.now.event }
@@ -81,12 +86,14 @@ impl<L: Links + Drop> Desk<L> {
                     self.progress.leave(*seat as usize, *node);
                 }
             }
-            Event::Tick { .. } => {}
+            Event::Tick { .. } | Event::Away { .. } => {}
             Event::Connect { node, seat } => self.progress.seat(*seat, *node),
             Event::Drop { node, seat } => {
                 self.links.hang_up(*node, *seat);
                 self.progress.greet(*seat);
-                self.progress.drop_seat(cluster, *seat, *node);
+                if self.progress.drop_seat(cluster, *seat, *node) {
+                    self.links.turn_away(*seat);
+                }
             }
             Event::Stop { node, .. } => {
                 self.links.close(*node);
@@ -106,6 +113,7 @@ impl<L: Links + Drop> Desk<L> {
         ensures given { (given : List Passage) × (L.passed self.new.links ≡ L.passed self.old.links ++ given)
             × Gives (places_in self.new.progress.places) (view_of cluster.now).all.shown self.old.shown self.new.shown given }
         ensures all_given { OnOk result (self.new.shown ≡ counted (view_of cluster.now).all.shown) }
+        ensures unseated { StayUnseated (places_in self.old.progress.places) (places_in self.new.progress.places) }
         ensures fault { IfErr result (λ fault. fault ≡ LogFailed) }
     {
         for number in self.shown..cluster.piece_count() {
@@ -125,6 +133,7 @@ impl<L: Links + Drop> Desk<L> {
         ensures called { self.new.last_node ≡ self.old.last_node }
         ensures refused { self.new.last_fault ≡ self.old.last_fault }
         ensures fewer { FewerSeated (places_in self.old.progress.places) (places_in self.new.progress.places) }
+        ensures unseated { StayUnseated (places_in self.old.progress.places) (places_in self.new.progress.places) }
         ensures given { OnOk result ((given : List Passage) × (L.passed self.new.links ≡ L.passed self.old.links ++ given)
             × IsGiven (places_in self.new.progress.places) (piece_by piece.entry.node piece.entry.start piece.entry.reader piece.entry.text.now) given) }
         ensures failed { OnErr result (L.passed self.new.links ≡ L.passed self.old.links) }
@@ -149,6 +158,7 @@ impl<L: Links + Drop> Desk<L> {
         ensures called { self.new.last_node ≡ self.old.last_node }
         ensures refused { self.new.last_fault ≡ self.old.last_fault }
         ensures fewer { FewerSeated (places_in self.old.progress.places) (places_in self.new.progress.places) }
+        ensures unseated { StayUnseated (places_in self.old.progress.places) (places_in self.new.progress.places) }
         ensures told { (L.passed self.new.links ≡ L.passed self.old.links ++ Told node seat line.now ∷ [])
             ⊎ ((L.passed self.new.links ≡ L.passed self.old.links) × (slice_get (places_in self.new.progress.places) seat ≡ Some (Seated node) → ⊥)) }
     {

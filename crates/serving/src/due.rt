@@ -1,6 +1,6 @@
 ghost use Rattle.std.specs.Prelude.{◌≡◌, ◌≤◌, ◌<◌, length, position, not, ◌&&◌, true, Some, IfSome};
 ghost use Rattle.serving.specs.declared.due.Due.TheVariants.{Over};
-ghost use Rattle.serving.specs.Next.{due_of, repairing, leaving, is_leaving, greeting, meeting, running_from, is_over, outing, playing, as_seen_by, running, finishing, is_behind, acting, is_to_tick};
+ghost use Rattle.serving.specs.Next.{due_of, repairing, leaving, is_leaving, greeting, meeting, running_from, is_over, outing, playing, as_seen_by, running, finishing, is_behind, acting, is_to_tick, has_to_act, played};
 
 use crate::known::{Known, NodeSight, Repair};
 use crate::place::Place;
@@ -18,6 +18,8 @@ pub enum Due {
     Await { seat: u8, node: u8 },
     /// A line is read from a seat at a node.
     Read { seat: u8, node: u8 },
+    /// It is ordered at a node that a seat is played for, which is to act there.
+    Away { seat: u8, node: u8 },
     /// A frame is delivered.
     Deliver(usize),
     /// A node ticks.
@@ -117,7 +119,7 @@ fn greeting(nodes: &[NodeSight], places: &[Place], greeted: usize) -> Option<Due
     }
 }
 
-/// A seat with a connection is read from, one without is awaited.
+/// A seat with a connection is read from, one without is awaited, or played for where it was dropped.
 fn meeting(nodes: &[NodeSight], seat: u8, place: Place) -> Due
     requires { length nodes.now ≤ 5 }
     ensures { result ≡ meeting nodes.now seat place }
@@ -129,6 +131,28 @@ fn meeting(nodes: &[NodeSight], seat: u8, place: Place) -> Due
         },
         Place::Seated(node) => Due::Read { seat, node },
         Place::Leaving(node) => Due::Drop { seat, node },
+        Place::Played(node) => played(nodes, seat, running_from(nodes, node)),
+    }
+}
+
+/// A seat is played for at a node: where the node has to go on first, or another seat is to act there, it ticks.
+fn played(nodes: &[NodeSight], seat: u8, node: u8) -> Due
+    ensures { result ≡ played nodes.now seat node }
+{
+    if !is_to_tick(nodes, node) && has_to_act(nodes, node, seat) {
+        Due::Away { seat, node }
+    } else {
+        Due::Tick(node)
+    }
+}
+
+/// Whether by a node's own table a seat is to act.
+fn has_to_act(nodes: &[NodeSight], node: u8, seat: u8) -> bool
+    ensures { result ≡ has_to_act nodes.now node seat }
+{
+    match nodes.get(node as usize) {
+        Some(sight) => sight.to_act == Some(seat),
+        None => false,
     }
 }
 

@@ -7,6 +7,9 @@ pub enum Place {
     Seated(u8),
     /// Its connection to this node ended or failed, or its session there was closed: it is to be dropped.
     Leaving(u8),
+    /// It was dropped and is played for, to the end: when it is its turn, that is ordered at the first running node from this
+    /// one on, in cyclic order.
+    Played(u8),
 }
 
 impl Default for Place {

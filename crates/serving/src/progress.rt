@@ -1,10 +1,10 @@
-ghost use Rattle.std.specs.Prelude.{◌≡◌, ◌≤◌, ◌<◌, ◌+◌, ◌-◌, ◌^◌, min, set, slice_get, Some, IsTrue, ◌↔◌};
+ghost use Rattle.std.specs.Prelude.{◌≡◌, ◌≤◌, ◌<◌, ◌+◌, ◌-◌, ◌^◌, min, replicate, set, slice_get, Some, IsTrue, ◌↔◌};
 ghost use Rattle.dealer_world.specs.Viewing.{view_of};
 ghost use Rattle.dealer_world.specs.declared.event.Event.TheVariants.{Stop as Stopping, Drop as Dropping};
 ghost use Rattle.serving.specs.Lowest.{IsCounted};
 ghost use Rattle.serving.specs.Outing.{outages_in};
 ghost use Rattle.serving.specs.Repairs.{stopped, started, greeted_after};
-ghost use Rattle.serving.specs.declared.place.Place.TheVariants.{Seated, Leaving};
+ghost use Rattle.serving.specs.declared.place.Place.TheVariants.{Awaited, Seated, Leaving};
 
 use crate::due::{Due, next_due, running_from};
 use crate::known::{Known, Repair};
@@ -13,12 +13,15 @@ use crate::place::Place;
 use crate::places::Places;
 use crate::seeing::{lowest_front, sights};
 use dealer_world::Cluster;
+use match_file::Absent;
 use match_links::limits::NODES;
 use promise_store::Disk;
 
 /// What a server knows beside its cluster and its links: how far it is with all.
 pub(crate) struct Progress {
     outages: Outages,
+    /// What is done about seats that were dropped.
+    absent: Absent,
     places: Places,
     /// How many seats were greeted.
     greeted: usize,
@@ -37,6 +40,7 @@ impl Drop for Progress {
     fn drop(self) {
         let Progress {
             outages: _,
+            absent: _,
             places: _,
             greeted: _,
             count: _,
@@ -53,11 +57,15 @@ impl Progress {
     ghost use Rattle.serving.specs.Placed.{places_in};
 
     /// Nothing is done yet; so many seats are awaited.
-    pub(crate) fn new(outages: Outages, seats: usize) -> Progress
+    pub(crate) fn new(outages: Outages, absent: Absent, seats: usize) -> Progress
         requires { seats ≤ 10 }
+        ensures outages { outages_in result.outages ≡ outages_in outages }
+        ensures absent { result.absent ≡ absent }
+        ensures places { places_in result.places ≡ replicate seats (Awaited 0) }
     {
         Progress {
             outages,
+            absent,
             places: Places::new(seats),
             greeted: 0,
             count: 0,
@@ -151,7 +159,7 @@ impl Progress {
         self.delivered = number.saturating_add(1);
     }
 
-    /// A node was stopped: its seats are awaited at the next one.
+    /// A node was stopped: its seats are awaited at the next one, or played for from there on as they were.
     pub(crate) fn stop<D: Disk + Drop>(&mut self, cluster: &Cluster<D>, node: u8)
         ensures same { IsSame self.old self.new }
         ensures delivered { self.new.delivered ≡ self.old.delivered }
@@ -179,13 +187,19 @@ impl Progress {
         }
     }
 
-    /// A seat was dropped at a node: it is awaited at the next one.
-    pub(crate) fn drop_seat<D: Disk + Drop>(&mut self, cluster: &Cluster<D>, seat: u8, node: u8)
+    /// A seat was dropped at a node: it is awaited at the next one, or played for from there on where absent seats are.
+    /// Whether it is played for from now on.
+    pub(crate) fn drop_seat<D: Disk + Drop>(
+        &mut self,
+        cluster: &Cluster<D>,
+        seat: u8,
+        node: u8,
+    ) -> bool
         ensures kept { IsKept self.old self.new }
         ensures places { PlacesAfter D.Disk (view_of cluster.now) self.old (Dropping node seat) (places_in self.old.places) (places_in self.new.places) }
     {
         let next = self.next_node(cluster, node);
-        self.places.put(seat as usize, Place::Awaited(next));
+        self.places.drop_seat(seat as usize, self.absent, next)
     }
 
     /// The first running node behind this one, in cyclic order.

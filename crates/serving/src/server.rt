@@ -1,4 +1,4 @@
-ghost use Rattle.std.specs.Prelude.{◌≡◌, ◌≤◌, ◌++◌, [], length, map, slice_get, None, Err, IfOk, IfErr, OnOk, OnErr};
+ghost use Rattle.std.specs.Prelude.{◌≡◌, ◌≤◌, ◌++◌, [], length, map, replicate, slice_get, None, IfOk, IfErr, OnOk, OnErr};
 ghost use Rattle.std.specs.Option.{ForSome};
 ghost use Rattle.dealer_world.specs.Viewing.{view_of};
 ghost use Rattle.dealer_world.specs.Promise.{IsPromised, HasNoForged};
@@ -7,14 +7,17 @@ ghost use Rattle.dealer_world.specs.Events.{node_of};
 ghost use Rattle.serving.specs.Dues.{TakesNext, IsAwaited};
 ghost use Rattle.serving.specs.Giving.{taken};
 ghost use Rattle.serving.specs.Going.{piece_after};
+ghost use Rattle.serving.specs.Outing.{outages_in};
 ghost use Rattle.serving.specs.Placed.{places_in};
-ghost use Rattle.serving.specs.Turned.{Turned, Gave, DidNothing, Ends, Mends, Passes, HasGivenAll, Opens};
+ghost use Rattle.serving.specs.Turned.{Turned, Gave, FailsAt, Ends, Mends, Passes, HasGivenAll, Opens};
 ghost use Rattle.serving.specs.Waits.{waits_prop};
 ghost use Rattle.serving.specs.Turning.{Tells, turn_of, goes_on, fault_in, event_in, IsWaiting};
+ghost use Rattle.serving.specs.declared.place.Place.TheVariants.{Awaited};
 ghost use Rattle.serving.specs.declared.serve_fault.ServeFault.TheVariants.{LogFailed};
 
 use crate::desk::Desk;
 use crate::due::Due;
+use crate::most::most_shown;
 use crate::outages::Outages;
 use crate::place::Place;
 use crate::serve_fault::ServeFault;
@@ -23,11 +26,12 @@ use crate::turn::Turn;
 use crate::waiting::{Taking, Waiting};
 use dealer_node::{NodeFault, is_out_of_memory};
 use dealer_world::{Cluster, Event};
+use match_file::Absent;
 use match_links::Links;
 use promise_store::Disk;
 use std::alloc::Global;
 
-/// A match that is served: a cluster, its links, and when which nodes are out.
+/// A match that is served: a cluster, its links, when which nodes are out, and what is done about absent seats.
 ///
 /// It changes the cluster by `Cluster::step` alone, so what is promised of a cluster's record holds of this one's,
 /// whatever the links answer.
@@ -92,7 +96,8 @@ fn keep_piece(kept: &mut Vec<u8>, given: Waiting)
 impl<D: Disk + Drop, L: Links + Drop> Server<D, L> {
     ghost use Rattle.serving.specs.Serving.{served_of};
 
-    /// Serves a cluster over these links: each node's log is emptied, and gets what the node's log has.
+    /// Serves a cluster over these links: each node's log is emptied, and gets what the node's log has. All seats are
+    /// awaited at node 0; one that is dropped later is awaited at the next node, or played for to the end.
     ///
     /// Refused is 106 where a log can't be emptied or written.
     pub fn new(
@@ -100,14 +105,19 @@ impl<D: Disk + Drop, L: Links + Drop> Server<D, L> {
         cluster: Cluster<D>,
         links: L,
         outages: Outages,
+        absent: Absent,
     ) -> Result<Server<D, L>, ServeFault>
         requires { IsPromised D.Disk (view_of cluster) }
         ensures cluster { IfOk result (λ server. view_of server.cluster ≡ view_of cluster) }
         ensures opens { IfOk result (λ server. Opens (length (view_of cluster).nodes) (L.passed links) (served_of server)) }
+        ensures outages { IfOk result (λ server. outages_in (served_of server).progress.outages ≡ outages_in outages) }
+        ensures absent { IfOk result (λ server. (served_of server).progress.absent ≡ absent) }
+        ensures places { IfOk result (λ server. places_in (served_of server).progress.places ≡ replicate (view_of cluster).config.setting.game.players (Awaited 0)) }
         ensures fault { IfErr result (λ fault. fault ≡ LogFailed) }
     {
         cluster.config().game().limits();
-        let mut desk = Desk::new(links, outages, cluster.config().game().players());
+        let seats = cluster.config().game().players();
+        let mut desk = Desk::new(links, outages, absent, seats);
         desk.progress.count_commands(&cluster);
         empty_logs(&mut desk.links, &cluster)?;
         if let Err(fault) = desk.show(&cluster) {
@@ -126,9 +136,25 @@ impl<D: Disk + Drop, L: Links + Drop> Server<D, L> {
     /// showed is given to its readers before the answer. Where the seat that is due sends nothing for so long as the links
     /// wait, nothing was done, and the same turn comes again.
     ///
-    /// By 92 nothing has changed, and the same turn comes again. After 105 and 106, and after another fault of a node,
-    /// the match can't go on.
+    /// By 92 nothing has changed, and the same turn comes again; it comes too where the links find no room for what the
+    /// turn may carry and show, which they make first. After 105 and 106, and after another fault of a node, the match
+    /// can't go on.
     pub fn turn(&mut self) -> Result<Turn, ServeFault>
+        ensures turned { Turned D.Disk (served_of self.old) result (served_of self.new) }
+        ensures promised { IsPromised D.Disk (view_of self.new.cluster) }
+        ensures unforged { HasNoForged (view_of self.old.cluster) → HasNoForged (view_of self.new.cluster) }
+        ensures begun { map (begun_of D.Disk) (view_of self.new.cluster).nodes ≡ map (begun_of D.Disk) (view_of self.old.cluster).nodes }
+    {
+        // Before anything is taken or given: what the turn then carries and shows finds its room.
+        let most = most_shown(&self.cluster);
+        if self.desk.links.reserve(most.pieces, most.bytes).is_err() {
+            return Err(ServeFault::Node(NodeFault::OutOfMemory));
+        }
+        self.take_turn()
+    }
+
+    /// The same where the links have made their room.
+    fn take_turn(&mut self) -> Result<Turn, ServeFault>
         ensures turned { Turned D.Disk (served_of self.old) result (served_of self.new) }
         ensures promised { IsPromised D.Disk (view_of self.new.cluster) }
         ensures unforged { HasNoForged (view_of self.old.cluster) → HasNoForged (view_of self.new.cluster) }
@@ -157,7 +183,7 @@ impl<D: Disk + Drop, L: Links + Drop> Server<D, L> {
         ensures failed { OnErr result (L.passed self.new.desk.links ≡ L.passed self.old.desk.links) }
         ensures next { IfOk result (TakesNext D.Disk (view_of self.old.cluster) self.old.desk.progress self.old.waiting) }
         ensures waiting { IfOk result (λ taking. ForSome (event_in taking) (λ event. IsWaiting (view_of self.old.cluster) event)) }
-        ensures fault { IfErr result (λ fault. (self.old.waiting ≡ None) × DidNothing D.Disk (served_of self.old) (Err fault)) }
+        ensures fault { IfErr result (λ fault. (self.old.waiting ≡ None) × FailsAt D.Disk (served_of self.old) fault) }
     {
         match self.waiting.take() {
             Some(waiting) => Ok(Taking::Gives(waiting)),
@@ -201,7 +227,7 @@ impl<D: Disk + Drop, L: Links + Drop> Server<D, L> {
         ensures passes { Passes [] (served_of self.old) (served_of self.new) }
         ensures all_given { OnOk result (HasGivenAll (served_of self.new)) }
         ensures ends { OnOk result (Ends answer waiting.now self.old.desk.progress self.new.desk.progress) }
-        ensures tells { Tells (turn_of waiting.now.number waiting.now.event) waiting.now.event answer result }
+        ensures tells { Tells (turn_of waiting.now.number waiting.now.seat waiting.now.event) waiting.now.event answer result }
     {
         match answer {
             Ok(()) => {
@@ -222,7 +248,7 @@ impl<D: Disk + Drop, L: Links + Drop> Server<D, L> {
         ensures passes { Passes [] (served_of self.old) (served_of self.new) }
         ensures all_given { OnOk result (HasGivenAll (served_of self.new)) }
         ensures ends { OnOk result (Ends (Err fault) waiting.now self.old.desk.progress self.new.desk.progress) }
-        ensures tells { Tells (turn_of waiting.now.number waiting.now.event) waiting.now.event (Err fault) result }
+        ensures tells { Tells (turn_of waiting.now.number waiting.now.seat waiting.now.event) waiting.now.event (Err fault) result }
     {
         if !goes_on(&waiting.event, Err(fault)) || !self.mends(&waiting.event, fault) {
             return Err(ServeFault::Node(fault));

@@ -37,17 +37,18 @@ pub(crate) fn take<D: Disk + Drop, L: Links + Drop>(
     ensures fault { IfErr result (MayFail (view_of cluster.now).config due) }
 {
     match due {
-        Due::Stop(node) => checked(cluster, due, Event::Stop { node, pick: 0 }),
+        Due::Stop(node) => checked(cluster, due, 0, Event::Stop { node, pick: 0 }),
         Due::Start(node) => {
-            let start = checked(cluster, due, Event::Start { node })?;
+            let start = checked(cluster, due, 0, Event::Start { node })?;
             prepare(links, node)?;
             Ok(start)
         }
-        Due::Drop { seat, node } => checked(cluster, due, Event::Drop { node, seat }),
+        Due::Drop { seat, node } => checked(cluster, due, 0, Event::Drop { node, seat }),
         Due::Await { seat, node } => accept_of(links, cluster, node, seat),
         Due::Read { seat, node } => read_of(alloc, links, cluster, node, seat),
         Due::Deliver(number) => carry(alloc, links, cluster, number),
-        Due::Tick(node) => checked(cluster, due, Event::Tick { node }),
+        Due::Away { seat, node } => checked(cluster, due, seat, Event::Away { node }),
+        Due::Tick(node) => checked(cluster, due, 0, Event::Tick { node }),
         Due::Over => Ok(Taking::Over),
     }
 }
@@ -116,9 +117,13 @@ fn accept_of<D: Disk + Drop, L: Links + Drop>(
 {
     // Looked at before the link is: who is seated there is then never lost.
     let due = Due::Await { seat, node };
-    let _ = checked(cluster, due, Event::Drop { node, seat })?;
+    let _ = checked(cluster, due, 0, Event::Drop { node, seat })?;
     match accept(links, node, seat)? {
-        Some(event) => Ok(Taking::Gives(Waiting { event, number: 0 })),
+        Some(event) => Ok(Taking::Gives(Waiting {
+            event,
+            number: 0,
+            seat: 0,
+        })),
         None => Ok(Taking::Waits { seat, node }),
     }
 }
@@ -128,7 +133,7 @@ fn accept<L: Links + Drop>(links: &mut L, node: u8, seat: u8) -> Result<Option<E
     ensures taken { IfOk result (λ found. L.passed links.new ≡ L.passed links.old ++ taken_from found) }
     ensures failed { OnErr result (L.passed links.new ≡ L.passed links.old) }
     ensures frameless { IfOk result (λ found. ForSome found IsFrameless) }
-    ensures due { IfOk result (λ found. ForSome found (IsForDue (Await seat node) 0)) }
+    ensures due { IfOk result (λ found. ForSome found (IsForDue (Await seat node) 0 0)) }
     ensures fault { IfErr result (λ fault. fault ≡ OfNode OutOfMemory) }
 {
     match links.accept(node, seat) {
@@ -155,9 +160,13 @@ fn read_of<D: Disk + Drop, L: Links + Drop>(
 {
     // Looked at before the link is: what it gives is then never lost.
     let due = Due::Read { seat, node };
-    let _ = checked(cluster, due, Event::Drop { node, seat })?;
+    let _ = checked(cluster, due, 0, Event::Drop { node, seat })?;
     match read(alloc, links, node, seat)? {
-        Some(event) => Ok(Taking::Gives(Waiting { event, number: 0 })),
+        Some(event) => Ok(Taking::Gives(Waiting {
+            event,
+            number: 0,
+            seat: 0,
+        })),
         None => Ok(Taking::Waits { seat, node }),
     }
 }
@@ -173,7 +182,7 @@ fn read<L: Links + Drop>(
     ensures taken { IfOk result (λ found. L.passed links.new ≡ L.passed links.old ++ taken_from found) }
     ensures failed { OnErr result (L.passed links.new ≡ L.passed links.old) }
     ensures frameless { IfOk result (λ found. ForSome found IsFrameless) }
-    ensures due { IfOk result (λ found. ForSome found (IsForDue (Read seat node) 0)) }
+    ensures due { IfOk result (λ found. ForSome found (IsForDue (Read seat node) 0 0)) }
     ensures fault { IfErr result (λ fault. fault ≡ OfNode OutOfMemory) }
 {
     let mut bytes = vec![in alloc; 0u8; PIECE]?;
@@ -214,7 +223,7 @@ fn carry<D: Disk + Drop, L: Links + Drop>(
         bytes,
     };
     if is_for(cluster, &event) {
-        Ok(Taking::Gives(Waiting { event, number }))
+        Ok(Taking::Gives(Waiting::of_frame(event, number)))
     } else {
         Err(ServeFault::LinkFailed)
     }

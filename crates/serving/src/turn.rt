@@ -15,6 +15,8 @@ pub enum Turn {
     Read(u8),
     /// The seat was dropped: its connection ended or failed, or its session was closed.
     Gone(u8),
+    /// It was ordered at the node that the seat, which is to act there, is played for.
+    Away { seat: u8, node: u8 },
     /// The seat that is awaited at the node, or read from there, has sent nothing for five seconds: nothing was done, and
     /// the same turn comes again.
     Waits { seat: u8, node: u8 },

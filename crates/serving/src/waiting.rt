@@ -4,11 +4,13 @@ ghost use Rattle.serving.specs.Turning.{turn_of};
 use crate::turn::Turn;
 use dealer_world::Event;
 
-/// An event that is to be given to the cluster; of a frame its number too, counted from 0 in the order of sending.
+/// An event that is to be given to the cluster; of a frame its number too, counted from 0 in the order of sending, and of
+/// an order the seat that is played for.
 #[derive(Drop)]
 pub(crate) struct Waiting {
     pub(crate) event: Event,
     pub(crate) number: usize,
+    pub(crate) seat: u8,
 }
 
 /// What it came to that something was to be taken from the links. Seats and nodes are counted from 0.
@@ -23,14 +25,29 @@ pub(crate) enum Taking {
 }
 
 impl Waiting {
+    /// A frame, under its number.
+    pub(crate) fn of_frame(event: Event, number: usize) -> Waiting
+        ensures { result ≡ record { event = event; number = number; seat = 0 } }
+    {
+        Waiting {
+            event,
+            number,
+            seat: 0,
+        }
+    }
+
     /// The turn that gives it.
     pub(crate) fn turn(&self) -> Turn
-        ensures { result ≡ turn_of self.now.number self.now.event }
+        ensures { result ≡ turn_of self.now.number self.now.seat self.now.event }
     {
         match &self.event {
             Event::Frame { .. } => Turn::Delivered(self.number),
             Event::Line { seat, .. } => Turn::Read(*seat),
             Event::Tick { node } => Turn::Ticked(*node),
+            Event::Away { node } => Turn::Away {
+                seat: self.seat,
+                node: *node,
+            },
             Event::Connect { node, seat } => Turn::Seated {
                 seat: *seat,
                 node: *node,

@@ -20,12 +20,12 @@ use Rattle.slot_log.proofs.Fitting.{none_from_fits}
 
 -- ---- one command
 
-after_fitting : AllowedWithoutFault → (game : Game) (count : ℕ) (hands : List Hand) (command : Command) → Fits game count hands command → hands_after game count hands command ≡ with_command hands command
+after_fitting : AllowedWithoutFault → (game : Game) (count : ℕ) (hands : List Hand) (command : Command) → Fits game count hands command → hands_after game count hands command ≡ with_command game hands command
 after_fitting law game count hands command fits =
-    let pick : Option Reason → List Hand = λ o. elim o [ None ↦ with_command hands command | Some reason ↦ hands ] in
+    let pick : Option Reason → List Hand = λ o. elim o [ None ↦ with_command game hands command | Some reason ↦ hands ] in
     ap pick (none_from_fits law game count hands command fits)
 
-made_by : AllowedWithoutFault → (game : Game) (count : ℕ) (commands : List Command) (hands : List Hand) (command : Command) → hands_of game count commands ≡ hands → Fits game count hands command → hands_of game count (command ∷ commands) ≡ with_command hands command
+made_by : AllowedWithoutFault → (game : Game) (count : ℕ) (commands : List Command) (hands : List Hand) (command : Command) → hands_of game count commands ≡ hands → Fits game count hands command → hands_of game count (command ∷ commands) ≡ with_command game hands command
 unfolding hands_of
 made_by law game count commands hands command so_far fits =
     ap (λ before. hands_after game count before command) so_far ∙ after_fitting law game count hands command fits

@@ -10,12 +10,13 @@ use Rattle.betting.specs.Rounds.{turns}
 use Rattle.betting.specs.Legal.{CanAct, Legal}
 use Rattle.betting.specs.Laws.{AllowedWithoutFault, HandsEnd, RaisesGoUp}
 use Rattle.slot_log.specs.Hand.{Hand}
-use Rattle.slot_log.specs.Dealer.{is_finished, is_running, finished_count, Fits, with_command, hands_of, reason_of}
+use Rattle.slot_log.specs.Dealer.{is_finished, is_running, finished_count, ActFits, Fits, act_for, with_action, with_command, hands_of, reason_of}
 use Rattle.slot_log.specs.Played.{AreEarlierFinished, AreHands}
-use Rattle.slot_log.specs.Range.{IsAmount}
+use Rattle.slot_log.specs.Range.{IsAmount, IsInRange}
+use Rattle.slot_log.specs.declared.limits.TheConstants.{HANDS}
 use Rattle.slot_log.specs.Laws.{FitsWithoutReason, CommandsMakeHands, FittingIsInRange, NewestIsFound}
 use Rattle.slot_log.specs.declared.command.Command.{Command}
-use Rattle.slot_log.specs.declared.command.Command.TheVariants.{Deal, Act}
+use Rattle.slot_log.specs.declared.command.Command.TheVariants.{Deal, Act, Away}
 use Rattle.slot_log.specs.declared.reason.Reason.{Reason}
 use Rattle.slot_log.proofs.Hands.{count_all, reverse-cons, at_end}
 use Rattle.slot_log.proofs.Fitting.{fits_from_none, none_from_fits}
@@ -29,7 +30,15 @@ all_finished : (game : Game) (hands : List Hand) → AreEarlierFinished game han
 all_finished game [] earlier none_runs = tt
 all_finished game (newest ∷ hands) earlier none_runs = (not-false (is_finished game newest) none_runs, earlier)
 
-after_fitting : (game : Game) (count : ℕ) (hands : List Hand) (command : Command) → AreHands game count hands → Fits game count hands command → AreHands game count (with_command hands command)
+after_act : (game : Game) (count : ℕ) (newest : Hand) (earlier : List Hand) (hand index : ℕ) (action : Action) → AreHands game count (newest ∷ earlier)
+    → ActFits game count newest earlier hand index action → AreHands game count (with_action (newest ∷ earlier) action)
+after_act game count newest earlier hand index action are fits = record {
+  legal = (record { card_count = are.legal.0.card_count; legal = (are.legal.0.legal, fits.allowed) }, are.legal.1);
+  earlier_finished = are.earlier_finished;
+  within = are.within;
+}
+
+after_fitting : (game : Game) (count : ℕ) (hands : List Hand) (command : Command) → AreHands game count hands → Fits game count hands command → AreHands game count (with_command game hands command)
 after_fitting game count hands (Deal hand deal) are fits =
     let finished = all_finished game hands are.earlier_finished fits.none_runs in
     let counted : finished_count game hands ≡ length hands = count_all (is_finished game) hands finished in
@@ -40,14 +49,13 @@ after_fitting game count hands (Deal hand deal) are fits =
       within = omega (arith, counted, goes_on);
     }
 after_fitting game count [] (Act hand index action) are fits = absurd fits
-after_fitting game count (newest ∷ earlier) (Act hand index action) are fits = record {
-  legal = (record { card_count = are.legal.0.card_count; legal = (are.legal.0.legal, fits.allowed) }, are.legal.1);
-  earlier_finished = are.earlier_finished;
-  within = are.within;
-}
+after_fitting game count (newest ∷ earlier) (Act hand index action) are fits = after_act game count newest earlier hand index action are fits
+after_fitting game count [] (Away hand index) are fits = absurd fits
+after_fitting game count (newest ∷ earlier) (Away hand index) are fits =
+    after_act game count newest earlier hand index (act_for game (newest ∷ earlier)) are fits
 
 after_reason : AllowedWithoutFault → (game : Game) (count : ℕ) (hands : List Hand) (command : Command) (reason : Option Reason) → reason_of game count hands command ≡ reason → AreHands game count hands
-    → AreHands game count (elim reason [ None ↦ with_command hands command | Some reason ↦ hands ])
+    → AreHands game count (elim reason [ None ↦ with_command game hands command | Some reason ↦ hands ])
 after_reason law game count hands command None is are = after_fitting game count hands command are (fits_from_none law game count hands command is)
 after_reason law game count hands command (Some reason) is are = are
 
@@ -73,18 +81,26 @@ amount_fits law game past (Raise amount) is_game legal can =
     let most : stack_of game can.0 ≤ most_chips = at_most most_chips game.stacks can.0 is_game.stacks_fit in
     omega (arith, within, most)
 
+act_in_range : HandsEnd → RaisesGoUp → (game : Game) (count : ℕ) (newest : Hand) (earlier : List Hand) (hand index : ℕ) (action : Action) → IsGame game → count ≤ HANDS
+    → AreHands game count (newest ∷ earlier) → ActFits game count newest earlier hand index action → IsInRange (Act hand index action)
+act_in_range ends up game count newest earlier hand index action is_game few are fits =
+    let same_hand : hand ≡ length earlier = fits.same_hand in
+    let next_index : index ≡ length newest.past = fits.next_index in
+    let within : suc (length earlier) ≤ count = are.within in
+    let acts : suc (length newest.past) ≤ 256 = ends game (action ∷ newest.past) is_game (are.legal.0.legal, fits.allowed) in
+    (omega (arith, few, same_hand, within), omega (arith, next_index, acts), amount_fits up game newest.past action is_game are.legal.0.legal fits.allowed)
+
 pub fitting_is_in_range : HandsEnd → RaisesGoUp → FittingIsInRange
 fitting_is_in_range ends up game count hands (Deal hand deal) is_game few are fits =
     let next = fits.next_hand in
     let goes_on = fits.goes_on in
     omega (arith, few, next, goes_on)
 fitting_is_in_range ends up game count [] (Act hand index action) is_game few are fits = absurd fits
-fitting_is_in_range ends up game count (newest ∷ earlier) (Act hand index action) is_game few are fits =
-    let same_hand : hand ≡ length earlier = fits.same_hand in
-    let next_index : index ≡ length newest.past = fits.next_index in
-    let within : suc (length earlier) ≤ count = are.within in
-    let acts : suc (length newest.past) ≤ 256 = ends game (action ∷ newest.past) is_game (are.legal.0.legal, fits.allowed) in
-    (omega (arith, few, same_hand, within), omega (arith, next_index, acts), amount_fits up game newest.past action is_game are.legal.0.legal fits.allowed)
+fitting_is_in_range ends up game count (newest ∷ earlier) (Act hand index action) is_game few are fits = act_in_range ends up game count newest earlier hand index action is_game few are fits
+fitting_is_in_range ends up game count [] (Away hand index) is_game few are fits = absurd fits
+fitting_is_in_range ends up game count (newest ∷ earlier) (Away hand index) is_game few are fits =
+    let within = act_in_range ends up game count newest earlier hand index (act_for game (newest ∷ earlier)) is_game few are fits in
+    (within.0, within.1)
 
 -- ---- the newest hand
 

@@ -3,11 +3,13 @@ use Rattle.std.specs.Prelude.{◌≡◌, ℕ, ◌+◌, ◌*◌, ◌<◌, Bool, f
 use Rattle.std.specs.Option.{option_map}
 use Rattle.game_def.specs.Game.{Game}
 use Rattle.betting.specs.declared.action.Action.{Action}
+use Rattle.betting.specs.declared.action.Action.TheVariants.{Call}
 use Rattle.betting.specs.Rounds.{over, turns}
 use Rattle.betting.specs.Legal.{CanAct, fault_of}
 use Rattle.slot_log.specs.Hand.{Hand}
+use Rattle.slot_log.specs.Away.{away_action}
 use Rattle.slot_log.specs.declared.command.Command.{Command}
-use Rattle.slot_log.specs.declared.command.Command.TheVariants.{Deal, Act}
+use Rattle.slot_log.specs.declared.command.Command.TheVariants.{Deal, Act, Away}
 use Rattle.slot_log.specs.declared.reason.Reason.{Reason}
 use Rattle.slot_log.specs.declared.reason.Reason.TheVariants.{MatchDone, NoHand, HandRunning, WrongHand, WrongIndex, WrongCards, Illegal}
 use Rattle.slot_log.specs.declared.effect.Effect.{Effect}
@@ -30,6 +32,7 @@ is_running game (hand ∷ earlier) = not (is_finished game hand)
 abbrev pub IsDealing : Command → Type 0
 IsDealing (Deal hand deal) = Unit {0}
 IsDealing (Act hand index action) = ⊥
+IsDealing (Away hand index) = ⊥
 
 -- a deal fits where the match goes on, no hand runs, it is for the next hand, and it has two cards for each
 -- player and five for the board
@@ -53,6 +56,8 @@ abbrev pub Fits : Game → ℕ → List Hand → Command → Type 0
 Fits game count hands (Deal hand deal) = DealFits game count hands hand deal
 Fits game count [] (Act hand index action) = ⊥
 Fits game count (newest ∷ earlier) (Act hand index action) = ActFits game count newest earlier hand index action
+Fits game count [] (Away hand index) = ⊥
+Fits game count (newest ∷ earlier) (Away hand index) = ActFits game count newest earlier hand index (away_action game (turns game newest.past))
 
 -- all hands of the match are finished
 abbrev pub is_match_over : Game → ℕ → List Hand → Bool
@@ -75,10 +80,16 @@ act_reason game (newest ∷ earlier) hand index action =
     else if not (index == length newest.past) then Some WrongIndex
     else option_map Illegal (fault_of game (turns game newest.past) action)
 
+-- what is done for the player to act of the newest hand where he is away
+abbrev pub act_for : Game → List Hand → Action
+act_for game [] = Call
+act_for game (newest ∷ earlier) = away_action game (turns game newest.past)
+
 -- the first reason, in this order, why a command doesn't fit; none where it fits
 abbrev pub reason_of : Game → ℕ → List Hand → Command → Option Reason
 reason_of game count hands (Deal hand deal) = if is_match_over game count hands then Some MatchDone else deal_reason game hands hand deal
 reason_of game count hands (Act hand index action) = if is_match_over game count hands then Some MatchDone else act_reason game hands hand index action
+reason_of game count hands (Away hand index) = if is_match_over game count hands then Some MatchDone else act_reason game hands hand index (act_for game hands)
 
 -- a deal that fits begins a hand
 abbrev pub with_deal : List Hand → List ℕ → List Hand
@@ -90,14 +101,15 @@ with_action [] action = []
 with_action (newest ∷ earlier) action = record newest { past = action ∷ newest.past } ∷ earlier
 
 -- the hands after a command that fits
-abbrev pub with_command : List Hand → Command → List Hand
-with_command hands (Deal hand deal) = with_deal hands deal
-with_command hands (Act hand index action) = with_action hands action
+abbrev pub with_command : Game → List Hand → Command → List Hand
+with_command game hands (Deal hand deal) = with_deal hands deal
+with_command game hands (Act hand index action) = with_action hands action
+with_command game hands (Away hand index) = with_action hands (act_for game hands)
 
 -- the hands after a command: one that doesn't fit does nothing
 abbrev pub hands_after : Game → ℕ → List Hand → Command → List Hand
 hands_after game count hands command =
-    elim (reason_of game count hands command) [ None ↦ with_command hands command | Some reason ↦ hands ]
+    elim (reason_of game count hands command) [ None ↦ with_command game hands command | Some reason ↦ hands ]
 
 -- the hands that a list of commands makes, newest first
 unfoldable pub hands_of : Game → ℕ → List Command → List Hand
@@ -115,12 +127,18 @@ effect_of_action game count hands =
 abbrev pub effect_in : Game → ℕ → Command → List Hand → Effect
 effect_in game count (Deal hand deal) hands = Dealt
 effect_in game count (Act hand index action) hands = effect_of_action game count hands
+effect_in game count (Away hand index) hands = effect_of_action game count hands
 
 -- what a command does
 abbrev pub effect_of : Game → ℕ → List Hand → Command → Effect
 effect_of game count hands command =
-    elim (reason_of game count hands command) [ None ↦ effect_in game count command (with_command hands command) | Some reason ↦ Nothing reason ]
+    elim (reason_of game count hands command) [ None ↦ effect_in game count command (with_command game hands command) | Some reason ↦ Nothing reason ]
 
 -- the hand of a number, counted from 0 in the order of dealing
 abbrev pub hand_at : List Hand → ℕ → Option Hand
 hand_at hands number = slice_get (reverse hands) number
+
+-- the command by which the player to act is played for: of the running hand, with the number of its actions so far
+abbrev pub next_away : Game → List Hand → Option Command
+next_away game [] = None
+next_away game (newest ∷ earlier) = if is_finished game newest then None else Some (Away (length earlier) (length newest.past))

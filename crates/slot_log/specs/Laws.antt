@@ -1,10 +1,13 @@
 -- What holds of the hands of every match.
+use Rattle.betting.specs.declared.fault.ActFault.{ActFault}
 use Rattle.std.specs.Prelude.{◌≡◌, ℕ, ◌≤◌, ◌↔◌, List, ◌∷◌, length, map, Some, None}
 use Rattle.std.specs.List.{AllByRecursion}
 use Rattle.game_def.specs.Game.{Game, IsGame}
 use Rattle.slot_log.specs.Hand.{Hand}
 use Rattle.slot_log.specs.declared.command.Command.{Command}
-use Rattle.slot_log.specs.Dealer.{Fits, reason_of, hands_of, hand_at}
+use Rattle.slot_log.specs.declared.command.Command.TheVariants.{Away}
+use Rattle.slot_log.specs.declared.reason.Reason.TheVariants.{Illegal}
+use Rattle.slot_log.specs.Dealer.{Fits, reason_of, hands_of, hand_at, next_away}
 use Rattle.slot_log.specs.Played.{commands_of, deals_of, IsLegalHand, AreEarlierFinished, AreHands}
 use Rattle.slot_log.specs.declared.limits.TheConstants.{HANDS}
 use Rattle.slot_log.specs.Range.{IsInRange}
@@ -35,3 +38,18 @@ FittingIsInRange = (game : Game) (count : ℕ) (hands : List Hand) (command : Co
 -- the newest hand stands at the number of those before it
 abbrev pub NewestIsFound : Type 0
 NewestIsFound = (newest : Hand) (earlier : List Hand) → hand_at (newest ∷ earlier) (length earlier) ≡ Some newest
+
+-- what is done for a player who is away is legal
+abbrev pub AwayIsNeverIllegal : Type 0
+AwayIsNeverIllegal = (game : Game) (count : ℕ) (hands : List Hand) (hand index : ℕ) (fault : ActFault) → IsGame game → AreHands game count hands
+    → reason_of game count hands (Away hand index) ≡ Some (Illegal fault) → ⊥
+
+-- the command for him fits where a hand runs
+abbrev pub NextAwayFits : Type 0
+NextAwayFits = (game : Game) (count : ℕ) (hands : List Hand) (command : Command) → IsGame game → AreHands game count hands
+    → next_away game hands ≡ Some command → Fits game count hands command
+
+-- and no other that plays for somebody does
+abbrev pub NoOtherAwayFits : Type 0
+NoOtherAwayFits = (game : Game) (count : ℕ) (hands : List Hand) (hand index : ℕ) → Fits game count hands (Away hand index)
+    → next_away game hands ≡ Some (Away hand index)

@@ -1,4 +1,5 @@
 pub mod Hand
+pub mod Away
 pub mod Dealer
 pub mod PlayedHand
 pub mod TableInside

@@ -7,7 +7,7 @@ use Rattle.betting.specs.Legal.{Legal}
 use Rattle.slot_log.specs.Hand.{Hand}
 use Rattle.slot_log.specs.Dealer.{is_finished}
 use Rattle.slot_log.specs.declared.command.Command.{Command}
-use Rattle.slot_log.specs.declared.command.Command.TheVariants.{Deal, Act}
+use Rattle.slot_log.specs.declared.command.Command.TheVariants.{Deal, Act, Away}
 
 -- a hand's actions as commands, each with the number of those before it; newest first
 abbrev pub acts_of : ℕ → List Action → List Command
@@ -24,6 +24,7 @@ abbrev pub deals_of : List Command → List (List ℕ)
 deals_of [] = []
 deals_of (Deal hand deal ∷ earlier) = deal ∷ deals_of earlier
 deals_of (Act hand index action ∷ earlier) = deals_of earlier
+deals_of (Away hand index ∷ earlier) = deals_of earlier
 
 -- a hand of this game: two cards for each player and five for the board, and each action was allowed
 pub record IsLegalHand (game : Game) (hand : Hand) : Type 0 where

@@ -5,7 +5,7 @@ use Rattle.slot_log.specs.declared.limits.TheConstants.{HANDS, ACTIONS}
 use Rattle.betting.specs.declared.action.Action.{Action}
 use Rattle.betting.specs.declared.action.Action.TheVariants.{Fold, Call, Raise}
 use Rattle.slot_log.specs.declared.command.Command.{Command}
-use Rattle.slot_log.specs.declared.command.Command.TheVariants.{Deal, Act}
+use Rattle.slot_log.specs.declared.command.Command.TheVariants.{Deal, Act, Away}
 
 -- a raise goes to no more than the greatest stack; no other action has an amount
 abbrev pub IsAmount : Action → Type 0
@@ -17,3 +17,4 @@ IsAmount (Raise amount) = amount ≤ most_chips
 abbrev pub IsInRange : Command → Type 0
 IsInRange (Deal hand deal) = hand < HANDS
 IsInRange (Act hand index action) = (hand < HANDS) × (index < ACTIONS) × IsAmount action
+IsInRange (Away hand index) = (hand < HANDS) × (index < ACTIONS)

@@ -17,6 +17,12 @@ pub enum Command {
         index: u16,
         action: Action,
     },
+    /// The player to act is away, and is played for: he folds where he faces something, and else calls. It stands in the
+    /// place of the act of this index, counted from 0, of this hand.
+    Away {
+        hand: u32,
+        index: u16,
+    },
 }
 
 impl Command {
@@ -44,6 +50,13 @@ impl Command {
                     action: other_action,
                 },
             ) => hand == other_hand && index == other_index && action == other_action,
+            (
+                Command::Away { hand, index },
+                Command::Away {
+                    hand: other_hand,
+                    index: other_index,
+                },
+            ) => hand == other_hand && index == other_index,
             _ => false,
         }
     }

@@ -5,11 +5,11 @@ use crate::reason::Reason;
 pub enum Effect {
     /// A hand was dealt.
     Dealt,
-    /// The player to act acted, and the hand goes on.
+    /// The player to act acted, or was played for, and the hand goes on.
     Acted,
-    /// The player to act acted, and the hand is over.
+    /// The player to act acted, or was played for, and the hand is over.
     HandOver,
-    /// The player to act acted, and with the hand the match is over.
+    /// The player to act acted, or was played for, and with the hand the match is over.
     MatchOver,
     /// Nothing, for this reason.
     None(Reason),

@@ -1,9 +1,9 @@
 //! What holds of the hands of every match and of every log of slots: each law is the contract of a function that does nothing.
 
-ghost use Rattle.slot_log.specs.Laws.{HandsComeOfCommands, CommandsDealTheHands, FitsWithoutReason, CommandsMakeHands, FittingIsInRange, NewestIsFound};
+ghost use Rattle.slot_log.specs.Laws.{HandsComeOfCommands, CommandsDealTheHands, FitsWithoutReason, CommandsMakeHands, FittingIsInRange, NewestIsFound, AwayIsNeverIllegal, NextAwayFits, NoOtherAwayFits};
 ghost use Rattle.slot_log.specs.SlotLaws.{FrontIsFirstHole, SlotsEnd, OneMoreIsKnown, FrontsGoOn, CommandsAreKept};
 
-use betting::laws::{allowed_without_fault, hands_end, raises_go_up};
+use betting::laws::{allowed_without_fault, hands_end, raises_go_up, somebody_may_call};
 
 /// Legal hands, all but the newest finished and no more than the match has, come of the commands that deal
 /// and play them.
@@ -40,6 +40,17 @@ pub fn fitting_is_in_range()
 {
     hands_end();
     raises_go_up();
+}
+
+/// What is done for a player who is away is legal: where a hand runs, the command for its player to act fits, and no other
+/// that plays for somebody.
+pub fn away_is_legal()
+    ensures never { AwayIsNeverIllegal }
+    ensures next { NextAwayFits }
+    ensures only { NoOtherAwayFits }
+{
+    allowed_without_fault();
+    somebody_may_call();
 }
 
 /// The newest hand stands at the number of those before it.

@@ -3,7 +3,7 @@
 //! match.
 //!
 //! `Table::new` begins a match of a game. A `Command` deals the next hand, or is the next action of the hand that
-//! runs: `fits` says whether it would take effect now and `reason` why not, `apply` takes it and answers its
+//! runs, or plays for its player to act where he is away (`away` gives that one): `fits` says whether it would take effect now and `reason` why not, `apply` takes it and answers its
 //! `Effect`. The readers `deal` and `play` give each hand; `finished`, `running` and `over` tell how far the match
 //! is. `SlotLog` begins empty: `put` makes a command known at its slot, and `commands` are those below `front`, the
 //! first slot that isn't known. Calls with `reserved` in their name take no memory, once `reserve` made the room.

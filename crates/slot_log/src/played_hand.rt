@@ -1,6 +1,7 @@
 ghost use Rattle.std.specs.Prelude.{◌≡◌, ℕ, ◌+◌, ◌*◌, [], ◌∷◌, length};
 ghost use Rattle.betting.specs.Betting.{history};
 ghost use Rattle.betting.specs.Legal.{CanAct};
+ghost use Rattle.slot_log.specs.Away.{away_action};
 ghost use Rattle.slot_log.specs.PlayedHand.{IsOf};
 
 use betting::{Action, Play};
@@ -25,6 +26,16 @@ impl PlayedHand {
         PlayedHand {
             deal,
             play: Play::new(game),
+        }
+    }
+
+    /// What is done for the player to act where he is away: he folds where he faces something, and else calls.
+    pub(crate) fn away_action(&self) -> Action
+        ensures { result ≡ away_action self.now.play.game (history self.now.play) }
+    {
+        match self.play.fault(Action::Fold) {
+            None => Action::Fold,
+            Some(_) => Action::Call,
         }
     }
 

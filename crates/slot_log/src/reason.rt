@@ -5,13 +5,13 @@ use betting::ActFault;
 pub enum Reason {
     /// All hands of the match are finished.
     MatchDone,
-    /// An act where no hand runs.
+    /// An act, or what plays for a player who is away, where no hand runs.
     NoHand,
     /// A deal while a hand runs.
     HandRunning,
     /// Another hand than the next one to deal, or than the one that runs.
     WrongHand,
-    /// An act that isn't the next one of its hand.
+    /// An act, or what plays for one, that isn't the next one of its hand.
     WrongIndex,
     /// A deal for another number of players.
     WrongCards,

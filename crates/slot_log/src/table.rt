@@ -9,7 +9,7 @@ ghost use Rattle.game_def.specs.Game.{IsGame};
 ghost use Rattle.slot_log.specs.declared.command.Command.{Command as Order};
 ghost use Rattle.slot_log.specs.Played.{AreHands};
 ghost use Rattle.slot_log.specs.Range.{IsInRange};
-ghost use Rattle.slot_log.specs.Dealer.{Fits, finished_count, is_running, is_match_over, deal_reason, act_reason, reason_of, hands_after, effect_of, effect_of_action, hand_at, with_deal, with_action, IsDealing};
+ghost use Rattle.slot_log.specs.Dealer.{Fits, finished_count, is_running, is_match_over, deal_reason, act_reason, act_for, next_away, reason_of, hands_after, effect_of, effect_of_action, hand_at, with_deal, with_action, IsDealing};
 
 use crate::command::Command;
 use crate::effect::Effect;
@@ -146,7 +146,8 @@ impl Table {
 
     /// Why a command does nothing now, the first reason in the order of `Reason`'s use: for a deal
     /// `MatchDone`, `HandRunning`, `WrongHand`, `WrongCards`; for an act `MatchDone`, `NoHand`,
-    /// `WrongHand`, `WrongIndex`, `Illegal`. None where it fits.
+    /// `WrongHand`, `WrongIndex`, `Illegal`; the same for what plays for a player who is away, but
+    /// never `Illegal`. None where it fits.
     pub fn reason(&self, command: &Command) -> Option<Reason>
         ensures { result ≡ reason_of self.now.game self.now.count self.now.hands command.now }
     {
@@ -160,7 +161,34 @@ impl Table {
                 index,
                 action,
             } => self.act_reason(*hand, *index, *action),
+            Command::Away { hand, index } => { self.act_reason(*hand, *index, self.away_action()) }
         }
+    }
+
+    /// What is done for the player to act of the newest hand where he is away.
+    fn away_action(&self) -> Action
+        ensures { result ≡ act_for self.now.game self.now.hands }
+    {
+        match &self.newest {
+            Some(newest) => newest.away_action(),
+            None => Action::Call,
+        }
+    }
+
+    /// The command by which the player to act is played for; none where no hand runs.
+    pub fn away(&self) -> Option<Command>
+        ensures value { option_map (λ command. command) result ≡ next_away self.now.game self.now.hands }
+    {
+        let Some(newest) = &self.newest else {
+            return None;
+        };
+        if newest.play.finished() {
+            return None;
+        }
+        Some(Command::Away {
+            hand: self.earlier.len() as u32,
+            index: newest.play.actions().len() as u16,
+        })
     }
 
     fn deal_reason(&self, hand: u32, deal: &Deal) -> Option<Reason>
@@ -259,6 +287,10 @@ impl Table {
         match command {
             Command::Deal { deal, .. } => self.begin(*deal),
             Command::Act { action, .. } => Ok(self.act(*action)),
+            Command::Away { .. } => {
+                let action = self.away_action();
+                Ok(self.act(action))
+            }
         }
     }
 

@@ -7,7 +7,7 @@ use Rattle.game_def.specs.declared.fault_kind.FaultKind.TheVariants.{Unsupported
 use Rattle.betting.specs.declared.action.Action.TheVariants.{Call, Fold}
 use Rattle.betting.specs.declared.fault.ActFault.TheVariants.{TooManyRaises, RaiseTooSmall}
 use Rattle.slot_log.specs.Hand.{Hand}
-use Rattle.slot_log.specs.declared.command.Command.TheVariants.{Act, Deal}
+use Rattle.slot_log.specs.declared.command.Command.TheVariants.{Act, Away, Deal}
 use Rattle.slot_log.specs.declared.reason.Reason.TheVariants.{NoHand, Illegal}
 use Rattle.match_log.specs.Names.{AreNames}
 use Rattle.match_log.proofs.Examples.{opened}
@@ -84,6 +84,21 @@ next_action_of_the_newest_hand = (refl, refl, refl)
 
 no_action_before_the_first_deal : ¬ (Tells limit_game [] (codes "c") (Act 0 0 Call))
 no_action_before_the_first_deal told = told
+
+played_for_by_one_word : Tells limit_game (new_hand ∷ []) (codes "away") (Away 0 0)
+played_for_by_one_word = (refl, refl, refl)
+
+nobody_played_for_before_the_first_deal : ¬ (Tells limit_game [] (codes "away") (Away 0 0))
+nobody_played_for_before_the_first_deal told = told
+
+nobody_played_for_with_a_space_behind : ¬ (Tells limit_game (new_hand ∷ []) (codes "away ") (Away 0 0))
+nobody_played_for_with_a_space_behind told = omega (arith, let text : codes "away " ≡ codes "away" = told.2 in ap length text)
+
+nobody_played_for_by_a_fold : ¬ (Tells limit_game (new_hand ∷ []) (codes "f") (Away 0 0))
+nobody_played_for_by_a_fold told = omega (arith, let text : codes "f" ≡ codes "away" = told.2 in ap length text)
+
+not_played_for_at_another_index : ¬ (Tells limit_game (new_hand ∷ []) (codes "away") (Away 0 1))
+not_played_for_at_another_index told = let index : 1 ≡ length (let past : List ℕ = [] in past) = told.1 in omega arith
 
 no_other_index : ¬ (Tells limit_game (new_hand ∷ []) (codes "c") (Act 0 1 Call))
 no_other_index told = let index : 1 ≡ length (let past : List ℕ = [] in past) = told.1 in omega arith

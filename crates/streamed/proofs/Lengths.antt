@@ -13,7 +13,7 @@ use Rattle.betting.specs.Turns.{Turn}
 use Rattle.betting.specs.Rounds.{turns}
 use Rattle.slot_log.specs.Hand.{Hand}
 use Rattle.slot_log.specs.declared.command.Command.{Command}
-use Rattle.slot_log.specs.declared.command.Command.TheVariants.{Deal, Act}
+use Rattle.slot_log.specs.declared.command.Command.TheVariants.{Deal, Act, Away}
 use Rattle.matchstate.specs.Cards.{cards_text, boards_of, deal_text}
 use Rattle.matchstate.specs.ActionText.{IsActionText, IsRaiseText}
 use Rattle.match_log.specs.Names.{IsName}
@@ -99,6 +99,8 @@ told_length game hands text (Deal hand deal) most told =
     omega (arith, ap length told.2, length-append (codes "deal ") (deal_text game.players deal), deal_length game.players deal most told.1)
 told_length game [] text (Act hand index action) most told = absurd told
 told_length game (newest ∷ earlier) text (Act hand index action) most told = omega (arith, action_length game (turns game newest.past) text action told.2)
+told_length game [] text (Away hand index) most told = absurd told
+told_length game (newest ∷ earlier) text (Away hand index) most told = omega (arith, ap length told.2)
 
 -- what the front of a long line says is what the line says: it is bad
 long_line : (game : Game) (names : Option (List (List ℕ))) (hands : List Hand) (front line : List ℕ) (said : ScriptLine) → game.players ≤ 10 → 336 ≤ length front → 336 ≤ length line → Says game names hands front said → Says game names hands line said

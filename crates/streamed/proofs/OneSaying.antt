@@ -1,5 +1,5 @@
 -- After the same lines a line says one thing.
-use Rattle.std.proofs.Common.{◌≡◌, ℕ, List, [], ◌∷◌, ◌++◌, Option, Some, None, codes, refl, sym, ap, ◌∙◌, subst, arith}
+use Rattle.std.proofs.Common.{◌≡◌, ◌≢◌, ℕ, List, [], ◌∷◌, ◌++◌, Option, Some, None, codes, refl, sym, ap, ◌∙◌, subst, arith}
 use Rattle.std.proofs.lemmas.List.{append_cancel_left}
 use Rattle.game_def.specs.Game.{Game}
 use Rattle.betting.specs.declared.action.Action.{Action}
@@ -9,7 +9,7 @@ use Rattle.betting.specs.Rounds.{turns}
 use Rattle.slot_log.specs.Hand.{Hand}
 use Rattle.slot_log.specs.Dealer.{hands_of}
 use Rattle.slot_log.specs.declared.command.Command.{Command}
-use Rattle.slot_log.specs.declared.command.Command.TheVariants.{Deal, Act}
+use Rattle.slot_log.specs.declared.command.Command.TheVariants.{Deal, Act, Away}
 use Rattle.matchstate.specs.ActionText.{IsActionText, IsRaiseText}
 use Rattle.matchstate.specs.OneReading.{ActionTextsSayOneAction}
 use Rattle.matchstate.specs.OneToOne.{DealTextsAreOneToOne}
@@ -29,19 +29,40 @@ use Rattle.streamed.specs.declared.script_line.ScriptLine.TheVariants.{Names, To
 same_front : (x y : ℕ) (xs ys : List ℕ) → x ∷ xs ≡ y ∷ ys → x ≡ y
 same_front x y xs ys e = cc
 
--- no action's text begins as a deal's
-no_deal_acts : (game : Game) (past : List Turn) (text dealt : List ℕ) (action : Action) → text ≡ codes "deal " ++ dealt → IsActionText game past text action → ⊥
-no_deal_acts game past text dealt Fold deals says = omega (arith, same_front _ _ _ _ (sym deals ∙ says))
-no_deal_acts game past text dealt Call deals says = omega (arith, same_front _ _ _ _ (sym deals ∙ says))
-no_deal_acts game past text dealt (Raise amount) deals says = by_sizes game.raise_sizes says
+-- no action's text begins by this letter
+abbrev BeginsNoAction : ℕ → Type 0
+BeginsNoAction letter = (letter ≢ 102) × (letter ≢ 99) × (letter ≢ 114)
+
+no_word_acts : (game : Game) (past : List Turn) (text rest : List ℕ) (letter : ℕ) (action : Action) → BeginsNoAction letter → text ≡ letter ∷ rest → IsActionText game past text action → ⊥
+no_word_acts game past text rest letter Fold others word says = others.0 (same_front _ _ _ _ (sym word ∙ says))
+no_word_acts game past text rest letter Call others word says = others.1 (same_front _ _ _ _ (sym word ∙ says))
+no_word_acts game past text rest letter (Raise amount) others word says = by_sizes game.raise_sizes says
   where
     by_sizes : (sizes : Option (List ℕ)) → IsRaiseText sizes game past text amount → ⊥
-    by_sizes None raise = omega (arith, same_front _ _ _ _ (sym deals ∙ raise.0))
-    by_sizes (Some sizes) raise = omega (arith, same_front _ _ _ _ (sym deals ∙ raise.0))
+    by_sizes None raise = others.2 (same_front _ _ _ _ (sym word ∙ raise.0))
+    by_sizes (Some sizes) raise = others.2 (same_front _ _ _ _ (sym word ∙ raise.0))
+
+no_d : BeginsNoAction 100
+no_d = (λ e. omega (arith, e), λ e. omega (arith, e), λ e. omega (arith, e))
+
+no_a : BeginsNoAction 97
+no_a = (λ e. omega (arith, e), λ e. omega (arith, e), λ e. omega (arith, e))
 
 no_deal_and_act : (game : Game) (hands : List Hand) (text : List ℕ) (hand number index : ℕ) (deal : List ℕ) (action : Action) → Tells game hands text (Deal hand deal) → Tells game hands text (Act number index action) → ⊥
 no_deal_and_act game [] text hand number index deal action deals acts = acts
-no_deal_and_act game (newest ∷ earlier) text hand number index deal action deals acts = no_deal_acts game (turns game newest.past) text (deal_text game.players deal) action deals.2 acts.2
+no_deal_and_act game (newest ∷ earlier) text hand number index deal action deals acts = no_word_acts game (turns game newest.past) text (codes "eal " ++ deal_text game.players deal) 100 action no_d deals.2 acts.2
+
+no_deal_and_away : (game : Game) (hands : List Hand) (text : List ℕ) (hand number index : ℕ) (deal : List ℕ) → Tells game hands text (Deal hand deal) → Tells game hands text (Away number index) → ⊥
+no_deal_and_away game [] text hand number index deal deals aways = aways
+no_deal_and_away game (newest ∷ earlier) text hand number index deal deals aways = omega (arith, same_front _ _ _ _ (sym deals.2 ∙ aways.2))
+
+no_act_and_away : (game : Game) (hands : List Hand) (text : List ℕ) (hand index number place : ℕ) (action : Action) → Tells game hands text (Act hand index action) → Tells game hands text (Away number place) → ⊥
+no_act_and_away game [] text hand index number place action acts aways = aways
+no_act_and_away game (newest ∷ earlier) text hand index number place action acts aways = no_word_acts game (turns game newest.past) text (codes "way") 97 action no_a aways.2 acts.2
+
+one_away : (game : Game) (hands : List Hand) (text : List ℕ) (hand index number place : ℕ) → Tells game hands text (Away hand index) → Tells game hands text (Away number place) → Away hand index ≡ Away number place
+one_away game [] text hand index number place told tells = absurd told
+one_away game (newest ∷ earlier) text hand index number place told tells = ap (λ (n : ℕ). Away n index) (told.0 ∙ sym tells.0) ∙ ap (Away number) (told.1 ∙ sym tells.1)
 
 same_names : (players : ℕ) (names others : List (List ℕ)) (line : List ℕ) → IsNamesLine players names line → IsNamesLine players others line → names ≡ others
 same_names players names others line is names_it =
@@ -68,6 +89,11 @@ module _ (actions : ActionTextsSayOneAction) (deals : DealTextsAreOneToOne) wher
   one_command game hands text (Deal hand deal) (Act number index action) told tells = absurd (no_deal_and_act game hands text hand number index deal action told tells)
   one_command game hands text (Act number index action) (Deal hand deal) told tells = absurd (no_deal_and_act game hands text hand number index deal action tells told)
   one_command game hands text (Act hand index action) (Act number place other) told tells = one_act game hands text hand number index place action other told tells
+  one_command game hands text (Deal hand deal) (Away number index) told tells = absurd (no_deal_and_away game hands text hand number index deal told tells)
+  one_command game hands text (Away number index) (Deal hand deal) told tells = absurd (no_deal_and_away game hands text hand number index deal tells told)
+  one_command game hands text (Act hand index action) (Away number place) told tells = absurd (no_act_and_away game hands text hand index number place action told tells)
+  one_command game hands text (Away number place) (Act hand index action) told tells = absurd (no_act_and_away game hands text hand index number place action tells told)
+  one_command game hands text (Away hand index) (Away number place) told tells = one_away game hands text hand index number place told tells
 
   -- ---- a line says one thing
 

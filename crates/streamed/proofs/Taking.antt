@@ -6,7 +6,7 @@ use Rattle.game_def.specs.Game.{Game}
 use Rattle.slot_log.specs.Hand.{Hand, Match}
 use Rattle.slot_log.specs.Dealer.{hands_of, hands_after, reason_of, effect_of}
 use Rattle.slot_log.specs.declared.command.Command.{Command}
-use Rattle.slot_log.specs.declared.command.Command.TheVariants.{Deal, Act}
+use Rattle.slot_log.specs.declared.command.Command.TheVariants.{Deal, Act, Away}
 use Rattle.slot_log.specs.declared.reason.Reason.{Reason}
 use Rattle.slot_log.specs.declared.effect.Effect.{Effect}
 use Rattle.slot_log.specs.declared.effect.Effect.TheVariants.{Dealt, Acted, HandOver, MatchOver, None as Nothing}
@@ -67,6 +67,8 @@ refused_by game count hands (Deal hand deal) effect reason is_effect nothing =
     deal_refused (reason_of game count hands (Deal hand deal)) Dealt reason (λ e. let no : Dealt ≡ Nothing reason = e in cc) (sym is_effect ∙ nothing)
 refused_by game count hands (Act hand index action) effect reason is_effect nothing =
     deal_refused (reason_of game count hands (Act hand index action)) _ reason (never_nothing _ _ reason) (sym is_effect ∙ nothing)
+refused_by game count hands (Away hand index) effect reason is_effect nothing =
+    deal_refused (reason_of game count hands (Away hand index)) _ reason (never_nothing _ _ reason) (sym is_effect ∙ nothing)
 
 without_reason : (r : Option Reason) (lines : List ℕ) → r ≡ None → elim r [ None ↦ lines | Some reason ↦ refusal reason ] ≡ lines
 without_reason None lines e = refl

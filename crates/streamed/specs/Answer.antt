@@ -9,7 +9,7 @@ use Rattle.card_core.specs.Deal.{IsDeal}
 use Rattle.slot_log.specs.Hand.{Hand}
 use Rattle.slot_log.specs.Dealer.{finished_count, hands_of, reason_of}
 use Rattle.slot_log.specs.declared.command.Command.{Command}
-use Rattle.slot_log.specs.declared.command.Command.TheVariants.{Deal, Act}
+use Rattle.slot_log.specs.declared.command.Command.TheVariants.{Deal, Act, Away}
 use Rattle.slot_log.specs.declared.reason.Reason.{Reason}
 use Rattle.slot_log.specs.declared.reason.Reason.TheVariants.{MatchDone, NoHand, HandRunning, WrongHand, WrongIndex, WrongCards, Illegal}
 use Rattle.matchstate.specs.ActionText.{IsActionText}
@@ -22,13 +22,16 @@ use Rattle.streamed.specs.Logged.{logged}
 use Rattle.streamed.specs.declared.script_line.ScriptLine.{ScriptLine}
 use Rattle.streamed.specs.declared.script_line.ScriptLine.TheVariants.{Names, Told, Bad}
 
--- a line tells the dealer to deal the next hand, by `deal ` and a deal's text, or is the next action of the newest hand
+-- a line tells the dealer to deal the next hand, by `deal ` and a deal's text, or is the next action of the newest hand, or tells by `away` that its player
+-- to act is played for
 abbrev pub Tells : Game → List Hand → List ℕ → Command → Type 0
 Tells game hands text (Deal hand deal) =
     (hand ≡ finished_count game hands) × IsDeal game.players deal × (text ≡ codes "deal " ++ deal_text game.players deal)
 Tells game [] text (Act hand index action) = ⊥
 Tells game (newest ∷ earlier) text (Act hand index action) =
     (hand ≡ length earlier) × (index ≡ length newest.past) × IsActionText game (turns game newest.past) text action
+Tells game [] text (Away hand index) = ⊥
+Tells game (newest ∷ earlier) text (Away hand index) = (hand ≡ length earlier) × (index ≡ length newest.past) × (text ≡ codes "away")
 
 -- what a line says: until the seats are named only a line that names them is right, and after that only a command
 abbrev pub Says : Game → Option (List (List ℕ)) → List Hand → List ℕ → ScriptLine → Type 0

@@ -98,6 +98,18 @@ impl<'a> Dealing<'a> {
     {
         match self.read_new_deal(line) {
             Some(command) => Some(command),
+            None => self.read_turn(line),
+        }
+    }
+
+    /// What a line tells for the player to act of the newest hand.
+    fn read_turn(&self, line: &[u8]) -> Option<Command>
+        ensures found { IfSome result (λ command. Tells self.now.table.game self.now.table.hands line.now command) }
+        ensures no_act { IfNone result ((hand index : ℕ) (action : Action) → ¬ (Tells self.now.table.game self.now.table.hands line.now (Command.Act hand index action))) }
+        ensures no_away { IfNone result ((hand index : ℕ) → ¬ (Tells self.now.table.game self.now.table.hands line.now (Command.Away hand index))) }
+    {
+        match self.read_away(line) {
+            Some(command) => Some(command),
             None => self.read_act(line),
         }
     }
@@ -112,6 +124,31 @@ impl<'a> Dealing<'a> {
         Some(Command::Deal {
             hand: self.table.finished(),
             deal,
+        })
+    }
+
+    /// That the player to act of the newest hand is played for.
+    fn read_away(&self, line: &[u8]) -> Option<Command>
+        ensures found { IfSome result (λ command. Tells self.now.table.game self.now.table.hands line.now command) }
+        ensures none { IfNone result ((hand index : ℕ) → ¬ (Tells self.now.table.game self.now.table.hands line.now (Command.Away hand index))) }
+    {
+        match line {
+            b"away" => self.next_away(),
+            _ => None,
+        }
+    }
+
+    /// The command by which the player to act of the newest hand is played for; none before the first deal.
+    fn next_away(&self) -> Option<Command>
+        ensures found { IfSome result (λ command. Tells self.now.table.game self.now.table.hands (codes "away") command) }
+        ensures none { IfNone result (length self.now.table.hands ≡ 0) }
+    {
+        let hand = self.table.dealt().checked_sub(1)?;
+        let play = self.table.play(hand)?;
+        let actions = play.actions().len() as u16;
+        Some(Command::Away {
+            hand,
+            index: actions,
         })
     }
 

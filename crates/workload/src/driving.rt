@@ -132,6 +132,7 @@ fn ordered<D: Disk + Drop>(
 fn ordered_without_bytes(order: Order<'_>) -> Option<Event> {
     match order {
         Order::Tick { node } => Some(Event::Tick { node: byte(node) }),
+        Order::Away { node } => Some(Event::Away { node: byte(node) }),
         Order::Connect { node, seat } => Some(Event::Connect {
             node: byte(node),
             seat: byte(seat),
@@ -204,9 +205,10 @@ fn is_for(nodes: usize, players: usize, event: &Event) -> bool
         Event::Line { node, seat, .. }
         | Event::Connect { node, seat }
         | Event::Drop { node, seat } => (*node as usize) < nodes && (*seat as usize) < players,
-        Event::Tick { node } | Event::Stop { node, .. } | Event::Start { node } => {
-            (*node as usize) < nodes
-        }
+        Event::Tick { node }
+        | Event::Away { node }
+        | Event::Stop { node, .. }
+        | Event::Start { node } => { (*node as usize) < nodes }
     }
 }
 

@@ -4,6 +4,8 @@ use Rattle.node_rules.specs.Calls as call
 use Rattle.dealer_node.specs.Outs.{nothing_told}
 use Rattle.dealer_world.specs.Events.{call_of}
 use Rattle.dealer_world.proofs.Giving.{given, started}
+use Rattle.dealer_node.specs.Most.{most_shown_of}
+use Rattle.dealer_world.proofs.Showing.{none_shown, shown_first}
 use Rattle.dealer_world.proofs.cluster.give.Goals as goal
 
 pub returns-in-Frame-clause-given : goal.returns-in-Frame-clause-given
@@ -17,6 +19,10 @@ returns-in-Line-clause-given g c = given g.D.Disk (call.Line c.in-Line.seat c.de
 pub returns-in-Tick-clause-given : goal.returns-in-Tick-clause-given
 returns-in-Tick-clause-given g c = given g.D.Disk call.Tick c.args.event.now c.args.node.now c.on_tick.new.self c.args.made.now c.on_tick.new.out c.on_tick.result
     c.requires.nothing (ap (call_of empty_store) (sym c.in-Tick.is)) c.on_tick.ensures.taken c.on_tick.ensures.stays (rw c.in-Tick.is tt)
+
+pub returns-in-Away-clause-given : goal.returns-in-Away-clause-given
+returns-in-Away-clause-given g c = given g.D.Disk call.Away c.args.event.now c.args.node.now c.on_away.new.self c.args.made.now c.on_away.new.out c.on_away.result
+    c.requires.nothing (ap (call_of empty_store) (sym c.in-Away.is)) c.on_away.ensures.taken c.on_away.ensures.stays (rw c.in-Away.is tt)
 
 pub returns-in-Connect-clause-given : goal.returns-in-Connect-clause-given
 returns-in-Connect-clause-given g c = rw c.requires.nothing (given g.D.Disk (call.Connect c.in-Connect.seat) c.args.event.now c.args.node.now c.connect.new.self nothing_told nothing_told c.connect.result
@@ -34,3 +40,27 @@ pub returns-in-Start-clause-given : goal.returns-in-Start-clause-given
 returns-in-Start-clause-given g c = started g.D.Disk c.args.event.now c.args.node.now c.start.new.self c.args.made.now c.start.new.out c.start.result c.requires.nothing
     (λ s honest seen. let t = c.start.ensures.taken s honest seen in (t.0, rw c.in-Start.is t.1)) c.start.ensures.stays
     (rw c.in-Start.is record { faults = c.start.ensures.faults; reads = inr c.start.ensures.reads; found = c.start.ensures.found; refused = c.start.ensures.refused })
+
+pub returns-in-Frame-clause-shows : goal.returns-in-Frame-clause-shows
+returns-in-Frame-clause-shows g c = shown_first (most_shown_of c.args.node.now) c.args.made.now c.on_frame.new.out c.requires.nothing c.on_frame.ensures.shows
+
+pub returns-in-Line-clause-shows : goal.returns-in-Line-clause-shows
+returns-in-Line-clause-shows g c = shown_first (most_shown_of c.args.node.now) c.args.made.now c.on_line.new.out c.requires.nothing c.on_line.ensures.shows
+
+pub returns-in-Tick-clause-shows : goal.returns-in-Tick-clause-shows
+returns-in-Tick-clause-shows g c = shown_first (most_shown_of c.args.node.now) c.args.made.now c.on_tick.new.out c.requires.nothing c.on_tick.ensures.shows
+
+pub returns-in-Away-clause-shows : goal.returns-in-Away-clause-shows
+returns-in-Away-clause-shows g c = shown_first (most_shown_of c.args.node.now) c.args.made.now c.on_away.new.out c.requires.nothing c.on_away.ensures.shows
+
+pub returns-in-Start-clause-shows : goal.returns-in-Start-clause-shows
+returns-in-Start-clause-shows g c = shown_first (most_shown_of c.args.node.now) c.args.made.now c.start.new.out c.requires.nothing c.start.ensures.shows
+
+pub returns-in-Connect-clause-shows : goal.returns-in-Connect-clause-shows
+returns-in-Connect-clause-shows g c = none_shown (most_shown_of c.args.node.now) c.args.made.now c.requires.nothing
+
+pub returns-in-Drop-clause-shows : goal.returns-in-Drop-clause-shows
+returns-in-Drop-clause-shows g c = none_shown (most_shown_of c.args.node.now) c.args.made.now c.requires.nothing
+
+pub returns-in-Stop-clause-shows : goal.returns-in-Stop-clause-shows
+returns-in-Stop-clause-shows g c = none_shown (most_shown_of c.args.node.now) c.args.made.now c.requires.nothing

@@ -54,4 +54,5 @@ returns c = record {
   make = c.commands_make_hands.ensures;
   fits = c.fits_without_reason.ensures;
   heard = c.answers_are_heard.ensures;
+  orders = c.orders_play_for_the_next.ensures;
 }

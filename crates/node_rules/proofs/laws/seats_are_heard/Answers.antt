@@ -1,4 +1,4 @@
-use Rattle.node_rules.proofs.Seated.{pieces_are_heard, others_are_passed_over, connect_begins_anew, drop_ends, sessions_stay, faults_are_of_pieces, lives_are_whole, away_is_unconnected}
+use Rattle.node_rules.proofs.Seated.{pieces_are_heard, others_are_passed_over, connect_begins_anew, drop_ends, sessions_stay, faults_are_of_pieces, lives_are_whole, unconnected_seats_show_so}
 use Rattle.node_rules.proofs.laws.seats_are_heard.Goals as goal
 
 pub returns-clause-pieces : goal.returns-clause-pieces
@@ -22,5 +22,5 @@ returns-clause-faults c = faults_are_of_pieces c.layers_below.ensures
 pub returns-clause-lives : goal.returns-clause-lives
 returns-clause-lives c = lives_are_whole c.any_pieces.ensures
 
-pub returns-clause-away : goal.returns-clause-away
-returns-clause-away c = away_is_unconnected
+pub returns-clause-unconnected : goal.returns-clause-unconnected
+returns-clause-unconnected c = unconnected_seats_show_so

@@ -11,12 +11,13 @@ use Rattle.serving.specs.Turning.{IsForDue, IsWaiting}
 use Rattle.serving.proofs.taking.read_of.Goals as goal
 
 -- what is read of a seat is of the match where its drop is
-of_match_too : {N : Type 0} (view : View N) (seat node : ℕ) (e : Event) → IsForDue (Read seat node) 0 e → IsForMatch view.config (event.Drop node seat)
-    → IsWaiting view (record { event = e; number = 0 })
+of_match_too : {N : Type 0} (view : View N) (seat node : ℕ) (e : Event) → IsForDue (Read seat node) 0 0 e → IsForMatch view.config (event.Drop node seat)
+    → IsWaiting view (record { event = e; number = 0; seat = 0 })
 of_match_too view seat node (event.Line i s bytes) (at, of) dropped = (rw (at, of) dropped, tt)
 of_match_too view seat node (event.Drop i s) (at, of) dropped = (rw (at, of) dropped, tt)
 of_match_too view seat node (event.Frame from to bytes) due dropped = absurd due
 of_match_too view seat node (event.Tick i) due dropped = absurd due
+of_match_too view seat node (event.Away i) due dropped = absurd due
 of_match_too view seat node (event.Connect i s) due dropped = absurd due
 of_match_too view seat node (event.Stop i pick) due dropped = absurd due
 of_match_too view seat node (event.Start i) due dropped = absurd due
@@ -25,7 +26,7 @@ pub returns-in-Some-clause-waiting : goal.returns-in-Some-clause-waiting
 returns-in-Some-clause-waiting g c = λ w is.
     let view = view_of c.args.cluster.now in
     let e = c.in-Some.event in
-    let drop : Waiting = record { event = event.Drop c.args.node c.args.seat; number = 0 } in
+    let drop : Waiting = record { event = event.Drop c.args.node c.args.seat; number = 0; seat = 0 } in
     let dropped : IsForMatch view.config drop.event = (rw c.in_ok-checked.ensures.event at c.in_ok-checked.ensures.waiting drop refl).0 in
-    let due : IsForDue (Read c.args.seat c.args.node) 0 e = search rules in
+    let due : IsForDue (Read c.args.seat c.args.node) 0 0 e = search rules in
     subst (IsWaiting view) (same_Some _ _ is) (of_match_too view c.args.seat c.args.node e due dropped)

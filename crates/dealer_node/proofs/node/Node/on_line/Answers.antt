@@ -5,6 +5,8 @@ use Rattle.dealer_node.specs.Outs.{Told, told_by}
 use Rattle.dealer_node.specs.Taking.{Takes}
 use Rattle.dealer_node.proofs.Settled.{seen_at, refuses_at}
 use Rattle.dealer_node.proofs.Handled.{handled, settled_at, handled_reads, reads_at}
+use Rattle.dealer_node.specs.Most.{most_shown_of}
+use Rattle.dealer_node.proofs.Most.{none_shown, shows_at}
 use Rattle.dealer_node.proofs.node.Node.on_line.Goals as goal
 
 pub returns-in-None-clause-taken : goal.returns-in-None-clause-taken
@@ -28,3 +30,10 @@ returns-in-Some-clause-untouched g c s honest seen =
     let there = seen_at d c.args.self.now c.self.inside (Some c.in-Some.up) s c.self.view_is c.in-Some.is seen in
     reads_at d c.args.self.now c.self.inside c.in-Some.up c.settle.new.self _ s (Line c.args.seat c.args.bytes.now) c.settle.result call.result c.self.view_is c.in-Some.is c.settle.ensures.node c.settle.ensures.same
     (handled_reads d c.self.inside.post c.self.inside.blank c.self.inside.disk c.in-Some.up call.new.self s (Line c.args.seat c.args.bytes.now) (told_by c.out.inside.made) (told_by call.new.out) call.result there (call.ensures.handles s honest there.by))
+
+pub returns-in-None-clause-shows : goal.returns-in-None-clause-shows
+returns-in-None-clause-shows g c = none_shown (most_shown_of c.args.self.now) c.args.out.now _ refl
+
+pub returns-in-Some-clause-shows : goal.returns-in-Some-clause-shows
+returns-in-Some-clause-shows g c =
+    shows_at c.args.self.now c.self.inside c.in-Some.up (told_by c.out.inside.made) c.args.out.now (told_by c.on_line-answer.new.out) c.self.view_is c.in-Some.is c.out.view_is c.on_line-answer.ensures.shows

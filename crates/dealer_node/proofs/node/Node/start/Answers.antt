@@ -4,6 +4,9 @@ use Rattle.dealer_node.specs.Working.{head_of}
 use Rattle.dealer_node.specs.declared.fault.NodeFault.TheVariants as fault
 use Rattle.dealer_node.proofs.Heard.{err_is, err_of}
 use Rattle.dealer_node.proofs.Started.{runs_on_at, wanting_at, seen_down, started_at, unstarted_at, refused_at, starts_behind, stays_reads, started_reads, unstarted_reads, started_finds}
+use Rattle.std.proofs.Common.{arith}
+use Rattle.dealer_node.specs.Most.{most_shown_of}
+use Rattle.dealer_node.proofs.Most.{none_shown, start_shown}
 use Rattle.dealer_node.proofs.node.Node.start.Goals as goal
 
 pub returns-then-is_some-clause-taken : goal.returns-then-is_some-clause-taken
@@ -59,3 +62,18 @@ pub returns-in-Err-clause-refused : goal.returns-in-Err-clause-refused
 returns-in-Err-clause-refused g c = λ honest why is.
     refused_at g.D.Disk c.args.self.now c.self.inside c.in-Some.disk why c.self.view_is (sym c.is_some.ensures ∙ c.if-is_some.false) (sym c.take.ensures.value ∙ c.in-Some.is)
     (c.in-Err.ensures.finds honest why (err_of c.in-Err.fault (fault.Store why) is))
+
+pub returns-then-is_some-clause-shows : goal.returns-then-is_some-clause-shows
+returns-then-is_some-clause-shows g c = none_shown (most_shown_of c.args.self.now) c.args.out.now c.args.out.now refl
+
+pub returns-in_err-running-clause-shows : goal.returns-in_err-running-clause-shows
+returns-in_err-running-clause-shows g c = none_shown (most_shown_of c.args.self.now) c.args.out.now (told_by c.ready.new.out) (c.ready.ensures.same ∙ c.out.view_is)
+
+pub returns-in-Err-clause-shows : goal.returns-in-Err-clause-shows
+returns-in-Err-clause-shows g c = none_shown (most_shown_of c.args.self.now) c.args.out.now (told_by c.ready.new.out) (c.ready.ensures.same ∙ c.out.view_is)
+
+-- the header of the log alone
+pub returns-in-Ok-clause-shows : goal.returns-in-Ok-clause-shows
+returns-in-Ok-clause-shows g c =
+    start_shown (most_shown_of c.args.self.now) c.in_ok-running.made c.open.new.made c.args.out.now (told_by c.ready.new.out) (told_by c.append.new.self) c.in_ok-running.ensures.nothing
+    c.append.ensures (c.ready.ensures.same ∙ c.out.view_is) c.in-Ok.ensures.texts c.in-Ok.ensures.text_bytes (omega arith) (omega arith)

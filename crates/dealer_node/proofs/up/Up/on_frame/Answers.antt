@@ -1,4 +1,4 @@
-use Rattle.std.proofs.Common.{◌≡◌, ◌∙◌, ap, sym, subst, refl, inr, Result, Ok, Err}
+use Rattle.std.proofs.Common.{◌≡◌, ◌∙◌, ap, sym, subst, refl, inr, Result, Ok, Err, arith}
 use Rattle.paxos_wire.specs.declared.message.Message.{Message}
 use Rattle.paxos_wire.specs.declared.fault.FrameFault.{FrameFault}
 use Rattle.node_rules.specs.Rules.{on_message, on_read}
@@ -8,6 +8,10 @@ use Rattle.dealer_node.specs.Posts.{place_at}
 use Rattle.dealer_node.specs.Outs.{Told, told_by, both_told}
 use Rattle.dealer_node.specs.Calling.{HandlesCall}
 use Rattle.dealer_node.proofs.Heard.{err_is, works_over}
+use Rattle.dealer_node.specs.Most.{most_after}
+use Rattle.dealer_node.specs.Running.{ahead_of}
+use Rattle.dealer_node.specs.Calling.{frame_need}
+use Rattle.dealer_node.proofs.Most.{none_shown, made_shown}
 use Rattle.dealer_node.proofs.up.Up.on_frame.Goals as goal
 
 pub returns-in_err-made-in-Ok-clause-at : goal.returns-in_err-made-in-Ok-clause-at
@@ -42,3 +46,17 @@ returns-in_ok-message-in-Ok-clause-handles g c = λ s honest is.
       works_over g.D.Disk c.args.post.now s outcome c.args.self.now c.ready.new.self c.message.new.self (told_by c.in_ok-made-in-Ok.made) (told_by c.message.new.made) (told_by c.args.out.now) (told_by c.append.new.self) (Ok tt)
           c.in_ok-made-in-Ok.ensures.unmoved.disk c.in_ok-made-in-Ok.ensures.nothing (λ e. c.append.ensures ∙ ap (λ (t : Told). both_told t (told_by c.message.new.made)) c.in_ok-made-in-Ok.ensures.same) worked,
     )
+
+pub returns-in-Err-clause-shows : goal.returns-in-Err-clause-shows
+returns-in-Err-clause-shows g c = none_shown (most_after (ahead_of c.args.self.now.running)) (told_by c.args.out.now) (told_by c.args.out.now) refl
+
+pub returns-in_err-made-in-Ok-clause-shows : goal.returns-in_err-made-in-Ok-clause-shows
+returns-in_err-made-in-Ok-clause-shows g c = none_shown (most_after (ahead_of c.args.self.now.running)) (told_by c.args.out.now) (told_by c.ready.new.out) c.ready.ensures.same
+
+pub returns-in_err-message-in-Ok-clause-shows : goal.returns-in_err-message-in-Ok-clause-shows
+returns-in_err-message-in-Ok-clause-shows g c = none_shown (most_after (ahead_of c.args.self.now.running)) (told_by c.args.out.now) (told_by c.ready.new.out) c.in_ok-made-in-Ok.ensures.same
+
+pub returns-in_ok-message-in-Ok-clause-shows : goal.returns-in_ok-message-in-Ok-clause-shows
+returns-in_ok-message-in-Ok-clause-shows g c =
+    made_shown (most_after (ahead_of c.args.self.now.running)) (frame_need c.ready.new.self.running) c.message.new.made (told_by c.args.out.now) (told_by c.ready.new.out) (told_by c.append.new.self)
+    c.append.ensures c.in_ok-made-in-Ok.ensures.same (c.in_ok-message-in-Ok.ensures.within c.in_ok-made-in-Ok.ensures.nothing) (omega (arith, c.in_ok-made-in-Ok.ensures.ahead)) (omega (arith, c.in_ok-made-in-Ok.ensures.ahead))

@@ -1,4 +1,4 @@
-use Rattle.std.proofs.Common.{◌≡◌, ◌∙◌, ap, sym, subst, refl, inr, Result, Ok, Err}
+use Rattle.std.proofs.Common.{◌≡◌, ◌∙◌, ap, sym, subst, refl, inr, Result, Ok, Err, arith}
 use Rattle.node_rules.specs.Turns.{and_then}
 use Rattle.node_rules.specs.Proposing.{closing}
 use Rattle.node_rules.specs.Calls.{Line}
@@ -7,6 +7,10 @@ use Rattle.dealer_node.specs.Posts.{place_at}
 use Rattle.dealer_node.specs.Outs.{Told, told_by, both_told}
 use Rattle.dealer_node.specs.Calling.{HandlesCall}
 use Rattle.dealer_node.proofs.Heard.{err_is, works_over}
+use Rattle.dealer_node.specs.Most.{most_after}
+use Rattle.dealer_node.specs.Running.{ahead_of}
+use Rattle.dealer_node.specs.Calling.{line_need}
+use Rattle.dealer_node.proofs.Most.{none_shown, made_shown}
 use Rattle.dealer_node.proofs.up.Up.on_line.Goals as goal
 
 pub returns-in_err-made-clause-at : goal.returns-in_err-made-clause-at
@@ -39,3 +43,14 @@ returns-clause-handles g c = λ s honest is.
       works_over g.D.Disk c.args.post.now s (and_then (Ok worked.heard) (closing place)) c.args.self.now c.ready_line.new.self c.line.new.self (told_by c.in_ok-made.made) (told_by c.line.new.made) (told_by c.args.out.now) (told_by c.append.new.self) (Ok tt)
           c.in_ok-made.ensures.unmoved.disk c.in_ok-made.ensures.nothing (λ e. c.append.ensures ∙ ap (λ (t : Told). both_told t (told_by c.line.new.made)) c.in_ok-made.ensures.same) worked.works,
     )
+
+pub returns-in_err-made-clause-shows : goal.returns-in_err-made-clause-shows
+returns-in_err-made-clause-shows g c = none_shown (most_after (ahead_of c.args.self.now.running)) (told_by c.args.out.now) (told_by c.ready_line.new.out) c.ready_line.ensures.same
+
+pub returns-in_err-line-clause-shows : goal.returns-in_err-line-clause-shows
+returns-in_err-line-clause-shows g c = none_shown (most_after (ahead_of c.args.self.now.running)) (told_by c.args.out.now) (told_by c.ready_line.new.out) c.in_ok-made.ensures.same
+
+pub returns-clause-shows : goal.returns-clause-shows
+returns-clause-shows g c =
+    made_shown (most_after (ahead_of c.args.self.now.running)) (line_need c.ready_line.new.self.running c.in_ok-made.limit) c.line.new.made (told_by c.args.out.now) (told_by c.ready_line.new.out) (told_by c.append.new.self)
+    c.append.ensures c.in_ok-made.ensures.same (c.in_ok-line.ensures.within c.in_ok-made.ensures.nothing) (omega (arith, c.in_ok-made.ensures.ahead)) (omega (arith, c.in_ok-made.ensures.ahead))

@@ -1,4 +1,4 @@
-use Rattle.std.proofs.Common.{◌≡◌, ◌∙◌, ap, sym, subst, refl, inr, Result, Ok, Err, false, true≢false, rules}
+use Rattle.std.proofs.Common.{◌≡◌, ◌∙◌, ap, sym, subst, refl, inr, Result, Ok, Err, false, true≢false, rules, arith}
 use Rattle.node_rules.specs.Turns.{and_then}
 use Rattle.node_rules.specs.Proposing.{ticking, closing}
 use Rattle.node_rules.specs.Calls.{Tick}
@@ -8,6 +8,10 @@ use Rattle.dealer_node.specs.Outs.{Told, told_by, both_told}
 use Rattle.dealer_node.specs.Working.{head_of}
 use Rattle.dealer_node.specs.Calling.{HandlesCall}
 use Rattle.dealer_node.proofs.Heard.{err_is, works_over, spent_over}
+use Rattle.dealer_node.specs.Most.{most_after}
+use Rattle.dealer_node.specs.Running.{ahead_of}
+use Rattle.dealer_node.specs.Calling.{close_need}
+use Rattle.dealer_node.proofs.Most.{none_shown, made_shown}
 use Rattle.dealer_node.proofs.up.Up.on_tick.Goals as goal
 use Rattle.dealer_node.proofs.up.Up.on_tick.Goals.{else-not-over-via-then-not-over+else-is_spent, else-not-over-via-else-not-over}
 
@@ -54,3 +58,17 @@ returns-clause-handles g c = λ s honest is.
 
 pub returns-then-is_spent-clause-unmade : goal.returns-then-is_spent-clause-unmade
 returns-then-is_spent-clause-unmade g c = search rules
+
+pub returns-then-is_spent-clause-shows : goal.returns-then-is_spent-clause-shows
+returns-then-is_spent-clause-shows g c = none_shown (most_after (ahead_of c.args.self.now.running)) (told_by c.args.out.now) (told_by c.args.out.now) refl
+
+pub returns-in_err-made-clause-shows : goal.returns-in_err-made-clause-shows
+returns-in_err-made-clause-shows g c = none_shown (most_after (ahead_of c.args.self.now.running)) (told_by c.args.out.now) (told_by c.ready.new.out) c.ready.ensures.same
+
+pub returns-in_err-tick-clause-shows : goal.returns-in_err-tick-clause-shows
+returns-in_err-tick-clause-shows g c = none_shown (most_after (ahead_of c.args.self.now.running)) (told_by c.args.out.now) (told_by c.ready.new.out) c.in_ok-made.ensures.same
+
+pub returns-clause-shows : goal.returns-clause-shows
+returns-clause-shows g c =
+    made_shown (most_after (ahead_of c.args.self.now.running)) (close_need c.ready.new.self.running) c.tick.new.made (told_by c.args.out.now) (told_by c.ready.new.out) (told_by c.append.new.self)
+    c.append.ensures c.in_ok-made.ensures.same (c.in_ok-tick.ensures.within c.in_ok-made.ensures.nothing) (omega (arith, c.in_ok-made.ensures.ahead)) (omega (arith, c.in_ok-made.ensures.ahead))

@@ -1,3 +1,5 @@
+use Rattle.std.proofs.Common.{ap, ◌∙◌}
+use Rattle.dealer_node.specs.Running.{ahead_of}
 use Rattle.dealer_node.proofs.up.Up.ready_line.Goals as goal
 
 pub returns-in_err-reserve_bytes-clause-at : goal.returns-in_err-reserve_bytes-clause-at
@@ -5,3 +7,9 @@ returns-in_err-reserve_bytes-clause-at g c = λ post at. c.reserve_bytes.ensures
 
 pub returns-clause-at : goal.returns-clause-at
 returns-clause-at g c = λ post at. c.reserve_bytes.ensures.at post (c.ready.ensures.at post at)
+
+pub returns-in_err-reserve_bytes-clause-ahead : goal.returns-in_err-reserve_bytes-clause-ahead
+returns-in_err-reserve_bytes-clause-ahead g c = ap ahead_of c.reserve_bytes.ensures.rest ∙ c.ready.ensures.ahead
+
+pub returns-clause-ahead : goal.returns-clause-ahead
+returns-clause-ahead g c = ap ahead_of c.reserve_bytes.ensures.rest ∙ c.ready.ensures.ahead

@@ -36,7 +36,7 @@ returns c =
         frame = frame;
         sent = subst (λ (s : Scene). slice_get s.cluster.all.sent number ≡ Some frame) c.in_ok-mark_all.ensures.same c.in-Some.ensures.found;
         event = e;
-        brings = ap (λ (b : List ℕ). Delivered (record { from = frame.from; to = frame.to; bytes = b }) ∷ []) bytes;
+        brings = λ front. ap (λ (b : List ℕ). Delivered (record { from = frame.from; to = frame.to; bytes = b }) ∷ []) bytes;
         happens = subst (λ (s : Scene). Happens s e happens.0 after) marked_one happens.2;
       },
     ))

@@ -6,7 +6,7 @@ use Rattle.dealer_node.specs.Outs.{Told}
 use Rattle.dealer_node.specs.declared.fault.NodeFault.TheVariants.{OutOfMemory}
 use Rattle.dealer_world.specs.Events.{node_of}
 use Rattle.dealer_world.specs.Viewing.{view_of}
-use Rattle.dealer_world.proofs.Forging.{unforged_after}
+use Rattle.dealer_world.proofs.Forging.{by_any_front, unforged_after}
 use Rattle.playing.specs.Showing.{event_text}
 use Rattle.playing.proofs.Gaining.{frames_gained, frames_stay}
 use Rattle.playing.proofs.Happening.{happened}
@@ -41,5 +41,6 @@ invariant_of-self c =
     let within : length c.args.self.now.marks ≤ length old.all.sent = c.args.self.now.within in
     let new = view_of c.step-answer.new.self in
     let fresh = c.step-answer.ensures.stepped.same_opened ∙ c.args.self.now.fresh in
-    let unforged = ∥∥₁_map c.args.self.now.unforged (λ none. unforged_after in_memory old new c.args.event.now c.step-answer.result c.step-answer.ensures.stepped c.requires.sent none) in
+    let unforged = ∥∥₁_map c.args.self.now.unforged (λ none. unforged_after in_memory old new c.args.event.now c.step-answer.result c.step-answer.ensures.stepped
+    (λ front. by_any_front old.all.sent 0 front c.args.event.now c.requires.sent) none) in
     record { within = omega (arith, grows, within); fresh = fresh; unforged = unforged; shows = shows_one new fresh c.step-answer.ensures.promised unforged }

@@ -5,7 +5,7 @@ use Rattle.dealer_world.specs.Viewing.{view_of}
 use Rattle.match_links.specs.Passages.{Passage}
 use Rattle.serving.specs.Giving.{Gives}
 use Rattle.serving.specs.Placed.{places_in}
-use Rattle.serving.proofs.Giving.{gives_still, gives_next}
+use Rattle.serving.proofs.Giving.{gives_still, gives_next, stay_longer}
 use Rattle.serving.proofs.desk.Desk.show.Goals as goal
 
 pub returns-in_err-hand_on-clause-given : goal.returns-in_err-hand_on-clause-given
@@ -34,6 +34,7 @@ loop-number-preserved g c =
       called = c.hand_on.ensures.called ∙ c.loop-number.invariant.called;
       refused = c.hand_on.ensures.refused ∙ c.loop-number.invariant.refused;
       reached = search rules;
+      unseated = stay_longer (places_in c.args.self.now.progress.places) old new c.loop-number.invariant.unseated c.hand_on.ensures.unseated;
       low = search rules;
       given = (
         before.0 ++ now.0,
@@ -41,3 +42,7 @@ loop-number-preserved g c =
         gives_next new pieces c.args.self.now.shown c.loop-number.number before.0 now.0 piece still c.in-Some.ensures.found now.2,
       );
     }
+
+pub returns-in_err-hand_on-clause-unseated : goal.returns-in_err-hand_on-clause-unseated
+returns-in_err-hand_on-clause-unseated g c =
+    stay_longer (places_in c.args.self.now.progress.places) (places_in c.loop-number.self.progress.places) (places_in c.hand_on.new.self.progress.places) c.loop-number.invariant.unseated c.hand_on.ensures.unseated

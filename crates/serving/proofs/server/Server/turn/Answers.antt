@@ -1,86 +1,19 @@
-use Rattle.std.proofs.Common.{◌≡◌, ◌++◌, List, Some, None, inl, inr, refl, ap, sym, subst, ◌∙◌, rules}
-use Rattle.std.proofs.lemmas.List.{append-nil}
-use Rattle.dealer_world.specs.declared.cluster.Cluster.{Cluster}
-use Rattle.dealer_world.specs.Promise.{HasNoForged}
-use Rattle.dealer_world.specs.Viewing.{view_of}
+use Rattle.std.proofs.Common.{List, inl, refl, ap, subst}
+use Rattle.dealer_node.specs.Nodes.{Node}
 use Rattle.match_links.specs.Passages.{Passage}
-use Rattle.serving.specs.Dues.{TakesNext}
-use Rattle.serving.specs.Giving.{taken}
+use Rattle.serving.specs.Served.{Served}
 use Rattle.serving.specs.Serving.{served_of}
-use Rattle.serving.specs.declared.waiting.Taking.TheVariants.{Gives, Waits, Over}
-use Rattle.serving.proofs.Serving.{unforged_after}
-use Rattle.serving.proofs.Turns.{same_served, none_waits, gave_from, gives_the_next, over_is_next, sent_nothing, taken_nothing}
+use Rattle.serving.specs.Turned.{Turned}
 use Rattle.serving.proofs.server.Server.turn.Goals as goal
 
-pub returns-in-Gives-clause-turned : goal.returns-in-Gives-clause-turned
-returns-in-Gives-clause-turned g c =
-    let w = c.in-Gives.waiting in
-    let old = served_of c.args.self.now in
-    let takes : TakesNext g.D.Disk old.view old.progress old.waiting (Gives w) = search rules in
-    let took = taken c.args.self.now.waiting (Some w) in
-    let passed : g.L.Links.passed c.take_waiting.new.self.desk.links ≡ g.L.Links.passed c.args.self.now.desk.links ++ took = search rules in
-    let view = ap (λ (cluster : Cluster g.row.D.Denot g.D.Disk). view_of cluster) c.take_waiting.ensures.same in
-    let piece : (served_of c.take_waiting.new.self).piece ≡ old.piece = search rules in
-    inr (
-      w,
-      gives_the_next g.D.Disk old.view old.progress old.waiting w takes,
-      gave_from g.D.Disk w took (served_of c.take_waiting.new.self) old c.give.result (served_of c.give.new.self) view
-          c.take_waiting.ensures.progress c.take_waiting.ensures.shown piece passed c.give.ensures.gave,
-    )
+-- the links may have room more, and nothing passed
+pub returns-then-is_err-clause-turned : goal.returns-then-is_err-clause-turned
+returns-then-is_err-clause-turned g c =
+    let now = served_of c.args.self.now in
+    inl (ap (λ (ps : List Passage). record now { passed = ps }) c.reserve.ensures, inl refl)
 
-pub returns-in-Gives-clause-unforged : goal.returns-in-Gives-clause-unforged
-returns-in-Gives-clause-unforged g c = λ unforged.
-    let w = c.in-Gives.waiting in
-    let gave = c.give.ensures.gave in
-    let before = subst (λ (cluster : Cluster g.row.D.Denot g.D.Disk). HasNoForged (view_of cluster)) (sym c.take_waiting.ensures.same) unforged in
-    unforged_after g.D.Disk (view_of c.take_waiting.new.self.cluster) (view_of c.give.new.self.cluster) w.event w.number gave.called gave.stepped gave.of_match.1 before
-
-pub returns-in_err-waiting-clause-unforged : goal.returns-in_err-waiting-clause-unforged
-returns-in_err-waiting-clause-unforged g c = subst (λ (cluster : Cluster g.row.D.Denot g.D.Disk). HasNoForged (view_of cluster)) (sym c.take_waiting.ensures.same)
-
-pub returns-in-Over-clause-unforged : goal.returns-in-Over-clause-unforged
-returns-in-Over-clause-unforged g c = subst (λ (cluster : Cluster g.row.D.Denot g.D.Disk). HasNoForged (view_of cluster)) (sym c.take_waiting.ensures.same)
-
-pub returns-in-Waits-clause-unforged : goal.returns-in-Waits-clause-unforged
-returns-in-Waits-clause-unforged g c = subst (λ (cluster : Cluster g.row.D.Denot g.D.Disk). HasNoForged (view_of cluster)) (sym c.take_waiting.ensures.same)
-
-pub returns-in_err-waiting-clause-turned : goal.returns-in_err-waiting-clause-turned
-returns-in_err-waiting-clause-turned g c =
-    let view = ap (λ (cluster : Cluster g.row.D.Denot g.D.Disk). view_of cluster) c.take_waiting.ensures.same in
-    let took = c.take_waiting.ensures in
-    let both = c.in_err-waiting.ensures.fault in
-    inl (
-      same_served (served_of c.take_waiting.new.self) (served_of c.args.self.now) view took.progress (took.taken ∙ sym both.0) c.in_err-waiting.ensures.failed
-          took.shown took.called took.refused (search rules),
-      search rules,
-    )
-
-pub returns-in-Waits-clause-turned : goal.returns-in-Waits-clause-turned
-returns-in-Waits-clause-turned g c =
-    let old = served_of c.args.self.now in
-    let took = c.take_waiting.ensures in
-    let takes : TakesNext g.D.Disk old.view old.progress old.waiting (Waits c.in-Waits.seat c.in-Waits.node) = search rules in
-    let nothing = sent_nothing g.D.Disk old.view old.progress old.waiting c.in-Waits.seat c.in-Waits.node takes in
-    let view = ap (λ (cluster : Cluster g.row.D.Denot g.D.Disk). view_of cluster) took.same in
-    let passed : g.L.Links.passed c.take_waiting.new.self.desk.links ≡ old.passed ++ taken c.args.self.now.waiting None = search rules in
-    let empty = ap (λ (ps : List Passage). old.passed ++ ps) (taken_nothing c.args.self.now.waiting) ∙ append-nil old.passed in
-    inl (
-      same_served (served_of c.take_waiting.new.self) old view took.progress (took.taken ∙ sym nothing.free) (passed ∙ empty) took.shown took.called took.refused
-          (search rules),
-      inr nothing,
-    )
-
-pub returns-in-Over-clause-turned : goal.returns-in-Over-clause-turned
-returns-in-Over-clause-turned g c =
-    let old = served_of c.args.self.now in
-    let took = c.take_waiting.ensures in
-    let takes : TakesNext g.D.Disk old.view old.progress old.waiting Over = search rules in
-    let next = over_is_next g.D.Disk old.view old.progress old.waiting takes in
-    let view = ap (λ (cluster : Cluster g.row.D.Denot g.D.Disk). view_of cluster) took.same in
-    let waited = none_waits g.D.Disk old.view old.progress old.waiting next in
-    let passed : g.L.Links.passed c.take_waiting.new.self.desk.links ≡ old.passed ++ taken c.args.self.now.waiting None = search rules in
-    let empty = ap (λ (ps : List Passage). old.passed ++ ps) (taken_nothing c.args.self.now.waiting) ∙ append-nil old.passed in
-    inl (
-      same_served _ old view took.progress (took.taken ∙ sym waited) (c.close_all.ensures ∙ passed ∙ empty) took.shown took.called took.refused (search rules),
-      inl (refl, next),
-    )
+pub returns-clause-turned : goal.returns-clause-turned
+returns-clause-turned g c =
+    let now = served_of c.args.self.now in
+    subst (λ (before : Served (Node g.row.D.Denot)). Turned g.D.Disk before c.take_turn.result (served_of c.take_turn.new.self)) (ap (λ (ps : List Passage). record now { passed = ps }) c.reserve.ensures)
+    c.take_turn.ensures.turned

@@ -1,0 +1,40 @@
+-- How much is shown at most, on values.
+use Rattle.std.proofs.Common.{◌≡◌, [], ◌∷◌, length, refl, ap, arith}
+use Rattle.dealer_node.specs.declared.most_shown.MostShown.{MostShown}
+use Rattle.dealer_node.specs.declared.reader.Reader.TheVariants.{Seat, Log}
+use Rattle.dealer_node.specs.Texts.{byte_total}
+use Rattle.dealer_node.specs.Outs.{Told, nothing_told}
+use Rattle.dealer_node.specs.Most.{most_after, ShowsWithin}
+
+-- a line, and what two commands show; and of three more that are known beyond the front
+abbrev of_two : MostShown
+of_two = record { pieces = 23; bytes = 95528 }
+
+nothing_ahead : most_after 0 ≡ of_two
+nothing_ahead = refl
+
+abbrev of_five : MostShown
+of_five = record { pieces = 56; bytes = 232676 }
+
+three_ahead : most_after 3 ≡ of_five
+three_ahead = refl
+
+-- a line of three bytes was shown, and before it a text of one
+abbrev before : Told
+before = record { frames = []; shown = (record { mark = Log; text = 10 ∷ [] }) ∷ []; faults = [] }
+
+abbrev later : Told
+later = record { frames = []; shown = (record { mark = Log; text = 10 ∷ [] }) ∷ (record { mark = Seat 1; text = 65 ∷ 66 ∷ 67 ∷ [] }) ∷ []; faults = [] }
+
+abbrev most : MostShown
+most = record { pieces = 1; bytes = 3 }
+
+a_line_more : ShowsWithin most before later
+a_line_more = record { more = (record { mark = Seat 1; text = 65 ∷ 66 ∷ 67 ∷ [] }) ∷ []; behind = refl; pieces = omega arith; bytes = omega arith }
+
+-- but it isn't one piece behind nothing, nor one of two bytes
+not_behind_nothing : ShowsWithin most nothing_told later → ⊥
+not_behind_nothing shows = let same = ap length shows.behind in absurd (omega (arith, same, shows.pieces))
+
+not_of_two_bytes : ShowsWithin (record { pieces = 2; bytes = 3 }) nothing_told later → ⊥
+not_of_two_bytes shows = let same = ap byte_total shows.behind in absurd (omega (arith, same, shows.bytes))

@@ -1,0 +1,23 @@
+use Rattle.std.proofs.Common.{sym, ap}
+use Rattle.dealer_node.specs.declared.running.Running.{Running}
+use Rattle.dealer_node.specs.Outs.{told_by}
+use Rattle.dealer_node.specs.Working.{head_of}
+use Rattle.dealer_node.specs.Calling.{away_need}
+use Rattle.dealer_node.proofs.Ordered.{order_took, order_works}
+use Rattle.dealer_node.proofs.Within.{left_within, away_left}
+use Rattle.dealer_node.proofs.up.Up.play_for.Goals as goal
+
+pub returns-clause-works : goal.returns-clause-works
+returns-clause-works g c = λ s honest is meant.
+    let post = c.args.post.now in
+    let taken = c.play_for.ensures.taken s is.running (sym (c.promised-promised.ensures.kept (head_of post) s.store is.keeps honest)) in
+    let took = order_took g.D.Disk post s c.args.act.now c.args.self.now c.play_for.new.self (told_by c.args.made.now) (told_by c.play_for.new.made) is taken in
+    order_works g.D.Disk post s c.args.act.now c.args.self.now _ c.close.new.self (told_by c.args.made.now) (told_by c.play_for.new.made) (told_by c.close.new.made) c.close.result meant took
+    (c.close.ensures.works took.turn.after honest took.now)
+
+pub returns-clause-within : goal.returns-clause-within
+returns-clause-within g c = λ nothing.
+    left_within c.close.new.self.running c.close.new.made (away_need c.args.self.now.running)
+    (c.close.ensures.left (away_need c.args.self.now.running) 0 0
+    (away_left c.args.self.now _ c.args.made.now c.play_for.new.made nothing c.requires.room c.play_for.ensures.frames c.play_for.ensures.rest
+    (ap (λ (r : Running). record c.args.self.now { running = r }) c.play_for.ensures.same)))

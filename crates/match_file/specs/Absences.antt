@@ -1,0 +1,19 @@
+-- What is done about seats that were dropped.
+use Rattle.std.specs.Prelude.{◌≡◌, ℕ, List, codes, Option, Some, None}
+use Rattle.toml.specs.Data.{Data, Members, string}
+use Rattle.match_file.specs.declared.absent.Absent.{Absent}
+use Rattle.match_file.specs.declared.absent.Absent.TheVariants.{Wait, Play}
+use Rattle.match_file.specs.declared.key.Key.TheVariants.{Away}
+use Rattle.match_file.specs.Matches.{entry_at}
+
+abbrev pub absent_text : Absent → List ℕ
+absent_text Wait = codes "wait"
+absent_text Play = codes "play"
+
+-- one of these texts; where there is no entry they are waited for
+abbrev pub SaysOf : Option Data → Absent → Type 0
+SaysOf None absent = absent ≡ Wait
+SaysOf (Some entry) absent = entry ≡ string (absent_text absent)
+
+abbrev pub SaysAbsent : Members → Absent → Type 0
+SaysAbsent table absent = SaysOf (entry_at Away table) absent

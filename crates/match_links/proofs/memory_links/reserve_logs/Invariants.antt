@@ -1,0 +1,11 @@
+use Rattle.std.proofs.Common.{◌≡◌, ◌≤◌, ◌<◌, ℕ, map, length}
+use Rattle.match_links.specs.Room.{log_room}
+use Rattle.match_links.proofs.memory_links.reserve_logs.Given as goal
+
+-- nothing in the logs changed, and those before this one have their room
+abbrev pub invariant-loop-node : goal.invariant-loop-node
+invariant-loop-node l = record {
+  same : map (λ log. log.items) l.logs.items ≡ map (λ log. log.items) l.initial.logs.items;
+  long : length l.logs.items ≡ length l.initial.logs.items;
+  ready : (i : ℕ) → i < l.node → l.text ≤ log_room l.logs.items i;
+}

@@ -1,5 +1,0 @@
-use Rattle.std.proofs.Common.{rules}
-use Rattle.serving.proofs.places.moved.Goals as goal
-
-pub returns-in-Awaited : goal.returns-in-Awaited
-returns-in-Awaited c = search rules
