@@ -39,17 +39,18 @@ class Body:
             raise Fault("54 BadBody")
         return entries
 
-    def command(self, is_act=False):
+    def command(self, may_go_on=False):
         begin = self.data
-        if self.number(1, 2, 2 if is_act else 1) == 1:
-            self.number(4, 9999)
+        kind = self.number(1, 3, 2 if may_go_on else 1)
+        self.number(4, 9999)
+        if kind == 1:
             count = self.number(1, 25, 9)
             cards = self.take(count)
             if count % 2 == 0 or len(set(cards)) < count or max(cards) > 51:
                 raise Fault("54 BadBody")
         else:
-            self.number(4, 9999)
             self.number(2, 255)
+        if kind == 2:
             is_raise = self.number(1, 2) == 2
             self.number(4, MOST_CHIPS if is_raise else 0)
         return begin[: len(begin) - len(self.data)]
@@ -78,7 +79,7 @@ def read_frame(data):
 def read_parts(kind, body):
     """What stands in a body of a kind."""
     if kind == nodes.FORWARD:
-        return [body.command(is_act=True)]
+        return [body.command(may_go_on=True)]
     if kind in (nodes.CHOSEN, nodes.ASK):
         return [body.slot()] + ([body.command()] if kind == nodes.CHOSEN else [])
     ballot, slot = body.ballot(), body.slot()
@@ -91,11 +92,21 @@ def read_parts(kind, body):
 DEAL = nodes.deal_bytes(0, dealer.CARDS[:9])
 LONG_DEAL = nodes.deal_bytes(1, dealer.CARDS[:25])
 CALL, RAISE = nodes.act_bytes(0, 0, "c", 0), nodes.act_bytes(0, 1, "r", 20)
+
+
+def away_bytes(hand, index):
+    """The command that plays for a player who is away."""
+    return bytes([3]) + hand.to_bytes(4, "big") + index.to_bytes(2, "big")
+
+
+AWAY = away_bytes(0, 0)
 MESSAGES = [
     (nodes.PREPARE, (1, 0), 0), (nodes.PROMISE, (1, 0), 0, []),
     (nodes.PROMISE, (2, 1), 3, [(3, (1, 0), DEAL), (5, (1, 2), CALL), (66, (2, 1), RAISE)]), (nodes.REFUSE, (1, 0), 0, (1, 1)),
     (nodes.ACCEPT, (1, 0), 0, DEAL), (nodes.ACCEPT, (3, 2), 1, CALL), (nodes.ACCEPTED, (1, 0), 0, RAISE), (nodes.CHOSEN, 1, CALL),
     (nodes.CHOSEN, 0, DEAL), (nodes.ASK, 0), (nodes.FORWARD, CALL), (nodes.CHOSEN, 2, LONG_DEAL),
+    (nodes.ACCEPT, (1, 0), 1, AWAY), (nodes.CHOSEN, 1, AWAY), (nodes.FORWARD, AWAY),
+    (nodes.PROMISE, (2, 1), 3, [(slot, (1, 0), AWAY) for slot in range(3, 67)]),
 ]  # fmt: skip
 
 
@@ -106,10 +117,12 @@ def drawn_message(dice):
     slot = lambda: number(0, 1, 2, 63, 64, 3999999, 3999935)
     cards = lambda: dice.sample(dealer.CARDS, dice.choice([9, 9, 11, 25, 24, 7, 27]))
     act = lambda: nodes.act_bytes(number(0, 0, 9999), dice.choice([0, 1, 255, 256]), dice.choice("fcr"), number(0, 0, 20, MOST_CHIPS))
-    command = lambda: act() if dice.random() < 0.6 else nodes.deal_bytes(number(0, 0, 9999), cards())
+    away = lambda: away_bytes(number(0, 0, 9999), dice.choice([0, 1, 255, 256]))
+    goes_on = lambda: act() if dice.random() < 0.7 else away()
+    command = lambda: goes_on() if dice.random() < 0.6 else nodes.deal_bytes(number(0, 0, 9999), cards())
     kind = dice.randrange(1, 9)
     if kind == nodes.FORWARD:
-        return kind, command() if dice.random() < 0.1 else act()
+        return kind, command() if dice.random() < 0.1 else goes_on()
     if kind in (nodes.CHOSEN, nodes.ASK):
         return (kind, slot(), command())[: 3 if kind == nodes.CHOSEN else 2]
     behind = {nodes.PREPARE: [], nodes.REFUSE: [ballot], nodes.ACCEPT: [command], nodes.ACCEPTED: [command], nodes.PROMISE: []}
