@@ -1,5 +1,5 @@
 -- What holds of what a proposer counts and proposes.
-use Rattle.std.specs.Prelude.{◌≡◌, ℕ, ◌≤◌, ◌<◌, ◌⊎◌, ◌↔◌, true, List, ◌∷◌, Option, Some, Ok}
+use Rattle.std.specs.Prelude.{◌≡◌, ℕ, ◌≤◌, ◌⊎◌, ◌↔◌, true, false, List, ◌∷◌, Option, Some, Ok}
 use Rattle.paxos_wire.specs.declared.limits.TheConstants.{NODES}
 use Rattle.paxos_wire.specs.declared.ballot.Ballot.{Ballot}
 use Rattle.paxos_wire.specs.declared.entry.Entry.{Entry}
@@ -34,6 +34,12 @@ abbrev pub QuorumLeads : Type 0
 QuorumLeads =
     (n : ℕ) (has : List Message) (campaign : Campaign) → CountsFrom has campaign → CountsAll n has campaign
     → (has_quorum n campaign ≡ true) ↔ HasQuorum n has campaign.ballot campaign.first
+
+-- one promise of three or more nodes is no quorum
+abbrev pub OnePromiseLeadsNot : Type 0
+OnePromiseLeadsNot =
+    (n from : ℕ) (begun ballot : Ballot) (first slot : ℕ) (told : List Entry) → 3 ≤ n
+    → has_quorum n (with_promise n (new_campaign begun first) from ballot slot told) ≡ false
 
 -- where a quorum promised, and nothing of the ballot was sent at a slot that it covers, what there is to propose is proposed
 abbrev pub LeaderProposes : Type 0

@@ -1,6 +1,6 @@
 //! What holds of what a proposer counts and proposes: each law is the contract of a function that does nothing.
 
-ghost use Rattle.proposer.specs.Laws.{GreatestDecides, ProposalsAreSafe, QuorumLeads, LeaderProposes, ProposesOnce, BeginCounts, BeginCountsAll, BeginMarks, PromiseCounts, PromiseCountsAll, PromiseMarks, OthersCount, OthersCountAll, OthersMark, ProposalCounts, ProposalCountsAll, ProposalMarks, PromiseStays, ProposalStays};
+ghost use Rattle.proposer.specs.Laws.{GreatestDecides, ProposalsAreSafe, QuorumLeads, OnePromiseLeadsNot, LeaderProposes, ProposesOnce, BeginCounts, BeginCountsAll, BeginMarks, PromiseCounts, PromiseCountsAll, PromiseMarks, OthersCount, OthersCountAll, OthersMark, ProposalCounts, ProposalCountsAll, ProposalMarks, PromiseStays, ProposalStays};
 
 /// What is proposed is what the counted promises make safe: the told command of the greatest ballot, or where none was
 /// told the own one, once at a slot, in a window of 64.
@@ -13,10 +13,11 @@ pub fn proposals_are_safe()
     ensures once { ProposesOnce }
 {}
 
-/// A campaign leads exactly where promises of more than half of the nodes came, and then proposes what there is to
-/// propose, unless it did so at that slot.
+/// A campaign leads exactly where promises of more than half of the nodes came, which the first promise of three or more
+/// nodes never makes, and then proposes what there is to propose, unless it did so at that slot.
 pub fn leaders_propose()
     ensures quorum { QuorumLeads }
+    ensures alone { OnePromiseLeadsNot }
     ensures proposes { LeaderProposes }
 {}
 

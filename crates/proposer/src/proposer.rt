@@ -73,7 +73,10 @@ impl Proposer {
     pub fn turn_idle(&mut self)
         ensures { self.new ≡ idle self.old }
     {
-        self.campaign = None;
+        // A campaign has some 20 KB, which are written over where it is given up: nearly always there is none.
+        if self.campaign.is_some() {
+            self.campaign = None;
+        }
     }
 
     /// Counts a promise of a node, with what it tells: of the ballot that was begun and its first slot, the first of

@@ -27,6 +27,20 @@ pub none_counted : (chosen : ℕ → Bool) (n : ℕ) → ((k : ℕ) → k < n �
 none_counted chosen zero none = refl
 none_counted chosen (suc n) none = none_step (chosen n) (count chosen n) (λ e. none n (omega arith) e) (none_counted chosen n (λ k low is. none k (omega arith) is))
 
+one_step : (b : Bool) (k : ℕ) → (b ≡ true → k ≡ 0) → k ≤ 1 → (if b then 1 + k else k) ≤ 1
+one_step true k zero_then low = let e = zero_then refl in omega (arith, e)
+one_step false k zero_then low = low
+
+-- of a set that has no other node than this one, one is counted at most
+pub one_counted : (chosen : ℕ → Bool) (only n : ℕ) → ((k : ℕ) → k < n → chosen k ≡ true → k ≡ only) → count chosen n ≤ 1
+one_counted chosen only zero single = omega arith
+one_counted chosen only (suc n) single = one_step (chosen n) (count chosen n)
+    (λ e. none_counted chosen n (λ k l is. let a = single k (omega arith) is in let b = single n (omega arith) e in absurd (omega (arith, a, b))))
+    (one_counted chosen only n (λ k l is. single k (omega arith) is))
+
+pub one_is_no_quorum : (n only : ℕ) (set : ℕ → Bool) → 3 ≤ n → ((node : ℕ) → node < n → set node ≡ true → node ≡ only) → IsQuorum n set → ⊥
+one_is_no_quorum n only set three single most = let few = one_counted set only n single in omega arith
+
 -- sets that count more than n together share one of the first n
 abbrev Shares : ℕ → (ℕ → Bool) → (ℕ → Bool) → Type 0
 Shares n a b = (node : ℕ) × (node < n) × (a node ≡ true) × (b node ≡ true)

@@ -1,10 +1,10 @@
-ghost use Rattle.std.specs.Prelude.{◌≡◌, Bool, ℕ, ◌<◌, ◌≤◌, ◌++◌, ◌↔◌, List, length, Some};
+ghost use Rattle.std.specs.Prelude.{◌≡◌, Bool, true, ℕ, ◌<◌, ◌≤◌, ◌++◌, ◌↔◌, List, length, Some};
 ghost use Rattle.paxos_wire.specs.declared.ballot.Ballot.{Ballot};
 ghost use Rattle.slot_log.specs.declared.command.Command.{Command};
 ghost use Rattle.protocol_model.specs.Sets.{In, IsBeginning};
 ghost use Rattle.protocol_model.specs.Ballots.{Below, AtMost};
 ghost use Rattle.protocol_model.specs.Messages.{Vote, Message, sender_of, Prepare, Accept, Accepted, Chosen};
-ghost use Rattle.protocol_model.specs.Quorums.{IsChosenIn, IsChosen, AreChosen};
+ghost use Rattle.protocol_model.specs.Quorums.{IsQuorum, IsChosenIn, IsChosen, AreChosen};
 ghost use Rattle.protocol_model.specs.Dealers.{Dealer};
 ghost use Rattle.protocol_model.specs.Laws.{OneDealer, HasOrigin, IsLeft, IsOpened, with_own, OwnsMore};
 ghost use Rattle.protocol_model.specs.Nodes.{Node};
@@ -25,6 +25,12 @@ pub fn chains_reach()
     ensures join { (dealer : Dealer) (n i : ℕ) (ever : List Message) (old : Node) (earlier : Output) (between : Node) (later : Output) (new : Node)
         → Chain dealer n i ever old earlier between → Chain dealer n i (earlier.sent ++ ever) between later new
         → Chain dealer n i ever old (both later earlier) new }
+{}
+
+/// One node of three or more is no quorum, so that what it promises or accepts settles nothing by itself.
+pub fn one_node_is_no_quorum()
+    ensures { (n only : ℕ) (set : ℕ → Bool)
+        → 3 ≤ n → ((node : ℕ) → node < n → set node ≡ true → node ≡ only) → IsQuorum n set → ⊥ }
 {}
 
 /// What is chosen stays chosen: in every run, of any number of nodes, whatever was lost, repeated or late and whoever
