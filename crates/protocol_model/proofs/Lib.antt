@@ -15,6 +15,9 @@ mod Saying
 mod Dealing
 mod Opening
 mod Calling
+pub mod CommandRuns
+pub mod CommandRunExamples
+mod CarriedRuns
 pub mod Examples
 pub mod NearMisses
 pub mod ActExample

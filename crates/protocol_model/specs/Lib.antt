@@ -11,5 +11,6 @@ pub mod Nodes
 pub mod Arrivals
 pub mod Moves
 pub mod Calls
+pub mod CommandRuns
 pub mod Worlds
 pub mod Laws

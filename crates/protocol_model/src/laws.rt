@@ -1,4 +1,4 @@
-ghost use Rattle.std.specs.Prelude.{◌≡◌, Bool, true, ℕ, ◌<◌, ◌≤◌, ◌++◌, ◌↔◌, List, length, Some};
+ghost use Rattle.std.specs.Prelude.{◌≡◌, Bool, true, false, ℕ, ◌+◌, ◌-◌, ◌<◌, ◌≤◌, ◌++◌, ◌↔◌, List, ◌∷◌, length, slice_get, Some};
 ghost use Rattle.paxos_wire.specs.declared.ballot.Ballot.{Ballot};
 ghost use Rattle.slot_log.specs.declared.command.Command.{Command};
 ghost use Rattle.protocol_model.specs.Sets.{In, IsBeginning};
@@ -8,11 +8,14 @@ ghost use Rattle.protocol_model.specs.Quorums.{IsQuorum, IsChosenIn, IsChosen, A
 ghost use Rattle.protocol_model.specs.Dealers.{Dealer};
 ghost use Rattle.protocol_model.specs.Laws.{OneDealer, HasOrigin, IsLeft, IsOpened, with_own, OwnsMore};
 ghost use Rattle.protocol_model.specs.Nodes.{Node};
-ghost use Rattle.protocol_model.specs.Stores.{Store, promised, voted, StoreMove};
+ghost use Rattle.protocol_model.specs.Stores.{Store, promised, voted, StoreMove, Append};
 ghost use Rattle.protocol_model.specs.Backing.{Backs, HasNoOther, IsWithinPromise, IsAcceptedToo};
 ghost use Rattle.protocol_model.specs.Arrivals.{heard_in, AreInOrder};
-ghost use Rattle.protocol_model.specs.Moves.{Shown, Output, both, Chain};
+ghost use Rattle.protocol_model.specs.Moves.{Shown, Output, both, with_store, with_sent, Chain};
 ghost use Rattle.protocol_model.specs.Calls.{IsToSeat, lines_in};
+ghost use Rattle.protocol_model.specs.Votes.{is_voted, command_run_at, taking_command_run};
+ghost use Rattle.protocol_model.specs.Frames.{proposals, answers};
+ghost use Rattle.protocol_model.specs.CommandRuns.{proposed, answered, sending_all, MayProposeEach};
 ghost use Rattle.protocol_model.specs.Worlds.{World, IsAfter, Run, Reached};
 
 /// Moves of one node, one after another, lead from a world of a run to a world of the run; and such chains join.
@@ -144,4 +147,52 @@ pub fn arrivals_tell()
 pub fn lines_follow()
     ensures joined { (earlier later : Output) → lines_in (both later earlier).shown ≡ lines_in earlier.shown ++ lines_in later.shown }
     ensures lines { (shown : List Shown) (line : Shown) → In line (lines_in shown) ↔ In line shown × IsToSeat line }
+{}
+
+/// The messages of a command run are one for each of its commands, of the first at its slot, of each further one at the
+/// slot behind.
+pub fn command_runs_are_carried()
+    ensures proposals { (ballot other : Ballot) (slot k : ℕ) (command : Command) (commands : List Command)
+        → In (Accept other k command) (proposals ballot slot commands)
+        ↔ (other ≡ ballot) × (slot ≤ k) × (k < slot + length commands) × (slice_get commands (k - slot) ≡ Some command) }
+    ensures answers { (sender from : ℕ) (ballot other : Ballot) (slot k : ℕ) (command : Command) (commands : List Command)
+        → In (Accepted from other k command) (answers sender ballot slot commands)
+        ↔ (from ≡ sender) × (other ≡ ballot) × (slot ≤ k) × (k < slot + length commands) × (slice_get commands (k - slot) ≡ Some command) }
+    ensures only_proposals { (ballot : Ballot) (slot : ℕ) (commands : List Command) (message : Message)
+        → In message (proposals ballot slot commands) → (k : ℕ) × (command : Command) × (message ≡ Accept ballot k command) }
+    ensures only_answers { (sender : ℕ) (ballot : Ballot) (slot : ℕ) (commands : List Command) (message : Message)
+        → In message (answers sender ballot slot commands) → (k : ℕ) × (command : Command) × (message ≡ Accepted sender ballot k command) }
+{}
+
+/// A command run is voted for by moves of its slots one after another, and stored by one append; and told values of slots
+/// one behind the other are proposed together.
+///
+/// Of a run that was proposed what is taken is voted for: its votes are what one append may make of the store, each
+/// answer is backed by them, so is all that was backed before, no vote is above the promise, and a run that isn't empty
+/// leaves its ballot promised. Where the ballot has no vote at any of the slots, all of the run is taken.
+pub fn command_runs_are_moves()
+    ensures votes { (dealer : Dealer) (n i : ℕ) (ever : List Message) (old : Node) (ballot : Ballot) (slot : ℕ) (commands : List Command)
+        → old.up ≡ true → old.begun ≡ old.store → AtMost old.store.promise ballot
+        → ((message : Message) → In message (proposals ballot slot commands) → In message old.has)
+        → Chain dealer n i ever old (sending_all (answered i ballot slot (command_run_at old.store ballot slot commands)))
+        (with_sent (with_store old (taking_command_run old.store ballot slot commands)) (answered i ballot slot (command_run_at old.store ballot slot commands))) }
+    ensures append { (i : ℕ) (has : List Message) (store : Store) (ballot : Ballot) (slot : ℕ) (commands : List Command)
+        → AtMost store.promise ballot → ((message : Message) → In message (proposals ballot slot commands) → In message has)
+        → Append i has store (taking_command_run store ballot slot commands) }
+    ensures backed { (i : ℕ) (has : List Message) (store : Store) (ballot : Ballot) (slot : ℕ) (commands : List Command) (message : Message)
+        → IsWithinPromise store → AtMost store.promise ballot → ((said : Message) → In said (proposals ballot slot commands) → In said has)
+        → In message (answers i ballot slot (command_run_at store ballot slot commands)) → Backs (taking_command_run store ballot slot commands) message }
+    ensures stays { (has : List Message) (store : Store) (ballot : Ballot) (slot : ℕ) (commands : List Command) (message : Message)
+        → IsWithinPromise store → AtMost store.promise ballot → ((said : Message) → In said (proposals ballot slot commands) → In said has)
+        → Backs store message → Backs (taking_command_run store ballot slot commands) message }
+    ensures within { (store : Store) (ballot : Ballot) (slot : ℕ) (commands : List Command)
+        → IsWithinPromise store → AtMost store.promise ballot → IsWithinPromise (taking_command_run store ballot slot commands) }
+    ensures promised { (store : Store) (ballot : Ballot) (slot : ℕ) (command : Command) (later : List Command)
+        → IsWithinPromise store → AtMost store.promise ballot → (taking_command_run store ballot slot (command ∷ later)).promise ≡ ballot }
+    ensures taken_whole { (store : Store) (ballot : Ballot) (slot : ℕ) (commands : List Command)
+        → ((k : ℕ) → slot ≤ k → k < slot + length commands → is_voted store ballot k ≡ false)
+        → command_run_at store ballot slot commands ≡ commands }
+    ensures proposals { (dealer : Dealer) (n i : ℕ) (ever : List Message) (old : Node) (ballot : Ballot) (first slot : ℕ) (commands : List Command)
+        → old.up ≡ true → In (Prepare ballot first) old.sent → ballot.node ≡ i → MayProposeEach n old.has old.sent ballot slot commands
+        → Chain dealer n i ever old (sending_all (proposed ballot slot commands)) (with_sent old (proposed ballot slot commands)) }
 {}

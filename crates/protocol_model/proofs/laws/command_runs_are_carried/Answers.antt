@@ -1,0 +1,14 @@
+use Rattle.protocol_model.proofs.CarriedRuns.{proposals_carry, answers_carry, only_proposals, only_answers}
+use Rattle.protocol_model.proofs.laws.command_runs_are_carried.Goals as goal
+
+pub returns-clause-proposals : goal.returns-clause-proposals
+returns-clause-proposals c = proposals_carry
+
+pub returns-clause-answers : goal.returns-clause-answers
+returns-clause-answers c = answers_carry
+
+pub returns-clause-only_proposals : goal.returns-clause-only_proposals
+returns-clause-only_proposals c = only_proposals
+
+pub returns-clause-only_answers : goal.returns-clause-only_answers
+returns-clause-only_answers c = only_answers
