@@ -1,4 +1,5 @@
 mod Owning
+pub mod Counts
 pub mod Fitting
 mod Ordering
 mod Holding

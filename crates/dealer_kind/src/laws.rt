@@ -1,12 +1,14 @@
 //! What holds of the dealers of matches: each law is the contract of a function that does nothing.
 
-ghost use Rattle.std.specs.Prelude.{◌≡◌, ◌↔◌, ℕ, ◌<◌, Bool, true, List};
+ghost use Rattle.std.specs.Prelude.{◌≡◌, ◌↔◌, ℕ, ◌+◌, ◌*◌, ◌<◌, ◌≤◌, Bool, true, List};
+ghost use Rattle.paxos_wire.specs.declared.limits.TheConstants.{NODES};
 ghost use Rattle.slot_log.specs.declared.command.Command.{Command};
 ghost use Rattle.slot_log.specs.Dealer.{Fits};
 ghost use Rattle.protocol_model.specs.Quorums.{IsChosen};
 ghost use Rattle.protocol_model.specs.Worlds.{World, Reached};
 ghost use Rattle.protocol_model.specs.Laws.{with_own, OwnsMore};
 ghost use Rattle.dealer_kind.specs.Kind.{Setting, hands_after, dealer_of, fits};
+ghost use Rattle.dealer_kind.specs.Plans.{HasNodes};
 ghost use Rattle.dealer_kind.specs.Owning.{OwnsDeals, either, IsDealtSaidOrOrdered};
 ghost use Rattle.dealer_kind.specs.Sources.{owns};
 ghost use Rattle.dealer_kind.specs.declared.source.Source.{Source};
@@ -39,6 +41,14 @@ pub fn owners_may_widen()
     ensures first { (setting : Setting) (own other : ℕ → Command → Bool) → OwnsMore (dealer_of setting own) (either own other) }
     ensures second { (setting : Setting) (own other : ℕ → Command → Bool) → OwnsMore (dealer_of setting other) (either own other) }
     ensures deals { (own other : ℕ → Command → Bool) → OwnsDeals own → OwnsDeals other → OwnsDeals (either own other) }
+{}
+
+/// A match has three nodes or more, and no more than frames and journals have numbers for; and their number is odd, so that
+/// a least quorum has one node more than the others are.
+pub fn nodes_are_few_and_odd()
+    ensures least { (nodes : ℕ) → HasNodes nodes → 3 ≤ nodes }
+    ensures most { (nodes : ℕ) → HasNodes nodes → nodes ≤ NODES }
+    ensures odd { (nodes : ℕ) → HasNodes nodes → (quorum : ℕ) × (2 * quorum ≡ nodes + 1) }
 {}
 
 /// A command fits the protocol's dealer exactly where it fits the hands that the commands before it make.

@@ -14,6 +14,7 @@ use crate::key::Key;
 use crate::match_fault::MatchFault;
 use crate::match_file::MatchFile;
 use crate::outage::Outage;
+use dealer_kind::laws::nodes_are_few_and_odd;
 use std::alloc::Global;
 use toml::Value;
 
@@ -88,6 +89,7 @@ fn leave_most(outages: &[Outage], nodes: usize) -> bool
     requires { HasNodes nodes }
     ensures { IsTrue result ↔ LeaveMost nodes outages.now }
 {
+    nodes_are_few_and_odd();
     leave_most_at_starts(outages, nodes)
 }
 
