@@ -1,5 +1,6 @@
 -- Proposals and votes of three nodes, worked out.
-use Rattle.std.proofs.Common.{◌≡◌, ℕ, zero, suc, ◌<◌, ◌≤◌, ◌+◌, inl, inr, Bool, true, false, List, [], ◌∷◌, Option, Some, None, refl, sym, subst, arith, replicate}
+use Rattle.std.proofs.Common.{◌≡◌, ℕ, zero, suc, ◌<◌, ◌≤◌, ◌+◌, inl, inr, Bool, true, false, List, [], ◌∷◌, Option, Some, None, refl, sym, ap, subst, arith, replicate}
+use Rattle.paxos_wire.specs.declared.ballot.Ballot.{Ballot}
 use Rattle.paxos_wire.specs.declared.entry.Entry.{Entry}
 use Rattle.betting.specs.declared.action.Action.TheVariants.{Fold}
 use Rattle.slot_log.specs.declared.command.Command.{Command}
@@ -7,7 +8,8 @@ use Rattle.slot_log.specs.declared.command.Command.TheVariants.{Act}
 use Rattle.protocol_model.specs.Sets.{In}
 use Rattle.protocol_model.specs.Ballots.{AtMost}
 use Rattle.protocol_model.specs.Messages.{Vote, Message, Prepare, Promise, Refuse, Accept, Accepted}
-use Rattle.protocol_model.specs.Stores.{empty_store, promised}
+use Rattle.protocol_model.specs.Quorums.{IsGreatestTold}
+use Rattle.protocol_model.specs.Stores.{Store, empty_store, promised, voted}
 use Rattle.protocol_model.specs.Nodes.{Node, new_node}
 use Rattle.proposer.specs.Counted.{HasQuorum}
 use Rattle.learner.specs.Learning.{new_learned}
@@ -121,6 +123,57 @@ invented_is_refuted h = elim (h.by_rule (dealt 0) (inl refl)) [
   | inl greatest ↦ greatest.1.3
   | inr free ↦ (let e : ◌≡◌ {A = Option Command} None (Some (dealt 0)) = free.1 in cc)
 ]
+
+-- beyond its front it proposes what was told: here node 2, which knows nothing yet, the deal that node 1 tells of at slot 1
+abbrev had_beyond : List Message
+had_beyond = Promise 1 (ballot 2 2) 0 (record told { slot = 1 } ∷ []) ∷ Promise 2 (ballot 2 2) 0 [] ∷ []
+
+abbrev voted_beyond : Store
+voted_beyond = voted empty_store 1 (record { ballot = ballot 2 2; command = dealt 0 })
+
+told_beyond : IsGreatestTold 3 had_beyond (ballot 2 2) 1 (dealt 0)
+told_beyond = (
+  ballot 1 0,
+  (1, 0, record told { slot = 1 } ∷ [], inl refl, inl refl),
+  (both_of, omega arith, λ node below is. promise_of node below is),
+)
+  where
+    promise_of : (node : ℕ) → node < 3 → both_of node ≡ true
+        → (f : ℕ) × (entries : List Entry) × In (Promise node (ballot 2 2) f entries) had_beyond × ((f ≤ 1) × (1 ≤ f + 63))
+        × ((entry : Entry) → In entry entries → entry.slot ≡ 1 → AtMost entry.ballot (ballot 1 0))
+    promise_of zero below is = absurd (cc)
+    promise_of (suc zero) below is = (
+      0,
+      record told { slot = 1 } ∷ [],
+      inl refl,
+      (omega arith, omega arith),
+      λ entry h same. elim h [ inl e ↦ subst (λ (k : Entry). AtMost k.ballot (ballot 1 0)) (sym e) (inr (refl, omega arith)) | inr none ↦ absurd none ],
+    )
+    promise_of (suc (suc zero)) below is = (0, [], inr (inl refl), (omega arith, omega arith), λ entry h same. absurd h)
+    promise_of (suc (suc (suc node))) below is = absurd (omega arith)
+
+one_proposal : (b : Ballot) (slot : ℕ) (command : Command) → In (Accept b slot command) (Accept (ballot 2 2) 1 (dealt 0) ∷ [])
+    → (b ≡ ballot 2 2) × (slot ≡ 1) × (command ≡ dealt 0)
+one_proposal b slot command (inl e) = (cc, cc, cc)
+one_proposal b slot command (inr none) = absurd none
+
+proposed_beyond : IsProposed 3 2 [] 0 None voted_beyond had_beyond (Accept (ballot 2 2) 1 (dealt 0) ∷ [])
+proposed_beyond = record {
+  ballots = λ b slot command h. ap (λ (x : Ballot). x.node) (one_proposal b slot command h).0;
+  voted = λ slot command h.
+      let is = one_proposal (ballot 2 2) slot command h in
+      subst (λ (c : Command). voted_beyond.votes slot ≡ Some (record { ballot = ballot 2 2; command = c })) (sym is.2)
+      (subst (λ (k : ℕ). voted_beyond.votes k ≡ Some (record { ballot = ballot 2 2; command = dealt 0 })) (sym is.1) refl);
+  told = λ slot command h.
+      let is = one_proposal (ballot 2 2) slot command h in
+      inr (subst (λ (c : Command). IsGreatestTold 3 had_beyond (ballot 2 2) slot c) (sym is.2)
+      (subst (λ (k : ℕ). IsGreatestTold 3 had_beyond (ballot 2 2) k (dealt 0)) (sym is.1) told_beyond));
+  by_rule = λ command h. absurd (let is = (one_proposal (ballot 2 2) 0 command h).1 in omega (arith, is));
+}
+
+-- and nothing else
+invented_beyond_is_refuted : IsProposed 3 2 [] 0 (Some (dealt 0)) voted_beyond [] (Accept (ballot 2 2) 1 (dealt 0) ∷ []) → ⊥
+invented_beyond_is_refuted h = elim (h.told 1 (dealt 0) (inl refl)) [ inl low ↦ absurd (omega (arith, low)) | inr greatest ↦ greatest.1.3 ]
 
 -- one whose ballot a Refuse outbids leads no longer
 outbid_leader_is_refuted : Campaigns 3 0 (record leader { has = Refuse 1 (ballot 1 0) 0 (ballot 2 2) ∷ leader.has }) campaign_0 → ⊥

@@ -7,6 +7,7 @@ use Rattle.slot_log.specs.declared.command.Command.{Command}
 use Rattle.protocol_model.specs.Sets.{In, put}
 use Rattle.protocol_model.specs.Ballots.{Below, AtMost}
 use Rattle.protocol_model.specs.Messages.{Vote, Message, Accept, Accepted}
+use Rattle.protocol_model.specs.Quorums.{IsGreatestTold}
 use Rattle.protocol_model.specs.Stores.{Store, promised, voted}
 use Rattle.learner.specs.Learning.{Learned}
 use Rattle.dealer_kind.specs.Kind.{fits}
@@ -26,6 +27,17 @@ value_more n messages has ballot slot own other command inside same (inl told) =
 value_more n messages has ballot slot own other command inside same (inr free) =
     inr (promises_stay n messages has ballot slot (λ entry. ⊥) inside free.0, same free.1)
 
+told_more : (n : ℕ) (messages has : List Message) (ballot : Ballot) (slot : ℕ) (command : Command) (upto : List Command) → ((m : Message) → In m messages → In m has)
+    → (slot ≤ length upto) ⊎ IsGreatestTold n messages ballot slot command → (slot ≤ length upto) ⊎ IsGreatestTold n has ballot slot command
+told_more n messages has ballot slot command upto inside (inl low) = inl low
+told_more n messages has ballot slot command upto inside (inr told) = inr (greatest_stays n messages has ballot slot command inside told)
+
+-- a proposal beyond the commands that were applied is of what was told
+beyond : (n : ℕ) (has : List Message) (ballot : Ballot) (slot : ℕ) (own : Option Command) (command : Command) (upto : List Command) → length upto < slot
+    → (slot ≤ length upto) ⊎ IsGreatestTold n has ballot slot command → IsValue n has ballot slot own command
+beyond n has ballot slot own command upto above (inl low) = absurd (omega (arith, above, low))
+beyond n has ballot slot own command upto above (inr told) = inl told
+
 -- ---- a message is got, or sent, that is no proposal
 
 pub got_proposed : (n i : ℕ) (upto : List Command) (at : ℕ) (own : Option Command) (store : Store) (has sent : List Message) (m : Message)
@@ -33,7 +45,7 @@ pub got_proposed : (n i : ℕ) (upto : List Command) (at : ℕ) (own : Option Co
 got_proposed n i upto at own store has sent m p = record {
   ballots = p.ballots;
   voted = p.voted;
-  reached = p.reached;
+  told = λ s c h. told_more n has (m ∷ has) store.promise s c upto (λ o k. inr k) (p.told s c h);
   by_rule = λ c h. value_more n has (m ∷ has) store.promise at own own c (λ o k. inr k) (λ e. e) (p.by_rule c h);
 }
 
@@ -43,7 +55,7 @@ pub sent_proposed : (n i : ℕ) (upto : List Command) (at : ℕ) (own : Option C
 sent_proposed n i upto at own store has sent more before p = record {
   ballots = λ b s c h. p.ballots b s c (before b s c h);
   voted = λ s c h. p.voted s c (before store.promise s c h);
-  reached = λ s c h. p.reached s c (before store.promise s c h);
+  told = λ s c h. p.told s c (before store.promise s c h);
   by_rule = λ c h. p.by_rule c (before store.promise at c h);
 }
 
@@ -55,7 +67,7 @@ pub none_proposed : (n i : ℕ) (upto : List Command) (at : ℕ) (own : Option C
 none_proposed n i upto at own store has sent ballots none = record {
   ballots = ballots;
   voted = λ s c h. absurd (none s c h);
-  reached = λ s c h. absurd (none s c h);
+  told = λ s c h. absurd (none s c h);
   by_rule = λ c h. absurd (none at c h);
 }
 
@@ -90,7 +102,7 @@ pub made_proposed : (n i : ℕ) (upto : List Command) (own : Option Command) (st
 made_proposed n i upto own store has sent ballot slot command promised_is at mine once value p = record {
   ballots = λ b s c h. ballots_of b s c h;
   voted = λ s c h. voted_of s c (split s c h);
-  reached = λ s c h. reached_of s c (split s c h);
+  told = λ s c h. told_of s c (split s c h);
   by_rule = λ c h. by_rule_of c (split (length upto) c h);
 }
   where
@@ -115,9 +127,12 @@ made_proposed n i upto own store has sent ballot slot command promised_is at min
         ∙ subst (λ (b : Ballot). store.votes s ≡ Some (record { ballot = b; command = c })) promised_is
         (p.voted s c (subst (λ (b : Ballot). In (Accept b s c) sent) (sym promised_is) old.0))
 
-    reached_of : (s : ℕ) (c : Command) → ((s ≡ slot) × (c ≡ command)) ⊎ (In (Accept ballot s c) sent × (s ≡ slot → ⊥)) → s ≤ length upto
-    reached_of s c (inl new) = let a = new.0 in omega (arith, a, at)
-    reached_of s c (inr old) = p.reached s c (subst (λ (b : Ballot). In (Accept b s c) sent) (sym promised_is) old.0)
+    told_of : (s : ℕ) (c : Command) → ((s ≡ slot) × (c ≡ command)) ⊎ (In (Accept ballot s c) sent × (s ≡ slot → ⊥))
+        → (s ≤ length upto) ⊎ IsGreatestTold n (Accept ballot slot command ∷ has) ballot s c
+    told_of s c (inl new) = inl (let a = new.0 in omega (arith, a, at))
+    told_of s c (inr old) = told_more n has (Accept ballot slot command ∷ has) ballot s c upto (λ o k. inr k)
+        (subst (λ (b : Ballot). (s ≤ length upto) ⊎ IsGreatestTold n has b s c) promised_is
+        (p.told s c (subst (λ (b : Ballot). In (Accept b s c) sent) (sym promised_is) old.0)))
 
     by_rule_of : (c : Command) → ((length upto ≡ slot) × (c ≡ command)) ⊎ (In (Accept ballot (length upto) c) sent × (length upto ≡ slot → ⊥))
         → IsValue n (Accept ballot slot command ∷ has) ballot (length upto) own c
@@ -137,8 +152,9 @@ learned_proposed n i place s new [] store has sent e p =
 learned_proposed n i place s new (c ∷ later) store has sent e p = record {
   ballots = p.ballots;
   voted = p.voted;
-  reached = p.reached;
-  by_rule = λ d h. absurd (let l = p.reached (length new.log.below) d h in let k = ap length e ∙ length-append (c ∷ later) (applied s) in omega (arith, l, k));
+  told = p.told;
+  by_rule = λ d h. beyond n has store.promise (length new.log.below) (own_value place (record s { learned = new })) d (applied s)
+      (let k = ap length e ∙ length-append (c ∷ later) (applied s) in omega (arith, k)) (p.told (length new.log.below) d h);
 }
 
 -- a command below the front is applied
@@ -147,8 +163,8 @@ pub taken_proposed : (n i : ℕ) (upto : List Command) (command : Command) (at :
 taken_proposed n i upto command at own other store has sent below p = record {
   ballots = p.ballots;
   voted = p.voted;
-  reached = λ s c h. let l = p.reached s c h in omega arith;
-  by_rule = λ c h. absurd (let l = p.reached at c h in omega arith);
+  told = λ s c h. elim (p.told s c h) [ inl low ↦ inl (omega (arith, low)) | inr told ↦ inr told ];
+  by_rule = λ c h. beyond n has store.promise at other c upto below (p.told at c h);
 }
 
 -- an act waits where none did: what the node had of its own it has still
@@ -175,6 +191,6 @@ pub pending_proposed : (n i : ℕ) (upto : List Command) (at : ℕ) (own other :
 pending_proposed n i upto at own other store has sent same p = record {
   ballots = p.ballots;
   voted = p.voted;
-  reached = p.reached;
+  told = p.told;
   by_rule = λ c h. value_more n has has store.promise at own other c (λ o k. k) (same c) (p.by_rule c h);
 }

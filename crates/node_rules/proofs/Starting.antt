@@ -92,7 +92,7 @@ begun x s found of down left ends start had log quiet = record {
     places = length-replicate x.place.setting.game.players None;
     shown = omega arith;
     seen = record { all = λ b h. absurd h.1; some = inl refl };
-    proposals = record { ballots = λ b k c h. absurd h; voted = λ k c h. absurd h; reached = λ k c h. absurd h; by_rule = λ c h. absurd h };
+    proposals = record { ballots = λ b k c h. absurd h; voted = λ k c h. absurd h; told = λ k c h. absurd h; by_rule = λ c h. absurd h };
   };
   commands = tt;
   hears = refl;

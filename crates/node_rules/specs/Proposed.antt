@@ -17,12 +17,13 @@ abbrev pub IsValue : ℕ → List Message → Ballot → ℕ → Option Command 
 IsValue n has ballot slot own command = IsGreatestTold n has ballot slot command ⊎ (IsFree n has ballot slot × (own ≡ Some command))
 
 -- what node i proposed since its start in the ballot that it promised last: it is its own ballot, it voted for each of these commands itself, none
--- stands beyond the commands that it applied, and the one at its front is the value there
+-- stands beyond the commands that it applied but such as were told, and the one at its front is the value there
 pub record IsProposed (n i : ℕ) (upto : List Command) (front : ℕ) (own : Option Command) (store : Store) (has sent : List Message) : Type 0 where
   pub ballots : (ballot : Ballot) (slot : ℕ) (command : Command) → In (Accept ballot slot command) sent → ballot.node ≡ i
   pub voted : (slot : ℕ) (command : Command) → In (Accept store.promise slot command) sent
       → store.votes slot ≡ Some (record { ballot = store.promise; command = command })
-  pub reached : (slot : ℕ) (command : Command) → In (Accept store.promise slot command) sent → slot ≤ length upto
+  pub told : (slot : ℕ) (command : Command) → In (Accept store.promise slot command) sent
+      → (slot ≤ length upto) ⊎ IsGreatestTold n has store.promise slot command
   pub by_rule : (command : Command) → In (Accept store.promise front command) sent → IsValue n has store.promise front own command
 
 -- where the node leads, there is a slot at its front, and nothing is left to propose there
