@@ -31,7 +31,7 @@ use Rattle.node_rules.proofs.Carrying.{has_to}
 use Rattle.node_rules.proofs.Settled.{marked_at}
 use Rattle.node_rules.proofs.Electing.{covered}
 use Rattle.node_rules.proofs.Counting.{Counts, counts_vote}
-use Rattle.node_rules.proofs.Members.{AreDistinct, above_all, rise_distinct, without_in, in_without, without_rise, without_length, three_nodes}
+use Rattle.node_rules.proofs.Members.{AreDistinct, above_all, rise_distinct, without_in, in_without, without_rise, without_length}
 use Rattle.node_rules.proofs.CalmTurns.{Round, place_at, ballot_in, slot_in, told_in, stores_in, IsRest, no_vote, begun_counted, begun_turn, tick_turn, prepare_in, promise_in, promised_turn, prepare_turn, IsPreparing, with_counted, preparing_more, promise_turn, made_in, completed_turn, completing_turn, accept_in, accepted_in, HasPromised, accepted_turn, accept_turn, IsLeading, with_heard_vote, accepted_goes, leading_more, LastTurn, last_turn, more_counted, not_refused, is_ahead, unknown, ok_if, new_over}
 
 -- ---- frames on their way
@@ -455,7 +455,7 @@ by_others : (r : Round) → IsRest r → (others : List ℕ) → Others r others
     → GoOn (place_in r.setting r.n r.deals) (HasMovedOn r.i (slot_in r) r.command) r.standings []
     (Ticks r.i ∷ (map (λ j. delivers r.i j (prepare_in r)) others ++ (map (λ j. delivers j r.i (promise_in r j)) others
     ++ (map (λ j. delivers r.i j (accept_in r)) others ++ map (λ j. delivers j r.i (accepted_in r)) others))))
-by_others r rest [] o = absurd (let q = rest.quorum.most in let m = three_nodes r.n rest.few in let s = o.size in omega (arith, q, m, s))
+by_others r rest [] o = absurd (let q = rest.quorum.most in let m = r.given.least_nodes r.n rest.few in let s = o.size in omega (arith, q, m, s))
 by_others r rest (j ∷ todo) o =
     step (place_in r.setting r.n r.deals) Moved r.standings [] (Ticks r.i) _ (ticked_turn r) tt
     (λ outcome is. (let by : outcome ≡ and_then (ticking (place_at r r.i) (r.standings r.i)) (closing (place_at r r.i)) =

@@ -49,9 +49,8 @@ use Rattle.node_rules.proofs.Settled.{PassesOver, passes_over, counted_is, propo
 use Rattle.learner.proofs.Kept.{open_means}
 use Rattle.node_rules.proofs.Electing.{covered}
 use Rattle.node_rules.proofs.Counting.{Counts, counts_vote}
-use Rattle.node_rules.proofs.Ticking.{few_nodes}
 use Rattle.node_rules.proofs.CalmPromises.{IsCounted, new_counted, quorum_is, counts_more, Agree, greatest_value, own_is_value}
-use Rattle.node_rules.proofs.Members.{is_in, in_is, is_in_in, not_in, count_list, AreDistinct, rise_distinct, one_counted, three_nodes}
+use Rattle.node_rules.proofs.Members.{is_in, in_is, is_in_in, not_in, count_list, AreDistinct, rise_distinct}
 use Rattle.protocol_model.proofs.Quorums.{count_within}
 use Rattle.protocol_model.proofs.Sets.{all_same}
 
@@ -67,12 +66,11 @@ not_below_self b = by_test (is_below b b) refl
 -- ---- a vote of a new ballot completes nothing by itself
 
 -- only this node's votes of the ballot are among the messages
-pub alone_yet : (n i : ℕ) (ballot : Ballot) (slot : ℕ) (command : Command) (messages : List Message) → HasNodes n
+pub alone_yet : (g : Given) (n i : ℕ) (ballot : Ballot) (slot : ℕ) (command : Command) (messages : List Message) → HasNodes n
     → ((voter : ℕ) → In (Accepted voter ballot slot command) messages → voter ≡ i)
     → IsChosenIn n (Accepted i ballot slot command ∷ messages) ballot slot command → ⊥
-alone_yet n i ballot slot command messages few only (quorum, most, answers) =
-    let l = one_counted quorum i n (λ k below is. own_only k (answers k below is)) in
-    let m = three_nodes n few in omega arith
+alone_yet g n i ballot slot command messages few only (quorum, most, answers) =
+    g.one_node n i quorum (g.least_nodes n few) (λ k below is. own_only k (answers k below is)) most
   where
     own_only : (k : ℕ) → In (Accepted k ballot slot command) (Accepted i ballot slot command ∷ messages) → k ≡ i
     own_only k (inl e) = cc
@@ -85,7 +83,7 @@ new_vote_passes g n i l came ballot slot command few nodes counts only = passes_
     not_done : is_open l.log slot ≡ true → completes l i ballot slot command ≡ true → ⊥
     not_done ahead done =
         let m : Message = Accepted i ballot slot command in
-        alone_yet n i ballot slot command came few only
+        alone_yet g n i ballot slot command came few only
         (subst (λ (k : ℕ). IsChosenIn k (m ∷ came) ballot slot command) nodes
         (g.completed (m ∷ came) l i ballot slot command (g.more came l m counts.counts_from) (inl refl) (open_means l.log slot ahead) done))
 
@@ -223,7 +221,7 @@ pub begun_counted : (r : Round) → IsRest r → IsCounted (ballot_in r) (slot_i
 begun_counted r rest =
     counts_more r.n (ballot_in r) (slot_in r) (stores_in r) [] (new_campaign (ballot_in r) (slot_in r)) r.i
     (quorum_is r.n (ballot_in r) (slot_in r) (stores_in r) [] (new_campaign (ballot_in r) (slot_in r)) tt (new_counted (ballot_in r) (slot_in r) (stores_in r)) ∙ le-ltb r.n 0 (omega arith))
-    refl (let l = rest.low r.i rest.member in let m = few_nodes r.n rest.few in omega arith) (new_counted (ballot_in r) (slot_in r) (stores_in r))
+    refl (let l = rest.low r.i rest.member in let m = r.given.most_nodes r.n rest.few in omega arith) (new_counted (ballot_in r) (slot_in r) (stores_in r))
 
 abbrev pub begun_turn : Round → Turn
 begun_turn r = beginning (place_at r r.i) (ballot_in r) (r.standings r.i)
@@ -238,8 +236,7 @@ tick_turn r rest =
     begins_so = λ j. if rest.not_over j then Ok (still (r.standings r.i)) else if rest.not_spent j then Err Spent else Ok (begun_turn r)
 
     unled : has_quorum r.n (prepared (place_at r r.i) (ballot_in r) (r.standings r.i)) ≡ false
-    unled = quorum_is r.n (ballot_in r) (slot_in r) (stores_in r) (r.i ∷ []) (prepared (place_at r r.i) (ballot_in r) (r.standings r.i)) (rest.low r.i rest.member, (λ h. h), tt) (begun_counted r rest)
-        ∙ le-ltb r.n 2 (let m = three_nodes r.n rest.few in omega arith)
+    unled = r.given.alone r.n r.i (ballot_in r) (ballot_in r) (slot_in r) (slot_in r) (told_in r r.i) (r.given.least_nodes r.n rest.few)
 
 -- ---- a Prepare
 
@@ -286,7 +283,7 @@ pub more_counted : (r : Round) → IsRest r → (counted : List ℕ) (s : Standi
 more_counted r rest counted s p j distinct less out low =
     counts_more r.n (ballot_in r) (slot_in r) (stores_in r) counted p.campaign j
     (quorum_is r.n (ballot_in r) (slot_in r) (stores_in r) counted p.campaign distinct p.counts ∙ le-ltb r.n (2 * length counted) less)
-    (not_in counted j out) (let m = few_nodes r.n rest.few in omega arith) p.counts
+    (not_in counted j out) (let m = r.given.most_nodes r.n rest.few in omega arith) p.counts
 
 pub preparing_more : (r : Round) → IsRest r → (counted : List ℕ) (s : Standing) (p : IsPreparing r counted s) (j : ℕ) → AreDistinct r.n counted → 2 * length counted ≤ r.n → (In j counted → ⊥) → j < r.n
     → IsPreparing r (j ∷ counted) (with_counted r counted s p j)

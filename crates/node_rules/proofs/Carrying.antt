@@ -7,11 +7,9 @@ use Rattle.slot_log.specs.declared.command.Command.{Command}
 use Rattle.protocol_model.specs.Sets.{In}
 use Rattle.protocol_model.specs.Messages.{Message, Prepare, Promise, Refuse, Accept, Accepted, Chosen, Ask, Forward, Said, sender_of}
 use Rattle.protocol_model.specs.Frames.{carried}
-use Rattle.dealer_kind.specs.Plans.{HasNodes}
 use Rattle.node_rules.specs.Sending.{Frame, one, to_first}
 use Rattle.node_rules.specs.Called.{IsNote, IsForAll, IsSaidTo, IsSaid, Carry, CarryAll}
 use Rattle.protocol_model.proofs.Sets.{in_later, in_first, in_split, only_in, last_or_below}
-use Rattle.node_rules.proofs.Members.{three_nodes}
 
 pub nothing_carried : (n i : ℕ) → Carry n i [] []
 nothing_carried n i = record {
@@ -165,8 +163,8 @@ another : (i : ℕ) → (j : ℕ) × (j < 2) × (j ≢ i)
 another zero = (1, omega arith, λ e. absurd (omega (arith, e)))
 another (suc i) = (0, omega arith, λ e. absurd (omega (arith, e)))
 
-pub said_by_others : (n i : ℕ) (w : Wire) (m : Message) → HasNodes n → carried i w ≡ m ∷ [] → IsSaid i (to_first n i w) m
-said_by_others n i w m few e = let j = another i in (j.0, says_to n i j.0 w m e (let h = three_nodes n few in let l = j.1 in omega arith) j.2)
+pub said_by_others : (n i : ℕ) (w : Wire) (m : Message) → 3 ≤ n → carried i w ≡ m ∷ [] → IsSaid i (to_first n i w) m
+said_by_others n i w m three e = let j = another i in (j.0, says_to n i j.0 w m e (let l = j.1 in omega (arith, three, l)) j.2)
 
 -- that isn't a proposal
 abbrev pub IsNoProposal : Message → Type 0
@@ -180,27 +178,27 @@ IsNoProposal (Ask sender slot) = Unit {0}
 IsNoProposal (Forward sender command) = Unit {0}
 IsNoProposal (Said sender command) = Unit {0}
 
-pub others_carry : (n i : ℕ) (w : Wire) (m : Message) → HasNodes n → carried i w ≡ m ∷ [] → IsNoProposal m → sender_of m ≡ i → Carry n i (to_first n i w) (m ∷ [])
-others_carry n i w m few e other own = record {
+pub others_carry : (n i : ℕ) (w : Wire) (m : Message) → 3 ≤ n → carried i w ≡ m ∷ [] → IsNoProposal m → sender_of m ≡ i → Carry n i (to_first n i w) (m ∷ [])
+others_carry n i w m three e other own = record {
   others = λ f h. let t = in_to n n i w f (omega arith) h in (t.0, t.1);
   said = λ o h. inl (others_said n i w m o e h);
   own = λ o h. ap sender_of (only_in o m h) ∙ own;
-  accepted = λ s b k c h. subst (λ (x : Message). IsSaid i (to_first n i w) x) (sym (only_in (Accepted s b k c) m h)) (said_by_others n i w m few e);
+  accepted = λ s b k c h. subst (λ (x : Message). IsSaid i (to_first n i w) x) (sym (only_in (Accepted s b k c) m h)) (said_by_others n i w m three e);
   accepts = λ b k c h. absurd (subst IsNoProposal (sym (others_said n i w m (Accept b k c) e h)) other);
 }
 
-pub others_all : (n i : ℕ) (w : Wire) (m : Message) → HasNodes n → carried i w ≡ m ∷ [] → CarryAll n i (to_first n i w) (m ∷ [])
-others_all n i w m few e = record {
-  covers = λ o h. inr (subst (λ (x : Message). IsSaid i (to_first n i w) x) (sym (only_in o m h)) (said_by_others n i w m few e));
+pub others_all : (n i : ℕ) (w : Wire) (m : Message) → 3 ≤ n → carried i w ≡ m ∷ [] → CarryAll n i (to_first n i w) (m ∷ [])
+others_all n i w m three e = record {
+  covers = λ o h. inr (subst (λ (x : Message). IsSaid i (to_first n i w) x) (sym (only_in o m h)) (said_by_others n i w m three e));
   to_all = λ o h all to below other. subst (λ (x : Message). IsSaidTo i (to_first n i w) to x) (sym (only_in o m h)) (says_to n i to w m e below other);
 }
 
 -- ---- a proposal and the vote for it
 
-pub proposal_carry : (n i : ℕ) (u v : Wire) (ballot : Ballot) (slot : ℕ) (command : Command) → HasNodes n → carried i u ≡ Accept ballot slot command ∷ []
+pub proposal_carry : (n i : ℕ) (u v : Wire) (ballot : Ballot) (slot : ℕ) (command : Command) → 3 ≤ n → carried i u ≡ Accept ballot slot command ∷ []
     → carried i v ≡ Accepted i ballot slot command ∷ [] → ballot.node ≡ i
     → Carry n i (to_first n i u ++ to_first n i v) (Accepted i ballot slot command ∷ Accept ballot slot command ∷ [])
-proposal_carry n i u v ballot slot command few eu ev own = record {
+proposal_carry n i u v ballot slot command three eu ev own = record {
   others = λ f h. elim (in_split (to_first n i u) (to_first n i v) f h) [
     | inl x ↦ (let t = in_to n n i u f (omega arith) x in (t.0, t.1))
     | inr x ↦ (let t = in_to n n i v f (omega arith) x in (t.0, t.1))
@@ -215,7 +213,7 @@ proposal_carry n i u v ballot slot command few eu ev own = record {
 }
   where
     vote : IsSaid i (to_first n i u ++ to_first n i v) (Accepted i ballot slot command)
-    vote = said_later i (to_first n i u) (to_first n i v) (Accepted i ballot slot command) (said_by_others n i v (Accepted i ballot slot command) few ev)
+    vote = said_later i (to_first n i u) (to_first n i v) (Accepted i ballot slot command) (said_by_others n i v (Accepted i ballot slot command) three ev)
 
     own_of : (o : Message) → In o (Accepted i ballot slot command ∷ Accept ballot slot command ∷ []) → sender_of o ≡ i
     own_of o (inl e) = ap sender_of e
@@ -237,9 +235,9 @@ proposal_carry n i u v ballot slot command few eu ev own = record {
       | inr x ↦ (let e : Accept b k c ≡ Accepted i ballot slot command = others_said n i v (Accepted i ballot slot command) (Accept b k c) ev x in absurd (cc))
     ]
 
-pub proposal_all : (n i : ℕ) (u v : Wire) (ballot : Ballot) (slot : ℕ) (command : Command) → HasNodes n → carried i u ≡ Accept ballot slot command ∷ []
+pub proposal_all : (n i : ℕ) (u v : Wire) (ballot : Ballot) (slot : ℕ) (command : Command) → 3 ≤ n → carried i u ≡ Accept ballot slot command ∷ []
     → carried i v ≡ Accepted i ballot slot command ∷ []
     → CarryAll n i (to_first n i u ++ to_first n i v) (Accepted i ballot slot command ∷ Accept ballot slot command ∷ [])
-proposal_all n i u v ballot slot command few eu ev =
+proposal_all n i u v ballot slot command three eu ev =
     joined_all n i (to_first n i u) (to_first n i v) (Accept ballot slot command ∷ []) (Accepted i ballot slot command ∷ [])
-    (others_all n i u (Accept ballot slot command) few eu) (others_all n i v (Accepted i ballot slot command) few ev)
+    (others_all n i u (Accept ballot slot command) three eu) (others_all n i v (Accepted i ballot slot command) three ev)

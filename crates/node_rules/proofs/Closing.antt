@@ -44,7 +44,7 @@ use Rattle.protocol_model.proofs.Ballots.{at_most_self, same_if}
 use Rattle.node_rules.proofs.Ordering.{sees_own, sees_up}
 use Rattle.node_rules.proofs.Keeping.{with_got, got_learner, got_pending, sent_pending, stored_pending}
 use Rattle.node_rules.specs.Given.{Given}
-use Rattle.node_rules.proofs.Paths.{Hearing, Scope, dealer_in, Path, Goes, regroup}
+use Rattle.node_rules.proofs.Paths.{Hearing, Scope, dealer_in, Path, Goes, regroup, three_in}
 use Rattle.node_rules.proofs.Steps.{Leads, get_own, go_on}
 use Rattle.protocol_model.proofs.Backing.{vote_within}
 use Rattle.node_rules.proofs.Voting.{voted_is}
@@ -291,9 +291,9 @@ propose x came heard t ends p c made is =
       starts = p.starts;
       has = ap (λ (l : List Message). accept ∷ l) p.has;
       carry = joined_carry n i t.frames (to_others x.place (frame.Accept made.ballot made.slot made.command) ++ to_others x.place (frame.Accepted made.ballot made.slot made.command)) p.sent (vote ∷ accept ∷ []) p.carry
-          (proposal_carry n i (frame.Accept made.ballot made.slot made.command) (frame.Accepted made.ballot made.slot made.command) made.ballot made.slot made.command x.is_place.few refl refl mine);
+          (proposal_carry n i (frame.Accept made.ballot made.slot made.command) (frame.Accepted made.ballot made.slot made.command) made.ballot made.slot made.command (three_in x) refl refl mine);
       all = joined_all n i t.frames (to_others x.place (frame.Accept made.ballot made.slot made.command) ++ to_others x.place (frame.Accepted made.ballot made.slot made.command)) p.sent (vote ∷ accept ∷ []) p.all
-          (proposal_all n i (frame.Accept made.ballot made.slot made.command) (frame.Accepted made.ballot made.slot made.command) made.ballot made.slot made.command x.is_place.few refl refl);
+          (proposal_all n i (frame.Accept made.ballot made.slot made.command) (frame.Accepted made.ballot made.slot made.command) made.ballot made.slot made.command (three_in x) refl refl);
       pieces = λ ends. subst (λ (l : List Piece). AreShown i x.start x.log l p.shown) (sym (append-nil t.shown)) (p.pieces ends);
       logged = λ ends. ap (log_after x.log) (append-nil t.shown) ∙ p.logged ends;
       unshown = p.unshown;

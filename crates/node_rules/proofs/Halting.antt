@@ -1,11 +1,8 @@
 -- Calls that stop in their append: the chain as far as the append, with nothing shown.
-use Rattle.std.proofs.Common.{◌≡◌, ◌≢◌, ℕ, ◌<◌, ◌*◌, ◌⊎◌, inl, inr, Bool, true, false, true≢false, not, if◌then◌else◌, ◌==◌, ◌&&◌, List, [], ◌∷◌, Option, Some, None, Result, Ok, Err, refl, sym, ap, subst, ◌∙◌, arith, get_or, set, replicate, get_or-set_other}
-use Rattle.std.specs.Prelude.{nat_le, is_some}
-use Rattle.std.proofs.lemmas.Bool.{le-ltb}
-use Rattle.std.proofs.lemmas.Bool.Decides.{eqb_tells}
-use Rattle.paxos_wire.specs.declared.limits.TheConstants.{SLOTS, NODES}
+use Rattle.std.proofs.Common.{◌≡◌, ◌≢◌, ℕ, ◌<◌, ◌⊎◌, inl, inr, Bool, true, false, true≢false, not, if◌then◌else◌, ◌&&◌, List, [], ◌∷◌, Option, Some, None, Result, Ok, Err, refl, sym, ap, subst, ◌∙◌}
+use Rattle.std.specs.Prelude.{nat_le}
+use Rattle.paxos_wire.specs.declared.limits.TheConstants.{SLOTS}
 use Rattle.paxos_wire.specs.declared.ballot.Ballot.{Ballot}
-use Rattle.paxos_wire.specs.declared.entry.Entry.{Entry}
 use Rattle.paxos_wire.specs.declared.fault.FrameFault.{FrameFault}
 use Rattle.paxos_wire.specs.declared.message.Message.{Message as Wire}
 use Rattle.paxos_wire.specs.declared.message.Message.TheVariants as frame
@@ -17,7 +14,6 @@ use Rattle.protocol_model.specs.Messages.{Message, Prepare, Promise, Refuse, Acc
 use Rattle.protocol_model.specs.Frames.{carried}
 use Rattle.protocol_model.specs.Stores.{Store, promised, voted, Append, unchanged, moved, own_promise, promise, vote}
 use Rattle.protocol_model.specs.Calls.{HasGotAtMost}
-use Rattle.protocol_model.specs.Quorums.{count as count_in}
 use Rattle.protocol_model.specs.Nodes.{Node}
 use Rattle.protocol_model.specs.Arrivals.{Arrival}
 use Rattle.protocol_model.specs.Moves.{Shown, Chain, nothing, sending as sends, with_sent, more, gets, proposes}
@@ -27,10 +23,9 @@ use Rattle.proposer.specs.declared.fault.ProposeFault.{ProposeFault}
 use Rattle.paxos_wire.specs.Order.{is_below}
 use Rattle.proposer.specs.declared.fault.ProposeFault.TheVariants.{OutOfWindow}
 use Rattle.proposer.specs.Laws.{IsSafe}
-use Rattle.proposer.specs.Campaigns.{next_ballot, new_campaign, has_promised, is_counted, with_promise, leads, is_covered, is_proposed, accept_of, value_of, greatest_told, proposal_from, marked_from}
+use Rattle.proposer.specs.Campaigns.{next_ballot, leads, is_covered, is_proposed, accept_of, value_of, greatest_told, proposal_from, marked_from}
 use Rattle.learner.specs.Learning.{Learned, answer_to, hearing}
 use Rattle.node_rules.specs.Standings.{Standing, applied, front_of, with_stored, idle}
-use Rattle.dealer_kind.specs.Plans.{HasNodes}
 use Rattle.node_rules.specs.Sending.{one, to_others}
 use Rattle.node_rules.specs.Turns.{Turn, Refusal, Spent, still, sending, joined, behind, and_then}
 use Rattle.node_rules.specs.Learning.{learning, counting_vote, telling}
@@ -40,14 +35,13 @@ use Rattle.node_rules.specs.Proposing.{higher, greatest_seen, is_over, is_spent,
 use Rattle.node_rules.specs.Rules.{ballots_of, seeing, taking, asking, on_read}
 use Rattle.node_rules.specs.Being.{Campaigns}
 use Rattle.node_rules.specs.Called.{said_in, IsSent}
-use Rattle.protocol_model.proofs.Sets.{in_split, all_same}
+use Rattle.protocol_model.proofs.Sets.{in_split}
 use Rattle.protocol_model.proofs.Ballots.{at_most_self, below_if, at_most_if_not}
 use Rattle.node_rules.proofs.Ordering.{higher_is}
 use Rattle.node_rules.proofs.Keeping.{with_got}
-use Rattle.node_rules.proofs.Paths.{Hearing, Scope, dealer_in, first_in, Path, Goes, has_in, regroup}
+use Rattle.node_rules.proofs.Paths.{Hearing, Scope, dealer_in, first_in, Path, Goes, has_in, regroup, three_in}
 use Rattle.node_rules.proofs.Promising.{refuse}
 use Rattle.node_rules.proofs.Learning.{count}
-use Rattle.node_rules.proofs.Members.{one_counted, three_nodes}
 use Rattle.node_rules.proofs.Asked.{asked_same}
 use Rattle.node_rules.proofs.Closing.{IsMade, made_by, campaigns_of, may}
 use Rattle.node_rules.proofs.Asking.{tell_known, behind_still}
@@ -324,28 +318,6 @@ frame_leaves x s from (Ok w) q same r one sent =
 
 -- ---- a tick
 
-counted_at : (i : ℕ) (told : List Entry) (k : ℕ) → is_some (get_or (set (replicate NODES None) i (Some told)) k None) ≡ true → k ≡ i
-counted_at i told k e = by_case (eqb_tells k i)
-  where
-    by_case : ((k == i) ≡ true) × (k ≡ i) ⊎ ((k == i) ≡ false) × (k ≢ i) → k ≡ i
-    by_case (inl same) = same.1
-    by_case (inr other) =
-        let none : get_or (set (replicate NODES None) i (Some told)) k None ≡ None = get_or-set_other (replicate NODES None) i k (Some told) None other.1 ∙ all_same {A = Option (List Entry)} None NODES k in
-        let clash : false ≡ true = sym (ap is_some none) ∙ e in absurd (cc)
-
-alone_by : (i : ℕ) (ballot : Ballot) (first : ℕ) (told : List Entry) (b : Bool) (k : ℕ)
-    → has_promised (if b then record (new_campaign ballot first) { promises = set (replicate NODES None) i (Some told) } else new_campaign ballot first) k ≡ true → k ≡ i
-alone_by i ballot first told true k e = counted_at i told k e
-alone_by i ballot first told false k e = let clash : false ≡ true = sym (ap is_some (all_same {A = Option (List Entry)} None NODES k)) ∙ e in absurd (cc)
-
--- one node's promise is no quorum
-alone_leads_not : (n i : ℕ) (ballot : Ballot) (first : ℕ) (told : List Entry) → HasNodes n → leads n (Some (with_promise n (new_campaign ballot first) i ballot first told)) ≡ false
-alone_leads_not n i ballot first told few =
-    le-ltb n (2 * count_in (has_promised (with_promise n (new_campaign ballot first) i ballot first told)) n)
-    (let h = one_counted (has_promised (with_promise n (new_campaign ballot first) i ballot first told)) i n
-    (λ k l e. alone_by i ballot first told (is_counted n (new_campaign ballot first) i ballot first) k e) in
-    let m = three_nodes n few in omega arith)
-
 tick_rests_by : (x : Scope) (s : Standing) (over spent : Bool) → x.ends ≡ false → x.had ≡ (first_in x).has → Runs x s → x.messages ≡ []
     → Rests x [] (hearing_of s (first_in x)) (if over then Ok (still s) else if spent then Err Spent else Ok (beginning x.place (next_ballot x.place.node (greatest_seen s)) s))
 tick_rests_by x s true spent q same r quiet = inl (begin x s r quiet)
@@ -358,7 +330,7 @@ tick_rests_by x s false false q same r quiet =
           (subst (λ (st : Store). Append x.place.node p.node.has p.node.store (promised st ballot)) p.knows.store
           (moved _ _ (unchanged _ refl) (own_promise ballot refl
           (subst (λ (st : Store). Below st.promise ballot) (sym p.knows.store) (above s.store.promise (higher s.seen s.store.promise) x.place.node (higher_is s.seen s.store.promise).1)) refl))),
-      alone_leads_not x.place.nodes x.place.node ballot (front_of s) (told_by s.store (front_of s)) x.is_place.few,
+      x.given.alone x.place.nodes x.place.node ballot ballot (front_of s) (front_of s) (told_by s.store (front_of s)) (three_in x),
     )
 
 -- a tick that stops in its append

@@ -4,9 +4,8 @@ use Rattle.std.proofs.lemmas.Bool.{eqb-true, eqb-false}
 use Rattle.std.proofs.lemmas.Bool.Decides.{eqb_tells}
 use Rattle.protocol_model.specs.Sets.{In}
 use Rattle.protocol_model.specs.Quorums.{count}
-use Rattle.dealer_kind.specs.Plans.{HasNodes}
+pub use Rattle.dealer_kind.proofs.Counts.{three_nodes}
 use Rattle.node_rules.specs.Calm.{Rise, without}
-use Rattle.protocol_model.proofs.Quorums.{none_counted}
 
 -- ---- sets as tests
 
@@ -74,21 +73,6 @@ count_more m (suc n) p low out = one_more_step m n p (n == m) refl low out (λ l
 count_none : (n : ℕ) → count (λ k. false) n ≡ 0
 count_none zero = refl
 count_none (suc n) = count_none n
-
-one_step : (b : Bool) (k : ℕ) → (b ≡ true → k ≡ 0) → k ≤ 1 → (if b then 1 + k else k) ≤ 1
-one_step true k zero_then low = let e = zero_then refl in omega (arith, e)
-one_step false k zero_then low = low
-
--- a set of one node at most
-pub one_counted : (chosen : ℕ → Bool) (i n : ℕ) → ((k : ℕ) → k < n → chosen k ≡ true → k ≡ i) → count chosen n ≤ 1
-one_counted chosen i zero single = omega arith
-one_counted chosen i (suc n) single = one_step (chosen n) (count chosen n)
-    (λ e. none_counted chosen n (λ k l is. let a = single k (omega arith) is in let b = single n (omega arith) e in absurd (omega (arith, a, b))))
-    (one_counted chosen i n (λ k l is. single k (omega arith) is))
-
-pub three_nodes : (n : ℕ) → HasNodes n → 3 ≤ n
-three_nodes n (inl e) = omega (arith, e)
-three_nodes n (inr e) = omega (arith, e)
 
 -- no number stands twice, and all are below n
 abbrev pub AreDistinct : ℕ → List ℕ → Type 0

@@ -1,5 +1,5 @@
 -- The chain of a call as far as it has come, with what it sent and showed.
-use Rattle.std.proofs.Common.{◌≡◌, ℕ, ◌⊎◌, Bool, true, false, List, [], ◌++◌, Option, Result, Ok, Err, refl, sym, subst, append_assoc}
+use Rattle.std.proofs.Common.{◌≡◌, ℕ, ◌≤◌, ◌⊎◌, Bool, true, false, List, [], ◌++◌, Option, Result, Ok, Err, refl, sym, subst, append_assoc}
 use Rattle.paxos_wire.specs.declared.ballot.Ballot.{Ballot}
 use Rattle.slot_log.specs.declared.command.Command.{Command}
 use Rattle.protocol_model.specs.Sets.{In}
@@ -35,6 +35,9 @@ pub record Scope : Type 0 where
 
 abbrev pub dealer_in : Scope → Dealer
 dealer_in x = dealer_of x.place.setting x.own
+
+pub three_in : (x : Scope) → 3 ≤ x.place.nodes
+three_in x = x.given.least_nodes x.place.nodes x.is_place.few
 
 abbrev pub first_in : Scope → Node
 first_in x = x.world.nodes x.place.node

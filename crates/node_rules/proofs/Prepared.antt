@@ -1,11 +1,10 @@
 -- Ticks.
-use Rattle.std.proofs.Common.{◌≡◌, ℕ, zero, suc, ◌+◌, ◌-◌, ◌^◌, ◌<◌, ◌≤◌, ◌⊎◌, inl, inr, ◌==◌, ◌||◌, ◌&&◌, Bool, true, false, true≢false, not, if◌then◌else◌, List, Option, Some, None, Result, Ok, Err, refl, sym, ap, subst, ◌∙◌, arith, eqb-true, eq-eqb, replicate}
-use Rattle.std.specs.Prelude.{nat_le, slice_set}
+use Rattle.std.proofs.Common.{◌≡◌, ℕ, ◌+◌, ◌-◌, ◌^◌, ◌≤◌, ◌⊎◌, inl, inr, ◌==◌, ◌||◌, ◌&&◌, Bool, true, false, true≢false, not, if◌then◌else◌, Option, None, Result, Ok, Err, refl, sym, ap, subst, ◌∙◌, arith, eqb-true, eq-eqb}
+use Rattle.std.specs.Prelude.{nat_le}
 use Rattle.std.proofs.lemmas.Bool.{leb-true, leb-false, or_cases}
 use Rattle.std.proofs.lemmas.List.{append-nil}
-use Rattle.paxos_wire.specs.declared.limits.TheConstants.{SLOTS, NODES}
+use Rattle.paxos_wire.specs.declared.limits.TheConstants.{SLOTS}
 use Rattle.paxos_wire.specs.declared.ballot.Ballot.{Ballot}
-use Rattle.paxos_wire.specs.declared.entry.Entry.{Entry}
 use Rattle.slot_log.specs.Slots.{IsLog}
 use Rattle.protocol_model.specs.Ballots.{AtMost}
 use Rattle.protocol_model.specs.Nodes.{Node}
@@ -13,7 +12,7 @@ use Rattle.protocol_model.specs.Stores.{Store, promised}
 use Rattle.proposer.specs.declared.accept.Accept.{Accept as Made}
 use Rattle.proposer.specs.declared.fault.ProposeFault.{ProposeFault}
 use Rattle.proposer.specs.declared.fault.ProposeFault.TheVariants.{OutOfWindow}
-use Rattle.proposer.specs.Campaigns.{leads, next_ballot, new_campaign, has_quorum, is_counted, is_covered, is_proposed, accept_of, value_of, greatest_told}
+use Rattle.proposer.specs.Campaigns.{leads, next_ballot, has_quorum, is_covered, is_proposed, accept_of, value_of, greatest_told}
 use Rattle.dealer_kind.specs.Plans.{HasNodes}
 use Rattle.node_rules.specs.Standings.{Place, Standing, front_of}
 use Rattle.node_rules.specs.Turns.{Turn, Refusal, Spent, still, joined, behind, and_then}
@@ -97,39 +96,8 @@ spent_if s round same (inr e) = or_by ((greatest_seen s).round == 2 ^ 32 - 1) (n
 
 -- ---- the own promise alone is no quorum
 
-one_of : (n i : ℕ) (ballot : Ballot) (first : ℕ) (told : List Entry) → HasNodes n → i < n
-    → has_quorum n (record (new_campaign ballot first) { promises = slice_set (replicate NODES None) i (Some told) }) ≡ false
-one_of n i ballot first told few low = elim few [
-  | inl e ↦ subst (λ k. has_quorum k (record (new_campaign ballot first) { promises = slice_set (replicate NODES None) i (Some told) }) ≡ false) (sym e) (of_three i (subst (λ k. i < k) e low))
-  | inr e ↦ subst (λ k. has_quorum k (record (new_campaign ballot first) { promises = slice_set (replicate NODES None) i (Some told) }) ≡ false) (sym e) (of_five i (subst (λ k. i < k) e low))
-]
-  where
-    of_three : (j : ℕ) → j < 3 → has_quorum 3 (record (new_campaign ballot first) { promises = slice_set (replicate NODES None) j (Some told) }) ≡ false
-    of_three zero l = refl
-    of_three (suc zero) l = refl
-    of_three (suc (suc zero)) l = refl
-    of_three (suc (suc (suc j))) l = absurd (omega arith)
-
-    of_five : (j : ℕ) → j < 5 → has_quorum 5 (record (new_campaign ballot first) { promises = slice_set (replicate NODES None) j (Some told) }) ≡ false
-    of_five zero l = refl
-    of_five (suc zero) l = refl
-    of_five (suc (suc zero)) l = refl
-    of_five (suc (suc (suc zero))) l = refl
-    of_five (suc (suc (suc (suc zero)))) l = refl
-    of_five (suc (suc (suc (suc (suc j))))) l = absurd (omega arith)
-
-none_of : (n : ℕ) (ballot : Ballot) (first : ℕ) → HasNodes n → has_quorum n (new_campaign ballot first) ≡ false
-none_of n ballot first few = elim few [
-  | inl e ↦ subst (λ k. has_quorum k (new_campaign ballot first) ≡ false) (sym e) refl
-  | inr e ↦ subst (λ k. has_quorum k (new_campaign ballot first) ≡ false) (sym e) refl
-]
-
-no_quorum : (place : Place) (ballot : Ballot) (s : Standing) → HasNodes place.nodes → place.node < place.nodes → has_quorum place.nodes (prepared place ballot s) ≡ false
-no_quorum place ballot s few low = by_test (is_counted place.nodes (new_campaign ballot (front_of s)) place.node ballot (front_of s))
-  where
-    by_test : (b : Bool) → has_quorum place.nodes (if b then record (new_campaign ballot (front_of s)) { promises = slice_set (replicate NODES None) place.node (Some (told_by s.store (front_of s))) } else new_campaign ballot (front_of s)) ≡ false
-    by_test true = one_of place.nodes place.node ballot (front_of s) (told_by s.store (front_of s)) few low
-    by_test false = none_of place.nodes ballot (front_of s) few
+no_quorum : (g : Given) (place : Place) (ballot : Ballot) (s : Standing) → HasNodes place.nodes → has_quorum place.nodes (prepared place ballot s) ≡ false
+no_quorum g place ballot s few = g.alone place.nodes place.node ballot ballot (front_of s) (front_of s) (told_by s.store (front_of s)) (g.least_nodes place.nodes few)
 
 waits_by : (quorum covered done : Bool) (value : Option Made) → quorum ≡ false
     → ◌≡◌ {A = Result (Option Made) ProposeFault} (if not quorum then Ok None else if not covered then Err OutOfWindow else if done then Ok None else Ok value) (Ok None)
@@ -145,14 +113,14 @@ settled_rests place s settled = by_lead (leads place.nodes s.campaign) refl
     by_lead false e = record { in_range = ap (λ b. b && nat_le SLOTS (front_of s)) e; nothing = unled_by place.nodes s.campaign (front_of s) (own_value place s) e }
 
 -- a ballot that was just begun has nothing to propose
-begun_rests : (place : Place) (ballot : Ballot) (s : Standing) → HasNodes place.nodes → place.node < place.nodes → IsRest place (beginning place ballot s).after
-begun_rests place ballot s few low =
+begun_rests : (g : Given) (place : Place) (ballot : Ballot) (s : Standing) → HasNodes place.nodes → IsRest place (beginning place ballot s).after
+begun_rests g place ballot s few =
     let c = prepared place ballot s in
     let after : Standing = (beginning place ballot s).after in
     record {
-      in_range = ap (λ b. b && nat_le SLOTS (front_of s)) (no_quorum place ballot s few low);
+      in_range = ap (λ b. b && nat_le SLOTS (front_of s)) (no_quorum g place ballot s few);
       nothing = waits_by (has_quorum place.nodes c) (is_covered c.first (front_of s)) (is_proposed c (front_of s))
-          (accept_of c (front_of s) (value_of (greatest_told c (front_of s) place.nodes) (own_value place after))) (no_quorum place ballot s few low);
+          (accept_of c (front_of s) (value_of (greatest_told c (front_of s) place.nodes) (own_value place after))) (no_quorum g place ballot s few);
     }
 
 -- ---- the turn
@@ -219,5 +187,5 @@ ticks_prepare g own place world s outcome round st up turn most = by_case (is_ov
           where
             is_begun : outcome ≡ Ok (beginning place ballot s)
             is_begun = h ∙ (ap (λ k. let b : Ballot = record { round = k + 1; node = place.node } in behind (beginning place b s) (closing place (beginning place b s).after)) same
-                ∙ (ap (λ (r : Result Turn Refusal). behind (beginning place ballot s) r) (rest_closes place (beginning place ballot s).after (begun_rests place ballot s st.is_place.few st.is_place.node))
+                ∙ (ap (λ (r : Result Turn Refusal). behind (beginning place ballot s) r) (rest_closes place (beginning place ballot s).after (begun_rests g place ballot s st.is_place.few))
                 ∙ ap (λ (t : Turn). let r : Result Turn Refusal = Ok t in r) (joined_still (beginning place ballot s))))

@@ -37,10 +37,9 @@ use Rattle.node_rules.specs.Being.{Campaigns}
 use Rattle.node_rules.specs.Proposed.{IsSettled}
 use Rattle.node_rules.specs.Rules.{asking}
 use Rattle.node_rules.proofs.Results.{ok_is}
-use Rattle.node_rules.proofs.Paths.{Hearing, Scope, dealer_in, Path, Goes}
+use Rattle.node_rules.proofs.Paths.{Hearing, Scope, dealer_in, Path, Goes, three_in}
 use Rattle.learner.proofs.Kept.{open_means}
 use Rattle.node_rules.proofs.Learning.{world_now}
-use Rattle.node_rules.proofs.Members.{one_counted, three_nodes}
 use Rattle.node_rules.proofs.Asked.{asked_same}
 use Rattle.node_rules.proofs.Closing.{IsMade, made_by, campaigns_of, none_of_ballot, stored_new, unmarked}
 use Rattle.node_rules.proofs.Sourcing.{had_was_sent}
@@ -53,8 +52,7 @@ pub alone : (x : Scope) (came : List Arrival) (heard : Hearing) (upto : List Com
     → ((m : Message) → In m messages → In m p.node.has)
     → IsChosenIn x.place.nodes (Accepted x.place.node ballot slot command ∷ messages) ballot slot command → ⊥
 alone x came heard upto t p ballot first slot command messages began once inside (quorum, most, answers) =
-    let l = one_counted quorum x.place.node x.place.nodes (λ k below is. own_only k (answers k below is)) in
-    let m = three_nodes x.place.nodes x.is_place.few in omega arith
+    x.given.one_node x.place.nodes x.place.node quorum (three_in x) (λ k below is. own_only k (answers k below is)) most
   where
     now : (later : World) × Reached (dealer_in x) x.place.nodes later × IsAfter x.world x.place.node (record { sent = p.sent; shown = p.shown; came = came }) p.node later
     now = world_now x came heard upto t p

@@ -27,9 +27,8 @@ use Rattle.node_rules.specs.Called.{Called, Taken}
 use Rattle.node_rules.specs.Given.{Given}
 use Rattle.node_rules.proofs.Carrying.{nothing_carried, nothing_lost, others_carry, others_all}
 use Rattle.node_rules.proofs.Telling.{nothing_shown, shown_more}
-use Rattle.node_rules.proofs.Paths.{Hearing, Scope, dealer_in, first_in, Path}
+use Rattle.node_rules.proofs.Paths.{Hearing, Scope, dealer_in, first_in, Path, three_in}
 use Rattle.node_rules.proofs.Steps.{send, go_on}
-use Rattle.node_rules.proofs.Ticking.{few_nodes}
 
 -- ---- nothing is known at a start
 
@@ -87,7 +86,7 @@ begun x s found of down left ends start had log quiet = record {
       proposed = λ b k c h. absurd h;
       stands = λ b f st near less. absurd st.began;
     };
-    learner = new_learner x.given x.place.nodes [] (few_nodes x.place.nodes x.is_place.few);
+    learner = new_learner x.given x.place.nodes [] (x.given.most_nodes x.place.nodes x.is_place.few);
     pending = tt;
     places = length-replicate x.place.setting.game.players None;
     shown = omega arith;
@@ -140,7 +139,7 @@ asks_by : (x : Scope) (came : List Arrival) (heard : Hearing) (upto : List Comma
     → Path x came heard upto (joined t (sending (if b then to_others x.place (frame.Ask 0) else []) t.after))
 asks_by x came heard upto t true p =
     send x came heard upto t (Ask x.place.node 0) (to_others x.place (frame.Ask 0)) p tt (λ q. tt) (asks 0 p.knows.up refl refl)
-    (others_carry x.place.nodes x.place.node (frame.Ask 0) (Ask x.place.node 0) x.is_place.few refl tt refl) (others_all x.place.nodes x.place.node (frame.Ask 0) (Ask x.place.node 0) x.is_place.few refl)
+    (others_carry x.place.nodes x.place.node (frame.Ask 0) (Ask x.place.node 0) (three_in x) refl tt refl) (others_all x.place.nodes x.place.node (frame.Ask 0) (Ask x.place.node 0) (three_in x) refl)
 asks_by x came heard upto t false p = go_on x came heard upto t p
 
 -- a node that was down starts

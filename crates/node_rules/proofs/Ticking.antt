@@ -1,7 +1,6 @@
 -- A ballot is begun, on the path of a call.
 use Rattle.std.proofs.Common.{◌≡◌, ℕ, ◌<◌, ◌≤◌, ◌+◌, ◌⊎◌, inl, inr, Bool, true, false, true≢false, if◌then◌else◌, List, [], ◌∷◌, ◌++◌, Option, Some, Ok, Err, refl, sym, ap, subst, ◌∙◌, arith, map}
 use Rattle.std.proofs.lemmas.List.{append-nil}
-use Rattle.paxos_wire.specs.declared.limits.TheConstants.{NODES}
 use Rattle.paxos_wire.specs.declared.ballot.Ballot.{Ballot}
 use Rattle.paxos_wire.specs.declared.entry.Entry.{Entry}
 use Rattle.paxos_wire.specs.declared.message.Message.{Message as Wire}
@@ -16,7 +15,6 @@ use Rattle.protocol_model.specs.Arrivals.{Arrival}
 use Rattle.protocol_model.specs.Moves.{nothing, with_store, with_sent, more, gets, begins}
 use Rattle.proposer.specs.declared.campaign.Campaign.{Campaign}
 use Rattle.proposer.specs.Campaigns.{next_ballot, new_campaign}
-use Rattle.dealer_kind.specs.Plans.{HasNodes}
 use Rattle.node_rules.specs.Standings.{applied, front_of}
 use Rattle.node_rules.specs.Sending.{Frame, to_others}
 use Rattle.node_rules.specs.Showing.{Piece}
@@ -32,15 +30,11 @@ use Rattle.protocol_model.proofs.Ballots.{at_most_trans, at_most_self, at_most_o
 use Rattle.node_rules.proofs.Ordering.{higher_is, sees_own, sees_up}
 use Rattle.protocol_model.proofs.Backing.{promise_within}
 use Rattle.node_rules.proofs.Keeping.{with_got, got_learner, got_pending, sent_pending, stored_pending}
-use Rattle.node_rules.proofs.Paths.{Hearing, Scope, dealer_in, Path, Goes}
+use Rattle.node_rules.proofs.Paths.{Hearing, Scope, dealer_in, Path, Goes, three_in}
 use Rattle.node_rules.proofs.Steps.{go_on}
 use Rattle.protocol_model.proofs.Votes.{tells}
 
 -- ---- the ballot
-
-pub few_nodes : (n : ℕ) → HasNodes n → n ≤ NODES
-few_nodes n (inl e) = omega (arith, e)
-few_nodes n (inr e) = omega (arith, e)
 
 pub above : (a b : Ballot) (i : ℕ) → AtMost a b → Below a (next_ballot i b)
 above a b i h = inl (round_of h)
@@ -104,11 +98,11 @@ begin x came heard t ends p = record {
   has = ap (λ (l : List Message). m ∷ l) p.has;
   carry = subst (λ (l : List Frame). Carry x.place.nodes i l (m ∷ prepare ∷ p.sent)) (append-nil (t.frames ++ to_others x.place w))
       (joined_carry x.place.nodes i (t.frames ++ to_others x.place w) [] (prepare ∷ p.sent) (m ∷ [])
-      (joined_carry x.place.nodes i t.frames (to_others x.place w) p.sent (prepare ∷ []) p.carry (others_carry x.place.nodes i w prepare x.is_place.few refl tt refl))
+      (joined_carry x.place.nodes i t.frames (to_others x.place w) p.sent (prepare ∷ []) p.carry (others_carry x.place.nodes i w prepare (three_in x) refl tt refl))
       (note_carry x.place.nodes i m refl refl));
   all = subst (λ (l : List Frame). CarryAll x.place.nodes i l (m ∷ prepare ∷ p.sent)) (append-nil (t.frames ++ to_others x.place w))
       (joined_all x.place.nodes i (t.frames ++ to_others x.place w) [] (prepare ∷ p.sent) (m ∷ [])
-      (joined_all x.place.nodes i t.frames (to_others x.place w) p.sent (prepare ∷ []) p.all (others_all x.place.nodes i w prepare x.is_place.few refl))
+      (joined_all x.place.nodes i t.frames (to_others x.place w) p.sent (prepare ∷ []) p.all (others_all x.place.nodes i w prepare (three_in x) refl))
       (note_all x.place.nodes i m refl));
   pieces = λ ends. subst (λ (l : List Piece). AreShown i x.start x.log l p.shown) (sym (append-nil t.shown)) (p.pieces ends);
   logged = λ ends. ap (log_after x.log) (append-nil t.shown) ∙ p.logged ends;
@@ -214,7 +208,7 @@ begin x came heard t ends p = record {
       prepared = inr (inl (λ j. Prepare (stays.0 j) (stays.1 j)));
       counts = x.given.promise x.place.nodes (m ∷ p.node.has) (new_campaign ballot front) i ballot front told (inl refl) (x.given.begin (m ∷ p.node.has) ballot front);
       counts_all = x.given.promise_all x.place.nodes p.node.has (new_campaign ballot front) i ballot front told
-          (x.given.begin_all x.place.nodes p.node.has ballot front (few_nodes x.place.nodes x.is_place.few) no_promise);
+          (x.given.begin_all x.place.nodes p.node.has ballot front (x.given.most_nodes x.place.nodes x.is_place.few) no_promise);
       marks = x.given.promise_marks x.place.nodes (m ∷ prepare ∷ p.node.sent) (new_campaign ballot front) i ballot front told
           (x.given.begin_marks (m ∷ prepare ∷ p.node.sent) ballot front no_proposal);
       votes = λ s v e b. absurd (not_below ballot p.node.store.promise (subst (λ (y : Ballot). AtMost y p.node.store.promise) (b ∙ stays.0) (p.knows.within s v e)) up);

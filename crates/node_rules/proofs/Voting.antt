@@ -27,7 +27,7 @@ use Rattle.protocol_model.proofs.Sets.{put_cases}
 use Rattle.protocol_model.proofs.Ballots.{at_most_trans, at_most_self, same_if, at_most_if_not}
 use Rattle.node_rules.proofs.Ordering.{both_ways, sees_up}
 use Rattle.node_rules.proofs.Keeping.{sent_pending, stored_pending, prepared_before, proposed_before}
-use Rattle.node_rules.proofs.Paths.{Hearing, Scope, dealer_in, Path, Goes, regroup}
+use Rattle.node_rules.proofs.Paths.{Hearing, Scope, dealer_in, Path, Goes, regroup, three_in}
 use Rattle.node_rules.proofs.Steps.{Leads, get_own, say}
 use Rattle.node_rules.specs.Proposing.{own_value}
 use Rattle.node_rules.proofs.Proposed.{voted_proposed, sent_proposed}
@@ -102,7 +102,7 @@ new_vote x came heard upto t ends ballot slot command p had above other =
           proposals = voted_proposed x.place.nodes x.place.node upto (front_of t.after) (own_value x.place t.after) p.node.store slot vote p.node.has p.node.sent (m ∷ p.node.sent) other
               (λ b s c h. proposed_before p.node m b s c tt h) p.knows.proposals;
         })
-        (others_carry x.place.nodes i w m x.is_place.few refl tt refl) (others_all x.place.nodes i w m x.is_place.few refl)).path
+        (others_carry x.place.nodes i w m (three_in x) refl tt refl) (others_all x.place.nodes i w m (three_in x) refl)).path
 
 -- ---- a vote that is stored already is told again
 
@@ -154,7 +154,7 @@ old_vote x came heard upto t ends ballot slot vote p held same above other =
           proposals = sent_proposed x.place.nodes x.place.node upto (front_of t.after) (own_value x.place t.after) p.node.store p.node.has p.node.sent (m ∷ p.node.sent)
               (λ b s c h. proposed_before p.node m b s c tt h) p.knows.proposals;
         })
-        (others_carry x.place.nodes i w m x.is_place.few refl tt refl) (others_all x.place.nodes i w m x.is_place.few refl)).path
+        (others_carry x.place.nodes i w m (three_in x) refl tt refl) (others_all x.place.nodes i w m (three_in x) refl)).path
 
 -- ---- either
 

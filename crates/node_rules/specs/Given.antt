@@ -1,12 +1,13 @@
 -- The laws of the layers below that the laws here stand on.
-use Rattle.std.proofs.Common.{◌≡◌, ℕ, ◌<◌, ◌++◌, List}
+use Rattle.std.proofs.Common.{◌≡◌, ℕ, ◌<◌, ◌≤◌, ◌++◌, Bool, true, List}
 use Rattle.slot_log.specs.declared.command.Command.{Command}
 use Rattle.slot_log.specs.Laws.{CommandsMakeHands, FitsWithoutReason}
 use Rattle.slot_log.specs.SlotLaws.{FrontIsFirstHole, SlotsEnd, OneMoreIsKnown, FrontsGoOn}
 use Rattle.protocol_model.specs.Sets.{In}
 use Rattle.paxos_wire.specs.declared.ballot.Ballot.{Ballot}
+use Rattle.paxos_wire.specs.declared.limits.TheConstants.{NODES}
 use Rattle.protocol_model.specs.Messages.{Message, Prepare, Accept, Accepted, Chosen}
-use Rattle.protocol_model.specs.Quorums.{IsChosen}
+use Rattle.protocol_model.specs.Quorums.{IsQuorum, IsChosen}
 use Rattle.protocol_model.specs.Stores.{Store}
 use Rattle.protocol_model.specs.Backing.{IsWithinPromise}
 use Rattle.protocol_model.specs.Dealers.{Dealer}
@@ -18,6 +19,7 @@ use Rattle.proposer.specs.Laws as proposer
 use Rattle.learner.specs.Laws as learner
 use Rattle.match_log.specs.Laws.{CommandsAddToTheLog, LogsBeginWithTheirHeader}
 use Rattle.seat_session.specs.Laws.{WholeLines, RunsGoOn}
+use Rattle.dealer_kind.specs.Plans.{HasNodes}
 use Rattle.dealer_kind.specs.Laws.{AnswersAreHeard, OrdersPlayForTheNext}
 
 pub record Given : Type 0 where
@@ -42,9 +44,14 @@ pub record Given : Type 0 where
   pub own_proposal : (dealer : Dealer) (n i : ℕ) (world : World) (ballot : Ballot) (first slot : ℕ) (command : Command)
       → Reached dealer n world → In (Prepare ballot first) (world.nodes i).sent → In (Accept ballot slot command) world.ever
       → In (Accept ballot slot command) (world.nodes i).sent
+  -- one node is no quorum, since a match has three at least
+  pub one_node : (n only : ℕ) (set : ℕ → Bool) → 3 ≤ n → ((node : ℕ) → node < n → set node ≡ true → node ≡ only) → IsQuorum n set → ⊥
+  pub least_nodes : (n : ℕ) → HasNodes n → 3 ≤ n
+  pub most_nodes : (n : ℕ) → HasNodes n → n ≤ NODES
   -- the proposer
   pub greatest : proposer.GreatestDecides
   pub quorum : proposer.QuorumLeads
+  pub alone : proposer.OnePromiseLeadsNot
   pub safe : proposer.ProposalsAreSafe
   pub begin : proposer.BeginCounts
   pub begin_all : proposer.BeginCountsAll

@@ -16,7 +16,7 @@ ghost use Rattle.node_rules.specs.LawsTick.{TicksPrepare};
 ghost use Rattle.node_rules.specs.LawsValue.{DealsComeFirst};
 ghost use Rattle.node_rules.specs.LawsVotes.{OwnVotesAreInTime, RefusedBallotsEnd};
 
-use dealer_kind::laws::{answers_are_heard, orders_play_for_the_next};
+use dealer_kind::laws::{answers_are_heard, nodes_are_few_and_odd, orders_play_for_the_next};
 use learner::laws::{
     chosen_is_known, completed_is_chosen, counts_are_kept as votes_are_kept, same_is_equal,
 };
@@ -24,6 +24,7 @@ use match_log::laws::{commands_add_to_the_log, logs_begin_with_their_header};
 use proposer::laws::{counts_are_kept, leaders_propose, proposals_are_safe};
 use protocol_model::laws::{
     answers_have_proposals, backing_lasts, chains_reach, known_is_chosen, one_choice,
+    one_node_is_no_quorum,
 };
 use seat_session::laws::{any_pieces, runs_go_on, whole_lines};
 use slot_log::laws::{
@@ -50,8 +51,10 @@ fn layers_below()
     known_is_chosen();
     leaders_propose();
     logs_begin_with_their_header();
+    nodes_are_few_and_odd();
     one_choice();
     one_more_is_known();
+    one_node_is_no_quorum();
     orders_play_for_the_next();
     proposals_are_safe();
     runs_go_on();
