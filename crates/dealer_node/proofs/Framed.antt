@@ -24,6 +24,7 @@ use Rattle.proposer.specs.declared.accept.Accept.{Accept}
 use Rattle.proposer.specs.declared.fault.ProposeFault.{ProposeFault}
 use Rattle.paxos_wire.specs.declared.limits.TheConstants.{SLOTS}
 use Rattle.node_rules.specs.Rules.{seeing, taking, asking, on_message}
+use Rattle.paxos_wire.specs.declared.limits.TheConstants.{MOST_SINGLE_FRAME}
 use Rattle.dealer_node.specs.declared.up.Up.{Up}
 use Rattle.dealer_node.specs.declared.running.Running.{Running}
 use Rattle.dealer_node.specs.declared.made.Made.{Made}
@@ -227,10 +228,10 @@ module _ {D : Type 0} (g : Ghosts D) where
 -- ---- room
 
 -- so much is left, whatever was needed
-pub left_of : (running : Running) (made : Made) (votes frames : ℕ) → CanLearn running made votes → frames ≤ made.frames.text_room → 46 * frames ≤ made.frames.byte_room
+pub left_of : (running : Running) (made : Made) (votes frames : ℕ) → CanLearn running made votes → frames ≤ made.frames.text_room → MOST_SINGLE_FRAME * frames ≤ made.frames.byte_room
     → HasLeft running made (record {
       frames = length made.frames.texts + frames;
-      frame_bytes = byte_total made.frames.texts + 46 * frames;
+      frame_bytes = byte_total made.frames.texts + MOST_SINGLE_FRAME * frames;
       texts = length made.shown.texts + 11 * (ahead_of running + votes);
       text_bytes = byte_total made.shown.texts + 45716 * (ahead_of running + votes);
       faults = vec_len made.faults;
@@ -252,7 +253,7 @@ seen_left old new made need votes frames rest left =
     subst (λ (r : Running). HasLeft r made need votes frames) (sym rest) (left_beside old new old made need votes frames left)
 
 -- a question was asked
-pub asked_left : (running : Running) (earlier later : Made) (need : Need) (votes frames : ℕ) → later ≡ record earlier { frames = later.frames } → Grows earlier.frames later.frames 1 46
+pub asked_left : (running : Running) (earlier later : Made) (need : Need) (votes frames : ℕ) → later ≡ record earlier { frames = later.frames } → Grows earlier.frames later.frames 1 MOST_SINGLE_FRAME
     → HasLeft running earlier need votes (frames + 1) → HasLeft running later need votes frames
 asked_left running earlier later need votes frames rest grows left =
     subst (λ (m : Made). HasLeft running m need votes frames) (sym rest)

@@ -1,5 +1,7 @@
 -- How much room is left once something was made.
 use Rattle.std.proofs.Common.{◌≡◌, ℕ, ◌+◌, ◌*◌, ◌≤◌, arith, ap, sym, subst, vec_len}
+use Rattle.paxos_wire.specs.declared.limits.TheConstants.{NODES, MOST_SINGLE_FRAME}
+use Rattle.dealer_node.specs.declared.limits.TheConstants.{FRAMES_TO_ALL}
 use Rattle.dealer_node.specs.declared.running.Running.{Running}
 use Rattle.dealer_node.specs.declared.made.Made.{Made}
 use Rattle.dealer_node.specs.declared.made.Need.{Need}
@@ -9,8 +11,8 @@ use Rattle.dealer_node.specs.Running.{Learns}
 use Rattle.dealer_node.specs.Working.{HasLeft}
 
 -- a vote was told and counted
-pub voted_left : (old new : Running) (earlier later : Made) (need : Need) (votes frames nodes : ℕ) → nodes ≤ 5 → Learns old new earlier later → Grows earlier.frames later.frames nodes (46 * nodes)
-    → later ≡ record earlier { frames = later.frames; shown = later.shown } → HasLeft old earlier need (votes + 1) (frames + 5) → HasLeft new later need votes frames
+pub voted_left : (old new : Running) (earlier later : Made) (need : Need) (votes frames nodes : ℕ) → nodes ≤ NODES → Learns old new earlier later → Grows earlier.frames later.frames nodes (MOST_SINGLE_FRAME * nodes)
+    → later ≡ record earlier { frames = later.frames; shown = later.shown } → HasLeft old earlier need (votes + 1) (frames + FRAMES_TO_ALL) → HasLeft new later need votes frames
 voted_left old new earlier later need votes frames nodes few learns grows rest left =
     let same : vec_len later.faults ≡ vec_len earlier.faults = ap (λ (m : Made). vec_len m.faults) rest in
     record {
@@ -59,7 +61,7 @@ fewer_left old new made need votes more frames fewer rest left =
     subst (λ (r : Running). HasLeft r made need votes frames) (sym rest) (left_beside old old new made need votes frames same)
 
 -- frames to the others were sent
-pub sent_left : (running : Running) (earlier : Made) (new : Written ℕ) (need : Need) (votes frames more nodes : ℕ) → nodes + frames ≤ more → Grows earlier.frames new nodes (46 * nodes)
+pub sent_left : (running : Running) (earlier : Made) (new : Written ℕ) (need : Need) (votes frames more nodes : ℕ) → nodes + frames ≤ more → Grows earlier.frames new nodes (MOST_SINGLE_FRAME * nodes)
     → HasLeft running earlier need votes more → HasLeft running (record earlier { frames = new }) need votes frames
 sent_left running earlier new need votes frames more nodes few grows left = record {
   learn = record { learner = left.learn.learner; table = left.learn.table; texts = left.learn.texts; bytes = left.learn.bytes };

@@ -1,5 +1,7 @@
 -- No more is made than was needed.
 use Rattle.std.proofs.Common.{◌≡◌, ℕ, ◌*◌, arith, ap, length, vec_len}
+use Rattle.paxos_wire.specs.declared.limits.TheConstants.{MOST_SINGLE_FRAME}
+use Rattle.dealer_node.specs.declared.limits.TheConstants.{FRAMES_OF_A_CLOSE, COMMANDS_OF_A_CALL, FRAMES_OF_A_MESSAGE}
 use Rattle.dealer_node.specs.declared.running.Running.{Running}
 use Rattle.dealer_node.specs.declared.made.Made.{Made}
 use Rattle.dealer_node.specs.declared.made.Need.{Need}
@@ -57,17 +59,17 @@ module _ {D : Type 0} where
     faults_told = omega (arith, no_faults made nothing);
   }
 
-  pub close_left : (up : Up D) (made : Made) → told_by made ≡ nothing_told → HasCallRoom up made (close_need up.running) 1 → HasLeft up.running made (close_need up.running) 1 10
-  close_left up made nothing room = call_left up made 1 10 nothing room
+  pub close_left : (up : Up D) (made : Made) → told_by made ≡ nothing_told → HasCallRoom up made (close_need up.running) 1 → HasLeft up.running made (close_need up.running) 1 FRAMES_OF_A_CLOSE
+  close_left up made nothing room = call_left up made 1 FRAMES_OF_A_CLOSE nothing room
 
-  pub frame_left : (up : Up D) (made : Made) → told_by made ≡ nothing_told → HasCallRoom up made (frame_need up.running) 2 → HasLeft up.running made (frame_need up.running) 2 75
-  frame_left up made nothing room = call_left up made 2 75 nothing room
+  pub frame_left : (up : Up D) (made : Made) → told_by made ≡ nothing_told → HasCallRoom up made (frame_need up.running) COMMANDS_OF_A_CALL → HasLeft up.running made (frame_need up.running) COMMANDS_OF_A_CALL FRAMES_OF_A_MESSAGE
+  frame_left up made nothing room = call_left up made COMMANDS_OF_A_CALL FRAMES_OF_A_MESSAGE nothing room
 
   -- once what was ordered goes on
   pub away_left : (up after : Up D) (earlier later : Made) → told_by earlier ≡ nothing_told → HasCallRoom up earlier (away_need up.running) 1
-      → Grows earlier.frames later.frames 1 46 → later ≡ record earlier { frames = later.frames }
+      → Grows earlier.frames later.frames 1 MOST_SINGLE_FRAME → later ≡ record earlier { frames = later.frames }
       → after ≡ record up { running = record up.running { pending = after.running.pending } }
-      → HasLeft after.running later (away_need up.running) 1 10
+      → HasLeft after.running later (away_need up.running) 1 FRAMES_OF_A_CLOSE
   away_left up after earlier later nothing room frames others rest =
       let learner : after.running.learner.room ≡ up.running.learner.room = ap (λ (u : Up D). u.running.learner.room) rest in
       let table : after.running.table.room ≡ up.running.table.room = ap (λ (u : Up D). u.running.table.room) rest in
@@ -95,9 +97,9 @@ module _ {D : Type 0} where
 
   -- once the piece was heard
   pub line_left : (up after : Up D) (earlier later : Made) (limit : ℕ) → told_by earlier ≡ nothing_told → HasCallRoom up earlier (line_need up.running limit) 1
-      → Grows earlier.frames later.frames limit (46 * limit) → Grows earlier.shown later.shown 1 4096 → Tells earlier later limit
+      → Grows earlier.frames later.frames limit (MOST_SINGLE_FRAME * limit) → Grows earlier.shown later.shown 1 4096 → Tells earlier later limit
       → after ≡ record up { running = record up.running { pending = after.running.pending; seats = after.running.seats } }
-      → HasLeft after.running later (line_need up.running limit) 1 10
+      → HasLeft after.running later (line_need up.running limit) 1 FRAMES_OF_A_CLOSE
   line_left up after earlier later limit nothing room frames shown faults rest =
       let learner : after.running.learner.room ≡ up.running.learner.room = ap (λ (u : Up D). u.running.learner.room) rest in
       let table : after.running.table.room ≡ up.running.table.room = ap (λ (u : Up D). u.running.table.room) rest in

@@ -1,10 +1,12 @@
 -- What a whole call needs and makes of a node that runs.
 use Rattle.std.specs.Prelude.{◌≡◌, ◌⊎◌, ℕ, ◌+◌, ◌*◌, ◌≤◌, Result, Err}
+use Rattle.paxos_wire.specs.declared.limits.TheConstants.{MOST_SINGLE_FRAME}
 use Rattle.promise_store.specs.declared.disk.Disk.{Ghosts}
 use Rattle.node_rules.specs.Standings.{Standing}
 use Rattle.node_rules.specs.Turns.{Turn, Refusal}
 use Rattle.node_rules.specs.Calls.{Call}
 use Rattle.node_rules.specs.Rules.{IsTurnUp}
+use Rattle.dealer_node.specs.declared.limits.TheConstants.{FRAMES_OF_A_CLOSE, COMMANDS_OF_A_CALL, FRAMES_OF_A_MESSAGE}
 use Rattle.dealer_node.specs.declared.up.Up.{Up}
 use Rattle.dealer_node.specs.declared.running.Running.{Running}
 use Rattle.dealer_node.specs.declared.made.Made.{Made}
@@ -21,7 +23,7 @@ use Rattle.dealer_node.specs.Handling.{Stays, Handles}
 abbrev pub need_of : Running → ℕ → ℕ → Need
 need_of running commands frames = record {
   frames = frames;
-  frame_bytes = 46 * frames;
+  frame_bytes = MOST_SINGLE_FRAME * frames;
   texts = 11 * (ahead_of running + commands);
   text_bytes = 45716 * (ahead_of running + commands);
   faults = 0;
@@ -29,25 +31,25 @@ need_of running commands frames = record {
 
 -- what the close of a call makes at most
 abbrev pub close_need : Running → Need
-close_need running = need_of running 1 10
+close_need running = need_of running 1 FRAMES_OF_A_CLOSE
 
 -- what an order makes at most: a frame with which it goes on, and the close
 abbrev pub away_need : Running → Need
-away_need running = need_of running 1 11
+away_need running = need_of running 1 (FRAMES_OF_A_CLOSE + 1)
 
 -- and with a piece of a seat's bytes that is given fewer answers than these: a frame and a fault for each, and the seat's line
 abbrev pub line_need : Running → ℕ → Need
 line_need running limit = record {
-  frames = limit + 10;
-  frame_bytes = 46 * (limit + 10);
+  frames = limit + FRAMES_OF_A_CLOSE;
+  frame_bytes = MOST_SINGLE_FRAME * (limit + FRAMES_OF_A_CLOSE);
   texts = 1 + 11 * (ahead_of running + 1);
   text_bytes = 4096 + 45716 * (ahead_of running + 1);
   faults = limit;
 }
 
--- what a message of another node makes at most: what is told of 64 slots, what the close makes, and a question
+-- what a message of another node makes at most: what it is answered with, what the close makes, and a question
 abbrev pub frame_need : Running → Need
-frame_need running = need_of running 2 75
+frame_need running = need_of running COMMANDS_OF_A_CALL FRAMES_OF_A_MESSAGE
 
 module _ {D : Type 0} where
   -- there is room for so much, to learn of so many commands, and to store as many votes

@@ -17,7 +17,7 @@ pub record Post : Type 0 where
 abbrev pub place_at : Post → Place
 place_at post = record { setting = post.setting; nodes = post.nodes; node = post.node; deals = deal_of post.setting.game.players post.source }
 
--- the match is within its limits, and the node is one of three or five
+-- the match is within its limits, and the node is one of its nodes
 pub record IsPost (post : Post) : Type 0 where
   pub within : IsSetting post.setting
   pub nodes : HasNodes post.nodes

@@ -8,6 +8,7 @@ use Rattle.promise_store.specs.Journals.{header}
 use Rattle.promise_store.specs.Room.{room}
 use Rattle.acceptor.specs.Stored.{store_of}
 use Rattle.acceptor.specs.Taken.{IsFault}
+use Rattle.paxos_wire.specs.declared.limits.TheConstants.{MOST_SINGLE_FRAME}
 use Rattle.paxos_wire.specs.declared.message.Message.{Message}
 use Rattle.paxos_wire.specs.declared.message.Message.TheVariants as frame
 use Rattle.protocol_model.specs.Sets.{In}
@@ -127,9 +128,9 @@ module _ {D : Type 0} (g : Ghosts D) where
 pub record HasLeft (running : Running) (made : Made) (need : Need) (votes frames : ℕ) : Type 0 where
   pub learn : CanLearn running made votes
   pub texts : frames ≤ made.frames.text_room
-  pub bytes : 46 * frames ≤ made.frames.byte_room
+  pub bytes : MOST_SINGLE_FRAME * frames ≤ made.frames.byte_room
   pub frames_made : length made.frames.texts + frames ≤ need.frames
-  pub bytes_made : byte_total made.frames.texts + 46 * frames ≤ need.frame_bytes
+  pub bytes_made : byte_total made.frames.texts + MOST_SINGLE_FRAME * frames ≤ need.frame_bytes
   pub texts_shown : length made.shown.texts + 11 * (ahead_of running + votes) ≤ need.texts
   pub bytes_shown : byte_total made.shown.texts + 45716 * (ahead_of running + votes) ≤ need.text_bytes
   pub faults_told : vec_len made.faults ≤ need.faults

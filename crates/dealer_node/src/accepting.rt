@@ -9,6 +9,7 @@ ghost use Rattle.node_rules.specs.Accepting.{preparing, accepting, voting};
 ghost use Rattle.node_rules.specs.Proposing.{proposing, closing};
 ghost use Rattle.dealer_node.specs.Posts.{place_at};
 ghost use Rattle.dealer_node.specs.Outs.{told_by};
+ghost use Rattle.dealer_node.specs.declared.limits.TheConstants.{FRAMES_TO_ALL, FRAME_BYTES_TO_ALL, FRAMES_OF_A_CLOSE, FRAME_BYTES_OF_A_CLOSE, FRAMES_OF_AN_ANSWER, FRAME_BYTES_OF_AN_ANSWER};
 ghost use Rattle.dealer_node.specs.declared.made.Need.{Need as Needs};
 ghost use Rattle.dealer_node.specs.Running.{IsAt, CanLearn, Learns};
 ghost use Rattle.dealer_node.specs.Rooms.{Grows};
@@ -41,15 +42,15 @@ impl<D: Disk + Drop> Up<D> {
         requires at { IsAt post.now self.old.running }
         requires ballot { IsBallot ballot }
         requires slot { IsSlot slot }
-        requires texts { 64 ≤ made.old.frames.text_room }
-        requires bytes { 2944 ≤ made.old.frames.byte_room }
+        requires texts { FRAMES_OF_AN_ANSWER ≤ made.old.frames.text_room }
+        requires bytes { FRAME_BYTES_OF_AN_ANSWER ≤ made.old.frames.byte_room }
         ensures works { (s : Standing) → IsTrue D.is_honest → IsUp D.Disk post.now self.old s
             → Works D.Disk post.now s (Ok (preparing from ballot slot s)) self.old self.new (told_by made.old) (told_by made.new) result }
         ensures goes_on { GoesOn D.Disk self.old self.new result }
         ensures only { IsOfPart result }
         ensures at { IsAt post.now self.new.running }
         ensures room { store_room self.old ≤ store_room self.new + 1 }
-        ensures left { (need : Needs) (votes frames : ℕ) → HasLeft self.old.running made.old need (votes + 1) (frames + 64) → HasLeft self.new.running made.new need votes frames }
+        ensures left { (need : Needs) (votes frames : ℕ) → HasLeft self.old.running made.old need (votes + 1) (frames + FRAMES_OF_AN_ANSWER) → HasLeft self.new.running made.new need votes frames }
     {
         let _ = post;
         let _promised = self.acceptor.promised();
@@ -80,8 +81,8 @@ impl<D: Disk + Drop> Up<D> {
         requires command { IsInRange command.now }
         requires store { 1 ≤ store_room self.old }
         requires learn { CanLearn self.old.running made.old 1 }
-        requires texts { 5 ≤ made.old.frames.text_room }
-        requires bytes { 230 ≤ made.old.frames.byte_room }
+        requires texts { FRAMES_TO_ALL ≤ made.old.frames.text_room }
+        requires bytes { FRAME_BYTES_TO_ALL ≤ made.old.frames.byte_room }
         ensures works { (s : Standing) → IsTrue D.is_honest → IsUp D.Disk post.now self.old s
             → is_below ballot s.store.promise ≡ false → IfSome s.campaign (λ campaign. campaign.ballot ≡ ballot)
             → Works D.Disk post.now s (voting (place_at post.now) ballot slot command.now s) self.old self.new (told_by made.old) (told_by made.new) result }
@@ -89,7 +90,7 @@ impl<D: Disk + Drop> Up<D> {
         ensures only { IsOfPart result }
         ensures at { IsAt post.now self.new.running }
         ensures room { store_room self.old ≤ store_room self.new + 1 }
-        ensures left { (need : Needs) (votes frames : ℕ) → HasLeft self.old.running made.old need (votes + 1) (frames + 5) → HasLeft self.new.running made.new need votes frames }
+        ensures left { (need : Needs) (votes frames : ℕ) → HasLeft self.old.running made.old need (votes + 1) (frames + FRAMES_TO_ALL) → HasLeft self.new.running made.new need votes frames }
     {
         let _nodes = post.nodes();
         match self.acceptor.on_accept_reserved(ballot, slot, *command) {
@@ -123,15 +124,15 @@ impl<D: Disk + Drop> Up<D> {
         requires command { IsInRange command.now }
         requires store { 1 ≤ store_room self.old }
         requires learn { CanLearn self.old.running made.old 1 }
-        requires texts { 64 ≤ made.old.frames.text_room }
-        requires bytes { 2944 ≤ made.old.frames.byte_room }
+        requires texts { FRAMES_OF_AN_ANSWER ≤ made.old.frames.text_room }
+        requires bytes { FRAME_BYTES_OF_AN_ANSWER ≤ made.old.frames.byte_room }
         ensures works { (s : Standing) → IsTrue D.is_honest → IsUp D.Disk post.now self.old s
             → Works D.Disk post.now s (accepting (place_at post.now) from ballot slot command.now s) self.old self.new (told_by made.old) (told_by made.new) result }
         ensures goes_on { GoesOn D.Disk self.old self.new result }
         ensures only { IsOfPart result }
         ensures at { IsAt post.now self.new.running }
         ensures room { store_room self.old ≤ store_room self.new + 1 }
-        ensures left { (need : Needs) (votes frames : ℕ) → HasLeft self.old.running made.old need (votes + 1) (frames + 64) → HasLeft self.new.running made.new need votes frames }
+        ensures left { (need : Needs) (votes frames : ℕ) → HasLeft self.old.running made.old need (votes + 1) (frames + FRAMES_OF_AN_ANSWER) → HasLeft self.new.running made.new need votes frames }
     {
         let promised = self.acceptor.promised();
         if ballot.is_below(promised) {
@@ -150,14 +151,14 @@ impl<D: Disk + Drop> Up<D> {
         requires command { IsInRange proposal.now.command }
         requires store { 1 ≤ store_room self.old }
         requires learn { CanLearn self.old.running made.old 1 }
-        requires texts { 10 ≤ made.old.frames.text_room }
-        requires bytes { 460 ≤ made.old.frames.byte_room }
+        requires texts { FRAMES_OF_A_CLOSE ≤ made.old.frames.text_room }
+        requires bytes { FRAME_BYTES_OF_A_CLOSE ≤ made.old.frames.byte_room }
         ensures works { (s : Standing) → IsTrue D.is_honest → IsUp D.Disk post.now self.old s → proposal.now.ballot ≡ s.store.promise
             → Works D.Disk post.now s (proposing (place_at post.now) proposal.now s) self.old self.new (told_by made.old) (told_by made.new) result }
         ensures goes_on { GoesOn D.Disk self.old self.new result }
         ensures only { IsOfPart result }
         ensures at { IsAt post.now self.new.running }
-        ensures left { (need : Needs) (votes frames : ℕ) → HasLeft self.old.running made.old need (votes + 1) (frames + 10) → HasLeft self.new.running made.new need votes frames }
+        ensures left { (need : Needs) (votes frames : ℕ) → HasLeft self.old.running made.old need (votes + 1) (frames + FRAMES_OF_A_CLOSE) → HasLeft self.new.running made.new need votes frames }
     {
         let _nodes = post.nodes();
         send_proposal(&mut made.frames, post, proposal);
@@ -175,14 +176,14 @@ impl<D: Disk + Drop> Up<D> {
         requires at { IsAt post.now self.old.running }
         requires store { 1 ≤ store_room self.old }
         requires learn { CanLearn self.old.running made.old 1 }
-        requires texts { 10 ≤ made.old.frames.text_room }
-        requires bytes { 460 ≤ made.old.frames.byte_room }
+        requires texts { FRAMES_OF_A_CLOSE ≤ made.old.frames.text_room }
+        requires bytes { FRAME_BYTES_OF_A_CLOSE ≤ made.old.frames.byte_room }
         ensures works { (s : Standing) → IsTrue D.is_honest → IsUp D.Disk post.now self.old s
             → Works D.Disk post.now s (closing (place_at post.now) s) self.old self.new (told_by made.old) (told_by made.new) result }
         ensures goes_on { GoesOn D.Disk self.old self.new result }
         ensures only { IsOfPart result }
         ensures at { IsAt post.now self.new.running }
-        ensures left { (need : Needs) (votes frames : ℕ) → HasLeft self.old.running made.old need (votes + 1) (frames + 10) → HasLeft self.new.running made.new need votes frames }
+        ensures left { (need : Needs) (votes frames : ℕ) → HasLeft self.old.running made.old need (votes + 1) (frames + FRAMES_OF_A_CLOSE) → HasLeft self.new.running made.new need votes frames }
     {
         match self.running.proposal(post) {
             Some(proposal) => self.propose(post, &proposal, made),

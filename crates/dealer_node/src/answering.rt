@@ -1,5 +1,6 @@
 ghost use Rattle.std.specs.Prelude.{◌≡◌, ◌+◌, ◌≤◌, ◌++◌, map};
 ghost use Rattle.paxos_wire.specs.Fits.{Fits, IsBallot, IsSlot, AreEntries};
+ghost use Rattle.paxos_wire.specs.declared.limits.TheConstants.{MOST_FRAME, MOST_SINGLE_FRAME};
 ghost use Rattle.paxos_wire.specs.declared.message.Message.TheVariants.{Promise as Promising, Refuse as Refusing};
 ghost use Rattle.node_rules.specs.Sending.{one};
 ghost use Rattle.dealer_node.specs.Rooms.{Grows};
@@ -13,7 +14,7 @@ use acceptor::{AcceptAnswer, PrepareAnswer};
 use paxos_wire::{Ballot, Entries, Message, frame_len};
 use slot_log::Command;
 
-/// Sends a node the promise of a ballot, with what was accepted at the 64 slots from a slot on.
+/// Sends a node the promise of a ballot, with what was accepted at the slots from one on.
 pub(crate) fn send_promise(
     frames: &mut Texts<u8>,
     to: u8,
@@ -25,9 +26,9 @@ pub(crate) fn send_promise(
     requires slot { IsSlot slot }
     requires entries { AreEntries slot entries.now }
     requires texts { 1 ≤ frames.old.text_room }
-    requires bytes { 2576 ≤ frames.old.byte_room }
+    requires bytes { MOST_FRAME ≤ frames.old.byte_room }
     ensures texts { frames.new.texts ≡ frames.old.texts ++ map posted (one to (Promising ballot slot entries.now)) }
-    ensures grows { Grows frames.old frames.new 1 2576 }
+    ensures grows { Grows frames.old frames.new 1 MOST_FRAME }
     ensures fits { AreMessages (one to (Promising ballot slot entries.now)) }
 {
     let message = Message::Promise {
@@ -51,9 +52,9 @@ pub(crate) fn send_refusal(
     requires slot { IsSlot slot }
     requires promised { IsBallot promised }
     requires texts { 1 ≤ frames.old.text_room }
-    requires bytes { 46 ≤ frames.old.byte_room }
+    requires bytes { MOST_SINGLE_FRAME ≤ frames.old.byte_room }
     ensures texts { frames.new.texts ≡ frames.old.texts ++ map posted (one to (Refusing ballot slot promised)) }
-    ensures grows { Grows frames.old frames.new 1 46 }
+    ensures grows { Grows frames.old frames.new 1 MOST_SINGLE_FRAME }
     ensures fits { AreMessages (one to (Refusing ballot slot promised)) }
 {
     let message = Message::Refuse {
@@ -69,10 +70,10 @@ pub(crate) fn send_refusal(
 pub(crate) fn send_prepare_answer(frames: &mut Texts<u8>, to: u8, answer: &PrepareAnswer) -> bool
     requires fits { Fits (message_of answer.now) }
     requires texts { 1 ≤ frames.old.text_room }
-    requires bytes { 2576 ≤ frames.old.byte_room }
+    requires bytes { MOST_FRAME ≤ frames.old.byte_room }
     ensures promised { result ≡ is_promise answer.now }
     ensures texts { frames.new.texts ≡ frames.old.texts ++ map posted (one to (message_of answer.now)) }
-    ensures grows { Grows frames.old frames.new 1 2576 }
+    ensures grows { Grows frames.old frames.new 1 MOST_FRAME }
     ensures fits { AreMessages (one to (message_of answer.now)) }
 {
     match answer {
@@ -109,9 +110,9 @@ pub(crate) fn accepted_command(answer: &AcceptAnswer) -> Option<Command>
 pub(crate) fn send_accept_refusal(frames: &mut Texts<u8>, to: u8, answer: &AcceptAnswer)
     requires fits { FitsRefusal answer.now }
     requires texts { 1 ≤ frames.old.text_room }
-    requires bytes { 46 ≤ frames.old.byte_room }
+    requires bytes { MOST_SINGLE_FRAME ≤ frames.old.byte_room }
     ensures texts { frames.new.texts ≡ frames.old.texts ++ map posted (refusals_to to answer.now) }
-    ensures grows { Grows frames.old frames.new 1 46 }
+    ensures grows { Grows frames.old frames.new 1 MOST_SINGLE_FRAME }
     ensures fits { AreMessages (refusals_to to answer.now) }
 {
     match answer {

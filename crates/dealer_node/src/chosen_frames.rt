@@ -1,5 +1,6 @@
 ghost use Rattle.std.specs.Prelude.{◌≡◌, ◌+◌, ◌-◌, ◌*◌, ◌≤◌, ◌<◌, ◌++◌, ℕ, map, min, Some, length};
 ghost use Rattle.paxos_wire.specs.Fits.{IsInRange, IsSlot};
+ghost use Rattle.paxos_wire.specs.declared.limits.TheConstants.{MOST_SINGLE_FRAME};
 ghost use Rattle.paxos_wire.specs.declared.message.Message.TheVariants.{Ask as Asking};
 ghost use Rattle.slot_log.specs.Slots.{front, known_at};
 ghost use Rattle.slot_log.specs.declared.command.Command.{Command as Order};
@@ -19,10 +20,10 @@ use slot_log::SlotLog;
 pub(crate) fn ask(frames: &mut Texts<u8>, to: u8, slot: u32)
     requires slot { IsSlot slot }
     requires texts { 1 ≤ frames.old.text_room }
-    requires bytes { 46 ≤ frames.old.byte_room }
+    requires bytes { MOST_SINGLE_FRAME ≤ frames.old.byte_room }
     ensures texts { frames.new.texts ≡ frames.old.texts ++ map posted (one to (Asking slot)) }
     ensures fits { AreMessages (one to (Asking slot)) }
-    ensures grows { Grows frames.old frames.new 1 46 }
+    ensures grows { Grows frames.old frames.new 1 MOST_SINGLE_FRAME }
 {
     let message = Message::Ask { slot };
     let _len = frame_len(&message);
@@ -34,7 +35,7 @@ pub(crate) fn ask(frames: &mut Texts<u8>, to: u8, slot: u32)
 pub(crate) fn told_slots(log: &SlotLog, slot: u32) -> u32
     requires { IsSlot slot }
     ensures value { result ≡ min (front log.now.log) (next_window slot) - slot }
-    ensures most { result ≤ 64 }
+    ensures most { result ≤ WINDOW }
     ensures within { slot + result ≤ front log.now.log + slot }
 {
     let window = WINDOW as u32;
@@ -47,10 +48,10 @@ fn tell_slot(frames: &mut Texts<u8>, to: u8, log: &SlotLog, slot: u32)
     requires slot { IsSlot slot }
     requires commands { (command : Order) → known_at log.now.log slot ≡ Some command → IsInRange command }
     requires texts { 1 ≤ frames.old.text_room }
-    requires bytes { 46 ≤ frames.old.byte_room }
+    requires bytes { MOST_SINGLE_FRAME ≤ frames.old.byte_room }
     ensures texts { frames.new.texts ≡ frames.old.texts ++ map posted (telling_from log.now.log to slot 1) }
     ensures fits { AreMessages (telling_from log.now.log to slot 1) }
-    ensures grows { Grows frames.old frames.new 1 46 }
+    ensures grows { Grows frames.old frames.new 1 MOST_SINGLE_FRAME }
 {
     match log.get(slot) {
         None => return,
@@ -70,10 +71,10 @@ pub(crate) fn tell(frames: &mut Texts<u8>, to: u8, log: &SlotLog, slot: u32, slo
     requires slots { slot + slots ≤ SLOTS }
     requires commands { (one : ℕ) (command : Order) → known_at log.now.log one ≡ Some command → IsInRange command }
     requires texts { slots ≤ frames.old.text_room }
-    requires bytes { 46 * slots ≤ frames.old.byte_room }
+    requires bytes { MOST_SINGLE_FRAME * slots ≤ frames.old.byte_room }
     ensures texts { frames.new.texts ≡ frames.old.texts ++ map posted (telling_from log.now.log to slot slots) }
     ensures fits { AreMessages (telling_from log.now.log to slot slots) }
-    ensures grows { Grows frames.old frames.new slots (46 * slots) }
+    ensures grows { Grows frames.old frames.new slots (MOST_SINGLE_FRAME * slots) }
 {
     for step in 0..slots {
         tell_slot(frames, to, log, slot + step);

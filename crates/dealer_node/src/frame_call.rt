@@ -54,7 +54,7 @@ impl<D: Disk + Drop> Up<D> {
         requires at { IsAt post.now self.old.running }
         requires from { from < post.now.nodes }
         requires message { IsMessage message.now }
-        requires room { HasCallRoom self.old made.old (frame_need self.old.running) 2 }
+        requires room { HasCallRoom self.old made.old (frame_need self.old.running) COMMANDS_OF_A_CALL }
         ensures works { (s : Standing) → IsTrue D.is_honest → IsUp D.Disk post.now self.old s
             → Works D.Disk post.now s (on_message (place_at post.now) from message.now s) self.old self.new (told_by made.old) (told_by made.new) result }
         ensures goes_on { GoesOn D.Disk self.old self.new result }

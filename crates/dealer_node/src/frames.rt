@@ -2,10 +2,12 @@
 
 ghost use Rattle.std.specs.Prelude.{◌≡◌, ℕ, ◌+◌, ◌≤◌, ◌<◌, IsTrue, OnOk};
 ghost use Rattle.paxos_wire.specs.Fits.{IsMessage};
+ghost use Rattle.paxos_wire.specs.declared.limits.TheConstants.{MOST_SINGLE_FRAME};
 ghost use Rattle.node_rules.specs.Standings.{Standing};
 ghost use Rattle.node_rules.specs.Rules.{taking, asking, on_message};
 ghost use Rattle.dealer_node.specs.Posts.{place_at};
 ghost use Rattle.dealer_node.specs.Outs.{told_by};
+ghost use Rattle.dealer_node.specs.declared.limits.TheConstants.{COMMANDS_OF_A_CALL, FRAMES_OF_AN_ANSWER, FRAME_BYTES_OF_AN_ANSWER, FRAMES_OF_A_MESSAGE, FRAME_BYTES_OF_A_MESSAGE};
 ghost use Rattle.dealer_node.specs.Rooms.{Grows};
 ghost use Rattle.dealer_node.specs.declared.made.Need.{Need as Needs};
 ghost use Rattle.dealer_node.specs.Running.{IsRunning, IsTaken, IsAt, CanLearn};
@@ -23,9 +25,9 @@ use promise_store::Disk;
 fn ask(running: &Running, post: &Post, from: u8, message: &Message, made: &mut Made)
     requires message { IsMessage message.now }
     requires frames { 1 ≤ made.old.frames.text_room }
-    requires frame_bytes { 46 ≤ made.old.frames.byte_room }
+    requires frame_bytes { MOST_SINGLE_FRAME ≤ made.old.frames.byte_room }
     ensures taken { (s : Standing) → IsRunning post.now running.now s → IsTaken post.now running.now (told_by made.old) (told_by made.new) (asking from message.now s) }
-    ensures frames { Grows made.old.frames made.new.frames 1 46 }
+    ensures frames { Grows made.old.frames made.new.frames 1 MOST_SINGLE_FRAME }
     ensures rest { made.new ≡ record made.old { frames = made.new.frames } }
 {
     match message {
@@ -56,15 +58,15 @@ impl<D: Disk + Drop> Up<D> {
         requires message { IsMessage message.now }
         requires store { 1 ≤ store_room self.old }
         requires learn { CanLearn self.old.running made.old 1 }
-        requires texts { 64 ≤ made.old.frames.text_room }
-        requires bytes { 2944 ≤ made.old.frames.byte_room }
+        requires texts { FRAMES_OF_AN_ANSWER ≤ made.old.frames.text_room }
+        requires bytes { FRAME_BYTES_OF_AN_ANSWER ≤ made.old.frames.byte_room }
         ensures works { (s : Standing) → IsTrue D.is_honest → IsUp D.Disk post.now self.old s
             → Works D.Disk post.now s (taking (place_at post.now) from message.now s) self.old self.new (told_by made.old) (told_by made.new) result }
         ensures goes_on { GoesOn D.Disk self.old self.new result }
         ensures only { IsOfPart result }
         ensures at { IsAt post.now self.new.running }
         ensures room { store_room self.old ≤ store_room self.new + 1 }
-        ensures left { (need : Needs) (votes frames : ℕ) → HasLeft self.old.running made.old need (votes + 1) (frames + 64) → HasLeft self.new.running made.new need votes frames }
+        ensures left { (need : Needs) (votes frames : ℕ) → HasLeft self.old.running made.old need (votes + 1) (frames + FRAMES_OF_AN_ANSWER) → HasLeft self.new.running made.new need votes frames }
     {
         match message {
             Message::Prepare { ballot, slot } => self.prepare(post, from, *ballot, *slot, made),
@@ -93,16 +95,16 @@ impl<D: Disk + Drop> Up<D> {
         requires at { IsAt post.now self.old.running }
         requires from { from < post.now.nodes }
         requires message { IsMessage message.now }
-        requires store { 2 ≤ store_room self.old }
-        requires learn { CanLearn self.old.running made.old 2 }
-        requires texts { 75 ≤ made.old.frames.text_room }
-        requires bytes { 3450 ≤ made.old.frames.byte_room }
+        requires store { COMMANDS_OF_A_CALL ≤ store_room self.old }
+        requires learn { CanLearn self.old.running made.old COMMANDS_OF_A_CALL }
+        requires texts { FRAMES_OF_A_MESSAGE ≤ made.old.frames.text_room }
+        requires bytes { FRAME_BYTES_OF_A_MESSAGE ≤ made.old.frames.byte_room }
         ensures works { (s : Standing) → IsTrue D.is_honest → IsUp D.Disk post.now self.old s
             → Works D.Disk post.now s (on_message (place_at post.now) from message.now s) self.old self.new (told_by made.old) (told_by made.new) result }
         ensures goes_on { GoesOn D.Disk self.old self.new result }
         ensures only { IsOfPart result }
         ensures at { IsAt post.now self.new.running }
-        ensures left { (need : Needs) → HasLeft self.old.running made.old need 2 75 → OnOk result (HasLeft self.new.running made.new need 0 0) }
+        ensures left { (need : Needs) → HasLeft self.old.running made.old need COMMANDS_OF_A_CALL FRAMES_OF_A_MESSAGE → OnOk result (HasLeft self.new.running made.new need 0 0) }
     {
         self.running.see(message);
         match self.take(post, from, message, made) {

@@ -2,6 +2,7 @@ ghost use Rattle.std.specs.Prelude.{◌≡◌, ◌+◌, ◌*◌, ◌≤◌, ◌<
 ghost use Rattle.std.specs.Option.{ForSome};
 ghost use Rattle.slot_log.specs.Dealer.{reason_of};
 ghost use Rattle.paxos_wire.specs.Fits.{MayGoOn, IsInRange};
+ghost use Rattle.paxos_wire.specs.declared.limits.TheConstants.{MOST_SINGLE_FRAME};
 ghost use Rattle.paxos_wire.specs.declared.message.Message.TheVariants.{Forward as Forwarding};
 ghost use Rattle.seat_session.specs.Feeds.{line_feeds};
 ghost use Rattle.seat_session.specs.Session.{is_closed};
@@ -49,10 +50,10 @@ fn forward(frames: &mut Texts<u8>, post: &Post, promised: Ballot, act: &Command)
     requires act { MayGoOn act.now }
     requires numbers { IsInRange act.now }
     requires texts { 1 ≤ frames.old.text_room }
-    requires bytes { 46 ≤ frames.old.byte_room }
+    requires bytes { MOST_SINGLE_FRAME ≤ frames.old.byte_room }
     ensures texts { frames.new.texts ≡ frames.old.texts ++ map posted (if is_others (place_at post.now) promised then one promised.node (Forwarding act.now) else []) }
     ensures fits { AreMessages (if is_others (place_at post.now) promised then one promised.node (Forwarding act.now) else []) }
-    ensures grows { Grows frames.old frames.new 1 46 }
+    ensures grows { Grows frames.old frames.new 1 MOST_SINGLE_FRAME }
 {
     if is_others(post, promised) {
         let message = Message::Forward { command: *act };
@@ -98,9 +99,9 @@ pub(crate) fn take_act(
 )
     requires act { IsForwardable (Ok (SaidAct act.now)) }
     requires texts { 1 ≤ made.old.frames.text_room }
-    requires bytes { 46 ≤ made.old.frames.byte_room }
+    requires bytes { MOST_SINGLE_FRAME ≤ made.old.frames.byte_room }
     ensures taken { TakesAct (place_at post.now) table.now promised act.now pending.old pending.new (told_by made.old) (told_by made.new) }
-    ensures frames { Grows made.old.frames made.new.frames 1 46 }
+    ensures frames { Grows made.old.frames made.new.frames 1 MOST_SINGLE_FRAME }
     ensures rest { made.new ≡ record made.old { frames = made.new.frames } }
     ensures act { IfSome pending.old (λ command. IsInRange command) → IfSome pending.new (λ command. IsInRange command) }
 {
@@ -140,11 +141,11 @@ fn take_said(
     requires seat { seat < table.now.game.players }
     requires act { IsForwardable (Ok said.now) }
     requires frames { 1 ≤ made.old.frames.text_room }
-    requires frame_bytes { 46 ≤ made.old.frames.byte_room }
+    requires frame_bytes { MOST_SINGLE_FRAME ≤ made.old.frames.byte_room }
     requires texts { said.now ≡ SaidReady → 1 ≤ made.old.shown.text_room }
     requires text_bytes { said.now ≡ SaidReady → 4096 ≤ made.old.shown.byte_room }
     ensures taken { TakesAnswer (place_at post.now) table.now promised seat (Ok said.now) pending.old pending.new (told_by made.old) (told_by made.new) }
-    ensures frames { Grows made.old.frames made.new.frames 1 46 }
+    ensures frames { Grows made.old.frames made.new.frames 1 MOST_SINGLE_FRAME }
     ensures shown { Grows made.old.shown made.new.shown 1 4096 }
     ensures still { (said.now ≡ SaidReady → ⊥) → made.new.shown ≡ made.old.shown }
     ensures faults { made.new.faults ≡ made.old.faults }
@@ -170,12 +171,12 @@ fn take_answer(
     requires seat { seat < table.now.game.players }
     requires act { IsForwardable said.now }
     requires frames { 1 ≤ made.old.frames.text_room }
-    requires frame_bytes { 46 ≤ made.old.frames.byte_room }
+    requires frame_bytes { MOST_SINGLE_FRAME ≤ made.old.frames.byte_room }
     requires texts { said.now ≡ Ok SaidReady → 1 ≤ made.old.shown.text_room }
     requires text_bytes { said.now ≡ Ok SaidReady → 4096 ≤ made.old.shown.byte_room }
     requires faults { vec_len made.old.faults < vec_capacity made.old.faults }
     ensures taken { TakesAnswer (place_at post.now) table.now promised seat said.now pending.old pending.new (told_by made.old) (told_by made.new) }
-    ensures frames { Grows made.old.frames made.new.frames 1 46 }
+    ensures frames { Grows made.old.frames made.new.frames 1 MOST_SINGLE_FRAME }
     ensures shown { Grows made.old.shown made.new.shown 1 4096 }
     ensures still { (said.now ≡ Ok SaidReady → ⊥) → made.new.shown ≡ made.old.shown }
     ensures faults { Tells made.old made.new 1 }
@@ -202,13 +203,13 @@ fn drain(
     requires stays { is_closed session.old.standing.phase ≡ false }
     requires limit { line_feeds session.old.standing.waiting < limit }
     requires frames { limit ≤ made.old.frames.text_room }
-    requires frame_bytes { 46 * limit ≤ made.old.frames.byte_room }
+    requires frame_bytes { MOST_SINGLE_FRAME * limit ≤ made.old.frames.byte_room }
     requires texts { 1 ≤ made.old.shown.text_room }
     requires text_bytes { 4096 ≤ made.old.shown.byte_room }
     requires faults { vec_len made.old.faults + limit ≤ vec_capacity made.old.faults }
     ensures hears { Hears (place_at post.now) table.now promised session.old.seat session.old.standing session.new.standing pending.old pending.new (told_by made.old) (told_by made.new) }
     ensures seat { session.new.seat ≡ session.old.seat }
-    ensures frames { Grows made.old.frames made.new.frames limit (46 * limit) }
+    ensures frames { Grows made.old.frames made.new.frames limit (MOST_SINGLE_FRAME * limit) }
     ensures shown { Grows made.old.shown made.new.shown 1 4096 }
     ensures faults { Tells made.old made.new limit }
     ensures act { IfSome pending.old (λ command. IsInRange command) → IfSome pending.new (λ command. IsInRange command) }
@@ -244,14 +245,14 @@ pub(crate) fn hear(
     requires seat { seat < table.now.game.players }
     requires session { ForSome session (λ s. CanHear seat piece.now limit s) }
     requires frames { limit ≤ made.old.frames.text_room }
-    requires frame_bytes { 46 * limit ≤ made.old.frames.byte_room }
+    requires frame_bytes { MOST_SINGLE_FRAME * limit ≤ made.old.frames.byte_room }
     requires texts { 1 ≤ made.old.shown.text_room }
     requires text_bytes { 4096 ≤ made.old.shown.byte_room }
     requires faults { vec_len made.old.faults + limit ≤ vec_capacity made.old.faults }
     ensures hears { HearsPiece (place_at post.now) table.now promised seat piece.now session result pending.old pending.new (told_by made.old) (told_by made.new) }
     ensures own { IfSome result (λ s. s.seat ≡ seat) }
     ensures stays { IfSome result (λ s. is_closed s.standing.phase ≡ false) }
-    ensures frames { Grows made.old.frames made.new.frames limit (46 * limit) }
+    ensures frames { Grows made.old.frames made.new.frames limit (MOST_SINGLE_FRAME * limit) }
     ensures shown { Grows made.old.shown made.new.shown 1 4096 }
     ensures faults { Tells made.old made.new limit }
     ensures act { IfSome pending.old (λ command. IsInRange command) → IfSome pending.new (λ command. IsInRange command) }

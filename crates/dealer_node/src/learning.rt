@@ -1,5 +1,6 @@
 ghost use Rattle.std.specs.Prelude.{◌≡◌, ◌+◌, ◌-◌, ◌*◌, ◌≤◌, ◌<◌, List, length, drop, reverse, OnOk, OnErr, IsOk, IsErr, Err, IfSome};
 ghost use Rattle.paxos_wire.specs.Fits.{IsInRange, IsSlot};
+ghost use Rattle.paxos_wire.specs.declared.limits.TheConstants.{MOST_SINGLE_FRAME};
 ghost use Rattle.slot_log.specs.Slots.{front};
 ghost use Rattle.learner.specs.Learning.{answer_to, hearing, answer_to_chosen, believing as with_chosen};
 ghost use Rattle.node_rules.specs.Standings.{Standing};
@@ -8,6 +9,7 @@ ghost use Rattle.node_rules.specs.Turns.{Conflict as Conflicting};
 ghost use Rattle.node_rules.specs.Learning.{learning, counting_vote, asking_on, believing, telling, asking_above};
 ghost use Rattle.dealer_node.specs.declared.reader.Reader.{Reader as Reads};
 ghost use Rattle.dealer_node.specs.Texts.{Marked};
+ghost use Rattle.dealer_node.specs.declared.limits.TheConstants.{FRAMES_OF_AN_ANSWER, FRAME_BYTES_OF_AN_ANSWER};
 ghost use Rattle.dealer_node.specs.Scenes.{IsScene};
 ghost use Rattle.dealer_node.specs.Posts.{place_at};
 ghost use Rattle.dealer_node.specs.Outs.{told_by};
@@ -173,9 +175,9 @@ impl Running {
     /// Asks a node for more where the front came from a slot to a multiple of 64 at which there is a slot.
     fn ask_on(&self, post: &Post, from: u8, before: u32, made: &mut Made)
         requires frames { 1 ≤ made.old.frames.text_room }
-        requires frame_bytes { 46 ≤ made.old.frames.byte_room }
+        requires frame_bytes { MOST_SINGLE_FRAME ≤ made.old.frames.byte_room }
         ensures taken { (s : Standing) → IsRunning post.now self.now s → IsTaken post.now self.now (told_by made.old) (told_by made.new) (asking_on from before s) }
-        ensures frames { Grows made.old.frames made.new.frames 1 46 }
+        ensures frames { Grows made.old.frames made.new.frames 1 MOST_SINGLE_FRAME }
         ensures rest { made.new ≡ record made.old { frames = made.new.frames } }
     {
         let _ = post;
@@ -199,14 +201,14 @@ impl Running {
         requires command { IsInRange command }
         requires room { CanLearn self.old made.old 1 }
         requires frames { 1 ≤ made.old.frames.text_room }
-        requires frame_bytes { 46 ≤ made.old.frames.byte_room }
+        requires frame_bytes { MOST_SINGLE_FRAME ≤ made.old.frames.byte_room }
         ensures ok { OnOk result ((s : Standing) → IsRunning post.now self.old s
             → TakesTurn post.now self.new (told_by made.old) (told_by made.new) (believing (place_at post.now) from slot command s)) }
         ensures err { OnErr result ((s : Standing) → IsRunning post.now self.old s
             → believing (place_at post.now) from slot command s ≡ Err (Conflicting s.store)) }
         ensures at { IsAt post.now self.new }
         ensures learns { Learns self.old self.new made.old made.new }
-        ensures frames { Grows made.old.frames made.new.frames 1 46 }
+        ensures frames { Grows made.old.frames made.new.frames 1 MOST_SINGLE_FRAME }
         ensures rest { made.new ≡ record made.old { frames = made.new.frames; shown = made.new.shown } }
     {
         let before = self.front();
@@ -219,10 +221,10 @@ impl Running {
     pub(crate) fn tell(&self, post: &Post, from: u8, slot: u32, made: &mut Made)
         requires at { IsAt post.now self.now }
         requires slot { IsSlot slot }
-        requires frames { 64 ≤ made.old.frames.text_room }
-        requires frame_bytes { 2944 ≤ made.old.frames.byte_room }
+        requires frames { FRAMES_OF_AN_ANSWER ≤ made.old.frames.text_room }
+        requires frame_bytes { FRAME_BYTES_OF_AN_ANSWER ≤ made.old.frames.byte_room }
         ensures taken { (s : Standing) → IsRunning post.now self.now s → IsTaken post.now self.now (told_by made.old) (told_by made.new) (telling from slot s) }
-        ensures frames { Grows made.old.frames made.new.frames 64 2944 }
+        ensures frames { Grows made.old.frames made.new.frames FRAMES_OF_AN_ANSWER FRAME_BYTES_OF_AN_ANSWER }
         ensures rest { made.new ≡ record made.old { frames = made.new.frames } }
     {
         let _ = post;
@@ -234,9 +236,9 @@ impl Running {
     pub(crate) fn ask_above(&self, post: &Post, from: u8, slot: u32, made: &mut Made)
         requires slot { IsSlot slot }
         requires frames { 1 ≤ made.old.frames.text_room }
-        requires frame_bytes { 46 ≤ made.old.frames.byte_room }
+        requires frame_bytes { MOST_SINGLE_FRAME ≤ made.old.frames.byte_room }
         ensures taken { (s : Standing) → IsRunning post.now self.now s → IsTaken post.now self.now (told_by made.old) (told_by made.new) (asking_above from slot s) }
-        ensures frames { Grows made.old.frames made.new.frames 1 46 }
+        ensures frames { Grows made.old.frames made.new.frames 1 MOST_SINGLE_FRAME }
         ensures rest { made.new ≡ record made.old { frames = made.new.frames } }
     {
         let _ = post;

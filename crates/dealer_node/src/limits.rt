@@ -1,22 +1,40 @@
 //! The most that parts of a call make, by the limits of frames, lines and logs.
+//!
+//! Frames of one command at most are counted, each as the longest of them (`MOST_SINGLE_FRAME`), so that the room of two
+//! parts of a call is the sum of theirs. Contracts and definitions name these numbers, so another count of nodes or
+//! another longest frame is changed where it stands, in `paxos_wire`, and nowhere here.
 
 use card_core::limits::PLAYERS;
 use match_log::MOST_FURTHER;
 use matchstate::MOST_LINE;
 use paxos_wire::limits::{MOST_SINGLE_FRAME, NODES, WINDOW};
 
-/// The most frames of one message to all nodes.
+/// The most frames of one message to all nodes: one to each but the sender, which is counted with them.
 pub(crate) const FRAMES_TO_ALL: usize = NODES as usize;
 
 /// The most bytes of these frames.
 pub(crate) const FRAME_BYTES_TO_ALL: usize = FRAMES_TO_ALL * MOST_SINGLE_FRAME;
 
-/// The most frames that the close of a call makes: two messages to all nodes.
+/// The most frames that the close of a call makes: two messages to all nodes, a proposal and the node's own vote for it.
 pub(crate) const FRAMES_OF_A_CLOSE: usize = 2 * FRAMES_TO_ALL;
 
-/// The most frames that a call makes by a message of another node: one for each slot that an Ask is answered with,
-/// those of the close, and a question.
-pub(crate) const FRAMES_OF_A_MESSAGE: usize = WINDOW + FRAMES_OF_A_CLOSE + 1;
+/// The most bytes of these frames.
+pub(crate) const FRAME_BYTES_OF_A_CLOSE: usize = FRAMES_OF_A_CLOSE * MOST_SINGLE_FRAME;
+
+/// The most frames that a message of another node is answered with: one for each slot that an Ask is told of. What
+/// other messages are answered with has room in it: a vote to all nodes is fewer frames, and a Promise, which tells of as
+/// many slots in one frame, has fewer bytes.
+pub(crate) const FRAMES_OF_AN_ANSWER: usize = WINDOW;
+
+/// The most bytes of these frames.
+pub(crate) const FRAME_BYTES_OF_AN_ANSWER: usize = FRAMES_OF_AN_ANSWER * MOST_SINGLE_FRAME;
+
+/// The most frames that a call makes by a message of another node: what it is answered with, those of the close, and a
+/// question.
+pub(crate) const FRAMES_OF_A_MESSAGE: usize = FRAMES_OF_AN_ANSWER + FRAMES_OF_A_CLOSE + 1;
+
+/// The most bytes of these frames.
+pub(crate) const FRAME_BYTES_OF_A_MESSAGE: usize = FRAMES_OF_A_MESSAGE * MOST_SINGLE_FRAME;
 
 /// The most commands that a call learns: one that a message tells, or that it completes a majority for, and one that the
 /// close proposes.

@@ -56,7 +56,7 @@ impl<D: Disk + Drop> Up<D> {
         ensures heard { (s : Standing) → IsTrue D.is_honest → IsUp D.Disk post.now self.old s
             → HearsLine D.Disk post.now s seat piece.now self.old self.new (told_by made.old) (told_by made.new) }
         ensures at { IsAt post.now self.new.running }
-        ensures frames { Grows made.old.frames made.new.frames limit (46 * limit) }
+        ensures frames { Grows made.old.frames made.new.frames limit (MOST_SINGLE_FRAME * limit) }
         ensures shown { Grows made.old.shown made.new.shown 1 4096 }
         ensures faults { Tells made.old made.new limit }
         ensures rest { self.new ≡ record self.old { running = record self.old.running { pending = self.new.running.pending; seats = self.new.running.seats } } }

@@ -6,6 +6,7 @@ ghost use Rattle.node_rules.specs.Rules.{taking};
 ghost use Rattle.dealer_node.specs.declared.made.Need.{Need as Needs};
 ghost use Rattle.dealer_node.specs.Posts.{place_at};
 ghost use Rattle.dealer_node.specs.Outs.{told_by};
+ghost use Rattle.dealer_node.specs.declared.limits.TheConstants.{FRAMES_OF_AN_ANSWER, FRAME_BYTES_OF_AN_ANSWER};
 ghost use Rattle.dealer_node.specs.Rooms.{Grows};
 ghost use Rattle.dealer_node.specs.Running.{IsRunning, IsAt, CanLearn, Learns};
 ghost use Rattle.dealer_node.specs.Memory.{IsOfMemory, TakesInMemory};
@@ -35,15 +36,15 @@ impl Running {
         requires message { IsMessage message.now }
         requires memory { IsOfMemory message.now }
         requires learn { CanLearn self.old made.old 1 }
-        requires texts { 64 ≤ made.old.frames.text_room }
-        requires bytes { 2944 ≤ made.old.frames.byte_room }
+        requires texts { FRAMES_OF_AN_ANSWER ≤ made.old.frames.text_room }
+        requires bytes { FRAME_BYTES_OF_AN_ANSWER ≤ made.old.frames.byte_room }
         ensures ok { OnOk result ((s : Standing) → IsRunning post.now self.old s
             → TakesInMemory post.now self.new (told_by made.old) (told_by made.new) s (taking (place_at post.now) from message.now s)) }
         ensures err { OnErr result ((s : Standing) → IsRunning post.now self.old s
             → taking (place_at post.now) from message.now s ≡ Err (Conflicting s.store)) }
         ensures at { IsAt post.now self.new }
         ensures learns { Learns self.old self.new made.old made.new }
-        ensures frames { Grows made.old.frames made.new.frames 64 2944 }
+        ensures frames { Grows made.old.frames made.new.frames FRAMES_OF_AN_ANSWER FRAME_BYTES_OF_AN_ANSWER }
         ensures faults { made.new.faults ≡ made.old.faults }
     {
         match message {
@@ -94,15 +95,15 @@ impl<D: Disk + Drop> Up<D> {
         requires message { IsMessage message.now }
         requires memory { IsOfMemory message.now }
         requires learn { CanLearn self.old.running made.old 1 }
-        requires texts { 64 ≤ made.old.frames.text_room }
-        requires bytes { 2944 ≤ made.old.frames.byte_room }
+        requires texts { FRAMES_OF_AN_ANSWER ≤ made.old.frames.text_room }
+        requires bytes { FRAME_BYTES_OF_AN_ANSWER ≤ made.old.frames.byte_room }
         ensures works { (s : Standing) → IsTrue D.is_honest → IsUp D.Disk post.now self.old s
             → Works D.Disk post.now s (taking (place_at post.now) from message.now s) self.old self.new (told_by made.old) (told_by made.new) result }
         ensures goes_on { GoesOn D.Disk self.old self.new result }
         ensures only { IsOfPart result }
         ensures same { self.new.acceptor ≡ self.old.acceptor }
         ensures at { IsAt post.now self.new.running }
-        ensures left { (need : Needs) (votes frames : ℕ) → HasLeft self.old.running made.old need (votes + 1) (frames + 64) → HasLeft self.new.running made.new need votes frames }
+        ensures left { (need : Needs) (votes frames : ℕ) → HasLeft self.old.running made.old need (votes + 1) (frames + FRAMES_OF_AN_ANSWER) → HasLeft self.new.running made.new need votes frames }
     {
         match self.running.take(post, from, message, made) {
             Ok(()) => Ok(()),

@@ -1,4 +1,5 @@
 ghost use Rattle.std.specs.Prelude.{◌≡◌, ℕ, ◌<◌, ◌≤◌, length, slice_get, IfOk};
+ghost use Rattle.paxos_wire.specs.declared.limits.TheConstants.{NODES};
 ghost use Rattle.node_rules.specs.Standings.{deals_from};
 ghost use Rattle.dealer_kind.specs.Sources.{HasDeals, deal_of};
 ghost use Rattle.match_log.specs.Names.{IsName, IsGameWord};
@@ -87,7 +88,7 @@ impl Post {
         })
     }
 
-    /// What holds of every post: the match is within its limits, and the node is one of three or five.
+    /// What holds of every post: the match is within its limits, and the node is one of its nodes.
     pub(crate) fn limits(&self)
         ensures { IsPost self.now }
     {
@@ -132,11 +133,11 @@ impl Post {
         self.hands
     }
 
-    /// How many nodes there are, 3 or 5.
+    /// How many nodes there are.
     pub(crate) fn nodes(&self) -> u8
         ensures value { result ≡ self.now.nodes }
         ensures least { 3 ≤ result }
-        ensures most { result ≤ 5 }
+        ensures most { result ≤ NODES }
     {
         self.nodes
     }

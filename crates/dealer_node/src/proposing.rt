@@ -2,7 +2,7 @@ ghost use Rattle.std.specs.Prelude.{◌≡◌, ◌*◌, ◌≤◌, ◌<◌, true
 ghost use Rattle.std.specs.List.{AllByRecursion};
 ghost use Rattle.paxos_wire.specs.Fits.{Fits, IsEntry};
 ghost use Rattle.paxos_wire.specs.declared.message.Message.TheVariants.{Accept as Accepting};
-ghost use Rattle.paxos_wire.specs.declared.limits.TheConstants.{SLOTS};
+ghost use Rattle.paxos_wire.specs.declared.limits.TheConstants.{SLOTS, MOST_SINGLE_FRAME};
 ghost use Rattle.slot_log.specs.Slots.{front};
 ghost use Rattle.proposer.specs.Campaigns.{next_ballot, leads};
 ghost use Rattle.node_rules.specs.Standings.{Standing, idle, front_of};
@@ -52,12 +52,12 @@ impl Running {
         requires unspent { is_spent_at self.old promised ≡ false }
         requires told { AllByRecursion IsEntry told.now }
         requires frames { post.now.nodes ≤ made.old.frames.text_room }
-        requires frame_bytes { 46 * post.now.nodes ≤ made.old.frames.byte_room }
+        requires frame_bytes { MOST_SINGLE_FRAME * post.now.nodes ≤ made.old.frames.byte_room }
         ensures ballot { result ≡ next_ballot post.now.node (higher self.old.seen promised) }
         ensures taken { (s : Standing) → IsRunning post.now self.old s → told.now ≡ told_by_store s.store (front_of s)
             → IsTaken post.now self.new (told_by made.old) (told_by made.new) (beginning (place_at post.now) result s) }
         ensures at { IsAt post.now self.new }
-        ensures frames { Grows made.old.frames made.new.frames post.now.nodes (46 * post.now.nodes) }
+        ensures frames { Grows made.old.frames made.new.frames post.now.nodes (MOST_SINGLE_FRAME * post.now.nodes) }
         ensures rest { made.new ≡ record made.old { frames = made.new.frames } }
         ensures same { self.new ≡ record self.old { proposer = self.new.proposer } }
     {

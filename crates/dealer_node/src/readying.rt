@@ -1,6 +1,7 @@
 //! All room that a call of a node needs, made before anything changes.
 
 ghost use Rattle.std.specs.Prelude.{◌≡◌, ◌+◌, ◌≤◌, IfOk, OnOk};
+ghost use Rattle.paxos_wire.specs.declared.limits.TheConstants.{WINDOW};
 ghost use Rattle.dealer_node.specs.Outs.{told_by, nothing_told, HasRoom};
 ghost use Rattle.dealer_node.specs.Posts.{Post as Station};
 ghost use Rattle.dealer_node.specs.Running.{IsAt, ahead_of};
@@ -16,7 +17,7 @@ impl<D: Disk + Drop> Up<D> {
 
     /// Makes room to learn of so many commands more, and for as many votes in the store. An `Err` changes room alone.
     fn reserve(&mut self, commands: usize) -> Result<(), AllocError>
-        requires { commands ≤ 64 }
+        requires { commands ≤ WINDOW }
         ensures unmoved { Unmoved D.Disk self.old self.new }
         ensures at { (post : Station) → IsAt post self.old.running → IsAt post self.new.running }
         ensures seats { self.new.running.seats ≡ self.old.running.seats }
@@ -40,7 +41,7 @@ impl<D: Disk + Drop> Up<D> {
         need: &Need,
         out: &mut Made,
     ) -> Result<Made, AllocError>
-        requires { commands ≤ 64 }
+        requires { commands ≤ WINDOW }
         ensures unmoved { Unmoved D.Disk self.old self.new }
         ensures at { (post : Station) → IsAt post self.old.running → IsAt post self.new.running }
         ensures seats { self.new.running.seats ≡ self.old.running.seats }

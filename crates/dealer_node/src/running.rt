@@ -1,5 +1,5 @@
 ghost use Rattle.std.specs.Prelude.{◌≡◌, ◌+◌, ◌*◌, ◌≤◌, ◌<◌, length, Ok, IfOk, IfSome, OnOk, vec_len, vec_capacity};
-ghost use Rattle.paxos_wire.specs.declared.limits.TheConstants.{SLOTS};
+ghost use Rattle.paxos_wire.specs.declared.limits.TheConstants.{SLOTS, WINDOW};
 ghost use Rattle.slot_log.specs.Slots.{front};
 ghost use Rattle.protocol_model.specs.Stores.{Store};
 ghost use Rattle.node_rules.specs.Standings.{Standing, started};
@@ -9,6 +9,7 @@ ghost use Rattle.node_rules.specs.Seats.{session_at, connecting, dropping, pendi
 ghost use Rattle.node_rules.specs.Showing.{is_connected as is_talk_ready};
 ghost use Rattle.dealer_node.specs.Posts.{Post as Station, place_at};
 ghost use Rattle.dealer_node.specs.Outs.{told_by};
+ghost use Rattle.dealer_node.specs.declared.limits.TheConstants.{FRAMES_OF_A_MESSAGE};
 ghost use Rattle.dealer_node.specs.Rooms.{Grows, Tells};
 ghost use Rattle.dealer_node.specs.Seated.{feeds_with, HasRoomAt};
 ghost use Rattle.seat_session.specs.declared.said.Said.TheVariants.{Act as SaidAct};
@@ -109,7 +110,7 @@ impl Running {
 
     /// How many commands are applied at most once so many more are known.
     pub(crate) fn most_applied(&self, commands: usize) -> usize
-        requires { commands ≤ 64 }
+        requires { commands ≤ WINDOW }
         ensures value { result ≡ ahead_of self.now + commands }
         ensures most { result ≤ SLOTS + commands }
     {
@@ -125,8 +126,8 @@ impl Running {
 
     /// What a call makes at most that learns so many commands and sends so many frames.
     pub(crate) fn need(&self, commands: usize, frames: usize) -> Need
-        requires commands { commands ≤ 64 }
-        requires frames { frames ≤ 75 }
+        requires commands { commands ≤ WINDOW }
+        requires frames { frames ≤ FRAMES_OF_A_MESSAGE }
         ensures { result ≡ need_of self.now commands frames }
     {
         let applied = self.most_applied(commands);
@@ -141,7 +142,7 @@ impl Running {
 
     /// Makes room to learn of so many commands more. An `Err` changes room alone.
     pub(crate) fn reserve(&mut self, commands: usize) -> Result<(), AllocError>
-        requires { commands ≤ 64 }
+        requires { commands ≤ WINDOW }
         ensures same { (post : Station) (s : Standing) → IsRunning post self.old s → IsRunning post self.new s }
         ensures at { (post : Station) → IsAt post self.old → IsAt post self.new }
         ensures ahead { ahead_of self.new ≡ ahead_of self.old }
@@ -218,14 +219,14 @@ impl Running {
         requires room { HasRoomAt self.old.seats seat (length piece.now) }
         requires limit { feeds_with (session_at self.old.seats.talks seat) piece.now < limit }
         requires frames { limit ≤ made.old.frames.text_room }
-        requires frame_bytes { 46 * limit ≤ made.old.frames.byte_room }
+        requires frame_bytes { MOST_SINGLE_FRAME * limit ≤ made.old.frames.byte_room }
         requires texts { 1 ≤ made.old.shown.text_room }
         requires text_bytes { 4096 ≤ made.old.shown.byte_room }
         requires faults { vec_len made.old.faults + limit ≤ vec_capacity made.old.faults }
         ensures taken { (s : Standing) → IsRunning post.now self.old s → s.store.promise ≡ promised
             → TakesPiece post.now self.new (told_by made.old) (told_by made.new) seat piece.now s }
         ensures at { IsAt post.now self.new }
-        ensures frames { Grows made.old.frames made.new.frames limit (46 * limit) }
+        ensures frames { Grows made.old.frames made.new.frames limit (MOST_SINGLE_FRAME * limit) }
         ensures shown { Grows made.old.shown made.new.shown 1 4096 }
         ensures faults { Tells made.old made.new limit }
         ensures rest { self.new ≡ record self.old { pending = self.new.pending; seats = self.new.seats } }
@@ -248,11 +249,11 @@ impl Running {
         requires at { IsAt post.now self.old }
         requires act { IsForwardable (Ok (SaidAct act.now)) }
         requires texts { 1 ≤ made.old.frames.text_room }
-        requires bytes { 46 ≤ made.old.frames.byte_room }
+        requires bytes { MOST_SINGLE_FRAME ≤ made.old.frames.byte_room }
         ensures taken { (s : Standing) → IsRunning post.now self.old s → s.store.promise ≡ promised
             → IsTaken post.now self.new (told_by made.old) (told_by made.new) (sending (forwarding (place_at post.now) act.now s) (pending_act (place_at post.now) act.now s)) }
         ensures at { IsAt post.now self.new }
-        ensures frames { Grows made.old.frames made.new.frames 1 46 }
+        ensures frames { Grows made.old.frames made.new.frames 1 MOST_SINGLE_FRAME }
         ensures rest { made.new ≡ record made.old { frames = made.new.frames } }
         ensures same { self.new ≡ record self.old { pending = self.new.pending } }
     {

@@ -1,4 +1,5 @@
 ghost use Rattle.std.specs.Prelude.{◌≡◌, ◌+◌, ◌*◌, ◌≤◌, ◌<◌, length, replicate, None, Some, slice_set, IfOk, IfSome, OnOk, vec_len, vec_capacity};
+ghost use Rattle.paxos_wire.specs.declared.limits.TheConstants.{MOST_SINGLE_FRAME};
 ghost use Rattle.paxos_wire.specs.Fits.{IsInRange};
 ghost use Rattle.seat_session.specs.Session.{fresh};
 ghost use Rattle.node_rules.specs.Standings.{Standing};
@@ -136,14 +137,14 @@ impl Seats {
         requires room { HasRoomAt self.old seat (length piece.now) }
         requires limit { feeds_with (session_at self.old.talks seat) piece.now < limit }
         requires frames { limit ≤ made.old.frames.text_room }
-        requires frame_bytes { 46 * limit ≤ made.old.frames.byte_room }
+        requires frame_bytes { MOST_SINGLE_FRAME * limit ≤ made.old.frames.byte_room }
         requires texts { 1 ≤ made.old.shown.text_room }
         requires text_bytes { 4096 ≤ made.old.shown.byte_room }
         requires faults { vec_len made.old.faults + limit ≤ vec_capacity made.old.faults }
         ensures heard { (s : Standing) → IsSeatedAt (place_at post.now) self.old.talks table.now promised pending.old s
             → PieceTurn (place_at post.now) seat piece.now s table.now promised self.new.talks pending.new (told_by made.old) (told_by made.new) }
         ensures len { length self.new.talks ≡ length self.old.talks }
-        ensures frames { Grows made.old.frames made.new.frames limit (46 * limit) }
+        ensures frames { Grows made.old.frames made.new.frames limit (MOST_SINGLE_FRAME * limit) }
         ensures shown { Grows made.old.shown made.new.shown 1 4096 }
         ensures faults { Tells made.old made.new limit }
         ensures act { IfSome pending.old (λ command. IsInRange command) → IfSome pending.new (λ command. IsInRange command) }

@@ -1,4 +1,5 @@
 ghost use Rattle.std.specs.Prelude.{◌≡◌, ◌+◌, ◌*◌, ◌≤◌, ◌++◌, length, map};
+ghost use Rattle.paxos_wire.specs.declared.limits.TheConstants.{MOST_SINGLE_FRAME};
 ghost use Rattle.paxos_wire.specs.Fits.{Fits, IsSingle, IsMessage};
 ghost use Rattle.paxos_wire.specs.Spelling.{frame};
 ghost use Rattle.dealer_node.specs.Texts.{byte_total};
@@ -32,13 +33,13 @@ pub(crate) fn send_to_others(frames: &mut Texts<u8>, nodes: u8, number: u8, mess
     requires fits { Fits message.now }
     requires single { IsSingle message.now }
     requires texts { nodes ≤ frames.old.text_room }
-    requires bytes { 46 * nodes ≤ frames.old.byte_room }
+    requires bytes { MOST_SINGLE_FRAME * nodes ≤ frames.old.byte_room }
     ensures texts { frames.new.texts ≡ frames.old.texts ++ map posted (to_first nodes number message.now) }
     ensures fits { AreMessages (to_first nodes number message.now) }
     ensures text_room { frames.old.text_room ≤ frames.new.text_room + nodes }
-    ensures byte_room { frames.old.byte_room ≤ frames.new.byte_room + 46 * nodes }
+    ensures byte_room { frames.old.byte_room ≤ frames.new.byte_room + MOST_SINGLE_FRAME * nodes }
     ensures len { length frames.new.texts ≤ length frames.old.texts + nodes }
-    ensures size { byte_total frames.new.texts ≤ byte_total frames.old.texts + 46 * nodes }
+    ensures size { byte_total frames.new.texts ≤ byte_total frames.old.texts + MOST_SINGLE_FRAME * nodes }
 {
     let _len = frame_len(message);
     for to in 0..nodes {

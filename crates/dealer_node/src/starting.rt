@@ -69,7 +69,7 @@ fn greet(post: &Post, promised: Ballot, made: &mut Made)
     requires room { HasRoom made.old START }
     ensures told { (found : Kept) → promised ≡ found.promise → told_by made.new ≡ both_told (told_by made.old) (told_of (starting (place_at post.now) found)) }
     ensures fits { (found : Kept) → promised ≡ found.promise → AreMessages (asking_all (place_at post.now) found) }
-    ensures frames { Grows made.old.frames made.new.frames 5 230 }
+    ensures frames { Grows made.old.frames made.new.frames FRAMES_TO_ALL FRAME_BYTES_TO_ALL }
     ensures texts { length made.new.shown.texts ≤ length made.old.shown.texts + 1 }
     ensures text_bytes { byte_total made.new.shown.texts ≤ byte_total made.old.shown.texts + 263 }
     ensures faults { made.new.faults ≡ made.old.faults }
@@ -135,7 +135,7 @@ pub(crate) fn open<D: Disk + Drop>(
     ensures faults_err { IfErr result (λ x. IsOfStart x.1) }
     ensures finds { IsTrue D.is_honest → IfErr result (λ x. (why : Fault) → x.1 ≡ NodeFault.Store why → Refuses (head_of post.now) (D.seen disk) why) }
     ensures at { IfOk result (λ up. IsAt post.now up.running) }
-    ensures frames { Grows made.old.frames made.new.frames 5 230 }
+    ensures frames { Grows made.old.frames made.new.frames FRAMES_TO_ALL FRAME_BYTES_TO_ALL }
     ensures texts { length made.new.shown.texts ≤ length made.old.shown.texts + 1 }
     ensures text_bytes { byte_total made.new.shown.texts ≤ byte_total made.old.shown.texts + 263 }
     ensures faults { made.new.faults ≡ made.old.faults }

@@ -2,6 +2,7 @@
 
 ghost use Rattle.std.specs.Prelude.{◌≡◌, ℕ, ◌+◌, ◌*◌, ◌≤◌, false, IsTrue};
 ghost use Rattle.paxos_wire.specs.Fits.{Fits, IsBallot};
+ghost use Rattle.paxos_wire.specs.declared.limits.TheConstants.{MOST_SINGLE_FRAME};
 ghost use Rattle.paxos_wire.specs.declared.ballot.Ballot.{Ballot as Number};
 ghost use Rattle.proposer.specs.Campaigns.{next_ballot};
 ghost use Rattle.acceptor.specs.declared.answers.PrepareAnswer.TheVariants.{Promise as Promising};
@@ -11,6 +12,7 @@ ghost use Rattle.protocol_model.specs.Votes.{told_by as told_by_store};
 ghost use Rattle.node_rules.specs.Proposing.{higher, is_over, beginning, ticking, closing};
 ghost use Rattle.dealer_node.specs.Posts.{place_at};
 ghost use Rattle.dealer_node.specs.Outs.{told_by};
+ghost use Rattle.dealer_node.specs.declared.limits.TheConstants.{FRAMES_OF_A_CLOSE, FRAME_BYTES_OF_A_CLOSE};
 ghost use Rattle.dealer_node.specs.Rooms.{Grows};
 ghost use Rattle.dealer_node.specs.Answering.{message_of};
 ghost use Rattle.dealer_node.specs.Running.{IsRunning, IsTaken, IsAt, is_spent_at};
@@ -53,11 +55,11 @@ fn begin_promised(
     requires unspent { is_spent_at running.old promised ≡ false }
     requires told { Fits (message_of answer.now) }
     requires frames { post.now.nodes ≤ made.old.frames.text_room }
-    requires frame_bytes { 46 * post.now.nodes ≤ made.old.frames.byte_room }
+    requires frame_bytes { MOST_SINGLE_FRAME * post.now.nodes ≤ made.old.frames.byte_room }
     ensures taken { (s : Standing) (ballot : Number) (slot : ℕ) → IsRunning post.now running.old s → answer.now ≡ Promising ballot slot (told_by_store s.store (front_of s))
         → IsTaken post.now running.new (told_by made.old) (told_by made.new) (beginning (place_at post.now) (next_ballot post.now.node (higher running.old.seen promised)) s) }
     ensures at { IsAt post.now running.new }
-    ensures frames { Grows made.old.frames made.new.frames post.now.nodes (46 * post.now.nodes) }
+    ensures frames { Grows made.old.frames made.new.frames post.now.nodes (MOST_SINGLE_FRAME * post.now.nodes) }
     ensures rest { made.new ≡ record made.old { frames = made.new.frames } }
     ensures same { running.new ≡ record running.old { proposer = running.new.proposer } }
 {
@@ -81,14 +83,14 @@ impl<D: Disk + Drop> Up<D> {
     ) -> Result<(), NodeFault>
         requires at { IsAt post.now self.old.running }
         requires unspent { is_spent_at self.old.running promised ≡ false }
-        requires texts { 10 ≤ made.old.frames.text_room }
-        requires bytes { 460 ≤ made.old.frames.byte_room }
+        requires texts { FRAMES_OF_A_CLOSE ≤ made.old.frames.text_room }
+        requires bytes { FRAME_BYTES_OF_A_CLOSE ≤ made.old.frames.byte_room }
         ensures works { (s : Standing) → IsTrue D.is_honest → IsUp D.Disk post.now self.old s → promised ≡ s.store.promise → is_over (place_at post.now) s ≡ false
             → Works D.Disk post.now s (and_then (ticking (place_at post.now) s) (closing (place_at post.now))) self.old self.new (told_by made.old) (told_by made.new) result }
         ensures goes_on { GoesOn D.Disk self.old self.new result }
         ensures only { IsOfPart result }
         ensures at { IsAt post.now self.new.running }
-        ensures left { (need : Needs) (votes frames : ℕ) → HasLeft self.old.running made.old need (votes + 1) (frames + 10) → HasLeft self.new.running made.new need votes frames }
+        ensures left { (need : Needs) (votes frames : ℕ) → HasLeft self.old.running made.old need (votes + 1) (frames + FRAMES_OF_A_CLOSE) → HasLeft self.new.running made.new need votes frames }
     {
         post.limits();
         let _nodes = post.nodes();

@@ -4,6 +4,7 @@ ghost use Rattle.node_rules.specs.Sending.{to_others};
 ghost use Rattle.dealer_node.specs.Turned.{posted};
 ghost use Rattle.dealer_node.specs.Fitting.{AreMessages};
 ghost use Rattle.paxos_wire.specs.Fits.{IsBallot, IsSlot, IsInRange};
+ghost use Rattle.paxos_wire.specs.declared.limits.TheConstants.{MOST_SINGLE_FRAME};
 ghost use Rattle.node_rules.specs.Standings.{Standing};
 ghost use Rattle.node_rules.specs.Turns.{Conflict as Conflicting};
 ghost use Rattle.dealer_node.specs.Posts.{place_at};
@@ -27,10 +28,10 @@ fn send_accepted(frames: &mut Texts<u8>, post: &Post, ballot: Ballot, slot: u32,
     requires slot { IsSlot slot }
     requires command { IsInRange command.now }
     requires texts { post.now.nodes ≤ frames.old.text_room }
-    requires bytes { 46 * post.now.nodes ≤ frames.old.byte_room }
+    requires bytes { MOST_SINGLE_FRAME * post.now.nodes ≤ frames.old.byte_room }
     ensures texts { frames.new.texts ≡ frames.old.texts ++ map posted (to_others (place_at post.now) (Accepting ballot slot command.now)) }
     ensures fits { AreMessages (to_others (place_at post.now) (Accepting ballot slot command.now)) }
-    ensures grows { Grows frames.old frames.new post.now.nodes (46 * post.now.nodes) }
+    ensures grows { Grows frames.old frames.new post.now.nodes (MOST_SINGLE_FRAME * post.now.nodes) }
 {
     let message = Message::Accepted {
         ballot,
@@ -46,10 +47,10 @@ pub(crate) fn send_proposal(frames: &mut Texts<u8>, post: &Post, proposal: &Acce
     requires slot { IsSlot proposal.now.slot }
     requires command { IsInRange proposal.now.command }
     requires texts { post.now.nodes ≤ frames.old.text_room }
-    requires bytes { 46 * post.now.nodes ≤ frames.old.byte_room }
+    requires bytes { MOST_SINGLE_FRAME * post.now.nodes ≤ frames.old.byte_room }
     ensures texts { frames.new.texts ≡ frames.old.texts ++ map posted (to_others (place_at post.now) (Proposing proposal.now.ballot proposal.now.slot proposal.now.command)) }
     ensures fits { AreMessages (to_others (place_at post.now) (Proposing proposal.now.ballot proposal.now.slot proposal.now.command)) }
-    ensures grows { Grows frames.old frames.new post.now.nodes (46 * post.now.nodes) }
+    ensures grows { Grows frames.old frames.new post.now.nodes (MOST_SINGLE_FRAME * post.now.nodes) }
 {
     let message = Message::Accept {
         ballot: proposal.ballot,
@@ -76,14 +77,14 @@ impl Running {
         requires command { IsInRange command.now }
         requires room { CanLearn self.old made.old 1 }
         requires texts { post.now.nodes ≤ made.old.frames.text_room }
-        requires bytes { 46 * post.now.nodes ≤ made.old.frames.byte_room }
+        requires bytes { MOST_SINGLE_FRAME * post.now.nodes ≤ made.old.frames.byte_room }
         ensures ok { OnOk result ((s : Standing) → IsRunning post.now self.old s
             → TakesTurn post.now self.new (told_by made.old) (told_by made.new) (telling_vote (place_at post.now) ballot slot command.now s)) }
         ensures err { OnErr result ((s : Standing) → IsRunning post.now self.old s
             → telling_vote (place_at post.now) ballot slot command.now s ≡ Err (Conflicting s.store)) }
         ensures at { IsAt post.now self.new }
         ensures learns { Learns self.old self.new made.old made.new }
-        ensures frames { Grows made.old.frames made.new.frames post.now.nodes (46 * post.now.nodes) }
+        ensures frames { Grows made.old.frames made.new.frames post.now.nodes (MOST_SINGLE_FRAME * post.now.nodes) }
         ensures rest { made.new ≡ record made.old { frames = made.new.frames; shown = made.new.shown } }
     {
         send_accepted(&mut made.frames, post, ballot, slot, command);

@@ -1,5 +1,6 @@
 use Rattle.std.proofs.Common.{◌≡◌, ◌*◌, ◌++◌, map}
 use Rattle.node_rules.specs.Learning.{telling_from}
+use Rattle.paxos_wire.specs.declared.limits.TheConstants.{MOST_SINGLE_FRAME}
 use Rattle.dealer_node.specs.Rooms.{Grows}
 use Rattle.dealer_node.specs.Turned.{posted}
 use Rattle.dealer_node.specs.Fitting.{AreMessages}
@@ -9,5 +10,5 @@ abbrev pub invariant-loop-step : goal.invariant-loop-step
 invariant-loop-step l = record {
   texts : l.frames.texts ≡ l.fn.frames.texts ++ map posted (telling_from l.log.log l.to l.slot l.step);
   fits : AreMessages (telling_from l.log.log l.to l.slot l.step);
-  grows : Grows l.fn.frames l.frames l.step (46 * l.step);
+  grows : Grows l.fn.frames l.frames l.step (MOST_SINGLE_FRAME * l.step);
 }

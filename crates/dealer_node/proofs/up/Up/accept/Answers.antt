@@ -1,6 +1,7 @@
 use Rattle.std.proofs.Common.{◌≡◌, ◌≤◌, ◌+◌, refl, ap, sym, ◌∙◌, arith}
 use Rattle.paxos_wire.specs.Order.{is_below}
 use Rattle.node_rules.specs.Standings.{idle}
+use Rattle.dealer_node.specs.declared.limits.TheConstants.{FRAMES_TO_ALL, FRAMES_OF_AN_ANSWER}
 use Rattle.dealer_node.specs.Outs.{told_by}
 use Rattle.dealer_node.specs.Working.{head_of, IsUp}
 use Rattle.dealer_node.proofs.Left.{fewer_left}
@@ -12,7 +13,7 @@ vote-requires-clause-at g c = c.turn_idle.ensures.at c.args.post.now c.requires.
 
 pub returns-clause-left : goal.returns-clause-left
 returns-clause-left g c need votes frames left =
-    c.vote.ensures.left need votes frames (fewer_left c.args.self.now.running c.turn_idle.new.self c.args.made.now need (votes + 1) (frames + 64) (frames + 5) (omega arith) c.turn_idle.ensures.rest left)
+    c.vote.ensures.left need votes frames (fewer_left c.args.self.now.running c.turn_idle.new.self c.args.made.now need (votes + 1) (frames + FRAMES_OF_AN_ANSWER) (frames + FRAMES_TO_ALL) (omega arith) c.turn_idle.ensures.rest left)
 
 pub returns-clause-works : goal.returns-clause-works
 returns-clause-works g c s honest is =

@@ -1,4 +1,5 @@
 use Rattle.std.proofs.Common.{◌≡◌, ◌≤◌, ◌+◌, refl, arith}
+use Rattle.dealer_node.specs.declared.limits.TheConstants.{FRAMES_OF_A_CLOSE}
 use Rattle.dealer_node.specs.Outs.{told_by}
 use Rattle.dealer_node.proofs.Left.{fewer_left}
 use Rattle.dealer_node.proofs.Stored.{close_works, close_rests}
@@ -6,7 +7,7 @@ use Rattle.dealer_node.proofs.up.Up.close.Goals as goal
 
 pub returns-in-Some-clause-left : goal.returns-in-Some-clause-left
 returns-in-Some-clause-left g c need votes frames left =
-    c.propose.ensures.left need votes frames (fewer_left c.args.self.now.running c.proposal.new.self c.args.made.now need (votes + 1) (frames + 10) (frames + 10) (omega arith) c.proposal.ensures.rest left)
+    c.propose.ensures.left need votes frames (fewer_left c.args.self.now.running c.proposal.new.self c.args.made.now need (votes + 1) (frames + FRAMES_OF_A_CLOSE) (frames + FRAMES_OF_A_CLOSE) (omega arith) c.proposal.ensures.rest left)
 
 pub returns-in-Some-clause-works : goal.returns-in-Some-clause-works
 returns-in-Some-clause-works g c s honest is =

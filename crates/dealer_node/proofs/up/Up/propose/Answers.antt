@@ -1,4 +1,5 @@
 use Rattle.std.proofs.Common.{◌≡◌, ◌≤◌, ◌+◌, ◌*◌, refl, ap, sym, ◌∙◌, arith}
+use Rattle.dealer_node.specs.declared.limits.TheConstants.{FRAMES_TO_ALL, FRAMES_OF_A_CLOSE}
 use Rattle.dealer_node.specs.Outs.{told_by}
 use Rattle.dealer_node.proofs.Left.{sent_left}
 use Rattle.dealer_node.proofs.Stored.{propose_works}
@@ -19,7 +20,7 @@ vote-requires-clause-bytes g c = omega (arith, c.requires.bytes, c.nodes-nodes.e
 pub returns-clause-left : goal.returns-clause-left
 returns-clause-left g c need votes frames left =
     c.vote.ensures.left need votes frames
-    (sent_left c.args.self.now.running c.args.made.now c.send_proposal.new.frames need (votes + 1) (frames + 5) (frames + 10) c.args.post.now.nodes (omega (arith, c.nodes-nodes.ensures.most, c.nodes-nodes.ensures.value)) c.send_proposal.ensures.grows left)
+    (sent_left c.args.self.now.running c.args.made.now c.send_proposal.new.frames need (votes + 1) (frames + FRAMES_TO_ALL) (frames + FRAMES_OF_A_CLOSE) c.args.post.now.nodes (omega (arith, c.nodes-nodes.ensures.most, c.nodes-nodes.ensures.value)) c.send_proposal.ensures.grows left)
 
 pub returns-clause-works : goal.returns-clause-works
 returns-clause-works g c s honest is own =
