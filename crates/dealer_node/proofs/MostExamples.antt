@@ -32,9 +32,9 @@ most = record { pieces = 1; bytes = 3 }
 a_line_more : ShowsWithin most before later
 a_line_more = record { more = (record { mark = Seat 1; text = 65 ∷ 66 ∷ 67 ∷ [] }) ∷ []; behind = refl; pieces = omega arith; bytes = omega arith }
 
--- but it isn't one piece behind nothing, nor one of two bytes
-not_behind_nothing : ShowsWithin most nothing_told later → ⊥
-not_behind_nothing shows = let same = ap length shows.behind in absurd (omega (arith, same, shows.pieces))
+-- but behind nothing both pieces were shown: they aren't one, though of four bytes, nor have they three bytes, though they are two
+not_one_piece : ShowsWithin (record { pieces = 1; bytes = 4 }) nothing_told later → ⊥
+not_one_piece shows = let same = ap length shows.behind in absurd (omega (arith, same, shows.pieces))
 
-not_of_two_bytes : ShowsWithin (record { pieces = 2; bytes = 3 }) nothing_told later → ⊥
-not_of_two_bytes shows = let same = ap byte_total shows.behind in absurd (omega (arith, same, shows.bytes))
+not_three_bytes : ShowsWithin (record { pieces = 2; bytes = 3 }) nothing_told later → ⊥
+not_three_bytes shows = let same = ap byte_total shows.behind in absurd (omega (arith, same, shows.bytes))

@@ -68,6 +68,10 @@ paper = record {
 abbrev settled : List ℕ → Paper
 settled bytes = record { shown = bytes; synced = bytes; earlier = []; begun = bytes; failed = 0 }
 
+-- it was begun empty, and a store was made on it
+abbrev made : Paper
+made = record (settled (created 0)) { begun = [] }
+
 -- a promise was written on a new store, and not yet synced
 abbrev written : Paper
 written = record (settled (created 0)) { shown = with_promise }
@@ -115,8 +119,8 @@ reads_the_same : (old new : Node Paper) → OnlyReadsDisk paper old new → byte
 reads_the_same old new only = ap (seen_by paper) only.is ∙ (only.reads.seen ∙ sym (ap (seen_by paper) only.was))
 
 -- a store was made where there was none
-made_where_none_was : OnlyReadsDisk paper (down (settled [])) (down (settled (created 0))) → ⊥
-made_where_none_was only = created_for_nothing (reads_the_same (down (settled [])) (down (settled (created 0))) only)
+made_where_none_was : OnlyReadsDisk paper (down (settled [])) (down made) → ⊥
+made_where_none_was only = created_for_nothing (reads_the_same (down (settled [])) (down made) only)
 
 -- what runs with the store of the file found it
 found_what_stands : (new : Node Paper) → IsSeen paper new (started (place_at (post_in (down (settled (created 0))))) empty_store) → FindsStore paper (down (settled (created 0))) new
@@ -148,7 +152,7 @@ started_over_nothing new start = found_in_nothing new (start.found refl refl)
 store_told_as_none : (new : Node Paper) → IsStartOf paper (down (settled (created 0))) new (Err (fault.Store NoStore)) → ⊥
 store_told_as_none new start = created_for_nothing (start.refused refl NoStore refl)
 
-refused_and_made : IsStartOf paper (down (settled [])) (down (settled (created 0))) (Err (fault.Store NoStore)) → ⊥
+refused_and_made : IsStartOf paper (down (settled [])) (down made) (Err (fault.Store NoStore)) → ⊥
 refused_and_made start = elim start.reads [
   | inl same ↦ created_for_nothing (ap (bytes_of paper) same)
   | inr only ↦ made_where_none_was only
@@ -189,7 +193,7 @@ opened_over = record {
 not_begun_anew : IsOver paper written (down written) → ⊥
 not_begun_anew over = created_for_promised over.begun
 
-opened_with_a_new_store : IsOver paper (settled []) (down (settled (created 0))) → ⊥
+opened_with_a_new_store : IsOver paper (settled []) (down made) → ⊥
 opened_with_a_new_store over = created_for_nothing over.bytes
 
 -- what was synced before may be found, and nothing that a crash left only before
@@ -268,7 +272,7 @@ answered = record {
 abbrev after_the_tick : Ran paper first (event.Tick 0 ∷ []) first
 after_the_tick = more [] first (event.Tick 0) conflict (event.Tick 0 ∷ []) first (none [] first refl refl) answered no_want refl
 
--- a cluster whose first tick was answered so
+-- a view, of no cluster, whose first tick was answered so
 conflict_at_a_tick : NoneConflicts paper first → ⊥
 conflict_at_a_tick never =
     let none_answered = never (event.Tick 0 ∷ []) first [] after_the_tick (All-cons (IsForMatch plan) (event.Tick 0) [] (omega arith) (All-nil (IsForMatch plan))) refl refl (λ arrival there. elim there [ ]) in

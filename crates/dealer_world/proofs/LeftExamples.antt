@@ -187,12 +187,12 @@ goes_on_from_a_stop = goes_on_with with_promise (inr stands_promised)
 
 -- a part of its bytes is there, and the gate in front of them is shut
 abbrev torn : List ℕ
-torn = 72 ∷ 68 ∷ 74 ∷ 49 ∷ 0 ∷ 3 ∷ 0 ∷ 0 ∷ 0 ∷ 0 ∷ 6 ∷ 1 ∷ 99 ∷ []
+torn = 72 ∷ 68 ∷ 74 ∷ 49 ∷ 0 ∷ 3 ∷ 0 ∷ 0 ∷ 0 ∷ 0 ∷ 6 ∷ 1 ∷ 0 ∷ []
 
 goes_on_from_a_torn_append : GoesOn true setting 3 (era ∷ []) (torn ∷ created 1 ∷ created 2 ∷ [])
 goes_on_from_a_torn_append = goes_on_with torn (inl (record {
   records = [];
-  journal = record { gate = 0; rest = 0 ∷ 6 ∷ 1 ∷ 99 ∷ []; shut = λ e. omega (arith, e); each = tt; text = refl };
+  journal = record { gate = 0; rest = 0 ∷ 6 ∷ 1 ∷ 0 ∷ []; shut = λ e. omega (arith, e); each = tt; text = refl };
   is = refl;
 }))
 

@@ -32,7 +32,7 @@ order_is_kept = refl
 down_gets_no_order : arrived_by_event false 7 (event.Away 1) ≡ []
 down_gets_no_order = refl
 
--- one that was refused is in the record, and brings nothing into the world
+-- one is in the record, and may bring nothing into the world, as where it was refused
 refused_order : Brings 1 (Ordered 1 7) []
 refused_order = inr refl
 

@@ -58,7 +58,7 @@ AreTold i start log (latest ∷ before) (text ∷ texts) = Tells i start (log_af
 abbrev pub HasKnown : WorldNode → ℕ → Type 0
 HasKnown node front = (known : List Command) × (length known ≡ front) × Knows node.known known
 
--- what an arrival brings into the world, newest first: an own closing of the connection may follow a seat's bytes, and an order that was refused brings nothing
+-- what an arrival brings into the world, newest first: an own closing of the connection may follow a seat's bytes, and an order brings its arrival, or none
 abbrev pub Brings : ℕ → Arrived → List model.Event → Type 0
 Brings i (Delivered frame) events = events ≡ []
 Brings i (Came node seat bytes) events =

@@ -299,7 +299,7 @@ impl<D: Disk + Drop> Cluster<D> {
         &self.config
     }
 
-    /// How many nodes there are, 3 or 5.
+    /// How many nodes there are.
     pub fn node_count(&self) -> usize
         ensures { result ≡ length (view_of self.now).config.sources }
     {
