@@ -1,13 +1,12 @@
 -- A tick.
-use Rattle.std.proofs.Common.{◌≡◌, ℕ, zero, suc, ◌+◌, ◌-◌, ◌^◌, ◌≤◌, ◌<◌, inl, inr, Bool, true, false, true≢false, List, Result, Ok, Err, refl, ap, sym, subst, ◌∙◌, arith}
-use Rattle.std.specs.Prelude.{Option, Some, None, if◌then◌else◌, not, ◌&&◌, ◌||◌, nat_lt, nat_le, ◌==◌, replicate, slice_set}
+use Rattle.std.proofs.Common.{◌≡◌, ℕ, ◌+◌, ◌-◌, ◌^◌, ◌≤◌, ◌<◌, inl, inr, Bool, true, false, true≢false, List, Result, Ok, Err, refl, ap, sym, subst, ◌∙◌, arith}
+use Rattle.std.specs.Prelude.{Option, Some, None, if◌then◌else◌, not, ◌&&◌, ◌||◌, nat_lt, nat_le, ◌==◌, slice_set}
 use Rattle.std.proofs.lemmas.Bool.{lt-ltb, ltb-false}
-use Rattle.paxos_wire.specs.declared.limits.TheConstants.{SLOTS, NODES}
+use Rattle.paxos_wire.specs.declared.limits.TheConstants.{SLOTS}
 use Rattle.paxos_wire.specs.declared.ballot.Ballot.{Ballot}
 use Rattle.paxos_wire.specs.declared.entry.Entry.{Entry}
 use Rattle.slot_log.specs.Slots.{front}
 use Rattle.learner.specs.Learning.{Learned}
-use Rattle.dealer_kind.specs.Plans.{HasNodes}
 use Rattle.promise_store.specs.declared.disk.Disk.{Ghosts}
 use Rattle.promise_store.specs.Keeping.{Keeps, Leaves, LeavesDuring}
 use Rattle.protocol_model.specs.Stores.{Store, promised}
@@ -17,6 +16,7 @@ use Rattle.proposer.specs.declared.fault.ProposeFault.{ProposeFault}
 use Rattle.paxos_wire.specs.Order.{is_below}
 use Rattle.proposer.specs.Campaigns.{next_ballot, new_campaign, is_counted, has_quorum, is_covered, is_proposed, accept_of, value_of, greatest_told, with_mark}
 use Rattle.proposer.specs.declared.fault.ProposeFault.TheVariants.{OutOfWindow}
+use Rattle.proposer.proofs.Alone.{one_promise_leads_not}
 use Rattle.acceptor.specs.declared.answers.PrepareAnswer.{PrepareAnswer}
 use Rattle.acceptor.specs.declared.answers.PrepareAnswer.TheVariants.{Promise}
 use Rattle.acceptor.specs.Answers.{answer_to_prepare, prepared as stores_prepared}
@@ -33,37 +33,12 @@ use Rattle.dealer_node.specs.Running.{IsRunning, IsTaken, is_spent_at}
 use Rattle.dealer_node.specs.Working.{head_of, disk_under, IsDone, IsUp, Took, Failed, Works}
 use Rattle.dealer_node.specs.declared.fault.NodeFault.{NodeFault}
 use Rattle.paxos_wire.specs.declared.message.Message.TheVariants as frame
-use Rattle.node_rules.proofs.Members.{three_nodes}
+use Rattle.dealer_kind.proofs.Counts.{three_nodes}
 use Rattle.dealer_node.proofs.Still.{told_to_none}
 use Rattle.dealer_node.proofs.Worked.{nothing_more, then_works}
 use Rattle.dealer_node.proofs.Stored.{answered_prepare, prepared_by}
 
--- ---- one promise of three or five is no quorum
-
-abbrev counted : Bool → ℕ → Ballot → ℕ → List Entry → Campaign
-counted b node ballot first told = if b then record (new_campaign ballot first) { promises = slice_set (replicate NODES None) node (Some told) } else new_campaign ballot first
-
-few_of_three : (b : Bool) (node : ℕ) (ballot : Ballot) (first : ℕ) (told : List Entry) → node < 3 → has_quorum 3 (counted b node ballot first told) ≡ false
-few_of_three false node ballot first told within = refl
-few_of_three true zero ballot first told within = refl
-few_of_three true (suc zero) ballot first told within = refl
-few_of_three true (suc (suc zero)) ballot first told within = refl
-few_of_three true (suc (suc (suc more))) ballot first told within = absurd (omega arith)
-
-few_of_five : (b : Bool) (node : ℕ) (ballot : Ballot) (first : ℕ) (told : List Entry) → node < 5 → has_quorum 5 (counted b node ballot first told) ≡ false
-few_of_five false node ballot first told within = refl
-few_of_five true zero ballot first told within = refl
-few_of_five true (suc zero) ballot first told within = refl
-few_of_five true (suc (suc zero)) ballot first told within = refl
-few_of_five true (suc (suc (suc zero))) ballot first told within = refl
-few_of_five true (suc (suc (suc (suc zero)))) ballot first told within = refl
-few_of_five true (suc (suc (suc (suc (suc more))))) ballot first told within = absurd (omega arith)
-
-few : (n : ℕ) (b : Bool) (node : ℕ) (ballot : Ballot) (first : ℕ) (told : List Entry) → HasNodes n → node < n → has_quorum n (counted b node ballot first told) ≡ false
-few n b node ballot first told (inl e) within = ap (λ k. has_quorum k (counted b node ballot first told)) e ∙ few_of_three b node ballot first told (subst (λ k. node < k) e within)
-few n b node ballot first told (inr e) within = ap (λ k. has_quorum k (counted b node ballot first told)) e ∙ few_of_five b node ballot first told (subst (λ k. node < k) e within)
-
--- ---- so the close of a call that began a ballot does nothing
+-- ---- one promise is no quorum, so the close of a call that began a ballot does nothing
 
 unled_by : (place : Place) (s : Standing) (campaign : Campaign) (quorum full : Bool) (rest : Result (Option Accept) ProposeFault) → s.campaign ≡ Some campaign → quorum ≡ false
     → (let after : Standing = record s { campaign = Some (with_mark campaign (if not quorum then Ok None else rest)) } in
@@ -76,7 +51,7 @@ unled post ballot s is =
     let after : Standing = (beginning (place_at post) ballot s).after in
     let campaign : Campaign = prepared (place_at post) ballot s in
     let none : has_quorum post.nodes campaign ≡ false =
-    few post.nodes (is_counted post.nodes (new_campaign ballot (front_of s)) post.node ballot (front_of s)) post.node ballot (front_of s) (told_by s.store (front_of s)) is.nodes is.node in
+    one_promise_leads_not post.nodes post.node ballot ballot (front_of s) (front_of s) (told_by s.store (front_of s)) (three_nodes post.nodes is.nodes) in
     unled_by (place_at post) after campaign (has_quorum post.nodes campaign) (nat_le SLOTS (front_of after))
     (if not (is_covered campaign.first (front_of after)) then Err OutOfWindow else if is_proposed campaign (front_of after) then Ok None
     else Ok (accept_of campaign (front_of after) (value_of (greatest_told campaign (front_of after) post.nodes) (own_value (place_at post) after)))) refl none
@@ -141,9 +116,11 @@ stored_by true ballot store e = refl
 pub is_stored : (ballot : Ballot) (store : Store) → is_below store.promise ballot ≡ true → stores_prepared ballot store ≡ promised store ballot
 is_stored ballot store above = stored_by (is_below store.promise ballot) ballot store above
 
-counted_ballot : (b : Bool) (node : ℕ) (ballot : Ballot) (first : ℕ) (told : List Entry) → (counted b node ballot first told).ballot ≡ ballot
-counted_ballot true node ballot first told = refl
-counted_ballot false node ballot first told = refl
+-- a promise that is counted leaves the campaign's ballot
+counted_ballot : (counts : Bool) (campaign : Campaign) (node : ℕ) (told : List Entry)
+    → (if counts then record campaign { promises = slice_set campaign.promises node (Some told) } else campaign).ballot ≡ campaign.ballot
+counted_ballot true campaign node told = refl
+counted_ballot false campaign node told = refl
 
 module _ {D : Type 0} (g : Ghosts D) where
   pub begin_took : (post : Post) (s : Standing) (ballot : Ballot) (old new : Up D) (told later : Told) → IsPost post → IsUp g post old s
@@ -159,7 +136,7 @@ module _ {D : Type 0} (g : Ghosts D) where
         running = taken.runs;
         keeps = subst (λ (st : Store). Keeps g (head_of post) st (store_of new.acceptor)) stores keeps;
         unbegun = refl;
-        stands = counted_ballot (is_counted post.nodes (new_campaign ballot (front_of s)) post.node ballot (front_of s)) post.node ballot (front_of s) (told_by s.store (front_of s));
+        stands = counted_ballot (is_counted post.nodes (new_campaign ballot (front_of s)) post.node ballot (front_of s)) (new_campaign ballot (front_of s)) post.node (told_by s.store (front_of s));
       } in
       let first : Took g post s (ticking (place_at post) s) old new told later = record {
         turn = turn;

@@ -24,6 +24,7 @@ use Rattle.std.proofs.lemmas.List.{get_or-set_other}
 use Rattle.protocol_model.specs.Stores.{Store, empty_store}
 use Rattle.dealer_kind.specs.Kind.{Setting}
 use Rattle.dealer_kind.specs.Plans.{Plan, HasNodes}
+use Rattle.dealer_kind.proofs.Counts.{three_nodes}
 use Rattle.dealer_kind.specs.declared.source.Source.{Source}
 use Rattle.dealer_kind.specs.declared.source.Source.TheVariants.{Seed, Listed}
 use Rattle.dealer_kind.specs.Sources.{HasDeals}
@@ -394,8 +395,7 @@ file_too_many : (begun : ℕ → Store) → AreLeft 3 0 begun ([] ∷ []) [] →
 file_too_many begun left = left
 
 not_two : (n : ℕ) → n ≡ 2 → HasNodes n → ⊥
-not_two n two (inl three) = omega (arith, two, three)
-not_two n two (inr five) = omega (arith, two, five)
+not_two n two has = let three = three_nodes n has in omega (arith, two, three)
 
 -- there is no run of two nodes
 no_run_of_two : (setting : Setting) (eras : List Era) (sources : List Source) (state : State) → RunsTo setting 2 eras sources state → ⊥
