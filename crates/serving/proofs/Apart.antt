@@ -1,4 +1,4 @@
--- A seat that is played for is never awaited, nor read from.
+-- A seat that is played for is never awaited, read from or dropped.
 use Rattle.std.proofs.Common.{◌≡◌, ℕ, ◌⊎◌, inl, inr, Bool, true, false, List, Option, Some, None, refl, sym, ◌∙◌, ap, subst}
 use Rattle.std.specs.Prelude.{unwrap_or, slice_get, position, if◌then◌else◌, not, ◌&&◌}
 use Rattle.serving.specs.declared.place.Place.{Place}
@@ -7,14 +7,15 @@ use Rattle.serving.specs.declared.known.NodeSight.{NodeSight}
 use Rattle.serving.specs.declared.known.Repair.{Repair}
 use Rattle.serving.specs.declared.known.Repair.TheVariants as repair
 use Rattle.serving.specs.declared.due.Due.{Due}
-use Rattle.serving.specs.declared.due.Due.TheVariants.{Over, Tick, Read, Await, Away}
+use Rattle.serving.specs.declared.due.Due.TheVariants.{Over, Tick, Read, Await, Drop, Away}
 use Rattle.serving.specs.Next.{repairing_or, leaving, leaving_at, dropped, is_leaving, greeting, greeting_at, is_over, delivering, outing, starting, stopping, playing, playing_at, as_seen_by, going_on, acting, acting_at, played, has_to_act, is_to_tick, is_behind, finishing, ticking, running, running_from, due_by}
 use Rattle.serving.specs.Played.{PlayedAreLeftAlone}
 
--- the seat is awaited, or read from
-abbrev Meets : ℕ → Due → Type 0
+-- the seat is awaited, read from or dropped
+abbrev pub Meets : ℕ → Due → Type 0
 Meets seat (Await other node) = other ≡ seat
 Meets seat (Read other node) = other ≡ seat
+Meets seat (Drop other node) = other ≡ seat
 Meets seat due = ⊥
 
 one_of : (test : Bool) (seat : ℕ) (a b : Due) → Meets seat (if test then a else b) → Meets seat a ⊎ Meets seat b
@@ -33,6 +34,9 @@ no_awaited node at e = cc
 no_seated : (node at : ℕ) → ◌≡◌ {A = Option Place} (Some (Seated node)) (Some (Played at)) → ⊥
 no_seated node at e = cc
 
+no_leaving : (node at : ℕ) → ◌≡◌ {A = Option Place} (Some (Leaving node)) (Some (Played at)) → ⊥
+no_leaving node at e = cc
+
 -- ---- one thing after another
 
 repair_meets : (seat : ℕ) (later : Due) (found : Option Repair) → Meets seat (repairing_or later found) → Meets seat later
@@ -40,23 +44,25 @@ repair_meets seat later None meets = meets
 repair_meets seat later (Some (repair.Stop node)) meets = absurd meets
 repair_meets seat later (Some (repair.Start node)) meets = absurd meets
 
-drop_meets : (seat other : ℕ) (place : Option Place) (later : Due) → Meets seat (unwrap_or (dropped other place) later) → Meets seat later
-drop_meets seat other None later meets = meets
-drop_meets seat other (Some (Awaited node)) later meets = meets
-drop_meets seat other (Some (Seated node)) later meets = meets
-drop_meets seat other (Some (Played node)) later meets = meets
-drop_meets seat other (Some (Leaving node)) later meets = absurd meets
+drop_meets : (seat at other : ℕ) (place : Option Place) (later : Due) → (other ≡ seat → place ≡ Some (Played at)) → Meets seat (unwrap_or (dropped other place) later)
+    → Meets seat later
+drop_meets seat at other None later here meets = meets
+drop_meets seat at other (Some (Awaited node)) later here meets = meets
+drop_meets seat at other (Some (Seated node)) later here meets = meets
+drop_meets seat at other (Some (Played node)) later here meets = meets
+drop_meets seat at other (Some (Leaving node)) later here meets = absurd (no_leaving node at (here meets))
 
-leaving_meets : (seat : ℕ) (places : List Place) (found : Option ℕ) (later : Due) → Meets seat (unwrap_or (leaving_at places found) later) → Meets seat later
-leaving_meets seat places None later meets = meets
-leaving_meets seat places (Some other) later meets = drop_meets seat other (slice_get places other) later meets
+leaving_meets : (seat at : ℕ) (places : List Place) (found : Option ℕ) (later : Due) → ((other : ℕ) → other ≡ seat → slice_get places other ≡ Some (Played at))
+    → Meets seat (unwrap_or (leaving_at places found) later) → Meets seat later
+leaving_meets seat at places None later here meets = meets
+leaving_meets seat at places (Some other) later here meets = drop_meets seat at other (slice_get places other) later (here other) meets
 
 greeting_meets : (nodes : List NodeSight) (seat at other : ℕ) (place : Option Place) (later : Due) → (other ≡ seat → place ≡ Some (Played at))
     → Meets seat (unwrap_or (greeting_at nodes other place) later) → Meets seat later
 greeting_meets nodes seat at other None later here meets = meets
 greeting_meets nodes seat at other (Some (Awaited node)) later here meets = absurd (no_awaited node at (here meets))
 greeting_meets nodes seat at other (Some (Seated node)) later here meets = absurd (no_seated node at (here meets))
-greeting_meets nodes seat at other (Some (Leaving node)) later here meets = absurd meets
+greeting_meets nodes seat at other (Some (Leaving node)) later here meets = absurd (no_leaving node at (here meets))
 greeting_meets nodes seat at other (Some (Played node)) later here meets = absurd (played_meets nodes seat other (running_from nodes node) meets)
 
 stopping_meets : (seat : ℕ) (found : Option ℕ) (later : Due) → Meets seat (unwrap_or (stopping found) later) → Meets seat later
@@ -80,7 +86,7 @@ ticking_meets seat (Some node) meets = meets
 acting_meets : (nodes : List NodeSight) (seat at other : ℕ) (place : Option Place) → (other ≡ seat → place ≡ Some (Played at)) → Meets seat (acting_at nodes other place) → ⊥
 acting_meets nodes seat at other None here meets = meets
 acting_meets nodes seat at other (Some (Awaited node)) here meets = no_awaited node at (here meets)
-acting_meets nodes seat at other (Some (Leaving node)) here meets = meets
+acting_meets nodes seat at other (Some (Leaving node)) here meets = no_leaving node at (here meets)
 acting_meets nodes seat at other (Some (Played node)) here meets = played_meets nodes seat other (running_from nodes node) meets
 acting_meets nodes seat at other (Some (Seated node)) here meets = elim (one_of (is_to_tick nodes node) seat (Tick node) (Read other node) meets) [
   | inl none ↦ none
@@ -109,7 +115,7 @@ module _ (places : List Place) (seat at : ℕ) (there : slice_get places seat �
   playing_meets nodes None meets = meets
   playing_meets nodes (Some lowest) meets = seen_meets nodes lowest (slice_get nodes lowest) meets
 
-  nothing_meets : (nodes : List NodeSight) (greeted : ℕ) (frame : Option ℕ) (fault : Option Repair) → Meets seat (due_by nodes places greeted frame fault) → ⊥
+  pub nothing_meets : (nodes : List NodeSight) (greeted : ℕ) (frame : Option ℕ) (fault : Option Repair) → Meets seat (due_by nodes places greeted frame fault) → ⊥
   nothing_meets nodes greeted frame fault meets =
       let playing_on = unwrap_or (outing nodes) (playing nodes places) in
       let later = delivering playing_on frame in
@@ -117,7 +123,7 @@ module _ (places : List Place) (seat at : ℕ) (there : slice_get places seat �
       let greeted_all = unwrap_or (greeting nodes places greeted) ending in
       let left_all = unwrap_or (leaving places) greeted_all in
       let no_repair = repair_meets seat left_all fault meets in
-      let no_leaving = leaving_meets seat places (position is_leaving places) greeted_all no_repair in
+      let no_leaving = leaving_meets seat at places (position is_leaving places) greeted_all here_too no_repair in
       let no_greeting = greeting_meets nodes seat at greeted (slice_get places greeted) ending (here_too greeted) no_leaving in
       elim (one_of (is_over nodes) seat Over later no_greeting) [
         | inl none ↦ none
@@ -129,4 +135,5 @@ left_alone nodes places greeted frame fault seat at node there =
     let none = nothing_meets places seat at there nodes greeted frame fault in (
       (λ awaited. none (subst (Meets seat) (sym awaited) refl)),
       (λ reads. none (subst (Meets seat) (sym reads) refl)),
+      (λ drops. none (subst (Meets seat) (sym drops) refl)),
     )

@@ -1,5 +1,7 @@
 -- What is due, on values.
-use Rattle.std.proofs.Common.{◌≡◌, ℕ, refl, sym, true, false, inl, inr, [], ◌∷◌, ◌∙◌, Option, Some, None, Ok, Err}
+use Rattle.std.proofs.Common.{◌≡◌, ℕ, zero, suc, refl, sym, subst, arith, lit<, true, false, inl, inr, [], ◌∷◌, ◌∙◌, Option, Some, None, Ok, Err}
+use Rattle.match_links.specs.Passages.{Passage, Told}
+use Rattle.serving.specs.declared.place.Place.{Place}
 use Rattle.serving.specs.declared.place.Place.TheVariants.{Awaited, Seated, Leaving, Played}
 use Rattle.serving.specs.declared.known.NodeSight.{NodeSight}
 use Rattle.serving.specs.declared.known.Repair.TheVariants as repair
@@ -13,10 +15,12 @@ use Rattle.serving.specs.declared.serve_fault.ServeFault.TheVariants.{LogFailed}
 use Rattle.serving.specs.declared.turn.Turn.TheVariants as turn
 use Rattle.serving.specs.declared.waiting.Waiting.{Waiting}
 use Rattle.serving.specs.Dues.{next_frame, IsDue}
-use Rattle.serving.specs.Going.{delivered_after, ends_in_line_feed, piece_after}
+use Rattle.serving.specs.Giving.{MissesALine}
+use Rattle.serving.specs.Going.{delivered_after, ends_in_line_feed, piece_after, OnlyLeave}
 use Rattle.serving.specs.Next.{due_by, running_from}
 use Rattle.match_file.specs.declared.absent.Absent.TheVariants.{Wait, Play}
 use Rattle.serving.specs.Placing.{moved, dropped_at}
+use Rattle.serving.specs.Played.{IsOfSeat}
 use Rattle.serving.specs.Repairs.{stopped, started, greeted_after}
 use Rattle.serving.specs.Served.{Served}
 use Rattle.serving.specs.Turned.{DidNothing}
@@ -149,6 +153,70 @@ so_is_one_that_was_awaited_there = refl
 seat_elsewhere_stays : moved 1 2 (Seated 0) ≡ Seated 0
 seat_elsewhere_stays = refl
 
+-- ---- seats that are told lines
+
+-- a line of seat 0 at node 0, and one of seat 1 at node 1
+abbrev own : Passage
+own = Told 0 0 (77 ∷ [])
+
+abbrev others : Passage
+others = Told 1 1 (77 ∷ [])
+
+told_all_nobody_leaves : OnlyLeave (own ∷ []) (own ∷ []) (Seated 0 ∷ Played 1 ∷ []) (Seated 0 ∷ Played 1 ∷ [])
+told_all_nobody_leaves seat = inl refl
+
+who_missed_a_line_may_leave : OnlyLeave (own ∷ others ∷ []) (own ∷ []) (Seated 0 ∷ Seated 1 ∷ []) (Seated 0 ∷ Leaving 1 ∷ [])
+who_missed_a_line_may_leave zero = inl refl
+who_missed_a_line_may_leave (suc zero) = inr (1, refl, refl, lit< tt)
+who_missed_a_line_may_leave (suc (suc seat)) = inl refl
+
+who_was_told_its_line_stays : OnlyLeave (own ∷ []) (own ∷ []) (Seated 0 ∷ []) (Leaving 0 ∷ []) → ⊥
+who_was_told_its_line_stays leave = elim (leave 0) [
+  | inl same ↦ cc
+  | inr (node, was, is, misses) ↦ omega (arith, misses)
+]
+
+same_node : (a b : ℕ) → ◌≡◌ {A = Option Place} (Some (Seated a)) (Some (Seated b)) → a ≡ b
+same_node a b same = cc
+
+line_that_another_missed_is_no_reason : OnlyLeave (others ∷ []) [] (Seated 0 ∷ Seated 1 ∷ []) (Leaving 0 ∷ Seated 1 ∷ []) → ⊥
+line_that_another_missed_is_no_reason leave = elim (leave 0) [
+  | inl same ↦ cc
+  | inr (node, was, is, misses) ↦ subst (λ (n : ℕ). MissesALine n 0 (others ∷ []) [] → ⊥) (same_node 0 node was) (λ missed. omega (arith, missed)) misses
+]
+
+told_seat_is_not_played_for : OnlyLeave (own ∷ []) [] (Seated 0 ∷ Seated 0 ∷ []) (Played 0 ∷ Seated 0 ∷ []) → ⊥
+told_seat_is_not_played_for leave = elim (leave 0) [
+  | inl same ↦ cc
+  | inr (node, was, is, misses) ↦ cc
+]
+
+played_seat_is_not_awaited_again : OnlyLeave (own ∷ []) [] (Seated 0 ∷ Played 1 ∷ []) (Seated 0 ∷ Awaited 1 ∷ []) → ⊥
+played_seat_is_not_awaited_again leave = elim (leave 1) [
+  | inl same ↦ cc
+  | inr (node, was, is, misses) ↦ cc
+]
+
+awaited_seat_has_nothing_to_leave : OnlyLeave (own ∷ []) [] (Awaited 0 ∷ []) (Leaving 0 ∷ []) → ⊥
+awaited_seat_has_nothing_to_leave leave = elim (leave 0) [
+  | inl same ↦ cc
+  | inr (node, was, is, misses) ↦ cc
+]
+
+nobody_leaves_another_node : OnlyLeave (own ∷ []) [] (Seated 0 ∷ []) (Leaving 1 ∷ []) → ⊥
+nobody_leaves_another_node leave = elim (leave 0) [
+  | inl same ↦ cc
+  | inr (node, was, is, misses) ↦ cc
+]
+
+no_seat_is_lost : OnlyLeave (own ∷ []) [] (Seated 0 ∷ Seated 0 ∷ []) (Seated 0 ∷ []) → ⊥
+no_seat_is_lost leave = elim (leave 1) [
+  | inl same ↦ cc
+  | inr (node, was, is, misses) ↦ cc
+]
+
+-- ---- and what goes on beside them
+
 nothing_sent_is_no_frame : next_frame [] 0 ≡ None
 nothing_sent_is_no_frame = refl
 
@@ -204,6 +272,15 @@ order_for_another_seat_is_not_due (same, other) = cc
 
 order_at_another_node_is_not_due : IsForDue (Away 1 2) 0 1 (event.Away 0) → ⊥
 order_at_another_node_is_not_due (other, same) = cc
+
+line_is_of_its_seat : (bytes : _) → IsOfSeat 1 (event.Line 0 1 bytes)
+line_is_of_its_seat bytes = refl
+
+and_of_no_other : (bytes : _) → IsOfSeat 0 (event.Line 0 1 bytes) → ⊥
+and_of_no_other bytes is = cc
+
+order_is_of_no_seat : IsOfSeat 2 (event.Away 2) → ⊥
+order_is_of_no_seat is = is
 
 tick_is_not_due_where_a_seat_is_read : IsForDue (Read 1 0) 0 0 (event.Tick 0) → ⊥
 tick_is_not_due_where_a_seat_is_read is = is

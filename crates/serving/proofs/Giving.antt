@@ -1,13 +1,14 @@
 -- What is given of a record, piece by piece.
-use Rattle.std.proofs.Common.{◌≡◌, ℕ, zero, suc, ◌+◌, ◌<◌, ◌≤◌, List, [], ◌∷◌, ◌++◌, length, take, drop, replicate, slice_get, Some, inl, inr, refl, ap, sym, subst, ◌∙◌, arith, add-one}
-use Rattle.std.proofs.lemmas.List.{append_assoc, append-nil, drop-take, drop-append-le, length-take-le}
+use Rattle.std.proofs.Common.{◌≡◌, ℕ, zero, suc, ◌+◌, ◌<◌, ◌≤◌, List, [], ◌∷◌, ◌++◌, length, map, take, drop, slice_get, Some, inl, inr, refl, ap, sym, subst, ◌∙◌, arith, add-one}
+use Rattle.std.proofs.lemmas.List.{append_assoc, append-nil, map-append, drop-take, drop-append-le, length-take-le}
 use Rattle.std.proofs.lemmas.Option.{slice_get_within}
 use Rattle.dealer_world.specs.Records.{Piece}
 use Rattle.dealer_world.proofs.Logging.{take_next}
 use Rattle.match_links.specs.Passages.{Passage, Came, came}
 use Rattle.serving.specs.declared.place.Place.{Place}
-use Rattle.serving.specs.declared.place.Place.TheVariants.{Awaited}
-use Rattle.serving.specs.Giving.{IsGiven, AreGiven, Gives, FewerSeated, NoneSeated, StayUnseated}
+use Rattle.serving.specs.Giving.{given_as, to_give, IsGiven, AreGiven, Gives}
+use Rattle.serving.specs.Going.{OnlyLeave}
+use Rattle.serving.proofs.Leaving.{seated_before}
 
 -- ---- lists
 
@@ -25,14 +26,14 @@ one_more places [] piece given last each is = (last, [], is, refl, ap (λ g. g +
 one_more places (p ∷ pieces) piece given last (first, rest, here, more, whole) is =
     (first, rest ++ last, here, one_more places pieces piece rest last more is, ap (λ g. g ++ last) whole ∙ append_assoc first rest last)
 
-is_still_given : (old new : List Place) (piece : Piece) (given : List Passage) → FewerSeated old new → IsGiven old piece given → IsGiven new piece given
-is_still_given old new piece given fewer (inl is) = inl is
-is_still_given old new piece given fewer (inr ((seat, reads, away), none)) = inr ((seat, reads, λ seated. away (fewer seat piece.node seated)), none)
+is_still_given : (lines told : List Passage) (old new : List Place) (piece : Piece) (given : List Passage) → OnlyLeave lines told old new → IsGiven old piece given → IsGiven new piece given
+is_still_given lines told old new piece given leave (inl is) = inl is
+is_still_given lines told old new piece given leave (inr ((seat, reads, away), none)) = inr ((seat, reads, λ seated. away (seated_before lines told old new leave seat piece.node seated)), none)
 
-are_still_given : (old new : List Place) (pieces : List Piece) (given : List Passage) → FewerSeated old new → AreGiven old pieces given → AreGiven new pieces given
-are_still_given old new [] given fewer each = each
-are_still_given old new (piece ∷ pieces) given fewer (first, rest, here, more, whole) =
-    (first, rest, is_still_given old new piece first fewer here, are_still_given old new pieces rest fewer more, whole)
+are_still_given : (lines told : List Passage) (old new : List Place) (pieces : List Piece) (given : List Passage) → OnlyLeave lines told old new → AreGiven old pieces given → AreGiven new pieces given
+are_still_given lines told old new [] given leave each = each
+are_still_given lines told old new (piece ∷ pieces) given leave (first, rest, here, more, whole) =
+    (first, rest, is_still_given lines told old new piece first leave here, are_still_given lines told old new pieces rest leave more, whole)
 
 -- none was given yet
 pub gives_none : (places : List Place) (pieces : List Piece) (from : ℕ) → from ≤ length pieces → Gives places pieces from from []
@@ -43,22 +44,34 @@ gives_none places pieces from within = record {
 }
 
 -- seats may have left since
-pub gives_still : (old new : List Place) (pieces : List Piece) (from to : ℕ) (given : List Passage) → FewerSeated old new
+pub gives_still : (lines told : List Passage) (old new : List Place) (pieces : List Piece) (from to : ℕ) (given : List Passage) → OnlyLeave lines told old new
     → Gives old pieces from to given → Gives new pieces from to given
-gives_still old new pieces from to given fewer gives = record {
+gives_still lines told old new pieces from to given leave gives = record {
   onwards = gives.onwards;
   within = gives.within;
-  each = are_still_given old new (drop from (take to pieces)) given fewer gives.each;
+  each = are_still_given lines told old new (drop from (take to pieces)) given leave gives.each;
 }
+
+-- so many pieces, and the next one
+next_piece : (pieces : List Piece) (from to : ℕ) (piece : Piece) → from ≤ to → slice_get pieces to ≡ Some piece
+    → drop from (take (to + 1) pieces) ≡ drop from (take to pieces) ++ piece ∷ []
+next_piece pieces from to piece onwards is =
+    let below : to < length pieces = slice_get_within pieces to piece is in
+    ap (λ k. drop from (take k pieces)) (add-one to) ∙ ap (drop from) (take_next pieces to piece is)
+    ∙ drop-append-le from (take to pieces) (piece ∷ []) (omega (arith, onwards, below, length-take-le to pieces (omega (arith, below))))
+
+-- and what is to be given of them
+pub next_to_give : (pieces : List Piece) (from to : ℕ) (piece : Piece) → from ≤ to → slice_get pieces to ≡ Some piece
+    → to_give pieces from (to + 1) ≡ to_give pieces from to ++ given_as piece ∷ []
+next_to_give pieces from to piece onwards is =
+    ap (map given_as) (next_piece pieces from to piece onwards is) ∙ map-append given_as (drop from (take to pieces)) (piece ∷ [])
 
 -- the next piece was given
 pub gives_next : (places : List Place) (pieces : List Piece) (from to : ℕ) (given last : List Passage) (piece : Piece) → Gives places pieces from to given
     → slice_get pieces to ≡ Some piece → IsGiven places piece last → Gives places pieces from (to + 1) (given ++ last)
 gives_next places pieces from to given last piece gives is given_too =
     let below : to < length pieces = slice_get_within pieces to piece is in
-    let same : drop from (take (to + 1) pieces) ≡ drop from (take to pieces) ++ piece ∷ [] =
-    ap (λ k. drop from (take k pieces)) (add-one to) ∙ ap (drop from) (take_next pieces to piece is)
-    ∙ drop-append-le from (take to pieces) (piece ∷ []) (omega (arith, gives.onwards, length-take-le to pieces gives.within, below)) in
+    let same = next_piece pieces from to piece gives.onwards is in
     record {
       onwards = omega (arith, gives.onwards);
       within = omega (arith, below);
@@ -83,15 +96,3 @@ front_of zero len piece rest within long = refl
 front_of (suc count) len [] rest within long = absurd (omega (arith, within))
 front_of (suc count) zero (byte ∷ piece) rest within long = absurd (omega (arith, long))
 front_of (suc count) (suc len) (byte ∷ piece) rest within long = ap (λ bs. byte ∷ bs) (front_of count len piece rest (omega (arith, within)) (omega (arith, long)))
-
--- ---- where nobody has a connection
-
-pub stay_longer : (first old new : List Place) → StayUnseated first old → StayUnseated old new → StayUnseated first new
-stay_longer first old new before now = λ none. let same : old ≡ first = before none in now (subst NoneSeated (sym same) none) ∙ same
-
--- where all are awaited nobody has one
-pub none_seated : (count node : ℕ) → NoneSeated (replicate count (Awaited node))
-none_seated zero at zero node is = cc
-none_seated zero at (suc seat) node is = cc
-none_seated (suc count) at zero node is = cc
-none_seated (suc count) at (suc seat) node is = none_seated count at seat node is

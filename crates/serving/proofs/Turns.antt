@@ -21,8 +21,8 @@ use Rattle.serving.specs.Dues.{IsNext, TakesNext, SentNothing}
 use Rattle.serving.specs.Served.{Served}
 use Rattle.dealer_node.specs.declared.fault.NodeFault.TheVariants as fault
 use Rattle.dealer_world.specs.Events.{node_of}
-use Rattle.serving.specs.Giving.{Gives as GivesOn, taken}
-use Rattle.serving.specs.Going.{IsKept, piece_after}
+use Rattle.serving.specs.Giving.{Gives as GivesOn, taken, to_give}
+use Rattle.serving.specs.Going.{IsKept, OnlyLeave, piece_after}
 use Rattle.serving.specs.Placed.{places_in}
 use Rattle.serving.specs.Turned.{Went, Gave, Ends, Mends, Passes}
 use Rattle.serving.specs.Turning.{IsWaiting}
@@ -77,7 +77,7 @@ none_waits g view progress None next = refl
 none_waits g view progress (Some w) next = cc
 
 -- what was taken before, and what was given then
-pub passes_from : {N : Type 0} (took : List Passage) (between old new : Served N) → between.shown ≡ old.shown → between.passed ≡ old.passed ++ took
+abbrev pub passes_from : {N : Type 0} (took : List Passage) (between old new : Served N) → between.shown ≡ old.shown → between.passed ≡ old.passed ++ took
     → Passes [] between new → Passes took old new
 passes_from took between old new shown passed passes = record {
   given = passes.given;
@@ -119,23 +119,29 @@ gave_from {D} g w took between old answer new view progress shown piece passed g
   tells = gave.tells;
   again = λ none. let all = gave.again none in (all.0, all.1 ∙ progress, all.2 ∙ piece);
   given = gave.given;
-  went = on_ok_weaker answer (subst (λ (n : Progress). Went g new.view w gave.called n new.progress) progress) gave.went;
   passes = passes_from took between old new shown passed gave.passes;
+  went = on_ok_weaker answer (λ went. subst (λ (k : ℕ). Went g new.view w gave.called (to_give new.view.all.shown k new.shown) gave.passes.given old.progress new.progress) shown
+      (subst (λ (n : Progress). Went g new.view w gave.called (to_give new.view.all.shown between.shown new.shown) gave.passes.given n new.progress) progress went)) gave.went;
   all_given = gave.all_given;
   refused = gave.refused;
   named = gave.named;
   piece = λ ample. gave.piece ample ∙ ap (piece_after w.event) piece;
 }
 
+as_it_was : (lines given : List Passage) (old mended new : Progress) → mended ≡ old → IsKept mended new → OnlyLeave lines given (places_in mended.places) (places_in new.places)
+    → IsKept old new × OnlyLeave lines given (places_in old.places) (places_in new.places)
+as_it_was lines given old mended new same kept leave = subst (λ (p : Progress). IsKept p new × OnlyLeave lines given (places_in p.places) (places_in new.places)) same (kept, leave)
+
 -- a fault that was mended, and what was shown behind it
-pub mended_ends : (why : NodeFault) (w : Waiting) (old mended new : Progress) → Mends why (node_of w.event) old true mended → IsKept mended new → Ends (Err why) w old new
-mended_ends (fault.Store why) w old mended new asks kept = (mended, asks, kept)
-mended_ends fault.Down w old mended new (goes, same) kept = subst (λ (p : Progress). IsKept p new) same kept
-mended_ends fault.OutOfMemory w old mended new (goes, same) kept = subst (λ (p : Progress). IsKept p new) same kept
-mended_ends fault.Spent w old mended new (goes, same) kept = subst (λ (p : Progress). IsKept p new) same kept
-mended_ends (fault.BadFrame bytes) w old mended new (goes, same) kept = subst (λ (p : Progress). IsKept p new) same kept
-mended_ends fault.Conflict w old mended new (goes, same) kept = subst (λ (p : Progress). IsKept p new) same kept
-mended_ends fault.NothingToAct w old mended new (goes, same) kept = subst (λ (p : Progress). IsKept p new) same kept
+pub mended_ends : (why : NodeFault) (w : Waiting) (lines given : List Passage) (old mended new : Progress) → Mends why (node_of w.event) old true mended → IsKept mended new
+    → OnlyLeave lines given (places_in mended.places) (places_in new.places) → Ends (Err why) w lines given old new
+mended_ends (fault.Store why) w lines given old mended new asks kept leave = (mended, asks, kept, leave)
+mended_ends fault.Down w lines given old mended new (goes, same) kept leave = as_it_was lines given old mended new same kept leave
+mended_ends fault.OutOfMemory w lines given old mended new (goes, same) kept leave = as_it_was lines given old mended new same kept leave
+mended_ends fault.Spent w lines given old mended new (goes, same) kept leave = as_it_was lines given old mended new same kept leave
+mended_ends (fault.BadFrame bytes) w lines given old mended new (goes, same) kept leave = as_it_was lines given old mended new same kept leave
+mended_ends fault.Conflict w lines given old mended new (goes, same) kept leave = as_it_was lines given old mended new same kept leave
+mended_ends fault.NothingToAct w lines given old mended new (goes, same) kept leave = as_it_was lines given old mended new same kept leave
 
 -- where there is no event nothing is taken
 pub taken_nothing : (waiting : Option Waiting) → taken waiting None ≡ []

@@ -1,5 +1,6 @@
 -- What a server takes from its links for an event, and what it gives them of its cluster's record.
-use Rattle.std.specs.Prelude.{◌≡◌, ◌⊎◌, ℕ, zero, suc, ◌-◌, ◌^◌, ◌≤◌, min, List, [], ◌∷◌, ◌++◌, length, take, drop, slice_get, Option, Some, None}
+use Rattle.std.specs.Prelude.{◌≡◌, ◌⊎◌, ℕ, zero, suc, ◌-◌, ◌^◌, ◌≤◌, ◌<◌, ◌==◌, ◌&&◌, Bool, false, min, List, [], ◌∷◌, ◌++◌, length, map, take, drop, slice_get, Option, Some, None}
+use Rattle.std.specs.List.{count_by}
 use Rattle.protocol_model.specs.Dealers.{Reader, Seat, Log}
 use Rattle.dealer_world.specs.Records.{Piece}
 use Rattle.dealer_world.specs.declared.event.Event.{Event}
@@ -67,18 +68,21 @@ pub record Gives (places : List Place) (pieces : List Piece) (from to : ℕ) (gi
   pub within : to ≤ length pieces
   pub each : AreGiven places (drop from (take to pieces)) given
 
+-- all that is to be given from this number on, and up to that one
+abbrev pub to_give : List Piece → ℕ → ℕ → List Passage
+to_give pieces from to = map given_as (drop from (take to pieces))
+
+-- it is a line that this seat is told by this node
+abbrev pub is_told : ℕ → ℕ → Passage → Bool
+is_told node seat (Told at whose line) = at == node && whose == seat
+is_told node seat (Came at whose bytes) = false
+is_told node seat (Emptied at) = false
+is_told node seat (Logged at text) = false
+
+-- a seat was told fewer lines by a node than are there for it
+abbrev pub MissesALine : ℕ → ℕ → List Passage → List Passage → Type 0
+MissesALine node seat lines given = count_by (is_told node seat) given < count_by (is_told node seat) lines
+
 -- no more are counted than the greatest number of the machine
 abbrev pub counted : List Piece → ℕ
 counted pieces = min (length pieces) (2 ^ 64 - 1)
-
--- no seat has a connection that it hadn't before
-abbrev pub FewerSeated : List Place → List Place → Type 0
-FewerSeated old new = (seat node : ℕ) → slice_get new seat ≡ Some (Seated node) → slice_get old seat ≡ Some (Seated node)
-
--- no seat has a connection
-abbrev pub NoneSeated : List Place → Type 0
-NoneSeated places = (seat node : ℕ) → slice_get places seat ≡ Some (Seated node) → ⊥
-
--- where no seat has a connection, each stays where it is
-abbrev pub StayUnseated : List Place → List Place → Type 0
-StayUnseated old new = NoneSeated old → new ≡ old

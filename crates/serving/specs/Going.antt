@@ -1,5 +1,5 @@
 -- How what a server knows goes on.
-use Rattle.std.specs.Prelude.{◌≡◌, ℕ, ◌+◌, ◌-◌, ◌^◌, ◌==◌, min, not, ◌&&◌, ◌||◌, if◌then◌else◌, Bool, true, false, List, length, map, set, slice_index, Some}
+use Rattle.std.specs.Prelude.{◌≡◌, ◌⊎◌, ℕ, ◌+◌, ◌-◌, ◌^◌, ◌==◌, min, not, ◌&&◌, ◌||◌, if◌then◌else◌, Bool, true, false, List, length, map, set, slice_get, slice_index, Option, Some}
 use Rattle.std.proofs.Common.{get_or}
 use Rattle.std.specs.List.{list_any}
 use Rattle.promise_store.specs.declared.disk.Disk.{Ghosts}
@@ -9,6 +9,7 @@ use Rattle.dealer_node.specs.Nodes.{Node}
 use Rattle.dealer_world.specs.declared.event.Event.{Event}
 use Rattle.dealer_world.specs.declared.event.Event.TheVariants as event
 use Rattle.dealer_world.specs.Stepping.{View}
+use Rattle.match_links.specs.declared.limits.TheConstants.{NODES}
 use Rattle.serving.specs.declared.known.NodeSight.{NodeSight}
 use Rattle.serving.specs.declared.known.Repair.TheVariants as repair
 use Rattle.serving.specs.declared.progress.Progress.{Progress}
@@ -17,6 +18,8 @@ use Rattle.serving.specs.declared.place.Place.TheVariants.{Seated, Leaving}
 use Rattle.serving.specs.declared.turn.Turn.{Turn}
 use Rattle.serving.specs.declared.turn.Turn.TheVariants as turn
 use Rattle.match_file.specs.declared.outage.Outage.{Outage}
+use Rattle.match_links.specs.Passages.{Passage}
+use Rattle.serving.specs.Giving.{MissesALine}
 use Rattle.serving.specs.Lowest.{IsCounted}
 use Rattle.serving.specs.Next.{running_from}
 use Rattle.serving.specs.Outing.{outages_in}
@@ -54,11 +57,19 @@ pub record IsKept (old new : Progress) : Type 0 where
   pub delivered : new.delivered ≡ old.delivered
   pub repair : new.repair ≡ old.repair
 
+-- a seat that had a connection to a node leaves there, since it wasn't told each of these lines
+abbrev pub HasLeft : List Passage → List Passage → ℕ → Option Place → Option Place → Type 0
+HasLeft lines given seat old new = (node : ℕ) × (old ≡ Some (Seated node)) × (new ≡ Some (Leaving node)) × MissesALine node seat lines given
+
+-- of these lines so much was given: each seat is where it was, or had a connection, wasn't told each of its lines there, and leaves
+abbrev pub OnlyLeave : List Passage → List Passage → List Place → List Place → Type 0
+OnlyLeave lines given old new = (seat : ℕ) → (slice_get new seat ≡ slice_get old seat) ⊎ HasLeft lines given seat (slice_get old seat) (slice_get new seat)
+
 -- the first time that a node's store fails, the node is to be stopped and started; the second time nothing changes
 pub data AsksRepair (old : Progress) (node : ℕ) : Bool → Progress → Type 0 where
-  first : (asks : Bool) (new : Progress) → asks ≡ true → get_or old.failed (min node 4) false ≡ false
-      → new ≡ record old { failed = set old.failed (min node 4) true; repair = Some (repair.Stop node) } → AsksRepair old node asks new
-  again : (asks : Bool) (new : Progress) → asks ≡ false → get_or old.failed (min node 4) false ≡ true → new ≡ old → AsksRepair old node asks new
+  first : (asks : Bool) (new : Progress) → asks ≡ true → get_or old.failed (min node (NODES - 1)) false ≡ false
+      → new ≡ record old { failed = set old.failed (min node (NODES - 1)) true; repair = Some (repair.Stop node) } → AsksRepair old node asks new
+  again : (asks : Bool) (new : Progress) → asks ≡ false → get_or old.failed (min node (NODES - 1)) false ≡ true → new ≡ old → AsksRepair old node asks new
 
 -- bytes that end in a line feed
 abbrev pub ends_in_line_feed : List ℕ → Bool

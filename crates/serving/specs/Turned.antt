@@ -15,10 +15,10 @@ use Rattle.serving.specs.declared.serve_fault.ServeFault.{ServeFault}
 use Rattle.serving.specs.declared.serve_fault.ServeFault.TheVariants as serve
 use Rattle.match_links.specs.Passages.{Passage}
 use Rattle.serving.specs.Served.{Served}
-use Rattle.serving.specs.Giving.{Gives, counted, all_emptied, taken}
+use Rattle.serving.specs.Giving.{Gives, counted, all_emptied, taken, to_give}
 use Rattle.serving.specs.Placed.{places_in}
 use Rattle.serving.specs.Dues.{IsDue, IsNext, SentNothing}
-use Rattle.serving.specs.Going.{Settled, IsKept, AsksRepair, piece_after}
+use Rattle.serving.specs.Going.{Settled, IsKept, OnlyLeave, AsksRepair, piece_after}
 use Rattle.serving.specs.Turning.{turn_of, fault_in, IsWaiting, Tells, MayFail}
 
 -- a store's fault is mended where it is its first; others need nothing
@@ -26,10 +26,12 @@ abbrev pub Mends : NodeFault → ℕ → Progress → Bool → Progress → Type
 Mends (fault.Store why) node old mends new = AsksRepair old node mends new
 Mends other node old mends new = (mends ≡ true) × (new ≡ old)
 
--- what is known goes on after a call of a node was settled: a store that failed for the first time asks for repair, and seats that don't take a line leave
-abbrev pub Ends : Result (Unit {0}) NodeFault → Waiting → Progress → Progress → Type 0
-Ends (Err (fault.Store why)) waiting settled new = (asked : Progress) × AsksRepair settled (node_of waiting.event) true asked × IsKept asked new
-Ends other waiting settled new = IsKept settled new
+-- what is known goes on after a call of a node was settled and so much was given: a store that failed for the first time asks for repair; seats that weren't told
+-- a line of theirs may leave, and no seat goes anywhere else
+abbrev pub Ends : Result (Unit {0}) NodeFault → Waiting → List Passage → List Passage → Progress → Progress → Type 0
+Ends (Err (fault.Store why)) waiting lines given settled new = (asked : Progress) × AsksRepair settled (node_of waiting.event) true asked × IsKept asked new
+    × OnlyLeave lines given (places_in asked.places) (places_in new.places)
+Ends other waiting lines given settled new = IsKept settled new × OnlyLeave lines given (places_in settled.places) (places_in new.places)
 
 -- what passed between two moments: this was taken from the links, and then they were given the pieces that weren't given yet, or the
 -- first of them
@@ -51,11 +53,11 @@ pub record Opens {N : Type 0} (nodes : ℕ) (before : List Passage) (new : Serve
   pub unread : new.piece ≡ []
 
 module _ {D : Type 0} (g : Ghosts D) where
-  -- what is known after an event was given and answered so
-  pub record Went (view : View (Node D)) (waiting : Waiting) (called : Result (Unit {0}) NodeFault) (old new : Progress) : Type 0 where
+  -- what is known after an event was given and answered so, and so much of what was to be given was
+  pub record Went (view : View (Node D)) (waiting : Waiting) (called : Result (Unit {0}) NodeFault) (lines given : List Passage) (old new : Progress) : Type 0 where
     pub settled : Progress
     pub settles : Settled g view waiting.event (turn_of waiting.number waiting.seat waiting.event) old settled
-    pub ends : Ends called waiting settled new
+    pub ends : Ends called waiting lines given settled new
 
   -- this event was given to the cluster, for which this was taken from the links, and answered so; where it found no memory it waits
   pub record Gave (waiting : Waiting) (took : List Passage) (old : Served (Node D)) (answer : Result Turn ServeFault) (new : Served (Node D)) : Type 0 where
@@ -65,8 +67,8 @@ module _ {D : Type 0} (g : Ghosts D) where
     pub tells : Tells (turn_of waiting.number waiting.seat waiting.event) waiting.event called answer
     pub again : called ≡ Err fault.OutOfMemory → (new.waiting ≡ Some waiting) × (new.progress ≡ old.progress) × (new.piece ≡ old.piece)
     pub given : (called ≡ Err fault.OutOfMemory → ⊥) → new.waiting ≡ None
-    pub went : OnOk answer (Went new.view waiting called old.progress new.progress)
     pub passes : Passes took old new
+    pub went : OnOk answer (Went new.view waiting called (to_give new.view.all.shown old.shown new.shown) passes.given old.progress new.progress)
     pub all_given : OnOk answer (HasGivenAll new)
     pub refused : new.refused ≡ fault_in called
     pub named : (called ≡ Err fault.OutOfMemory → ⊥) → new.called ≡ node_of waiting.event
@@ -76,7 +78,8 @@ module _ {D : Type 0} (g : Ghosts D) where
   abbrev pub FailsAt : Served (Node D) → ServeFault → Type 0
   FailsAt old why = (what : Due) × IsDue g old.view old.progress what × MayFail old.view.config what why
 
-  -- no call was made: all is over, a seat sent nothing, the links had no room for what a turn may show, or what is due couldn't be taken
+  -- no call was made: all is over, a seat sent nothing, it is 92, which may come at any turn (that it comes of the links' room alone no clause says), or what is
+  -- due couldn't be taken
   abbrev pub DidNothing : Served (Node D) → Result Turn ServeFault → Type 0
   DidNothing old (Ok t) = ((t ≡ turn.Over) × IsNext g old.view old.progress old.waiting None) ⊎ SentNothing g old.view old.progress old.waiting t
   DidNothing old (Err why) = (why ≡ serve.Node fault.OutOfMemory) ⊎ FailsAt old why

@@ -4,8 +4,8 @@ ghost use Rattle.dealer_world.specs.KeptShown.{piece_by};
 ghost use Rattle.dealer_world.specs.Viewing.{view_of};
 ghost use Rattle.match_links.specs.Passages.{Passage, Told};
 ghost use Rattle.seat_session.specs.Fault.{closes as closes_session};
-ghost use Rattle.serving.specs.Giving.{Gives, IsGiven, FewerSeated, StayUnseated, counted};
-ghost use Rattle.serving.specs.Going.{Settled, IsKept, closes, ends_in_line_feed, leaves};
+ghost use Rattle.serving.specs.Giving.{Gives, IsGiven, counted, given_as, to_give};
+ghost use Rattle.serving.specs.Going.{Settled, IsKept, OnlyLeave, closes, ends_in_line_feed, leaves};
 ghost use Rattle.serving.specs.Outing.{outages_in};
 ghost use Rattle.serving.specs.Placed.{places_in};
 ghost use Rattle.serving.specs.Turning.{turn_of};
@@ -111,9 +111,9 @@ impl<L: Links + Drop> Desk<L> {
         ensures called { self.new.last_node ≡ self.old.last_node }
         ensures refused { self.new.last_fault ≡ self.old.last_fault }
         ensures given { (given : List Passage) × (L.passed self.new.links ≡ L.passed self.old.links ++ given)
-            × Gives (places_in self.new.progress.places) (view_of cluster.now).all.shown self.old.shown self.new.shown given }
+            × Gives (places_in self.new.progress.places) (view_of cluster.now).all.shown self.old.shown self.new.shown given
+            × OnlyLeave (to_give (view_of cluster.now).all.shown self.old.shown self.new.shown) given (places_in self.old.progress.places) (places_in self.new.progress.places) }
         ensures all_given { OnOk result (self.new.shown ≡ counted (view_of cluster.now).all.shown) }
-        ensures unseated { StayUnseated (places_in self.old.progress.places) (places_in self.new.progress.places) }
         ensures fault { IfErr result (λ fault. fault ≡ LogFailed) }
     {
         for number in self.shown..cluster.piece_count() {
@@ -132,11 +132,11 @@ impl<L: Links + Drop> Desk<L> {
         ensures shown { self.new.shown ≡ self.old.shown }
         ensures called { self.new.last_node ≡ self.old.last_node }
         ensures refused { self.new.last_fault ≡ self.old.last_fault }
-        ensures fewer { FewerSeated (places_in self.old.progress.places) (places_in self.new.progress.places) }
-        ensures unseated { StayUnseated (places_in self.old.progress.places) (places_in self.new.progress.places) }
-        ensures given { OnOk result ((given : List Passage) × (L.passed self.new.links ≡ L.passed self.old.links ++ given)
-            × IsGiven (places_in self.new.progress.places) (piece_by piece.entry.node piece.entry.start piece.entry.reader piece.entry.text.now) given) }
+        ensures given { let one = piece_by piece.entry.node piece.entry.start piece.entry.reader piece.entry.text.now in
+            OnOk result ((given : List Passage) × (L.passed self.new.links ≡ L.passed self.old.links ++ given) × IsGiven (places_in self.new.progress.places) one given
+            × OnlyLeave (given_as one ∷ []) given (places_in self.old.progress.places) (places_in self.new.progress.places)) }
         ensures failed { OnErr result (L.passed self.new.links ≡ L.passed self.old.links) }
+        ensures stay { OnErr result (places_in self.new.progress.places ≡ places_in self.old.progress.places) }
         ensures fault { IfErr result (λ fault. fault ≡ LogFailed) }
     {
         match piece.reader {
@@ -157,10 +157,9 @@ impl<L: Links + Drop> Desk<L> {
         ensures shown { self.new.shown ≡ self.old.shown }
         ensures called { self.new.last_node ≡ self.old.last_node }
         ensures refused { self.new.last_fault ≡ self.old.last_fault }
-        ensures fewer { FewerSeated (places_in self.old.progress.places) (places_in self.new.progress.places) }
-        ensures unseated { StayUnseated (places_in self.old.progress.places) (places_in self.new.progress.places) }
-        ensures told { (L.passed self.new.links ≡ L.passed self.old.links ++ Told node seat line.now ∷ [])
-            ⊎ ((L.passed self.new.links ≡ L.passed self.old.links) × (slice_get (places_in self.new.progress.places) seat ≡ Some (Seated node) → ⊥)) }
+        ensures told { ((L.passed self.new.links ≡ L.passed self.old.links ++ Told node seat line.now ∷ []) × (places_in self.new.progress.places ≡ places_in self.old.progress.places))
+            ⊎ ((L.passed self.new.links ≡ L.passed self.old.links) × (slice_get (places_in self.new.progress.places) seat ≡ Some (Seated node) → ⊥)
+            × OnlyLeave (Told node seat line.now ∷ []) [] (places_in self.old.progress.places) (places_in self.new.progress.places)) }
     {
         if !self.progress.is_seated(seat, node) {
             return;

@@ -1,4 +1,5 @@
 ghost use Rattle.std.specs.Prelude.{◌≡◌, ◌≤◌, ◌<◌, length, position, not, ◌&&◌, true, Some, IfSome};
+ghost use Rattle.match_links.specs.declared.limits.TheConstants.{NODES};
 ghost use Rattle.serving.specs.declared.due.Due.TheVariants.{Over};
 ghost use Rattle.serving.specs.Next.{due_of, repairing, leaving, is_leaving, greeting, meeting, running_from, is_over, outing, playing, as_seen_by, running, finishing, is_behind, acting, is_to_tick, has_to_act, played};
 
@@ -32,7 +33,7 @@ pub enum Due {
 /// next seat is greeted; all is over; a frame is delivered; an outage ends or begins; the match goes on. It is over
 /// only where the match is over at every running node.
 pub fn next_due(known: &Known<'_>) -> Due
-    requires nodes { length known.now.nodes.now ≤ 5 }
+    requires nodes { length known.now.nodes.now ≤ NODES }
     requires seats { length known.now.places.now ≤ 10 }
     ensures first { result ≡ due_of known.now }
     ensures over { result ≡ Over → is_over known.now.nodes.now ≡ true }
@@ -41,7 +42,7 @@ pub fn next_due(known: &Known<'_>) -> Due
 }
 
 fn first_due(known: &Known<'_>) -> Due
-    requires nodes { length known.now.nodes.now ≤ 5 }
+    requires nodes { length known.now.nodes.now ≤ NODES }
     requires seats { length known.now.places.now ≤ 10 }
     ensures { result ≡ due_of known.now }
 {
@@ -108,7 +109,7 @@ fn is_leaving(place: Place) -> bool
 
 /// The next seat is greeted: awaited, and read from once it has a connection.
 fn greeting(nodes: &[NodeSight], places: &[Place], greeted: usize) -> Option<Due>
-    requires nodes { length nodes.now ≤ 5 }
+    requires nodes { length nodes.now ≤ NODES }
     requires seats { length places.now ≤ 10 }
     ensures { result ≡ greeting nodes.now places.now greeted }
 {
@@ -121,7 +122,7 @@ fn greeting(nodes: &[NodeSight], places: &[Place], greeted: usize) -> Option<Due
 
 /// A seat with a connection is read from, one without is awaited, or played for where it was dropped.
 fn meeting(nodes: &[NodeSight], seat: u8, place: Place) -> Due
-    requires { length nodes.now ≤ 5 }
+    requires { length nodes.now ≤ NODES }
     ensures { result ≡ meeting nodes.now seat place }
 {
     match place {
@@ -158,7 +159,7 @@ fn has_to_act(nodes: &[NodeSight], node: u8, seat: u8) -> bool
 
 /// The first node that runs from this one on, in cyclic order; where none runs, this one.
 pub(crate) fn running_from(nodes: &[NodeSight], node: u8) -> u8
-    requires { length nodes.now ≤ 5 }
+    requires { length nodes.now ≤ NODES }
     ensures { result ≡ running_from nodes.now node }
 {
     let start = nodes.len().min(node as usize);
@@ -187,7 +188,7 @@ fn is_over(nodes: &[NodeSight]) -> bool
 
 /// A node whose outage ended is started; one whose outage begins is stopped.
 fn outing(nodes: &[NodeSight]) -> Option<Due>
-    requires { length nodes.now ≤ 5 }
+    requires { length nodes.now ≤ NODES }
     ensures { result ≡ outing nodes.now }
 {
     match first_to_start(nodes) {
@@ -215,7 +216,7 @@ fn first_to_stop(nodes: &[NodeSight]) -> Option<usize>
 
 /// The match goes on, as the lowest running node sees it.
 fn playing(nodes: &[NodeSight], places: &[Place]) -> Due
-    requires { length nodes.now ≤ 5 }
+    requires { length nodes.now ≤ NODES }
     ensures { result ≡ playing nodes.now places.now }
 {
     match first_running(nodes) {
@@ -226,7 +227,7 @@ fn playing(nodes: &[NodeSight], places: &[Place]) -> Due
 
 /// The match goes on, as a node sees it.
 fn going_on(nodes: &[NodeSight], places: &[Place], lowest: u8, sight: NodeSight) -> Due
-    requires { length nodes.now ≤ 5 }
+    requires { length nodes.now ≤ NODES }
     ensures { result ≡ as_seen_by nodes.now places.now lowest (Some sight) }
 {
     if sight.over {
@@ -246,7 +247,7 @@ fn going_on(nodes: &[NodeSight], places: &[Place], lowest: u8, sight: NodeSight)
 
 /// The match is over at the lowest running node, and not at another: the lowest of those ticks.
 fn finishing(nodes: &[NodeSight]) -> Due
-    requires { length nodes.now ≤ 5 }
+    requires { length nodes.now ≤ NODES }
     ensures { result ≡ finishing nodes.now }
 {
     match first_unfinished(nodes) {
@@ -271,7 +272,7 @@ fn is_behind(nodes: &[NodeSight], front: u32) -> bool
 
 /// It is a seat's turn: where its node has to go on first, that node ticks; else the seat is met.
 fn acting(nodes: &[NodeSight], places: &[Place], seat: u8) -> Due
-    requires { length nodes.now ≤ 5 }
+    requires { length nodes.now ≤ NODES }
     ensures { result ≡ acting nodes.now places.now seat }
 {
     match places.get(seat as usize) {

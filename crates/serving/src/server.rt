@@ -5,7 +5,7 @@ ghost use Rattle.dealer_world.specs.Promise.{IsPromised, HasNoForged};
 ghost use Rattle.dealer_node.specs.Seeing.{begun_of};
 ghost use Rattle.dealer_world.specs.Events.{node_of};
 ghost use Rattle.serving.specs.Dues.{TakesNext, IsAwaited};
-ghost use Rattle.serving.specs.Giving.{taken};
+ghost use Rattle.serving.specs.Giving.{taken, to_give};
 ghost use Rattle.serving.specs.Going.{piece_after};
 ghost use Rattle.serving.specs.Outing.{outages_in};
 ghost use Rattle.serving.specs.Placed.{places_in};
@@ -224,9 +224,9 @@ impl<D: Disk + Drop, L: Links + Drop> Server<D, L> {
         ensures piece { self.new.last_piece ≡ self.old.last_piece }
         ensures called { self.new.desk.last_node ≡ self.old.desk.last_node }
         ensures refused { self.new.desk.last_fault ≡ self.old.desk.last_fault }
-        ensures passes { Passes [] (served_of self.old) (served_of self.new) }
+        ensures passes { (passes : Passes [] (served_of self.old) (served_of self.new)) × OnOk result (Ends answer waiting.now
+            (to_give (view_of self.new.cluster).all.shown self.old.desk.shown self.new.desk.shown) passes.given self.old.desk.progress self.new.desk.progress) }
         ensures all_given { OnOk result (HasGivenAll (served_of self.new)) }
-        ensures ends { OnOk result (Ends answer waiting.now self.old.desk.progress self.new.desk.progress) }
         ensures tells { Tells (turn_of waiting.now.number waiting.now.seat waiting.now.event) waiting.now.event answer result }
     {
         match answer {
@@ -245,9 +245,9 @@ impl<D: Disk + Drop, L: Links + Drop> Server<D, L> {
         ensures piece { self.new.last_piece ≡ self.old.last_piece }
         ensures called { self.new.desk.last_node ≡ self.old.desk.last_node }
         ensures refused { self.new.desk.last_fault ≡ self.old.desk.last_fault }
-        ensures passes { Passes [] (served_of self.old) (served_of self.new) }
+        ensures passes { (passes : Passes [] (served_of self.old) (served_of self.new)) × OnOk result (Ends (Err fault) waiting.now
+            (to_give (view_of self.new.cluster).all.shown self.old.desk.shown self.new.desk.shown) passes.given self.old.desk.progress self.new.desk.progress) }
         ensures all_given { OnOk result (HasGivenAll (served_of self.new)) }
-        ensures ends { OnOk result (Ends (Err fault) waiting.now self.old.desk.progress self.new.desk.progress) }
         ensures tells { Tells (turn_of waiting.now.number waiting.now.seat waiting.now.event) waiting.now.event (Err fault) result }
     {
         if !goes_on(&waiting.event, Err(fault)) || !self.mends(&waiting.event, fault) {

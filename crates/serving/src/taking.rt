@@ -192,6 +192,7 @@ fn read<L: Links + Drop>(
             Ok(Some(Event::Line { node, seat, bytes }))
         }
         Err(LinkFault::Slow) => Ok(None),
+        Err(LinkFault::OutOfMemory) => Err(ServeFault::Node(NodeFault::OutOfMemory)),
         _ => Ok(Some(Event::Drop { node, seat })),
     }
 }

@@ -3,8 +3,10 @@ use Rattle.std.proofs.lemmas.Result.{on_ok_weaker}
 use Rattle.std.proofs.lemmas.List.{append-nil}
 use Rattle.dealer_node.specs.declared.fault.NodeFault.TheVariants as fault
 use Rattle.dealer_world.specs.Viewing.{view_of}
+use Rattle.serving.specs.Giving.{to_give}
 use Rattle.serving.specs.Going.{piece_after}
 use Rattle.serving.specs.Serving.{served_of}
+use Rattle.serving.specs.Turned.{Ends}
 use Rattle.serving.proofs.Turns.{passes_from, passes_none, still_within}
 use Rattle.serving.proofs.server.Server.give.Goals as goal
 
@@ -20,9 +22,9 @@ returns-then-is_out_of_memory-clause-gave g c =
       tells = none;
       again = λ same. (refl, refl, refl);
       given = λ ample. absurd (ample none);
-      went = tt;
       passes = passes_none (served_of c.args.self.now) _ refl refl
           (still_within g.D.Disk c.args.self.now.desk.shown old new c.args.waiting.event c.step-answer.result c.step-answer.ensures.stepped c.args.self.now.shown);
+      went = tt;
       all_given = tt;
       refused = search rules;
       named = λ ample. absurd (ample none);
@@ -39,8 +41,11 @@ invariant_of-self-2-clause-shown g c =
 pub returns-clause-gave : goal.returns-clause-gave
 returns-clause-gave g c =
     let ample : c.step-answer.result ≡ Err fault.OutOfMemory → ⊥ = search rules in
+    let closed = c.close-turn.ensures.passes in
+    let now = view_of c.close-turn.new.self.cluster in
+    let shown = c.close-turn.new.self.desk.shown in
     let passes = passes_from [] _ (served_of c.args.self.now) (served_of c.close-turn.new.self) c.settle.ensures.shown
-    (c.settle.ensures.passed ∙ sym (append-nil _)) c.close-turn.ensures.passes in
+    (c.settle.ensures.passed ∙ sym (append-nil _)) closed.0 in
     record {
       called = c.step-answer.result;
       of_match = c.requires;
@@ -48,12 +53,13 @@ returns-clause-gave g c =
       tells = c.close-turn.ensures.tells;
       again = λ none. absurd (ample none);
       given = λ _. c.close-turn.ensures.waiting;
+      passes = record { given = closed.0.given; passed = passes.passed; gives = passes.gives };
       went = on_ok_weaker c.close-turn.result (λ ends. record {
         settled = c.settle.new.self.progress;
         settles = rw c.close-turn.ensures.same c.settle.ensures.settled;
-        ends = ends;
-      }) c.close-turn.ensures.ends;
-      passes = record { given = passes.given; passed = passes.passed; gives = passes.gives };
+        ends = subst (λ (k : ℕ). Ends c.step-answer.result c.args.waiting (to_give now.all.shown k shown) closed.0.given c.settle.new.self.progress c.close-turn.new.self.desk.progress)
+            c.settle.ensures.shown ends;
+      }) closed.1;
       all_given = c.close-turn.ensures.all_given;
       refused = c.close-turn.ensures.refused ∙ (c.settle.ensures.refused ∙ search rules);
       named = λ _. c.close-turn.ensures.called ∙ c.settle.ensures.called;

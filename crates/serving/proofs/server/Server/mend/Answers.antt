@@ -1,12 +1,30 @@
-use Rattle.std.proofs.Common.{true, rules}
+use Rattle.std.proofs.Common.{true, ℕ, List, ◌++◌, ap, subst, ◌∙◌, rules}
 use Rattle.dealer_world.specs.Events.{node_of}
+use Rattle.dealer_world.specs.Viewing.{view_of}
+use Rattle.match_links.specs.Passages.{Passage}
+use Rattle.serving.specs.Giving.{Gives, to_give}
+use Rattle.serving.specs.Going.{OnlyLeave}
+use Rattle.serving.specs.Placed.{places_in}
 use Rattle.serving.specs.Turned.{Mends}
 use Rattle.serving.proofs.Turns.{mended_ends}
 use Rattle.serving.proofs.server.Server.mend.Goals as goal
 
-pub returns-clause-ends : goal.returns-clause-ends
-returns-clause-ends g c =
+pub returns-clause-passes : goal.returns-clause-passes
+returns-clause-passes g c =
     let w = c.args.waiting.now in
     let old = c.args.self.now.desk.progress in
-    let mended : Mends c.args.fault (node_of w.event) old true c.mends.new.self.desk.progress = search rules in
-    mended_ends c.args.fault w old c.mends.new.self.desk.progress c.show.new.self.progress mended c.show.ensures.kept
+    let between = c.mends.new.self.desk.progress in
+    let new = c.show.new.self.progress in
+    let pieces = (view_of c.mends.new.self.cluster).all.shown in
+    let to = c.show.new.self.shown in
+    let given = c.show.ensures.given in
+    let shown = c.mends.ensures.shown in
+    let mended : Mends c.args.fault (node_of w.event) old true between = search rules in
+    let leave = subst (λ (k : ℕ). OnlyLeave (to_give pieces k to) given.0 (places_in between.places) (places_in new.places)) shown given.3 in (
+      record {
+        given = given.0;
+        passed = given.1 ∙ ap (λ (ps : List Passage). ps ++ given.0) c.mends.ensures.passed;
+        gives = subst (λ (k : ℕ). Gives (places_in new.places) pieces k to given.0) shown given.2;
+      },
+      mended_ends c.args.fault w (to_give pieces c.args.self.now.desk.shown to) given.0 old between new mended c.show.ensures.kept leave,
+    )
