@@ -1,8 +1,8 @@
--- Rows of those who wait, connections in memory, and the call that fails, on values.
-use Rattle.std.proofs.Common.{◌≡◌, ℕ, refl, true, false, [], ◌∷◌, Some, None, Ok, Err}
+-- Rows of those who wait, connections in memory, the call that fails, and counts, on values.
+use Rattle.std.proofs.Common.{◌≡◌, ℕ, refl, rules, true, false, [], ◌∷◌, Some, None, Ok, Err}
 use Rattle.match_links.specs.Waiters.{at_place, without}
 use Rattle.match_links.specs.Callers.{can_be_opened, opening, WasOpened}
-use Rattle.match_links.specs.Counting.{is_due, one_less, passing}
+use Rattle.match_links.specs.Counting.{is_due, one_less, passing, once_more}
 use Rattle.match_links.specs.declared.callers.Caller.{Caller}
 use Rattle.match_links.specs.declared.callers.State.TheVariants.{Waiting, Open}
 use Rattle.match_links.specs.declared.links.LinkFault.TheVariants.{Failed, Slow}
@@ -65,3 +65,17 @@ a_call_of_both_fails = refl
 
 call_before_both : passing (Some 1) (Some 2) ≡ Ok tt
 call_before_both = refl
+
+-- ---- how often a seat was turned away
+
+once_more_of_bob : once_more (1 ∷ 0 ∷ 2 ∷ []) 1 ≡ 1 ∷ 1 ∷ 2 ∷ []
+once_more_of_bob = refl
+
+no_more_than_255 : once_more (255 ∷ 0 ∷ []) 0 ≡ 255 ∷ 0 ∷ []
+no_more_than_255 = refl
+
+not_of_a_seat_beyond_them : once_more (1 ∷ 0 ∷ []) 2 ≡ 1 ∷ 0 ∷ []
+not_of_a_seat_beyond_them = refl
+
+not_of_the_next_seat : once_more (0 ∷ 0 ∷ []) 0 ≡ 0 ∷ 1 ∷ [] → ⊥
+not_of_the_next_seat same = absurd (search (rules, same))

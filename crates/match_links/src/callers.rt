@@ -1,7 +1,8 @@
 //! Connections of seats in memory.
 
-ghost use Rattle.std.specs.Prelude.{◌≡◌, ◌+◌, ◌≤◌, ◌<◌, [], length, take, drop, position, is_some, vec_len, IfOk, IfSome, OnErr};
+ghost use Rattle.std.specs.Prelude.{◌≡◌, ◌+◌, ◌≤◌, ◌<◌, [], length, take, drop, position, is_some, vec_len, IfOk, IfSome, IfErr, OnErr};
 ghost use Rattle.match_links.specs.Pieces.{part_len};
+ghost use Rattle.match_links.specs.declared.links.LinkFault.TheVariants.{Failed};
 
 use crate::input::give;
 use crate::links::LinkFault;
@@ -108,6 +109,7 @@ impl Callers {
     pub(crate) fn read(&mut self, node: u8, seat: u8, piece: &mut [u8]) -> Result<usize, LinkFault>
         ensures within { IfOk result (λ count. count ≤ length piece.new) }
         ensures failed { OnErr result (self.new.all.items ≡ self.old.all.items) }
+        ensures missing { IfErr result (λ why. why ≡ Failed) }
         ensures given { IfOk result (λ count. IsNextPiece (length piece.old) count piece.new (to_read node seat self.old.all.items)) }
     {
         match self.open_at(node, seat) {

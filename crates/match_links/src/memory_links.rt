@@ -1,10 +1,11 @@
 //! Links in memory, of whose calls one may fail.
 
-ghost use Rattle.std.specs.Prelude.{◌≡◌, ◌≤◌, ◌<◌, ◌+◌, ◌++◌, ◌==◌, [], ℕ, if◌then◌else◌, ◌∷◌, length, take, map, get_or, nat_lt, is_some, position, vec_len, Ok, IfOk, IsOk, OnOk, OnErr};
+ghost use Rattle.std.specs.Prelude.{◌≡◌, ◌≤◌, ◌<◌, ◌+◌, ◌++◌, ◌==◌, [], ℕ, if◌then◌else◌, ◌∷◌, length, take, map, replicate, get_or, nat_lt, is_some, position, vec_len, Ok, IfOk, IfErr, IsOk, OnOk, OnErr};
 ghost use Rattle.match_links.specs.Memory.{told_by, AreTold, told_prop, AreLogged, logged_prop};
-ghost use Rattle.match_links.specs.Counting.{is_due, one_less, passing};
+ghost use Rattle.match_links.specs.Counting.{is_due, one_less, passing, once_more};
 ghost use Rattle.match_links.specs.Passages.{sat, came, lines_in, log_of, Told as WasTold, Emptied as WasEmptied, Logged as WasLogged};
 ghost use Rattle.match_links.specs.Room.{line_room, log_room, reaching};
+ghost use Rattle.match_links.specs.declared.links.LinkFault.TheVariants.{OutOfMemory, Failed};
 
 use crate::blank::Blank;
 use crate::callers::Callers;
@@ -16,6 +17,9 @@ use std::alloc::{AllocError, Global};
 /// How many bytes of each log there is room for from the start: the header of a match with short names, so that what comes
 /// behind it finds its room by `reserve` alone.
 const ROOM: usize = 64;
+
+/// Of how many seats it is counted how often they are turned away: as many as the largest match has.
+const SEATS: usize = 10;
 
 /// What a call of a link reaches.
 #[derive(Clone, Copy, Debug, PartialEq, Eq)]
@@ -60,6 +64,8 @@ pub struct MemoryLinks {
     ends: (u8, u8),
     /// Of which nodes the seats' ports are closed.
     closed: [bool; NODES],
+    /// How often it was asked to turn each seat away, 255 at most.
+    turned_away: [u8; SEATS],
     /// How many calls pass before the one that fails; none once it has.
     left: Option<u64>,
     /// What the call that failed was to reach.
@@ -86,6 +92,7 @@ impl Drop for MemoryLinks {
             wire: _,
             ends: _,
             closed: _,
+            turned_away: _,
             left: _,
             failed: _,
             left_to_slow: _,
@@ -110,6 +117,15 @@ fn count_down(left: &mut Option<u64>) -> bool
             *left = Some(count - 1);
             false
         }
+    }
+}
+
+/// Counts once more of this number, up to 255; nothing where there is no such count.
+fn count_once(counts: &mut [u8], number: usize)
+    ensures { counts.new ≡ once_more counts.old number }
+{
+    if number < counts.len() {
+        counts[number] = counts[number].saturating_add(1);
     }
 }
 
@@ -139,6 +155,7 @@ fn tell_one(
 /// Makes the rooms of so many lines.
 fn reserve_blanks(alloc: Global, blanks: &mut Vec<Blank>, lines: usize) -> Result<(), AllocError>
     ensures room { OnOk result (lines ≤ vec_len blanks.new) }
+    ensures kept { vec_len blanks.old ≤ vec_len blanks.new }
 {
     for _ in blanks.len()..lines {
         blanks.push(Blank::new(alloc)?)?;
@@ -150,6 +167,8 @@ fn reserve_blanks(alloc: Global, blanks: &mut Vec<Blank>, lines: usize) -> Resul
 fn reserve_logs(logs: &mut Vec<Vec<u8>>, text: usize) -> Result<(), AllocError>
     ensures same { map (λ log. log.items) logs.new.items ≡ map (λ log. log.items) logs.old.items }
     ensures room { OnOk result ((node : ℕ) → node < length logs.new.items → text ≤ log_room logs.new.items node) }
+    ensures kept { (node : ℕ) → log_room logs.old.items node ≤ log_room logs.new.items node }
+    ensures count { length logs.new.items ≡ length logs.old.items }
 {
     for node in 0..logs.len() {
         logs[node].reserve(text)?;
@@ -160,7 +179,8 @@ fn reserve_logs(logs: &mut Vec<Vec<u8>>, text: usize) -> Result<(), AllocError>
 /// The logs of so many nodes, with nothing in them.
 #[tactic(auto, using(crate::proofs::Passed::none_more))]
 fn empty_logs(alloc: Global, nodes: usize) -> Result<Vec<Vec<u8>>, AllocError>
-    ensures { IfOk result (λ logs. (node : ℕ) → get_or (map (λ log. log.items) logs.items) node [] ≡ []) }
+    ensures empty { IfOk result (λ logs. (node : ℕ) → get_or (map (λ log. log.items) logs.items) node [] ≡ []) }
+    ensures count { IfOk result (λ logs. length logs.items ≡ nodes) }
 {
     let mut logs = Vec::new(alloc);
     for _ in 0..nodes {
@@ -174,6 +194,7 @@ fn empty_logs(alloc: Global, nodes: usize) -> Result<Vec<Vec<u8>>, AllocError>
 fn empty_one(logs: &mut Vec<Vec<u8>>, node: usize) -> Result<(), LinkFault>
     ensures emptied { OnOk result ((i : ℕ) → get_or (map (λ log. log.items) logs.new.items) i [] ≡ (if node == i then [] else get_or (map (λ log. log.items) logs.old.items) i [])) }
     ensures failed { OnErr result (map (λ log. log.items) logs.new.items ≡ map (λ log. log.items) logs.old.items) }
+    ensures missing { IfErr result (λ why. why ≡ Failed) }
     ensures kept { (i : ℕ) → log_room logs.old.items i ≤ log_room logs.new.items i }
 {
     if node >= logs.len() {
@@ -203,7 +224,7 @@ fn add_to_one(logs: &mut Vec<Vec<u8>>, node: usize, text: &[u8]) -> Result<(), L
 }
 
 impl MemoryLinks {
-    ghost use Rattle.match_links.specs.MemoryPassed.{passed_of};
+    ghost use Rattle.match_links.specs.MemoryPassed.{passed_of, turned_away_in};
     ghost use Rattle.match_links.specs.MemoryRoom.{room_of};
     ghost use Rattle.match_links.specs.Room.{IsAmple};
 
@@ -211,6 +232,8 @@ impl MemoryLinks {
     pub fn new(alloc: Global, nodes: usize, call: u64) -> Result<MemoryLinks, AllocError>
         ensures passed { IfOk result (λ links. passed_of links ≡ []) }
         ensures room { IfOk result (λ links. IsAmple (room_of links) 0 64) }
+        ensures logs { IfOk result (λ links. length (room_of links).logs ≡ nodes) }
+        ensures turned { IfOk result (λ links. turned_away_in links ≡ replicate 10 0) }
     {
         let mut links = MemoryLinks {
             alloc,
@@ -221,6 +244,7 @@ impl MemoryLinks {
             wire: Vec::new(alloc),
             ends: (0, 0),
             closed: [false; NODES],
+            turned_away: [0; SEATS],
             left: call.checked_sub(1),
             failed: None,
             left_to_slow: None,
@@ -252,6 +276,16 @@ impl MemoryLinks {
         match self.logs.get(node) {
             Some(log) => log,
             None => &[],
+        }
+    }
+
+    /// How often it was asked to turn a seat away, 255 at most; 0 of a seat from 10 on, of which nothing is kept.
+    pub fn times_turned_away(&self, seat: usize) -> u8
+        ensures { result ≡ get_or (turned_away_in self.now) seat 0 }
+    {
+        match self.turned_away.get(seat) {
+            Some(times) => *times,
+            None => 0,
         }
     }
 
@@ -292,6 +326,7 @@ impl MemoryLinks {
         ensures blanks { self.new.blanks ≡ self.old.blanks }
         ensures logs { self.new.logs ≡ self.old.logs }
         ensures wire { self.new.wire ≡ self.old.wire }
+        ensures turned { self.new.turned_away ≡ self.old.turned_away }
     {
         if (node as usize) < NODES {
             self.closed[node as usize] = closed;
@@ -309,6 +344,7 @@ impl MemoryLinks {
         ensures blanks { self.new.blanks ≡ self.old.blanks }
         ensures logs { self.new.logs ≡ self.old.logs }
         ensures wire { self.new.wire ≡ self.old.wire }
+        ensures turned { self.new.turned_away ≡ self.old.turned_away }
     {
         let fails = count_down(&mut self.left);
         let is_slow = count_down(&mut self.left_to_slow);
@@ -325,7 +361,7 @@ impl MemoryLinks {
 }
 
 impl Links for MemoryLinks {
-    ghost use Rattle.match_links.specs.MemoryPassed.{passed_of, callers_of};
+    ghost use Rattle.match_links.specs.MemoryPassed.{passed_of, callers_of, turned_away_in};
     ghost use Rattle.match_links.specs.MemoryRoom.{room_of};
     ghost use Rattle.match_links.specs.Room.{IsAmple, Leaves};
     ghost use Rattle.match_links.specs.Callers.{is_open_for};
@@ -338,6 +374,9 @@ impl Links for MemoryLinks {
         ensures left { self.new.left ≡ self.old.left }
         ensures left_to_slow { self.new.left_to_slow ≡ self.old.left_to_slow }
         ensures room { OnOk result (IsAmple (room_of self.new) lines text) }
+        ensures keeps { Leaves (room_of self.old) 0 (λ _. 0) (room_of self.new) }
+        ensures logs { length (room_of self.new).logs ≡ length (room_of self.old).logs }
+        ensures turned { turned_away_in self.new ≡ turned_away_in self.old }
     {
         self.told.reserve(lines)?;
         reserve_blanks(self.alloc, &mut self.blanks, lines)?;
@@ -350,7 +389,9 @@ impl Links for MemoryLinks {
         ensures sat { OnOk result (passed_of self.new ≡ passed_of self.old ++ sat node seat ∷ []) }
         ensures failed { OnErr result (passed_of self.new ≡ passed_of self.old) }
         ensures nothing_taken { OnErr result (callers_of self.new ≡ callers_of self.old) }
+        ensures granted { IfErr result (λ why. why ≡ OutOfMemory → ⊥) }
         ensures room { Leaves (room_of self.old) 0 (λ _. 0) (room_of self.new) }
+        ensures turned { turned_away_in self.new ≡ turned_away_in self.old }
     {
         self.pass(Reached::Seat)?;
         if self.is_closed(node) {
@@ -367,7 +408,9 @@ impl Links for MemoryLinks {
         ensures came { IfOk result (λ count. passed_of self.new ≡ passed_of self.old ++ came node seat (take count piece.new)) }
         ensures failed { OnErr result (passed_of self.new ≡ passed_of self.old) }
         ensures nothing_taken { OnErr result (callers_of self.new ≡ callers_of self.old) }
+        ensures granted { IfErr result (λ why. why ≡ OutOfMemory → ⊥) }
         ensures room { Leaves (room_of self.old) 0 (λ _. 0) (room_of self.new) }
+        ensures turned { turned_away_in self.new ≡ turned_away_in self.old }
     {
         self.pass(Reached::Seat)?;
         let count = self.callers.read(node, seat, piece)?;
@@ -382,6 +425,7 @@ impl Links for MemoryLinks {
         ensures answer { 1 ≤ (room_of self.old).lines → length line.now ≤ 4096
             → result ≡ reaching (passing self.old.left self.old.left_to_slow) (is_some (position (is_open_for node seat) (callers_of self.old))) }
         ensures room { Leaves (room_of self.old) 1 (λ _. 0) (room_of self.new) }
+        ensures turned { turned_away_in self.new ≡ turned_away_in self.old }
     {
         self.pass(Reached::Seat)?;
         if !self.callers.is_open(node, seat) {
@@ -399,17 +443,19 @@ impl Links for MemoryLinks {
         Ok(())
     }
 
-    /// Those who wait go on waiting: nobody asks for that seat any more.
+    /// Those who wait go on waiting: nobody asks for that seat any more. It is counted (`times_turned_away`).
     fn turn_away(&mut self, seat: u8)
         ensures same { passed_of self.new ≡ passed_of self.old }
+        ensures turned { turned_away_in self.new ≡ once_more (turned_away_in self.old) seat }
         ensures room { Leaves (room_of self.old) 0 (λ _. 0) (room_of self.new) }
     {
-        let _ = seat;
+        count_once(&mut self.turned_away, seat as usize);
     }
 
     fn hang_up(&mut self, node: u8, seat: u8)
         ensures same { passed_of self.new ≡ passed_of self.old }
         ensures room { Leaves (room_of self.old) 0 (λ _. 0) (room_of self.new) }
+        ensures turned { turned_away_in self.new ≡ turned_away_in self.old }
     {
         self.callers.close_seat(node, seat);
     }
@@ -418,6 +464,7 @@ impl Links for MemoryLinks {
         ensures same { passed_of self.new ≡ passed_of self.old }
         ensures answer { length frame.now ≤ (room_of self.old).frame → result ≡ passing self.old.left self.old.left_to_slow }
         ensures room { Leaves (room_of self.old) 0 (λ _. 0) (room_of self.new) }
+        ensures turned { turned_away_in self.new ≡ turned_away_in self.old }
     {
         self.pass(Reached::Peer)?;
         self.wire.clear();
@@ -430,7 +477,9 @@ impl Links for MemoryLinks {
 
     fn receive(&mut self, from: u8, to: u8, frame: &mut [u8]) -> Result<(), LinkFault>
         ensures same { passed_of self.new ≡ passed_of self.old }
+        ensures granted { IfErr result (λ why. why ≡ OutOfMemory → ⊥) }
         ensures room { Leaves (room_of self.old) 0 (λ _. 0) (room_of self.new) }
+        ensures turned { turned_away_in self.new ≡ turned_away_in self.old }
     {
         self.pass(Reached::Peer)?;
         if self.ends.0 != from || self.ends.1 != to || frame.len() != self.wire.len() {
@@ -444,7 +493,9 @@ impl Links for MemoryLinks {
     fn empty_log(&mut self, node: u8) -> Result<(), LinkFault>
         ensures emptied { OnOk result (passed_of self.new ≡ passed_of self.old ++ WasEmptied node ∷ []) }
         ensures failed { OnErr result (passed_of self.new ≡ passed_of self.old) }
+        ensures granted { IfErr result (λ why. why ≡ OutOfMemory → ⊥) }
         ensures room { Leaves (room_of self.old) 0 (λ _. 0) (room_of self.new) }
+        ensures turned { turned_away_in self.new ≡ turned_away_in self.old }
     {
         self.pass(Reached::Log)?;
         empty_one(&mut self.logs, node as usize)?;
@@ -459,6 +510,7 @@ impl Links for MemoryLinks {
         ensures answer { length text.now ≤ get_or (room_of self.old).logs node 0
             → result ≡ reaching (passing self.old.left self.old.left_to_slow) (nat_lt node (length (room_of self.old).logs)) }
         ensures room { Leaves (room_of self.old) 0 (λ i. if node == i then length text.now else 0) (room_of self.new) }
+        ensures turned { turned_away_in self.new ≡ turned_away_in self.old }
     {
         self.pass(Reached::Log)?;
         add_to_one(&mut self.logs, node as usize, text)?;
@@ -468,7 +520,9 @@ impl Links for MemoryLinks {
 
     fn open(&mut self, node: u8) -> Result<(), LinkFault>
         ensures same { passed_of self.new ≡ passed_of self.old }
+        ensures granted { IfErr result (λ why. why ≡ OutOfMemory → ⊥) }
         ensures room { Leaves (room_of self.old) 0 (λ _. 0) (room_of self.new) }
+        ensures turned { turned_away_in self.new ≡ turned_away_in self.old }
     {
         self.pass(Reached::Ports)?;
         self.set_closed(node, false);
@@ -478,6 +532,7 @@ impl Links for MemoryLinks {
     fn part(&mut self, node: u8)
         ensures same { passed_of self.new ≡ passed_of self.old }
         ensures room { Leaves (room_of self.old) 0 (λ _. 0) (room_of self.new) }
+        ensures turned { turned_away_in self.new ≡ turned_away_in self.old }
     {
         self.callers.close_node(node);
     }
@@ -485,6 +540,7 @@ impl Links for MemoryLinks {
     fn close(&mut self, node: u8)
         ensures same { passed_of self.new ≡ passed_of self.old }
         ensures room { Leaves (room_of self.old) 0 (λ _. 0) (room_of self.new) }
+        ensures turned { turned_away_in self.new ≡ turned_away_in self.old }
     {
         self.set_closed(node, true);
         self.callers.close_node(node);
