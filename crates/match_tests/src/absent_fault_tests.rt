@@ -1,18 +1,76 @@
+//! The match where seats were dropped and are played for, in which a call of a link or of a disk fails. After each turn it
+//! is asserted who is played for, and whom the links turn away.
+
 use crate::course::{
-    Course, bots_everywhere, course_of, disks, lost_bots, no_outages, outage,
-    outages_before_the_leader, server_that,
+    Answer, Course, Ending, TURNS, assert_places, bots_everywhere, course_after, disks, ending_by,
+    lost_bots, no_outages, outage, outages_before_the_leader, server_that,
 };
 use crate::samples::assert_same;
 use crate::server_tests::{
-    Failing, assert_ended, assert_mended, assert_over, bit, failed_in, goes_on,
+    Failing, assert_ended, assert_mended, assert_over, each_link_fails, failed_in, fails_in_turn,
 };
 use dealer_node::NodeFault;
 use match_file::Absent;
 use match_links::{MemoryLinks, Reached};
-use serving::Outages;
+use promise_store::OnceDisk;
+use serving::{Outages, Place, Server, Turn};
 use std::alloc::{AllocError, Global};
 use std::process::Abort;
 use std::test::Fail;
+
+/// A match over links in memory.
+type Match = Server<OnceDisk, MemoryLinks>;
+
+/// Whether a seat that is here is played for.
+fn is_played(place: Option<Place>) -> bool {
+    matches!(place, Some(Place::Played(_)))
+}
+
+/// Whether a turn that was answered so took the connection of a seat that had been here.
+fn is_lost(answer: Answer, seat: u8, before: Option<Place>) -> bool {
+    answer == Ok(Turn::Gone(seat)) && matches!(before, Some(Place::Seated(_) | Place::Leaving(_)))
+}
+
+/// Asserts of a seat that had been here before a turn that it is played for, and turned away once, where it was or where
+/// that turn took its connection; so not where its accept failed or its node stopped.
+fn assert_place(rt: &impl Abort, seat: u8, before: Option<Place>, answer: Answer, server: &Match) {
+    let due = is_played(before) || is_lost(answer, seat, before);
+    assert_same(rt, is_played(server.place(seat as usize)), due);
+    let times = server.links().times_turned_away(seat as usize);
+    assert_same(rt, times, if due { 1 } else { 0 });
+}
+
+/// What a turn answers, after which it is asserted who is played for.
+fn watched_turn(rt: &impl Abort, server: &mut Match) -> Answer {
+    let alice = server.place(0);
+    let bob = server.place(1);
+    let answer = server.turn();
+    assert_place(rt, 0, alice, answer, server);
+    assert_place(rt, 1, bob, answer, server);
+    answer
+}
+
+/// How a match ends whose turns are watched.
+fn watched(rt: &impl Abort, server: &mut Match) -> Ending {
+    let mut starts = 0u64;
+    for _ in 0..TURNS {
+        if let Some(ending) = ending_by(watched_turn(rt, server), &mut starts) {
+            return ending;
+        }
+    }
+    Ending::Never
+}
+
+/// What comes of a match whose turns are watched.
+fn watched_course(
+    rt: &impl Abort,
+    alloc: Global,
+    server: &mut Match,
+) -> Result<Course, AllocError> {
+    assert_places(rt, server);
+    let ending = watched(rt, server);
+    course_after(alloc, server, ending)
+}
 
 /// A match whose seats are played for once they were dropped; a call of a node's disk, or of a link, fails. None where no
 /// server could be made.
@@ -26,7 +84,7 @@ fn played_for(
     let disks = disks(alloc, failing.0, failing.1)?;
     match server_that(rt, alloc, disks, links, outages, Absent::Play)? {
         None => Ok(None),
-        Some(mut server) => Ok(Some(course_of(rt, alloc, &mut server)?)),
+        Some(mut server) => Ok(Some(watched_course(rt, alloc, &mut server)?)),
     }
 }
 
@@ -46,37 +104,26 @@ fn fails_at(
     }
 }
 
-/// Where a seat's link fails, the seat is played for, or goes to the next node, and the match goes to its end. Each kind of
-/// link is met.
+/// Where a seat's link fails, the seat is played for, or goes to the next node, and the match goes to its end.
 #[test]
 fn each_call_of_a_link_fails_where_seats_are_played_for(rt: HostRuntime) -> Result<(), Fail> {
     let alloc = rt.alloc();
-    let mut met = 0u8;
-    for call in 1..2_000u64 {
-        let links = bots_everywhere(alloc, call)?;
-        let Some(reached) = fails_at(&rt, alloc, call, links)? else {
-            assert_same(&rt, met, 15);
-            return Ok(());
-        };
-        met |= bit(reached);
-    }
-    panic!(rt; "calls without end")
+    each_link_fails(
+        &rt,
+        |call| fails_at(&rt, alloc, call, bots_everywhere(alloc, call)?),
+    )?;
+    Ok(())
 }
 
 /// The same where both bots are lost, and all is played for.
 #[test]
 fn each_call_of_a_link_fails_where_both_bots_are_lost(rt: HostRuntime) -> Result<(), Fail> {
     let alloc = rt.alloc();
-    let mut met = 0u8;
-    for call in 1..2_000u64 {
-        let links = lost_bots(alloc, call)?;
-        let Some(reached) = fails_at(&rt, alloc, call, links)? else {
-            assert_same(&rt, met, 15);
-            return Ok(());
-        };
-        met |= bit(reached);
-    }
-    panic!(rt; "calls without end")
+    each_link_fails(
+        &rt,
+        |call| fails_at(&rt, alloc, call, lost_bots(alloc, call)?),
+    )?;
+    Ok(())
 }
 
 /// A match of two bots that are lost, in which this call of a node's disk fails.
@@ -96,23 +143,12 @@ fn fails_once(
     }
 }
 
-/// Each call of a node's disk fails in turn, up to the first that isn't made.
-fn fails_in_turn(rt: &impl Abort, alloc: Global, node: usize) -> Result<(), AllocError> {
-    let mut within = 0;
-    for call in 1..1_000u64 {
-        let failing = fails_once(rt, alloc, node, call)?;
-        if !goes_on(rt, failing, &mut within) {
-            return Ok(());
-        }
-    }
-    panic!(rt; "calls without end")
-}
-
 /// A node whose disk fails once is stopped and started, and the match goes on.
 #[test]
 fn each_call_of_a_disk_fails_where_both_bots_are_lost(rt: HostRuntime) -> Result<(), Fail> {
+    let alloc = rt.alloc();
     for node in 0..3 {
-        fails_in_turn(&rt, rt.alloc(), node)?;
+        fails_in_turn(&rt, |call| fails_once(&rt, alloc, node, call))?;
     }
     Ok(())
 }
@@ -133,14 +169,9 @@ fn leader_fails_once(rt: &impl Abort, alloc: Global, call: u64) -> Result<Failin
 /// The leader's disk fails once: in an order too, which is an append there.
 #[test]
 fn each_call_of_a_leaders_disk_fails_where_it_is_ordered(rt: HostRuntime) -> Result<(), Fail> {
-    let mut within = 0;
-    for call in 1..1_000u64 {
-        let failing = leader_fails_once(&rt, rt.alloc(), call)?;
-        if !goes_on(&rt, failing, &mut within) {
-            return Ok(());
-        }
-    }
-    panic!(rt; "calls without end")
+    let alloc = rt.alloc();
+    fails_in_turn(&rt, |call| leader_fails_once(&rt, alloc, call))?;
+    Ok(())
 }
 
 /// Both bots are lost, and all is played for. `tests/serve_growths` runs this test and refuses it memory: an order that

@@ -1,22 +1,33 @@
 use crate::course::{
-    ALICE, BOB, VERSION, assert_whole, disks, logs, lost_bots, no_outages, outage,
-    outages_before_the_leader, server_that,
+    ALICE, BOB, VERSION, assert_each, assert_whole, disks, logs, logs_without, lost_bots,
+    no_outages, outage, outages_before_the_leader, server_that,
 };
-use crate::samples::{assert_bytes, assert_holds};
+use crate::samples::{assert_bytes, assert_holds, assert_same};
 use dealer_node::NodeFault;
+use dealer_world::Cluster;
 use match_file::Absent;
 use match_links::MemoryLinks;
-use promise_store::OnceDisk;
+use promise_store::{Disk, OnceDisk};
 use serving::{Outages, Place, ServeFault, Server, Turn};
 use std::alloc::{AllocError, Global};
 use std::process::Abort;
 use std::test::Fail;
 
 /// That the first player of hand 0 is away, handed on.
-const FORWARD: &[u8] = b"\x00\x00\x00\x09\x01\x08\x03\x00\x00\x00\x00\x00\x00";
+pub(crate) const FORWARD: &[u8] = b"\x00\x00\x00\x09\x01\x08\x03\x00\x00\x00\x00\x00\x00";
 
 /// A first line that names no version which is spoken here.
 const WRONG: &[u8] = b"VERSION:1.0.0\r\n";
+
+/// What bob's bot sends where he calls the first bet, and is lost.
+const CALLING_BOB: &[u8] = b"VERSION:2.0.0\r\nMATCHSTATE:1:0::|8hTc:c\r\n";
+
+/// The log where all is played for but that call: who faces nothing calls, and alice, who faces the big blind, folds.
+const CALLED: &[u8] = b"# name/game/hands m1 l2.game 2
+STATE:0:cc/cc/cc/cc:TdAs|8hTc/2c8c3h/9c/Kh:-10|10:alice|bob
+STATE:1:f:2d2h|3d3s:5|-5:bob|alice
+SCORE:-15|15:alice|bob
+";
 
 /// How many turns a match of these tests takes at most.
 const TURNS: u32 = 10_000;
@@ -112,9 +123,37 @@ fn assert_played(
     Ok(())
 }
 
-/// Asserts the bytes of a match's frame of this number.
-fn assert_frame(rt: &impl Abort, server: &Match, number: usize, due: (u8, u8, &[u8])) {
-    let frame = server.cluster().frame(number).expect(rt, "a frame");
+/// Asserts how often links were asked to turn alice away, and bob.
+fn assert_turned_away(rt: &impl Abort, server: &Match, alice: u8, bob: u8) {
+    let links = server.links();
+    let times = (links.times_turned_away(0), links.times_turned_away(1));
+    assert_same(rt, times, (alice, bob));
+}
+
+/// Asserts what the turns of a match say about seats, and that all but this node, which is lost after the first deal,
+/// logged it wholly.
+fn assert_played_without(
+    rt: &impl Abort,
+    alloc: Global,
+    server: &mut Match,
+    lost: usize,
+    due: &[u8],
+) -> Result<(), AllocError> {
+    let said = turns(alloc, server)?;
+    assert_bytes(rt, said.as_slice(), due);
+    let logs = logs(alloc, server.links())?;
+    assert_bytes(rt, logs.as_slice(), logs_without(alloc, lost)?.as_slice());
+    Ok(())
+}
+
+/// Asserts the way and the bytes of a frame of this number.
+pub(crate) fn assert_frame<D: Disk + Drop>(
+    rt: &impl Abort,
+    cluster: &Cluster<D>,
+    number: usize,
+    due: (u8, u8, &[u8]),
+) {
+    let frame = cluster.frame(number).expect(rt, "a frame");
     assert!(rt; frame.from == due.0 && frame.to == due.1);
     assert_bytes(rt, frame.bytes, due.2);
 }
@@ -127,7 +166,8 @@ fn a_seat_that_was_dropped_is_played_for(rt: HostRuntime) -> Result<(), Fail> {
     let links = bots(alloc, ALICE, VERSION)?;
     let mut server = server(&rt, alloc, links, no_outages(alloc), Absent::Play)?;
     assert_played(&rt, alloc, &mut server, b"s00 s10 g1 a11 ")?;
-    assert_frame(&rt, &server, 12, (1, 0, FORWARD));
+    assert_frame(&rt, server.cluster(), 12, (1, 0, FORWARD));
+    assert_turned_away(&rt, &server, 0, 1);
     Ok(())
 }
 
@@ -138,6 +178,20 @@ fn two_seats_are_played_for(rt: HostRuntime) -> Result<(), Fail> {
     let links = bots(alloc, VERSION, VERSION)?;
     let mut server = server(&rt, alloc, links, no_outages(alloc), Absent::Play)?;
     assert_played(&rt, alloc, &mut server, b"s00 s10 g1 a11 g0 a01 ")?;
+    assert_turned_away(&rt, &server, 1, 1);
+    Ok(())
+}
+
+/// Alice is lost at once, and bob behind his first call: in each round both are played for, and call.
+#[test]
+fn who_faces_nothing_calls(rt: HostRuntime) -> Result<(), Fail> {
+    let alloc = rt.alloc();
+    let links = bots(alloc, VERSION, CALLING_BOB)?;
+    let mut server = server(&rt, alloc, links, no_outages(alloc), Absent::Play)?;
+    let said = turns(alloc, &mut server)?;
+    let due = b"s00 s10 g0 a01 a01 g1 a11 a01 a11 a01 a11 a01 ";
+    assert_bytes(&rt, said.as_slice(), due);
+    assert_each(&rt, logs(alloc, server.links())?.as_slice(), CALLED);
     Ok(())
 }
 
@@ -148,8 +202,8 @@ fn orders_pass_over_a_node_that_is_out(rt: HostRuntime) -> Result<(), Fail> {
     let links = bots(alloc, ALICE, VERSION)?;
     let outages = outage(alloc, 1, 1, None)?;
     let mut server = server(&rt, alloc, links, outages, Absent::Play)?;
-    let said = turns(alloc, &mut server)?;
-    assert_bytes(&rt, said.as_slice(), b"s00 s10 x1 g1 a12 ");
+    assert_played_without(&rt, alloc, &mut server, 1, b"s00 s10 x1 g1 a12 ")?;
+    assert_turned_away(&rt, &server, 0, 1);
     Ok(())
 }
 
@@ -162,6 +216,7 @@ fn orders_are_given_to_the_leader(rt: HostRuntime) -> Result<(), Fail> {
     let mut server = server(&rt, alloc, links, outages, Absent::Play)?;
     let due = b"s00 s10 x0 x1 s12 g1 a10 s02 g0 a00 ";
     assert_played(&rt, alloc, &mut server, due)?;
+    assert_turned_away(&rt, &server, 1, 1);
     Ok(())
 }
 
@@ -174,6 +229,7 @@ fn who_is_played_for_is_not_seated(rt: HostRuntime) -> Result<(), Fail> {
     let mut server = server(&rt, alloc, links, no_outages(alloc), Absent::Play)?;
     assert_played(&rt, alloc, &mut server, b"s00 s10 g1 a11 ")?;
     assert_holds(&rt, 1, server.place(1) == Some(Place::Played(1)));
+    assert_turned_away(&rt, &server, 0, 1);
     Ok(())
 }
 
@@ -185,6 +241,21 @@ fn who_is_waited_for_is_seated(rt: HostRuntime) -> Result<(), Fail> {
     links.call(1, 1, BOB)?;
     let mut server = server(&rt, alloc, links, no_outages(alloc), Absent::Wait)?;
     assert_played(&rt, alloc, &mut server, b"s00 s10 g1 s11 ")?;
+    assert_turned_away(&rt, &server, 0, 0);
+    Ok(())
+}
+
+/// Alice isn't there at node 0, where her accept fails: she had no connection to lose, so she is passed over by the greeting
+/// and awaited at node 1, once it is her turn.
+#[test]
+fn who_was_never_there_is_awaited(rt: HostRuntime) -> Result<(), Fail> {
+    let alloc = rt.alloc();
+    let mut links = MemoryLinks::new(alloc, 3, 0)?;
+    links.call(0, 1, BOB)?;
+    links.call(1, 0, ALICE)?;
+    let mut server = server(&rt, alloc, links, no_outages(alloc), Absent::Play)?;
+    assert_played(&rt, alloc, &mut server, b"g0 s10 s01 ")?;
+    assert_turned_away(&rt, &server, 0, 0);
     Ok(())
 }
 
@@ -195,6 +266,7 @@ fn who_names_a_wrong_version_is_played_for(rt: HostRuntime) -> Result<(), Fail> 
     let links = bots(alloc, ALICE, WRONG)?;
     let mut server = server(&rt, alloc, links, no_outages(alloc), Absent::Play)?;
     assert_played(&rt, alloc, &mut server, b"s00 s10 g1 a11 ")?;
+    assert_turned_away(&rt, &server, 0, 1);
     Ok(())
 }
 
@@ -207,7 +279,7 @@ fn seats_of_a_node_that_stops_are_awaited(rt: HostRuntime) -> Result<(), Fail> {
     links.call(1, 0, ALICE)?;
     let outages = outage(alloc, 0, 1, None)?;
     let mut server = server(&rt, alloc, links, outages, Absent::Play)?;
-    let said = turns(alloc, &mut server)?;
-    assert_bytes(&rt, said.as_slice(), b"s00 s10 x0 s11 s01 ");
+    assert_played_without(&rt, alloc, &mut server, 0, b"s00 s10 x0 s11 s01 ")?;
+    assert_turned_away(&rt, &server, 0, 0);
     Ok(())
 }

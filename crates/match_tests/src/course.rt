@@ -20,11 +20,12 @@ STATE:1:f:2d2h|3d3s:5|-5:bob|alice
 SCORE:0|0:alice|bob
 ";
 
-/// The logs where node 0 is lost after the first deal: of node 0 the header alone.
-pub(crate) fn without_node_0(alloc: Global) -> Result<Vec<u8>, AllocError> {
-    let mut logs = HEADER.to_vec(alloc)?;
-    logs.extend_from_slice(LOG)?;
-    logs.extend_from_slice(LOG)?;
+/// The logs of three nodes where one is lost after the first deal: of that node the header alone.
+pub(crate) fn logs_without(alloc: Global, lost: usize) -> Result<Vec<u8>, AllocError> {
+    let mut logs = Vec::new(alloc);
+    for node in 0..3 {
+        logs.extend_from_slice(if node == lost { HEADER } else { LOG })?;
+    }
     Ok(logs)
 }
 
@@ -89,15 +90,29 @@ pub(crate) fn server_that<D: Disk + Drop, L: Links + Drop>(
     Ok(Server::new(alloc, cluster, links, outages, absent).ok())
 }
 
-/// Lets a server take turns until all is over or a fault comes. A turn that found no memory is taken again.
+/// What a turn answers.
+pub(crate) type Answer = Result<Turn, ServeFault>;
+
+/// How a match ended by a turn that was answered so, before which so many started a node; none where it goes on. A turn
+/// that found no memory is taken again.
+pub(crate) fn ending_by(answer: Answer, starts: &mut u64) -> Option<Ending> {
+    match answer {
+        Ok(Turn::Over) => Some(Ending::Over { starts: *starts }),
+        Ok(Turn::Started(_)) => {
+            *starts = starts.saturating_add(1);
+            None
+        }
+        Ok(_) | Err(ServeFault::Node(NodeFault::OutOfMemory)) => None,
+        Err(fault) => Some(Ending::Refused(fault)),
+    }
+}
+
+/// Lets a server take turns until all is over or a fault comes.
 pub(crate) fn serve<D: Disk + Drop, L: Links + Drop>(server: &mut Server<D, L>) -> Ending {
     let mut starts = 0u64;
     for _ in 0..TURNS {
-        match server.turn() {
-            Ok(Turn::Over) => return Ending::Over { starts },
-            Ok(Turn::Started(_)) => starts = starts.saturating_add(1),
-            Ok(_) | Err(ServeFault::Node(NodeFault::OutOfMemory)) => {}
-            Err(fault) => return Ending::Refused(fault),
+        if let Some(ending) = ending_by(server.turn(), &mut starts) {
+            return ending;
         }
     }
     Ending::Never
@@ -163,6 +178,15 @@ pub(crate) fn course_of<D: Disk + Drop>(
 ) -> Result<Course, AllocError> {
     assert_places(rt, server);
     let ending = serve(server);
+    course_after(alloc, server, ending)
+}
+
+/// What came of a match that this server served, and that ended so.
+pub(crate) fn course_after<D: Disk + Drop>(
+    alloc: Global,
+    server: &Server<D, MemoryLinks>,
+    ending: Ending,
+) -> Result<Course, AllocError> {
     let failures = failures(server);
     let links = server.links();
     Ok(Course {
@@ -267,12 +291,17 @@ pub(crate) fn lost_bots(alloc: Global, call: u64) -> Result<MemoryLinks, AllocEr
     Ok(links)
 }
 
-/// Asserts that three logs, one behind the other, are each the whole log of the match.
+/// Asserts that three logs, one behind the other, are each the whole log of the match where each folds.
 pub(crate) fn assert_whole(rt: &impl Abort, logs: &[u8]) {
-    let each = LOG.len();
-    assert!(rt; logs.len() == 3 * each);
+    assert_each(rt, logs, LOG);
+}
+
+/// Asserts that three logs, one behind the other, are each this one, which isn't empty.
+pub(crate) fn assert_each(rt: &impl Abort, logs: &[u8], due: &[u8]) {
+    let each = due.len();
+    assert!(rt; each > 0 && each < 10_000 && logs.len() == 3 * each);
     for log in logs.chunks(each) {
-        assert_bytes(rt, log, LOG);
+        assert_bytes(rt, log, due);
     }
 }
 

@@ -102,3 +102,15 @@ fn a_seat_is_connected_by_its_version(rt: HostRuntime) -> Result<(), Fail> {
     assert_connects(&rt, &mut peer, &mut out);
     Ok(())
 }
+
+/// An order where no hand runs is refused before it wants memory. `tests/step_growths` runs this test and refuses it each
+/// growth in turn: none of them is one of the order.
+#[test]
+fn an_order_where_no_hand_runs_wants_no_memory(rt: HostRuntime) -> Result<(), Fail> {
+    let alloc = rt.alloc();
+    let mut peer = Peer::created(&rt, alloc)?;
+    let mut out = Out::new(alloc);
+    peer.start(&mut out)?;
+    assert!(rt; peer.away(&mut out) == Err(NodeFault::NothingToAct));
+    Ok(())
+}

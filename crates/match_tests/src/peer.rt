@@ -51,6 +51,11 @@ impl Peer {
         self.node.on_tick(out)
     }
 
+    /// Orders at the node that the player to act is played for.
+    pub(crate) fn away(&mut self, out: &mut Out) -> Result<(), NodeFault> {
+        self.node.on_away(out)
+    }
+
     /// Gives the node the bytes of a frame of node 1.
     pub(crate) fn hear_1(&mut self, bytes: &[u8], out: &mut Out) -> Result<(), NodeFault> {
         self.node.on_frame(1, bytes, out)

@@ -1,6 +1,6 @@
 use crate::course::{
     ALICE, BOB, Course, Ending, VERSION, assert_logged, bots_everywhere, course_of, disks,
-    no_outages, outage, play, server, without_node_0,
+    logs_without, no_outages, outage, play, server,
 };
 use crate::lost_leader::assert_forward_lost;
 use crate::samples::{assert_bytes, assert_holds, assert_same};
@@ -146,7 +146,7 @@ fn assert_outlived(rt: &impl Abort, alloc: Global, course: &Course) -> Result<()
     assert_bytes(
         rt,
         course.logs.as_slice(),
-        without_node_0(alloc)?.as_slice(),
+        logs_without(alloc, 0)?.as_slice(),
     );
     Ok(())
 }
@@ -198,7 +198,7 @@ fn fails_at(rt: &impl Abort, alloc: Global, call: u64) -> Result<Option<Reached>
 }
 
 /// A bit for each kind of link.
-pub(crate) fn bit(reached: Reached) -> u8 {
+fn bit(reached: Reached) -> u8 {
     match reached {
         Reached::Seat => 1,
         Reached::Peer => 2,
@@ -207,19 +207,30 @@ pub(crate) fn bit(reached: Reached) -> u8 {
     }
 }
 
-/// Where a seat's link fails, the seat goes to the next node and the match to its end. Each kind of link is met.
-#[test]
-fn each_call_of_a_link_fails_in_turn(rt: HostRuntime) -> Result<(), Fail> {
-    let alloc = rt.alloc();
+/// Each call of a link fails in turn, up to the first that isn't made; each kind of link is met. What the call of a number
+/// was to reach, in a match of its own, the closure says.
+pub(crate) fn each_link_fails<F: Fn(u64) -> Result<Option<Reached>, AllocError>>(
+    rt: &impl Abort,
+    fails_at: F,
+) -> Result<(), AllocError>
+    requires { F.IsAlwaysCallable fails_at }
+{
     let mut met = 0u8;
     for call in 1..2_000u64 {
-        let Some(reached) = fails_at(&rt, alloc, call)? else {
-            assert_same(&rt, met, 15);
+        let Some(reached) = fails_at(call)? else {
+            assert_same(rt, met, 15);
             return Ok(());
         };
         met |= bit(reached);
     }
-    assert!(rt; false);
+    panic!(rt; "calls without end")
+}
+
+/// Where a seat's link fails, the seat goes to the next node and the match to its end.
+#[test]
+fn each_call_of_a_link_fails_in_turn(rt: HostRuntime) -> Result<(), Fail> {
+    let alloc = rt.alloc();
+    each_link_fails(&rt, |call| fails_at(&rt, alloc, call))?;
     Ok(())
 }
 
@@ -273,7 +284,7 @@ fn fails_about_an_outage(rt: &impl Abort, alloc: Global, call: u64) -> Result<Fa
 
 /// Counts a call that failed in a match: whether another is to fail. Up to the first that isn't made at least four did,
 /// since a node promises at least once, which is one append.
-pub(crate) fn goes_on(rt: &impl Abort, failing: Failing, within: &mut u32) -> bool {
+fn goes_on(rt: &impl Abort, failing: Failing, within: &mut u32) -> bool {
     match failing {
         Failing::Before => true,
         Failing::Within => {
@@ -287,11 +298,17 @@ pub(crate) fn goes_on(rt: &impl Abort, failing: Failing, within: &mut u32) -> bo
     }
 }
 
-/// Each call of a node's disk fails in turn, up to the first that isn't made.
-fn fails_in_turn(rt: &impl Abort, alloc: Global, node: usize) -> Result<(), AllocError> {
+/// Each call of a disk fails in turn, up to the first that isn't made. Where the call of a number failed, in a match of its
+/// own, the closure says.
+pub(crate) fn fails_in_turn<F: Fn(u64) -> Result<Failing, AllocError>>(
+    rt: &impl Abort,
+    fails_once: F,
+) -> Result<(), AllocError>
+    requires { F.IsAlwaysCallable fails_once }
+{
     let mut within = 0;
     for call in 1..1_000u64 {
-        let failing = fails_once(rt, alloc, node, call)?;
+        let failing = fails_once(call)?;
         if !goes_on(rt, failing, &mut within) {
             return Ok(());
         }
@@ -302,8 +319,9 @@ fn fails_in_turn(rt: &impl Abort, alloc: Global, node: usize) -> Result<(), Allo
 /// A node whose disk fails once is stopped and started, and the match goes on.
 #[test]
 fn each_call_of_a_disk_fails_in_turn(rt: HostRuntime) -> Result<(), Fail> {
+    let alloc = rt.alloc();
     for node in 0..3 {
-        fails_in_turn(&rt, rt.alloc(), node)?;
+        fails_in_turn(&rt, |call| fails_once(&rt, alloc, node, call))?;
     }
     Ok(())
 }
@@ -311,14 +329,9 @@ fn each_call_of_a_disk_fails_in_turn(rt: HostRuntime) -> Result<(), Fail> {
 /// Node 1 is out from the first command to the second, and its disk fails once: in its start after the outage too.
 #[test]
 fn each_call_of_a_disk_fails_about_an_outage(rt: HostRuntime) -> Result<(), Fail> {
-    let mut within = 0;
-    for call in 1..1_000u64 {
-        let failing = fails_about_an_outage(&rt, rt.alloc(), call)?;
-        if !goes_on(&rt, failing, &mut within) {
-            return Ok(());
-        }
-    }
-    panic!(rt; "calls without end")
+    let alloc = rt.alloc();
+    fails_in_turn(&rt, |call| fails_about_an_outage(&rt, alloc, call))?;
+    Ok(())
 }
 
 /// Adds the disk of a node.

@@ -1,16 +1,13 @@
 //! The match about an outage, one call of a link of which is slow.
 
-use crate::course::{TURNS, bots_everywhere, disks, logs, outage, server, told};
+use crate::course::{Answer, TURNS, bots_everywhere, disks, logs, outage, server, told};
 use crate::samples::{assert_bytes_of, assert_holds, assert_same};
 use match_links::{Links, MemoryLinks, Reached};
 use promise_store::Disk;
-use serving::{ServeFault, Server, Turn};
+use serving::{Server, Turn};
 use std::alloc::{AllocError, Global};
 use std::process::Abort;
 use std::test::Fail;
-
-/// What a turn answers.
-type Answer = Result<Turn, ServeFault>;
 
 /// What came of a match.
 #[derive(Drop)]
