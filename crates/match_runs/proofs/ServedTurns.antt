@@ -14,7 +14,7 @@ use Rattle.serving.specs.declared.serve_fault.ServeFault.{ServeFault}
 use Rattle.match_runs.specs.Notes.{AreNoted, note_line, names_in, first_notes}
 use Rattle.match_runs.specs.Score.{TellsScore}
 use Rattle.match_runs.specs.Serving.{Turns, IsServed, more}
-use Rattle.match_runs.specs.Turning.{waits_after, TellsAfter}
+use Rattle.match_runs.specs.Turning.{waits_after, AreDealt, TellsAfter}
 use Rattle.match_runs.specs.declared.seat_ports.SeatPorts.{SeatPorts}
 
 pub ends_well : {D : Type 0} (g : Ghosts D) (ports : SeatPorts) (first before after : Served (Node D)) (start held between told : Option (List ℕ)) (awaited : Option (ℕ × ℕ)) (count waits : ℕ)
@@ -45,12 +45,12 @@ ends_in_fault g ports first before after start held told awaited count waits why
 })
 
 -- one turn more, which is told
-pub one_more : {D : Type 0} (g : Ghosts D) (ports : SeatPorts) (first before last : Served (Node D)) (start held between told : Option (List ℕ)) (awaited : Option (ℕ × ℕ)) (count waits : ℕ)
-    (turn : Turn) → IsAwaited g before awaited → Turns g ports first start count waits before held → Turned g before (Ok turn) last
+pub one_more : {D : Type 0} (g : Ghosts D) (ports : SeatPorts) (first before last : Served (Node D)) (start held between told : Option (List ℕ)) (awaited : Option (ℕ × ℕ)) (dealt : List ℕ) (count waits : ℕ)
+    (turn : Turn) → IsAwaited g before awaited → AreDealt g before.view dealt → Turns g ports first start count waits before held → Turned g before (Ok turn) last
     → AreNoted (map note_line (first_notes waits (names_in before.view) ports awaited)) held between
-    → TellsAfter g ports (is_some awaited) (waits_after turn waits) turn last between told → Turns g ports first start (count + 1) (waits_after turn waits) last told
-one_more g ports first before last start held between told awaited count waits turn is turns turned noted after =
-    more count waits turn before last held told turns turned (record { awaited = awaited; is_awaited = is; between = between; first = noted; after = after })
+    → TellsAfter ports (is_some awaited) dealt (waits_after turn waits) turn last between told → Turns g ports first start (count + 1) (waits_after turn waits) last told
+one_more g ports first before last start held between told awaited dealt count waits turn is are turns turned noted after =
+    more count waits turn before last held told turns turned (record { awaited = awaited; is_awaited = is; between = between; first = noted; dealt = dealt; are_dealt = are; after = after })
 
 -- no more turns in a row have waited than were made
 pub few_waits : (turn : Turn) (waits count : ℕ) → waits ≤ count → waits_after turn waits ≤ count + 1

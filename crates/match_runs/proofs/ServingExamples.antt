@@ -15,7 +15,7 @@ use Rattle.serving.specs.declared.turn.Turn.TheVariants.{Over}
 use Rattle.std.specs.declared.io.ErrorKind.TheVariants as kind
 use Rattle.match_runs.specs.declared.cause.Cause.TheVariants.{InUse, NoRoom, Failed, Unknown}
 use Rattle.match_runs.specs.Causes.{cause_of}
-use Rattle.match_runs.specs.declared.note.About.TheVariants.{Seated, Gone, Faulty}
+use Rattle.match_runs.specs.declared.note.About.TheVariants.{Seated, Gone, Played, Faulty}
 use Rattle.match_runs.specs.declared.note.Note.TheVariants as note
 use Rattle.match_runs.specs.declared.conclusion.Conclusion.TheVariants.{Ended, Served}
 use Rattle.streamed.specs.declared.ending.Ending.TheVariants.{Done, Match, Unreadable, StreamFailed}
@@ -23,7 +23,7 @@ use Rattle.match_file.specs.declared.match_fault.MatchFault.TheVariants.{OutOfMe
 use Rattle.match_runs.specs.declared.seat_ports.SeatPorts.{SeatPorts}
 use Rattle.match_runs.specs.declared.unserved.Unserved.TheVariants as unserved
 use Rattle.match_runs.specs.NodeFiles.{store_name, log_name}
-use Rattle.match_runs.specs.Notes.{note_text, note_line, seat_text, refused_text, waiting_text, waiting_lines, seat_lines, turn_lines, is_told, IsNoted, port_at, ports_notes, awaited_notes, first_notes, failure_notes}
+use Rattle.match_runs.specs.Notes.{note_text, note_line, seat_text, refused_text, waiting_text, waiting_lines, seat_lines, newest_of, played_lines, turn_lines, is_told, IsNoted, port_at, ports_notes, awaited_notes, first_notes, failure_notes}
 use Rattle.match_links.specs.Passages.{Told, Logged}
 use Rattle.serving.specs.Giving.{given_as}
 use Rattle.match_runs.specs.Passing.{IsPart, pieces_between, put_by, told_by}
@@ -43,6 +43,34 @@ alice_is_seated = refl
 bob_is_gone : note_text (note.Seat 1 (codes "bob") (Gone 0)) ≡ codes "seat 1 (bob) at node 0: gone"
 unfolding digits
 bob_is_gone = refl
+
+bob_is_played_for : note_text (note.Seat 1 (codes "bob") (Played 1 17)) ≡ codes "seat 1 (bob) at node 1, hand 17: played for"
+unfolding digits
+bob_is_played_for = refl
+
+-- at node 0 three hands were dealt, at node 1 eighteen, at node 2, which is down, none
+abbrev three_and_eighteen : List ℕ
+three_and_eighteen = 3 ∷ 18 ∷ 0 ∷ []
+
+an_order_is_told_in_the_newest_hand_of_its_node : played_lines (codes "alice" ∷ codes "bob" ∷ []) three_and_eighteen 1 1 ≡ (codes "seat 1 (bob) at node 1, hand 17: played for" ++ 10 ∷ []) ∷ []
+unfolding digits
+an_order_is_told_in_the_newest_hand_of_its_node = refl
+
+at_another_node_in_another_hand : played_lines (codes "alice" ∷ codes "bob" ∷ []) three_and_eighteen 1 0 ≡ (codes "seat 1 (bob) at node 0, hand 2: played for" ++ 10 ∷ []) ∷ []
+unfolding digits
+at_another_node_in_another_hand = refl
+
+nothing_is_told_where_none_was_dealt : played_lines (codes "alice" ∷ codes "bob" ∷ []) three_and_eighteen 1 2 ≡ []
+nothing_is_told_where_none_was_dealt = refl
+
+nor_of_a_node_that_there_isnt : played_lines (codes "alice" ∷ codes "bob" ∷ []) three_and_eighteen 1 3 ≡ []
+nor_of_a_node_that_there_isnt = refl
+
+nor_of_a_seat_that_there_isnt : played_lines (codes "alice" ∷ codes "bob" ∷ []) three_and_eighteen 2 1 ≡ []
+nor_of_a_seat_that_there_isnt = refl
+
+the_first_hand_is_hand_0 : newest_of 1 ≡ Some 0
+the_first_hand_is_hand_0 = refl
 
 another_line_came : note_text (note.Seat 0 (codes "alice") (Faulty 1 NotCurrent)) ≡ codes "seat 0 (alice) at node 1: 83 NotCurrent"
 unfolding digits

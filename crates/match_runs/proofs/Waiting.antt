@@ -1,8 +1,6 @@
 -- What is told of one turn, by what was told step by step.
 use Rattle.std.proofs.Common.{◌≡◌, ℕ, Bool, true, false, List, map, refl, sym, subst}
 use Rattle.std.specs.Prelude.{Option, None}
-use Rattle.promise_store.specs.declared.disk.Disk.{Ghosts}
-use Rattle.dealer_node.specs.Nodes.{Node}
 use Rattle.dealer_node.specs.declared.fault.NodeFault.{NodeFault}
 use Rattle.dealer_world.specs.Stepping.{View}
 use Rattle.serving.specs.Served.{Served}
@@ -26,27 +24,27 @@ read_told view ports is_awaited seat node held held_after line is has noted =
     subst (λ (b : Bool). TellsWaiting view ports b seat node held held_after) (sym is) (record { line = line; is_line = has; noted = noted })
 
 -- a call was told
-pub call_told : {D : Type 0} (g : Ghosts D) (t : Turn) (server : Served (Node D)) (view : View (Node D)) (node : ℕ) (piece : List ℕ) (refused : Option NodeFault) (held between held_after : Option (List ℕ))
-    → view ≡ server.view → node ≡ server.called → piece ≡ server.piece → refused ≡ server.refused → TellsDone g view node piece t held between
-    → AreNoted (map note_line (failure_notes node refused)) between held_after → TellsCall g t server held held_after
-call_told {D} g t server view node piece refused held between held_after view_is node_is piece_is refused_is done failed = record {
+pub call_told : {N : Type 0} (dealt : List ℕ) (t : Turn) (server : Served N) (view : View N) (node : ℕ) (piece : List ℕ) (refused : Option NodeFault) (held between held_after : Option (List ℕ))
+    → view ≡ server.view → node ≡ server.called → piece ≡ server.piece → refused ≡ server.refused → TellsDone view dealt node piece t held between
+    → AreNoted (map note_line (failure_notes node refused)) between held_after → TellsCall dealt t server held held_after
+call_told {N} dealt t server view node piece refused held between held_after view_is node_is piece_is refused_is done failed = record {
   between = between;
-  done = subst (λ (v : View (Node D)). TellsDone g v server.called server.piece t held between) view_is
-      (subst (λ (i : ℕ). TellsDone g view i server.piece t held between) node_is (subst (λ (p : List ℕ). TellsDone g view node p t held between) piece_is done));
+  done = subst (λ (v : View N). TellsDone v dealt server.called server.piece t held between) view_is
+      (subst (λ (i : ℕ). TellsDone view dealt i server.piece t held between) node_is (subst (λ (p : List ℕ). TellsDone view dealt node p t held between) piece_is done));
   failed = subst (λ (i : ℕ). AreNoted (map note_line (failure_notes i server.refused)) between held_after) node_is
       (subst (λ (r : Option NodeFault). AreNoted (map note_line (failure_notes node r)) between held_after) refused_is failed);
 }
 
 -- a turn that didn't wait called a node, or nothing at all
-pub called_after : {D : Type 0} (g : Ghosts D) (ports : SeatPorts) (is_awaited : Bool) (waits : ℕ) (t : Turn) (new : Served (Node D)) (held held_after : Option (List ℕ))
-    → ((seat node : ℕ) → t ≡ turn.Waits seat node → ⊥) → TellsCall g t new held held_after → TellsAfter g ports is_awaited waits t new held held_after
-called_after g ports is_awaited waits (turn.Seated seat node) new held held_after other told = told
-called_after g ports is_awaited waits (turn.Delivered frame) new held held_after other told = told
-called_after g ports is_awaited waits (turn.Stopped node) new held held_after other told = told
-called_after g ports is_awaited waits (turn.Started node) new held held_after other told = told
-called_after g ports is_awaited waits (turn.Ticked node) new held held_after other told = told
-called_after g ports is_awaited waits (turn.Away seat node) new held held_after other told = told
-called_after g ports is_awaited waits (turn.Read seat) new held held_after other told = told
-called_after g ports is_awaited waits (turn.Gone seat) new held held_after other told = told
-called_after g ports is_awaited waits (turn.Waits seat node) new held held_after other told = absurd (other seat node refl)
-called_after g ports is_awaited waits turn.Over new held held_after other told = told
+pub called_after : {N : Type 0} (ports : SeatPorts) (is_awaited : Bool) (dealt : List ℕ) (waits : ℕ) (t : Turn) (new : Served N) (held held_after : Option (List ℕ))
+    → ((seat node : ℕ) → t ≡ turn.Waits seat node → ⊥) → TellsCall dealt t new held held_after → TellsAfter ports is_awaited dealt waits t new held held_after
+called_after ports is_awaited dealt waits (turn.Seated seat node) new held held_after other told = told
+called_after ports is_awaited dealt waits (turn.Delivered frame) new held held_after other told = told
+called_after ports is_awaited dealt waits (turn.Stopped node) new held held_after other told = told
+called_after ports is_awaited dealt waits (turn.Started node) new held held_after other told = told
+called_after ports is_awaited dealt waits (turn.Ticked node) new held held_after other told = told
+called_after ports is_awaited dealt waits (turn.Away seat node) new held held_after other told = told
+called_after ports is_awaited dealt waits (turn.Read seat) new held held_after other told = told
+called_after ports is_awaited dealt waits (turn.Gone seat) new held held_after other told = told
+called_after ports is_awaited dealt waits (turn.Waits seat node) new held held_after other told = absurd (other seat node refl)
+called_after ports is_awaited dealt waits turn.Over new held held_after other told = told

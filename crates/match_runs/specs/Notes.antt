@@ -1,5 +1,5 @@
 -- The notes of `serve`, and what standard error has of one.
-use Rattle.std.specs.Prelude.{◌≡◌, ℕ, zero, suc, ◌+◌, ◌*◌, ◌%◌, ◌==◌, ◌||◌, Bool, true, false, if◌then◌else◌, List, [], ◌∷◌, ◌++◌, Option, Some, None, codes, decimal, slice_get}
+use Rattle.std.specs.Prelude.{◌≡◌, ℕ, zero, suc, ◌+◌, ◌-◌, ◌*◌, ◌%◌, ◌==◌, ◌||◌, Bool, true, false, if◌then◌else◌, List, [], ◌∷◌, ◌++◌, Option, Some, None, codes, decimal, slice_get, get_or}
 use Rattle.std.specs.Io.KnownBytes.{Appends, Keeps}
 use Rattle.seat_session.specs.Fault.{fault_text}
 use Rattle.seat_session.specs.declared.session_fault.SessionFault.{SessionFault}
@@ -130,6 +130,19 @@ waiting_lines names ports seat node line =
 -- what is told of a seat, where there is one of this number
 abbrev pub seat_lines : List (List ℕ) → ℕ → List ℕ → List (List ℕ)
 seat_lines names seat text = elim (slice_get names seat) [ Some name ↦ (seat_text seat name ++ text ++ 10 ∷ []) ∷ [] | None ↦ [] ]
+
+-- of so many hands that were dealt the newest; none of none
+abbrev pub newest_of : ℕ → Option ℕ
+newest_of count = if count == 0 then None else Some (count - 1)
+
+-- what is told of an order at a node: who is played for, and in which hand; nothing where none was dealt
+abbrev pub hand_lines : List (List ℕ) → ℕ → ℕ → Option ℕ → List (List ℕ)
+hand_lines names seat node None = []
+hand_lines names seat node (Some hand) = seat_lines names seat (about_text (Played node hand))
+
+-- the same where so many hands had been dealt at each node: the newest of them at the node of the order
+abbrev pub played_lines : List (List ℕ) → List ℕ → ℕ → ℕ → List (List ℕ)
+played_lines names dealt seat node = hand_lines names seat node (newest_of (get_or dealt node 0))
 
 -- what is told of a turn that called this node last, but for what was read and for an order
 abbrev pub turn_lines : List (List ℕ) → ℕ → Turn → List (List ℕ)

@@ -14,7 +14,7 @@ use Rattle.serving.specs.declared.serve_fault.ServeFault.{ServeFault}
 use Rattle.serving.specs.declared.serve_fault.ServeFault.TheVariants.{Node as OfNode}
 use Rattle.match_runs.specs.Notes.{AreNoted, note_line, names_in, first_notes}
 use Rattle.match_runs.specs.Score.{TellsScore}
-use Rattle.match_runs.specs.Turning.{waits_after, TellsAfter}
+use Rattle.match_runs.specs.Turning.{waits_after, AreDealt, TellsAfter}
 use Rattle.match_runs.specs.declared.seat_ports.SeatPorts.{SeatPorts}
 
 -- what the last turn answered, by how serving ended
@@ -28,13 +28,16 @@ TellsLast (Ok done) view held held_after = TellsScore view.all.shown held held_a
 TellsLast (Err fault) view held held_after = Keeps held held_after
 
 module _ {D : Type 0} (g : Ghosts D) (ports : SeatPorts) where
-  -- the notes of a turn, before which so many in a row had waited: who is awaited, if anybody is and it wasn't told before; and what the turn did
+  -- the notes of a turn, before which so many in a row had waited: who is awaited, if anybody is and it wasn't told before; and what the turn did,
+  -- of an order by the hands that had been dealt before it at its node
   pub record TellsTurn (old : Served (Node D)) (waits : ℕ) (turn : Turn) (new : Served (Node D)) (held held_after : Option (List ℕ)) : Type 0 where
     pub awaited : Option (ℕ × ℕ)
     pub is_awaited : IsAwaited g old awaited
     pub between : Option (List ℕ)
     pub first : AreNoted (map note_line (first_notes waits (names_in old.view) ports awaited)) held between
-    pub after : TellsAfter g ports (is_some awaited) (waits_after turn waits) turn new between held_after
+    pub dealt : List ℕ
+    pub are_dealt : AreDealt g old.view dealt
+    pub after : TellsAfter ports (is_some awaited) dealt (waits_after turn waits) turn new between held_after
 
   -- so many turns after one another, each of which was answered Ok and told; so many of the last of them waited
   pub data Turns (first : Served (Node D)) (start : Option (List ℕ)) : ℕ → ℕ → Served (Node D) → Option (List ℕ) → Type 0 where

@@ -1,5 +1,5 @@
 -- What `serve` tells of one turn.
-use Rattle.std.specs.Prelude.{◌≡◌, ◌⊎◌, ◌<◌, ℕ, ◌+◌, Bool, true, false, List, [], map, length, slice_get, Option, Some, None}
+use Rattle.std.specs.Prelude.{◌≡◌, ℕ, ◌+◌, Bool, true, false, List, map, length, slice_get, get_or, Option, Some, None}
 use Rattle.std.specs.Io.KnownBytes.{Keeps}
 use Rattle.promise_store.specs.declared.disk.Disk.{Ghosts}
 use Rattle.dealer_kind.specs.Kind.{hands_after}
@@ -11,8 +11,7 @@ use Rattle.dealer_world.specs.Stepping.{View}
 use Rattle.serving.specs.Served.{Served}
 use Rattle.serving.specs.declared.turn.Turn.{Turn}
 use Rattle.serving.specs.declared.turn.Turn.TheVariants as turn
-use Rattle.match_runs.specs.declared.note.About.TheVariants.{Played}
-use Rattle.match_runs.specs.Notes.{AreNoted, note_line, names_in, is_told, waiting_lines, seat_lines, about_text, turn_lines, failure_notes}
+use Rattle.match_runs.specs.Notes.{AreNoted, note_line, names_in, is_told, waiting_lines, played_lines, turn_lines, failure_notes}
 use Rattle.match_runs.specs.Refusals.{TellsFaults}
 use Rattle.match_runs.specs.SeatLines.{HasLine}
 use Rattle.match_runs.specs.declared.seat_ports.SeatPorts.{SeatPorts}
@@ -38,32 +37,29 @@ abbrev pub TellsWaitingOrNot : {N : Type 0} → Bool → View N → SeatPorts �
 TellsWaitingOrNot true view ports is_awaited seat node held held_after = TellsWaiting view ports is_awaited seat node held held_after
 TellsWaitingOrNot false view ports is_awaited seat node held held_after = Keeps held held_after
 
+-- what a turn did was told, that called this node last, and for which this piece was read; before it so many hands had been dealt at each node
+abbrev pub TellsDone : {N : Type 0} → View N → List ℕ → ℕ → List ℕ → Turn → Option (List ℕ) → Option (List ℕ) → Type 0
+TellsDone view dealt node piece (turn.Read seat) held held_after = TellsFaults view piece node view.last.faults held held_after
+TellsDone view dealt node piece (turn.Away seat i) held held_after = AreNoted (played_lines (names_in view) dealt seat i) held held_after
+TellsDone view dealt node piece other held held_after = AreNoted (turn_lines (names_in view) node other) held held_after
+
+-- a turn was told that left the server so: what it did, and that the store failed of the node that was called
+pub record TellsCall {N : Type 0} (dealt : List ℕ) (t : Turn) (new : Served N) (held held_after : Option (List ℕ)) : Type 0 where
+  pub between : Option (List ℕ)
+  pub done : TellsDone new.view dealt new.called new.piece t held between
+  pub failed : AreNoted (map note_line (failure_notes new.called new.refused)) between held_after
+
+-- of a turn that waited it is told for which seat, where it is the first in a row, or a twelfth
+abbrev pub TellsAfter : {N : Type 0} → SeatPorts → Bool → List ℕ → ℕ → Turn → Served N → Option (List ℕ) → Option (List ℕ) → Type 0
+TellsAfter ports is_awaited dealt waits (turn.Waits seat node) new held held_after = TellsWaitingOrNot (is_told waits) new.view ports is_awaited seat node held held_after
+TellsAfter ports is_awaited dealt waits other new held held_after = TellsCall dealt other new held held_after
+
 module _ {D : Type 0} (g : Ghosts D) where
-  -- so many hands were dealt at a node of the match, by its own table
+  -- so many hands were dealt at a node, by its own table: none at one that is down
   abbrev pub HasDealt : View (Node D) → ℕ → ℕ → Type 0
   HasDealt view node count =
-      (d : Node D) (s : Standing) → node < length view.config.sources → slice_get view.nodes node ≡ Some d → IsSeen g d s
-      → length (hands_after (post_in d).setting (applied s)) ≡ count
+      (d : Node D) (s : Standing) → slice_get view.nodes node ≡ Some d → IsSeen g d s → length (hands_after (post_in d).setting (applied s)) ≡ count
 
-  -- of an order it was told who is played for, and in which hand: the newest of the node's table; nothing where none was dealt there
-  abbrev pub TellsPlayed : View (Node D) → ℕ → ℕ → Option (List ℕ) → Option (List ℕ) → Type 0
-  TellsPlayed view seat node held held_after =
-      ((hand : ℕ) × HasDealt view node (hand + 1) × AreNoted (seat_lines (names_in view) seat (about_text (Played node hand))) held held_after)
-      ⊎ (HasDealt view node 0 × Keeps held held_after)
-
-  -- what a turn did was told, that called this node last, and for which this piece was read
-  abbrev pub TellsDone : View (Node D) → ℕ → List ℕ → Turn → Option (List ℕ) → Option (List ℕ) → Type 0
-  TellsDone view node piece (turn.Read seat) held held_after = TellsFaults view piece node view.last.faults held held_after
-  TellsDone view node piece (turn.Away seat i) held held_after = TellsPlayed view seat i held held_after
-  TellsDone view node piece other held held_after = AreNoted (turn_lines (names_in view) node other) held held_after
-
-  -- a turn was told that left the server so: what it did, and that the store failed of the node that was called
-  pub record TellsCall (t : Turn) (new : Served (Node D)) (held held_after : Option (List ℕ)) : Type 0 where
-    pub between : Option (List ℕ)
-    pub done : TellsDone new.view new.called new.piece t held between
-    pub failed : AreNoted (map note_line (failure_notes new.called new.refused)) between held_after
-
-  -- of a turn that waited it is told for which seat, where it is the first in a row, or a twelfth
-  abbrev pub TellsAfter : SeatPorts → Bool → ℕ → Turn → Served (Node D) → Option (List ℕ) → Option (List ℕ) → Type 0
-  TellsAfter ports is_awaited waits (turn.Waits seat node) new held held_after = TellsWaitingOrNot (is_told waits) new.view ports is_awaited seat node held held_after
-  TellsAfter ports is_awaited waits other new held held_after = TellsCall other new held held_after
+  -- so many at each node, in their order
+  abbrev pub AreDealt : View (Node D) → List ℕ → Type 0
+  AreDealt view dealt = (node : ℕ) → HasDealt view node (get_or dealt node 0)

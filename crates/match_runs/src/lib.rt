@@ -15,6 +15,7 @@
 
 mod cause;
 mod conclusion;
+mod dealt;
 mod file_notes;
 mod log_names;
 mod node_files;

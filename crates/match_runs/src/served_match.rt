@@ -12,6 +12,7 @@ ghost use Rattle.match_runs.specs.Passing.{IsWithin, HandsOn};
 ghost use Rattle.match_runs.specs.Serving.{IsServed};
 ghost use Rattle.match_runs.specs.Turning.{waits_after, TellsAfter, TellsCall};
 
+use crate::dealt::Dealt;
 use crate::seat_ports::SeatPorts;
 use crate::telling::{tell_awaited, tell_failure, tell_score, tell_turn, tell_waiting};
 use dealer_node::NodeFault;
@@ -52,7 +53,9 @@ pub fn serve_run<D: Disk + Drop, L: Links + Drop, W: Write>(
     let mut waits = 0;
     for turns in 0..u64::MAX {
         let awaited = server.awaited();
-        tell_first(alloc, server.cluster(), ports, waits, awaited, notes);
+        let cluster = server.cluster();
+        let dealt = Dealt::at(cluster);
+        tell_first(alloc, cluster, ports, waits, awaited, notes);
         match server.turn() {
             Ok(Turn::Over) => {
                 tell_score(alloc, server.cluster(), notes);
@@ -60,7 +63,7 @@ pub fn serve_run<D: Disk + Drop, L: Links + Drop, W: Write>(
             }
             Ok(turn) => {
                 waits = waits_after(turn, waits);
-                tell_after(alloc, server, ports, awaited, waits, turn, notes);
+                tell_after(alloc, server, ports, awaited, dealt, waits, turn, notes);
             }
             Err(fault) => return Err(fault),
         }
@@ -103,17 +106,19 @@ fn is_told(waits: u64) -> bool
     waits == 1 || waits % 12 == 0
 }
 
-/// Tells what a turn did that left the server so; of one that waited for which seat, where that is to be told.
+/// Tells what a turn did that left the server so, before which so many hands had been dealt; of one that waited for which
+/// seat, where that is to be told.
 fn tell_after<D: Disk + Drop, L: Links + Drop, W: Write>(
     alloc: Global,
     server: &Server<D, L>,
     ports: SeatPorts,
     awaited: Option<(u8, u8)>,
+    dealt: Dealt,
     waits: u64,
     turn: Turn,
     notes: &mut W,
 )
-    ensures { TellsAfter D.Disk ports (is_some awaited) waits turn (served_of server.now) (W.contents notes.old) (W.contents notes.new) }
+    ensures { TellsAfter ports (is_some awaited) dealt.hands waits turn (served_of server.now) (W.contents notes.old) (W.contents notes.new) }
 {
     let cluster = server.cluster();
     match turn {
@@ -123,23 +128,26 @@ fn tell_after<D: Disk + Drop, L: Links + Drop, W: Write>(
                 tell_waiting(alloc, cluster, ports, is_awaited, seat, node, notes);
             }
         }
-        _ => tell_call(alloc, server, turn, notes),
+        _ => tell_call(alloc, server, dealt, turn, notes),
     }
 }
 
-/// Tells what a turn did by which a node was called, and whether that node's store failed.
+/// Tells what a turn did by which a node was called, before which so many hands had been dealt, and whether that node's
+/// store failed.
 fn tell_call<D: Disk + Drop, L: Links + Drop, W: Write>(
     alloc: Global,
     server: &Server<D, L>,
+    dealt: Dealt,
     turn: Turn,
     notes: &mut W,
 )
-    ensures { TellsCall D.Disk turn (served_of server.now) (W.contents notes.old) (W.contents notes.new) }
+    ensures { TellsCall dealt.hands turn (served_of server.now) (W.contents notes.old) (W.contents notes.new) }
 {
     let node = server.last_node();
     tell_turn(
         alloc,
         server.cluster(),
+        dealt,
         node,
         server.last_piece(),
         turn,

@@ -3,11 +3,12 @@
 ghost use Rattle.std.specs.Prelude.{◌≡◌, ◌+◌, ◌<◌, ◌∷◌, ◌++◌, None, Some, IfSome, IsNone, drop, length, map, take};
 ghost use Rattle.dealer_world.specs.Viewing.{view_of};
 ghost use Rattle.streamed.specs.Script.{HasNoFeed};
-ghost use Rattle.match_runs.specs.Notes.{AreNoted, note_line, names_in, ports_notes, awaited_notes, seat_lines, waiting_lines, about_text, failure_notes};
+ghost use Rattle.match_runs.specs.Notes.{AreNoted, note_line, names_in, ports_notes, awaited_notes, seat_lines, played_lines, waiting_lines, about_text, failure_notes};
 ghost use Rattle.match_runs.specs.Refusals.{TellsFault, TellsFaults};
-ghost use Rattle.match_runs.specs.Turning.{HasDealt, TellsPlayed, TellsDone, TellsWaiting};
+ghost use Rattle.match_runs.specs.Turning.{TellsDone, TellsWaiting};
 ghost use Rattle.match_runs.specs.Score.{IsLastLine, EndsInFeed, IsLastLog, HasNoLog, TellsScore};
 
+use crate::dealt::Dealt;
 use crate::note::{About, Note, tell};
 use crate::refusals::about_fault;
 use crate::seat_lines::newest_line;
@@ -131,16 +132,18 @@ fn tell_wait_with<W: Write>(
 }
 
 /// Tells what a turn did that called this node last, and for which this piece was read, if any was: a seat seated, gone or
-/// played for, a node stopped or started, and of a piece the faults that were found in it.
+/// played for, a node stopped or started, and of a piece the faults that were found in it. Before it so many hands had been
+/// dealt at each node.
 pub(crate) fn tell_turn<D: Disk + Drop, W: Write>(
     alloc: Global,
     cluster: &Cluster<D>,
+    dealt: Dealt,
     node: u8,
     piece: &[u8],
     turn: Turn,
     notes: &mut W,
 )
-    ensures { TellsDone D.Disk (view_of cluster.now) node piece.now turn (W.contents notes.old) (W.contents notes.new) }
+    ensures { TellsDone (view_of cluster.now) dealt.hands node piece.now turn (W.contents notes.old) (W.contents notes.new) }
 {
     let config = cluster.config();
     match turn {
@@ -148,7 +151,7 @@ pub(crate) fn tell_turn<D: Disk + Drop, W: Write>(
             tell_seat(alloc, config, seat as usize, About::Seated(node), notes)
         }
         Turn::Gone(seat) => tell_seat(alloc, config, seat as usize, About::Gone(node), notes),
-        Turn::Away { seat, node } => tell_played(alloc, cluster, seat as usize, node, notes),
+        Turn::Away { seat, node } => tell_played(alloc, config, dealt, seat, node, notes),
         Turn::Stopped(node) => tell(alloc, notes, &Note::Stopped(node)),
         Turn::Started(node) => tell(alloc, notes, &Note::Started(node)),
         Turn::Read(_) => {
@@ -158,37 +161,25 @@ pub(crate) fn tell_turn<D: Disk + Drop, W: Write>(
     }
 }
 
-/// Tells that it was ordered at a node that a seat is played for, and in which hand: the newest of that node's table.
-/// Nothing is told where none was dealt there.
-fn tell_played<D: Disk + Drop, W: Write>(
+/// Tells that it was ordered at a node that a seat is played for, and in which hand: the newest that had been dealt there.
+/// Nothing is told where none was.
+fn tell_played<W: Write>(
     alloc: Global,
-    cluster: &Cluster<D>,
-    seat: usize,
+    config: &Config,
+    dealt: Dealt,
+    seat: u8,
     node: u8,
     notes: &mut W,
 )
-    ensures { TellsPlayed D.Disk (view_of cluster.now) seat node (W.contents notes.old) (W.contents notes.new) }
+    ensures { AreNoted (played_lines config.now.setting.names dealt.hands seat node) (W.contents notes.old) (W.contents notes.new) }
 {
-    match newest_hand(cluster, node) {
+    match dealt.newest(node) {
         Some(hand) => {
             let about = About::Played { node, hand };
-            tell_seat(alloc, cluster.config(), seat, about, notes);
+            tell_seat(alloc, config, seat as usize, about, notes);
         }
         None => {}
     }
-}
-
-/// The newest hand of a node's table; none where none was dealt there, or where no node has this number.
-fn newest_hand<D: Disk + Drop>(cluster: &Cluster<D>, node: u8) -> Option<u32>
-    ensures found { IfSome result (λ hand. HasDealt D.Disk (view_of cluster.now) node (hand + 1)) }
-    ensures missing { IsNone result → HasDealt D.Disk (view_of cluster.now) node 0 }
-{
-    let number = node as usize;
-    if number >= cluster.node_count() {
-        return None;
-    }
-    let dealt = cluster.node(number).table().dealt();
-    if dealt == 0 { None } else { Some(dealt - 1) }
 }
 
 /// Tells that the store of the node failed that was called last, if that is why it was refused.

@@ -21,7 +21,7 @@ pub returns-in-Ok-Over-clause-served : goal.returns-in-Ok-Over-clause-served
 returns-in-Ok-Over-clause-served g c =
     ends_well g.D.Disk c.args.ports (served_of c.args.server.now) (served_of c.loop-turns.server) (served_of c.turn.new.self) _ _ _ _ _ c.loop-turns.turns
     c.loop-turns.waits c.awaited-awaited.ensures c.loop-turns.invariant.told (rw c.in-Ok-Over.field-0-is at c.in-Ok-Over.ensures.turned)
-    (rw c.cluster.ensures.same at c.tell_first.ensures) (rw c.cluster-in-Ok-Over.ensures.same at c.tell_score.ensures)
+    (rw c.cluster-cluster.ensures.same at c.tell_first.ensures) (rw c.cluster.ensures.same at c.tell_score.ensures)
 
 pub returns-in-Ok-Over-clause-unforged : goal.returns-in-Ok-Over-clause-unforged
 returns-in-Ok-Over-clause-unforged g c = λ unforged. c.turn.ensures.unforged (c.loop-turns.invariant.unforged unforged)
@@ -44,7 +44,7 @@ pub returns-in-Err-clause-served : goal.returns-in-Err-clause-served
 returns-in-Err-clause-served g c =
     ends_in_fault g.D.Disk c.args.ports (served_of c.args.server.now) (served_of c.loop-turns.server) (served_of c.turn.new.self) _ _ _ _ c.loop-turns.turns
     c.loop-turns.waits c.in-Err.fault c.awaited-awaited.ensures c.loop-turns.invariant.told c.in-Err.ensures.turned
-    (rw c.cluster.ensures.same at c.tell_first.ensures)
+    (rw c.cluster-cluster.ensures.same at c.tell_first.ensures)
 
 pub returns-in-Err-clause-unforged : goal.returns-in-Err-clause-unforged
 returns-in-Err-clause-unforged g c = λ unforged. c.turn.ensures.unforged (c.loop-turns.invariant.unforged unforged)
@@ -63,9 +63,9 @@ returns-in-Err-clause-one_list g c = λ before goes honest unforged.
 pub loop-turns-preserved : goal.loop-turns-preserved
 loop-turns-preserved g c = record {
   told = rw c.waits_after-waits.ensures
-      (one_more g.D.Disk c.args.ports (served_of c.args.server.now) (served_of c.loop-turns.server) (served_of c.turn.new.self) _ _ _ _ _ c.loop-turns.turns
-      c.loop-turns.waits c.in-Ok.turn c.awaited-awaited.ensures c.loop-turns.invariant.told c.in-Ok.ensures.turned
-      (rw c.cluster.ensures.same at c.tell_first.ensures) (rw c.waits_after-waits.ensures at c.tell_after.ensures));
+      (one_more g.D.Disk c.args.ports (served_of c.args.server.now) (served_of c.loop-turns.server) (served_of c.turn.new.self) _ _ _ _ _ c.at-dealt.result.hands c.loop-turns.turns
+      c.loop-turns.waits c.in-Ok.turn c.awaited-awaited.ensures (rw c.cluster-cluster.ensures.same at c.at-dealt.ensures) c.loop-turns.invariant.told c.in-Ok.ensures.turned
+      (rw c.cluster-cluster.ensures.same at c.tell_first.ensures) (rw c.waits_after-waits.ensures at c.tell_after.ensures));
   few = rw c.waits_after-waits.ensures (few_waits c.in-Ok.turn c.loop-turns.waits c.loop-turns.turns c.loop-turns.invariant.few);
   unforged = λ unforged. c.turn.ensures.unforged (c.loop-turns.invariant.unforged unforged);
   goes_on = λ before goes. turn_goes_on g.D.Disk _ _ _ before c.in-Ok.ensures.turned c.turn.ensures.begun (c.loop-turns.invariant.goes_on before goes);

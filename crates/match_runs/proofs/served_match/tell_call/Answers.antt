@@ -7,5 +7,5 @@ use Rattle.match_runs.proofs.served_match.tell_call.Goals as goal
 
 pub returns : goal.returns
 returns g c =
-    call_told g.D.Disk c.args.turn (served_of c.args.server.now) _ _ _ _ _ _ _ (ap (λ (cluster : Cluster g.row.D.Denot g.D.Disk). view_of cluster) c.cluster.ensures.same)
+    call_told c.args.dealt.hands c.args.turn (served_of c.args.server.now) _ _ _ _ _ _ _ (ap (λ (cluster : Cluster g.row.D.Denot g.D.Disk). view_of cluster) c.cluster.ensures.same)
     c.last_node-node.ensures c.last_piece.ensures c.last_fault.ensures c.tell_turn.ensures c.tell_failure.ensures
