@@ -45,7 +45,7 @@ pub trait Links {
     /// Waits for a connection of a seat at a node, which has sent something; slow where none comes in the time that a wait
     /// takes at most. Those that ended before they sent anything are passed over.
     ///
-    /// This is the one call that may want memory, for what the seat will send.
+    /// It may want memory, for what the seat will send: then the connection waits on.
     fn accept(&mut self, node: u8, seat: u8) -> Result<(), LinkFault>
         ensures sat { OnOk result (passed self.new ≡ passed self.old ++ sat node seat ∷ []) }
         ensures failed { OnErr result (passed self.new ≡ passed self.old) };

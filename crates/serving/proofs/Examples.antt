@@ -162,6 +162,13 @@ own = Told 0 0 (77 ∷ [])
 abbrev others : Passage
 others = Told 1 1 (77 ∷ [])
 
+-- a line of seat 1 at node 0, and one of seat 0 at node 1
+abbrev another_seats : Passage
+another_seats = Told 0 1 (77 ∷ [])
+
+abbrev elsewhere : Passage
+elsewhere = Told 1 0 (77 ∷ [])
+
 told_all_nobody_leaves : OnlyLeave (own ∷ []) (own ∷ []) (Seated 0 ∷ Played 1 ∷ []) (Seated 0 ∷ Played 1 ∷ [])
 told_all_nobody_leaves seat = inl refl
 
@@ -179,14 +186,20 @@ who_was_told_its_line_stays leave = elim (leave 0) [
 same_node : (a b : ℕ) → ◌≡◌ {A = Option Place} (Some (Seated a)) (Some (Seated b)) → a ≡ b
 same_node a b same = cc
 
-line_that_another_missed_is_no_reason : OnlyLeave (others ∷ []) [] (Seated 0 ∷ Seated 1 ∷ []) (Leaving 0 ∷ Seated 1 ∷ []) → ⊥
-line_that_another_missed_is_no_reason leave = elim (leave 0) [
+line_of_another_seat_is_no_reason : OnlyLeave (another_seats ∷ []) [] (Seated 0 ∷ []) (Leaving 0 ∷ []) → ⊥
+line_of_another_seat_is_no_reason leave = elim (leave 0) [
   | inl same ↦ cc
-  | inr (node, was, is, misses) ↦ subst (λ (n : ℕ). MissesALine n 0 (others ∷ []) [] → ⊥) (same_node 0 node was) (λ missed. omega (arith, missed)) misses
+  | inr (node, was, is, misses) ↦ subst (λ (n : ℕ). MissesALine n 0 (another_seats ∷ []) [] → ⊥) (same_node 0 node was) (λ missed. omega (arith, missed)) misses
 ]
 
-told_seat_is_not_played_for : OnlyLeave (own ∷ []) [] (Seated 0 ∷ Seated 0 ∷ []) (Played 0 ∷ Seated 0 ∷ []) → ⊥
-told_seat_is_not_played_for leave = elim (leave 0) [
+line_at_another_node_is_no_reason : OnlyLeave (elsewhere ∷ []) [] (Seated 0 ∷ []) (Leaving 0 ∷ []) → ⊥
+line_at_another_node_is_no_reason leave = elim (leave 0) [
+  | inl same ↦ cc
+  | inr (node, was, is, misses) ↦ subst (λ (n : ℕ). MissesALine n 0 (elsewhere ∷ []) [] → ⊥) (same_node 0 node was) (λ missed. omega (arith, missed)) misses
+]
+
+who_missed_a_line_is_not_played_for : OnlyLeave (own ∷ []) [] (Seated 0 ∷ Seated 0 ∷ []) (Played 0 ∷ Seated 0 ∷ []) → ⊥
+who_missed_a_line_is_not_played_for leave = elim (leave 0) [
   | inl same ↦ cc
   | inr (node, was, is, misses) ↦ cc
 ]

@@ -6,46 +6,46 @@ use Rattle.dealer_world.specs.Records.{Piece}
 use Rattle.match_links.specs.Passages.{Passage, Told}
 use Rattle.serving.specs.declared.place.Place.{Place}
 use Rattle.serving.specs.declared.place.Place.TheVariants.{Awaited, Seated, Leaving}
-use Rattle.serving.specs.Giving.{given_as, is_told, IsGiven, AreGiven, MissesALine}
+use Rattle.serving.specs.Giving.{given_as, is_line_to, IsGiven, AreGiven, MissesALine}
 use Rattle.serving.specs.Going.{OnlyLeave}
 
 -- ---- how many lines a seat was told
 
-told_both : (node seat : ℕ) (xs ys : List Passage) → count_by (is_told node seat) (xs ++ ys) ≡ count_by (is_told node seat) xs + count_by (is_told node seat) ys
-told_both node seat xs ys = sum_by-append (λ x. cond (is_told node seat x) 1 0) xs ys
+told_both : (node seat : ℕ) (xs ys : List Passage) → count_by (is_line_to node seat) (xs ++ ys) ≡ count_by (is_line_to node seat) xs + count_by (is_line_to node seat) ys
+told_both node seat xs ys = sum_by-append (λ x. cond (is_line_to node seat x) 1 0) xs ys
 
 -- none is told more than there are for it
 one_within : (places : List Place) (piece : Piece) (given : List Passage) (node seat : ℕ) → IsGiven places piece given
-    → count_by (is_told node seat) given ≤ count_by (is_told node seat) (given_as piece ∷ [])
-one_within places piece given node seat (inl is) = let same = ap (count_by (is_told node seat)) is in omega (arith, same)
+    → count_by (is_line_to node seat) given ≤ count_by (is_line_to node seat) (given_as piece ∷ [])
+one_within places piece given node seat (inl is) = let same = ap (count_by (is_line_to node seat)) is in omega (arith, same)
 one_within places piece given node seat (inr (away, is)) =
-    let none : count_by (is_told node seat) given ≡ 0 = ap (count_by (is_told node seat)) is in
+    let none : count_by (is_line_to node seat) given ≡ 0 = ap (count_by (is_line_to node seat)) is in
     omega (arith, none)
 
 pub all_within : (places : List Place) (pieces : List Piece) (given : List Passage) (node seat : ℕ) → AreGiven places pieces given
-    → count_by (is_told node seat) given ≤ count_by (is_told node seat) (map given_as pieces)
+    → count_by (is_line_to node seat) given ≤ count_by (is_line_to node seat) (map given_as pieces)
 all_within places [] given node seat is =
-    let none : count_by (is_told node seat) given ≡ 0 = ap (count_by (is_told node seat)) is in
+    let none : count_by (is_line_to node seat) given ≡ 0 = ap (count_by (is_line_to node seat)) is in
     omega (arith, none)
 all_within places (piece ∷ pieces) given node seat (first, rest, one, more, whole) =
-    let given_parts : count_by (is_told node seat) given ≡ count_by (is_told node seat) first + count_by (is_told node seat) rest =
-    ap (count_by (is_told node seat)) whole ∙ told_both node seat first rest in
-    let line_parts : count_by (is_told node seat) (given_as piece ∷ map given_as pieces)
-    ≡ count_by (is_told node seat) (given_as piece ∷ []) + count_by (is_told node seat) (map given_as pieces) =
+    let given_parts : count_by (is_line_to node seat) given ≡ count_by (is_line_to node seat) first + count_by (is_line_to node seat) rest =
+    ap (count_by (is_line_to node seat)) whole ∙ told_both node seat first rest in
+    let line_parts : count_by (is_line_to node seat) (given_as piece ∷ map given_as pieces)
+    ≡ count_by (is_line_to node seat) (given_as piece ∷ []) + count_by (is_line_to node seat) (map given_as pieces) =
     told_both node seat (given_as piece ∷ []) (map given_as pieces) in
     omega (arith, given_parts, line_parts, one_within places piece first node seat one, all_within places pieces rest node seat more)
 
 pub piece_within : (places : List Place) (piece : Piece) (given : List Passage) → IsGiven places piece given
-    → (node seat : ℕ) → count_by (is_told node seat) given ≤ count_by (is_told node seat) (given_as piece ∷ [])
+    → (node seat : ℕ) → count_by (is_line_to node seat) given ≤ count_by (is_line_to node seat) (given_as piece ∷ [])
 piece_within places piece given is node seat = one_within places piece given node seat is
 
 -- a line that was missed before is missed still
-missed_before : (node seat : ℕ) (lines given more last : List Passage) → count_by (is_told node seat) last ≤ count_by (is_told node seat) more
+missed_before : (node seat : ℕ) (lines given more last : List Passage) → count_by (is_line_to node seat) last ≤ count_by (is_line_to node seat) more
     → MissesALine node seat lines given → MissesALine node seat (lines ++ more) (given ++ last)
 missed_before node seat lines given more last within misses =
     omega (arith, within, misses, told_both node seat lines more, told_both node seat given last)
 
-missed_now : (node seat : ℕ) (lines given more last : List Passage) → count_by (is_told node seat) given ≤ count_by (is_told node seat) lines
+missed_now : (node seat : ℕ) (lines given more last : List Passage) → count_by (is_line_to node seat) given ≤ count_by (is_line_to node seat) lines
     → MissesALine node seat more last → MissesALine node seat (lines ++ more) (given ++ last)
 missed_now node seat lines given more last within misses =
     omega (arith, within, misses, told_both node seat lines more, told_both node seat given last)
@@ -66,8 +66,8 @@ seated_before lines given old new leave seat node seated = elim (leave seat) [
 
 -- from moment to moment
 pub leave_twice : (lines given more last : List Passage) (first old new : List Place)
-    → ((node seat : ℕ) → count_by (is_told node seat) given ≤ count_by (is_told node seat) lines)
-    → ((node seat : ℕ) → count_by (is_told node seat) last ≤ count_by (is_told node seat) more)
+    → ((node seat : ℕ) → count_by (is_line_to node seat) given ≤ count_by (is_line_to node seat) lines)
+    → ((node seat : ℕ) → count_by (is_line_to node seat) last ≤ count_by (is_line_to node seat) more)
     → OnlyLeave lines given first old → OnlyLeave more last old new → OnlyLeave (lines ++ more) (given ++ last) first new
 leave_twice lines given more last first old new within within_too before now seat = elim (now seat) [
   | inl same ↦ elim (before seat) [
@@ -93,7 +93,7 @@ left_at (place ∷ places) (suc at) (suc seat) node seated = elim (left_at place
 ]
 
 -- its own line is one that a seat is told
-own_line : (node seat : ℕ) (line : List ℕ) → count_by (is_told node seat) (Told node seat line ∷ []) ≡ 1
+own_line : (node seat : ℕ) (line : List ℕ) → count_by (is_line_to node seat) (Told node seat line ∷ []) ≡ 1
 own_line node seat line = let here = eq-eqb node node refl in let too = eq-eqb seat seat refl in rw here (rw too refl)
 
 -- one seat left, which wasn't told this line

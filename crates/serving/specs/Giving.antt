@@ -73,15 +73,15 @@ abbrev pub to_give : List Piece → ℕ → ℕ → List Passage
 to_give pieces from to = map given_as (drop from (take to pieces))
 
 -- it is a line that this seat is told by this node
-abbrev pub is_told : ℕ → ℕ → Passage → Bool
-is_told node seat (Told at whose line) = at == node && whose == seat
-is_told node seat (Came at whose bytes) = false
-is_told node seat (Emptied at) = false
-is_told node seat (Logged at text) = false
+abbrev pub is_line_to : ℕ → ℕ → Passage → Bool
+is_line_to node seat (Told at whose line) = at == node && whose == seat
+is_line_to node seat (Came at whose bytes) = false
+is_line_to node seat (Emptied at) = false
+is_line_to node seat (Logged at text) = false
 
 -- a seat was told fewer lines by a node than are there for it
 abbrev pub MissesALine : ℕ → ℕ → List Passage → List Passage → Type 0
-MissesALine node seat lines given = count_by (is_told node seat) given < count_by (is_told node seat) lines
+MissesALine node seat lines given = count_by (is_line_to node seat) given < count_by (is_line_to node seat) lines
 
 -- no more are counted than the greatest number of the machine
 abbrev pub counted : List Piece → ℕ

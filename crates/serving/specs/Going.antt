@@ -58,12 +58,12 @@ pub record IsKept (old new : Progress) : Type 0 where
   pub repair : new.repair ≡ old.repair
 
 -- a seat that had a connection to a node leaves there, since it wasn't told each of these lines
-abbrev pub HasLeft : List Passage → List Passage → ℕ → Option Place → Option Place → Type 0
-HasLeft lines given seat old new = (node : ℕ) × (old ≡ Some (Seated node)) × (new ≡ Some (Leaving node)) × MissesALine node seat lines given
+abbrev pub LeavesThere : List Passage → List Passage → ℕ → Option Place → Option Place → Type 0
+LeavesThere lines given seat old new = (node : ℕ) × (old ≡ Some (Seated node)) × (new ≡ Some (Leaving node)) × MissesALine node seat lines given
 
 -- of these lines so much was given: each seat is where it was, or had a connection, wasn't told each of its lines there, and leaves
 abbrev pub OnlyLeave : List Passage → List Passage → List Place → List Place → Type 0
-OnlyLeave lines given old new = (seat : ℕ) → (slice_get new seat ≡ slice_get old seat) ⊎ HasLeft lines given seat (slice_get old seat) (slice_get new seat)
+OnlyLeave lines given old new = (seat : ℕ) → (slice_get new seat ≡ slice_get old seat) ⊎ LeavesThere lines given seat (slice_get old seat) (slice_get new seat)
 
 -- the first time that a node's store fails, the node is to be stopped and started; the second time nothing changes
 pub data AsksRepair (old : Progress) (node : ℕ) : Bool → Progress → Type 0 where

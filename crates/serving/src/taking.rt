@@ -172,7 +172,7 @@ fn read_of<D: Disk + Drop, L: Links + Drop>(
 }
 
 /// Reads from a seat. Where that fails, or the connection has ended, the seat is dropped; where nothing comes, no event
-/// is given.
+/// is given. An `Err` is 92: nothing was taken, and the seat stays.
 fn read<L: Links + Drop>(
     alloc: Global,
     links: &mut L,
