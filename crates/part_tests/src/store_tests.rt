@@ -200,6 +200,12 @@ static AWAY_JOURNAL: [u8; 38] = [
     0, 0, 1, 3, 0, 0, 0, 0, 0, 0, 0,
 ];
 
+/// The same with a byte more in that record.
+static LONGER_AWAY_JOURNAL: [u8; 39] = [
+    0x48, 0x44, 0x4a, 0x31, 0, 3, 0, 0, 1, 0, 6, 1, 0, 0, 0, 1, 0, 1, 0, 18, 2, 0, 0, 0, 1, 0, 0,
+    0, 0, 1, 3, 0, 0, 0, 0, 0, 0, 0, 0,
+];
+
 /// Stores that at slot 1.
 fn accept_away<D: Disk>(store: &mut Store<D>) -> Result<(), StoreFault> {
     store.accept(FIRST, 1, &AWAY)
@@ -226,8 +232,8 @@ fn refuses_changed(rt: &impl Abort, alloc: Global, at: usize, bytes: [u8; 2]) ->
     answers(rt, alloc, &changed, 62)
 }
 
-/// A record that somebody is away is written byte by byte and found again; cut anywhere, or with a number out of its range, it
-/// is none.
+/// A record that somebody is away is written byte by byte and found again; cut anywhere, with a byte more, or with a number out of
+/// its range, it is none.
 #[test]
 fn journal_of_one_who_is_away(rt: HostRuntime) -> Result<(), Fail> {
     let alloc = rt.alloc();
@@ -238,6 +244,7 @@ fn journal_of_one_who_is_away(rt: HostRuntime) -> Result<(), Fail> {
     for len in 9..38usize {
         answers(&rt, alloc, &AWAY_JOURNAL[..len], 62)?;
     }
+    answers(&rt, alloc, LONGER_AWAY_JOURNAL.as_slice(), 62)?;
     for &(at, bytes) in &NO_AWAYS {
         refuses_changed(&rt, alloc, at, bytes)?;
     }
