@@ -1,8 +1,9 @@
 //! The most that parts of a call make, by the limits of frames, lines and logs.
 //!
 //! Frames of one command at most are counted, each as the longest of them (`MOST_SINGLE_FRAME`), so that the room of two
-//! parts of a call is the sum of theirs. Contracts and definitions name these numbers, so another count of nodes or
-//! another longest frame is changed where it stands, in `paxos_wire`, and nowhere here.
+//! parts of a call is the sum of theirs. Contracts and definitions name those of frames, so another count of nodes or
+//! another longest frame is changed where it stands, in `paxos_wire`, and nowhere here; those of texts they say as
+//! numbers.
 
 use card_core::limits::PLAYERS;
 use match_log::MOST_FURTHER;
@@ -36,7 +37,7 @@ pub(crate) const FRAMES_OF_A_MESSAGE: usize = FRAMES_OF_AN_ANSWER + FRAMES_OF_A_
 /// The most bytes of these frames.
 pub(crate) const FRAME_BYTES_OF_A_MESSAGE: usize = FRAMES_OF_A_MESSAGE * MOST_SINGLE_FRAME;
 
-/// The most commands that a call learns: one that a message tells, or that it completes a majority for, and one that the
+/// The most commands that a call learns: one that a message tells, or that it completes a quorum for, and one that the
 /// close proposes.
 pub(crate) const COMMANDS_OF_A_CALL: usize = 2;
 
