@@ -21,7 +21,7 @@ answers_are : (sender : ℕ) (ballot : Ballot) (slot : ℕ) (commands : List Com
 answers_are sender ballot slot [] = refl
 answers_are sender ballot slot (command ∷ later) = ap (λ l. Accepted sender ballot slot command ∷ l) (answers_are sender ballot (slot + 1) later)
 
--- the command has a place in the run, and the slot k belongs to it
+-- the command has a place in the command run, and the slot k belongs to it
 record Placed (slot : ℕ) (commands : List Command) (k : ℕ) (command : Command) : Type 0 where
   pub low : slot ≤ k
   pub high : k < slot + length commands
@@ -124,3 +124,13 @@ pub only_answers : (sender : ℕ) (ballot : Ballot) (slot : ℕ) (commands : Lis
     → (k : ℕ) × (command : Command) × (message ≡ Accepted sender ballot k command)
 only_answers sender ballot slot commands message h =
     let t = in_numbered (Accepted sender ballot) slot commands message (subst (In message) (answers_are sender ballot slot commands) h) in (t.0, t.1, t.2)
+
+-- ---- one for each command
+
+pub as_many_proposals : (ballot : Ballot) (slot : ℕ) (commands : List Command) → length (proposals ballot slot commands) ≡ length commands
+as_many_proposals ballot slot [] = refl
+as_many_proposals ballot slot (command ∷ later) = ap suc (as_many_proposals ballot (slot + 1) later)
+
+pub as_many_answers : (sender : ℕ) (ballot : Ballot) (slot : ℕ) (commands : List Command) → length (answers sender ballot slot commands) ≡ length commands
+as_many_answers sender ballot slot [] = refl
+as_many_answers sender ballot slot (command ∷ later) = ap suc (as_many_answers sender ballot (slot + 1) later)

@@ -22,7 +22,7 @@ use Rattle.protocol_model.proofs.Runs.{chain_joins}
 -- ---- what is taken may be voted for
 
 -- each command stands there already in the ballot, or it was proposed and the ballot has no vote there
-abbrev MayVote : List Message → Store → Ballot → ℕ → List Command → Type 0
+abbrev pub MayVote : List Message → Store → Ballot → ℕ → List Command → Type 0
 MayVote has store ballot slot [] = Unit {0}
 MayVote has store ballot slot (command ∷ later) =
     ((store.votes slot ≡ Some (record { ballot = ballot; command = command })) ⊎ ((is_voted store ballot slot ≡ false) × In (Accept ballot slot command) has))
@@ -59,7 +59,7 @@ taken_may stood has store ballot slot (command ∷ later) had =
 other_vote : (store : Store) (at : ℕ) (v : Vote) (slot : ℕ) → at < slot → (voted store at v).votes slot ≡ store.votes slot
 other_vote store at v slot below = put_other store.votes at (Some v) slot (λ e. absurd (omega (arith, e, below)))
 
-may_stays : (has : List Message) (store : Store) (ballot : Ballot) (at : ℕ) (v : Vote) (slot : ℕ) (commands : List Command) → at < slot
+pub may_stays : (has : List Message) (store : Store) (ballot : Ballot) (at : ℕ) (v : Vote) (slot : ℕ) (commands : List Command) → at < slot
     → MayVote has store ballot slot commands → MayVote has (voted store at v) ballot slot commands
 may_stays has store ballot at v slot [] below may = tt
 may_stays has store ballot at v slot (command ∷ later) below may = (
@@ -71,14 +71,14 @@ may_stays has store ballot at v slot (command ∷ later) below may = (
 )
 
 -- what is stored where the ballot has the vote, and where it has none
-stands_storing : (store : Store) (ballot : Ballot) (slot : ℕ) (command : Command) → store.votes slot ≡ Some (record { ballot = ballot; command = command })
+pub stands_storing : (store : Store) (ballot : Ballot) (slot : ℕ) (command : Command) → store.votes slot ≡ Some (record { ballot = ballot; command = command })
     → storing store ballot slot command ≡ store
 stands_storing store ballot slot command e = ap (λ b. if b then store else voted store slot (record { ballot = ballot; command = command })) here
   where
     here : is_voted store ballot slot ≡ true
     here = ap (λ held. is_of_ballot held ballot) e ∙ is_same_if ballot ballot refl
 
-free_storing : (store : Store) (ballot : Ballot) (slot : ℕ) (command : Command) → is_voted store ballot slot ≡ false
+pub free_storing : (store : Store) (ballot : Ballot) (slot : ℕ) (command : Command) → is_voted store ballot slot ≡ false
     → storing store ballot slot command ≡ voted store slot (record { ballot = ballot; command = command })
 free_storing store ballot slot command e = ap (λ b. if b then store else voted store slot (record { ballot = ballot; command = command })) e
 
@@ -261,17 +261,21 @@ gets_all dealer n i ever old (m ∷ messages) up sent =
 
 -- ---- what is taken
 
-pub command_run_backed : (i : ℕ) (has : List Message) (store : Store) (ballot : Ballot) (slot : ℕ) (commands : List Command) (m : Message)
-    → IsWithinPromise store → AtMost store.promise ballot → Within (proposals ballot slot commands) has
-    → In m (answers i ballot slot (command_run_at store ballot slot commands)) → Backs (taking_command_run store ballot slot commands) m
-command_run_backed i has store ballot slot commands m within above had =
-    answers_backed i has store ballot slot (command_run_at store ballot slot commands) m within above (taken_may (is_voted store ballot slot) has store ballot slot commands had)
+-- by one that has just the proposals
+pub taken_may_by_itself : (store : Store) (ballot : Ballot) (slot : ℕ) (commands : List Command)
+    → MayVote (proposals ballot slot commands) store ballot slot (command_run_at store ballot slot commands)
+taken_may_by_itself store ballot slot commands = taken_may (is_voted store ballot slot) (proposals ballot slot commands) store ballot slot commands (λ m said. said)
 
-pub command_run_stays : (has : List Message) (store : Store) (ballot : Ballot) (slot : ℕ) (commands : List Command) (m : Message)
-    → IsWithinPromise store → AtMost store.promise ballot → Within (proposals ballot slot commands) has
-    → Backs store m → Backs (taking_command_run store ballot slot commands) m
-command_run_stays has store ballot slot commands m within above had =
-    backs_each has store ballot slot (command_run_at store ballot slot commands) m within above (taken_may (is_voted store ballot slot) has store ballot slot commands had)
+pub command_run_backed : (i : ℕ) (store : Store) (ballot : Ballot) (slot : ℕ) (commands : List Command) (m : Message)
+    → IsWithinPromise store → AtMost store.promise ballot
+    → In m (answers i ballot slot (command_run_at store ballot slot commands)) → Backs (taking_command_run store ballot slot commands) m
+command_run_backed i store ballot slot commands m within above =
+    answers_backed i (proposals ballot slot commands) store ballot slot (command_run_at store ballot slot commands) m within above (taken_may_by_itself store ballot slot commands)
+
+pub command_run_stays : (store : Store) (ballot : Ballot) (slot : ℕ) (commands : List Command) (m : Message)
+    → IsWithinPromise store → AtMost store.promise ballot → Backs store m → Backs (taking_command_run store ballot slot commands) m
+command_run_stays store ballot slot commands m within above =
+    backs_each (proposals ballot slot commands) store ballot slot (command_run_at store ballot slot commands) m within above (taken_may_by_itself store ballot slot commands)
 
 -- no vote of the store is above its promise afterwards either
 within_step : (store : Store) (ballot : Ballot) (slot : ℕ) (command : Command) (later : List Command) → IsWithinPromise store → AtMost store.promise ballot
@@ -291,7 +295,7 @@ pub command_run_within : (store : Store) (ballot : Ballot) (slot : ℕ) (command
     → IsWithinPromise (taking_command_run store ballot slot commands)
 command_run_within store ballot slot commands = within_each store ballot slot (command_run_at store ballot slot commands)
 
--- a run that isn't empty leaves its ballot promised
+-- a command run that isn't empty leaves its ballot promised
 promise_stays : (store : Store) (ballot : Ballot) (slot : ℕ) (commands : List Command) → store.promise ≡ ballot → (storing_command_run store ballot slot commands).promise ≡ ballot
 promise_stays store ballot slot [] is = is
 promise_stays store ballot slot (command ∷ later) is =
@@ -316,8 +320,8 @@ promised_first store ballot slot command true e within above =
 promised_first store ballot slot command false e within above =
     ap (λ b. (if b then store else voted store slot (record { ballot = ballot; command = command })).promise) e
 
--- the first of a run is taken
-first_taken : (stood : Bool) (command : Command) (behind : List Command) → (if is_alike stood stood then command ∷ behind else []) ≡ command ∷ behind
+-- the first of a command run is taken
+pub first_taken : (stood : Bool) (command : Command) (behind : List Command) → (if is_alike stood stood then command ∷ behind else []) ≡ command ∷ behind
 first_taken true command behind = refl
 first_taken false command behind = refl
 
@@ -331,7 +335,7 @@ command_run_promised store ballot slot command later within above =
 
 -- ---- where the ballot has no vote at any of the slots, all is taken
 
-stored_free : (ballot : Ballot) (command : Command) (held : Option Vote) → is_of_ballot held ballot ≡ false → stored_in held ballot command ≡ command
+pub stored_free : (ballot : Ballot) (command : Command) (held : Option Vote) → is_of_ballot held ballot ≡ false → stored_in held ballot command ≡ command
 stored_free ballot command None free = refl
 stored_free ballot command (Some v) free = ap (λ b. if b then v.command else command) free
 

@@ -16,6 +16,7 @@ mod Dealing
 mod Opening
 mod Calling
 pub mod CommandRuns
+pub mod TakenRuns
 pub mod CommandRunExamples
 mod CarriedRuns
 pub mod Examples

@@ -1,5 +1,5 @@
 -- What a store tells of its votes, and what a vote makes of it.
-use Rattle.std.specs.Prelude.{ℕ, zero, suc, ◌+◌, Bool, false, not, if◌then◌else◌, List, [], ◌∷◌, ◌++◌, Option, Some, None}
+use Rattle.std.specs.Prelude.{◌≡◌, ℕ, zero, suc, ◌+◌, ◌<◌, ◌≤◌, Bool, false, not, if◌then◌else◌, List, [], ◌∷◌, ◌++◌, Option, Some, None}
 use Rattle.paxos_wire.specs.declared.limits.TheConstants.{WINDOW}
 use Rattle.paxos_wire.specs.declared.ballot.Ballot.{Ballot}
 use Rattle.paxos_wire.specs.declared.entry.Entry.{Entry}
@@ -69,3 +69,11 @@ storing_command_run store ballot slot (command ∷ more) = storing_command_run (
 -- the store with a vote for all that is taken
 abbrev pub taking_command_run : Store → Ballot → ℕ → List Command → Store
 taking_command_run store ballot slot commands = storing_command_run store ballot slot (command_run_at store ballot slot commands)
+
+-- ---- how far a command run is taken
+
+-- of a command run of so many commands it goes so far: at each slot that far it is as this says whether the ballot has a vote there, and at the slot behind
+-- them, where the command run goes on, it is otherwise
+pub record GoesTo (voted : Bool) (store : Store) (ballot : Ballot) (slot all count : ℕ) : Type 0 where
+  pub alike : (k : ℕ) → slot ≤ k → k < slot + count → is_voted store ballot k ≡ voted
+  pub differs : count < all → is_voted store ballot (slot + count) ≡ not voted

@@ -1,4 +1,4 @@
-ghost use Rattle.std.specs.Prelude.{◌≡◌, Bool, true, false, ℕ, ◌+◌, ◌-◌, ◌<◌, ◌≤◌, ◌++◌, ◌↔◌, List, ◌∷◌, length, slice_get, Some};
+ghost use Rattle.std.specs.Prelude.{◌≡◌, Bool, true, false, ℕ, ◌+◌, ◌-◌, ◌<◌, ◌≤◌, ◌⊎◌, ◌++◌, ◌↔◌, List, ◌∷◌, length, take, slice_get, Some};
 ghost use Rattle.paxos_wire.specs.declared.ballot.Ballot.{Ballot};
 ghost use Rattle.slot_log.specs.declared.command.Command.{Command};
 ghost use Rattle.protocol_model.specs.Sets.{In, IsBeginning};
@@ -13,7 +13,7 @@ ghost use Rattle.protocol_model.specs.Backing.{Backs, HasNoOther, IsWithinPromis
 ghost use Rattle.protocol_model.specs.Arrivals.{heard_in, AreInOrder};
 ghost use Rattle.protocol_model.specs.Moves.{Shown, Output, both, with_store, with_sent, Chain};
 ghost use Rattle.protocol_model.specs.Calls.{IsToSeat, lines_in};
-ghost use Rattle.protocol_model.specs.Votes.{is_voted, command_run_at, taking_command_run};
+ghost use Rattle.protocol_model.specs.Votes.{is_voted, command_run_at, taking_command_run, GoesTo};
 ghost use Rattle.protocol_model.specs.Frames.{proposals, answers};
 ghost use Rattle.protocol_model.specs.CommandRuns.{proposed, answered, sending_all, MayProposeEach};
 ghost use Rattle.protocol_model.specs.Worlds.{World, IsAfter, Run, Reached};
@@ -158,6 +158,8 @@ pub fn command_runs_are_carried()
     ensures answers { (sender from : ℕ) (ballot other : Ballot) (slot k : ℕ) (command : Command) (commands : List Command)
         → In (Accepted from other k command) (answers sender ballot slot commands)
         ↔ (from ≡ sender) × (other ≡ ballot) × (slot ≤ k) × (k < slot + length commands) × (slice_get commands (k - slot) ≡ Some command) }
+    ensures as_many_proposals { (ballot : Ballot) (slot : ℕ) (commands : List Command) → length (proposals ballot slot commands) ≡ length commands }
+    ensures as_many_answers { (sender : ℕ) (ballot : Ballot) (slot : ℕ) (commands : List Command) → length (answers sender ballot slot commands) ≡ length commands }
     ensures only_proposals { (ballot : Ballot) (slot : ℕ) (commands : List Command) (message : Message)
         → In message (proposals ballot slot commands) → (k : ℕ) × (command : Command) × (message ≡ Accept ballot k command) }
     ensures only_answers { (sender : ℕ) (ballot : Ballot) (slot : ℕ) (commands : List Command) (message : Message)
@@ -167,9 +169,15 @@ pub fn command_runs_are_carried()
 /// A command run is voted for by moves of its slots one after another, and stored by one append; and told values of slots
 /// one behind the other are proposed together.
 ///
-/// Of a run that was proposed what is taken is voted for: its votes are what one append may make of the store, each
-/// answer is backed by them, so is all that was backed before, no vote is above the promise, and a run that isn't empty
-/// leaves its ballot promised. Where the ballot has no vote at any of the slots, all of the run is taken.
+/// Of a command run that was proposed what is taken is voted for: its votes are what one append may make of the store,
+/// each answer is backed by them, so is all that was backed before, no vote is above the promise, and a command run that
+/// isn't empty leaves its ballot promised.
+///
+/// What is taken ends behind the last slot before the first one that differs from the first slot in whether the ballot has
+/// a vote there, or with the command run; so of one that isn't empty at least one command is taken. Where the first slot
+/// has no vote of the ballot, it is a beginning of the command run, all of it where none of the slots has one. Where the
+/// first slot has one, it is what the ballot has at these slots, and the store stays as it was. Afterwards the slots of
+/// what is taken have its votes, and the others what they had.
 pub fn command_runs_are_moves()
     ensures votes { (dealer : Dealer) (n i : ℕ) (ever : List Message) (old : Node) (ballot : Ballot) (slot : ℕ) (commands : List Command)
         → old.up ≡ true → old.begun ≡ old.store → AtMost old.store.promise ballot
@@ -179,16 +187,36 @@ pub fn command_runs_are_moves()
     ensures append { (i : ℕ) (has : List Message) (store : Store) (ballot : Ballot) (slot : ℕ) (commands : List Command)
         → AtMost store.promise ballot → ((message : Message) → In message (proposals ballot slot commands) → In message has)
         → Append i has store (taking_command_run store ballot slot commands) }
-    ensures backed { (i : ℕ) (has : List Message) (store : Store) (ballot : Ballot) (slot : ℕ) (commands : List Command) (message : Message)
-        → IsWithinPromise store → AtMost store.promise ballot → ((said : Message) → In said (proposals ballot slot commands) → In said has)
+    ensures backed { (i : ℕ) (store : Store) (ballot : Ballot) (slot : ℕ) (commands : List Command) (message : Message)
+        → IsWithinPromise store → AtMost store.promise ballot
         → In message (answers i ballot slot (command_run_at store ballot slot commands)) → Backs (taking_command_run store ballot slot commands) message }
-    ensures stays { (has : List Message) (store : Store) (ballot : Ballot) (slot : ℕ) (commands : List Command) (message : Message)
-        → IsWithinPromise store → AtMost store.promise ballot → ((said : Message) → In said (proposals ballot slot commands) → In said has)
-        → Backs store message → Backs (taking_command_run store ballot slot commands) message }
+    ensures stays { (store : Store) (ballot : Ballot) (slot : ℕ) (commands : List Command) (message : Message)
+        → IsWithinPromise store → AtMost store.promise ballot → Backs store message → Backs (taking_command_run store ballot slot commands) message }
     ensures within { (store : Store) (ballot : Ballot) (slot : ℕ) (commands : List Command)
         → IsWithinPromise store → AtMost store.promise ballot → IsWithinPromise (taking_command_run store ballot slot commands) }
     ensures promised { (store : Store) (ballot : Ballot) (slot : ℕ) (command : Command) (later : List Command)
         → IsWithinPromise store → AtMost store.promise ballot → (taking_command_run store ballot slot (command ∷ later)).promise ≡ ballot }
+    ensures least { (store : Store) (ballot : Ballot) (slot : ℕ) (command : Command) (later : List Command)
+        → 1 ≤ length (command_run_at store ballot slot (command ∷ later)) }
+    ensures most { (store : Store) (ballot : Ballot) (slot : ℕ) (commands : List Command)
+        → length (command_run_at store ballot slot commands) ≤ length commands }
+    ensures begins { (store : Store) (ballot : Ballot) (slot : ℕ) (commands : List Command) → is_voted store ballot slot ≡ false
+        → (command_run_at store ballot slot commands ≡ take (length (command_run_at store ballot slot commands)) commands)
+        × GoesTo false store ballot slot (length commands) (length (command_run_at store ballot slot commands)) }
+    ensures repeats { (store : Store) (ballot : Ballot) (slot : ℕ) (commands : List Command) → is_voted store ballot slot ≡ true
+        → ((place : ℕ) (command : Command) → slice_get (command_run_at store ballot slot commands) place ≡ Some command
+        → store.votes (slot + place) ≡ Some (record { ballot = ballot; command = command }))
+        × GoesTo true store ballot slot (length commands) (length (command_run_at store ballot slot commands)) }
+    ensures stands { (store : Store) (ballot : Ballot) (slot : ℕ) (commands : List Command)
+        → is_voted store ballot slot ≡ true → taking_command_run store ballot slot commands ≡ store }
+    ensures inside { (store : Store) (ballot : Ballot) (slot place : ℕ) (command : Command) (commands : List Command)
+        → slice_get (command_run_at store ballot slot commands) place ≡ Some command
+        → (taking_command_run store ballot slot commands).votes (slot + place) ≡ Some (record { ballot = ballot; command = command }) }
+    ensures outside { (store : Store) (ballot : Ballot) (slot k : ℕ) (commands : List Command)
+        → (k < slot) ⊎ (slot + length (command_run_at store ballot slot commands) ≤ k)
+        → (taking_command_run store ballot slot commands).votes k ≡ store.votes k }
+    ensures promise { (store : Store) (ballot : Ballot) (slot : ℕ) (commands : List Command)
+        → ((taking_command_run store ballot slot commands).promise ≡ store.promise) ⊎ ((taking_command_run store ballot slot commands).promise ≡ ballot) }
     ensures taken_whole { (store : Store) (ballot : Ballot) (slot : ℕ) (commands : List Command)
         → ((k : ℕ) → slot ≤ k → k < slot + length commands → is_voted store ballot k ≡ false)
         → command_run_at store ballot slot commands ≡ commands }
