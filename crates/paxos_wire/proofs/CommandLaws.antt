@@ -1,5 +1,5 @@
 -- Ballots, actions, deals and commands: what is read is what is written, and what is written is read again.
-use Rattle.std.proofs.Common.{◌≡◌, ℕ, zero, suc, ◌+◌, ◌*◌, ◌%◌, ◌^◌, ◌<◌, ◌≤◌, true, false, cond, ◌&&◌, ltb, leb, eqb, List, [], ◌∷◌, ◌++◌, length, take, drop, Some, None, refl, sym, ap, subst, ◌∙◌, append_assoc, arith, inl, inr, length-append, length-take}
+use Rattle.std.proofs.Common.{◌≡◌, ℕ, zero, suc, ◌+◌, ◌*◌, ◌%◌, ◌^◌, ◌<◌, ◌≤◌, lit≤, true, false, cond, ◌&&◌, ltb, leb, eqb, List, [], ◌∷◌, ◌++◌, length, take, drop, Some, None, refl, sym, ap, subst, ◌∙◌, append_assoc, arith, inl, inr, length-append, length-take}
 use Rattle.std.specs.List.{AllByRecursion}
 use Rattle.std.proofs.lemmas.Bool.{ltb-false, le-ltb, ltb-true, lt-ltb, leb-true, le-leb, eqb-true, eq-eqb, and_from, and_parts}
 use Rattle.std.proofs.lemmas.List.{take-append-drop, take_at, drop_at}
@@ -13,6 +13,9 @@ use Rattle.slot_log.specs.declared.command.Command.TheVariants.{Deal, Act, Away}
 use Rattle.slot_log.specs.Range.{IsAmount}
 use Rattle.paxos_wire.specs.declared.limits.TheConstants.{NODES, HANDS, ACTIONS, MOST_CHIPS}
 use Rattle.paxos_wire.specs.declared.ballot.Ballot.{Ballot}
+use Rattle.paxos_wire.specs.declared.version.Version.{Version}
+use Rattle.paxos_wire.specs.declared.version.Version.TheVariants.{Old, New}
+use Rattle.paxos_wire.specs.Versions.{nodes_in}
 use Rattle.byteorder.specs.Endian.{big_bytes}
 use Rattle.paxos_wire.specs.Fits.{IsBallot, AreDealt, IsCommand}
 use Rattle.paxos_wire.specs.Spelling.{ballot_text, action_text, deal_text, command_text}
@@ -24,27 +27,38 @@ use Rattle.paxos_wire.proofs.Counts.{of_players}
 
 -- ---- ballots
 
-pub ballot_takes : (bytes : List ℕ) (x : Ballot × List ℕ) → IsBytes bytes → ballot_at bytes ≡ Some x → Takes ballot_text IsBallot bytes x
+-- a ballot of a node that the version has
+pub record IsBallotIn (version : Version) (b : Ballot) : Type 0 where
+  pub ballot : IsBallot b
+  pub node : b.node < nodes_in version
+
+nodes_most : (version : Version) → nodes_in version ≤ NODES
+nodes_most Old = lit≤ tt
+nodes_most New = lit≤ tt
+
+pub ballot_takes : (version : Version) (bytes : List ℕ) (x : Ballot × List ℕ) → IsBytes bytes → ballot_at version bytes ≡ Some x → Takes ballot_text (IsBallotIn version) bytes x
 unfolding ballot_at
-ballot_takes bytes x fits e =
-    let a = bind_some (number_at 4 bytes) (λ round. byte_at round.1 >>= λ node. when (ltb 0 round.0 && ltb node.0 NODES) (record { round = round.0; node = node.0 }, node.1)) x e in
-    let b = bind_some (byte_at a.0.1) (λ node. when (ltb 0 a.0.0 && ltb node.0 NODES) (record { round = a.0.0; node = node.0 }, node.1)) x a.2 in
+ballot_takes version bytes x fits e =
+    let a = bind_some (number_at 4 bytes) (λ round. byte_at round.1 >>= λ node. when (ltb 0 round.0 && ltb node.0 (nodes_in version)) (record { round = round.0; node = node.0 }, node.1)) x e in
+    let b = bind_some (byte_at a.0.1) (λ node. when (ltb 0 a.0.0 && ltb node.0 (nodes_in version)) (record { round = a.0.0; node = node.0 }, node.1)) x a.2 in
     let made : Ballot × List ℕ = (record { round = a.0.0; node = b.0.0 }, b.0.1) in
-    let g = when_some (ltb 0 a.0.0 && ltb b.0.0 NODES) made x b.2 in
-    let tests = and_parts (ltb 0 a.0.0) (ltb b.0.0 NODES) g.0 in
+    let g = when_some (ltb 0 a.0.0 && ltb b.0.0 (nodes_in version)) made x b.2 in
+    let tests = and_parts (ltb 0 a.0.0) (ltb b.0.0 (nodes_in version)) g.0 in
     let t0 = number_takes 4 wide4 bytes a.0 fits a.1 in
     let t1 = byte_takes a.0.1 b.0 t0.rest b.1 in
     let first : 0 < a.0.0 = ltb-true _ _ tests.0 in
     let last : a.0.0 < 2 ^ 32 = t0.fits in
-    subst (λ (y : Ballot × List ℕ). Takes ballot_text IsBallot bytes y) g.1
-    (record { parts = both bytes (big_bytes 4 a.0.0) a.0.1 (byte_text b.0.0) b.0.1 t0.parts t1.parts; rest = t1.rest; fits = record { first = omega arith; last = last; node = ltb-true _ _ tests.1 } })
+    let node : b.0.0 < nodes_in version = ltb-true _ _ tests.1 in
+    let is : IsBallot made.0 = record { first = omega arith; last = last; node = omega (arith, node, nodes_most version) } in
+    subst (λ (y : Ballot × List ℕ). Takes ballot_text (IsBallotIn version) bytes y) g.1
+    (record { parts = both bytes (big_bytes 4 a.0.0) a.0.1 (byte_text b.0.0) b.0.1 t0.parts t1.parts; rest = t1.rest; fits = record { ballot = is; node = node } })
 
-pub ballot_again : (b : Ballot) (rest : List ℕ) → IsBallot b → ballot_at (ballot_text b ++ rest) ≡ Some (b, rest)
+pub ballot_again : (version : Version) (b : Ballot) (rest : List ℕ) → IsBallot b → b.node < nodes_in version → ballot_at version (ballot_text b ++ rest) ≡ Some (b, rest)
 unfolding ballot_at
-ballot_again b rest fits =
+ballot_again version b rest fits node =
     let regrouped : ballot_text b ++ rest ≡ big_bytes 4 b.round ++ (b.node ∷ rest) = append_assoc (big_bytes 4 b.round) (b.node ∷ []) rest in
     let above : 0 < b.round = omega (arith, fits.first) in
-    ap ballot_at regrouped ∙ rw (number_again 4 b.round (b.node ∷ rest) fits.last, lt-ltb 0 b.round above, lt-ltb b.node NODES fits.node) refl
+    ap (ballot_at version) regrouped ∙ rw (number_again 4 b.round (b.node ∷ rest) fits.last, lt-ltb 0 b.round above, lt-ltb b.node (nodes_in version) node) refl
 
 -- ---- actions
 

@@ -1,12 +1,13 @@
--- Frames: what is read is what is written, and what is written is read again.
-use Rattle.std.proofs.Common.{◌≡◌, ℕ, suc, ◌+◌, ◌*◌, ◌≤◌, true, false, not, cond, ltb, leb, eqb, List, [], ◌∷◌, ◌++◌, length, map, slice_index, drop, Option, Some, None, Ok, Err, refl, sym, ap, ◌∙◌, arith, length-append}
+-- Frames of either version: what is read is what is written, and what is written is read again.
+use Rattle.std.proofs.Common.{◌≡◌, ℕ, suc, ◌+◌, ◌*◌, ◌<◌, ◌≤◌, Bool, true, false, not, ◌||◌, cond, ltb, leb, eqb, List, [], ◌∷◌, ◌++◌, length, map, slice_index, drop, Option, Some, None, Ok, Err, refl, sym, ap, subst, ◌∙◌, arith, inl, inr, length-append}
 use Rattle.std.specs.List.{flat_map, AllByRecursion}
 use Rattle.std.proofs.lemmas.Bool.{ltb-false, le-ltb, leb-true, eqb-true, eq-eqb, not-false, and_parts}
+use Rattle.std.proofs.lemmas.List.{append-nil}
 use Rattle.std.proofs.lemmas.List.Concat.{flat_map-cons}
 use Rattle.slot_log.specs.declared.command.Command.{Command}
 use Rattle.slot_log.specs.declared.command.Command.TheVariants.{Deal, Act, Away}
 use Rattle.betting.specs.declared.action.Action.TheVariants.{Fold, Call, Raise}
-use Rattle.paxos_wire.specs.declared.limits.TheConstants.{VERSION, LEAST_LENGTH, MOST_LENGTH, MOST_FRAME, MOST_SINGLE_FRAME}
+use Rattle.paxos_wire.specs.declared.limits.TheConstants.{VERSION, OLD_VERSION, LEAST_LENGTH, MOST_LENGTH, MOST_FRAME, MOST_SINGLE_FRAME}
 use Rattle.paxos_wire.specs.declared.entry.Entry.{Entry}
 use Rattle.paxos_wire.specs.declared.fault.FrameFault.{FrameFault}
 use Rattle.paxos_wire.specs.declared.fault.FrameFault.TheVariants.{TooShort, TooLong, BadVersion, BadKind, BadBody}
@@ -15,8 +16,11 @@ use Rattle.paxos_wire.specs.declared.message.Message.TheVariants.{Prepare, Promi
 use Rattle.std.specs.Option.{unwrap_or}
 use Rattle.byteorder.specs.Endian.{big_bytes}
 use Rattle.byteorder.specs.Numbers.{big_number-reads_back}
-use Rattle.paxos_wire.specs.Fits.{IsDealt, IsMessage, IsSingle}
-use Rattle.paxos_wire.specs.Spelling.{command_text, entry_text, kind, payload, frame}
+use Rattle.paxos_wire.specs.declared.version.Version.{Version}
+use Rattle.paxos_wire.specs.declared.version.Version.TheVariants.{Old, New}
+use Rattle.paxos_wire.specs.Versions.{version_byte, nodes_in, is_version, version_of}
+use Rattle.paxos_wire.specs.Fits.{IsDealt, IsEntry, Fits, IsMessage, IsSingle, IsOld, HasNodesBelow}
+use Rattle.paxos_wire.specs.Spelling.{command_text, entry_text, kind, proposed_text, payload, frame_of, frame, old_frame, IsText}
 use Rattle.paxos_wire.specs.Reading.{body_of}
 use Rattle.paxos_wire.specs.Faults.{length_field, is_kind, header_fault, fault_of, behind, reading}
 use Rattle.paxos_wire.proofs.Steps.{IsBytes}
@@ -41,25 +45,30 @@ entries_most (e ∷ es) cards =
     let whole : length (flat_map entry_text (e ∷ es)) ≡ length (entry_text e) + length (flat_map entry_text es) = ap length (flat_map-cons entry_text e es) ∙ length-append (entry_text e) (flat_map entry_text es) in
     omega (arith, whole, first, rest)
 
-pub payload_most : (m : Message) → IsMessage m → 4 + length (payload m) ≤ MOST_FRAME
-payload_most (Prepare b s) fits = omega arith
-payload_most (Promise b s es) fits = omega (arith, entries_most es fits.cards, fits.numbers.2.most)
-payload_most (Refuse b s p) fits = omega arith
-payload_most (Accept b s c) fits = omega (arith, command_most c fits.cards.0)
-payload_most (Accepted b s c) fits = omega (arith, command_most c fits.cards.0)
-payload_most (Chosen s c) fits = omega (arith, command_most c fits.cards.0)
-payload_most (Ask s) fits = omega arith
-payload_most (Forward c) fits = omega (arith, command_most c fits.cards.0)
+-- a byte for the count, in the version that has one
+proposed_most : (version : Version) (c : Command) → IsDealt c → length (proposed_text version c) ≤ 32
+proposed_most Old c dealt = omega (arith, command_most c dealt)
+proposed_most New c dealt = omega (arith, command_most c dealt, ap length (append-nil (command_text c)))
 
-single_most : (m : Message) → IsMessage m → IsSingle m → 4 + length (payload m) ≤ MOST_SINGLE_FRAME
-single_most (Prepare b s) fits single = omega arith
-single_most (Promise b s es) fits single = absurd single
-single_most (Refuse b s p) fits single = omega arith
-single_most (Accept b s c) fits single = omega (arith, command_most c fits.cards.0)
-single_most (Accepted b s c) fits single = omega (arith, command_most c fits.cards.0)
-single_most (Chosen s c) fits single = omega (arith, command_most c fits.cards.0)
-single_most (Ask s) fits single = omega arith
-single_most (Forward c) fits single = omega (arith, command_most c fits.cards.0)
+pub payload_most : (version : Version) (m : Message) → IsMessage m → 4 + length (payload version m) ≤ MOST_FRAME
+payload_most version (Prepare b s) fits = omega arith
+payload_most version (Promise b s es) fits = omega (arith, entries_most es fits.cards, fits.numbers.2.most)
+payload_most version (Refuse b s p) fits = omega arith
+payload_most version (Accept b s c) fits = omega (arith, proposed_most version c fits.cards.0)
+payload_most version (Accepted b s c) fits = omega (arith, proposed_most version c fits.cards.0)
+payload_most version (Chosen s c) fits = omega (arith, command_most c fits.cards.0)
+payload_most version (Ask s) fits = omega arith
+payload_most version (Forward c) fits = omega (arith, command_most c fits.cards.0)
+
+single_most : (version : Version) (m : Message) → IsMessage m → IsSingle m → 4 + length (payload version m) ≤ MOST_SINGLE_FRAME
+single_most version (Prepare b s) fits single = omega arith
+single_most version (Promise b s es) fits single = absurd single
+single_most version (Refuse b s p) fits single = omega arith
+single_most version (Accept b s c) fits single = omega (arith, proposed_most version c fits.cards.0)
+single_most version (Accepted b s c) fits single = omega (arith, proposed_most version c fits.cards.0)
+single_most version (Chosen s c) fits single = omega (arith, command_most c fits.cards.0)
+single_most version (Ask s) fits single = omega arith
+single_most version (Forward c) fits single = omega (arith, command_most c fits.cards.0)
 
 kind_passes : (m : Message) → is_kind (kind m) ≡ true
 kind_passes (Prepare b s) = refl
@@ -71,35 +80,91 @@ kind_passes (Chosen s c) = refl
 kind_passes (Ask s) = refl
 kind_passes (Forward c) = refl
 
+version_passes : (version : Version) → is_version (version_byte version) ≡ true
+version_passes Old = refl
+version_passes New = refl
+
+version_again : (version : Version) → version_of (version_byte version) ≡ version
+version_again Old = refl
+version_again New = refl
+
 -- the length in front of a frame, whatever follows it
-pub length_field_is : (m : Message) (rest : List ℕ) → IsMessage m → length_field (frame m ++ rest) ≡ length (payload m)
-unfolding frame
-length_field_is m rest fits = big_number-reads_back 4 (length (payload m)) (payload m ++ rest) (omega (arith, payload_most m fits))
+length_field_of : (version : Version) (m : Message) (rest : List ℕ) → IsMessage m → length_field (frame_of version m ++ rest) ≡ length (payload version m)
+unfolding frame_of
+length_field_of version m rest fits = big_number-reads_back 4 (length (payload version m)) (payload version m ++ rest) (omega (arith, payload_most version m fits))
 
-pub no_header_fault : (m : Message) → IsMessage m → header_fault (frame m) ≡ None
-unfolding header_fault frame
-no_header_fault m fits =
-    let field : length_field (frame m) ≡ length (payload m) = big_number-reads_back 4 (length (payload m)) (payload m) (omega (arith, payload_most m fits)) in
-    let least : ltb (length (payload m)) LEAST_LENGTH ≡ false = le-ltb _ _ (omega arith) in
-    let most : ltb MOST_LENGTH (length (payload m)) ≡ false = le-ltb _ _ (omega (arith, payload_most m fits)) in
-    let long : ltb (length (frame m)) 4 ≡ false = le-ltb _ _ (omega arith) in
-    let whole : eqb (length (frame m)) (4 + length (payload m)) ≡ true = eq-eqb _ _ (omega arith) in
-    rw (long, field, least, most, whole, kind_passes m) refl
+no_header_fault : (version : Version) (m : Message) → IsMessage m → header_fault (frame_of version m) ≡ None
+unfolding header_fault frame_of
+no_header_fault version m fits =
+    let field : length_field (frame_of version m) ≡ length (payload version m) = big_number-reads_back 4 (length (payload version m)) (payload version m) (omega (arith, payload_most version m fits)) in
+    let least : ltb (length (payload version m)) LEAST_LENGTH ≡ false = le-ltb _ _ (omega arith) in
+    let most : ltb MOST_LENGTH (length (payload version m)) ≡ false = le-ltb _ _ (omega (arith, payload_most version m fits)) in
+    let long : ltb (length (frame_of version m)) 4 ≡ false = le-ltb _ _ (omega arith) in
+    let whole : eqb (length (frame_of version m)) (4 + length (payload version m)) ≡ true = eq-eqb _ _ (omega arith) in
+    rw (long, field, least, most, whole, version_passes version, kind_passes m) refl
 
-pub frame_again : (m : Message) → IsMessage m → reading (frame m) ≡ Ok m
-unfolding reading frame
-frame_again m fits = rw (no_header_fault m fits, body_again m fits) refl
+frame_of_again : (version : Version) (m : Message) → IsMessage m → HasNodesBelow (nodes_in version) m → reading (frame_of version m) ≡ Ok m
+unfolding reading frame_of
+frame_of_again version m fits nodes = rw (no_header_fault version m fits, version_again version, body_again version m fits nodes) refl
 
 -- the length's four bytes, and what they count
-pub frame_length : (m : Message) → length (frame m) ≡ 4 + length (payload m)
-unfolding frame
-frame_length m = omega arith
+frame_of_length : (version : Version) (m : Message) → length (frame_of version m) ≡ 4 + length (payload version m)
+unfolding frame_of
+frame_of_length version m = omega arith
+
+-- the new version has all nodes that there are
+nodes_below : (m : Message) → Fits m → HasNodesBelow (nodes_in New) m
+nodes_below (Prepare b s) fits = fits.0.node
+nodes_below (Promise b s es) fits = (fits.0.node, entry_nodes es fits.2.each)
+  where
+    entry_nodes : (es : List Entry) → AllByRecursion IsEntry es → AllByRecursion (λ e. e.ballot.node < nodes_in New) es
+    entry_nodes [] each = tt
+    entry_nodes (e ∷ es) each = (each.0.ballot.node, entry_nodes es each.1)
+nodes_below (Refuse b s p) fits = (fits.0.node, fits.2.node)
+nodes_below (Accept b s c) fits = fits.0.node
+nodes_below (Accepted b s c) fits = fits.0.node
+nodes_below (Chosen s c) fits = tt
+nodes_below (Ask s) fits = tt
+nodes_below (Forward c) fits = tt
+
+pub frame_again : (m : Message) → IsMessage m → reading (frame m) ≡ Ok m
+frame_again m fits = frame_of_again New m fits (nodes_below m fits.numbers)
+
+pub old_frame_again : (m : Message) → IsMessage m → IsOld m → reading (old_frame m) ≡ Ok m
+old_frame_again m fits old = frame_of_again Old m fits old
 
 pub frame_most : (m : Message) → IsMessage m → length (frame m) ≤ MOST_FRAME
-frame_most m fits = omega (arith, frame_length m, payload_most m fits)
+frame_most m fits = omega (arith, frame_of_length New m, payload_most New m fits)
 
 pub single_frame_most : (m : Message) → IsMessage m → IsSingle m → length (frame m) ≤ MOST_SINGLE_FRAME
-single_frame_most m fits single = omega (arith, frame_length m, single_most m fits single)
+single_frame_most m fits single = omega (arith, frame_of_length New m, single_most New m fits single)
+
+-- ---- texts of either version
+
+-- what a text's length says, and that it is read
+pub record IsFramed (m : Message) (text : List ℕ) : Type 0 where
+  pub least : 4 + LEAST_LENGTH ≤ length text
+  pub most : length text ≤ 4 + MOST_LENGTH
+  pub field : (rest : List ℕ) → 4 + length_field (text ++ rest) ≡ length text
+  pub read : reading text ≡ Ok m
+
+framed : (version : Version) (m : Message) → IsMessage m → HasNodesBelow (nodes_in version) m → IsFramed m (frame_of version m)
+framed version m fits nodes =
+    let len = frame_of_length version m in
+    record {
+      least = omega (arith, len);
+      most = omega (arith, len, payload_most version m fits);
+      field = λ rest. omega (arith, len, length_field_of version m rest fits);
+      read = frame_of_again version m fits nodes;
+    }
+
+pub text_framed : (m : Message) (text : List ℕ) → IsMessage m → IsText m text → IsFramed m text
+text_framed m text fits (inl new) = subst (λ (t : List ℕ). IsFramed m t) (sym new) (framed New m fits (nodes_below m fits.numbers))
+text_framed m text fits (inr old) = subst (λ (t : List ℕ). IsFramed m t) (sym old.1) (framed Old m fits old.0)
+
+text_of : (version : Version) (m : Message) (text : List ℕ) → HasNodesBelow (nodes_in version) m → text ≡ frame_of version m → IsText m text
+text_of Old m text nodes is = inr (nodes, is)
+text_of New m text nodes is = inl is
 
 -- ---- what was read is a frame
 
@@ -109,24 +174,24 @@ record IsHeaded (bytes : List ℕ) : Type 0 where
   pub least : LEAST_LENGTH ≤ length_field bytes
   pub most : length_field bytes ≤ MOST_LENGTH
   pub whole : length bytes ≡ 4 + length_field bytes
-  pub version : slice_index bytes 4 ≡ VERSION
+  pub version_passes : is_version (slice_index bytes 4) ≡ true
   pub kind_passes : is_kind (slice_index bytes 5) ≡ true
 
 is_headed : (bytes : List ℕ) → header_fault bytes ≡ None → IsHeaded bytes
 unfolding header_fault
 is_headed bytes e =
-    let a = past_test (ltb (length bytes) 4) TooShort (cond (ltb (length_field bytes) LEAST_LENGTH) (Some TooShort) (cond (ltb MOST_LENGTH (length_field bytes)) (Some TooLong) (cond (not (eqb (length bytes) (4 + length_field bytes))) (Some BadBody) (cond (not (eqb (slice_index bytes 4) VERSION)) (Some BadVersion) (cond (not (is_kind (slice_index bytes 5))) (Some BadKind) None))))) e in
-    let b = past_test (ltb (length_field bytes) LEAST_LENGTH) TooShort (cond (ltb MOST_LENGTH (length_field bytes)) (Some TooLong) (cond (not (eqb (length bytes) (4 + length_field bytes))) (Some BadBody) (cond (not (eqb (slice_index bytes 4) VERSION)) (Some BadVersion) (cond (not (is_kind (slice_index bytes 5))) (Some BadKind) None)))) a.1 in
-    let c = past_test (ltb MOST_LENGTH (length_field bytes)) TooLong (cond (not (eqb (length bytes) (4 + length_field bytes))) (Some BadBody) (cond (not (eqb (slice_index bytes 4) VERSION)) (Some BadVersion) (cond (not (is_kind (slice_index bytes 5))) (Some BadKind) None))) b.1 in
-    let d = past_test (not (eqb (length bytes) (4 + length_field bytes))) BadBody (cond (not (eqb (slice_index bytes 4) VERSION)) (Some BadVersion) (cond (not (is_kind (slice_index bytes 5))) (Some BadKind) None)) c.1 in
-    let f = past_test (not (eqb (slice_index bytes 4) VERSION)) BadVersion (cond (not (is_kind (slice_index bytes 5))) (Some BadKind) None) d.1 in
+    let a = past_test (ltb (length bytes) 4) TooShort (cond (ltb (length_field bytes) LEAST_LENGTH) (Some TooShort) (cond (ltb MOST_LENGTH (length_field bytes)) (Some TooLong) (cond (not (eqb (length bytes) (4 + length_field bytes))) (Some BadBody) (cond (not (is_version (slice_index bytes 4))) (Some BadVersion) (cond (not (is_kind (slice_index bytes 5))) (Some BadKind) None))))) e in
+    let b = past_test (ltb (length_field bytes) LEAST_LENGTH) TooShort (cond (ltb MOST_LENGTH (length_field bytes)) (Some TooLong) (cond (not (eqb (length bytes) (4 + length_field bytes))) (Some BadBody) (cond (not (is_version (slice_index bytes 4))) (Some BadVersion) (cond (not (is_kind (slice_index bytes 5))) (Some BadKind) None)))) a.1 in
+    let c = past_test (ltb MOST_LENGTH (length_field bytes)) TooLong (cond (not (eqb (length bytes) (4 + length_field bytes))) (Some BadBody) (cond (not (is_version (slice_index bytes 4))) (Some BadVersion) (cond (not (is_kind (slice_index bytes 5))) (Some BadKind) None))) b.1 in
+    let d = past_test (not (eqb (length bytes) (4 + length_field bytes))) BadBody (cond (not (is_version (slice_index bytes 4))) (Some BadVersion) (cond (not (is_kind (slice_index bytes 5))) (Some BadKind) None)) c.1 in
+    let f = past_test (not (is_version (slice_index bytes 4))) BadVersion (cond (not (is_kind (slice_index bytes 5))) (Some BadKind) None) d.1 in
     let g = past_test (not (is_kind (slice_index bytes 5))) BadKind None f.1 in
     record {
       long = ltb-false _ _ a.0;
       least = ltb-false _ _ b.0;
       most = ltb-false _ _ c.0;
       whole = eqb-true _ _ (not-false _ d.0);
-      version = eqb-true _ _ (not-false _ f.0);
+      version_passes = not-false _ f.0;
       kind_passes = not-false _ g.0;
     }
 
@@ -140,9 +205,16 @@ behind_err (Some g) read f e = cc
 behind_err None (Some n) f e = absurd cc
 behind_err None None f e = cc
 
+byte_by : (old : Bool) (byte : ℕ) → eqb byte OLD_VERSION ≡ old → (old || eqb byte VERSION) ≡ true → version_byte (cond old Old New) ≡ byte
+byte_by true byte is passes = sym (eqb-true byte OLD_VERSION is)
+byte_by false byte is passes = sym (eqb-true byte VERSION passes)
+
+byte_is : (byte : ℕ) → is_version byte ≡ true → version_byte (version_of byte) ≡ byte
+byte_is byte passes = byte_by (eqb byte OLD_VERSION) byte refl passes
+
 -- the six bytes in front of a body
-headed_is : (bytes : List ℕ) (m : Message) → IsBytes bytes → IsHeaded bytes → body_of (slice_index bytes 5) (drop 6 bytes) ≡ Some m → IsMessage m × (bytes ≡ frame m)
-unfolding frame
+headed_is : (bytes : List ℕ) (m : Message) → IsBytes bytes → IsHeaded bytes → body_of (version_of (slice_index bytes 4)) (slice_index bytes 5) (drop 6 bytes) ≡ Some m → IsMessage m × IsText m bytes
+unfolding frame_of
 headed_is [] m fits h e = absurd (omega (arith, h.long))
 headed_is (a ∷ []) m fits h e = absurd (omega (arith, h.long))
 headed_is (a ∷ b ∷ []) m fits h e = absurd (omega (arith, h.long))
@@ -151,18 +223,21 @@ headed_is (a ∷ b ∷ c ∷ d ∷ []) m fits h e = absurd (omega (arith, h.leas
 headed_is (a ∷ b ∷ c ∷ d ∷ v ∷ []) m fits h e = absurd (omega (arith, h.least, h.whole))
 headed_is (a ∷ b ∷ c ∷ d ∷ v ∷ k ∷ bytes) m fits h e =
     let kinds = and_parts (leb 1 k) (leb k 8) h.kind_passes in
-    let is = body_is k bytes m (leb-true _ _ kinds.0) (leb-true _ _ kinds.1) (λ i. fits (suc (suc (suc (suc (suc (suc i))))))) e in
-    let behind_length : v ∷ k ∷ bytes ≡ payload m = cc (h.version, is.kind_is, is.text) in
-    let len : length_field (a ∷ b ∷ c ∷ d ∷ v ∷ k ∷ bytes) ≡ length (payload m) = omega (arith, h.whole, ap length behind_length) in
-    let front : big_bytes 4 (length (payload m)) ≡ a ∷ b ∷ c ∷ d ∷ [] = ap (big_bytes 4) (sym len) ∙ wide4.back (a ∷ b ∷ c ∷ d ∷ v ∷ k ∷ bytes) h.long fits in
-    (is.fits, ap (λ (t : List ℕ). a ∷ b ∷ c ∷ d ∷ t) behind_length ∙ ap (λ (t : List ℕ). t ++ payload m) (sym front))
+    let version : Version = version_of v in
+    let is = body_is version k bytes m (leb-true _ _ kinds.0) (leb-true _ _ kinds.1) (λ i. fits (suc (suc (suc (suc (suc (suc i))))))) e in
+    let byte : version_byte version ≡ v = byte_is v h.version_passes in
+    let behind_length : v ∷ k ∷ bytes ≡ payload version m = cc (byte, is.kind_is, is.text) in
+    let len : length_field (a ∷ b ∷ c ∷ d ∷ v ∷ k ∷ bytes) ≡ length (payload version m) = omega (arith, h.whole, ap length behind_length) in
+    let front : big_bytes 4 (length (payload version m)) ≡ a ∷ b ∷ c ∷ d ∷ [] = ap (big_bytes 4) (sym len) ∙ wide4.back (a ∷ b ∷ c ∷ d ∷ v ∷ k ∷ bytes) h.long fits in
+    let whole : a ∷ b ∷ c ∷ d ∷ v ∷ k ∷ bytes ≡ frame_of version m = ap (λ (t : List ℕ). a ∷ b ∷ c ∷ d ∷ t) behind_length ∙ ap (λ (t : List ℕ). t ++ payload version m) (sym front) in
+    (is.fits, text_of version m (a ∷ b ∷ c ∷ d ∷ v ∷ k ∷ bytes) is.nodes whole)
 
-pub frame_is : (bytes : List ℕ) (m : Message) → IsBytes bytes → reading bytes ≡ Ok m → IsMessage m × (bytes ≡ frame m)
+pub frame_is : (bytes : List ℕ) (m : Message) → IsBytes bytes → reading bytes ≡ Ok m → IsMessage m × IsText m bytes
 unfolding reading
 frame_is bytes m fits e =
-    let parts = behind_ok (header_fault bytes) (body_of (slice_index bytes 5) (drop 6 bytes)) m e in
+    let parts = behind_ok (header_fault bytes) (body_of (version_of (slice_index bytes 4)) (slice_index bytes 5) (drop 6 bytes)) m e in
     headed_is bytes m fits (is_headed bytes parts.0) parts.1
 
 pub fault_is : (bytes : List ℕ) (f : FrameFault) → reading bytes ≡ Err f → f ≡ fault_of bytes
 unfolding reading
-fault_is bytes f e = behind_err (header_fault bytes) (body_of (slice_index bytes 5) (drop 6 bytes)) f e
+fault_is bytes f e = behind_err (header_fault bytes) (body_of (version_of (slice_index bytes 4)) (slice_index bytes 5) (drop 6 bytes)) f e

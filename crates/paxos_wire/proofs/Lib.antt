@@ -1,4 +1,6 @@
 pub mod Pushing
+pub mod Fronts
+pub mod CommandLoop
 pub mod EntryLoop
 pub mod Distinct
 pub mod Counts
@@ -6,6 +8,7 @@ pub mod Room
 pub mod Steps
 pub mod Numbers
 pub mod CommandLaws
+pub mod CommandRuns
 pub mod EntryLaws
 pub mod MessageLaws
 pub mod FrameLaws

@@ -1,14 +1,13 @@
 -- Feeding a stream piece by piece.
-use Rattle.std.proofs.Common.{◌≡◌, ℕ, zero, suc, ◌<◌, ◌≤◌, List, [], ◌∷◌, ◌++◌, length, take, drop, get_or, Some, None, sym, ap, ◌∙◌, arith, append_assoc, inl, inr}
+use Rattle.std.proofs.Common.{◌≡◌, ℕ, zero, suc, ◌+◌, ◌<◌, ◌≤◌, List, [], ◌∷◌, ◌++◌, length, take, drop, get_or, Some, None, sym, ap, subst, ◌∙◌, arith, append_assoc, inl, inr}
 use Rattle.std.specs.List.{flat_map, AllByRecursion}
-use Rattle.std.proofs.lemmas.List.{take_all}
+use Rattle.std.proofs.lemmas.List.{take_all, take_more, flat_map_more}
 use Rattle.std.proofs.lemmas.List.Concat.{flat_map-cons}
 use Rattle.paxos_wire.specs.declared.fault.FrameFault.{FrameFault}
 use Rattle.paxos_wire.specs.declared.message.Message.{Message}
 use Rattle.paxos_wire.specs.Fits.{IsMessage}
-use Rattle.paxos_wire.specs.Spelling.{frame}
-use Rattle.paxos_wire.specs.Stream.{needed, IsPartial, IsFaulty, Takes, Splits, stream_of}
-use Rattle.paxos_wire.proofs.StreamLaws.{fault_stays}
+use Rattle.paxos_wire.specs.Stream.{needed, IsPartial, IsFaulty, Takes, IsStreamOf, Splits}
+use Rattle.paxos_wire.proofs.StreamLaws.{piece_more, fault_stays}
 
 -- nothing is less than a frame
 pub nothing_partial : (rest : List ℕ) → rest ≡ [] → IsPartial rest
@@ -31,14 +30,28 @@ taken old piece new partial (inr faulty) = absurd (omega (arith, partial, faulty
 
 -- the fault that came with a piece is that of the whole stream
 pub faulted : (all front piece more : List ℕ) (ms new : List Message) (waiting fed left : List ℕ) (f : FrameFault)
-    → all ≡ front ++ (piece ++ more) → front ≡ stream_of ms waiting → fed ≡ waiting ++ piece → stream_of new left ≡ stream_of ms fed
+    → all ≡ front ++ (piece ++ more) → IsStreamOf ms waiting front → fed ≡ waiting ++ piece → ((stream : List ℕ) → IsStreamOf ms fed stream → IsStreamOf new left stream)
     → AllByRecursion IsMessage new → IsFaulty left f → Splits all new (Some f)
 faulted all front piece more ms new waiting fed left f parts so_far took same each faulty =
-    let begin : all ≡ (flat_map frame ms ++ (waiting ++ piece)) ++ more = parts ∙ ap (λ (w : List ℕ). w ++ (piece ++ more)) so_far ∙ simp append_assoc in
-    let end : (flat_map frame ms ++ (waiting ++ piece)) ++ more ≡ flat_map frame new ++ (left ++ more) = ap (λ (w : List ℕ). (flat_map frame ms ++ w) ++ more) (sym took) ∙ ap (λ (w : List ℕ). w ++ more) (sym same) ∙ append_assoc (flat_map frame new) left more in
-    record { rest = left ++ more; whole = begin ∙ end; each = each; ends = fault_stays left more f faulty }
+    let begun : IsStreamOf ms fed (front ++ piece) = subst (λ (w : List ℕ). IsStreamOf ms w (front ++ piece)) (sym took) (piece_more ms waiting piece front so_far) in
+    let whole : IsStreamOf new (left ++ more) ((front ++ piece) ++ more) = piece_more new left more (front ++ piece) (same (front ++ piece) begun) in
+    record {
+      rest = left ++ more;
+      whole = subst (λ (w : List ℕ). IsStreamOf new (left ++ more) w) (append_assoc front piece more ∙ sym parts) whole;
+      each = each;
+      ends = fault_stays left more f faulty;
+    }
 
 -- without a fault the stream ends in less than a frame
 pub ended : {A : Type 0} (f : A → List ℕ) (xs : List A) (i : ℕ) (ms : List Message) (waiting : List ℕ)
-    → length xs ≤ i → flat_map f (take i xs) ≡ stream_of ms waiting → AllByRecursion IsMessage ms → IsPartial waiting → Splits (flat_map f xs) ms None
-ended f xs i ms waiting le so_far each partial = record { rest = waiting; whole = ap (flat_map f) (sym (take_all i xs le)) ∙ so_far; each = each; ends = partial }
+    → length xs ≤ i → IsStreamOf ms waiting (flat_map f (take i xs)) → AllByRecursion IsMessage ms → IsPartial waiting → Splits (flat_map f xs) ms None
+ended f xs i ms waiting le so_far each partial = record { rest = waiting; whole = subst (λ (w : List ℕ). IsStreamOf ms waiting w) (ap (flat_map f) (take_all i xs le)) so_far; each = each; ends = partial }
+
+-- one piece more was fed, and nothing of the stream is lost
+pub fed_more : {A : Type 0} (f : A → List ℕ) (xs : List A) (i : ℕ) (x : A) (ms new : List Message) (waiting fed left : List ℕ) → i < length xs → x ≡ get_or xs i x
+    → IsStreamOf ms waiting (flat_map f (take i xs)) → fed ≡ waiting ++ f x → ((stream : List ℕ) → IsStreamOf ms fed stream → IsStreamOf new left stream)
+    → IsStreamOf new left (flat_map f (take (i + 1) xs))
+fed_more {A} f xs i x ms new waiting fed left lt is so_far took same =
+    let front : flat_map f (take (i + 1) xs) ≡ flat_map f (take i xs) ++ f x = ap (flat_map f) (take_more xs i x lt ∙ ap (λ (y : A). take i xs ++ y ∷ []) (sym is)) ∙ sym (flat_map_more f [] (take i xs) x) in
+    let begun : IsStreamOf ms fed (flat_map f (take i xs) ++ f x) = subst (λ (w : List ℕ). IsStreamOf ms w (flat_map f (take i xs) ++ f x)) (sym took) (piece_more ms waiting (f x) (flat_map f (take i xs)) so_far) in
+    subst (λ (w : List ℕ). IsStreamOf new left w) (sym front) (same (flat_map f (take i xs) ++ f x) begun)

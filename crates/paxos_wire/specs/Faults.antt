@@ -2,10 +2,11 @@
 use Rattle.std.specs.Prelude.{ℕ, ◌+◌, Bool, not, ◌&&◌, ◌==◌, nat_lt, nat_le, if◌then◌else◌, List, length, slice_index, drop, Option, Some, None, Result, Ok, Err}
 use Rattle.std.specs.Option.{unwrap_or}
 use Rattle.byteorder.specs.Endian.{big_number}
-use Rattle.paxos_wire.specs.declared.limits.TheConstants.{VERSION, LEAST_LENGTH, MOST_LENGTH}
+use Rattle.paxos_wire.specs.declared.limits.TheConstants.{LEAST_LENGTH, MOST_LENGTH}
 use Rattle.paxos_wire.specs.declared.fault.FrameFault.{FrameFault}
 use Rattle.paxos_wire.specs.declared.fault.FrameFault.TheVariants.{TooShort, TooLong, BadVersion, BadKind, BadBody}
 use Rattle.paxos_wire.specs.declared.message.Message.{Message}
+use Rattle.paxos_wire.specs.Versions.{is_version, version_of}
 use Rattle.paxos_wire.specs.Reading.{body_of}
 
 -- what the first four bytes say, of what follows them
@@ -23,7 +24,7 @@ header_fault bytes =
     else (if nat_lt (length_field bytes) LEAST_LENGTH then Some TooShort
     else (if nat_lt MOST_LENGTH (length_field bytes) then Some TooLong
     else (if not (length bytes == 4 + length_field bytes) then Some BadBody
-    else (if not (slice_index bytes 4 == VERSION) then Some BadVersion
+    else (if not (is_version (slice_index bytes 4)) then Some BadVersion
     else (if not (is_kind (slice_index bytes 5)) then Some BadKind
     else None)))))
 
@@ -39,4 +40,4 @@ behind None None = Err BadBody
 
 -- a whole frame, read from left to right
 unfoldable pub reading : List ℕ → Result Message FrameFault
-reading bytes = behind (header_fault bytes) (body_of (slice_index bytes 5) (drop 6 bytes))
+reading bytes = behind (header_fault bytes) (body_of (version_of (slice_index bytes 4)) (slice_index bytes 5) (drop 6 bytes))

@@ -5,7 +5,7 @@ use Rattle.card_core.specs.Deal.{IsDeal, player_count}
 use Rattle.slot_log.specs.declared.command.Command.{Command}
 use Rattle.slot_log.specs.declared.command.Command.TheVariants.{Deal, Act, Away}
 pub use Rattle.slot_log.specs.Range.{IsInRange}
-use Rattle.paxos_wire.specs.declared.limits.TheConstants.{NODES, SLOTS, WINDOW}
+use Rattle.paxos_wire.specs.declared.limits.TheConstants.{NODES, OLD_NODES, SLOTS, WINDOW}
 use Rattle.paxos_wire.specs.declared.ballot.Ballot.{Ballot}
 use Rattle.paxos_wire.specs.declared.entry.Entry.{Entry}
 use Rattle.paxos_wire.specs.declared.message.Message.{Message}
@@ -61,6 +61,13 @@ pub record AreEntries (slot : ℕ) (entries : List Entry) : Type 0 where
   pub each : AllByRecursion IsEntry entries
   pub rise : Rise slot (slot + WINDOW) entries
 
+-- 1 to 64 commands in their ranges, for the slots from this one on, all of which there are
+pub record IsCommandRun (slot : ℕ) (commands : List Command) : Type 0 where
+  pub least : 1 ≤ length commands
+  pub most : length commands ≤ WINDOW
+  pub slots : slot + length commands ≤ SLOTS
+  pub each : AllByRecursion IsInRange commands
+
 -- the numbers of a message are within their ranges, and what is forwarded may go on
 abbrev pub Fits : Message → Type 0
 Fits (Prepare ballot slot) = IsBallot ballot × IsSlot slot
@@ -82,6 +89,21 @@ IsSingle (Accepted ballot slot command) = Unit {0}
 IsSingle (Chosen slot command) = Unit {0}
 IsSingle (Ask slot) = Unit {0}
 IsSingle (Forward command) = Unit {0}
+
+-- the nodes of all ballots of a message are below this one
+abbrev pub HasNodesBelow : ℕ → Message → Type 0
+HasNodesBelow nodes (Prepare ballot slot) = ballot.node < nodes
+HasNodesBelow nodes (Promise ballot slot entries) = (ballot.node < nodes) × AllByRecursion (λ e. e.ballot.node < nodes) entries
+HasNodesBelow nodes (Refuse ballot slot promised) = (ballot.node < nodes) × (promised.node < nodes)
+HasNodesBelow nodes (Accept ballot slot command) = ballot.node < nodes
+HasNodesBelow nodes (Accepted ballot slot command) = ballot.node < nodes
+HasNodesBelow nodes (Chosen slot command) = Unit {0}
+HasNodesBelow nodes (Ask slot) = Unit {0}
+HasNodesBelow nodes (Forward command) = Unit {0}
+
+-- a message that frames of the old version can say
+abbrev pub IsOld : Message → Type 0
+IsOld m = HasNodesBelow OLD_NODES m
 
 -- the commands that a message carries
 abbrev pub commands : Message → List Command

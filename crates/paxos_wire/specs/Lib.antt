@@ -1,4 +1,6 @@
 pub mod EntriesInside
+pub mod CommandsInside
+pub mod Versions
 pub mod Fits
 pub mod Spelling
 pub mod Kinds

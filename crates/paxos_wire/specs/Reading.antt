@@ -6,11 +6,14 @@ use Rattle.betting.specs.declared.action.Action.{Action}
 use Rattle.betting.specs.declared.action.Action.TheVariants.{Fold, Call, Raise}
 use Rattle.slot_log.specs.declared.command.Command.{Command}
 use Rattle.slot_log.specs.declared.command.Command.TheVariants.{Deal, Act, Away}
-use Rattle.paxos_wire.specs.declared.limits.TheConstants.{NODES, SLOTS, HANDS, ACTIONS, MOST_CHIPS, WINDOW}
+use Rattle.paxos_wire.specs.declared.limits.TheConstants.{SLOTS, HANDS, ACTIONS, MOST_CHIPS, WINDOW}
 use Rattle.paxos_wire.specs.declared.ballot.Ballot.{Ballot}
 use Rattle.paxos_wire.specs.declared.entry.Entry.{Entry}
 use Rattle.paxos_wire.specs.declared.message.Message.{Message}
 use Rattle.paxos_wire.specs.declared.message.Message.TheVariants.{Prepare, Promise, Refuse, Accept, Accepted, Chosen, Ask, Forward}
+use Rattle.paxos_wire.specs.declared.version.Version.{Version}
+use Rattle.paxos_wire.specs.declared.version.Version.TheVariants.{Old, New}
+use Rattle.paxos_wire.specs.Versions.{nodes_in}
 
 infixl 10 ◌>>=◌
 abbrev pub ◌>>=◌ : {A B : Type 0} → Option A → (A → Option B) → Option B
@@ -39,11 +42,12 @@ below_at n limit bytes = do
   number ← number_at n bytes
   when (nat_lt number.0 limit) number
 
-unfoldable pub ballot_at : List ℕ → Option (Ballot × List ℕ)
-ballot_at bytes = do
+-- a ballot of a node that this version has
+unfoldable pub ballot_at : Version → List ℕ → Option (Ballot × List ℕ)
+ballot_at version bytes = do
   round ← number_at 4 bytes
   node ← byte_at round.1
-  when (nat_lt 0 round.0 && nat_lt node.0 NODES) (record { round = round.0; node = node.0 }, node.1)
+  when (nat_lt 0 round.0 && nat_lt node.0 (nodes_in version)) (record { round = round.0; node = node.0 }, node.1)
 
 unfoldable pub action_of : ℕ → ℕ → Option Action
 action_of zero amount = when (amount == 0) Fold
@@ -110,54 +114,71 @@ command_at bytes = do
       else (if kind.0 == 2 then acted_at hand.0 hand.1
       else (if kind.0 == 3 then away_at hand.0 hand.1 else None)))
 
-unfoldable pub entry_at : List ℕ → Option (Entry × List ℕ)
-entry_at bytes = do
+-- so many commands
+unfoldable pub commands_at : ℕ → List ℕ → Option (List Command × List ℕ)
+commands_at zero bytes = Some ([], bytes)
+commands_at (suc count) bytes = do
+  first ← command_at bytes
+  others ← commands_at count first.1
+  Some (first.0 ∷ others.0, others.1)
+
+unfoldable pub entry_at : Version → List ℕ → Option (Entry × List ℕ)
+entry_at version bytes = do
   slot ← below_at 4 SLOTS bytes
-  ballot ← ballot_at slot.1
+  ballot ← ballot_at version slot.1
   command ← command_at ballot.1
   Some (record { slot = slot.0; ballot = ballot.0; command = command.0 }, command.1)
 
 -- an entry whose slot lies from one slot on and below another
-unfoldable pub entry_within : ℕ → ℕ → List ℕ → Option (Entry × List ℕ)
-entry_within from limit bytes = do
-  entry ← entry_at bytes
+unfoldable pub entry_within : Version → ℕ → ℕ → List ℕ → Option (Entry × List ℕ)
+entry_within version from limit bytes = do
+  entry ← entry_at version bytes
   when (nat_le from entry.0.slot && nat_lt entry.0.slot limit) entry
 
 -- so many entries, whose slots rise from one slot on and stay below another
-unfoldable pub entries_at : ℕ → ℕ → ℕ → List ℕ → Option (List Entry × List ℕ)
-entries_at zero from limit bytes = Some ([], bytes)
-entries_at (suc count) from limit bytes = do
-  first ← entry_within from limit bytes
-  others ← entries_at count (first.0.slot + 1) limit first.1
+unfoldable pub entries_at : Version → ℕ → ℕ → ℕ → List ℕ → Option (List Entry × List ℕ)
+entries_at version zero from limit bytes = Some ([], bytes)
+entries_at version (suc count) from limit bytes = do
+  first ← entry_within version from limit bytes
+  others ← entries_at version count (first.0.slot + 1) limit first.1
   Some (first.0 ∷ others.0, others.1)
 
-unfoldable pub promise_at : Ballot → ℕ → List ℕ → Option (Message × List ℕ)
-promise_at ballot slot bytes = do
+unfoldable pub promise_at : Version → Ballot → ℕ → List ℕ → Option (Message × List ℕ)
+promise_at version ballot slot bytes = do
   count ← byte_at bytes
-  entries ← (if nat_le count.0 WINDOW then entries_at count.0 slot (slot + WINDOW) count.1 else None)
+  entries ← (if nat_le count.0 WINDOW then entries_at version count.0 slot (slot + WINDOW) count.1 else None)
   Some (Promise ballot slot entries.0, entries.1)
 
-unfoldable pub refuse_at : Ballot → ℕ → List ℕ → Option (Message × List ℕ)
-refuse_at ballot slot bytes = do
-  promised ← ballot_at bytes
+unfoldable pub refuse_at : Version → Ballot → ℕ → List ℕ → Option (Message × List ℕ)
+refuse_at version ballot slot bytes = do
+  promised ← ballot_at version bytes
   Some (Refuse ballot slot promised.0, promised.1)
 
+-- the bytes behind the count of an Accept's commands, which in the old version isn't there; a count other than 1 is
+-- none that is read as yet
+unfoldable pub behind_count : Version → List ℕ → Option (List ℕ)
+behind_count Old bytes = Some bytes
+behind_count New bytes = do
+  count ← byte_at bytes
+  when (count.0 == 1) count.1
+
 -- Accept and Accepted
-unfoldable pub accept_at : (Ballot → ℕ → Command → Message) → Ballot → ℕ → List ℕ → Option (Message × List ℕ)
-accept_at made ballot slot bytes = do
-  command ← command_at bytes
+unfoldable pub accept_at : Version → (Ballot → ℕ → Command → Message) → Ballot → ℕ → List ℕ → Option (Message × List ℕ)
+accept_at version made ballot slot bytes = do
+  rest ← behind_count version bytes
+  command ← command_at rest
   Some (made ballot slot command.0, command.1)
 
 -- the kinds 1 to 5, which begin with a ballot and a slot
-unfoldable pub of_ballot_at : ℕ → List ℕ → Option (Message × List ℕ)
-of_ballot_at kind bytes = do
-  ballot ← ballot_at bytes
+unfoldable pub of_ballot_at : Version → ℕ → List ℕ → Option (Message × List ℕ)
+of_ballot_at version kind bytes = do
+  ballot ← ballot_at version bytes
   slot ← below_at 4 SLOTS ballot.1
   (if kind == 1 then Some (Prepare ballot.0 slot.0, slot.1)
-      else (if kind == 2 then promise_at ballot.0 slot.0 slot.1
-      else (if kind == 3 then refuse_at ballot.0 slot.0 slot.1
-      else (if kind == 4 then accept_at Accept ballot.0 slot.0 slot.1
-      else accept_at Accepted ballot.0 slot.0 slot.1))))
+      else (if kind == 2 then promise_at version ballot.0 slot.0 slot.1
+      else (if kind == 3 then refuse_at version ballot.0 slot.0 slot.1
+      else (if kind == 4 then accept_at version Accept ballot.0 slot.0 slot.1
+      else accept_at version Accepted ballot.0 slot.0 slot.1))))
 
 unfoldable pub chosen_at : List ℕ → Option (Message × List ℕ)
 chosen_at bytes = do
@@ -181,13 +202,13 @@ forward_at bytes = do
   when (may_go_on command.0) (Forward command.0, command.1)
 
 -- the fields of a kind from 1 to 8
-unfoldable pub message_at : ℕ → List ℕ → Option (Message × List ℕ)
-message_at kind bytes =
-    if nat_le kind 5 then of_ballot_at kind bytes
+unfoldable pub message_at : Version → ℕ → List ℕ → Option (Message × List ℕ)
+message_at version kind bytes =
+    if nat_le kind 5 then of_ballot_at version kind bytes
     else (if kind == 6 then chosen_at bytes else (if kind == 7 then ask_at bytes else forward_at bytes))
 
 -- all of the bytes
-unfoldable pub body_of : ℕ → List ℕ → Option Message
-body_of kind bytes = do
-  message ← message_at kind bytes
+unfoldable pub body_of : Version → ℕ → List ℕ → Option Message
+body_of version kind bytes = do
+  message ← message_at version kind bytes
   when (length message.1 == 0) message.0

@@ -1,16 +1,20 @@
--- The one text of each ballot, command and message: big-endian numbers, and a length in front of each frame.
-use Rattle.std.specs.Prelude.{ℕ, List, [], ◌∷◌, ◌++◌, length}
+-- The one text of each ballot and command, and the texts of each message: big-endian numbers, and a length in front of
+-- each frame.
+use Rattle.std.specs.Prelude.{◌≡◌, ◌⊎◌, ℕ, List, [], ◌∷◌, ◌++◌, length}
 use Rattle.std.specs.List.{flat_map}
 use Rattle.byteorder.specs.Endian.{big_bytes}
 use Rattle.betting.specs.declared.action.Action.{Action}
 use Rattle.betting.specs.declared.action.Action.TheVariants.{Fold, Call, Raise}
 use Rattle.slot_log.specs.declared.command.Command.{Command}
 use Rattle.slot_log.specs.declared.command.Command.TheVariants.{Deal, Act, Away}
-use Rattle.paxos_wire.specs.declared.limits.TheConstants.{VERSION}
 use Rattle.paxos_wire.specs.declared.ballot.Ballot.{Ballot}
 use Rattle.paxos_wire.specs.declared.entry.Entry.{Entry}
 use Rattle.paxos_wire.specs.declared.message.Message.{Message}
 use Rattle.paxos_wire.specs.declared.message.Message.TheVariants.{Prepare, Promise, Refuse, Accept, Accepted, Chosen, Ask, Forward}
+use Rattle.paxos_wire.specs.declared.version.Version.{Version}
+use Rattle.paxos_wire.specs.declared.version.Version.TheVariants.{Old, New}
+use Rattle.paxos_wire.specs.Versions.{version_byte}
+use Rattle.paxos_wire.specs.Fits.{IsOld}
 
 -- four bytes of a round, and the node
 abbrev pub ballot_text : Ballot → List ℕ
@@ -36,6 +40,10 @@ command_text (Deal hand cards) = 1 ∷ (big_bytes 4 hand ++ deal_text cards)
 command_text (Act hand index action) = 2 ∷ (big_bytes 4 hand ++ (big_bytes 2 index ++ action_text action))
 command_text (Away hand index) = 3 ∷ (big_bytes 4 hand ++ big_bytes 2 index)
 
+-- the count of commands for slots that follow one another, and each of them
+abbrev pub run_text : List Command → List ℕ
+run_text commands = length commands ∷ flat_map command_text commands
+
 -- the slot, the ballot and the command
 abbrev pub entry_text : Entry → List ℕ
 entry_text e = slot_text e.slot ++ (ballot_text e.ballot ++ command_text e.command)
@@ -55,21 +63,39 @@ kind (Chosen slot command) = 6
 kind (Ask slot) = 7
 kind (Forward command) = 8
 
+-- what an Accept or an Accepted tells at its slot: the commands from there on, of which there is one, or in the old
+-- version that one without a count
+abbrev pub proposed_text : Version → Command → List ℕ
+proposed_text Old command = command_text command
+proposed_text New command = run_text (command ∷ [])
+
 -- the fields of a message, in their order
-abbrev pub body : Message → List ℕ
-body (Prepare ballot slot) = ballot_text ballot ++ slot_text slot
-body (Promise ballot slot entries) = ballot_text ballot ++ (slot_text slot ++ entries_text entries)
-body (Refuse ballot slot promised) = ballot_text ballot ++ (slot_text slot ++ ballot_text promised)
-body (Accept ballot slot command) = ballot_text ballot ++ (slot_text slot ++ command_text command)
-body (Accepted ballot slot command) = ballot_text ballot ++ (slot_text slot ++ command_text command)
-body (Chosen slot command) = slot_text slot ++ command_text command
-body (Ask slot) = slot_text slot
-body (Forward command) = command_text command
+abbrev pub body : Version → Message → List ℕ
+body version (Prepare ballot slot) = ballot_text ballot ++ slot_text slot
+body version (Promise ballot slot entries) = ballot_text ballot ++ (slot_text slot ++ entries_text entries)
+body version (Refuse ballot slot promised) = ballot_text ballot ++ (slot_text slot ++ ballot_text promised)
+body version (Accept ballot slot command) = ballot_text ballot ++ (slot_text slot ++ proposed_text version command)
+body version (Accepted ballot slot command) = ballot_text ballot ++ (slot_text slot ++ proposed_text version command)
+body version (Chosen slot command) = slot_text slot ++ command_text command
+body version (Ask slot) = slot_text slot
+body version (Forward command) = command_text command
 
 -- the version, the kind and the fields
-abbrev pub payload : Message → List ℕ
-payload m = VERSION ∷ kind m ∷ body m
+abbrev pub payload : Version → Message → List ℕ
+payload version m = version_byte version ∷ kind m ∷ body version m
 
--- a frame: four bytes that count what follows, and that
-unfoldable pub frame : Message → List ℕ
-frame m = big_bytes 4 (length (payload m)) ++ payload m
+-- a frame of a version: four bytes that count what follows, and that
+unfoldable pub frame_of : Version → Message → List ℕ
+frame_of version m = big_bytes 4 (length (payload version m)) ++ payload version m
+
+-- the one frame that is written of a message
+abbrev pub frame : Message → List ℕ
+frame m = frame_of New m
+
+-- the frame that was written of it in the old version
+abbrev pub old_frame : Message → List ℕ
+old_frame m = frame_of Old m
+
+-- what is read as the message: the frame that is written of it, and that of the old version, where there was one
+abbrev pub IsText : Message → List ℕ → Type 0
+IsText m text = (text ≡ frame m) ⊎ (IsOld m × (text ≡ old_frame m))

@@ -2,11 +2,13 @@
 
 ghost use Rattle.std.specs.Prelude.{◌≡◌, ◌<◌, ◌≤◌, ◌^◌, length, take, IsTrue, IsSome, IfSome, ◌↔◌, true, false, nat_eq, Some, ◌∷◌, []};
 ghost use Rattle.std.specs.List.{IsDistinct};
-ghost use Rattle.paxos_wire.specs.Reading.{Gives, are_cards, is_count, deal_of, deal_at, dealt_at, acted_at, away_at, command_at, entry_at, entry_within};
+ghost use Rattle.paxos_wire.specs.Reading.{Gives, are_cards, is_count, deal_of, deal_at, dealt_at, acted_at, away_at, command_at, commands_at, entry_at, entry_within};
 
+use crate::command_list::CommandList;
 use crate::entry::Entry;
 use crate::fields::{read_action, read_ballot, read_below, read_byte, read_short_below, read_slot};
-use crate::limits::{ACTIONS, HANDS};
+use crate::limits::{ACTIONS, HANDS, WINDOW};
+use crate::version::Version;
 use card_core::limits::CARDS;
 use card_core::{Card, Deal};
 use slot_log::Command;
@@ -110,13 +112,34 @@ pub(crate) fn read_command(bytes: &[u8]) -> Option<(Command, &[u8])>
     }
 }
 
+/// Reads `count` commands into the room, in place of what it held, and gives the bytes after them.
+pub(crate) fn read_commands<'b>(
+    bytes: &'b [u8],
+    count: usize,
+    room: &mut CommandList,
+) -> Option<&'b [u8]>
+    requires { count ≤ WINDOW }
+    ensures { Gives (λ rest. (room.new, rest.now)) result (commands_at count bytes.now) }
+{
+    room.clear();
+    let mut rest = bytes;
+    for _ in 0..count {
+        let Some((command, after)) = read_command(rest) else {
+            return None;
+        };
+        room.push(command);
+        rest = after;
+    }
+    Some(rest)
+}
+
 /// An entry, and the bytes after it.
 #[tactic(auto, unfolding(crate::specs::Reading::entry_at))]
-fn read_entry(bytes: &[u8]) -> Option<(Entry, &[u8])>
-    ensures { Gives (λ x. (x.0, x.1.now)) result (entry_at bytes.now) }
+fn read_entry(version: Version, bytes: &[u8]) -> Option<(Entry, &[u8])>
+    ensures { Gives (λ x. (x.0, x.1.now)) result (entry_at version bytes.now) }
 {
     let (slot, rest) = read_slot(bytes)?;
-    let (ballot, rest) = read_ballot(rest)?;
+    let (ballot, rest) = read_ballot(version, rest)?;
     let Some((command, rest)) = read_command(rest) else {
         return None;
     };
@@ -132,11 +155,16 @@ fn read_entry(bytes: &[u8]) -> Option<(Entry, &[u8])>
 
 /// An entry with a slot from `from` on and below `limit`, and the bytes after it.
 #[tactic(auto, unfolding(crate::specs::Reading::entry_within))]
-pub(crate) fn read_entry_within(from: u32, limit: u32, bytes: &[u8]) -> Option<(Entry, &[u8])>
+pub(crate) fn read_entry_within(
+    version: Version,
+    from: u32,
+    limit: u32,
+    bytes: &[u8],
+) -> Option<(Entry, &[u8])>
     ensures below { IfSome result (λ x. x.0.slot < limit) }
-    ensures exact { Gives (λ x. (x.0, x.1.now)) result (entry_within from limit bytes.now) }
+    ensures exact { Gives (λ x. (x.0, x.1.now)) result (entry_within version from limit bytes.now) }
 {
-    let Some((entry, rest)) = read_entry(bytes) else {
+    let Some((entry, rest)) = read_entry(version, bytes) else {
         return None;
     };
     if from <= entry.slot && entry.slot < limit {

@@ -4,6 +4,7 @@ ghost use Rattle.std.specs.Prelude.{◌≡◌, ◌+◌, ◌<◌, ◌≤◌, ◌+
 ghost use Rattle.std.specs.Vec.{vec_len, vec_capacity};
 ghost use Rattle.std.specs.List.{flat_map, AllByRecursion};
 ghost use Rattle.paxos_wire.specs.Fits.{IsDealt, Fits, IsMessage, IsSingle, commands};
+ghost use Rattle.paxos_wire.specs.declared.version.Version.TheVariants.{New};
 ghost use Rattle.paxos_wire.specs.Spelling.{ballot_text, slot_text, command_text, entry_text, kind, body, payload, frame};
 
 use crate::ballot::Ballot;
@@ -39,8 +40,8 @@ fn put_place(out: &mut Vec<u8>, ballot: Ballot, slot: u32)
 
 /// The fields of a message.
 fn put_body(out: &mut Vec<u8>, message: &Message)
-    requires { vec_len out.old + length (body message.now) ≤ vec_capacity out.old }
-    ensures items { out.new.items ≡ out.old.items ++ body message.now }
+    requires { vec_len out.old + length (body New message.now) ≤ vec_capacity out.old }
+    ensures items { out.new.items ≡ out.old.items ++ body New message.now }
     ensures capacity { vec_capacity out.old ≤ vec_capacity out.new }
     ensures dealt { AllByRecursion IsDealt (commands message.now) }
 {
@@ -74,6 +75,8 @@ fn put_body(out: &mut Vec<u8>, message: &Message)
             command,
         } => {
             put_place(out, *ballot, *slot);
+            // how many commands follow
+            out.push_reserved(1);
             put_command(out, command);
         }
         Message::Chosen { slot, command } => {
@@ -101,7 +104,7 @@ pub fn encode(out: &mut Vec<u8>, message: &Message) -> Result<(), AllocError>
 }
 
 /// Appends the one frame of a message, where the room for it (`frame_len`) is there already.
-#[tactic(auto, unfolding(crate::specs::Spelling::frame))]
+#[tactic(auto, unfolding(crate::specs::Spelling::frame_of))]
 pub fn encode_reserved(out: &mut Vec<u8>, message: &Message)
     requires fits { Fits message.now }
     requires room { vec_len out.old + length (frame message.now) ≤ vec_capacity out.old }

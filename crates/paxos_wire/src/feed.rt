@@ -1,9 +1,8 @@
 ghost use Rattle.std.specs.Prelude.{◌≡◌, ◌<◌, ◌≤◌, ◌+◌, ◌++◌, ◌↔◌, ℕ, [], List, length, drop, Some, Ok, IsNone, IfSome, IfOk, IfErr, OnOk, OnErr};
 ghost use Rattle.paxos_wire.specs.declared.message.Message.{Message};
 ghost use Rattle.paxos_wire.specs.Fits.{IsMessage};
-ghost use Rattle.paxos_wire.specs.Spelling.{frame};
 ghost use Rattle.paxos_wire.specs.Faults.{reading};
-ghost use Rattle.paxos_wire.specs.Stream.{needed, IsPartial, IsFaulty, Takes};
+ghost use Rattle.paxos_wire.specs.Stream.{needed, IsPartial, IsInFront, IsFaulty, Takes};
 
 use crate::decoding::message_of_frame;
 use crate::fault::FrameFault;
@@ -14,7 +13,7 @@ use byteorder::{BigEndian, ByteOrder};
 use std::alloc::{AllocError, Global};
 use std::marker::Model;
 
-/// Takes a stream of frames in any pieces, and gives its messages in order, and then its first fault.
+/// Takes a stream of frames of either version in any pieces, and gives its messages in order, and then its first fault.
 ///
 /// Contracts see the bytes that it took and that don't belong to a message given yet, and how many more bytes may
 /// come without taking memory.
@@ -59,8 +58,8 @@ fn front_end(bytes: &[u8]) -> Option<usize>
 fn frame_in_front(bytes: &[u8]) -> Option<(Result<Message, FrameFault>, usize)>
     ensures partial { IsNone result ↔ IsPartial bytes.now }
     ensures end { IfSome result (λ x. x.1 ≤ length bytes.now) }
-    ensures found { IfSome result (λ x. IfOk x.0 (λ m. IsMessage m × (bytes.now ≡ frame m ++ drop x.1 bytes.now))) }
-    ensures only { (m : Message) (rest : List ℕ) → IsMessage m → bytes.now ≡ frame m ++ rest → IfSome result (λ x. (x.0 ≡ Ok m) × (drop x.1 bytes.now ≡ rest)) }
+    ensures found { IfSome result (λ x. IfOk x.0 (λ m. IsMessage m × IsInFront m bytes.now (drop x.1 bytes.now))) }
+    ensures only { (m : Message) (rest : List ℕ) → IsMessage m → IsInFront m bytes.now rest → IfSome result (λ x. (x.0 ≡ Ok m) × (drop x.1 bytes.now ≡ rest)) }
     ensures fault { IfSome result (λ x. IfErr x.0 (λ f. IsFaulty bytes.now f)) }
 {
     let end = front_end(bytes)?;
@@ -127,9 +126,9 @@ impl Feed {
         ensures partial { IsNone result ↔ IsPartial self.old.waiting }
         ensures waits { IsNone result → self.new ≡ self.old }
         // What it gives stood in front, and the bytes behind it stay.
-        ensures found { IfSome result (λ read. IfOk read (λ m. IsMessage m × (self.old.waiting ≡ frame m ++ self.new.waiting))) }
-        // The message whose frame stands in front is given.
-        ensures only { (m : Message) (rest : List ℕ) → IsMessage m → self.old.waiting ≡ frame m ++ rest → (result ≡ Some (Ok m)) × (self.new.waiting ≡ rest) }
+        ensures found { IfSome result (λ read. IfOk read (λ m. IsMessage m × IsInFront m self.old.waiting self.new.waiting)) }
+        // The message of which a text stands in front is given.
+        ensures only { (m : Message) (rest : List ℕ) → IsMessage m → IsInFront m self.old.waiting rest → (result ≡ Some (Ok m)) × (self.new.waiting ≡ rest) }
         // A fault is the first of what stands in front, and everything stays.
         ensures fault { IfSome result (λ read. IfErr read (λ f. IsFaulty self.old.waiting f × (self.new ≡ self.old))) }
         ensures room { self.old.room ≤ self.new.room }

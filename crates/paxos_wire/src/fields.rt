@@ -4,7 +4,8 @@ ghost use Rattle.std.specs.Prelude.{◌≡◌, ◌<◌, ◌^◌, length, IfSome}
 ghost use Rattle.paxos_wire.specs.Reading.{Gives, byte_at, number_at, below_at, ballot_at, action_of, action_at};
 
 use crate::ballot::Ballot;
-use crate::limits::{MOST_CHIPS, NODES, SLOTS};
+use crate::limits::{MOST_CHIPS, SLOTS};
+use crate::version::Version;
 use betting::Action;
 use byteorder::{BigEndian, ByteOrder};
 
@@ -66,14 +67,14 @@ pub(crate) fn read_slot(bytes: &[u8]) -> Option<(u32, &[u8])>
     read_below(bytes, SLOTS)
 }
 
-/// A ballot, and the bytes after it.
+/// A ballot of a node of this version, and the bytes after it.
 #[tactic(auto, unfolding(crate::specs::Reading::ballot_at))]
-pub(crate) fn read_ballot(bytes: &[u8]) -> Option<(Ballot, &[u8])>
-    ensures { Gives (λ x. (x.0, x.1.now)) result (ballot_at bytes.now) }
+pub(crate) fn read_ballot(version: Version, bytes: &[u8]) -> Option<(Ballot, &[u8])>
+    ensures { Gives (λ x. (x.0, x.1.now)) result (ballot_at version bytes.now) }
 {
     let (round, rest) = read_number(bytes)?;
     let (node, rest) = read_byte(rest)?;
-    if round > 0 && node < NODES {
+    if round > 0 && node < version.nodes() {
         Some((Ballot { round, node }, rest))
     } else {
         None

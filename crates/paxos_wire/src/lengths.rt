@@ -4,6 +4,7 @@ ghost use Rattle.std.specs.Prelude.{◌≡◌, ◌+◌, ◌*◌, ◌≤◌, leng
 ghost use Rattle.std.specs.List.{flat_map};
 ghost use Rattle.paxos_wire.specs.Fits.{IsSingle};
 ghost use Rattle.paxos_wire.specs.Spelling.{command_text, entry_text, payload, frame};
+ghost use Rattle.paxos_wire.specs.declared.version.Version.TheVariants.{New};
 
 use crate::entry::Entry;
 use crate::limits::{LENGTH_BYTES, MOST_COMMAND, MOST_FRAME, MOST_SINGLE_FRAME, WINDOW};
@@ -41,7 +42,7 @@ fn entries_len(entries: &[Entry]) -> usize
 
 /// How many bytes stand in a message's frame behind the length.
 pub(crate) fn payload_len(message: &Message) -> usize
-    ensures value { result ≡ length (payload message.now) }
+    ensures value { result ≡ length (payload New message.now) }
     ensures most { LENGTH_BYTES + result ≤ MOST_FRAME }
     ensures single { IsSingle message.now → LENGTH_BYTES + result ≤ MOST_SINGLE_FRAME }
 {
@@ -50,7 +51,7 @@ pub(crate) fn payload_len(message: &Message) -> usize
         Message::Promise { entries, .. } => 12 + entries_len(entries.as_slice()),
         Message::Refuse { .. } => 16,
         Message::Accept { command, .. } | Message::Accepted { command, .. } => {
-            11 + command_len(command)
+            12 + command_len(command)
         }
         Message::Chosen { command, .. } => 6 + command_len(command),
         Message::Ask { .. } => 6,
@@ -58,9 +59,9 @@ pub(crate) fn payload_len(message: &Message) -> usize
     }
 }
 
-/// How many bytes a message's frame takes, its length's four among them: at most 2576, and at most 46 for every
+/// How many bytes a message's frame takes, its length's four among them: at most 2576, and at most 47 for every
 /// message but a Promise.
-#[tactic(auto, unfolding(crate::specs::Spelling::frame))]
+#[tactic(auto, unfolding(crate::specs::Spelling::frame_of))]
 pub fn frame_len(message: &Message) -> usize
     ensures value { result ≡ length (frame message.now) }
     ensures most { result ≤ MOST_FRAME }

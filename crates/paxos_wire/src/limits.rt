@@ -2,10 +2,16 @@
 //! dealer's, and the greatest amount is the game's.
 
 /// The version byte that frames are written with.
-pub const VERSION: u8 = 1;
+pub const VERSION: u8 = 2;
+
+/// The version byte of the frames of before, which are read too.
+pub const OLD_VERSION: u8 = 1;
 
 /// Nodes are numbered from 0 to one below this.
-pub const NODES: u8 = 5;
+pub const NODES: u8 = 7;
+
+/// In the old version they are numbered from 0 to one below this.
+pub const OLD_NODES: u8 = 5;
 
 /// Slots are numbered from 0 to one below this.
 pub const SLOTS: u32 = slot_log::limits::SLOTS;
@@ -19,7 +25,8 @@ pub const ACTIONS: u16 = slot_log::limits::ACTIONS;
 /// The greatest amount of a raise, in whole chips.
 pub const MOST_CHIPS: u32 = game_def::limits::MOST_CHIPS as u32;
 
-/// The slots from the one that is asked for that a Promise tells of, and so its most entries.
+/// The slots from the one that is asked for that a Promise tells of, and so its most entries; and the most commands for
+/// slots that follow one another that are told at once.
 pub const WINDOW: usize = 64;
 
 /// The bytes of a ballot.
@@ -42,11 +49,12 @@ pub const MOST_LENGTH: usize = 4096;
 pub const LENGTH_BYTES: usize = 4;
 
 /// The most bytes of the frame of one command, its length's four among them: those of an Accept, or an Accepted,
-/// of a deal for ten players.
+/// of a deal for ten players, behind the byte that counts the commands.
 pub const MOST_SINGLE_FRAME: usize = LENGTH_BYTES
     + LEAST_LENGTH
     + BALLOT_BYTES
     + SLOT_BYTES
+    + 1
     + MOST_COMMAND;
 
 /// The most bytes of an entry of a Promise.

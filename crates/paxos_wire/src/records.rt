@@ -1,31 +1,35 @@
 //! Ballots, slots and commands by themselves, as they stand in frames and in the records of a journal.
 
-ghost use Rattle.std.specs.Prelude.{◌≡◌, ◌+◌, ◌≤◌, ◌++◌, ℕ, List, length, IsOk, OnOk, OnErr, IfSome, IsSomeAnd};
+ghost use Rattle.std.specs.Prelude.{◌≡◌, ◌+◌, ◌<◌, ◌≤◌, ◌++◌, ℕ, List, length, IsOk, OnOk, OnErr, IfSome, IsSome, IsSomeAnd};
 ghost use Rattle.std.specs.Vec.{vec_len, vec_capacity};
+ghost use Rattle.std.specs.List.{flat_map, AllByRecursion};
 ghost use Rattle.slot_log.specs.declared.command.Command.{Command};
 ghost use Rattle.paxos_wire.specs.declared.ballot.Ballot.{Ballot};
 ghost use Rattle.slot_log.specs.Range.{IsInRange};
-ghost use Rattle.paxos_wire.specs.Fits.{IsBallot, IsSlot, IsCommand};
+ghost use Rattle.paxos_wire.specs.Fits.{IsBallot, IsSlot, IsDealt, IsCommand};
 ghost use Rattle.paxos_wire.specs.Spelling.{ballot_text, slot_text, command_text};
-ghost use Rattle.paxos_wire.specs.Reading.{Gives, below_at, ballot_at, command_at};
+ghost use Rattle.paxos_wire.specs.Reading.{Gives, below_at, ballot_at, command_at, commands_at};
 ghost use Rattle.paxos_wire.specs.declared.limits.TheConstants.{SLOTS};
+ghost use Rattle.paxos_wire.specs.Versions.{nodes_in};
 
 use crate::ballot::Ballot;
+use crate::command_list::CommandList;
 use crate::lengths::command_len;
-use crate::limits::BALLOT_BYTES;
+use crate::limits::{BALLOT_BYTES, WINDOW};
+use crate::version::Version;
 use crate::writing::{put_ballot, put_command};
 use crate::{commands, fields};
 use slot_log::Command;
 use std::alloc::AllocError;
 
 /// The ballot in front, and the bytes after it; `None` where its five bytes aren't there, its round is 0 or its
-/// node is none.
-pub fn read_ballot(bytes: &[u8]) -> Option<(Ballot, &[u8])>
-    ensures found { IfSome result (λ x. IsBallot x.0 × (bytes.now ≡ ballot_text x.0 ++ x.1.now)) }
-    ensures only { (b : Ballot) (rest : List ℕ) → IsBallot b → bytes.now ≡ ballot_text b ++ rest → IsSomeAnd result (λ x. (x.0 ≡ b) × (x.1.now ≡ rest)) }
-    ensures exact { Gives (λ x. (x.0, x.1.now)) result (ballot_at bytes.now) }
+/// node is none of this version.
+pub fn read_ballot(version: Version, bytes: &[u8]) -> Option<(Ballot, &[u8])>
+    ensures found { IfSome result (λ x. IsBallot x.0 × (x.0.node < nodes_in version) × (bytes.now ≡ ballot_text x.0 ++ x.1.now)) }
+    ensures only { (b : Ballot) (rest : List ℕ) → IsBallot b → b.node < nodes_in version → bytes.now ≡ ballot_text b ++ rest → IsSomeAnd result (λ x. (x.0 ≡ b) × (x.1.now ≡ rest)) }
+    ensures exact { Gives (λ x. (x.0, x.1.now)) result (ballot_at version bytes.now) }
 {
-    fields::read_ballot(bytes)
+    fields::read_ballot(version, bytes)
 }
 
 /// The slot in front, and the bytes after it; `None` where its four bytes aren't there or it is 4,000,000 or more.
@@ -44,6 +48,21 @@ pub fn read_command(bytes: &[u8]) -> Option<(Command, &[u8])>
     ensures exact { Gives (λ x. (x.0, x.1.now)) result (command_at bytes.now) }
 {
     commands::read_command(bytes)
+}
+
+/// Reads the `count` commands in front into the room, in place of what it held, and gives the bytes after them; `None`
+/// where no such commands with all their numbers in range are there, and then the room holds some of them.
+pub fn read_commands<'b>(bytes: &'b [u8], count: usize, room: &mut CommandList) -> Option<&'b [u8]>
+    requires { count ≤ WINDOW }
+    ensures found { IfSome result (λ rest. bytes.now ≡ flat_map command_text room.new ++ rest.now) }
+    ensures len { IsSome result → length room.new ≡ count }
+    ensures range { IsSome result → AllByRecursion IsInRange room.new }
+    ensures dealt { IsSome result → AllByRecursion IsDealt room.new }
+    ensures only { (cs : List Command) (rest : List ℕ) → length cs ≡ count → AllByRecursion IsInRange cs → AllByRecursion IsDealt cs → bytes.now ≡ flat_map command_text cs ++ rest
+        → IsSomeAnd result (λ x. (room.new ≡ cs) × (x.now ≡ rest)) }
+    ensures exact { Gives (λ rest. (room.new, rest.now)) result (commands_at count bytes.now) }
+{
+    commands::read_commands(bytes, count, room)
 }
 
 /// Appends the five bytes of a ballot. An `Err`, for want of memory, changes no byte.

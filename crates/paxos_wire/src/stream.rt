@@ -1,12 +1,11 @@
 //! Whole streams: what a feed gives, however the bytes are cut into pieces.
 
-ghost use Rattle.std.specs.Prelude.{◌≡◌, ◌<◌, List, Option, ◌++◌, [], length, IfOk, OnOk, IfErr, IfSome, IfNone};
+ghost use Rattle.std.specs.Prelude.{◌≡◌, ◌<◌, ℕ, List, Option, [], length, IfOk, OnOk, IfErr, IfSome, IfNone};
 ghost use Rattle.std.specs.List.{flat_map, AllByRecursion};
 ghost use Rattle.paxos_wire.specs.declared.message.Message.{Message};
 ghost use Rattle.paxos_wire.specs.declared.fault.FrameFault.{FrameFault};
 ghost use Rattle.paxos_wire.specs.Fits.{IsMessage};
-ghost use Rattle.paxos_wire.specs.Spelling.{frame};
-ghost use Rattle.paxos_wire.specs.Stream.{stream_of, IsPartial, IsFaulty, IsRest, Splits};
+ghost use Rattle.paxos_wire.specs.Stream.{IsStreamOf, IsPartial, IsFaulty, IsRest, Splits};
 
 use crate::fault::FrameFault;
 use crate::feed::Feed;
@@ -18,7 +17,7 @@ fn take_message(
     feed: &mut Feed,
     messages: &mut Vec<Message>,
 ) -> Result<Option<Result<(), FrameFault>>, AllocError>
-    ensures stream { OnOk result (stream_of messages.new.items feed.new.waiting ≡ stream_of messages.old.items feed.old.waiting) }
+    ensures stream { OnOk result ((stream : List ℕ) → IsStreamOf messages.old.items feed.old.waiting stream → IsStreamOf messages.new.items feed.new.waiting stream) }
     ensures each { AllByRecursion IsMessage messages.old.items → AllByRecursion IsMessage messages.new.items }
     ensures waits { IfOk result (λ taken. IfNone taken (IsPartial feed.new.waiting)) }
     ensures taken { IfOk result (λ taken. IfSome taken (λ r. IfOk r (λ _. length feed.new.waiting < length feed.old.waiting))) }
@@ -39,7 +38,7 @@ fn take_messages(
     feed: &mut Feed,
     messages: &mut Vec<Message>,
 ) -> Result<Option<FrameFault>, AllocError>
-    ensures stream { OnOk result (stream_of messages.new.items feed.new.waiting ≡ stream_of messages.old.items feed.old.waiting) }
+    ensures stream { OnOk result ((stream : List ℕ) → IsStreamOf messages.old.items feed.old.waiting stream → IsStreamOf messages.new.items feed.new.waiting stream) }
     ensures each { AllByRecursion IsMessage messages.old.items → AllByRecursion IsMessage messages.new.items }
     ensures rest { IfOk result (λ fault. IsRest fault feed.new.waiting) }
 {

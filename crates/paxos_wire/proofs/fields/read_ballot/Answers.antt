@@ -2,6 +2,6 @@ use Rattle.paxos_wire.specs.Reading.{ballot_at}
 use Rattle.std.proofs.Common.{rules}
 use Rattle.paxos_wire.proofs.fields.read_ballot.Goals as goal
 
-pub returns-then-node-lt-NODES : goal.returns-then-node-lt-NODES
+pub returns-then-node-nodes : goal.returns-then-node-nodes
 unfolding ballot_at
-returns-then-node-lt-NODES c = search rules
+returns-then-node-nodes c = search rules

@@ -1,0 +1,112 @@
+ghost use Rattle.std.specs.Prelude.{◌≡◌, ◌<◌, ◌≤◌, ◌++◌, ◌∷◌, [], length};
+
+use crate::limits::WINDOW;
+use betting::Action;
+use slot_log::Command;
+use std::marker::Model;
+
+/// At most 64 commands, for slots that follow one another, which take no memory of their own.
+///
+/// The list is made once and emptied and filled again, since making it fills each of its places. Contracts see it as
+/// the list of the commands.
+#[derive(Debug, Drop)]
+pub struct CommandList {
+    commands: [Command; WINDOW],
+    count: usize,
+}
+
+/// What stands in each place of a new list.
+const BLANK: Command = Command::Act {
+    hand: 0,
+    index: 0,
+    action: Action::Fold,
+};
+
+impl Model for CommandList {
+    ghost use Rattle.std.specs.Prelude.{List, take};
+    ghost use Rattle.slot_log.specs.declared.command.Command.{Command};
+
+    ghost Value = { List Command };
+
+    ghost use Rattle.paxos_wire.specs.CommandsInside.{IsKept};
+
+    ghost view = { λ l. take l.count l.commands };
+
+    ghost invariant = { IsKept };
+}
+
+impl CommandList {
+    /// No command.
+    pub fn new() -> CommandList
+        ensures { result ≡ [] }
+    {
+        CommandList {
+            commands: [BLANK; WINDOW],
+            count: 0,
+        }
+    }
+
+    /// Takes all commands out.
+    pub fn clear(&mut self)
+        ensures { self.new ≡ [] }
+    {
+        self.count = 0;
+    }
+
+    /// Puts a command behind the last one.
+    pub fn push(&mut self, command: Command)
+        requires { length self.old < WINDOW }
+        ensures { self.new ≡ self.old ++ command ∷ [] }
+    {
+        self.commands[self.count] = command;
+        self.count += 1;
+    }
+
+    /// The commands in order.
+    pub fn as_slice(&self) -> &[Command]
+        ensures value { result.now ≡ self.now }
+        ensures most { length self.now ≤ WINDOW }
+    {
+        &self.commands[..self.count]
+    }
+}
+
+/// Commands that are borrowed, for slots that follow one another.
+///
+/// Contracts see them as the list of the commands.
+#[derive(Debug, Drop)]
+pub struct Commands<'a> {
+    items: &'a [Command],
+}
+
+impl<'a> Model for Commands<'a> {
+    ghost use Rattle.std.specs.Prelude.{List};
+    ghost use Rattle.slot_log.specs.declared.command.Command.{Command};
+
+    ghost Value = { List Command };
+
+    ghost view = { λ c. c.items.now };
+}
+
+impl<'a> Commands<'a> {
+    /// These commands.
+    pub fn new(items: &'a [Command]) -> Commands<'a>
+        ensures { result ≡ items.now }
+    {
+        Commands { items }
+    }
+
+    /// How many there are.
+    pub fn len(&self) -> usize
+        ensures { result ≡ length self.now }
+    {
+        self.items.len()
+    }
+
+    /// The commands in order.
+    pub fn as_slice(&self) -> &'a [Command]
+        ensures { result.now ≡ self.now }
+    {
+        self.items
+    }
+}
