@@ -1,14 +1,18 @@
 -- A journal stands for one list of records, and what a window on it tells.
 use Rattle.std.proofs.Common.{◌≡◌, inl, inr, ℕ, ◌+◌, ◌<◌, ◌≤◌, List, [], ◌∷◌, ◌++◌, length, take, drop, get_or, refl, sym, ◌∙◌, ap, subst, arith, length-append, append_assoc, take-append-drop}
-use Rattle.std.specs.Prelude.{◌-◌, ◌*◌, ◌/◌, ◌%◌}
+use Rattle.std.specs.Prelude.{◌-◌, ◌*◌, ◌/◌, ◌%◌, Some, None}
+use Rattle.std.proofs.lemmas.Option.{same_Some}
 use Rattle.std.specs.List.{AllByRecursion}
 use Rattle.std.proofs.lemmas.List.{take_all, length-take-le, drop_at, drop_more, drop-drop, drop-take, append-nil}
 use Rattle.std.proofs.Math.Seq.{take-append-add}
 use Rattle.promise_store.specs.declared.records.Record.{Record}
 use Rattle.promise_store.specs.declared.reading.Step.TheVariants.{Found, Broken}
+use Rattle.promise_store.specs.declared.stage.Stage.{Stage}
 use Rattle.promise_store.specs.Records.{payload, IsRecord, record_text}
-use Rattle.promise_store.specs.Journals.{gated, IsJournal, OpensFrom, BeginsWith, IsShut, IsEnough, IsStep}
+use Rattle.promise_store.specs.Stages.{head_of, stage_after, stage_behind}
+use Rattle.promise_store.specs.Journals.{header, gated, IsJournalOf, IsJournal, OpensFrom, BeginsWith, IsShut, IsEnough, IsStep}
 use Rattle.promise_store.proofs.Gated.{same_records, gated_push, payload_most}
+use Rattle.promise_store.proofs.Stages.{head_long, stage_ends, same_first}
 
 opens_one : (bytes : List ℕ) (p : Record) (ps : List Record) → OpensFrom bytes (p ∷ ps) → (rest : List ℕ) × (bytes ≡ 1 ∷ (record_text p ++ rest)) × OpensFrom rest ps
 opens_one bytes p ps opens = (
@@ -79,7 +83,7 @@ no_reading tail count (p ∷ ps) enough no_gate no_record opens =
     let split : tail ≡ front ++ more.1 = one.1 ∙ ap (λ (l : List ℕ). 1 ∷ (record_text p ++ l)) more.2 ∙ ap (λ (l : List ℕ). 1 ∷ l) (sym (append_assoc (record_text p) (more.0 ∷ []) more.1)) in
     let size : length front ≡ length (payload p) + 4 = omega (arith, length-append (payload p) (more.0 ∷ [])) in
     let long = ap length split ∙ length-append front more.1 in
-    let few : length (payload p) ≤ 41 = payload_most p opens.each.0 in
+    let few : length (payload p) ≤ 1995 = payload_most p opens.each.0 in
     let fits : length front ≤ count = elim enough [ inl many ↦ omega (arith, many, size, few) | inr all ↦ omega (arith, all, long) ] in
     no_record p (
       more.0,
@@ -101,12 +105,37 @@ part window file start filled at low high shows same =
     ∙ ap (λ (n : ℕ). drop k (take n (drop start file))) all
     ∙ drop-take k m (drop start file) ∙ ap (λ (l : List ℕ). take m l) (drop-drop k start file) ∙ (λ i. take (count i) (drop (place i) file))
 
+-- of what begins with a record that is the first
+first_record : (tail : List ℕ) (r : Record) (records : List Record) → BeginsWith tail r → OpensFrom tail records → (more : List Record) × (records ≡ r ∷ more)
+first_record tail r [] begins opens = absurd (opens.shut (sym (gate (sym begins.3 ∙ opens.text))))
+  where
+    gate : {x y : List ℕ} → 1 ∷ x ≡ opens.gate ∷ y → 1 ≡ opens.gate
+    gate e = cc
+first_record tail r (q ∷ more) begins opens =
+    let one = opens_one tail q more opens in
+    let both : record_text r ++ begins.0 ∷ begins.1 ≡ record_text q ++ one.0 = tails (sym begins.3 ∙ one.1) in
+    let same = same_records r q (begins.0 ∷ begins.1) one.0 begins.2 opens.each.0 both in
+    (more, (λ i. sym same.0 i ∷ more))
+  where
+    tails : {x y : List ℕ} → 1 ∷ x ≡ 1 ∷ y → x ≡ y
+    tails e = cc
+
 -- a reading that has come so far
 module _ (whole_file tail : List ℕ) (front : List Record) (each : AllByRecursion IsRecord front) (so_far : whole_file ≡ gated front ++ tail) (count : ℕ) where
   pub reading_broken : IsEnough tail count → IsStep (take count tail) Broken → (records : List Record) → OpensFrom whole_file records → ⊥
   reading_broken enough neither records opens =
       let rest = behind front tail records each (subst (λ (l : List ℕ). OpensFrom l records) so_far opens) in
       no_reading tail count rest.0 enough neither.0 neither.1 rest.2
+
+  -- a record that may not stand there
+  pub reading_not_there : (first stage : Stage) → stage_behind first front ≡ Some stage → (r : Record) (size : ℕ) → IsStep (take count tail) (Found r size) → stage_after stage r ≡ None
+      → (last : Stage) (records : List Record) → stage_behind first records ≡ Some last → OpensFrom whole_file records → ⊥
+  reading_not_there first stage stands r size found none last records leads opens =
+      let rest = behind front tail records each (subst (λ (l : List ℕ). OpensFrom l records) so_far opens) in
+      let one = begins_further tail count r found.0 in
+      let next = first_record tail r rest.0 one rest.2 in
+      stage_ends first stage last front r next.0 stands none
+      (ap (λ (l : List Record). stage_behind first l) (ap (λ (l : List Record). front ++ l) (sym next.1) ∙ sym rest.1) ∙ leads)
 
   -- with one record more
   pub reading_more : (r : Record) (size : ℕ) → IsStep (take count tail) (Found r size) → whole_file ≡ gated (front ++ r ∷ []) ++ drop (size + 3) tail
@@ -139,29 +168,40 @@ pub begins_long : (bytes : List ℕ) (r : Record) → BeginsWith bytes r → len
 begins_long bytes r (next, rest, is, text) = omega (arith, ap length text, length-append (payload r) (next ∷ rest))
 
 -- a head, and what stands behind it
-module _ (head bytes : List ℕ) (records : List Record) where
-  apart : IsJournal head bytes records → (rest : List ℕ) × (bytes ≡ head ++ rest) × OpensFrom rest records
+module _ (first last : Stage) (head bytes : List ℕ) (records : List Record) where
+  apart : IsJournalOf first last head bytes records → (rest : List ℕ) × (bytes ≡ head_of first head ++ rest) × OpensFrom rest records
   apart opens = (
     gated records ++ opens.gate ∷ opens.rest,
-    opens.text ∙ append_assoc head (gated records) (opens.gate ∷ opens.rest),
+    opens.text ∙ append_assoc (head_of first head) (gated records) (opens.gate ∷ opens.rest),
     record { gate = opens.gate; rest = opens.rest; shut = opens.shut; each = opens.each; text = refl },
   )
 
-  pub opens_apart : IsJournal head bytes records → OpensFrom (drop (length head) bytes) records
+  pub opens_apart : IsJournalOf first last head bytes records → OpensFrom (drop (length head) bytes) records
   opens_apart opens =
       let parts = apart opens in
-      let back : drop (length head) bytes ≡ parts.0 = ap (λ (l : List ℕ). drop (length head) l) parts.1 ∙ drop_at head parts.0 (length head) refl in
+      let back : drop (length head) bytes ≡ parts.0 = ap (λ (l : List ℕ). drop (length head) l) parts.1 ∙ drop_at (head_of first head) parts.0 (length head) (head_long first head) in
       subst (λ (l : List ℕ). OpensFrom l records) (sym back) parts.2
 
-  pub opens_together : take (length head) bytes ≡ head → OpensFrom (drop (length head) bytes) records → IsJournal head bytes records
-  opens_together front opens = record {
+  pub opens_together : take (length head) bytes ≡ head_of first head → stage_behind first records ≡ Some last → OpensFrom (drop (length head) bytes) records → IsJournalOf first last head bytes records
+  opens_together front stands opens = record {
     gate = opens.gate;
     rest = opens.rest;
+    stands = stands;
     shut = opens.shut;
     each = opens.each;
-    text = sym (take-append-drop (length head) bytes) ∙ ap (λ (l : List ℕ). l ++ drop (length head) bytes) front ∙ ap (λ (l : List ℕ). head ++ l) opens.text ∙ sym (append_assoc head (gated records) (opens.gate ∷ opens.rest));
+    text = sym (take-append-drop (length head) bytes) ∙ ap (λ (l : List ℕ). l ++ drop (length head) bytes) front ∙ ap (λ (l : List ℕ). head_of first head ++ l) opens.text
+        ∙ sym (append_assoc (head_of first head) (gated records) (opens.gate ∷ opens.rest));
   }
 
--- a journal with this head stands for one list of records
+-- a journal with this head, of whichever version, stands for one list of records
 pub one_journal : (head bytes : List ℕ) (ps qs : List Record) → IsJournal head bytes ps → IsJournal head bytes qs → ps ≡ qs
-one_journal head bytes ps qs one two = one_reading (drop (length head) bytes) ps qs (opens_apart head bytes ps one) (opens_apart head bytes qs two)
+one_journal head bytes ps qs (a, b, one) (c, d, two) = one_reading (drop (length head) bytes) ps qs (opens_apart a b head bytes ps one) (opens_apart c d head bytes qs two)
+
+-- and is of one first and one last stage
+pub same_stages : (node nodes : ℕ) (bytes : List ℕ) (a b c d : Stage) (ps qs : List Record) → IsJournalOf a b (header node nodes) bytes ps → IsJournalOf c d (header node nodes) bytes qs → (a ≡ c) × (b ≡ d) × (ps ≡ qs)
+same_stages node nodes bytes a b c d ps qs one two =
+    let records = one_journal (header node nodes) bytes ps qs (a, b, one) (c, d, two) in
+    let left = apart a b (header node nodes) bytes ps one in
+    let right = apart c d (header node nodes) bytes qs two in
+    let first = same_first a c node nodes left.0 right.0 (sym left.1 ∙ right.1) in
+    (first, same_Some b d (sym one.stands ∙ (λ i. stage_behind (first i) (records i)) ∙ two.stands), records)

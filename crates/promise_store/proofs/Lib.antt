@@ -1,4 +1,5 @@
 pub mod Gated
+pub mod Stages
 pub mod Writes
 pub mod Appends
 pub mod Journals
@@ -10,5 +11,8 @@ pub mod Backing
 pub mod Greatest
 pub mod Entries
 pub mod Opening
+pub mod Reopening
+pub mod Runs
+pub mod Indexed
 pub mod Storing
 pub mod Examples

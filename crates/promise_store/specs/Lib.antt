@@ -5,6 +5,7 @@ pub mod MemoryDisks
 pub mod OnceDisks
 pub mod FileDisks
 pub mod Records
+pub mod Stages
 pub mod Journals
 pub mod Index
 pub mod Ranges

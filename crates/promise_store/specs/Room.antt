@@ -1,5 +1,5 @@
 -- What is seen of a value that indexes a store.
-use Rattle.std.specs.Prelude.{◌≡◌, ◌⊎◌, ℕ, ◌-◌, Option, Some}
+use Rattle.std.specs.Prelude.{◌≡◌, ◌⊎◌, ℕ, ◌-◌, Option, Some, length}
 use Rattle.std.specs.Vec.{vec_len, vec_capacity}
 use Rattle.paxos_wire.specs.declared.ballot.Ballot.{Ballot}
 use Rattle.paxos_wire.specs.Fits.{IsBallot, IsSlot}
@@ -7,7 +7,7 @@ use Rattle.protocol_model.specs.Ballots.{no_ballot}
 use Rattle.promise_store.specs.declared.placed.Placed.{Placed}
 use Rattle.promise_store.specs.declared.held.Held.{Held}
 use Rattle.promise_store.specs.declared.records.Record.{Record}
-use Rattle.promise_store.specs.declared.records.Record.TheVariants.{Promised, Voted}
+use Rattle.promise_store.specs.declared.records.Record.TheVariants.{Promised, VotedOne, Opened, Voted}
 use Rattle.promise_store.specs.Index.{found}
 
 -- for how many entries more there is room
@@ -31,7 +31,9 @@ pub record ShowSame (before after : Held) : Type 0 where
   pub promise : promised_in after ≡ promised_in before
   pub entries : (slot : ℕ) → placed_in after slot ≡ placed_in before slot
 
--- a record that may take room for an entry
-abbrev pub NeedsRoom : Record → Type 0
-NeedsRoom (Promised ballot) = ⊥
-NeedsRoom (Voted ballot slot command) = Unit {0}
+-- how many entries a record may take room for
+abbrev pub room_for : Record → ℕ
+room_for (Promised ballot) = 0
+room_for (VotedOne ballot slot command) = 1
+room_for Opened = 0
+room_for (Voted ballot slot commands) = length commands

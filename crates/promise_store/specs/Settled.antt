@@ -3,7 +3,9 @@ use Rattle.std.specs.Prelude.{◌≡◌, ℕ, ◌≤◌, List, IsTrue}
 use Rattle.promise_store.specs.declared.disk.Disk.{Ghosts}
 use Rattle.promise_store.specs.declared.records.Record.{Record}
 use Rattle.promise_store.specs.Disks.{Only, During, Within}
-use Rattle.promise_store.specs.Journals.{IsJournal, gate_behind, IsEither}
+use Rattle.promise_store.specs.declared.stage.Stage.{Stage}
+use Rattle.promise_store.specs.Stages.{head_of}
+use Rattle.promise_store.specs.Journals.{IsJournalOf, gate_behind, IsEither}
 
 module _ {D : Type 0} (g : Ghosts D) where
   -- from the one to the other the disk was only read or synced: a read gives the same, and a crash leaves nothing that it didn't leave before
@@ -14,10 +16,10 @@ module _ {D : Type 0} (g : Ghosts D) where
     pub during : During (g.since before) (g.since after) (g.images before)
     pub counts : g.count before ≤ g.count after
 
-  -- the disk has these records, nothing else may be left of it, and the gate behind them stands at this place
-  pub record IsSettled (head : List ℕ) (records : List Record) (gate : ℕ) (disk : D) : Type 0 where
-    pub journal : IsTrue g.is_honest → IsJournal head (g.seen disk) records
-    pub at_gate : IsTrue g.is_honest → gate ≡ gate_behind head records
+  -- the disk has these records, of these stages, nothing else may be left of it, and the gate behind them stands at this place
+  pub record IsSettled (first last : Stage) (head : List ℕ) (records : List Record) (gate : ℕ) (disk : D) : Type 0 where
+    pub journal : IsTrue g.is_honest → IsJournalOf first last head (g.seen disk) records
+    pub at_gate : IsTrue g.is_honest → gate ≡ gate_behind (head_of first head) records
     pub durable : Only (g.seen disk) (g.images disk)
 
   -- each image stands for the one or for the other

@@ -18,3 +18,8 @@ vote_ballot (Some vote) = Some vote.ballot
 abbrev pub placed_ballot : Option Placed → Option Ballot
 placed_ballot None = None
 placed_ballot (Some placed) = Some placed.ballot
+
+-- that of what was read of an entry
+abbrev pub pair_ballot : Option (Ballot × Command) → Option Ballot
+pair_ballot None = None
+pair_ballot (Some found) = Some found.0

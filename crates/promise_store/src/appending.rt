@@ -1,7 +1,9 @@
 //! The four calls of an append.
 
-ghost use Rattle.std.specs.Prelude.{◌≡◌, ◌∷◌, ◌++◌, [], ◌+◌, ◌≤◌, ℕ, List, length, IsTrue, OnOk};
+ghost use Rattle.std.specs.Prelude.{◌≡◌, ◌∷◌, ◌++◌, [], ◌+◌, ◌≤◌, ℕ, List, Some, length, IsTrue, OnOk};
 ghost use Rattle.promise_store.specs.declared.records.Record.{Record};
+ghost use Rattle.promise_store.specs.declared.stage.Stage.{Stage};
+ghost use Rattle.promise_store.specs.Stages.{stage_after};
 ghost use Rattle.promise_store.specs.Disks.{Holds, TornFrom, Within, Only, During, Counts};
 ghost use Rattle.promise_store.specs.Records.{IsRecord, record_text};
 ghost use Rattle.promise_store.specs.Settled.{IsSettled, LeavesRecords, LeavesRecordsDuring};
@@ -24,13 +26,14 @@ pub fn write_through<D: Disk>(disk: &mut D, at: usize, bytes: &[u8]) -> Result<(
 /// Writes a record and a shut gate behind the gate, and then opens that.
 ///
 /// The text is the record's, and the byte 0 of the gate behind it. Where the gate isn't open, what stands behind it is
-/// no record, so until the last call the journal is the one before; and from then on the record is whole.
+/// no record, so until the last call the journal is the one before; and from then on the record is whole, also where it
+/// is one of 64 commands: one gate stands before all of it.
 pub fn write_record<D: Disk>(disk: &mut D, gate: usize, text: &[u8]) -> Result<(), DiskFault>
-    ensures ok { (head : List ℕ) (records : List Record) (r : Record) → IsSettled D.Disk head records gate disk.old → IsRecord r → text.now ≡ record_text r ++ 0 ∷ []
-        → OnOk result (IsSettled D.Disk head (records ++ r ∷ []) (gate + length text.now) disk.new) }
-    ensures any_moment { (head : List ℕ) (records : List Record) (r : Record) → IsSettled D.Disk head records gate disk.old → IsRecord r → text.now ≡ record_text r ++ 0 ∷ []
+    ensures ok { (first last next : Stage) (head : List ℕ) (records : List Record) (r : Record) → IsSettled D.Disk first last head records gate disk.old → stage_after last r ≡ Some next → IsRecord r → text.now ≡ record_text r ++ 0 ∷ []
+        → OnOk result (IsSettled D.Disk first next head (records ++ r ∷ []) (gate + length text.now) disk.new) }
+    ensures any_moment { (first last next : Stage) (head : List ℕ) (records : List Record) (r : Record) → IsSettled D.Disk first last head records gate disk.old → stage_after last r ≡ Some next → IsRecord r → text.now ≡ record_text r ++ 0 ∷ []
         → LeavesRecordsDuring D.Disk head records (records ++ r ∷ []) disk.old disk.new }
-    ensures leaves { (head : List ℕ) (records : List Record) (r : Record) → IsSettled D.Disk head records gate disk.old → IsRecord r → text.now ≡ record_text r ++ 0 ∷ []
+    ensures leaves { (first last next : Stage) (head : List ℕ) (records : List Record) (r : Record) → IsSettled D.Disk first last head records gate disk.old → stage_after last r ≡ Some next → IsRecord r → text.now ≡ record_text r ++ 0 ∷ []
         → LeavesRecords D.Disk head records (records ++ r ∷ []) disk.new }
     ensures begun { D.begun disk.new ≡ D.begun disk.old }
     ensures failed { Counts result (D.count disk.old) (D.count disk.new) }

@@ -13,9 +13,9 @@ use thiserror::Error;
 pub enum StoreFault {
     /// 60: the file is empty, so no store was created on it.
     NoStore,
-    /// 61: the file doesn't begin with the header of this node and count of nodes and a gate.
+    /// 61: the file doesn't begin with the header of this node and count of nodes, of either version, and a gate.
     BadHeader,
-    /// 62: an open gate stands before what is no record with a gate behind it.
+    /// 62: an open gate stands before what is no record that may stand there, with a gate behind it.
     BadRecord,
     /// 63: a call of the disk failed. Whether what the call was to store is stored is known only to who opens the
     /// store again.

@@ -1,19 +1,22 @@
 //! What a store holds, without the commands.
 
-ghost use Rattle.std.specs.Prelude.{◌≡◌, ◌+◌, ◌^◌, ◌<◌, ◌≤◌, ℕ, OnOk, IsOk};
+ghost use Rattle.std.specs.Prelude.{◌≡◌, ◌+◌, ◌^◌, ◌<◌, ◌≤◌, ℕ, length, OnOk, IsOk};
+ghost use Rattle.std.specs.List.{flat_map};
 ghost use Rattle.promise_store.specs.Index.{Rise, Rise-prop};
 ghost use Rattle.promise_store.specs.Ranges.{IsBallotOrNone, AreInRange};
-ghost use Rattle.promise_store.specs.Records.{IsRecord};
+ghost use Rattle.promise_store.specs.Records.{IsRecord, payload};
 ghost use Rattle.paxos_wire.specs.Fits.{IsBallot};
+ghost use Rattle.paxos_wire.specs.Spelling.{command_text};
+ghost use Rattle.paxos_wire.specs.declared.limits.TheConstants.{SLOTS};
 
-use crate::index::{find, put};
+use crate::index::{find, put_run};
 use crate::placed::Placed;
 use crate::records::Record;
-use paxos_wire::{Ballot, command_len};
+use paxos_wire::Ballot;
 use slot_log::Command;
 use std::alloc::{AllocError, Global};
 
-/// What a store holds: the promised ballot, and for each slot with an accepted entry its ballot, place and length.
+/// What a store holds: the promised ballot, and for each slot with an accepted entry its ballot and where it stands.
 ///
 /// The commands stay on the disk: `Store::entry` reads them.
 #[derive(Drop)]
@@ -26,8 +29,8 @@ pub struct Held {
 }
 
 impl Held {
-    ghost use Rattle.promise_store.specs.Holding.{Holding, nothing_held, kept_at, with_record, greater, Indexes};
-    ghost use Rattle.promise_store.specs.Room.{room, promised_in, placed_in, NeedsRoom, ShowSame};
+    ghost use Rattle.promise_store.specs.Holding.{Holding, nothing_held, first_at, with_votes, with_record, greater, Indexes};
+    ghost use Rattle.promise_store.specs.Room.{room, promised_in, placed_in, room_for, ShowSame};
 
     /// Nothing.
     pub(crate) fn new(alloc: Global) -> Held
@@ -64,35 +67,77 @@ impl Held {
         self.entries.reserve(additional)
     }
 
-    /// Takes the record behind a gate, where there is room for one entry more.
-    pub(crate) fn note(&mut self, gate: usize, addition: &Record)
-        requires room { NeedsRoom addition.now → 1 ≤ room self.old }
+    /// Takes the record behind a gate, whose payload has so many bytes, where there is room for its entries.
+    pub(crate) fn note(&mut self, gate: usize, size: usize, addition: &Record<'_>)
+        requires room { room_for addition.now ≤ room self.old }
         requires record { IsRecord addition.now }
+        requires size { size ≡ length (payload addition.now) }
         ensures held { (held : Holding) → gate + 3 < 2 ^ 64 → Indexes self.old held → Indexes self.new (with_record gate held addition.now) }
-        ensures room { room self.old ≤ room self.new + 1 }
-        ensures kept { (NeedsRoom addition.now → ⊥) → room self.new ≡ room self.old }
+        ensures room { room self.old ≤ room self.new + room_for addition.now }
+        ensures kept { room_for addition.now ≡ 0 → room self.new ≡ room self.old }
     {
         match addition {
             Record::Promised(ballot) => self.raise(*ballot),
-            Record::Voted {
+            Record::Opened => (),
+            Record::VotedOne {
                 ballot,
                 slot,
                 command,
             } => {
-                let placed = Held::placed_behind(gate, *ballot, *slot, command);
-                put(&mut self.entries, placed);
-                self.raise(*ballot);
+                let commands = [*command];
+                self.note_run(gate, size, 10, *ballot, *slot, &commands);
             }
+            Record::Voted {
+                ballot,
+                slot,
+                commands,
+            } => self.note_run(gate, size, 11, *ballot, *slot, commands.as_slice()),
         }
     }
 
-    /// The same, with room made for it. An `Err` changes nothing.
-    pub(crate) fn take(&mut self, gate: usize, addition: &Record) -> Result<(), AllocError>
-        requires { IsRecord addition.now }
+    /// Takes the commands of a record behind a gate, the first of which begins so far inside its payload.
+    fn note_run(
+        &mut self,
+        gate: usize,
+        size: usize,
+        inside: u16,
+        ballot: Ballot,
+        slot: u32,
+        commands: &[Command],
+    )
+        requires room { length commands.now ≤ room self.old }
+        requires ballot { IsBallot ballot }
+        requires slots { slot + length commands.now ≤ SLOTS }
+        requires inside { inside + length (flat_map command_text commands.now) ≤ size }
+        requires size { size < 2 ^ 16 }
+        ensures held { (held : Holding) → gate + 3 < 2 ^ 64 → Indexes self.old held
+            → Indexes self.new (record { promise = greater held.promise ballot; entries = with_votes (first_at gate size inside ballot slot) commands.now held.entries }) }
+        ensures room { room self.old ≤ room self.new + length commands.now }
+    {
+        let first = Placed {
+            place: gate.saturating_add(3),
+            ballot,
+            slot,
+            length: size as u16,
+            inside,
+        };
+        put_run(&mut self.entries, first, commands);
+        self.raise(ballot);
+    }
+
+    /// Takes the record behind a gate, with room made for its entries. An `Err` changes nothing.
+    pub(crate) fn take(
+        &mut self,
+        gate: usize,
+        size: usize,
+        addition: &Record<'_>,
+    ) -> Result<(), AllocError>
+        requires record { IsRecord addition.now }
+        requires size { size ≡ length (payload addition.now) }
         ensures held { (held : Holding) → gate + 3 < 2 ^ 64 → Indexes self.old held → OnOk result (Indexes self.new (with_record gate held addition.now)) }
     {
-        self.reserve(1)?;
-        self.note(gate, addition);
+        self.reserve(addition.room())?;
+        self.note(gate, size, addition);
         Ok(())
     }
 
@@ -105,20 +150,6 @@ impl Held {
     {
         if self.promised < ballot {
             self.promised = ballot;
-        }
-    }
-
-    /// Where the entry of an accept behind a gate stands.
-    fn placed_behind(gate: usize, ballot: Ballot, slot: u32, command: &Command) -> Placed
-        ensures entry { gate + 3 < 2 ^ 64 → result ≡ (kept_at gate ballot slot command.now).placed }
-        ensures ballot { result.ballot ≡ ballot }
-        ensures slot { result.slot ≡ slot }
-    {
-        Placed {
-            place: gate.saturating_add(3),
-            ballot,
-            slot,
-            length: (10 + command_len(command)) as u32,
         }
     }
 }

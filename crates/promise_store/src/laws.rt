@@ -1,22 +1,24 @@
 //! Laws of journals and of what they keep.
 
-ghost use Rattle.std.specs.Prelude.{◌≡◌, ℕ, List, Option, Some, None};
+ghost use Rattle.std.specs.Prelude.{◌≡◌, ◌↔◌, ◌+◌, ◌<◌, ◌≤◌, ◌∷◌, ◌++◌, [], ℕ, List, Option, Some, None, false, length};
 ghost use Rattle.paxos_wire.specs.declared.ballot.Ballot.{Ballot};
 ghost use Rattle.paxos_wire.specs.declared.entry.Entry.{Entry};
 ghost use Rattle.slot_log.specs.declared.command.Command.{Command};
 ghost use Rattle.protocol_model.specs.Sets.{In};
 ghost use Rattle.protocol_model.specs.Ballots.{Below, AtMost};
-ghost use Rattle.protocol_model.specs.Messages.{Vote, Message, Prepare, Promise, Accept, Accepted};
+ghost use Rattle.protocol_model.specs.Messages.{Vote, Message, Prepare, Promise};
 ghost use Rattle.protocol_model.specs.Backing.{Backs, HasNoOther, IsWithinPromise};
-ghost use Rattle.protocol_model.specs.Stores.{promised, voted};
+ghost use Rattle.protocol_model.specs.Stores.{promised};
+ghost use Rattle.protocol_model.specs.Frames.{proposals, answers};
+ghost use Rattle.protocol_model.specs.Votes.{is_voted, storing_command_run};
 ghost use Rattle.protocol_model.specs.Stores as model;
 ghost use Rattle.promise_store.specs.declared.records.Record.{Record};
-ghost use Rattle.promise_store.specs.declared.records.Record.TheVariants.{Promised, Voted};
+ghost use Rattle.promise_store.specs.declared.records.Record.TheVariants.{Promised, Opened, Voted};
 ghost use Rattle.promise_store.specs.declared.store.Store.{Store};
 ghost use Rattle.promise_store.specs.Journals.{IsJournal};
 ghost use Rattle.promise_store.specs.Holding.{StandsFor, holding, store_of, stored};
 ghost use Rattle.promise_store.specs.Keeping.{disk_of, Keeps, Leaves, LeavesDuring};
-ghost use Rattle.promise_store.specs.Laws.{ballot_of_record, IsGreatest, IsLastOfGreatest, IsBacked};
+ghost use Rattle.promise_store.specs.Laws.{entries_of, accepted_in, Says, IsGreatest, IsLastOfGreatest, IsBacked};
 
 use crate::disk::Disk;
 
@@ -32,28 +34,40 @@ pub fn journals_have_one_reading()
 pub fn greatest_ballots_are_held()
     ensures promise { (head : List ℕ) (records : List Record) → IsGreatest records (holding head records).promise }
     ensures votes { (head : List ℕ) (records : List Record) (slot : ℕ) (vote : Vote)
-        → (store_of (holding head records)).votes slot ≡ Some vote → IsLastOfGreatest records slot vote }
+        → (store_of (holding head records)).votes slot ≡ Some vote → IsLastOfGreatest (accepted_in records) slot vote }
     ensures none { (head : List ℕ) (records : List Record) (slot : ℕ) (ballot : Ballot) (command : Command)
-        → (store_of (holding head records)).votes slot ≡ None → In (Voted ballot slot command) records → ⊥ }
+        → (store_of (holding head records)).votes slot ≡ None → Says records ballot slot command → ⊥ }
     ensures within { (head : List ℕ) (records : List Record) → IsWithinPromise (store_of (holding head records)) }
 {}
 
-/// Storing a promise above the one before, and a vote that isn't below it, is the store move of the protocol's model.
+/// Storing a promise above the one before, and a run of votes that isn't below it at slots without a vote of its ballot,
+/// is what the protocol's model makes of a store, one vote after another.
 pub fn records_are_moves()
     ensures promise { (store : model.Store) (ballot : Ballot) → Below store.promise ballot → stored store (Promised ballot) ≡ promised store ballot }
-    ensures vote { (store : model.Store) (ballot : Ballot) (slot : ℕ) (command : Command) → IsWithinPromise store → AtMost store.promise ballot
-        → stored store (Voted ballot slot command) ≡ voted store slot (record { ballot = ballot; command = command }) }
+    ensures votes { (store : model.Store) (ballot : Ballot) (slot : ℕ) (commands : List Command) → 1 ≤ length commands → IsWithinPromise store → AtMost store.promise ballot
+        → ((k : ℕ) → slot ≤ k → k < slot + length commands → is_voted store ballot k ≡ false)
+        → stored store (Voted ballot slot commands) ≡ storing_command_run store ballot slot commands }
 {}
 
 /// What is stored backs what a node then answers, and goes on to back what it backed.
 pub fn answers_are_backed()
     ensures prepare { (store : model.Store) (ballot : Ballot) (slot : ℕ) → Backs (stored store (Promised ballot)) (Prepare ballot slot) }
     ensures promise { (store : model.Store) (ballot : Ballot) (sender slot : ℕ) (told : List Entry) → Backs (stored store (Promised ballot)) (Promise sender ballot slot told) }
-    ensures vote { (store : model.Store) (ballot : Ballot) (sender slot : ℕ) (command : Command) → Backs (stored store (Voted ballot slot command)) (Accepted sender ballot slot command) }
-    ensures own_vote { (store : model.Store) (ballot : Ballot) (slot : ℕ) (command : Command) → Backs (stored store (Voted ballot slot command)) (Accept ballot slot command) }
+    ensures votes { (store : model.Store) (ballot : Ballot) (sender slot : ℕ) (commands : List Command) (message : Message)
+        → In message (answers sender ballot slot commands) → Backs (stored store (Voted ballot slot commands)) message }
+    ensures own_votes { (store : model.Store) (ballot : Ballot) (slot : ℕ) (commands : List Command) (message : Message)
+        → In message (proposals ballot slot commands) → Backs (stored store (Voted ballot slot commands)) message }
     ensures after_promise { (store : model.Store) (ballot : Ballot) (message : Message) → Backs store message → Backs (stored store (Promised ballot)) message }
-    ensures after_vote { (store : model.Store) (ballot : Ballot) (slot : ℕ) (command : Command) (message : Message) → HasNoOther store slot (record { ballot = ballot; command = command })
-        → Backs store message → Backs (stored store (Voted ballot slot command)) message }
+    ensures after_votes { (store : model.Store) (ballot : Ballot) (slot : ℕ) (commands : List Command) (message : Message)
+        → ((entry : Entry) → In entry (entries_of ballot slot commands) → HasNoOther store entry.slot (record { ballot = ballot; command = entry.command }))
+        → Backs store message → Backs (stored store (Voted ballot slot commands)) message }
+{}
+
+/// The record that opens a journal of version 1 for version 2 changes nothing that a journal stands for.
+pub fn stages_hold_nothing()
+    ensures stored { (store : model.Store) → stored store Opened ≡ store }
+    ensures journals { (head bytes longer : List ℕ) (records : List Record) (store : model.Store) → IsJournal head bytes records → IsJournal head longer (records ++ Opened ∷ [])
+        → StandsFor head bytes store ↔ StandsFor head longer store }
 {}
 
 /// What a store keeps is all that its disk leaves.

@@ -1,6 +1,6 @@
 use paxos_wire::Ballot;
 
-/// Where an accepted entry stands in its journal.
+/// Where an accepted command stands in its journal.
 #[derive(Clone, Copy, Debug, PartialEq, Eq)]
 pub struct Placed {
     /// Where its record's payload begins, in bytes from the journal's start.
@@ -10,5 +10,7 @@ pub struct Placed {
     /// Counted from 0.
     pub slot: u32,
     /// How many bytes its record's payload has.
-    pub length: u32,
+    pub length: u16,
+    /// Where in the payload the command begins.
+    pub inside: u16,
 }

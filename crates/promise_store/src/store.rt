@@ -1,22 +1,28 @@
 //! What an acceptor may never forget, on a disk.
 
-ghost use Rattle.std.specs.Prelude.{◌≡◌, ◌⊎◌, ◌↔◌, ◌+◌, ◌≤◌, ℕ, List, true, IsTrue, IsErrOf, IsOk, IfOk, IfErr, IfSome, OnOk};
-ghost use Rattle.paxos_wire.specs.Fits.{IsBallot, IsSlot, IsInRange, IsEntry};
+ghost use Rattle.std.specs.Prelude.{◌≡◌, ◌≢◌, ◌⊎◌, ◌↔◌, ◌∷◌, ◌++◌, [], ◌+◌, ◌<◌, ◌≤◌, ℕ, List, Some, Ok, true, false, length, IsTrue, IsErrOf, IsOk, IfOk, IfErr, IfSome, OnOk};
+ghost use Rattle.paxos_wire.specs.Fits.{IsBallot, IsSlot, IsInRange, IsCommandRun, IsEntry};
 ghost use Rattle.protocol_model.specs.Stores as model;
-ghost use Rattle.promise_store.specs.Disks.{Rose};
-ghost use Rattle.promise_store.specs.Journals.{header};
+ghost use Rattle.promise_store.specs.Disks.{Rose, TornFrom, Within};
+ghost use Rattle.promise_store.specs.Stages.{stage_after, marked};
+ghost use Rattle.promise_store.specs.Journals.{header, IsJournalOf};
 ghost use Rattle.promise_store.specs.Records.{IsStorable};
+ghost use Rattle.promise_store.specs.declared.records.Record.{Record};
 ghost use Rattle.promise_store.specs.declared.records.Record.TheVariants.{Promised, Voted};
+ghost use Rattle.promise_store.specs.declared.stage.Stage.{Stage};
+ghost use Rattle.promise_store.specs.declared.stage.Stage.TheVariants.{New};
 
 use crate::appending::{write_record, write_through};
 use crate::disk::Disk;
 use crate::fault::StoreFault;
 use crate::held::Held;
-use crate::laws::journals_have_one_reading;
-use crate::reading::{HEADER, read_journal, read_vote_at};
-use crate::records::Record;
-use crate::texts::record_bytes;
-use paxos_wire::Ballot;
+use crate::laws::{journals_have_one_reading, what_is_kept_is_left};
+use crate::reading::{HEADER, read_command_at, read_journal};
+use crate::records::{MOST_RECORD, Record};
+use crate::stage::Stage;
+use crate::texts::put_record;
+use arrayvec::ArrayVec;
+use paxos_wire::{Ballot, Commands};
 use slot_log::Command;
 use std::alloc::{AllocError, Global};
 
@@ -50,12 +56,12 @@ impl<D: Disk + Drop> Drop for Store<D> {
 
 impl<D: Disk> Store<D> {
     ghost use Rattle.promise_store.specs.Holding.{stored, StandsFor};
-    ghost use Rattle.promise_store.specs.Settled.{OnlyReads};
-    ghost use Rattle.promise_store.specs.Keeping.{disk_of, is_closed, held_of, Keeps, Leaves, LeavesDuring, IsOpened};
+    ghost use Rattle.promise_store.specs.Settled.{OnlyReads, IsSettled};
+    ghost use Rattle.promise_store.specs.Keeping.{disk_of, is_closed, held_of, KeepsAt, Keeps, Leaves, LeavesDuring, IsOpenedAt, IsOpened, Reopens};
     ghost use Rattle.promise_store.specs.Refusals.{Refuses};
-    ghost use Rattle.promise_store.specs.Appended.{IsAsBefore, Appended};
-    ghost use Rattle.promise_store.specs.Shown.{vote_pair, vote_ballot, placed_ballot};
-    ghost use Rattle.promise_store.specs.Room.{room, promised_in, placed_in, AreWithinRanges, NeedsRoom, ShowSame};
+    ghost use Rattle.promise_store.specs.Appended.{IsAsBefore, AppendedAt, Appended};
+    ghost use Rattle.promise_store.specs.Shown.{vote_pair, vote_ballot, placed_ballot, pair_ballot};
+    ghost use Rattle.promise_store.specs.Room.{room, promised_in, placed_in, AreWithinRanges, room_for, ShowSame};
     ghost use Rattle.protocol_model.specs.Backing.{IsWithinPromise};
 
     /// Makes an empty store, of this node of so many, over whatever the disk has.
@@ -69,13 +75,16 @@ impl<D: Disk> Store<D> {
         nodes: u8,
     ) -> Result<Store<D>, (D, StoreFault)>
         ensures made { IfOk result (λ store. Keeps D.Disk (header node nodes) model.empty_store store) }
+        // The disk has a journal of version 2 without records.
+        ensures new { IfOk result (λ store. IsTrue D.is_honest → IsJournalOf New New (header node nodes) (D.seen (disk_of store)) []) }
         ensures failed { IfErr result (λ x. (x.1 ≡ StoreFault.Disk) × Rose (D.count disk) (D.count x.0)) }
+        ensures torn { IfErr result (λ x. Within (TornFrom 0 9 (D.images disk)) (D.images x.0)) }
         ensures begun { IfOk result (λ store. D.begun (disk_of store) ≡ D.begun disk) }
         ensures begun_err { IfErr result (λ x. D.begun x.0 ≡ D.begun disk) }
         ensures counts { IfOk result (λ store. D.count (disk_of store) ≡ D.count disk) }
         ensures counts_err { IfErr result (λ x. D.count disk ≤ D.count x.0) }
     {
-        let text = [b'H', b'D', b'J', b'1', node, nodes, 0, 0, 0];
+        let text = [b'H', b'D', b'J', b'2', node, nodes, 0, 0, 0];
         match write_through(&mut disk, 0, &text) {
             Ok(()) => Ok(Store {
                 disk,
@@ -89,16 +98,12 @@ impl<D: Disk> Store<D> {
 
     /// Opens the store of this node of so many that a disk has, also one that a crash left.
     ///
-    /// It syncs, and then reads. It writes nothing, and takes no memory but an index of the slots, 24 bytes each.
-    /// With a fault the disk is handed back: 60 where the file is empty, 61 where it doesn't begin with the header of
-    /// this node and count of nodes and a gate, 62 where an open gate stands before what is no record, 63 where the disk
-    /// failed.
-    pub fn open(
-        alloc: Global,
-        mut disk: D,
-        node: u8,
-        nodes: u8,
-    ) -> Result<Store<D>, (D, StoreFault)>
+    /// It syncs, and then reads; it takes no memory but an index of the slots, 24 bytes each. Where the journal is of
+    /// version 1 and wasn't opened for version 2 yet, it then appends the record that does this, which changes nothing
+    /// that the journal stands for; else it writes nothing. With a fault the disk is handed back: 60 where the file is
+    /// empty, 61 where it doesn't begin with the header of this node and count of nodes and a gate, 62 where an open gate
+    /// stands before what is no record there, 63 where the disk failed.
+    pub fn open(alloc: Global, disk: D, node: u8, nodes: u8) -> Result<Store<D>, (D, StoreFault)>
         ensures opened { IfOk result (λ store. IsOpened D.Disk (header node nodes) disk store) }
         ensures refused { IsTrue D.is_honest → IfErr result (λ x. Refuses (header node nodes) (D.seen disk) x.1) }
         // A disk that stands for one of two stores, as one that a crash left, is opened as the one that it has.
@@ -106,19 +111,105 @@ impl<D: Disk> Store<D> {
             → IfOk result (λ store. Keeps D.Disk (header node nodes) old store ⊎ Keeps D.Disk (header node nodes) new store) }
         ensures sound { (old new : model.Store) → IsTrue D.is_honest → Leaves D.Disk (header node nodes) old new disk
             → IfErr result (λ x. (x.1 ≡ StoreFault.Disk) ⊎ (x.1 ≡ StoreFault.OutOfMemory)) }
-        ensures reads { IfOk result (λ store. OnlyReads D.Disk disk (disk_of store)) }
+        // At each moment each image stands for what it stood for.
+        ensures settles { IfOk result (λ store. Reopens D.Disk (header node nodes) disk (disk_of store)) }
+        ensures settles_err { IfErr result (λ x. Reopens D.Disk (header node nodes) disk x.0) }
+        // The journal has the record that opens it for version 2 behind the others where it was missing, and else it is
+        // as it was.
+        ensures marks { IsTrue D.is_honest → (first last : Stage) (records : List Record) → IsJournalOf first last (header node nodes) (D.seen disk) records
+            → IfOk result (λ store. IsJournalOf first New (header node nodes) (D.seen (disk_of store)) (marked last records)) }
+        // One that goes on with version 2 is only read.
+        ensures quiet { IsTrue D.is_honest → (first : Stage) (records : List Record) → IsJournalOf first New (header node nodes) (D.seen disk) records
+            → IfOk result (λ store. OnlyReads D.Disk disk (disk_of store)) }
+        ensures quiet_err { IsTrue D.is_honest → (first : Stage) (records : List Record) → IsJournalOf first New (header node nodes) (D.seen disk) records
+            → IfErr result (λ x. OnlyReads D.Disk disk x.0) }
+        // So is each that is refused, but where the disk failed.
+        ensures unwritten { IfErr result (λ x. x.1 ≢ StoreFault.Disk → OnlyReads D.Disk disk x.0) }
+        ensures failed { IfErr result (λ x. x.1 ≡ StoreFault.Disk → Rose (D.count disk) (D.count x.0)) }
+    {
+        match Store::read_from(alloc, disk, node, nodes) {
+            Ok((store, stage)) => store.mark(stage),
+            Err(failed) => Err(failed),
+        }
+    }
+
+    /// Looks whether the store of this node of so many that a disk has opens, and hands the disk back.
+    ///
+    /// It syncs, and then reads: it writes nothing, and keeps nothing that it takes. It answers as `open` does, but for
+    /// what that appends.
+    pub fn look(alloc: Global, disk: D, node: u8, nodes: u8) -> Result<D, (D, StoreFault)>
+        ensures stands { IsTrue D.is_honest → IfOk result (λ _. (held : model.Store) × StandsFor (header node nodes) (D.seen disk) held) }
+        ensures refused { IsTrue D.is_honest → IfErr result (λ x. Refuses (header node nodes) (D.seen disk) x.1) }
+        ensures reads { IfOk result (λ after. OnlyReads D.Disk disk after) }
+        ensures reads_err { IfErr result (λ x. OnlyReads D.Disk disk x.0) }
+        ensures failed { IfErr result (λ x. x.1 ≡ StoreFault.Disk → Rose (D.count disk) (D.count x.0)) }
+    {
+        match Store::read_from(alloc, disk, node, nodes) {
+            Ok((store, _)) => Ok(store.close()),
+            Err(refused) => Err(refused),
+        }
+    }
+
+    /// Reads the store of this node of so many that a disk has, and the stage behind its records.
+    fn read_from(
+        alloc: Global,
+        mut disk: D,
+        node: u8,
+        nodes: u8,
+    ) -> Result<(Store<D>, Stage), (D, StoreFault)>
+        ensures opened { IfOk result (λ x. IsOpenedAt D.Disk x.1 (header node nodes) disk x.0) }
+        ensures refused { IsTrue D.is_honest → IfErr result (λ x. Refuses (header node nodes) (D.seen disk) x.1) }
+        ensures either { (old new : model.Store) → IsTrue D.is_honest → Leaves D.Disk (header node nodes) old new disk
+            → IfOk result (λ x. KeepsAt D.Disk x.1 (header node nodes) old x.0 ⊎ KeepsAt D.Disk x.1 (header node nodes) new x.0) }
+        ensures sound { (old new : model.Store) → IsTrue D.is_honest → Leaves D.Disk (header node nodes) old new disk
+            → IfErr result (λ x. (x.1 ≡ StoreFault.Disk) ⊎ (x.1 ≡ StoreFault.OutOfMemory)) }
+        ensures read { IsTrue D.is_honest → (first last : Stage) (records : List Record) → IsJournalOf first last (header node nodes) (D.seen disk) records
+            → IfOk result (λ x. (x.1 ≡ last) × IsSettled D.Disk first last (header node nodes) records x.0.gate x.0.disk) }
+        ensures is_open { IfOk result (λ x. is_closed x.0 ≡ false) }
+        ensures reads { IfOk result (λ x. OnlyReads D.Disk disk (disk_of x.0)) }
         ensures reads_err { IfErr result (λ x. OnlyReads D.Disk disk x.0) }
         ensures failed { IfErr result (λ x. x.1 ≡ StoreFault.Disk → Rose (D.count disk) (D.count x.0)) }
     {
         journals_have_one_reading();
         match read_journal(alloc, &mut disk, node, nodes) {
-            Ok((gate, held)) => Ok(Store {
-                disk,
-                gate,
-                closed: false,
-                held,
-            }),
+            Ok((gate, held, stage)) => {
+                let store = Store {
+                    disk,
+                    gate,
+                    closed: false,
+                    held,
+                };
+                Ok((store, stage))
+            }
             Err(fault) => Err((disk, fault)),
+        }
+    }
+
+    /// Has the store go on with version 2, by a record behind the others where they are of version 1. With a fault the
+    /// disk is handed back.
+    fn mark(mut self, stage: Stage) -> Result<Store<D>, (D, StoreFault)>
+        ensures keeps { (head : List ℕ) (held : model.Store) → KeepsAt D.Disk stage head held self → IfOk result (λ after. Keeps D.Disk head held after) }
+        ensures leaves { (head : List ℕ) (held : model.Store) → KeepsAt D.Disk stage head held self → IfOk result (λ after. Leaves D.Disk head held held (disk_of after)) }
+        ensures leaves_err { (head : List ℕ) (held : model.Store) → KeepsAt D.Disk stage head held self → IfErr result (λ x. Leaves D.Disk head held held x.0) }
+        ensures during { (head : List ℕ) (held : model.Store) → KeepsAt D.Disk stage head held self → IfOk result (λ after. LeavesDuring D.Disk head held held (disk_of self) (disk_of after)) }
+        ensures during_err { (head : List ℕ) (held : model.Store) → KeepsAt D.Disk stage head held self → IfErr result (λ x. LeavesDuring D.Disk head held held (disk_of self) x.0) }
+        ensures marks { (first : Stage) (head : List ℕ) (records : List Record) → IsSettled D.Disk first stage head records self.gate self.disk
+            → IfOk result (λ after. IsSettled D.Disk first New head (marked stage records) after.gate after.disk) }
+        ensures quiet { stage ≡ New → result ≡ Ok self }
+        ensures begun { IfOk result (λ after. D.begun (disk_of after) ≡ D.begun (disk_of self)) }
+        ensures begun_err { IfErr result (λ x. D.begun x.0 ≡ D.begun (disk_of self)) }
+        ensures counts { IfOk result (λ after. D.count (disk_of self) ≤ D.count (disk_of after)) }
+        ensures counts_err { IfErr result (λ x. D.count (disk_of self) ≤ D.count x.0) }
+        ensures failed { IfErr result (λ x. x.1 ≡ StoreFault.Disk → Rose (D.count (disk_of self)) (D.count x.0)) }
+        ensures only { IfErr result (λ x. (x.1 ≡ StoreFault.Disk) ⊎ (is_closed self ≡ true)) }
+    {
+        what_is_kept_is_left::<D>();
+        match stage {
+            Stage::New => Ok(self),
+            Stage::Old => match self.append(&Record::Opened) {
+                Ok(()) => Ok(self),
+                Err(fault) => Err((self.close(), fault)),
+            },
         }
     }
 
@@ -192,7 +283,7 @@ impl<D: Disk> Store<D> {
         self.append(&Record::Promised(ballot))
     }
 
-    /// Stores that a command was accepted at a slot in a ballot. It takes four calls of the disk.
+    /// Stores that a command was accepted at a slot in a ballot: a run of one.
     ///
     /// Refused are 64 at a closed store, 92 where there is no room for the slot's entry and no memory for it, and 63
     /// where the disk failed.
@@ -200,15 +291,11 @@ impl<D: Disk> Store<D> {
         requires ballot { IsBallot ballot }
         requires slot { IsSlot slot }
         requires command { IsInRange command.now }
-        ensures appended { Appended D.Disk (Voted ballot slot command.now) self.old self.new result }
+        ensures appended { Appended D.Disk (Voted ballot slot (command.now ∷ [])) self.old self.new result }
         ensures room { room (held_of self.old) ≤ room (held_of self.new) + 1 }
         ensures full { IsErrOf result StoreFault.OutOfMemory → (room (held_of self.old) ≡ 0) × ShowSame (held_of self.old) (held_of self.new) }
     {
-        if self.closed {
-            return Err(StoreFault::Closed);
-        }
-        self.reserve(1)?;
-        self.accept_reserved(ballot, slot, command)
+        self.accept_run(ballot, slot, &[*command])
     }
 
     /// The same where there is room for one entry: it takes no memory.
@@ -222,14 +309,55 @@ impl<D: Disk> Store<D> {
         requires slot { IsSlot slot }
         requires command { IsInRange command.now }
         requires room { 1 ≤ room (held_of self.old) }
-        ensures appended { Appended D.Disk (Voted ballot slot command.now) self.old self.new result }
+        ensures appended { Appended D.Disk (Voted ballot slot (command.now ∷ [])) self.old self.new result }
         ensures room { room (held_of self.old) ≤ room (held_of self.new) + 1 }
+        ensures memory { IsErrOf result StoreFault.OutOfMemory → ⊥ }
+    {
+        self.accept_run_reserved(ballot, slot, &[*command])
+    }
+
+    /// Stores that commands were accepted in a ballot, one at each slot from this one on: all of them or, where it fails,
+    /// all or none. It takes four calls of the disk, however many they are.
+    ///
+    /// Refused are 64 at a closed store, 92 where there is no room for the slots' entries and no memory for it, and 63
+    /// where the disk failed.
+    pub fn accept_run(
+        &mut self,
+        ballot: Ballot,
+        slot: u32,
+        commands: &[Command],
+    ) -> Result<(), StoreFault>
+        requires ballot { IsBallot ballot }
+        requires run { IsCommandRun slot commands.now }
+        ensures appended { Appended D.Disk (Voted ballot slot commands.now) self.old self.new result }
+        ensures room { room (held_of self.old) ≤ room (held_of self.new) + length commands.now }
+        ensures full { IsErrOf result StoreFault.OutOfMemory → (room (held_of self.old) < length commands.now) × ShowSame (held_of self.old) (held_of self.new) }
+    {
+        if self.closed {
+            return Err(StoreFault::Closed);
+        }
+        self.reserve(commands.len())?;
+        self.accept_run_reserved(ballot, slot, commands)
+    }
+
+    /// The same where there is room for as many entries: it takes no memory.
+    pub fn accept_run_reserved(
+        &mut self,
+        ballot: Ballot,
+        slot: u32,
+        commands: &[Command],
+    ) -> Result<(), StoreFault>
+        requires ballot { IsBallot ballot }
+        requires run { IsCommandRun slot commands.now }
+        requires room { length commands.now ≤ room (held_of self.old) }
+        ensures appended { Appended D.Disk (Voted ballot slot commands.now) self.old self.new result }
+        ensures room { room (held_of self.old) ≤ room (held_of self.new) + length commands.now }
         ensures memory { IsErrOf result StoreFault.OutOfMemory → ⊥ }
     {
         self.append(&Record::Voted {
             ballot,
             slot,
-            command: *command,
+            commands: Commands::new(commands),
         })
     }
 
@@ -248,7 +376,8 @@ impl<D: Disk> Store<D> {
         ensures stays { (IsErrOf result StoreFault.Disk → ⊥) → is_closed self.new ≡ is_closed self.old }
         ensures as_before { IsErrOf result StoreFault.Closed → IsAsBefore D.Disk self.old self.new }
         ensures only { IfErr result (λ fault. (fault ≡ StoreFault.Disk) ⊎ ((fault ≡ StoreFault.Closed) ⊎ (fault ≡ StoreFault.BadRecord))) }
-        // On any disk, also one that isn't honest.
+        // On any disk, also one that isn't honest: found is what the index shows.
+        ensures shown { IfOk result (λ found. pair_ballot found ≡ placed_ballot (placed_in (held_of self.old) slot)) }
         ensures range { IfOk result (λ found. IfSome found (λ vote. IsEntry (record { slot = slot; ballot = vote.0; command = vote.1 }))) }
     {
         if self.closed {
@@ -257,8 +386,8 @@ impl<D: Disk> Store<D> {
         let Some(placed) = self.held.find(slot) else {
             return Ok(None);
         };
-        match read_vote_at(&mut self.disk, placed) {
-            Ok(vote) => Ok(Some(vote)),
+        match read_command_at(&mut self.disk, placed) {
+            Ok(command) => Ok(Some((placed.ballot, command))),
             Err(fault) => {
                 self.closed = matches!(fault, StoreFault::Disk);
                 Err(fault)
@@ -266,23 +395,26 @@ impl<D: Disk> Store<D> {
         }
     }
 
-    /// Stores a record.
-    fn append(&mut self, addition: &Record) -> Result<(), StoreFault>
+    /// Stores a record, which leads from the stage behind those before it to the next one.
+    fn append(&mut self, addition: &Record<'_>) -> Result<(), StoreFault>
         requires storable { IsStorable addition.now }
-        requires room { NeedsRoom addition.now → 1 ≤ room (held_of self.old) }
-        ensures appended { Appended D.Disk addition.now self.old self.new result }
-        ensures room { room (held_of self.old) ≤ room (held_of self.new) + 1 }
-        ensures kept { (NeedsRoom addition.now → ⊥) → room (held_of self.new) ≡ room (held_of self.old) }
+        requires room { room_for addition.now ≤ room (held_of self.old) }
+        ensures appended { (last next : Stage) → stage_after last addition.now ≡ Some next → AppendedAt D.Disk last next addition.now self.old self.new result }
+        ensures settled { (first last next : Stage) (head : List ℕ) (records : List Record) → stage_after last addition.now ≡ Some next
+            → IsSettled D.Disk first last head records self.old.gate self.old.disk → OnOk result (IsSettled D.Disk first next head (records ++ addition.now ∷ []) self.new.gate self.new.disk) }
+        ensures room { room (held_of self.old) ≤ room (held_of self.new) + room_for addition.now }
+        ensures kept { room_for addition.now ≡ 0 → room (held_of self.new) ≡ room (held_of self.old) }
         ensures memory { IsErrOf result StoreFault.OutOfMemory → ⊥ }
     {
         if self.closed {
             return Err(StoreFault::Closed);
         }
-        let bytes = record_bytes(addition);
+        let mut bytes = ArrayVec::<u8, MOST_RECORD>::new();
+        put_record(&mut bytes, addition);
         let text: &[u8] = &bytes;
         match write_record(&mut self.disk, self.gate, text) {
             Ok(()) => {
-                self.held.note(self.gate, addition);
+                self.held.note(self.gate, text.len() - 3, addition);
                 self.gate = self.gate.saturating_add(text.len());
                 Ok(())
             }

@@ -1,58 +1,106 @@
 //! The bytes of records.
 
-ghost use Rattle.std.specs.Prelude.{◌≡◌, ◌∷◌, ◌++◌, [], ◌≤◌, IfSome, Some};
+ghost use Rattle.std.specs.Prelude.{◌≡◌, ◌∷◌, ◌++◌, [], ◌+◌, ◌*◌, ◌≤◌, length, IfSome, Some};
+ghost use Rattle.std.specs.List.{flat_map, AllByRecursion};
 ghost use Rattle.arrayvec.specs.ArrayVec.{array_vec_len};
+ghost use Rattle.paxos_wire.specs.Fits.{IsDealt};
+ghost use Rattle.paxos_wire.specs.Spelling.{command_text};
 ghost use Rattle.promise_store.specs.Records.{IsRecord, IsStorable, payload, record_text};
 ghost use Rattle.promise_store.specs.declared.records.Record.{Record};
 
 use crate::records::{MOST_PAYLOAD, MOST_RECORD, Record};
 use arrayvec::ArrayVec;
+use paxos_wire::limits::{MOST_COMMAND, SLOTS, WINDOW};
 use paxos_wire::{
-    ballot_bytes, command_bytes, push_all, read_ballot, read_command, read_slot, slot_bytes,
+    CommandList, Commands, Version, ballot_bytes, command_bytes, command_len, push_all,
+    read_ballot, read_command, read_commands, read_slot, slot_bytes,
 };
+use slot_log::Command;
 
-/// A record's payload.
-fn payload_bytes(addition: &Record) -> ArrayVec<u8, MOST_RECORD>
-    ensures text { result.items ≡ payload addition.now }
-    ensures most { array_vec_len result ≤ MOST_PAYLOAD }
-    ensures sure { IsStorable addition.now → IsRecord addition.now }
+/// How many bytes these commands take.
+fn commands_len(commands: &[Command]) -> usize
+    requires { length commands.now ≤ WINDOW }
+    ensures value { result ≡ length (flat_map command_text commands.now) }
+    ensures most { result ≤ MOST_COMMAND * length commands.now }
 {
-    let mut bytes = ArrayVec::new();
+    let mut sum = 0;
+    for command in commands {
+        sum += command_len(command);
+    }
+    sum
+}
+
+/// How many bytes a record's payload has.
+fn payload_len(addition: &Record<'_>) -> usize
+    requires { IsStorable addition.now }
+    ensures value { result ≡ length (payload addition.now) }
+    ensures most { result ≤ MOST_PAYLOAD }
+{
+    match addition {
+        Record::Promised(_) => 6,
+        Record::VotedOne { .. } => unreachable!(),
+        Record::Opened => 1,
+        Record::Voted { commands, .. } => 11 + commands_len(commands.as_slice()),
+    }
+}
+
+/// Puts commands behind the last byte.
+fn push_commands(bytes: &mut ArrayVec<u8, MOST_RECORD>, commands: &[Command])
+    requires { array_vec_len bytes.old + MOST_COMMAND * length commands.now ≤ MOST_RECORD }
+    ensures items { bytes.new.items ≡ bytes.old.items ++ flat_map command_text commands.now }
+    ensures len { array_vec_len bytes.new ≤ array_vec_len bytes.old + MOST_COMMAND * length commands.now }
+    ensures dealt { AllByRecursion IsDealt commands.now }
+{
+    for command in commands {
+        push_all(bytes, &command_bytes(command));
+    }
+}
+
+/// Puts a record's payload behind the last byte.
+fn push_payload(bytes: &mut ArrayVec<u8, MOST_RECORD>, addition: &Record<'_>)
+    requires storable { IsStorable addition.now }
+    requires room { array_vec_len bytes.old + MOST_PAYLOAD ≤ MOST_RECORD }
+    ensures items { bytes.new.items ≡ bytes.old.items ++ payload addition.now }
+    ensures len { array_vec_len bytes.new ≤ array_vec_len bytes.old + MOST_PAYLOAD }
+    ensures sure { IsRecord addition.now }
+{
     match addition {
         Record::Promised(ballot) => {
             bytes.push(1);
-            push_all(&mut bytes, &ballot_bytes(*ballot));
+            push_all(bytes, &ballot_bytes(*ballot));
         }
+        Record::VotedOne { .. } => unreachable!(),
+        Record::Opened => bytes.push(3),
         Record::Voted {
             ballot,
             slot,
-            command,
+            commands,
         } => {
-            bytes.push(2);
-            push_all(&mut bytes, &ballot_bytes(*ballot));
-            push_all(&mut bytes, &slot_bytes(*slot));
-            push_all(&mut bytes, &command_bytes(command));
+            bytes.push(4);
+            push_all(bytes, &ballot_bytes(*ballot));
+            push_all(bytes, &slot_bytes(*slot));
+            bytes.push(commands.len() as u8);
+            push_commands(bytes, commands.as_slice());
         }
     }
-    bytes
 }
 
-/// A record, and the shut gate behind it.
-pub fn record_bytes(addition: &Record) -> ArrayVec<u8, MOST_RECORD>
-    ensures text { result.items ≡ record_text addition.now ++ 0 ∷ [] }
-    ensures sure { IsStorable addition.now → IsRecord addition.now }
+/// Puts a record, and the shut gate behind it, into an empty list.
+pub fn put_record(bytes: &mut ArrayVec<u8, MOST_RECORD>, addition: &Record<'_>)
+    requires storable { IsStorable addition.now }
+    requires empty { bytes.old.items ≡ [] }
+    ensures text { bytes.new.items ≡ record_text addition.now ++ 0 ∷ [] }
+    ensures sure { IsRecord addition.now }
 {
-    let payload = payload_bytes(addition);
-    let mut bytes = ArrayVec::new();
-    bytes.push((payload.len() / 256) as u8);
-    bytes.push((payload.len() % 256) as u8);
-    push_all(&mut bytes, &payload);
+    let length = payload_len(addition);
+    bytes.push((length / 256) as u8);
+    bytes.push((length % 256) as u8);
+    push_payload(bytes, addition);
     bytes.push(0);
-    bytes
 }
 
-/// The record of a payload; `None` where it is none.
-pub fn read_payload(bytes: &[u8]) -> Option<Record>
+/// The record of a payload; `None` where it is none. A run's commands stand in the room.
+pub fn read_payload<'a>(bytes: &[u8], room: &'a mut CommandList) -> Option<Record<'a>>
     ensures found { IfSome result (λ r. IsRecord r × (bytes.now ≡ payload r)) }
     ensures range { IfSome result (λ r. IsRecord r) }
     ensures only { (r : Record) → IsRecord r → bytes.now ≡ payload r → result ≡ Some r }
@@ -60,16 +108,18 @@ pub fn read_payload(bytes: &[u8]) -> Option<Record>
     match bytes {
         [1, rest @ ..] => read_promise(rest),
         [2, rest @ ..] => read_vote(rest),
+        [3] => Some(Record::Opened),
+        [4, rest @ ..] => read_run(rest, room),
         _ => None,
     }
 }
 
 /// The promise whose ballot is all of the bytes.
-fn read_promise(bytes: &[u8]) -> Option<Record>
+fn read_promise<'a>(bytes: &[u8]) -> Option<Record<'a>>
     ensures found { IfSome result (λ r. IsRecord r × (1 ∷ bytes.now ≡ payload r)) }
     ensures only { (r : Record) → IsRecord r → 1 ∷ bytes.now ≡ payload r → result ≡ Some r }
 {
-    let (ballot, rest) = read_ballot(bytes)?;
+    let (ballot, rest) = read_ballot(Version::New, bytes)?;
     if rest.is_empty() {
         Some(Record::Promised(ballot))
     } else {
@@ -77,21 +127,47 @@ fn read_promise(bytes: &[u8]) -> Option<Record>
     }
 }
 
-/// The accept whose ballot, slot and command are all of the bytes.
-fn read_vote(bytes: &[u8]) -> Option<Record>
+/// The accept of version 1 whose ballot, slot and command are all of the bytes.
+fn read_vote<'a>(bytes: &[u8]) -> Option<Record<'a>>
     ensures found { IfSome result (λ r. IsRecord r × (2 ∷ bytes.now ≡ payload r)) }
     ensures only { (r : Record) → IsRecord r → 2 ∷ bytes.now ≡ payload r → result ≡ Some r }
 {
-    let (ballot, rest) = read_ballot(bytes)?;
+    let (ballot, rest) = read_ballot(Version::New, bytes)?;
     let (slot, rest) = read_slot(rest)?;
     let Some((command, rest)) = read_command(rest) else {
         return None;
     };
     if rest.is_empty() {
-        Some(Record::Voted {
+        Some(Record::VotedOne {
             ballot,
             slot,
             command,
+        })
+    } else {
+        None
+    }
+}
+
+/// The accept of a run whose ballot, slot, count and commands are all of the bytes.
+fn read_run<'a>(bytes: &[u8], room: &'a mut CommandList) -> Option<Record<'a>>
+    ensures found { IfSome result (λ r. IsRecord r × (4 ∷ bytes.now ≡ payload r)) }
+    ensures only { (r : Record) → IsRecord r → 4 ∷ bytes.now ≡ payload r → result ≡ Some r }
+{
+    let (ballot, rest) = read_ballot(Version::New, bytes)?;
+    let (slot, rest) = read_slot(rest)?;
+    let [count, rest @ ..] = rest else {
+        return None;
+    };
+    let count = *count as usize;
+    if count == 0 || count > WINDOW || slot as usize + count > SLOTS as usize {
+        return None;
+    }
+    let rest = read_commands(rest, count, room)?;
+    if rest.is_empty() {
+        Some(Record::Voted {
+            ballot,
+            slot,
+            commands: Commands::new(room.as_slice()),
         })
     } else {
         None

@@ -12,7 +12,7 @@ invariant-records g l = record {
   few : l.filled ≤ 4096;
   within : l.start + l.filled ≤ l.len;
   window : IsTrue g.D.Disk.is_honest → take l.filled l.window ≡ take l.filled (drop l.start (g.D.Disk.seen l.initial.disk));
-  so_far : IsReadTo g.D.Disk.is_honest (g.D.Disk.seen l.initial.disk) 8 l.at l.held;
+  so_far : IsReadTo g.D.Disk.is_honest (g.D.Disk.seen l.initial.disk) l.fn.first 8 l.at l.stage l.held;
   reads : OnlyReads g.D.Disk l.initial.disk l.disk;
 }
 

@@ -1,41 +1,53 @@
-use Rattle.std.proofs.Common.{inl, inr, List, ℕ, false, subst, refl}
+use Rattle.std.proofs.Common.{sym, subst}
+use Rattle.std.specs.Prelude.{Result, IfOk, IfErr}
 use Rattle.promise_store.specs.declared.store.Store.{Store}
-use Rattle.protocol_model.specs.Stores as model
-use Rattle.promise_store.specs.Journals.{header, IsJournal}
-use Rattle.promise_store.specs.Holding.{holding, store_of, StandsFor}
-use Rattle.promise_store.specs.Keeping.{Keeps}
-use Rattle.promise_store.proofs.Opening.{no_refusal}
+use Rattle.promise_store.specs.declared.stage.Stage.{Stage}
+use Rattle.promise_store.specs.declared.stage.Stage.TheVariants.{New}
+use Rattle.promise_store.specs.declared.fault.StoreFault.{StoreFault}
+use Rattle.promise_store.specs.Journals.{header}
+use Rattle.promise_store.specs.Settled.{OnlyReads, IsSettled}
+use Rattle.promise_store.specs.Keeping.{disk_of}
+use Rattle.promise_store.proofs.Reopening.{only_read, on_ok, on_err, keeps_either, opened_by, marked_journal}
 use Rattle.promise_store.proofs.store.Store.open.Goals as goal
+
+pub returns-in-Ok-clause-either : goal.returns-in-Ok-clause-either
+returns-in-Ok-clause-either g c old new honest left =
+    keeps_either g.D.Disk (header c.args.node c.args.nodes) c.in-Ok.stage c.args.disk c.in-Ok.store c.in-Ok.ensures.reads (λ o n h l. c.in-Ok.ensures.either o n h l) c.mark.result old new honest left
+    (λ held k. c.mark.ensures.keeps (header c.args.node c.args.nodes) held k)
+
+pub returns-in-Ok-clause-settles : goal.returns-in-Ok-clause-settles
+returns-in-Ok-clause-settles g c =
+    let head = header c.args.node c.args.nodes in
+    on_ok g.D.Disk head c.in-Ok.stage c.args.disk c.in-Ok.store c.in-Ok.ensures.reads (λ o n h l. c.in-Ok.ensures.either o n h l) c.mark.result
+    (λ held k. c.mark.ensures.leaves head held k) (λ held k. c.mark.ensures.during head held k) c.mark.ensures.begun c.mark.ensures.counts
+
+pub returns-in-Ok-clause-settles_err : goal.returns-in-Ok-clause-settles_err
+returns-in-Ok-clause-settles_err g c =
+    let head = header c.args.node c.args.nodes in
+    on_err g.D.Disk head c.in-Ok.stage c.args.disk c.in-Ok.store c.in-Ok.ensures.reads (λ o n h l. c.in-Ok.ensures.either o n h l) c.mark.result
+    (λ held k. c.mark.ensures.leaves_err head held k) (λ held k. c.mark.ensures.during_err head held k) c.mark.ensures.begun_err c.mark.ensures.counts_err
+
+pub returns-in-Err-clause-settles_err : goal.returns-in-Err-clause-settles_err
+returns-in-Err-clause-settles_err g c = only_read g.D.Disk (header c.args.node c.args.nodes) c.args.disk c.in-Err.failed.0 c.in-Err.ensures.reads_err
 
 pub returns-in-Ok-clause-opened : goal.returns-in-Ok-clause-opened
 returns-in-Ok-clause-opened g c =
-    let head = header c.args.node c.args.nodes in
-    let read = c.in-Ok.ensures.found in
-    record {
-      held = store_of (holding head read.records);
-      keeps = record { records = read.records; is_open = refl; settled = read.settled; is = refl; indexes = λ honest. read.indexes };
-      stands = λ honest. record { records = read.records; journal = subst (λ (l : List ℕ). IsJournal head l read.records) c.in-Ok.ensures.reads.seen (read.settled.journal honest); is = refl };
-    }
+    opened_by g.D.Disk (header c.args.node c.args.nodes) c.in-Ok.stage c.args.disk c.in-Ok.store c.in-Ok.ensures.reads (λ o n h l. c.in-Ok.ensures.either o n h l) c.mark.result c.in-Ok.ensures.opened
+    (λ held k. c.mark.ensures.keeps (header c.args.node c.args.nodes) held k)
 
-pub returns-in-Ok-clause-either : goal.returns-in-Ok-clause-either
-returns-in-Ok-clause-either g c old new honest leaves =
+pub returns-in-Ok-clause-marks : goal.returns-in-Ok-clause-marks
+returns-in-Ok-clause-marks g c honest first last records journal =
     let head = header c.args.node c.args.nodes in
-    let read = c.in-Ok.ensures.found in
-    let file = g.D.Disk.seen c.args.disk in
-    let held = store_of (holding head read.records) in
-    let stands : StandsFor head file held = record { records = read.records; journal = subst (λ (l : List ℕ). IsJournal head l read.records) c.in-Ok.ensures.reads.seen (read.settled.journal honest); is = refl } in
-    let store : Store g.row.D.Denot = record { disk = c.read_journal.new.disk; gate = c.in-Ok.gate; closed = false; held = c.in-Ok.held } in
-    let keeps : Keeps g.D.Disk head held store = record { records = read.records; is_open = refl; settled = read.settled; is = refl; indexes = λ honest. read.indexes } in
-    elim (leaves file (g.met.D.Disk.seen_may_stay c.args.disk honest)) [
-      | inl was ↦ inl (subst (λ (s : model.Store). Keeps g.D.Disk head s store) (c.journals_have_one_reading.ensures.stores head file held old stands was) keeps)
-      | inr is ↦ inr (subst (λ (s : model.Store). Keeps g.D.Disk head s store) (c.journals_have_one_reading.ensures.stores head file held new stands is) keeps)
-    ]
+    let read = c.in-Ok.ensures.read honest first last records journal in
+    marked_journal g.D.Disk first c.in-Ok.stage last head records c.mark.result honest read.0
+    (c.mark.ensures.marks first head records (subst (λ (s : Stage). IsSettled g.D.Disk first s head records c.in-Ok.store.gate c.in-Ok.store.disk) (sym read.0) read.1))
 
-pub returns-in-Err-clause-sound : goal.returns-in-Err-clause-sound
-returns-in-Err-clause-sound g c old new honest leaves =
-    let head = header c.args.node c.args.nodes in
-    let file = g.D.Disk.seen c.args.disk in
-    elim (leaves file (g.met.D.Disk.seen_may_stay c.args.disk honest)) [
-      | inl was ↦ no_refusal head file old c.in-Err.fault was (c.in-Err.ensures.refused honest)
-      | inr is ↦ no_refusal head file new c.in-Err.fault is (c.in-Err.ensures.refused honest)
-    ]
+pub returns-in-Ok-clause-quiet : goal.returns-in-Ok-clause-quiet
+returns-in-Ok-clause-quiet g c honest first records journal =
+    let same = c.mark.ensures.quiet (c.in-Ok.ensures.read honest first New records journal).0 in
+    subst (λ (r : Result (Store g.row.D.Denot) (g.row.D.Denot × StoreFault)). IfOk r (λ store. OnlyReads g.D.Disk c.args.disk (disk_of store))) (sym same) c.in-Ok.ensures.reads
+
+pub returns-in-Ok-clause-quiet_err : goal.returns-in-Ok-clause-quiet_err
+returns-in-Ok-clause-quiet_err g c honest first records journal =
+    let same = c.mark.ensures.quiet (c.in-Ok.ensures.read honest first New records journal).0 in
+    subst (λ (r : Result (Store g.row.D.Denot) (g.row.D.Denot × StoreFault)). IfErr r (λ x. OnlyReads g.D.Disk c.args.disk x.0)) (sym same) tt

@@ -1,5 +1,6 @@
-use Rattle.std.proofs.Common.{rules}
+use Rattle.std.proofs.Common.{refl, rules}
+use Rattle.promise_store.specs.declared.stage.Stage.TheVariants.{New}
 use Rattle.promise_store.proofs.store.Store.promise.Goals as goal
 
 pub returns-clause-appended : goal.returns-clause-appended
-returns-clause-appended g c = search rules
+returns-clause-appended g c = c.append.ensures.appended New New refl

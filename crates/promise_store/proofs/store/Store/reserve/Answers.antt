@@ -6,6 +6,7 @@ returns-clause-same g c = record {
   disk = refl;
   closed = refl;
   keeps = λ head held keeps. record {
+    first = keeps.first;
     records = keeps.records;
     is_open = keeps.is_open;
     settled = keeps.settled;
