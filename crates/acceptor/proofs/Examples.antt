@@ -1,5 +1,5 @@
 -- Answers of an acceptor, worked out.
-use Rattle.std.proofs.Common.{◌≡◌, ℕ, ◌==◌, if◌then◌else◌, true, false, inl, inr, [], ◌∷◌, Option, Some, None, Ok, Err, refl, arith}
+use Rattle.std.proofs.Common.{◌≡◌, ℕ, ◌==◌, if◌then◌else◌, true, false, inl, inr, [], ◌∷◌, ◌++◌, List, length, length-append, ap, Option, Some, None, Ok, Err, refl, arith}
 use Rattle.betting.specs.declared.action.Action.TheVariants.{Fold, Call}
 use Rattle.paxos_wire.specs.declared.ballot.Ballot.{Ballot}
 use Rattle.paxos_wire.specs.declared.entry.Entry.{Entry}
@@ -8,15 +8,20 @@ use Rattle.slot_log.specs.declared.command.Command.TheVariants.{Act}
 use Rattle.protocol_model.specs.Messages.{Vote}
 use Rattle.protocol_model.specs.Stores.{Store, voted}
 use Rattle.promise_store.specs.declared.disk.Disk.{Ghosts}
+use Rattle.promise_store.specs.declared.records.Record.{Record}
+use Rattle.promise_store.specs.declared.stage.Stage.TheVariants.{New}
+use Rattle.promise_store.specs.Journals.{IsJournalOf}
+use Rattle.promise_store.proofs.Journals.{one_journal}
 use Rattle.promise_store.specs.declared.store.Store.{Store as StoreOn}
 use Rattle.promise_store.specs.declared.fault.StoreFault.TheVariants.{Closed}
 use Rattle.promise_store.specs.Keeping.{is_closed}
 use Rattle.acceptor.specs.declared.answers.PrepareAnswer.{PrepareAnswer}
 use Rattle.acceptor.specs.declared.answers.PrepareAnswer.TheVariants.{Promise, Refuse as RefusePrepare}
 use Rattle.acceptor.specs.declared.answers.AcceptAnswer.TheVariants.{Accepted, Refuse as RefuseAccept}
+use Rattle.acceptor.specs.declared.answers.RunAnswer.TheVariants.{Accepted as AcceptedRun, Refuse as RefuseRun}
 use Rattle.protocol_model.specs.Votes.{told_from, told_by}
-use Rattle.acceptor.specs.Answers.{answer_to_prepare, refusal_of_prepare, prepared, AnswersPrepare, answer_to_accept, refusal_of_accept, accepted, AnswersAccept}
-use Rattle.acceptor.specs.Taken.{NeedsStore}
+use Rattle.acceptor.specs.Answers.{answer_to_prepare, refusal_of_prepare, prepared, AnswersPrepare, answer_to_accept, refusal_of_accept, accepted, AnswersAccept, commands_told, answer_to_run, accepted_run}
+use Rattle.acceptor.specs.Taken.{NeedsStore, AppendsOne}
 
 abbrev ballot : ℕ → ℕ → Ballot
 ballot round node = record { round = round; node = node }
@@ -136,3 +141,57 @@ refused_below = refl
 
 pub refused_stores_nothing : accepted (ballot 3 0) 11 fold store ≡ store
 refused_stores_nothing = refl
+
+-- ---- runs, at a store that promised (2, 0) and accepted calls in it at slots 4 and 5
+
+abbrev in_part : Store
+in_part = record {
+  promise = ballot 2 0;
+  votes = λ slot. if slot == 4 then Some (vote (ballot 2 0) call) else if slot == 5 then Some (vote (ballot 2 0) call) else None;
+}
+
+-- where the first slot has a vote of the ballot, those that stand there are told, up to the first slot without one, and nothing is stored
+pub stored_are_told : answer_to_run (ballot 2 0) 4 (fold ∷ fold ∷ fold ∷ []) in_part ≡ AcceptedRun (ballot 2 0) 4 (call ∷ call ∷ [])
+stored_are_told = refl
+
+pub nothing_more_is_stored : (accepted_run (ballot 2 0) 4 (fold ∷ fold ∷ fold ∷ []) in_part).votes 6 ≡ None
+nothing_more_is_stored = refl
+
+-- where it has none, the beginning is stored up to the first slot that has one, and told
+pub beginning_is_told : answer_to_run (ballot 2 0) 2 (fold ∷ fold ∷ fold ∷ fold ∷ []) in_part ≡ AcceptedRun (ballot 2 0) 2 (fold ∷ fold ∷ [])
+beginning_is_told = refl
+
+pub beginning_is_stored : (accepted_run (ballot 2 0) 2 (fold ∷ fold ∷ fold ∷ fold ∷ []) in_part).votes 3 ≡ Some (vote (ballot 2 0) fold)
+beginning_is_stored = refl
+
+pub votes_there_stay : (accepted_run (ballot 2 0) 2 (fold ∷ fold ∷ fold ∷ fold ∷ []) in_part).votes 4 ≡ Some (vote (ballot 2 0) call)
+votes_there_stay = refl
+
+pub whole_run-none : answer_to_run (ballot 2 0) 2 (fold ∷ fold ∷ fold ∷ fold ∷ []) in_part ≡ AcceptedRun (ballot 2 0) 2 (fold ∷ fold ∷ fold ∷ fold ∷ []) → ⊥
+whole_run-none e = absurd (cc)
+
+-- in a greater ballot all of it is stored
+pub greater_run : answer_to_run (ballot 3 1) 4 (fold ∷ fold ∷ []) in_part ≡ AcceptedRun (ballot 3 1) 4 (fold ∷ fold ∷ [])
+greater_run = refl
+
+pub lower_run : answer_to_run (ballot 1 1) 4 (fold ∷ fold ∷ []) in_part ≡ RefuseRun (ballot 1 1) 4 (ballot 2 0)
+lower_run = refl
+
+pub two_commands : commands_told in_part 4 2 ≡ call ∷ call ∷ []
+unfolding commands_told
+two_commands = refl
+
+-- ---- one record more in the journal of a disk
+
+-- two records more aren't one, and none more isn't
+pub two_appended : {D : Type 0} (g : Ghosts D) (head : List ℕ) (records : List Record) (one two : Record) (before after : D) (answer : PrepareAnswer) → IsJournalOf New New head (g.seen after) (records ++ one ∷ two ∷ [])
+    → AppendsOne g New head records before after (Ok answer) → ⊥
+two_appended g head records one two before after answer journal appends =
+    let same = one_journal head (g.seen after) (records ++ one ∷ two ∷ []) (records ++ appends.addition ∷ []) (New, New, journal) (New, New, appends.journal) in
+    omega (arith, ap length same, length-append records (one ∷ two ∷ []), length-append records (appends.addition ∷ []))
+
+pub none_appended : {D : Type 0} (g : Ghosts D) (head : List ℕ) (records : List Record) (before after : D) (answer : PrepareAnswer) → IsJournalOf New New head (g.seen after) records
+    → AppendsOne g New head records before after (Ok answer) → ⊥
+none_appended g head records before after answer journal appends =
+    let same = one_journal head (g.seen after) records (records ++ appends.addition ∷ []) (New, New, journal) (New, New, appends.journal) in
+    omega (arith, ap length same, length-append records (appends.addition ∷ []))

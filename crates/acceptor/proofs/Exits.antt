@@ -1,5 +1,5 @@
 -- How a call of an acceptor ends, by the calls of its store that it makes.
-use Rattle.std.proofs.Common.{ℕ, ◌≡◌, ◌≤◌, ◌⊎◌, inl, inr, true, List, Result, Ok, Err, refl, sym, ◌∙◌, ap, subst, arith, IsTrue}
+use Rattle.std.proofs.Common.{ℕ, ◌≡◌, ◌≤◌, ◌⊎◌, inl, inr, true, List, [], ◌∷◌, ◌++◌, Result, Ok, Err, refl, sym, ◌∙◌, ap, subst, arith, IsTrue}
 use Rattle.protocol_model.specs.Stores as model
 use Rattle.promise_store.specs.declared.disk.Disk.{Ghosts}
 use Rattle.promise_store.specs.declared.records.Record.{Record}
@@ -8,11 +8,14 @@ use Rattle.promise_store.specs.declared.fault.StoreFault.{StoreFault}
 use Rattle.promise_store.specs.declared.fault.StoreFault.TheVariants.{Disk, Closed, OutOfMemory}
 use Rattle.promise_store.specs.Disks.{Rose}
 use Rattle.promise_store.specs.Holding.{stored, StandsFor}
-use Rattle.promise_store.specs.Settled.{OnlyReads}
+use Rattle.promise_store.specs.declared.stage.Stage.{Stage}
+use Rattle.promise_store.specs.declared.stage.Stage.TheVariants.{New}
+use Rattle.promise_store.specs.Journals.{IsJournalOf}
+use Rattle.promise_store.specs.Settled.{OnlyReads, LeavesRecordsDuring}
 use Rattle.promise_store.specs.Keeping.{disk_of, is_closed, Keeps, Leaves, LeavesDuring}
 use Rattle.promise_store.specs.Appended.{IsAsBefore, Appended}
 use Rattle.promise_store.proofs.Storing.{reads_on}
-use Rattle.acceptor.specs.Taken.{Taken, Read}
+use Rattle.acceptor.specs.Taken.{Taken, Read, AppendsOne}
 
 rose_from : (a b c : ℕ) → a ≤ b → Rose b c → Rose a c
 rose_from a b c h r = let x = r in omega arith
@@ -31,7 +34,7 @@ module _ {D : Type 0} (g : Ghosts D) where
 
   -- ---- reading on
 
-  reads_nothing : (a : D) → OnlyReads g a a
+  pub reads_nothing : (a : D) → OnlyReads g a a
   reads_nothing a = record { seen = refl; begun = refl; images = λ image left. left; during = λ t image left. inl left; counts = omega arith }
 
   -- what the store's index shows
@@ -101,6 +104,7 @@ module _ {D : Type 0} (g : Ghosts D) where
       | inr old ↦ inr (the_one head held (next held) image (left head held before keeps image old))
     ];
     leaves = λ head held keeps honest image now. the_one head held (next held) image (left head held before keeps image (h.reads.images image now));
+    writes = λ head held keeps honest first records is. inl h.reads;
     failed = λ e. absurd (cc);
     unchanged = λ e. absurd (cc);
     only = λ head held keeps honest. tt;
@@ -118,6 +122,7 @@ module _ {D : Type 0} (g : Ghosts D) where
       | inr old ↦ inr (the_one head held (next held) image (left head held before keeps image old))
     ];
     leaves = λ head held keeps honest image now. the_one head held (next held) image (left head held before keeps image (h.reads.images image now));
+    writes = λ head held keeps honest first records is. inl h.reads;
     failed = λ e. h.failed (fault_is fault Disk e);
     unchanged = λ e. absurd (h.memory (fault_is fault OutOfMemory e));
     only = λ head held keeps honest. inl (h.only head held keeps honest);
@@ -142,6 +147,21 @@ module _ {D : Type 0} (g : Ghosts D) where
     leaving result a head held keeps honest image now =
         subst (λ (x : model.Store). Both head held x image) (sym (is head held keeps honest)) (a.leaves head held (h.ok head held keeps honest).1 image now)
 
+    -- what was read before the append left each image as it was
+    stepping : (result : Result (Unit {0}) StoreFault) → Appended g r between after result
+        → (head : List ℕ) (held : model.Store) → Keeps g head held before → IsTrue g.is_honest
+        → (first : Stage) (records : List Record) → IsJournalOf first New head (g.seen (disk_of before)) records
+        → LeavesRecordsDuring g head records (records ++ r ∷ []) (disk_of before) (disk_of after)
+    stepping result a head held keeps honest first records is t image now =
+        let was_there : IsJournalOf first New head (g.seen (disk_of between)) records = subst (λ (l : List ℕ). IsJournalOf first New head l records) (sym h.reads.seen) is in
+        elim (a.steps head held (h.ok head held keeps honest).1 honest first records was_there t image now) [
+          | inl was ↦ elim (h.reads.during t image was) [
+            | inl past ↦ inl past
+            | inr old ↦ inr (inl (first, New, subst (λ (l : List ℕ). IsJournalOf first New head l records) (sym (keeps.settled.durable image old)) is))
+          ]
+          | inr either ↦ inr either
+        ]
+
     counting : (result : Result (Unit {0}) StoreFault) → Appended g r between after result → g.count (disk_of before) ≤ g.count (disk_of after)
     counting result a = let x = h.reads.counts in let y = a.counts in omega arith
 
@@ -157,6 +177,11 @@ module _ {D : Type 0} (g : Ghosts D) where
           );
       any_moment = moments (Ok done) a;
       leaves = leaving (Ok done) a;
+      writes = λ head held keeps honest first records is. inr (record {
+        addition = r;
+        steps = stepping (Ok done) a head held keeps honest first records is;
+        journal = a.journal head held (h.ok head held keeps honest).1 honest first records (subst (λ (l : List ℕ). IsJournalOf first New head l records) (sym h.reads.seen) is);
+      });
       failed = λ e. absurd (cc);
       unchanged = λ e. absurd (cc);
       only = λ head held keeps honest. tt;
@@ -178,6 +203,7 @@ module _ {D : Type 0} (g : Ghosts D) where
       ok = λ head held keeps honest. tt;
       any_moment = moments (Err fault) a;
       leaves = leaving (Err fault) a;
+      writes = λ head held keeps honest first records is. inr (record { addition = r; steps = stepping (Err fault) a head held keeps honest first records is; journal = tt });
       failed = λ e. let f = a.failed (fault_is fault Disk e) in (rose_from _ _ _ h.reads.counts f.0, f.1);
       unchanged = λ e. absurd (no_memory (let same : fault ≡ OutOfMemory = cc in same));
       only = λ head held keeps honest. only_so fault no_memory (λ closed. open_is head held between (h.ok head held keeps honest).1 (a.closed.0 (ap Err closed))) a.only;
@@ -187,6 +213,9 @@ module _ {D : Type 0} (g : Ghosts D) where
 
   -- ---- the same store, with more room
 
+  pub reads_behind : (before between after : Store D) → IsAsBefore g before between → OnlyReads g (disk_of between) (disk_of after) → OnlyReads g (disk_of before) (disk_of after)
+  reads_behind before between after same reads = subst (λ (d : D). OnlyReads g d (disk_of after)) same.disk reads
+
   pub after_room : {T : Type 0} (answer : model.Store → T) (next : model.Store → model.Store) (before between after : Store D) (result : Result T StoreFault)
       → IsAsBefore g before between → Taken g answer next between after result → Taken g answer next before after result
   after_room answer next before between after result same t = record {
@@ -194,6 +223,9 @@ module _ {D : Type 0} (g : Ghosts D) where
     any_moment = λ head held keeps honest.
         subst (λ (d : D). LeavesDuring g head held (next held) d (disk_of after)) same.disk (t.any_moment head held (same.keeps head held keeps) honest);
     leaves = λ head held keeps honest. t.leaves head held (same.keeps head held keeps) honest;
+    writes = λ head held keeps honest first records is.
+        subst (λ (d : D). OnlyReads g d (disk_of after) ⊎ AppendsOne g first head records d (disk_of after) result) same.disk
+        (t.writes head held (same.keeps head held keeps) honest first records (subst (λ (d : D). IsJournalOf first New head (g.seen d) records) (sym same.disk) is));
     failed = λ e. subst (λ (d : D). Rose (g.count d) (g.count (disk_of after)) × (is_closed after ≡ true)) same.disk (t.failed e);
     unchanged = λ e.
         let u = t.unchanged e in record {

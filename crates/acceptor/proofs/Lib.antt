@@ -4,3 +4,5 @@ pub mod Votes
 pub mod Exits
 pub mod Stored
 pub mod Examples
+pub mod RunAnswers
+pub mod RunLaws

@@ -1,5 +1,5 @@
 -- What is read and stored, in the words of the model's stores.
-use Rattle.std.proofs.Common.{ℕ, suc, ◌≡◌, ◌+◌, ◌⊎◌, inl, inr, Bool, true, false, Option, Some, None, List, ◌++◌, Result, Ok, Err, refl, sym, ◌∙◌, ap, arith, if◌then◌else◌}
+use Rattle.std.proofs.Common.{ℕ, suc, ◌≡◌, ◌+◌, ◌<◌, ◌≤◌, [], ◌∷◌, length, ◌⊎◌, inl, inr, Bool, true, false, Option, Some, None, List, ◌++◌, Result, Ok, Err, refl, sym, ◌∙◌, ap, arith, if◌then◌else◌}
 use Rattle.std.specs.Prelude.{IfOk, OnOk, IfErr, IsErrOf}
 use Rattle.paxos_wire.specs.declared.ballot.Ballot.{Ballot}
 use Rattle.paxos_wire.specs.declared.entry.Entry.{Entry}
@@ -16,7 +16,7 @@ use Rattle.promise_store.specs.Holding.{stored}
 use Rattle.promise_store.specs.Shown.{vote_pair, vote_ballot, placed_ballot}
 use Rattle.acceptor.specs.declared.answers.PrepareAnswer.TheVariants.{Promise}
 use Rattle.acceptor.specs.declared.answers.AcceptAnswer.TheVariants.{Accepted}
-use Rattle.protocol_model.specs.Votes.{told_at, told_from, told_by, is_of_ballot, stored_in}
+use Rattle.protocol_model.specs.Votes.{told_at, told_from, told_by, is_of_ballot, stored_in, is_voted, storing_command_run}
 use Rattle.acceptor.specs.Answers.{told_pair, command_found, stored_command, answer_to_prepare, prepared, answer_to_accept, accepted}
 use Rattle.paxos_wire.specs.Order.{is_below, is_same_ballot}
 use Rattle.protocol_model.proofs.Ballots.{below_if, at_most_if_not}
@@ -64,6 +64,15 @@ other_by : (b : Ballot) (v : Vote) (x : Bool) → is_same_ballot v.ballot b ≡ 
 other_by b v true e h = absurd (cc)
 other_by b v false e h = refl
 
+-- where no command of the ballot is stored there is no vote of it
+vote_by : (b : Ballot) (v : Vote) (x : Bool) → is_same_ballot v.ballot b ≡ x → ◌≡◌ {A = Option Command} None (if x then Some v.command else None) → x ≡ true → ⊥
+vote_by b v true e none h = absurd (cc)
+vote_by b v false e none h = absurd (cc)
+
+pub vote_in : (b : Ballot) (o : Option Vote) → None ≡ stored_command b o → is_of_ballot o b ≡ true → ⊥
+vote_in b None e h = absurd (cc)
+vote_in b (Some v) e h = vote_by b v (is_same_ballot v.ballot b) refl e h
+
 pub other_stored : (b : Ballot) (p : Placed) (o : Option Vote) → Some p.ballot ≡ vote_ballot o → is_same_ballot p.ballot b ≡ false → None ≡ stored_command b o
 other_stored b p None e h = refl
 other_stored b p (Some v) e h = let one : p.ballot ≡ v.ballot = cc in other_by b v (is_same_ballot v.ballot b) refl (sym (ap (λ (x : Ballot). is_same_ballot x b) one) ∙ h)
@@ -97,8 +106,9 @@ promise_is held b p slot told same below is =
 -- ---- a proposal
 
 abbrev pub VotesMove : Type 0
-VotesMove = (store : Store) (ballot : Ballot) (slot : ℕ) (command : Command) → IsWithinPromise store → AtMost store.promise ballot
-    → stored store (Voted ballot slot command) ≡ voted store slot (record { ballot = ballot; command = command })
+VotesMove = (store : Store) (ballot : Ballot) (slot : ℕ) (commands : List Command) → 1 ≤ length commands → IsWithinPromise store → AtMost store.promise ballot
+    → ((k : ℕ) → slot ≤ k → k < slot + length commands → is_voted store ballot k ≡ false)
+    → stored store (Voted ballot slot commands) ≡ storing_command_run store ballot slot commands
 
 module _ (b : Ballot) (slot : ℕ) (c : Command) (held : Store) where
   was_by : (v : Vote) (s : Command) (x : Bool) → Some s ≡ (if x then Some v.command else None)
@@ -130,12 +140,22 @@ module _ (b : Ballot) (slot : ℕ) (c : Command) (held : Store) where
   new_in None e = (refl, refl)
   new_in (Some v) e = new_by v (is_same_ballot v.ballot b) e
 
+  not_by : (v : Vote) (x : Bool) → ◌≡◌ {A = Option Command} None (if x then Some v.command else None) → x ≡ false
+  not_by v true e = absurd (cc)
+  not_by v false e = refl
+
+  not_voted : (o : Option Vote) → None ≡ stored_command b o → is_of_ballot o b ≡ false
+  not_voted None e = refl
+  not_voted (Some v) e = not_by v (is_same_ballot v.ballot b) e
+
   -- none is
   pub is_stored : VotesMove → (p : Ballot) → p ≡ held.promise → is_below b p ≡ false → None ≡ stored_command b (held.votes slot) → IsWithinPromise held
-      → accepted b slot c held ≡ stored held (Voted b slot c)
+      → accepted b slot c held ≡ stored held (Voted b slot (c ∷ []))
   is_stored moves p same high e within =
       let low : is_below b held.promise ≡ false = ap (is_below b) (sym same) ∙ high in
-      rw low ((new_in (held.votes slot) e).1 ∙ sym (moves held b slot c within (at_most_if_not b held.promise low)))
+      let one = moves held b slot (c ∷ []) (omega arith) within (at_most_if_not b held.promise low)
+      (λ k first last. let here : k ≡ slot = omega (arith, first, last) in ap (is_voted held b) here ∙ not_voted (held.votes slot) e) in
+      rw low (sym one)
 
   pub is_told : (p : Ballot) → p ≡ held.promise → is_below b p ≡ false → None ≡ stored_command b (held.votes slot) → Accepted b slot c ≡ answer_to_accept b slot c held
   is_told p same high e = let low : is_below b held.promise ≡ false = ap (is_below b) (sym same) ∙ high in rw low (new_in (held.votes slot) e).0

@@ -1,16 +1,19 @@
 -- What an acceptor answers, and what it keeps then, by what it kept.
-use Rattle.std.specs.Prelude.{◌≡◌, ℕ, if◌then◌else◌, List, [], ◌∷◌, Option, Some, None}
-use Rattle.paxos_wire.specs.Fits.{IsBallot, IsInRange, AreEntries}
+use Rattle.std.specs.Prelude.{◌≡◌, ℕ, zero, suc, ◌+◌, Bool, false, if◌then◌else◌, List, [], ◌∷◌, ◌++◌, Option, Some, None}
+use Rattle.paxos_wire.specs.Fits.{IsBallot, IsInRange, IsCommandRun, AreEntries}
 use Rattle.paxos_wire.specs.declared.ballot.Ballot.{Ballot}
 use Rattle.paxos_wire.specs.declared.entry.Entry.{Entry}
 use Rattle.slot_log.specs.declared.command.Command.{Command}
 use Rattle.protocol_model.specs.Messages.{Vote}
 use Rattle.protocol_model.specs.Stores.{Store, promised}
-use Rattle.protocol_model.specs.Votes.{told_by, stored_in, storing}
+use Rattle.protocol_model.specs.Votes.{told_by, stored_in, storing, command_run_at, taking_command_run}
 use Rattle.acceptor.specs.declared.answers.PrepareAnswer.{PrepareAnswer}
 use Rattle.acceptor.specs.declared.answers.PrepareAnswer.TheVariants.{Promise, Refuse as RefusePrepare}
 use Rattle.acceptor.specs.declared.answers.AcceptAnswer.{AcceptAnswer}
 use Rattle.acceptor.specs.declared.answers.AcceptAnswer.TheVariants.{Accepted, Refuse as RefuseAccept}
+use Rattle.acceptor.specs.declared.answers.RunAnswer.{RunAnswer}
+use Rattle.acceptor.specs.declared.answers.RunAnswer.TheVariants.{Accepted as AcceptedRun, Refuse as RefuseRun}
+use Rattle.promise_store.specs.declared.placed.Placed.{Placed}
 use Rattle.paxos_wire.specs.Order.{is_below, is_same_ballot}
 
 -- ---- what is read of a store
@@ -28,6 +31,26 @@ command_found (Some found) = Some found.1
 abbrev pub stored_command : Ballot → Option Vote → Option Command
 stored_command ballot None = None
 stored_command ballot (Some vote) = if is_same_ballot vote.ballot ballot then Some vote.command else None
+
+-- the command of a vote
+abbrev pub command_at : Option Vote → List Command
+command_at None = []
+command_at (Some vote) = vote.command ∷ []
+
+-- and of what was found at a slot
+abbrev pub command_in : Option (Ballot × Command) → List Command
+command_in None = []
+command_in (Some found) = found.1 ∷ []
+
+-- the commands accepted at so many slots from the first on, by rising slots
+unfoldable pub commands_told : Store → ℕ → ℕ → List Command
+commands_told store first zero = []
+commands_told store first (suc places) = commands_told store first places ++ command_at (store.votes (first + places))
+
+-- what an index shows at a slot is of this very ballot
+abbrev pub is_placed_in : Ballot → Option Placed → Bool
+is_placed_in ballot None = false
+is_placed_in ballot (Some placed) = is_same_ballot placed.ballot ballot
 
 -- ---- a Prepare
 
@@ -69,3 +92,24 @@ accepted ballot slot command store =
 abbrev pub AnswersAccept : Ballot → ℕ → AcceptAnswer → Type 0
 AnswersAccept ballot slot (Accepted b s command) = (b ≡ ballot) × (s ≡ slot) × IsInRange command
 AnswersAccept ballot slot (RefuseAccept b s promise) = (b ≡ ballot) × (s ≡ slot) × IsBallot promise
+
+-- ---- a run of proposals
+
+-- of a ballot that isn't below what it promised the beginning is accepted up to the first slot that differs from the first one in whether a vote of the ballot is there; told is what the ballot then has there
+abbrev pub answer_to_run : Ballot → ℕ → List Command → Store → RunAnswer
+answer_to_run ballot slot commands store =
+    if is_below ballot store.promise then RefuseRun ballot slot store.promise
+    else AcceptedRun ballot slot (command_run_at store ballot slot commands)
+
+-- any other is refused by the promise alone, which is told
+abbrev pub refusal_of_run : Ballot → ℕ → Ballot → Option RunAnswer
+refusal_of_run ballot slot promise = if is_below ballot promise then Some (RefuseRun ballot slot promise) else None
+
+abbrev pub accepted_run : Ballot → ℕ → List Command → Store → Store
+accepted_run ballot slot commands store =
+    if is_below ballot store.promise then store else taking_command_run store ballot slot commands
+
+-- an answer that a frame carries
+abbrev pub AnswersRun : Ballot → ℕ → RunAnswer → Type 0
+AnswersRun ballot slot (AcceptedRun b s commands) = (b ≡ ballot) × (s ≡ slot) × IsCommandRun slot commands
+AnswersRun ballot slot (RefuseRun b s promise) = (b ≡ ballot) × (s ≡ slot) × IsBallot promise

@@ -1,17 +1,20 @@
 -- What holds of what an acceptor answers and keeps, in the words of the model of nodes.
-use Rattle.std.specs.Prelude.{◌≡◌, ℕ, ◌⊎◌, ◌↔◌, true, List, Some}
+use Rattle.std.specs.Prelude.{◌≡◌, ℕ, ◌+◌, ◌⊎◌, ◌↔◌, true, List, Some}
+use Rattle.std.specs.List.{slice_get}
 use Rattle.paxos_wire.specs.Fits.{IsEntry, AreEntries}
 use Rattle.paxos_wire.specs.declared.ballot.Ballot.{Ballot}
 use Rattle.slot_log.specs.declared.command.Command.{Command}
 use Rattle.protocol_model.specs.Sets.{In}
 use Rattle.protocol_model.specs.Ballots.{Below, AtMost}
 use Rattle.protocol_model.specs.Messages.{Vote, entry_of, Message, Prepare, Accept}
-use Rattle.protocol_model.specs.Stores.{Store, promised, voted, Tells, StoreMove}
-use Rattle.protocol_model.specs.Backing.{IsWithinPromise}
+use Rattle.protocol_model.specs.Stores.{Store, promised, voted, Tells, StoreMove, Append}
+use Rattle.protocol_model.specs.Frames.{proposals}
+use Rattle.protocol_model.specs.Backing.{HasVote, IsWithinPromise}
 use Rattle.acceptor.specs.declared.answers.PrepareAnswer.TheVariants.{Promise, Refuse as RefusePrepare}
 use Rattle.acceptor.specs.declared.answers.AcceptAnswer.TheVariants.{Accepted, Refuse as RefuseAccept}
+use Rattle.acceptor.specs.declared.answers.RunAnswer.TheVariants.{Accepted as AcceptedRun}
 use Rattle.protocol_model.specs.Votes.{told_by, stored_in}
-use Rattle.acceptor.specs.Answers.{answer_to_prepare, prepared, answer_to_accept, accepted}
+use Rattle.acceptor.specs.Answers.{answer_to_prepare, prepared, answer_to_accept, accepted, answer_to_run, accepted_run}
 use Rattle.paxos_wire.specs.Order.{is_below, is_same_ballot}
 
 -- the tests tell the order of ballots, and whether two are the same
@@ -100,3 +103,26 @@ abbrev pub StaysWithinPromise : Type 0
 StaysWithinPromise =
     (ballot : Ballot) (slot : ℕ) (command : Command) (store : Store) → IsWithinPromise store
     → IsWithinPromise (prepared ballot store) × IsWithinPromise (accepted ballot slot command store)
+
+-- ---- runs of proposals
+
+-- what is stored of a run whose proposals the node has is one append of the model's, of any number of moves
+abbrev pub RunsAreAppends : Type 0
+RunsAreAppends =
+    (node : ℕ) (has : List Message) (ballot : Ballot) (slot : ℕ) (commands : List Command) (store : Store) → ((message : Message) → In message (proposals ballot slot commands) → In message has)
+    → Append node has store (accepted_run ballot slot commands store)
+
+-- each command that is told is stored at its slot then
+abbrev pub RunsAreStored : Type 0
+RunsAreStored =
+    (ballot : Ballot) (slot : ℕ) (commands : List Command) (store : Store) (given : List Command) → answer_to_run ballot slot commands store ≡ AcceptedRun ballot slot given
+    → (place : ℕ) (command : Command) → slice_get given place ≡ Some command → (accepted_run ballot slot commands store).votes (slot + place) ≡ Some (record { ballot = ballot; command = command })
+
+-- a vote stays, or one of a greater ballot takes its place
+abbrev pub RunVotesStand : Type 0
+RunVotesStand =
+    (ballot : Ballot) (slot : ℕ) (commands : List Command) (store : Store) (other : ℕ) (vote : Vote) → IsWithinPromise store → store.votes other ≡ Some vote
+    → HasVote (accepted_run ballot slot commands store) other vote
+
+abbrev pub RunsStayWithin : Type 0
+RunsStayWithin = (ballot : Ballot) (slot : ℕ) (commands : List Command) (store : Store) → IsWithinPromise store → IsWithinPromise (accepted_run ballot slot commands store)

@@ -1,12 +1,16 @@
 -- What a call makes of an acceptor's store, however it ends.
-use Rattle.std.specs.Prelude.{◌≡◌, ◌⊎◌, ℕ, ◌≤◌, true, List, Option, Result, IsTrue, IsNone, IfSome, IsErrOf, IfOk, IfErr, OnOk, MatchResult}
+use Rattle.std.specs.Prelude.{◌≡◌, ◌⊎◌, ℕ, ◌≤◌, true, List, [], ◌∷◌, ◌++◌, Option, Result, IsTrue, IsNone, IfSome, IsErrOf, IfOk, IfErr, OnOk, MatchResult}
 use Rattle.protocol_model.specs.Stores as model
 use Rattle.promise_store.specs.declared.disk.Disk.{Ghosts}
 use Rattle.promise_store.specs.declared.store.Store.{Store}
 use Rattle.promise_store.specs.declared.fault.StoreFault.{StoreFault}
 use Rattle.promise_store.specs.declared.fault.StoreFault.TheVariants.{Disk, Closed, BadRecord, OutOfMemory}
 use Rattle.promise_store.specs.Disks.{Rose}
-use Rattle.promise_store.specs.Settled.{OnlyReads}
+use Rattle.promise_store.specs.declared.records.Record.{Record}
+use Rattle.promise_store.specs.declared.stage.Stage.{Stage}
+use Rattle.promise_store.specs.declared.stage.Stage.TheVariants.{New}
+use Rattle.promise_store.specs.Journals.{IsJournalOf}
+use Rattle.promise_store.specs.Settled.{OnlyReads, LeavesRecordsDuring}
 use Rattle.promise_store.specs.Keeping.{disk_of, is_closed, held_of, Keeps, Leaves, LeavesDuring}
 use Rattle.promise_store.specs.Appended.{IsAsBefore}
 
@@ -15,6 +19,13 @@ abbrev pub IsFault : StoreFault → Type 0
 IsFault fault = (fault ≡ Disk) ⊎ ((fault ≡ Closed) ⊎ (fault ≡ BadRecord))
 
 module _ {D : Type 0} (g : Ghosts D) where
+  -- from the one disk to the other one record was appended to a journal of these: at each moment each image is the journal
+  -- that was there or that with the record, and after Ok the disk has the latter
+  pub record AppendsOne {T : Type 0} (first : Stage) (head : List ℕ) (records : List Record) (before after : D) (result : Result T StoreFault) : Type 0 where
+    pub addition : Record
+    pub steps : LeavesRecordsDuring g head records (records ++ addition ∷ []) before after
+    pub journal : OnOk result (IsJournalOf first New head (g.seen after) (records ++ addition ∷ []))
+
   -- a call of an acceptor whose store keeps one of the model: after Ok it gave the answer and keeps the next; at each moment
   -- of the call and behind it, whatever it answered, each image of the disk stands for what was kept or for the next
   pub record Taken {T : Type 0} (answer : model.Store → T) (next : model.Store → model.Store) (before after : Store D) (result : Result T StoreFault) : Type 0 where
@@ -23,6 +34,10 @@ module _ {D : Type 0} (g : Ghosts D) where
     pub any_moment : (head : List ℕ) (held : model.Store) → Keeps g head held before → IsTrue g.is_honest
         → LeavesDuring g head held (next held) (disk_of before) (disk_of after)
     pub leaves : (head : List ℕ) (held : model.Store) → Keeps g head held before → IsTrue g.is_honest → Leaves g head held (next held) (disk_of after)
+    -- whatever the answer, the disk was only read, or one record was appended to the journal that it had
+    pub writes : (head : List ℕ) (held : model.Store) → Keeps g head held before → IsTrue g.is_honest
+        → (first : Stage) (records : List Record) → IsJournalOf first New head (g.seen (disk_of before)) records
+        → OnlyReads g (disk_of before) (disk_of after) ⊎ AppendsOne first head records (disk_of before) (disk_of after) result
     -- 63 comes only where a call of the disk failed, and closes the store
     pub failed : IsErrOf result Disk → Rose (g.count (disk_of before)) (g.count (disk_of after)) × (is_closed after ≡ true)
     -- want of memory changes nothing

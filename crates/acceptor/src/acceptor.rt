@@ -1,13 +1,14 @@
-ghost use Rattle.std.specs.Prelude.{◌≡◌, ◌⊎◌, ◌+◌, ◌≤◌, ℕ, List, IsTrue, IsOk, OnOk, IfOk, IsErrOf};
-ghost use Rattle.paxos_wire.specs.Fits.{IsBallot, IsSlot, IsInRange};
+ghost use Rattle.std.specs.Prelude.{◌≡◌, ◌⊎◌, true, ◌+◌, ◌<◌, ◌≤◌, ℕ, length, List, IsTrue, IsOk, OnOk, IfOk, IsErrOf};
+ghost use Rattle.paxos_wire.specs.Fits.{IsBallot, IsSlot, IsInRange, IsCommandRun};
 ghost use Rattle.protocol_model.specs.Ballots.{no_ballot};
 ghost use Rattle.protocol_model.specs.Stores as model;
+ghost use Rattle.protocol_model.specs.Votes.{is_voted};
 ghost use Rattle.promise_store.specs.Room.{promised_in, room, ShowSame};
-ghost use Rattle.acceptor.specs.Answers.{answer_to_prepare, refusal_of_prepare, prepared, AnswersPrepare, answer_to_accept, refusal_of_accept, accepted, AnswersAccept};
+ghost use Rattle.acceptor.specs.Answers.{answer_to_prepare, refusal_of_prepare, prepared, AnswersPrepare, answer_to_accept, refusal_of_accept, accepted, AnswersAccept, answer_to_run, refusal_of_run, accepted_run, AnswersRun};
 
-use crate::answers::{AcceptAnswer, PrepareAnswer};
-use crate::telling::{entries_from, stored_in};
-use paxos_wire::Ballot;
+use crate::answers::{AcceptAnswer, PrepareAnswer, RunAnswer};
+use crate::telling::{beginning_of, commands_from, entries_from, is_voted, stored_in};
+use paxos_wire::{Ballot, CommandList, Commands};
 use promise_store::laws::{records_are_moves, what_is_kept_is_left};
 use promise_store::{Disk, Store, StoreFault};
 use slot_log::Command;
@@ -25,6 +26,7 @@ pub struct Acceptor<D: Disk> {
 impl<D: Disk> Acceptor<D> {
     ghost use Rattle.promise_store.specs.Keeping.{disk_of, held_of, Keeps};
     ghost use Rattle.promise_store.specs.Appended.{IsAsBefore};
+    ghost use Rattle.promise_store.specs.Settled.{OnlyReads};
     ghost use Rattle.acceptor.specs.Stored.{store_of};
     ghost use Rattle.acceptor.specs.Taken.{Taken, NeedsStore};
 
@@ -118,6 +120,7 @@ impl<D: Disk> Acceptor<D> {
         requires slot { IsSlot slot }
         requires command { IsInRange command }
         ensures taken { Taken D.Disk (answer_to_accept ballot slot command) (accepted ballot slot command) (store_of self.old) (store_of self.new) result }
+        ensures stored { (head : List ℕ) (held : model.Store) → Keeps D.Disk head held (store_of self.old) → IsTrue D.is_honest → is_voted held ballot slot ≡ true → OnlyReads D.Disk (disk_of (store_of self.old)) (disk_of (store_of self.new)) }
         ensures needs { NeedsStore D.Disk (refusal_of_accept ballot slot (promised_in (held_of (store_of self.old)))) (store_of self.old) (store_of self.new) result }
         ensures fits { IfOk result (AnswersAccept ballot slot) }
         ensures room { room (held_of (store_of self.old)) ≤ room (held_of (store_of self.new)) + 1 }
@@ -139,6 +142,7 @@ impl<D: Disk> Acceptor<D> {
         requires command { IsInRange command }
         requires room { 1 ≤ room (held_of (store_of self.old)) }
         ensures taken { Taken D.Disk (answer_to_accept ballot slot command) (accepted ballot slot command) (store_of self.old) (store_of self.new) result }
+        ensures stored { (head : List ℕ) (held : model.Store) → Keeps D.Disk head held (store_of self.old) → IsTrue D.is_honest → is_voted held ballot slot ≡ true → OnlyReads D.Disk (disk_of (store_of self.old)) (disk_of (store_of self.new)) }
         ensures needs { NeedsStore D.Disk (refusal_of_accept ballot slot (promised_in (held_of (store_of self.old)))) (store_of self.old) (store_of self.new) result }
         ensures fits { IfOk result (AnswersAccept ballot slot) }
         ensures room { room (held_of (store_of self.old)) ≤ room (held_of (store_of self.new)) + 1 }
@@ -166,6 +170,82 @@ impl<D: Disk> Acceptor<D> {
             ballot,
             slot,
             command,
+        })
+    }
+
+    /// Answers a run of proposals in one ballot, for the slots from this one on, those of its own node too: they are
+    /// accepted unless a ballot above was promised, up to the first slot that differs from the first one in whether a
+    /// command was accepted there in this very ballot. Where the first one has such a command, those that stand there are
+    /// told, from the list that is handed in, and nothing is written; else the beginning of the run is stored, by one
+    /// append, and told.
+    ///
+    /// Refused are 92 where there is no room for the slots and no memory for it, 63 where the disk failed, and 64 at a
+    /// closed store, which still tells by `Refuse` that a ballot is below what it promised.
+    pub fn on_accept_run<'a>(
+        &mut self,
+        ballot: Ballot,
+        slot: u32,
+        commands: &'a [Command],
+        told: &'a mut CommandList,
+    ) -> Result<RunAnswer<'a>, StoreFault>
+        requires ballot { IsBallot ballot }
+        requires run { IsCommandRun slot commands.now }
+        ensures taken { Taken D.Disk (answer_to_run ballot slot commands.now) (accepted_run ballot slot commands.now) (store_of self.old) (store_of self.new) result }
+        ensures stored { (head : List ℕ) (held : model.Store) → Keeps D.Disk head held (store_of self.old) → IsTrue D.is_honest → is_voted held ballot slot ≡ true → OnlyReads D.Disk (disk_of (store_of self.old)) (disk_of (store_of self.new)) }
+        ensures needs { NeedsStore D.Disk (refusal_of_run ballot slot (promised_in (held_of (store_of self.old)))) (store_of self.old) (store_of self.new) result }
+        ensures fits { IfOk result (AnswersRun ballot slot) }
+        ensures room { room (held_of (store_of self.old)) ≤ room (held_of (store_of self.new)) + length commands.now }
+        ensures full { IsErrOf result StoreFault.OutOfMemory → room (held_of (store_of self.old)) < length commands.now }
+    {
+        self.reserve(commands.len())?;
+        self.on_accept_run_reserved(ballot, slot, commands, told)
+    }
+
+    /// The same where there is room for as many slots: it takes no memory.
+    pub fn on_accept_run_reserved<'a>(
+        &mut self,
+        ballot: Ballot,
+        slot: u32,
+        commands: &'a [Command],
+        told: &'a mut CommandList,
+    ) -> Result<RunAnswer<'a>, StoreFault>
+        requires ballot { IsBallot ballot }
+        requires run { IsCommandRun slot commands.now }
+        requires room { length commands.now ≤ room (held_of (store_of self.old)) }
+        ensures taken { Taken D.Disk (answer_to_run ballot slot commands.now) (accepted_run ballot slot commands.now) (store_of self.old) (store_of self.new) result }
+        ensures stored { (head : List ℕ) (held : model.Store) → Keeps D.Disk head held (store_of self.old) → IsTrue D.is_honest → is_voted held ballot slot ≡ true → OnlyReads D.Disk (disk_of (store_of self.old)) (disk_of (store_of self.new)) }
+        ensures needs { NeedsStore D.Disk (refusal_of_run ballot slot (promised_in (held_of (store_of self.old)))) (store_of self.old) (store_of self.new) result }
+        ensures fits { IfOk result (AnswersRun ballot slot) }
+        ensures room { room (held_of (store_of self.old)) ≤ room (held_of (store_of self.new)) + length commands.now }
+        ensures memory { IsErrOf result StoreFault.OutOfMemory → ⊥ }
+    {
+        records_are_moves();
+        what_is_kept_is_left::<D>();
+        let held = self.store.held();
+        let promise = held.promised();
+        if ballot.is_below(promise) {
+            return Ok(RunAnswer::Refuse {
+                ballot,
+                slot,
+                promised: promise,
+            });
+        }
+        let voted = is_voted(held, ballot, slot);
+        let count = beginning_of(held, ballot, slot, commands.len(), voted);
+        if voted {
+            let stored = commands_from(&mut self.store, slot, count, told)?;
+            return Ok(RunAnswer::Accepted {
+                ballot,
+                slot,
+                commands: stored,
+            });
+        }
+        let taken = &commands[..count];
+        self.store.accept_run_reserved(ballot, slot, taken)?;
+        Ok(RunAnswer::Accepted {
+            ballot,
+            slot,
+            commands: Commands::new(taken),
         })
     }
 }

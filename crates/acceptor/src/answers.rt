@@ -1,4 +1,4 @@
-use paxos_wire::{Ballot, Entries};
+use paxos_wire::{Ballot, Commands, Entries};
 use slot_log::Command;
 
 /// What an acceptor answers a Prepare with.
@@ -26,6 +26,23 @@ pub enum AcceptAnswer {
         ballot: Ballot,
         slot: u32,
         command: Command,
+    },
+    /// It has promised a ballot above.
+    Refuse {
+        ballot: Ballot,
+        slot: u32,
+        promised: Ballot,
+    },
+}
+
+/// What an acceptor answers a run of proposals with: commands for slots that follow one another, in one ballot.
+#[derive(Debug, Drop)]
+pub enum RunAnswer<'a> {
+    /// In the ballot it accepted these commands, one at each slot from this one on.
+    Accepted {
+        ballot: Ballot,
+        slot: u32,
+        commands: Commands<'a>,
     },
     /// It has promised a ballot above.
     Refuse {

@@ -1,6 +1,6 @@
 //! What holds of what an acceptor answers and keeps: each law is the contract of a function that does nothing.
 
-ghost use Rattle.acceptor.specs.Laws.{BelowIsTested, SameIsTested, ToldAreHeld, ToldRise, PromisesAbove, RefusesOthers, AcceptsAtMost, RefusesBelow, PreparesAreMoves, AcceptsAreMoves, VotesStand, StaysWithinPromise};
+ghost use Rattle.acceptor.specs.Laws.{BelowIsTested, SameIsTested, ToldAreHeld, ToldRise, PromisesAbove, RefusesOthers, AcceptsAtMost, RefusesBelow, PreparesAreMoves, AcceptsAreMoves, VotesStand, StaysWithinPromise, RunsAreAppends, RunsAreStored, RunVotesStand, RunsStayWithin};
 
 /// The tests of ballots tell their order, and whether two are the same.
 pub fn ballots_are_compared()
@@ -33,4 +33,13 @@ pub fn stores_are_moves()
 pub fn votes_stand()
     ensures votes { VotesStand }
     ensures promise { StaysWithinPromise }
+{}
+
+/// What is told of a run of proposals is stored then, slot by slot; storing it is one append of the model's; and in one
+/// ballot there is still one vote at a slot.
+pub fn runs_are_kept()
+    ensures appends { RunsAreAppends }
+    ensures told { RunsAreStored }
+    ensures votes { RunVotesStand }
+    ensures promise { RunsStayWithin }
 {}

@@ -1,15 +1,20 @@
-ghost use Rattle.std.specs.Prelude.{◌≡◌, ◌+◌, ◌^◌, ◌<◌, ◌≤◌, ◌++◌, ℕ, length, true, None, IsErrOf, IfOk, IfSome, MatchResult};
+ghost use Rattle.std.specs.Prelude.{◌≡◌, ◌+◌, ◌^◌, ◌<◌, ◌≤◌, ◌++◌, ℕ, length, true, not, None, IsErrOf, IfOk, IsSome, IfSome, MatchResult};
+ghost use Rattle.std.specs.List.{AllByRecursion};
 ghost use Rattle.paxos_wire.specs.Fits.{IsSlot, IsInRange, IsEntry, AreEntries};
+ghost use Rattle.paxos_wire.specs.declared.limits.TheConstants.{SLOTS};
+ghost use Rattle.promise_store.specs.Keeping.{held_of};
+ghost use Rattle.promise_store.specs.Room.{placed_in};
+ghost use Rattle.promise_store.specs.Shown.{placed_ballot, pair_ballot};
 ghost use Rattle.promise_store.specs.declared.fault.StoreFault.TheVariants.{Closed};
 ghost use Rattle.promise_store.specs.Keeping.{is_closed};
 ghost use Rattle.promise_store.specs.Shown.{vote_pair};
 ghost use Rattle.protocol_model.specs.Votes.{told_by};
-ghost use Rattle.acceptor.specs.Answers.{told_pair, command_found, stored_command};
+ghost use Rattle.acceptor.specs.Answers.{told_pair, command_found, command_in, stored_command, commands_told, is_placed_in};
 ghost use Rattle.acceptor.specs.Taken.{Read};
 
 use paxos_wire::limits::WINDOW;
-use paxos_wire::{Ballot, Entries, Entry};
-use promise_store::{Disk, Store, StoreFault};
+use paxos_wire::{Ballot, CommandList, Commands, Entries, Entry};
+use promise_store::{Disk, Held, Store, StoreFault};
 use slot_log::Command;
 
 /// Reads what was accepted at a slot.
@@ -20,6 +25,7 @@ fn vote_at<D: Disk>(
     ensures read { Read D.Disk (λ held. vote_pair (held.votes slot)) store.old store.new result }
     ensures closed { is_closed store.old ≡ true → IsErrOf result Closed }
     ensures range { IfOk result (λ found. IfSome found (λ vote. IsEntry (record { slot = slot; ballot = vote.0; command = vote.1 }))) }
+    ensures shown { IfOk result (λ found. pair_ballot found ≡ placed_ballot (placed_in (held_of store.old) slot)) }
 {
     store.entry(slot)
 }
@@ -83,4 +89,69 @@ pub(crate) fn stored_in<D: Disk>(
     }
     let found = vote_at(store, slot)?;
     Ok(command_of(found))
+}
+
+/// Whether a slot has a vote of this very ballot, by the index alone.
+pub(crate) fn is_voted(held: &Held, ballot: Ballot, slot: u32) -> bool
+    ensures { result ≡ is_placed_in ballot (placed_in held.now slot) }
+{
+    match held.find(slot) {
+        Some(placed) => placed.ballot.is_same(ballot),
+        None => false,
+    }
+}
+
+/// How many of so many slots, from the first on, are alike in whether they have a vote of this very ballot: up to the
+/// first one that isn't as asked for, by the index alone.
+pub(crate) fn beginning_of(
+    held: &Held,
+    ballot: Ballot,
+    first: u32,
+    count: usize,
+    voted: bool,
+) -> usize
+    requires { first + count ≤ SLOTS }
+    ensures most { result ≤ count }
+    ensures alike { (k : ℕ) → first ≤ k → k < first + result → is_placed_in ballot (placed_in held.now k) ≡ voted }
+    ensures ends { result < count → is_placed_in ballot (placed_in held.now (first + result)) ≡ not voted }
+{
+    for place in 0..count {
+        if is_voted(held, ballot, first + place as u32) != voted {
+            return place;
+        }
+    }
+    count
+}
+
+/// Puts the command of what was found at a slot behind the others.
+fn tell_command(told: &mut CommandList, found: Option<(Ballot, Command)>)
+    requires { length told.old < WINDOW }
+    ensures { told.new ≡ told.old ++ command_in found }
+{
+    if let Some((_, command)) = found {
+        told.push(command);
+    }
+}
+
+/// Reads the commands that were accepted at so many slots from the first on, each of which has one.
+pub(crate) fn commands_from<'a, D: Disk>(
+    store: &mut Store<D>,
+    first: u32,
+    count: usize,
+    told: &'a mut CommandList,
+) -> Result<Commands<'a>, StoreFault>
+    requires count { count ≤ WINDOW }
+    requires slots { first + count ≤ SLOTS }
+    ensures read { Read D.Disk (λ held. commands_told held first count) store.old store.new result }
+    ensures closed { 1 ≤ count → is_closed store.old ≡ true → IsErrOf result Closed }
+    ensures range { IfOk result (λ commands. AllByRecursion IsInRange commands) }
+    ensures most { IfOk result (λ commands. length commands ≤ count) }
+    ensures all { ((k : ℕ) → first ≤ k → k < first + count → IsSome (placed_in (held_of store.old) k)) → IfOk result (λ commands. length commands ≡ count) }
+{
+    told.clear();
+    for place in 0..count {
+        let found = vote_at(store, first + place as u32)?;
+        tell_command(told, found);
+    }
+    Ok(Commands::new(told.as_slice()))
 }

@@ -1,6 +1,6 @@
 use Rattle.std.proofs.Common.{rules}
 use Rattle.acceptor.specs.Answers.{answer_to_accept, accepted}
-use Rattle.acceptor.proofs.Exits.{after_room}
+use Rattle.acceptor.proofs.Exits.{after_room, reads_behind}
 use Rattle.acceptor.proofs.acceptor.Acceptor.on_accept.Goals as goal
 
 pub returns-clause-taken : goal.returns-clause-taken
@@ -10,3 +10,8 @@ returns-clause-taken g c =
 
 pub on_accept_reserved-requires-clause-room : goal.on_accept_reserved-requires-clause-room
 on_accept_reserved-requires-clause-room g c = search rules
+
+pub returns-clause-stored : goal.returns-clause-stored
+returns-clause-stored g c head held keeps honest is =
+    reads_behind g.D.Disk c.args.self.now.store c.reserve.new.self.store c.on_accept_reserved.new.self.store c.reserve.ensures.same
+    (c.on_accept_reserved.ensures.stored head held (c.reserve.ensures.same.keeps head held keeps) honest is)
