@@ -1,11 +1,11 @@
 -- Cells emptied as the front moves on, and the room in cells.
 use Rattle.std.proofs.Common.{ℕ, zero, suc, ◌≡◌, ◌≢◌, ◌<◌, ◌≤◌, ◌+◌, ◌-◌, ◌%◌, ◌⊎◌, inl, inr, List, [], ◌∷◌, ◌++◌, refl, sym, ◌∙◌, ap, arith, length, get_or, set, replicate, length-set, get_or-set_same, get_or-set_other, Vec, Global}
 use Rattle.std.proofs.lemmas.Bool.Decides.{eqb_tells}
-use Rattle.std.proofs.lemmas.List.{map-set, length-map, get_or_default}
+use Rattle.std.proofs.lemmas.List.{map-set, length-map}
 use Rattle.paxos_wire.specs.declared.limits.TheConstants.{WINDOW}
 use Rattle.learner.specs.declared.tally.Tally.{Tally}
 use Rattle.learner.specs.Learning.{emptied}
-use Rattle.learner.specs.Cells.{tallies_in, spare_of, spares, least}
+use Rattle.learner.specs.Cells.{tallies_in, spare_of, spares, spare_at, least_with, least, room_in}
 
 -- ---- emptied cells
 
@@ -82,34 +82,36 @@ spares_get (v ∷ vs) (suc place) d cell within is = spares_get vs place d cell 
 
 -- ---- the least of rooms
 
-pub least_alike : (d m k : ℕ) (xs : List ℕ) → m ≤ k + d → least m xs ≤ least k xs + d
-least_alike d m k [] h = h
-least_alike d m k (x ∷ xs) h = let rest = least_alike d m k xs h in omega arith
+least_with_most : (m : ℕ) (xs : List ℕ) → least_with m xs ≤ m
+least_with_most m [] = omega arith
+least_with_most m (x ∷ xs) = let rest = least_with_most m xs in omega arith
 
--- where one place, and the further number, go down by no more than this, so does the least
-pub least_step : (d m k : ℕ) (xs : List ℕ) (i v : ℕ) → m ≤ k + d → get_or xs i v ≤ v + d → least m xs ≤ least k (set xs i v) + d
-least_step d m k [] i v h e = h
-least_step d m k (x ∷ xs) zero v h e = let rest = least_alike d m k xs h in omega arith
-least_step d m k (x ∷ xs) (suc i) v h e = let rest = least_step d m k xs i v h e in omega arith
+least_with_below : (m : ℕ) (xs : List ℕ) (i d : ℕ) → i < length xs → least_with m xs ≤ get_or xs i d
+least_with_below m [] i d within = absurd (omega arith)
+least_with_below m (x ∷ xs) zero d within = omega arith
+least_with_below m (x ∷ xs) (suc i) d within = let rest = least_with_below m xs i d (omega arith) in omega arith
 
-pub least_most : (m : ℕ) (xs : List ℕ) → least m xs ≤ m
-least_most m [] = omega arith
-least_most m (x ∷ xs) = let rest = least_most m xs in omega arith
+least_with_all : (m v : ℕ) (xs : List ℕ) → v ≤ m → ((i : ℕ) → i < length xs → v ≤ get_or xs i 0) → v ≤ least_with m xs
+least_with_all m v [] most all = most
+least_with_all m v (x ∷ xs) most all = let rest = least_with_all m v xs most (λ i within. all (suc i) (omega arith)) in let first = all zero (omega arith) in omega arith
 
-pub least_below : (m : ℕ) (xs : List ℕ) (i d : ℕ) → i < length xs → least m xs ≤ get_or xs i d
-least_below m [] i d within = absurd (omega arith)
-least_below m (x ∷ xs) zero d within = omega arith
-least_below m (x ∷ xs) (suc i) d within = let rest = least_below m xs i d (omega arith) in omega arith
+least_below : (xs : List ℕ) (i : ℕ) → i < length xs → least xs ≤ get_or xs i 0
+least_below [] i within = absurd (omega arith)
+least_below (x ∷ xs) zero within = least_with_most x xs
+least_below (x ∷ xs) (suc i) within = least_with_below x xs i 0 (omega arith)
 
-pub least_all : (m v : ℕ) (xs : List ℕ) → v ≤ m → ((i : ℕ) → i < length xs → v ≤ get_or xs i 0) → v ≤ least m xs
-least_all m v [] most all = most
-least_all m v (x ∷ xs) most all = let rest = least_all m v xs most (λ i within. all (suc i) (omega arith)) in let first = all zero (omega arith) in omega arith
+least_all : (v : ℕ) (xs : List ℕ) → 0 < length xs → ((i : ℕ) → i < length xs → v ≤ get_or xs i 0) → v ≤ least xs
+least_all v [] some all = absurd (omega arith)
+least_all v (x ∷ xs) some all = least_with_all x v xs (all zero (omega arith)) (λ i within. all (suc i) (omega arith))
 
-pub least_within : (m : ℕ) (xs ys : List ℕ) → length xs ≡ length ys → ((i : ℕ) → i < length xs → get_or xs i 0 ≤ get_or ys i 0) → least m xs ≤ least m ys
-least_within m [] [] e all = omega arith
-least_within m [] (y ∷ ys) e all = absurd (omega arith)
-least_within m (x ∷ xs) [] e all = absurd (omega arith)
-least_within m (x ∷ xs) (y ∷ ys) e all = let rest = least_within m xs ys (omega arith) (λ i within. all (suc i) (omega arith)) in let first = all zero (omega arith) in omega arith
+-- where each goes down by no more than this, so does the least
+least_step : (d : ℕ) (xs ys : List ℕ) → length xs ≡ length ys → ((i : ℕ) → i < length xs → get_or xs i 0 ≤ get_or ys i 0 + d) → least xs ≤ least ys + d
+least_step d [] ys e all = omega arith
+least_step d (x ∷ xs) ys e all =
+    let most = least_all (least (x ∷ xs) - d) ys (omega (arith, e)) (λ i within.
+    let below = least_below (x ∷ xs) i (omega (arith, e, within)) in
+    let step = all i (omega (arith, e, within)) in omega (arith, below, step)) in
+    omega (arith, most)
 
 -- ---- one cell changed
 
@@ -119,20 +121,6 @@ pub tallies_same : (cells : List (Vec Tally Global)) (place : ℕ) (old new : Ve
 tallies_same [] place old new within is same = refl
 tallies_same (v ∷ vs) zero old new within is same = ap (λ (ts : List Tally). ts ∷ tallies_in vs) (same ∙ ap (λ (x : Vec Tally Global). x.items) is)
 tallies_same (v ∷ vs) (suc place) old new within is same = ap (λ (tss : List (List Tally)). v.items ∷ tss) (tallies_same vs place old new (omega arith) is same)
-
--- where one place's room, and that of the log, go down by no more than this, so does the room of all
-pub room_set : (d m k : ℕ) (cells : List (Vec Tally Global)) (place : ℕ) (old new : Vec Tally Global) → place < length cells → old ≡ get_or cells place old
-    → spare_of old ≤ spare_of new + d → m ≤ k + d → least m (spares cells) ≤ least k (spares (set cells place new)) + d
-room_set d m k cells place old new within is less most =
-    let was = spares_get cells place (spare_of new) old within is in
-    let there : get_or (spares cells) place (spare_of new) ≤ spare_of new + d = omega arith in
-    let step = least_step d m k (spares cells) place (spare_of new) most there in
-    let same : least k (spares (set cells place new)) ≡ least k (set (spares cells) place (spare_of new)) = ap (least k) (spares_set cells place new) in
-    omega (arith, step, same)
-
-pub room_same : (m : ℕ) (cells : List (Vec Tally Global)) (place : ℕ) (old new : Vec Tally Global) → place < length cells → old ≡ get_or cells place old
-    → spare_of old ≤ spare_of new → least m (spares cells) ≤ least m (spares (set cells place new))
-room_same m cells place old new within is more = let h = room_set 0 m m cells place old new within is (omega arith) (omega arith) in omega arith
 
 pub spare_there : (cells : List (Vec Tally Global)) (place : ℕ) (new : Vec Tally Global) → place < length cells → get_or (spares (set cells place new)) place 0 ≡ spare_of new
 spare_there cells place new within =
@@ -156,18 +144,34 @@ room_more votes cells place new within most rest other below = elim (eqb_tells o
       let was = rest other (omega (arith, differs)) in omega (arith, there, was)
 ]
 
-pub room_all : (votes : ℕ) (cells : List (Vec Tally Global)) → ((place : ℕ) → place < length cells → votes ≤ get_or (spares cells) place 0)
-    → (most : ℕ) → votes ≤ most → votes ≤ least most (spares cells)
-room_all votes cells all most high = least_all most votes (spares cells) high (λ place within. all place (omega (arith, length-map cells spare_of)))
+-- where one cell's room goes down by no more than this, so does each
+pub spare_less : (d : ℕ) (cells : List (Vec Tally Global)) (place other : ℕ) (old new : Vec Tally Global) → place < length cells → old ≡ get_or cells place old → spare_of old ≤ spare_of new + d
+    → spare_at cells other ≤ spare_at (set cells place new) other + d
+spare_less d cells place other old new low is more = elim (eqb_tells other place) [
+  | inl here ↦
+      let there = spare_there cells place new low in
+      let was = spares_get cells place 0 old low is in
+      let at : spare_at cells other ≡ spare_at cells place = ap (λ (k : ℕ). spare_at cells k) here.1 in
+      let now : spare_at (set cells place new) other ≡ spare_at (set cells place new) place = ap (λ (k : ℕ). spare_at (set cells place new) k) here.1 in
+      omega (arith, there, was, at, now, more)
+  | inr apart ↦ let same = spare_other cells place other new apart.1 in omega (arith, same)
+]
 
-pub room_below : (m : ℕ) (cells : List (Vec Tally Global)) (place : ℕ) (old : Vec Tally Global) → place < length cells → old ≡ get_or cells place old
-    → least m (spares cells) ≤ spare_of old
-room_below m cells place old within is =
-    let was = spares_get cells place 0 old within is in
-    let low = least_below m (spares cells) place 0 (omega (arith, length-map cells spare_of)) in omega (arith, was, low)
+pub spare_kept : (cells : List (Vec Tally Global)) (place other : ℕ) (old new : Vec Tally Global) → place < length cells → old ≡ get_or cells place old → spare_of old ≤ spare_of new
+    → spare_at cells other ≤ spare_at (set cells place new) other
+spare_kept cells place other old new low is more = let less = spare_less 0 cells place other old new low is (omega (arith, more)) in omega (arith, less)
 
-pub room_at : (m : ℕ) (cells : List (Vec Tally Global)) (place : ℕ) → place < length cells → 1 ≤ least m (spares cells) → 1 ≤ get_or (spares cells) place 0
-room_at m cells place within some = let low = least_below m (spares cells) place 0 (omega (arith, length-map cells spare_of)) in omega arith
+-- ---- the room of all cells
+
+pub room_in_step : (d : ℕ) (old new : List (Vec Tally Global)) → length old ≡ length new → ((place : ℕ) → place < length old → spare_at old place ≤ spare_at new place + d) → room_in old ≤ room_in new + d
+room_in_step d old new e all =
+    least_step d (spares old) (spares new) (length-map old spare_of ∙ e ∙ sym (length-map new spare_of)) (λ i within. all i (omega (arith, within, length-map old spare_of)))
+
+pub room_in_at : (cells : List (Vec Tally Global)) (place : ℕ) → place < length cells → room_in cells ≤ spare_at cells place
+room_in_at cells place within = least_below (spares cells) place (omega (arith, within, length-map cells spare_of))
+
+pub room_in_all : (v : ℕ) (cells : List (Vec Tally Global)) → 0 < length cells → ((place : ℕ) → place < length cells → v ≤ spare_at cells place) → v ≤ room_in cells
+room_in_all v cells some all = least_all v (spares cells) (omega (arith, some, length-map cells spare_of)) (λ i within. all i (omega (arith, within, length-map cells spare_of)))
 
 -- ---- new cells
 
@@ -188,12 +192,3 @@ one_new n cells new before none =
     ∙ ap (λ (tss : List (List Tally)). tss ++ [] ∷ []) before
     ∙ replicated n []
     ∙ ap (λ (k : ℕ). replicate k []) (let e : suc n ≡ n + 1 = omega arith in e)
-
--- ---- the same, where the cell is read as the place's
-
-there_is : (cells : List (Vec Tally Global)) (place : ℕ) (x : Vec Tally Global) → place < length cells → get_or cells place x ≡ get_or cells place (get_or cells place x)
-there_is cells place x within = get_or_default cells place x (get_or cells place x) within
-
-pub room_kept : (m : ℕ) (cells : List (Vec Tally Global)) (place : ℕ) (x new : Vec Tally Global) → place < length cells → spare_of (get_or cells place x) ≤ spare_of new
-    → least m (spares cells) ≤ least m (spares (set cells place new))
-room_kept m cells place x new within more = room_same m cells place (get_or cells place x) new within (there_is cells place x within) more

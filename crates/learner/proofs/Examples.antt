@@ -12,13 +12,13 @@ use Rattle.learner.specs.Tallies.{is_quorum, is_of, nodes_for, with_node, is_com
 use Rattle.learner.specs.Learning.{Learned, new_learned, is_open, hearing, answer_to, believing, answer_to_chosen}
 use Rattle.learner.specs.Counted.{CountsFrom, CountsAll}
 
-abbrev ballot : ℕ → ℕ → Ballot
+abbrev pub ballot : ℕ → ℕ → Ballot
 ballot round node = record { round = round; node = node }
 
-abbrev fold : Command
+abbrev pub fold : Command
 fold = Act 0 0 Fold
 
-abbrev call : Command
+abbrev pub call : Command
 call = Act 0 0 Call
 
 -- ---- commands
@@ -54,40 +54,46 @@ fold_for_another = refl
 
 -- ---- nodes
 
-pub two_of_three : is_quorum 3 (true ∷ false ∷ true ∷ false ∷ false ∷ []) ≡ true
+pub two_of_three : is_quorum 3 (true ∷ false ∷ true ∷ false ∷ false ∷ false ∷ false ∷ []) ≡ true
 two_of_three = refl
 
-pub two_of_four : is_quorum 4 (true ∷ false ∷ true ∷ false ∷ false ∷ []) ≡ false
+pub two_of_four : is_quorum 4 (true ∷ false ∷ true ∷ false ∷ false ∷ false ∷ false ∷ []) ≡ false
 two_of_four = refl
 
-pub two_of_five : is_quorum 5 (true ∷ false ∷ true ∷ false ∷ false ∷ []) ≡ false
+pub two_of_five : is_quorum 5 (true ∷ false ∷ true ∷ false ∷ false ∷ false ∷ false ∷ []) ≡ false
 two_of_five = refl
+
+pub three_of_seven : is_quorum 7 (true ∷ false ∷ true ∷ false ∷ false ∷ true ∷ false ∷ []) ≡ false
+three_of_seven = refl
+
+pub four_of_seven : is_quorum 7 (true ∷ false ∷ true ∷ false ∷ false ∷ true ∷ true ∷ []) ≡ true
+four_of_seven = refl
 
 -- node 1 answers again
 pub counted_once : with_node (ballot 1 0) call 1 (with_node (ballot 1 0) call 1 []) ≡ with_node (ballot 1 0) call 1 []
 unfolding is_of is_same
 counted_once = refl
 
-pub other_ballot_apart : nodes_for (ballot 1 0) call (with_node (ballot 1 2) call 1 (with_node (ballot 1 0) call 0 [])) ≡ true ∷ false ∷ false ∷ false ∷ false ∷ []
+pub other_ballot_apart : nodes_for (ballot 1 0) call (with_node (ballot 1 2) call 1 (with_node (ballot 1 0) call 0 [])) ≡ true ∷ false ∷ false ∷ false ∷ false ∷ false ∷ false ∷ []
 unfolding is_of is_same
 other_ballot_apart = refl
 
-pub other_command_apart : nodes_for (ballot 1 0) call (with_node (ballot 1 0) fold 1 (with_node (ballot 1 0) call 0 [])) ≡ true ∷ false ∷ false ∷ false ∷ false ∷ []
+pub other_command_apart : nodes_for (ballot 1 0) call (with_node (ballot 1 0) fold 1 (with_node (ballot 1 0) call 0 [])) ≡ true ∷ false ∷ false ∷ false ∷ false ∷ false ∷ false ∷ []
 unfolding is_of is_same
 other_command_apart = refl
 
-pub second_completes : is_completed 3 (true ∷ false ∷ false ∷ false ∷ false ∷ []) 2 ≡ true
+pub second_completes : is_completed 3 (true ∷ false ∷ false ∷ false ∷ false ∷ false ∷ false ∷ []) 2 ≡ true
 second_completes = refl
 
-pub third_completes_not : is_completed 3 (true ∷ false ∷ true ∷ false ∷ false ∷ []) 1 ≡ false
+pub third_completes_not : is_completed 3 (true ∷ false ∷ true ∷ false ∷ false ∷ false ∷ false ∷ []) 1 ≡ false
 third_completes_not = refl
 
-pub again_completes_not : is_completed 3 (true ∷ false ∷ false ∷ false ∷ false ∷ []) 0 ≡ false
+pub again_completes_not : is_completed 3 (true ∷ false ∷ false ∷ false ∷ false ∷ false ∷ false ∷ []) 0 ≡ false
 again_completes_not = refl
 
 -- ---- a learner of three nodes
 
-abbrev new : Learned
+abbrev pub new : Learned
 new = new_learned 3
 
 pub last_open_slot : is_open new.log 63 ≡ true
@@ -96,7 +102,7 @@ last_open_slot = refl
 pub past_the_window : is_open new.log 64 ≡ false
 past_the_window = refl
 
-abbrev one : Learned
+abbrev pub one : Learned
 one = hearing new 1 (ballot 1 0) 0 call
 
 pub one_answer_tells_nothing : answer_to new 1 (ballot 1 0) 0 call ≡ Ok None
@@ -115,7 +121,7 @@ pub two_answers_tell : answer_to one 2 (ballot 1 0) 0 call ≡ Ok (Some (record 
 unfolding is_of is_same
 two_answers_tell = refl
 
-abbrev two : Learned
+abbrev pub two : Learned
 two = hearing one 2 (ballot 1 0) 0 call
 
 pub front_goes_on : front two.log ≡ 1
@@ -145,7 +151,7 @@ below_the_front = refl
 
 -- ---- another command is known
 
-abbrev told : Learned
+abbrev pub told : Learned
 told = believing new 2 fold
 
 pub told_is_known : known_at told.log 2 ≡ Some fold
@@ -169,7 +175,7 @@ quorum_of_another = refl
 pub counted_never_came : CountsFrom [] one → ⊥
 unfolding is_of is_same
 counted_never_came h =
-    h 0 (record { ballot = ballot 1 0; command = call; nodes = false ∷ true ∷ false ∷ false ∷ false ∷ [] })
+    h 0 (record { ballot = ballot 1 0; command = call; nodes = false ∷ true ∷ false ∷ false ∷ false ∷ false ∷ false ∷ [] })
     (record { reached = lit≤ tt; within = lit< tt; is_slot = lit< tt }) (inl refl) 1 refl
 
 -- node 2's answer came and is left out

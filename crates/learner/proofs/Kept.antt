@@ -54,7 +54,7 @@ pub front_stays : FrontsGoOn → (log : Log) (slot : ℕ) (command : Command) �
 front_stays goes log slot command = known_front goes log slot command (is_none (known_at log slot))
 
 -- an open slot's cell is as it was, where the slot was open, and else it is empty
-moved_at : (l : Learned) (log : Log) (slot : ℕ) → front l.log ≤ front log → IsOpen log slot
+pub moved_at : (l : Learned) (log : Log) (slot : ℕ) → front l.log ≤ front log → IsOpen log slot
     → (IsOpen l.log slot × (tallies_at (moved l log).cells slot ≡ tallies_at l.cells slot))
     ⊎ ((front l.log + WINDOW ≤ slot) × (tallies_at (moved l log).cells slot ≡ []))
 moved_at l log slot on opens = by_case (nat_lt slot (front l.log + WINDOW)) refl

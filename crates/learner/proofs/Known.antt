@@ -70,7 +70,7 @@ one_or_by b d s c e false h = inr (record {
       let yes = is_of_if b c (record { ballot = d; command = e; nodes = [] }) eb ec in absurd (cc);
 })
 
-one_or : (b d : Ballot) (s t : ℕ) (c e : Command) → IsOne b d s t c e ⊎ IsOther b d s t c e
+pub one_or : (b d : Ballot) (s t : ℕ) (c e : Command) → IsOne b d s t c e ⊎ IsOther b d s t c e
 one_or b d s t c e = elim (eqb_tells t s) [
   | inl same ↦ subst (λ (n : ℕ). IsOne b d s n c e ⊎ IsOther b d s n c e) (sym same.1) (one_or_by b d s c e _ refl)
   | inr ne ↦ inr (record { differs = λ k j same. let es : t ≡ s = cc in ne.1 es })

@@ -7,4 +7,8 @@ pub mod Known
 pub mod Places
 pub mod Log
 pub mod Heard
+pub mod HeardRuns
+pub mod RunSteps
+pub mod KeptRuns
 pub mod Examples
+pub mod CommandRunExamples

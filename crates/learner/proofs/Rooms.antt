@@ -1,25 +1,32 @@
--- The room of a learner, by the room in its log and in its cells.
-use Rattle.std.proofs.Common.{ℕ, ◌≡◌, ◌<◌, ◌≤◌, ap, arith}
+-- The rooms of a learner, by the room in its cells and in its log.
+use Rattle.std.proofs.Common.{ℕ, ◌≡◌, ◌<◌, ◌≤◌, ◌+◌, ap, sym, arith, length, List, Vec, Global}
+use Rattle.paxos_wire.specs.declared.limits.TheConstants.{WINDOW}
+use Rattle.learner.specs.declared.tally.Tally.{Tally}
 use Rattle.learner.specs.declared.learner.Learner.TheInside.{Inside}
 use Rattle.learner.specs.Learning.{Learning}
 use Rattle.learner.specs.LearnerInside.{learning_of}
-use Rattle.learner.specs.Cells.{spares, room_by}
-use Rattle.learner.proofs.Cells.{least_alike, least_most}
+use Rattle.learner.specs.Cells.{spare_at, room_in}
+use Rattle.learner.proofs.Cells.{room_in_step, room_in_at}
 
--- more room in the log alone takes none away
-pub room_kept : (s : Inside) {was : Learning} {in_log : ℕ} → learning_of s ≡ was → s.log.room ≤ in_log → was.room ≤ room_by in_log s.cells.items
-room_kept s {was} {in_log} is more =
-    let room : room_by s.log.room s.cells.items ≡ was.room = ap (λ (x : Learning). x.room) is in
-    let kept = least_alike 0 s.log.room in_log (spares s.cells.items) (omega (arith, more)) in
-    omega (arith, room, kept)
+-- where each cell's room goes down by no more than this, so does that for answers
+pub answers_less : (d : ℕ) (s : Inside) (cells : List (Vec Tally Global)) {was : Learning} → learning_of s ≡ was → length cells ≡ length s.cells.items
+    → ((place : ℕ) → place < length s.cells.items → spare_at s.cells.items place ≤ spare_at cells place + d) → was.answers ≤ room_in cells + d
+answers_less d s cells {was} is len all =
+    let room : room_in s.cells.items ≡ was.answers = ap (λ (x : Learning). x.answers) is in
+    let step = room_in_step d s.cells.items cells (sym len) all in
+    omega (arith, room, step)
 
--- there is no more room than the log has
-pub room_within : (s : Inside) {was : Learning} → learning_of s ≡ was → was.room ≤ s.log.room
-room_within s {was} is =
-    let room : room_by s.log.room s.cells.items ≡ was.room = ap (λ (x : Learning). x.room) is in
-    let most = least_most s.log.room (spares s.cells.items) in
+pub answers_kept : (s : Inside) (cells : List (Vec Tally Global)) {was : Learning} → learning_of s ≡ was → length cells ≡ length s.cells.items
+    → ((place : ℕ) → spare_at s.cells.items place ≤ spare_at cells place) → was.answers ≤ room_in cells
+answers_kept s cells is len all =
+    let less = answers_less 0 s cells is len (λ place within. let kept = all place in omega (arith, kept)) in omega (arith, less)
+
+-- no cell has less room
+pub answers_at : (s : Inside) (place : ℕ) {was : Learning} → learning_of s ≡ was → place < length s.cells.items → was.answers ≤ spare_at s.cells.items place
+answers_at s place {was} is within =
+    let room : room_in s.cells.items ≡ was.answers = ap (λ (x : Learning). x.answers) is in
+    let most = room_in_at s.cells.items place within in
     omega (arith, room, most)
 
--- where the log has no room for so many calls, the learner has none either
-pub room_wanting : (s : Inside) {was : Learning} {calls : ℕ} → learning_of s ≡ was → s.log.room < calls → was.room < calls
-room_wanting s is few = let most = room_within s is in omega (arith, most, few)
+pub commands_are : (s : Inside) {was : Learning} → learning_of s ≡ was → s.log.room ≡ was.commands
+commands_are s is = ap (λ (x : Learning). x.commands) is

@@ -1,5 +1,5 @@
 -- The cells as the fields of a learner hold them: what stands in each, and for how much more there is room.
-use Rattle.std.specs.Prelude.{ℕ, ◌-◌, List, [], ◌∷◌, map, min, Vec, vec_len, vec_capacity}
+use Rattle.std.specs.Prelude.{ℕ, ◌-◌, List, [], ◌∷◌, map, min, slice_index_or, Vec, vec_len, vec_capacity}
 use Rattle.std.specs.declared.alloc.Global.{Global}
 use Rattle.slot_log.specs.Slots.{Log}
 use Rattle.learner.specs.declared.tally.Tally.{Tally}
@@ -18,11 +18,18 @@ spare_of cell = vec_capacity cell - vec_len cell
 abbrev pub spares : List (Vec Tally Global) → List ℕ
 spares cells = map spare_of cells
 
--- the least of these numbers, and of a further one
-abbrev pub least : ℕ → List ℕ → ℕ
-least most [] = most
-least most (x ∷ xs) = min x (least most xs)
+abbrev pub spare_at : List (Vec Tally Global) → ℕ → ℕ
+spare_at cells place = slice_index_or (spares cells) place 0
 
--- a call may take a place in any cell, and one in the log
-abbrev pub room_by : ℕ → List (Vec Tally Global) → ℕ
-room_by in_log cells = least in_log (spares cells)
+-- the least of these numbers, and of a further one
+abbrev pub least_with : ℕ → List ℕ → ℕ
+least_with most [] = most
+least_with most (x ∷ xs) = min x (least_with most xs)
+
+abbrev pub least : List ℕ → ℕ
+least [] = 0
+least (x ∷ xs) = least_with x xs
+
+-- for how many further tallies each cell has room
+abbrev pub room_in : List (Vec Tally Global) → ℕ
+room_in cells = least (spares cells)

@@ -20,10 +20,13 @@ pub record Learned : Type 0 where
   -- what is known as chosen
   pub log : Log
 
--- and for how many further calls there is room
+-- and for how much more there is room
 pub record Learning : Type 0 where
   pub learned : Learned
-  pub room : ℕ
+  -- for so many further answers, each with at most one command at a slot
+  pub answers : ℕ
+  -- for so many further commands that become known
+  pub commands : ℕ
 
 -- nothing is counted or known
 abbrev pub new_learned : ℕ → Learned

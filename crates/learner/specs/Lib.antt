@@ -5,3 +5,5 @@ pub mod Cells
 pub mod LearnerInside
 pub mod Counted
 pub mod Laws
+pub mod CommandRuns
+pub mod CommandRunLaws

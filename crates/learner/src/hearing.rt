@@ -1,8 +1,9 @@
-ghost use Rattle.std.specs.Prelude.{◌≡◌, ℕ, ◌+◌, ◌-◌, ◌%◌, ◌<◌, ◌≤◌, length, not, true, if◌then◌else◌, slice_index_or, slice_set, replicate, Ok, Err, IfOk, OnOk, OnErr, vec_len, []};
+ghost use Rattle.std.specs.Prelude.{◌≡◌, ◌≢◌, ℕ, ◌+◌, ◌-◌, ◌++◌, ◌%◌, ◌<◌, ◌≤◌, length, not, true, false, if◌then◌else◌, slice_index_or, slice_set, replicate, Ok, Err, IfOk, OnOk, OnErr, is_err, vec_len, []};
 ghost use Rattle.slot_log.specs.Slots.{known_at};
 ghost use Rattle.slot_log.specs.declared.slot_fault.SlotFault.TheVariants.{Conflict};
 ghost use Rattle.learner.specs.Tallies.{is_completed, nodes_for, with_node};
-ghost use Rattle.learner.specs.Cells.{tallies_in, learned_by, spares, room_by, least};
+ghost use Rattle.learner.specs.Cells.{tallies_in, learned_by, spare_at};
+ghost use Rattle.learner.specs.CommandRuns.{tells, hearing_each, chosen_each, is_refused, hearing_run, answer_to_run};
 ghost use Rattle.learner.specs.Learning.{is_open, is_other, known_with, tallies_at, emptied, answer_to, hearing, answer_to_chosen, believing};
 
 use crate::chosen::Chosen;
@@ -29,9 +30,9 @@ pub(crate) fn new_cells(alloc: Global) -> Result<Vec<Vec<Tally>>, AllocError>
 pub(crate) fn reserve(cells: &mut Vec<Vec<Tally>>, votes: usize) -> Result<(), AllocError>
     ensures tallies { tallies_in cells.new.items ≡ tallies_in cells.old.items }
     ensures len { length cells.new.items ≡ length cells.old.items }
-    ensures room { OnOk result ((most : ℕ) → votes ≤ most → votes ≤ least most (spares cells.new.items)) }
-    ensures kept { (most : ℕ) → least most (spares cells.old.items) ≤ least most (spares cells.new.items) }
-    ensures full { OnErr result ((most : ℕ) → least most (spares cells.old.items) < votes) }
+    ensures room { OnOk result ((place : ℕ) → place < length cells.new.items → votes ≤ spare_at cells.new.items place) }
+    ensures kept { (place : ℕ) → spare_at cells.old.items place ≤ spare_at cells.new.items place }
+    ensures full { OnErr result ((place : ℕ) × (place < length cells.old.items) × (spare_at cells.old.items place < votes)) }
 {
     for place in 0..cells.len() {
         cells[place].reserve(votes)?;
@@ -63,7 +64,7 @@ fn empty(cells: &mut Vec<Vec<Tally>>, from: u32, to: u32)
     requires { length cells.old.items ≡ WINDOW }
     ensures len { length cells.new.items ≡ length cells.old.items }
     ensures tallies { tallies_in cells.new.items ≡ emptied from (to - from) (tallies_in cells.old.items) }
-    ensures room { (most : ℕ) → least most (spares cells.old.items) ≤ least most (spares cells.new.items) }
+    ensures kept { (place : ℕ) → spare_at cells.old.items place ≤ spare_at cells.new.items place }
 {
     for slot in from..to {
         let cell = &mut cells[slot as usize % WINDOW];
@@ -76,9 +77,9 @@ pub(crate) fn reserve_at(cells: &mut Vec<Vec<Tally>>, slot: u32) -> Result<(), A
     requires { length cells.old.items ≡ WINDOW }
     ensures len { length cells.new.items ≡ length cells.old.items }
     ensures tallies { tallies_in cells.new.items ≡ tallies_in cells.old.items }
-    ensures room { OnOk result (1 ≤ slice_index_or (spares cells.new.items) (slot % WINDOW) 0) }
-    ensures kept { (most : ℕ) → least most (spares cells.old.items) ≤ least most (spares cells.new.items) }
-    ensures full { OnErr result ((most : ℕ) → least most (spares cells.old.items) ≡ 0) }
+    ensures room { OnOk result (1 ≤ spare_at cells.new.items (slot % WINDOW)) }
+    ensures kept { (place : ℕ) → spare_at cells.old.items place ≤ spare_at cells.new.items place }
+    ensures full { OnErr result (spare_at cells.old.items (slot % WINDOW) ≡ 0) }
 {
     let cell = &mut cells[slot as usize % WINDOW];
     cell.reserve(1)
@@ -96,10 +97,11 @@ fn answered_at(cells: &[Vec<Tally>], ballot: Ballot, slot: u32, command: &Comman
 fn count_at(cells: &mut Vec<Vec<Tally>>, from: u8, ballot: Ballot, slot: u32, command: &Command)
     requires from { from < NODES }
     requires cells { length cells.old.items ≡ WINDOW }
-    requires room { 1 ≤ slice_index_or (spares cells.old.items) (slot % WINDOW) 0 }
+    requires room { 1 ≤ spare_at cells.old.items (slot % WINDOW) }
     ensures len { length cells.new.items ≡ length cells.old.items }
     ensures tallies { tallies_in cells.new.items ≡ slice_set (tallies_in cells.old.items) (slot % WINDOW) (with_node ballot command.now from (tallies_at (tallies_in cells.old.items) slot)) }
-    ensures room { (most less : ℕ) → most ≤ less + 1 → least most (spares cells.old.items) ≤ least less (spares cells.new.items) + 1 }
+    ensures others { (place : ℕ) → place ≢ slot % WINDOW → spare_at cells.old.items place ≤ spare_at cells.new.items place }
+    ensures taken { (place : ℕ) → spare_at cells.old.items place ≤ spare_at cells.new.items place + 1 }
 {
     let cell = &mut cells[slot as usize % WINDOW];
     tally::count(cell, ballot, command, from);
@@ -119,12 +121,14 @@ pub(crate) fn hear(
     requires from { from < nodes }
     requires cells { length cells.old.items ≡ WINDOW }
     requires opened { is_open log.old.log slot ≡ true }
-    requires cell_room { 1 ≤ slice_index_or (spares cells.old.items) (slot % WINDOW) 0 }
+    requires cell_room { 1 ≤ spare_at cells.old.items (slot % WINDOW) }
     requires log_room { 1 ≤ log.old.room }
     ensures answer { result ≡ answer_to (learned_by nodes cells.old.items log.old.log) from ballot slot command }
     ensures len { length cells.new.items ≡ length cells.old.items }
     ensures learned { learned_by nodes cells.new.items log.new.log ≡ hearing (learned_by nodes cells.old.items log.old.log) from ballot slot command }
-    ensures room { room_by log.old.room cells.old.items ≤ room_by log.new.room cells.new.items + 1 }
+    ensures others { (place : ℕ) → place ≢ slot % WINDOW → spare_at cells.old.items place ≤ spare_at cells.new.items place }
+    ensures taken { (place : ℕ) → spare_at cells.old.items place ≤ spare_at cells.new.items place + 1 }
+    ensures log_room { log.old.room ≤ log.new.room + 1 }
 {
     let answered = answered_at(cells, ballot, slot, &command);
     if !tally::is_completed(nodes, &answered, from) {
@@ -153,12 +157,167 @@ pub(crate) fn believe(
     requires opened { is_open log.old.log slot ≡ true }
     requires room { 1 ≤ log.old.room }
     ensures answer { result ≡ answer_to_chosen log.old.log slot command }
+    ensures kept { (place : ℕ) → spare_at cells.old.items place ≤ spare_at cells.new.items place }
     ensures len { length cells.new.items ≡ length cells.old.items }
     ensures learned { (nodes : ℕ) → learned_by nodes cells.new.items log.new.log ≡ believing (learned_by nodes cells.old.items log.old.log) slot command }
-    ensures room { room_by log.old.room cells.old.items ≤ room_by log.new.room cells.new.items + 1 }
+    ensures room { log.old.room ≤ log.new.room + 1 }
 {
     let front = log.front();
     put(log, slot, command)?;
     empty(cells, front, log.front());
     Ok(())
+}
+
+/// Whether another command is known at a slot.
+fn is_other(log: &SlotLog, slot: u32, command: &Command) -> bool
+    ensures { result ≡ is_other (known_at log.now.log slot) command.now }
+{
+    match log.get(slot) {
+        Some(known) => !known.is_same(command),
+        None => false,
+    }
+}
+
+/// Whether a node's answer for a slot would be refused.
+fn is_refused_at(
+    nodes: u8,
+    cells: &[Vec<Tally>],
+    log: &SlotLog,
+    from: u8,
+    ballot: Ballot,
+    slot: u32,
+    command: &Command,
+) -> bool
+    requires few { nodes ≤ NODES }
+    requires from { from < nodes }
+    requires cells { length cells.now ≡ WINDOW }
+    ensures { result ≡ is_err (answer_to (learned_by nodes cells.now log.now.log) from ballot slot command.now) }
+{
+    if !is_open(log, slot) {
+        return false;
+    }
+    let answered = answered_at(cells, ballot, slot, command);
+    tally::is_completed(nodes, &answered, from) && is_other(log, slot, command)
+}
+
+/// Whether a node's answer for one of the slots of a command run would be refused.
+fn is_refused(
+    nodes: u8,
+    cells: &[Vec<Tally>],
+    log: &SlotLog,
+    from: u8,
+    ballot: Ballot,
+    slot: u32,
+    commands: &[Command],
+) -> bool
+    requires few { nodes ≤ NODES }
+    requires from { from < nodes }
+    requires cells { length cells.now ≡ WINDOW }
+    requires slot { slot < SLOTS }
+    requires most { length commands.now ≤ WINDOW }
+    ensures { result ≡ is_refused (learned_by nodes cells.now log.now.log) from ballot slot commands.now }
+{
+    for (place, command) in commands.iter().enumerate() {
+        let at = slot + place as u32;
+        if is_refused_at(nodes, cells, log, from, ballot, at, command) {
+            return true;
+        }
+    }
+    false
+}
+
+/// Counts a node's answer for a slot, for which there is room, and tells whether it completed what became known. One for a
+/// slot that isn't open, and one that is refused, change nothing.
+fn hear_one(
+    nodes: u8,
+    cells: &mut Vec<Vec<Tally>>,
+    log: &mut SlotLog,
+    from: u8,
+    ballot: Ballot,
+    slot: u32,
+    command: Command,
+) -> bool
+    requires few { nodes ≤ NODES }
+    requires from { from < nodes }
+    requires cells { length cells.old.items ≡ WINDOW }
+    requires cell_room { 1 ≤ spare_at cells.old.items (slot % WINDOW) }
+    requires log_room { 1 ≤ log.old.room }
+    ensures told { result ≡ tells (answer_to (learned_by nodes cells.old.items log.old.log) from ballot slot command) }
+    ensures len { length cells.new.items ≡ length cells.old.items }
+    ensures learned { learned_by nodes cells.new.items log.new.log ≡ hearing (learned_by nodes cells.old.items log.old.log) from ballot slot command }
+    ensures others { (place : ℕ) → place ≢ slot % WINDOW → spare_at cells.old.items place ≤ spare_at cells.new.items place }
+    ensures taken { (place : ℕ) → spare_at cells.old.items place ≤ spare_at cells.new.items place + 1 }
+    ensures log_room { log.old.room ≤ log.new.room + 1 }
+{
+    if !is_open(log, slot) {
+        return false;
+    }
+    match hear(nodes, cells, log, from, ballot, slot, command) {
+        Ok(Some(_)) => true,
+        Ok(None) | Err(_) => false,
+    }
+}
+
+/// Counts a node's answers for the slots of a command run one after another, for which there is room: one place in each
+/// cell, and one in the log for each command. By place, whether it completed what became known.
+fn hear_each(
+    nodes: u8,
+    cells: &mut Vec<Vec<Tally>>,
+    log: &mut SlotLog,
+    from: u8,
+    ballot: Ballot,
+    slot: u32,
+    commands: &[Command],
+) -> [bool; WINDOW]
+    requires few { nodes ≤ NODES }
+    requires from { from < nodes }
+    requires cells { length cells.old.items ≡ WINDOW }
+    requires slot { slot < SLOTS }
+    requires most { length commands.now ≤ WINDOW }
+    requires cell_room { (place : ℕ) → place < WINDOW → 1 ≤ spare_at cells.old.items place }
+    requires log_room { length commands.now ≤ log.old.room }
+    ensures chosen { result ≡ chosen_each (learned_by nodes cells.old.items log.old.log) from ballot slot commands.now ++ replicate (WINDOW - length commands.now) false }
+    ensures learned { learned_by nodes cells.new.items log.new.log ≡ hearing_each (learned_by nodes cells.old.items log.old.log) from ballot slot commands.now }
+    ensures len { length cells.new.items ≡ length cells.old.items }
+    ensures taken { (place : ℕ) → place < WINDOW → spare_at cells.old.items place ≤ spare_at cells.new.items place + 1 }
+    ensures log_room { log.old.room ≤ log.new.room + length commands.now }
+{
+    let mut chosen = [false; WINDOW];
+    for (place, command) in commands.iter().enumerate() {
+        let at = slot + place as u32;
+        chosen[place] = hear_one(nodes, cells, log, from, ballot, at, *command);
+    }
+    chosen
+}
+
+/// Counts a node's answer for the slots of a command run, for which there is room; where one of them is refused, nothing is
+/// counted.
+pub(crate) fn hear_run(
+    nodes: u8,
+    cells: &mut Vec<Vec<Tally>>,
+    log: &mut SlotLog,
+    from: u8,
+    ballot: Ballot,
+    slot: u32,
+    commands: &[Command],
+) -> Result<[bool; WINDOW], SlotFault>
+    requires few { nodes ≤ NODES }
+    requires from { from < nodes }
+    requires cells { length cells.old.items ≡ WINDOW }
+    requires most { length commands.now ≤ WINDOW }
+    requires cell_room { (place : ℕ) → place < WINDOW → 1 ≤ spare_at cells.old.items place }
+    requires log_room { length commands.now ≤ log.old.room }
+    ensures answer { result ≡ answer_to_run (learned_by nodes cells.old.items log.old.log) from ballot slot commands.now }
+    ensures learned { learned_by nodes cells.new.items log.new.log ≡ hearing_run (learned_by nodes cells.old.items log.old.log) from ballot slot commands.now }
+    ensures len { length cells.new.items ≡ length cells.old.items }
+    ensures taken { (place : ℕ) → place < WINDOW → spare_at cells.old.items place ≤ spare_at cells.new.items place + 1 }
+    ensures log_room { log.old.room ≤ log.new.room + length commands.now }
+{
+    if slot >= SLOTS {
+        return Ok([false; WINDOW]);
+    }
+    if is_refused(nodes, cells, log, from, ballot, slot, commands) {
+        return Err(SlotFault::Conflict);
+    }
+    Ok(hear_each(nodes, cells, log, from, ballot, slot, commands))
 }

@@ -12,16 +12,16 @@ use Rattle.proposer.specs.Told.{best_in}
 use Rattle.proposer.specs.Campaigns.{Proposing, next_ballot, begun, idle, refused, is_leading, ballot_in, counting, proposal_of, marked}
 use Rattle.proposer.specs.Counted.{CountsFrom, CountsAll, MarksSent, HasQuorum, IsGreatest}
 
-abbrev ballot : ℕ → ℕ → Ballot
+abbrev pub ballot : ℕ → ℕ → Ballot
 ballot round node = record { round = round; node = node }
 
-abbrev fold : Command
+abbrev pub fold : Command
 fold = Act 0 0 Fold
 
-abbrev call : Command
+abbrev pub call : Command
 call = Act 0 0 Call
 
-abbrev entry : ℕ → Ballot → Command → Entry
+abbrev pub entry : ℕ → Ballot → Command → Entry
 entry slot b command = record { slot = slot; ballot = b; command = command }
 
 -- ---- of the entries of a slot that of the greatest ballot, wherever it stands
@@ -34,14 +34,14 @@ other_slots_count_for_nothing = refl
 
 -- ---- a ballot of node 1 of 3, from slot 10 on
 
-abbrev new : Proposing
+abbrev pub new : Proposing
 new = record { node = 1; nodes = 3; campaign = None }
 
 pub ballot_after_all_seen : next_ballot 1 (ballot 4 2) ≡ ballot 5 1
 ballot_after_all_seen = refl
 
 -- the own promise is counted as that of any other
-abbrev preparing : Proposing
+abbrev pub preparing : Proposing
 preparing = counting (begun new (ballot 4 2) 10) 1 (ballot 5 1) 10 (entry 12 (ballot 2 1) fold ∷ [])
 
 pub begun_ballot : ballot_in preparing ≡ Some (ballot 5 1)
@@ -51,7 +51,7 @@ begun_ballot = refl
 pub begun_leads_not : is_leading preparing ≡ false
 begun_leads_not = refl
 
-abbrev leading : Proposing
+abbrev pub leading : Proposing
 leading = counting preparing 2 (ballot 5 1) 10 (entry 12 (ballot 4 0) call ∷ entry 13 (ballot 1 0) call ∷ [])
 
 pub two_of_three_lead : is_leading leading ≡ true
@@ -59,6 +59,17 @@ two_of_three_lead = refl
 
 pub two_of_five_lead_not : is_leading (record leading { nodes = 5 }) ≡ false
 two_of_five_lead_not = refl
+
+-- three of seven nodes, the last one's own promise among them
+abbrev pub of_seven : Proposing
+of_seven =
+    counting (counting (counting (begun (record { node = 6; nodes = 7; campaign = None }) (ballot 4 2) 10) 6 (ballot 5 6) 10 []) 0 (ballot 5 6) 10 []) 3 (ballot 5 6) 10 []
+
+pub three_of_seven_lead_not : is_leading of_seven ≡ false
+three_of_seven_lead_not = refl
+
+pub four_of_seven_lead : is_leading (counting of_seven 5 (ballot 5 6) 10 []) ≡ true
+four_of_seven_lead = refl
 
 -- a promise of another ballot, of another first slot, or of a node a second time counts for nothing
 pub other_ballot_passed_over : counting preparing 2 (ballot 4 1) 10 [] ≡ preparing

@@ -71,7 +71,7 @@ made_is c slot (Some command) made h =
     let same : made ≡ record { ballot = c.ballot; slot = slot; command = command } = cc in
     (ap (λ (a : Accept). a.ballot) same, ap (λ (a : Accept). a.slot) same)
 
-mark_step : (sent : List Message) (c : Campaign) (made : Accept) → made.ballot ≡ c.ballot → Covers c.first made.slot → MarksSent sent c
+pub mark_step : (sent : List Message) (c : Campaign) (made : Accept) → made.ballot ≡ c.ballot → Covers c.first made.slot → MarksSent sent c
     → MarksSent (accept made.ballot made.slot made.command ∷ sent) (record c { proposed = set c.proposed (made.slot - c.first) true })
 mark_step sent c made ballot covers marks = record { places = length-set _ _ _ ∙ marks.places; all = all; only = only }
   where

@@ -3,3 +3,7 @@ pub mod Safe
 pub mod Alone
 pub mod Kept
 pub mod Examples
+pub mod ToldCommands
+pub mod SafeRuns
+pub mod Bounds
+pub mod CommandRunExamples

@@ -26,12 +26,12 @@ has_promise : (n : ℕ) (has : List Message) (c : Campaign) (slot node : ℕ) (I
 has_promise n has c slot node IsSo counts covers is so None e q = absurd (cc)
 has_promise n has c slot node IsSo counts covers is so (Some told) e q = (c.first, told, counts node told e, covers, λ entry m at. so entry (node, told, is, e, m, at))
 
-has_promises : (n : ℕ) (has : List Message) (c : Campaign) (slot : ℕ) (IsSo : Entry → Type 0) → CountsFrom has c → Covers c.first slot
+pub has_promises : (n : ℕ) (has : List Message) (c : Campaign) (slot : ℕ) (IsSo : Entry → Type 0) → CountsFrom has c → Covers c.first slot
     → has_quorum n c ≡ true → ((e : Entry) → Tells n c slot e → IsSo e) → HasPromises n has c.ballot slot IsSo
 has_promises n has c slot IsSo counts covers leads so =
     (has_promised c, ltb-true _ _ leads, λ node is q. has_promise n has c slot node IsSo counts covers is so (promise_by c node) refl q)
 
-is_told : (n : ℕ) (has : List Message) (c : Campaign) (slot : ℕ) (e : Entry) → CountsFrom has c → Tells n c slot e → IsTold has c.ballot slot (record { ballot = e.ballot; command = e.command })
+pub is_told : (n : ℕ) (has : List Message) (c : Campaign) (slot : ℕ) (e : Entry) → CountsFrom has c → Tells n c slot e → IsTold has c.ballot slot (record { ballot = e.ballot; command = e.command })
 is_told n has c slot e counts t =
     (t.0, c.first, t.1, counts t.0 t.1 t.3, subst (λ (x : Entry). In x t.1) (λ i. record { slot = t.5 i; ballot = e.ballot; command = e.command }) t.4)
 
@@ -49,7 +49,7 @@ covered_by first slot true high el eh h = absurd (cc)
 covered_by first slot false true el eh h = let a = ltb-false slot first el in let b = ltb-true slot (first + WINDOW) eh in (a, omega arith)
 covered_by first slot false false el eh h = absurd (cc)
 
-covered_is : (first slot : ℕ) → Covers first slot → is_covered first slot ≡ true
+pub covered_is : (first slot : ℕ) → Covers first slot → is_covered first slot ≡ true
 covered_is first slot h = rw (le-ltb slot first h.0) (lt-ltb slot (first + WINDOW) (omega arith))
 
 passed_by : (n : ℕ) (c : Campaign) (slot : ℕ) (own : Option Command) (made : Accept) (lead covered marked : Bool)
@@ -117,7 +117,7 @@ leads_with n has c counts q = leads_if n has c counts q (has_quorum n c) refl
 pub quorum_leads : (n : ℕ) (has : List Message) (c : Campaign) → CountsFrom has c → CountsAll n has c → (has_quorum n c ≡ true) ↔ HasQuorum n has c.ballot c.first
 quorum_leads n has c from all = (quorum_had n has c from, leads_with n has c all)
 
-unmarked_if : (sent : List Message) (c : Campaign) (slot : ℕ) → MarksSent sent c → Covers c.first slot → ((command : Command) → In (accept c.ballot slot command) sent → ⊥)
+pub unmarked_if : (sent : List Message) (c : Campaign) (slot : ℕ) → MarksSent sent c → Covers c.first slot → ((command : Command) → In (accept c.ballot slot command) sent → ⊥)
     → (b : Bool) → is_proposed c slot ≡ b → b ≡ false
 unmarked_if sent c slot marks covers none true e = let m = marks.only slot covers e in absurd (none m.0 m.1)
 unmarked_if sent c slot marks covers none false e = refl

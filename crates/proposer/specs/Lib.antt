@@ -3,3 +3,5 @@ pub mod Campaigns
 pub mod ProposerInside
 pub mod Counted
 pub mod Laws
+pub mod CommandRuns
+pub mod CommandRunLaws

@@ -1,6 +1,7 @@
 //! What holds of what a proposer counts and proposes: each law is the contract of a function that does nothing.
 
 ghost use Rattle.proposer.specs.Laws.{GreatestDecides, ProposalsAreSafe, QuorumLeads, OnePromiseLeadsNot, LeaderProposes, ProposesOnce, BeginCounts, BeginCountsAll, BeginMarks, PromiseCounts, PromiseCountsAll, PromiseMarks, OthersCount, OthersCountAll, OthersMark, ProposalCounts, ProposalCountsAll, ProposalMarks, PromiseStays, ProposalStays};
+ghost use Rattle.proposer.specs.CommandRunLaws.{CommandRunsAreSafe, LeaderProposesCommandRun, OneIsAProposal, CommandRunsEnd, NoneToldIsFree, BoundIsLeast, BoundIsMost, BoundedNow, BoundedLater, CommandRunCounts, CommandRunCountsAll, CommandRunMarks, CommandRunStays};
 
 /// What is proposed is what the counted promises make safe: the told command of the greatest ballot, or where none was
 /// told the own one, once at a slot, in a window of 64.
@@ -38,4 +39,38 @@ pub fn counts_are_kept()
     ensures proposal_marks { ProposalMarks }
     ensures promise_stays { PromiseStays }
     ensures proposal_stays { ProposalStays }
+{}
+
+/// What is proposed at once is, slot by slot, what may be proposed there: the told command of the greatest ballot, at slots
+/// that follow one another, or the own command alone, where none was told.
+///
+/// A leader proposes what there is to propose, and one command at a time where none follows.
+pub fn command_runs_are_safe()
+    ensures safe { CommandRunsAreSafe }
+    ensures proposes { LeaderProposesCommandRun }
+    ensures one { OneIsAProposal }
+{}
+
+/// Told commands are proposed together as far as they may follow one another: to the end of the slots that are covered or
+/// that there are, or to one where something was proposed or of which none is told, and such a slot is free.
+pub fn command_runs_end()
+    ensures ends { CommandRunsEnd }
+    ensures free { NoneToldIsFree }
+{}
+
+/// How many commands are proposed at once, from 1 to 64, is known before: now, and before a promise is counted by the number
+/// of its entries.
+pub fn command_runs_are_bounded()
+    ensures least { BoundIsLeast }
+    ensures most { BoundIsMost }
+    ensures now { BoundedNow }
+    ensures later { BoundedLater }
+{}
+
+/// Where commands were proposed at once, what was counted stays counted, and marks stand exactly where proposals were sent.
+pub fn command_runs_are_marked()
+    ensures counts { CommandRunCounts }
+    ensures counts_all { CommandRunCountsAll }
+    ensures marks { CommandRunMarks }
+    ensures stays { CommandRunStays }
 {}

@@ -1,12 +1,14 @@
 ghost use Rattle.std.specs.Prelude.{◌≡◌, ℕ, ◌<◌, ◌≤◌, ◌^◌, ◌-◌, ◌↔◌, None, false, IfOk, OnOk, OnErr, IsErr};
+ghost use Rattle.proposer.specs.CommandRuns.{run_of, marked_run, most_commands};
 ghost use Rattle.proposer.specs.Campaigns.{Proposing, next_ballot, begun, idle, refused, is_leading, ballot_in, counting, proposal_of, marked};
 
 use crate::accept::Accept;
+use crate::accept_run::AcceptRun;
 use crate::campaign::Campaign;
 use crate::fault::{BallotsSpent, ProposeFault};
 use crate::prepare::Prepare;
-use paxos_wire::limits::NODES;
-use paxos_wire::{Ballot, Entries};
+use paxos_wire::limits::{NODES, WINDOW};
+use paxos_wire::{Ballot, CommandList, Entries};
 use slot_log::Command;
 use std::marker::Model;
 
@@ -139,5 +141,41 @@ impl Proposer {
             Some(campaign) => campaign.propose(nodes, slot, own),
             None => Ok(None),
         }
+    }
+
+    /// What is to be proposed at the slot and at those behind it, in one message: the told command of the greatest ballot,
+    /// and those of the slots behind, up to the first that the ballot's Prepare doesn't cover, that isn't below 4,000,000,
+    /// where this ballot proposed already, or of which the promises tell none. Where they tell of none at the slot, the
+    /// own command alone. The commands, 64 at most, stand in the list that is handed in.
+    ///
+    /// None where no quorum has promised, where this ballot proposed at the slot already, and where there is no
+    /// command. Refused is 71 where a quorum has promised and the slot isn't one of the 64 of the ballot's Prepare;
+    /// never for a slot behind it. Nothing has changed then, but that the list may have been emptied.
+    pub fn propose_run<'a>(
+        &mut self,
+        slot: u32,
+        own: Option<Command>,
+        run: &'a mut CommandList,
+    ) -> Result<Option<AcceptRun<'a>>, ProposeFault>
+        ensures proposal { result ≡ run_of self.old slot own }
+        ensures marked { self.new ≡ marked_run self.old result }
+    {
+        let nodes = self.nodes;
+        match &mut self.campaign {
+            Some(campaign) => campaign.propose_run(nodes, slot, own, run),
+            None => Ok(None),
+        }
+    }
+
+    /// How many commands the next call of `propose_run` proposes at most, once promises with so many further entries
+    /// were counted: from 1 to 64.
+    pub fn most_commands(&self, further: usize) -> usize
+        ensures { result ≡ most_commands self.now further }
+    {
+        let waiting = match &self.campaign {
+            Some(campaign) => campaign.waiting(self.nodes),
+            None => 0,
+        };
+        (waiting + further.min(WINDOW)).clamp(1, WINDOW)
     }
 }

@@ -1,20 +1,23 @@
-use Rattle.std.proofs.Common.{arith, rules}
-use Rattle.learner.proofs.Rooms.{room_kept, room_wanting}
+use Rattle.std.proofs.Common.{◌%◌, inl, arith, rules, ◌∙◌}
 use Rattle.slot_log.proofs.Results.{on_err}
+use Rattle.learner.proofs.Rooms.{answers_kept, answers_less, answers_at}
 use Rattle.learner.proofs.learner.Learner.on_accepted.Goals as goal
 
-pub returns-in_err-reserve-clause-room : goal.returns-in_err-reserve-clause-room
-returns-in_err-reserve-clause-room c = omega (arith, room_kept c.self.inside c.self.view_is c.reserve.ensures.kept)
+pub returns-in_err-reserve_at-clause-answers : goal.returns-in_err-reserve_at-clause-answers
+returns-in_err-reserve_at-clause-answers c =
+    let kept = answers_kept c.self.inside c.reserve_at.new.cells.items c.self.view_is c.reserve_at.ensures.len c.reserve_at.ensures.kept in omega (arith, kept)
 
-pub returns-in_err-reserve-clause-full : goal.returns-in_err-reserve-clause-full
-returns-in_err-reserve-clause-full c = on_err c.from_residual.result (omega (arith, room_wanting c.self.inside c.self.view_is c.in_err-reserve.ensures.full))
+pub returns-in_err-reserve_at-clause-full : goal.returns-in_err-reserve_at-clause-full
+returns-in_err-reserve_at-clause-full c =
+    let cells = c.self.invariant.cells in
+    let least = answers_at c.self.inside (c.args.slot % 64) c.self.view_is (omega (arith, cells)) in
+    let full = c.in_err-reserve_at.ensures.full in
+    on_err c.from_residual-in_err-reserve_at.result (inl (omega (arith, least, full)))
 
-pub returns-clause-room : goal.returns-clause-room
-returns-clause-room c =
-    let kept = room_kept c.self.inside c.self.view_is c.reserve.ensures.kept in
-    let made = c.reserve_at.ensures.kept c.reserve.new.self.room in
-    let used = c.hear.ensures.room in
-    omega (arith, kept, made, used)
+pub returns-clause-answers : goal.returns-clause-answers
+returns-clause-answers c =
+    answers_less 1 c.self.inside c.hear.new.cells.items c.self.view_is (c.hear.ensures.len ∙ c.reserve_at.ensures.len)
+    (λ place within. let kept = c.reserve_at.ensures.kept place in let taken = c.hear.ensures.taken place in omega (arith, kept, taken))
 
 pub returns-then-not-is_open-clause-answer : goal.returns-then-not-is_open-clause-answer
 returns-then-not-is_open-clause-answer c = search rules

@@ -1,20 +1,15 @@
-use Rattle.std.proofs.Common.{◌≡◌, ◌%◌, ap, arith, rules}
-use Rattle.learner.specs.Learning.{Learning}
-use Rattle.learner.specs.Cells.{room_by}
-use Rattle.learner.proofs.Cells.{room_at}
-use Rattle.learner.proofs.Rooms.{room_within}
+use Rattle.std.proofs.Common.{◌%◌, arith, rules}
+use Rattle.learner.proofs.Rooms.{answers_less, answers_at}
 use Rattle.learner.proofs.learner.Learner.on_accepted_reserved.Goals as goal
 
 pub hear-requires-clause-cell_room : goal.hear-requires-clause-cell_room
 hear-requires-clause-cell_room c =
-    let was : room_by c.self.inside.log.room c.self.inside.cells.items ≡ c.args.self.now.room = ap (λ (x : Learning). x.room) c.self.view_is in
     let cells = c.self.invariant.cells in
-    room_at c.self.inside.log.room c.self.inside.cells.items (c.args.slot % 64) (omega (arith, cells)) (omega (arith, was, c.requires.room))
+    let least = answers_at c.self.inside (c.args.slot % 64) c.self.view_is (omega (arith, cells)) in
+    omega (arith, least, c.requires.answers)
 
-pub hear-requires-clause-log_room : goal.hear-requires-clause-log_room
-hear-requires-clause-log_room c =
-    let most = room_within c.self.inside c.self.view_is in
-    omega (arith, most, c.requires.room)
+pub returns-clause-answers : goal.returns-clause-answers
+returns-clause-answers c = answers_less 1 c.self.inside c.hear.new.cells.items c.self.view_is c.hear.ensures.len (λ place within. c.hear.ensures.taken place)
 
 pub returns-then-not-is_open-clause-answer : goal.returns-then-not-is_open-clause-answer
 returns-then-not-is_open-clause-answer c = search rules

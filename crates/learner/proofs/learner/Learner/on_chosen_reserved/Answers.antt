@@ -1,11 +1,9 @@
-use Rattle.std.proofs.Common.{arith, rules}
-use Rattle.learner.proofs.Rooms.{room_within}
+use Rattle.std.proofs.Common.{rules}
+use Rattle.learner.proofs.Rooms.{answers_kept}
 use Rattle.learner.proofs.learner.Learner.on_chosen_reserved.Goals as goal
 
-pub believe-requires-clause-room : goal.believe-requires-clause-room
-believe-requires-clause-room c =
-    let most = room_within c.self.inside c.self.view_is in
-    omega (arith, most, c.requires)
+pub returns-clause-answers : goal.returns-clause-answers
+returns-clause-answers c = answers_kept c.self.inside c.believe.new.cells.items c.self.view_is c.believe.ensures.len c.believe.ensures.kept
 
 pub returns-then-not-is_open-clause-answer : goal.returns-then-not-is_open-clause-answer
 returns-then-not-is_open-clause-answer c = search rules

@@ -1,16 +1,18 @@
-use Rattle.std.proofs.Common.{arith}
-use Rattle.learner.proofs.Rooms.{room_kept, room_wanting}
-use Rattle.slot_log.proofs.Results.{on_err}
+use Rattle.std.proofs.Common.{inl, arith, ◌∙◌}
+use Rattle.std.proofs.lemmas.Result.{on_ok_weaker, on_err_weaker}
+use Rattle.learner.proofs.Cells.{room_in_all}
+use Rattle.learner.proofs.Rooms.{answers_kept, answers_at}
 use Rattle.learner.proofs.learner.Learner.reserve.Goals as goal
 
-pub returns-in_err-reserve-clause-kept : goal.returns-in_err-reserve-clause-kept
-returns-in_err-reserve-clause-kept c = room_kept c.self.inside c.self.view_is c.reserve.ensures.kept
+pub returns-clause-answers : goal.returns-clause-answers
+returns-clause-answers c = on_ok_weaker c.reserve-2.result
+    (λ all. let len = c.reserve-2.ensures.len in let cells = c.self.invariant.cells in room_in_all c.args.answers c.reserve-2.new.cells.items (omega (arith, len, cells)) all)
+    c.reserve-2.ensures.room
 
-pub returns-in_err-reserve-clause-full : goal.returns-in_err-reserve-clause-full
-returns-in_err-reserve-clause-full c = on_err c.from_residual.result (room_wanting c.self.inside c.self.view_is c.in_err-reserve.ensures.full)
+pub returns-clause-kept_answers : goal.returns-clause-kept_answers
+returns-clause-kept_answers c = answers_kept c.self.inside c.reserve-2.new.cells.items c.self.view_is c.reserve-2.ensures.len c.reserve-2.ensures.kept
 
-pub returns-clause-kept : goal.returns-clause-kept
-returns-clause-kept c =
-    let kept = room_kept c.self.inside c.self.view_is c.reserve.ensures.kept in
-    let made = c.reserve-2.ensures.kept c.reserve.new.self.room in
-    omega (arith, kept, made)
+pub returns-clause-full : goal.returns-clause-full
+returns-clause-full c = on_err_weaker c.reserve-2.result
+    (λ full. let least = answers_at c.self.inside full.0 c.self.view_is full.1 in let few = full.2 in inl (omega (arith, least, few)))
+    c.reserve-2.ensures.full
