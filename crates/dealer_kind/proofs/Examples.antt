@@ -194,5 +194,18 @@ no_hands within = omega (arith, within.least)
 three : HasNodes 3
 three = inl refl
 
+seven : HasNodes 7
+seven = inr (inr refl)
+
+-- no other number of nodes: not an even one, and none above seven
+other_counts : (n : ℕ) → (n ≡ 3 → ⊥) → (n ≡ 5 → ⊥) → (n ≡ 7 → ⊥) → HasNodes n → ⊥
+other_counts n three five seven nodes = elim nodes [ inl e ↦ three e | inr more ↦ elim more [ inl e ↦ five e | inr e ↦ seven e ] ]
+
 not_four : HasNodes 4 → ⊥
-not_four nodes = elim nodes [ inl e ↦ omega (arith, e) | inr e ↦ omega (arith, e) ]
+not_four = other_counts 4 (λ e. omega (arith, e)) (λ e. omega (arith, e)) (λ e. omega (arith, e))
+
+not_six : HasNodes 6 → ⊥
+not_six = other_counts 6 (λ e. omega (arith, e)) (λ e. omega (arith, e)) (λ e. omega (arith, e))
+
+not_nine : HasNodes 9 → ⊥
+not_nine = other_counts 9 (λ e. omega (arith, e)) (λ e. omega (arith, e)) (λ e. omega (arith, e))

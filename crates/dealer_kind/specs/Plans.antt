@@ -18,9 +18,9 @@ plan game name word names hands sources = record {
   sources = sources;
 }
 
--- three or five
+-- three, five or seven
 abbrev pub HasNodes : ℕ → Type 0
-HasNodes nodes = (nodes ≡ 3) ⊎ (nodes ≡ 5)
+HasNodes nodes = (nodes ≡ 3) ⊎ ((nodes ≡ 5) ⊎ (nodes ≡ 7))
 
 -- what holds of every match
 pub record IsSetting (setting : Setting) : Type 0 where

@@ -13,8 +13,8 @@ use std::marker::Model;
 
 /// A match and the nodes that deal it: what all nodes share, and where each node's own deals come from.
 ///
-/// The match has 1 to 10000 hands and a name for each seat of its game. The nodes are three or five; the list of one
-/// that lists its deals has a deal for the game's players for each hand.
+/// The match has 1 to 10000 hands and a name for each seat of its game. The nodes are three, five or seven; the list
+/// of one that lists its deals has a deal for the game's players for each hand.
 pub struct Config {
     game: GameDef,
     name: Name,
@@ -71,7 +71,7 @@ impl Config {
         let is_right = is_game_word(&game_word)
             && names.as_slice().len() == game.players()
             && (1..=HANDS).contains(&hands)
-            && (sources.len() == 3 || sources.len() == 5)
+            && matches!(sources.len(), 3 | 5 | 7)
             && sources
                 .iter()
                 .all(|source| source.has_deals(game.players(), hands));
@@ -136,7 +136,7 @@ impl Config {
         self.hands
     }
 
-    /// How many nodes there are, 3 or 5.
+    /// How many nodes there are, 3, 5 or 7.
     pub fn nodes(&self) -> usize
         ensures value { result ≡ length self.now.sources }
         ensures nodes { HasNodes result }

@@ -44,7 +44,7 @@ pub record SaysNames (players : ℕ) (table : Members) (names : List (List ℕ))
   pub texts : SaysEach SaysName (entry_at Names table) names
   pub are_names : AreNames players names
 
--- three nodes or five
+-- three nodes, five or seven
 pub record SaysSources (players hands : ℕ) (table : Members) (sources : List Source) : Type 0 where
   pub tables : SaysEach (SaysSource players hands) (entry_at Node table) sources
   pub nodes : HasNodes (length sources)

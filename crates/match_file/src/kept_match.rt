@@ -110,14 +110,14 @@ fn read_hands(bytes: &[u8]) -> Option<u32>
     }
 }
 
-/// The count of nodes that a decimal says, three or five.
+/// The count of nodes that a decimal says, three, five or seven.
 fn read_nodes(bytes: &[u8]) -> Option<u32>
     ensures found { IfSome result (λ nodes. bytes.now ≡ decimal nodes) }
     ensures nodes { IfSome result HasNodes }
     ensures only { (nodes : ℕ) → HasNodes nodes → bytes.now ≡ decimal nodes → result ≡ Some nodes }
 {
     match read_number(bytes) {
-        Some(nodes) if nodes == 3 || nodes == 5 => Some(nodes),
+        Some(nodes) if matches!(nodes, 3 | 5 | 7) => Some(nodes),
         _ => None,
     }
 }

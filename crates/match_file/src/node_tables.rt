@@ -23,7 +23,7 @@ const WRONG: MatchFault = MatchFault::BadEntry(Key::Node);
 impl MatchFile {
     ghost use Rattle.match_file.specs.MatchFile.{members};
 
-    /// Where the nodes' deals come from, three nodes or five, for 2 to 10 players and so many hands.
+    /// Where the nodes' deals come from, three nodes, five or seven, for 2 to 10 players and so many hands.
     pub(crate) fn sources(
         &self,
         alloc: Global,
@@ -41,11 +41,11 @@ impl MatchFile {
     }
 }
 
-/// Whether so many nodes can deal a match: three or five.
+/// Whether so many nodes can deal a match: three, five or seven.
 fn are_nodes(count: usize) -> bool
     ensures { IsTrue result ↔ HasNodes count }
 {
-    count == 3 || count == 5
+    matches!(count, 3 | 5 | 7)
 }
 
 /// The sources that tables say.

@@ -2,7 +2,7 @@
 //! of a match: who serves a match over links compares the two.
 
 /// Nodes are numbered from 0 to one below this.
-pub const NODES: usize = 5;
+pub const NODES: usize = 7;
 
 /// The most bytes of a piece: one more than those of the longest line, so that a line that is too long is seen to be.
 pub const PIECE: usize = 4097;

@@ -1,4 +1,5 @@
 ghost use Rattle.std.specs.Prelude.{◌≡◌, ◌≤◌, ◌<◌, ◌+◌, ◌*◌};
+ghost use Rattle.match_links.specs.declared.limits.TheConstants.{NODES};
 
 /// The numbers of a match's ports. With n players and m nodes, seat s at node i is at the port `first + i * n + s`, and
 /// node i awaits the others at `first + m * n + i`.
@@ -8,7 +9,7 @@ pub(crate) struct PortNumbers {
     pub(crate) nodes: usize,
     pub(crate) players: usize,
     ghost low: { first ≤ 65000 },
-    ghost few_nodes: { nodes ≤ 5 },
+    ghost few_nodes: { nodes ≤ NODES },
     ghost few_players: { players ≤ 10 },
 }
 

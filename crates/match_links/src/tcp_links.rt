@@ -2,6 +2,7 @@
 
 ghost use Rattle.std.specs.Prelude.{◌≡◌, ◌≤◌, ◌<◌, ◌+◌, ◌*◌, IsErr, Some};
 
+use crate::limits::NODES;
 use crate::links::{LinkFault, Links};
 use crate::passages::Passages;
 use crate::peers::Peers;
@@ -66,7 +67,7 @@ impl<'a> TcpLinks<'a> {
         players: usize,
     ) -> Result<TcpLinks<'a>, PortFault>
         requires low { port ≤ 65000 }
-        requires nodes { nodes ≤ 5 }
+        requires nodes { nodes ≤ NODES }
         requires players { players ≤ 10 }
     {
         let numbers = PortNumbers {

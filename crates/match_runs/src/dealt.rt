@@ -6,10 +6,8 @@ ghost use Rattle.match_runs.specs.Notes.{newest_of};
 ghost use Rattle.match_runs.specs.Turning.{AreDealt};
 
 use dealer_world::Cluster;
+use match_links::limits::NODES;
 use promise_store::Disk;
-
-/// How many nodes a match has at most.
-const NODES: usize = 5;
 
 /// How many hands were dealt at each node, by its own table; nodes are counted from 0. At a node that is down it is none.
 ///

@@ -17,6 +17,16 @@ two_of_three = record { rise = (omega arith, omega arith, (omega arith, omega ar
 three_of_five : IsLeastQuorum 5 (0 ∷ 1 ∷ 2 ∷ [])
 three_of_five = record { rise = (omega arith, omega arith, (omega arith, omega arith, (omega arith, omega arith, tt))); most = omega arith; least = omega arith }
 
+four_of_seven : IsLeastQuorum 7 (0 ∷ 1 ∷ 2 ∷ 3 ∷ [])
+four_of_seven = record {
+  rise = (omega arith, omega arith, (omega arith, omega arith, (omega arith, omega arith, (omega arith, omega arith, tt))));
+  most = omega arith;
+  least = omega arith;
+}
+
+three_of_seven_are_too_few : IsLeastQuorum 7 (0 ∷ 1 ∷ 2 ∷ []) → ⊥
+three_of_seven_are_too_few h = let l = h.most in omega arith
+
 one_is_too_few : IsLeastQuorum 3 (0 ∷ []) → ⊥
 one_is_too_few h = let l = h.most in omega arith
 
@@ -57,6 +67,15 @@ five_round : round first 0 (0 ∷ 1 ∷ 2 ∷ []) (dealt 0)
     ∷ delivers 1 0 (Accepted (ballot 1 0) 0 (dealt 0)) ∷ delivers 2 0 (Accepted (ballot 1 0) 0 (dealt 0)) ∷ []
 unfolding opened
 five_round = refl
+
+-- seven nodes: a tick and twelve deliveries, four times to or from node 1, then node 2 and then node 3
+seven_round : round first 0 (0 ∷ 1 ∷ 2 ∷ 3 ∷ []) (dealt 0)
+    ≡ Ticks 0 ∷ delivers 0 1 (Prepare (ballot 1 0) 0) ∷ delivers 0 2 (Prepare (ballot 1 0) 0) ∷ delivers 0 3 (Prepare (ballot 1 0) 0)
+    ∷ delivers 1 0 (Promise (ballot 1 0) 0 []) ∷ delivers 2 0 (Promise (ballot 1 0) 0 []) ∷ delivers 3 0 (Promise (ballot 1 0) 0 [])
+    ∷ delivers 0 1 (Accept (ballot 1 0) 0 (dealt 0)) ∷ delivers 0 2 (Accept (ballot 1 0) 0 (dealt 0)) ∷ delivers 0 3 (Accept (ballot 1 0) 0 (dealt 0))
+    ∷ delivers 1 0 (Accepted (ballot 1 0) 0 (dealt 0)) ∷ delivers 2 0 (Accepted (ballot 1 0) 0 (dealt 0)) ∷ delivers 3 0 (Accepted (ballot 1 0) 0 (dealt 0)) ∷ []
+unfolding opened
+seven_round = refl
 
 -- another node's deal isn't the value
 other_deal_is_refuted : Calm (place 0) first 0 (0 ∷ 1 ∷ []) (dealt 1) → ⊥

@@ -138,12 +138,12 @@ abbrev pub campaign_0 : Campaign
 campaign_0 = record {
   ballot = ballot 1 0;
   first = 0;
-  promises = Some [] ∷ Some [] ∷ None ∷ None ∷ None ∷ [];
+  promises = Some [] ∷ Some [] ∷ None ∷ None ∷ None ∷ None ∷ None ∷ [];
   proposed = true ∷ replicate 63 false;
 }
 
 abbrev pub own_vote : Tally
-own_vote = record { ballot = ballot 1 0; command = dealt 0; nodes = true ∷ false ∷ false ∷ false ∷ false ∷ [] }
+own_vote = record { ballot = ballot 1 0; command = dealt 0; nodes = true ∷ false ∷ false ∷ false ∷ false ∷ false ∷ false ∷ [] }
 
 abbrev pub leads_0 : Standing
 leads_0 = record (with_seats (first 0)) {
@@ -183,7 +183,7 @@ abbrev pub voted_1 : Standing
 voted_1 = record (first 1) {
   store = store_0;
   begun = store_0;
-  learned = record (new_learned 3) { cells = (record own_vote { nodes = false ∷ true ∷ false ∷ false ∷ false ∷ [] } ∷ []) ∷ replicate 63 [] };
+  learned = record (new_learned 3) { cells = (record own_vote { nodes = false ∷ true ∷ false ∷ false ∷ false ∷ false ∷ false ∷ [] } ∷ []) ∷ replicate 63 [] };
   seen = ballot 1 0;
 }
 
@@ -232,7 +232,7 @@ unfolding opened
 act_is_proposed_at_the_front = refl
 
 abbrev pub own_fold : Tally
-own_fold = record { ballot = ballot 1 0; command = Act 0 0 Fold; nodes = true ∷ false ∷ false ∷ false ∷ false ∷ [] }
+own_fold = record { ballot = ballot 1 0; command = Act 0 0 Fold; nodes = true ∷ false ∷ false ∷ false ∷ false ∷ false ∷ false ∷ [] }
 
 -- the act is proposed and waits still
 abbrev pub waits_0 : Standing

@@ -4,7 +4,6 @@ use Rattle.std.proofs.lemmas.Bool.{eqb-true, eqb-false}
 use Rattle.std.proofs.lemmas.Bool.Decides.{eqb_tells}
 use Rattle.protocol_model.specs.Sets.{In}
 use Rattle.protocol_model.specs.Quorums.{count}
-pub use Rattle.dealer_kind.proofs.Counts.{three_nodes}
 use Rattle.node_rules.specs.Calm.{Rise, without}
 
 -- ---- sets as tests

@@ -29,7 +29,7 @@ use Rattle.node_rules.specs.Proposed.{IsProposed, IsSettled}
 use Rattle.node_rules.specs.Seats.{session_at}
 use Rattle.node_rules.specs.Seen.{Sees}
 
--- the node is one of three or five of a match, and its deals are its own
+-- the node is one of three, five or seven of a match, and its deals are its own
 pub record IsPlace (own : ℕ → Command → Bool) (place : Place) : Type 0 where
   pub few : HasNodes place.nodes
   pub node : place.node < place.nodes
