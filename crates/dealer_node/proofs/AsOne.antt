@@ -3,6 +3,7 @@ use Rattle.std.proofs.Common.{◌≡◌, ℕ, List, Option, Some, None, true, fa
 use Rattle.promise_store.specs.declared.disk.Disk.{Ghosts}
 use Rattle.promise_store.specs.Holding.{holding, store_of}
 use Rattle.promise_store.specs.declared.records.Record.{Record}
+use Rattle.promise_store.specs.declared.stage.Stage.TheVariants.{New}
 use Rattle.promise_store.specs.Journals.{IsJournal}
 use Rattle.promise_store.specs.Keeping.{Keeps}
 use Rattle.protocol_model.specs.Stores.{Store}
@@ -21,7 +22,8 @@ OneReading = (head bytes : List ℕ) (a b : List Record) → IsJournal head byte
 module _ {D : Type 0} (g : Ghosts D) where
   kept_as_one : OneReading → (head : List ℕ) (a b : Store) (store : Kept D) → IsTrue g.is_honest → Keeps g head a store → Keeps g head b store → a ≡ b
   kept_as_one reading head a b store honest first second =
-      first.is ∙ (ap (λ (records : List Record). store_of (holding head records)) (reading head (g.seen store.disk) first.records second.records (first.settled.journal honest) (second.settled.journal honest))
+      first.is ∙ (ap (λ (records : List Record). store_of (holding head records)) (reading head (g.seen store.disk) first.records second.records
+      (first.first, New, first.settled.journal honest) (second.first, New, second.settled.journal honest))
       ∙ sym second.is)
 
   up_as_one : OneReading → (post : Post) (up : Up D) (a b : Standing) → IsTrue g.is_honest → IsUp g post up a → IsUp g post up b → a ≡ b

@@ -1,5 +1,5 @@
 -- What was learned is applied.
-use Rattle.std.proofs.Common.{◌≡◌, ℕ, ◌+◌, true≢false, List, ◌++◌, refl, ap, sym, ◌∙◌, subst, drop, reverse}
+use Rattle.std.proofs.Common.{◌≡◌, ℕ, true≢false, List, ◌++◌, refl, ap, sym, ◌∙◌, subst, drop, reverse}
 use Rattle.std.specs.Prelude.{map, Result, Ok, Err, IsOk, IsErr}
 use Rattle.std.proofs.lemmas.List.{append-nil}
 use Rattle.slot_log.specs.Slots.{front}

@@ -29,6 +29,5 @@ pub mod Handled
 pub mod Within
 pub mod Most
 mod MostExamples
-pub mod ReadBack
 pub mod AsOne
 pub mod Own

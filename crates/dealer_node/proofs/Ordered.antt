@@ -1,5 +1,5 @@
 -- What an order comes to at a node that runs.
-use Rattle.std.proofs.Common.{◌≡◌, ℕ, inl, inr, Bool, true, false, if◌then◌else◌, List, [], ◌∷◌, length, Option, Some, None, Result, Ok, Err, refl, ap, sym, ◌∙◌, subst}
+use Rattle.std.proofs.Common.{◌≡◌, ℕ, inl, Bool, true, false, if◌then◌else◌, List, [], ◌∷◌, length, Option, Some, None, Result, Ok, Err, refl, ap, sym, ◌∙◌, subst}
 use Rattle.paxos_wire.specs.declared.ballot.Ballot.{Ballot}
 use Rattle.paxos_wire.specs.Fits.{MayGoOn}
 use Rattle.promise_store.specs.declared.disk.Disk.{Ghosts}
@@ -8,8 +8,8 @@ use Rattle.slot_log.specs.Dealer.{is_finished, next_away}
 use Rattle.slot_log.specs.declared.command.Command.{Command}
 use Rattle.slot_log.specs.declared.command.Command.TheVariants.{Away}
 use Rattle.game_def.specs.Game.{Game}
-use Rattle.node_rules.specs.Standings.{Standing, applied}
-use Rattle.node_rules.specs.Turns.{Turn, Refusal, NothingToAct, sending, and_then, still}
+use Rattle.node_rules.specs.Standings.{Standing}
+use Rattle.node_rules.specs.Turns.{Turn, NothingToAct, sending, and_then, still}
 use Rattle.node_rules.specs.Proposing.{closing}
 use Rattle.node_rules.specs.Seats.{away_at, ordering, ordering_by, pending_act, forwarding}
 use Rattle.dealer_node.specs.declared.up.Up.{Up}
@@ -17,7 +17,6 @@ use Rattle.dealer_node.specs.declared.running.Running.{Running}
 use Rattle.dealer_node.specs.declared.fault.NodeFault.{NodeFault}
 use Rattle.dealer_node.specs.Outs.{Told}
 use Rattle.dealer_node.specs.Posts.{Post, place_at}
-use Rattle.dealer_node.specs.Scenes.{IsTableOf}
 use Rattle.dealer_node.specs.Hearing.{TakesAct}
 use Rattle.dealer_node.specs.Running.{IsRunning, IsTaken}
 use Rattle.dealer_node.specs.Working.{IsUp, Took, Works}

@@ -1,22 +1,23 @@
 -- What a node proposes.
 use borrow.Author.Tests.{le-leb, lt-leb}
 use Rattle.std.proofs.Common.{◌≡◌, ℕ, zero, suc, ◌<◌, ◌≤◌, Bool, true, false, true≢false, List, [], ◌∷◌, ◌++◌, refl, ap, sym, ◌∙◌, subst}
-use Rattle.std.specs.Prelude.{map, ◌==◌, ◌&&◌, nat_le, not, if◌then◌else◌, Option, Some, None, IfSome, Result, Ok, Err}
+use Rattle.std.specs.Prelude.{map, replicate, slice_index_or, slice_set, ◌==◌, ◌&&◌, nat_le, not, if◌then◌else◌, Option, Some, None, IfSome, Result, Ok, Err}
 use Rattle.std.specs.List.{AllByRecursion}
-use Rattle.paxos_wire.specs.declared.limits.TheConstants.{SLOTS}
+use Rattle.paxos_wire.specs.declared.limits.TheConstants.{NODES, SLOTS}
 use Rattle.paxos_wire.specs.declared.ballot.Ballot.{Ballot}
 use Rattle.paxos_wire.specs.declared.entry.Entry.{Entry}
 use Rattle.paxos_wire.specs.declared.message.Message.TheVariants.{Prepare, Accept as AcceptFrame}
 use Rattle.paxos_wire.specs.Fits.{Fits, IsBallot, IsEntry, IsInRange}
 use Rattle.slot_log.specs.Slots.{front}
 use Rattle.slot_log.specs.declared.command.Command.{Command}
+use Rattle.protocol_model.proofs.Sets.{all_same}
 use Rattle.proposer.specs.declared.accept.Accept.{Accept}
 use Rattle.proposer.specs.declared.campaign.Campaign.{Campaign}
 use Rattle.proposer.specs.declared.fault.ProposeFault.{ProposeFault}
 use Rattle.proposer.specs.declared.fault.ProposeFault.TheVariants.{OutOfWindow}
 use Rattle.proposer.specs.Told.{better, best_in, best_after}
 use Rattle.paxos_wire.specs.Order.{is_below}
-use Rattle.proposer.specs.Campaigns.{Proposing, next_ballot, new_campaign, with_promise, counting, counting_from, has_quorum, leads, is_covered, is_proposed, promise_by, greatest_told, value_of, accept_of, proposal_from, marked_from}
+use Rattle.proposer.specs.Campaigns.{Proposing, next_ballot, new_campaign, is_counted, with_promise, counting, counting_from, has_quorum, leads, is_covered, is_proposed, promise_by, greatest_told, value_of, accept_of, proposal_from, marked_from}
 use Rattle.learner.specs.Learning.{Learned}
 use Rattle.node_rules.specs.Standings.{Standing, applied, front_of, idle}
 use Rattle.node_rules.specs.Sending.{Frame, to_first}
@@ -277,4 +278,46 @@ begun_taken post old begun counted s seen ballot slot node nodes number entries 
       };
       told = frames_more told texts (map posted (to_first post.nodes post.node (Prepare ballot (front_of s)))) (sends ∙ ap (λ (fs : List Frame). told.frames ++ map posted fs) frames);
       fits = subst (λ (fs : List Frame). AreMessages fs) frames fits;
+    }
+
+-- what the promises tell has its numbers within their ranges
+abbrev AreWithin : List (Option (List Entry)) → Type 0
+AreWithin promises = (node : ℕ) → IfSome (slice_index_or promises node None) (λ entries. AllByRecursion IsEntry entries)
+
+set_within : (promises : List (Option (List Entry))) (from : ℕ) (told : List Entry) → AreWithin promises → AllByRecursion IsEntry told → AreWithin (slice_set promises from (Some told))
+set_within [] from told are all node = are node
+set_within (promise ∷ promises) zero told are all zero = all
+set_within (promise ∷ promises) zero told are all (suc node) = are (suc node)
+set_within (promise ∷ promises) (suc from) told are all zero = are zero
+set_within (promise ∷ promises) (suc from) told are all (suc node) = set_within promises from told (λ k. are (suc k)) all node
+
+none_within : AreWithin (replicate NODES None)
+none_within node = subst (λ (p : Option (List Entry)). IfSome p (λ entries. AllByRecursion IsEntry entries)) (sym (all_same {A = Option (List Entry)} None NODES node)) tt
+
+counted_within : (counts : Bool) (campaign : Campaign) (from : ℕ) (told : List Entry) → IsCampaign campaign → AllByRecursion IsEntry told
+    → IsCampaign (if counts then record campaign { promises = slice_set campaign.promises from (Some told) } else campaign)
+counted_within true campaign from told is all = record { ballot = is.ballot; told = set_within campaign.promises from told is.told all }
+counted_within false campaign from told is all = is
+
+pub begun_at : (post : Post) (old : Running) (begun counted : Proposing) (seen ballot : Ballot) (slot node : ℕ) (entries : List Entry)
+    → IsAt post old → IsBallot ballot → ballot ≡ next_ballot old.proposer.node seen
+    → begun ≡ record old.proposer { campaign = Some (new_campaign (next_ballot old.proposer.node seen) slot) }
+    → counted ≡ counting begun node ballot slot entries → AllByRecursion IsEntry entries
+    → IsAt post (record old { proposer = counted })
+begun_at post old begun counted seen ballot slot node entries at is next begins counts all =
+    let first : begun.campaign ≡ Some (new_campaign ballot slot) = ap (λ (p : Proposing). p.campaign) begins ∙ ap (λ (b : Ballot). Some (new_campaign b slot)) (sym next) in
+    let campaign : counted.campaign ≡ Some (with_promise begun.nodes (new_campaign ballot slot) node ballot slot entries) =
+    ap (λ (p : Proposing). p.campaign) counts ∙ ap (λ (c : Option Campaign). counting_from begun.nodes c node ballot slot entries) first in
+    let began : IsCampaign (new_campaign ballot slot) = record { ballot = is; told = none_within } in
+    record {
+      node = ap (λ (p : Proposing). p.node) counts ∙ (ap (λ (p : Proposing). p.node) begins ∙ at.node);
+      nodes = ap (λ (p : Proposing). p.nodes) counts ∙ (ap (λ (p : Proposing). p.nodes) begins ∙ at.nodes);
+      counted = at.counted;
+      game = at.game;
+      count = at.count;
+      seats = at.seats;
+      ballots = subst (λ (c : Option Campaign). IfSome c (λ k. IsCampaign k)) (sym campaign)
+          (counted_within (is_counted begun.nodes (new_campaign ballot slot) node ballot slot) (new_campaign ballot slot) node entries began all);
+      commands = at.commands;
+      act = at.act;
     }

@@ -1,5 +1,5 @@
 -- What a start makes of a node.
-use Rattle.std.proofs.Common.{◌≡◌, ℕ, inl, inr, Bool, true, false, List, [], ◌∷◌, Result, Ok, Err, refl, sym, ap, subst, ◌∙◌, arith}
+use Rattle.std.proofs.Common.{◌≡◌, ◌≢◌, ℕ, inl, inr, Bool, true, false, List, [], ◌∷◌, Result, Ok, Err, OnOk, IfErr, IsTrue, refl, sym, ap, subst, ◌∙◌, arith}
 use Rattle.std.specs.Prelude.{◌⊎◌, Option, Some, None, is_some, IsSome}
 use Rattle.promise_store.specs.declared.disk.Disk.{Ghosts}
 use Rattle.promise_store.specs.declared.fault.StoreFault.{StoreFault}
@@ -7,7 +7,7 @@ use Rattle.promise_store.specs.declared.fault.StoreFault.TheVariants.{Disk}
 use Rattle.promise_store.specs.Refusals.{Refuses}
 use Rattle.promise_store.specs.declared.store.Store.{Store as Journal}
 use Rattle.promise_store.specs.Settled.{OnlyReads}
-use Rattle.promise_store.specs.Keeping.{disk_of, Keeps, Leaves}
+use Rattle.promise_store.specs.Keeping.{disk_of, Keeps, LeavesDuring, Reopens}
 use Rattle.acceptor.specs.Stored.{store_of}
 use Rattle.acceptor.specs.declared.acceptor.Acceptor.{Acceptor}
 use Rattle.protocol_model.specs.Stores.{Store}
@@ -28,13 +28,13 @@ use Rattle.dealer_node.specs.Turned.{told_of}
 use Rattle.dealer_node.specs.Fitting.{AreMessages}
 use Rattle.dealer_node.specs.Running.{IsRunning}
 use Rattle.dealer_node.specs.Working.{head_of, disk_under}
-use Rattle.dealer_node.specs.Starting.{Starts, StaysDown, Finds}
+use Rattle.dealer_node.specs.Starting.{GoesOnNew, MarksJournal, Starts, StaysDown, Finds}
 use Rattle.dealer_node.specs.declared.node.Node.TheInside.{Inside}
 use Rattle.dealer_node.specs.Nodes.{Node}
 use Rattle.dealer_node.specs.NodeInside.{node_of, IsKept}
 use Rattle.dealer_node.specs.Scenes.{IsTableOf}
-use Rattle.dealer_node.specs.Seeing.{post_in, disk_by, disk_in, bytes_of, IsSeen}
-use Rattle.dealer_node.specs.Taking.{IsStart, Takes, FindsStore, OnlyReadsDisk}
+use Rattle.dealer_node.specs.Seeing.{post_in, runs, is_up, disk_by, disk_in, bytes_of, IsSeen}
+use Rattle.dealer_node.specs.Taking.{IsStart, Takes, FindsStore, OpensDisk}
 use Rattle.dealer_node.proofs.Messages.{no_messages}
 use Rattle.dealer_node.proofs.Worked.{memory_took, nothing_more}
 use Rattle.dealer_node.proofs.Settled.{noted, read_back, turn_down, may_down, down_by, up_took, seen_at}
@@ -43,37 +43,29 @@ module _ {D : Type 0} (g : Ghosts D) where
   -- an opened store runs
   starts_with : (post : Post) (store begun found : Store) (disk : D) (acceptor : Acceptor D) (running : Running) (earlier later : Told)
       → (found ≡ store) ⊎ (found ≡ begun) → Keeps g (head_of post) found (store_of acceptor) → IsRunning post running (started (place_at post) found)
-      → Leaves g (head_of post) store begun disk → OnlyReads g disk (disk_of (store_of acceptor))
+      → LeavesDuring g (head_of post) store begun disk (disk_of (store_of acceptor))
       → later ≡ both_told earlier (told_of (starting (place_at post) found)) → AreMessages (asking_all (place_at post) found)
       → Starts g post store begun disk (record { acceptor = acceptor; running = running }) earlier later
-  starts_with post store begun found disk acceptor running earlier later either keeps runs leaves reads told fits = record {
+  starts_with post store begun found disk acceptor running earlier later either keeps runs moments told fits = record {
     found = found;
     either = either;
     now = record { running = runs; keeps = keeps; unbegun = refl; stands = tt };
     told = told;
     fits = fits;
-    moments = λ t image at. elim (reads.during t image at) [ inl was ↦ inl was | inr now ↦ inr (leaves image now) ];
+    moments = moments;
   }
 
   pub starts_by : (post : Post) (store begun : Store) (disk : D) (acceptor : Acceptor D) (running : Running) (earlier later : Told)
       → Keeps g (head_of post) store (store_of acceptor) ⊎ Keeps g (head_of post) begun (store_of acceptor)
       → ((found : Store) → IsRunning post running (started (place_at post) found))
-      → Leaves g (head_of post) store begun disk → OnlyReads g disk (disk_of (store_of acceptor))
+      → LeavesDuring g (head_of post) store begun disk (disk_of (store_of acceptor))
       → ((found : Store) → Keeps g (head_of post) found (store_of acceptor) → later ≡ both_told earlier (told_of (starting (place_at post) found)))
       → ((found : Store) → Keeps g (head_of post) found (store_of acceptor) → AreMessages (asking_all (place_at post) found))
       → Starts g post store begun disk (record { acceptor = acceptor; running = running }) earlier later
-  starts_by post store begun disk acceptor running earlier later (inl keeps) runs leaves reads told fits =
-      starts_with post store begun store disk acceptor running earlier later (inl refl) keeps (runs store) leaves reads (told store keeps) (fits store keeps)
-  starts_by post store begun disk acceptor running earlier later (inr keeps) runs leaves reads told fits =
-      starts_with post store begun begun disk acceptor running earlier later (inr refl) keeps (runs begun) leaves reads (told begun keeps) (fits begun keeps)
-
-  pub stays_by : (post : Post) (store begun : Store) (before after : D) (why : NodeFault) → Leaves g (head_of post) store begun before → OnlyReads g before after
-      → (why ≡ fault.OutOfMemory) ⊎ (why ≡ fault.Store Disk) → StaysDown g post store begun before after why
-  stays_by post store begun before after why leaves reads e = record {
-    leaves = λ image at. leaves image (reads.images image at);
-    moments = λ t image at. elim (reads.during t image at) [ inl was ↦ inl was | inr now ↦ inr (leaves image now) ];
-    fault = e;
-  }
+  starts_by post store begun disk acceptor running earlier later (inl keeps) runs moments told fits =
+      starts_with post store begun store disk acceptor running earlier later (inl refl) keeps (runs store) moments (told store keeps) (fits store keeps)
+  starts_by post store begun disk acceptor running earlier later (inr keeps) runs moments told fits =
+      starts_with post store begun begun disk acceptor running earlier later (inr refl) keeps (runs begun) moments (told begun keeps) (fits begun keeps)
 
   -- ---- of the node
 
@@ -242,28 +234,86 @@ module _ {D : Type 0} (g : Ghosts D) where
   same_reads : (disk : D) → OnlyReads g disk disk
   same_reads disk = record { seen = refl; begun = refl; images = λ image at. at; during = λ t image was. inl was; counts = omega arith }
 
-  there_reads : (now : Node D) (disk : Option D) → disk_in now ≡ disk → IsSome disk → OnlyReadsDisk g now now
-  there_reads now None is there = absurd (cc)
-  there_reads now (Some disk) is there = record { before = disk; after = disk; was = is; is = is; reads = same_reads disk }
+  same_reopens : (head : List ℕ) (disk : D) → Reopens g head disk disk
+  same_reopens head disk = record { begun = refl; counts = omega arith; leaves = λ old new honest leaves. leaves; during = λ old new honest leaves t image was. inl was }
 
-  -- a node that stayed as it is has its disk as it was
-  pub stays_reads : (now : Node D) (i : Inside D) → node_of i ≡ now → IsKept i → OnlyReadsDisk g now now
-  stays_reads now i view kept = there_reads now (disk_by i.up i.disk) (ap disk_in (sym view)) kept.has_disk
+  each_err : (answer : Result (Unit {0}) NodeFault) (P : NodeFault → Type 0) → ((why : NodeFault) → P why) → IfErr answer P
+  each_err (Ok done) P all = tt
+  each_err (Err why) P all = all why
 
-  pub started_reads : (now : Node D) (i : Inside D) (disk : D) (other : Option D) (up : Up D) → node_of i ≡ now → is_some i.up ≡ false → i.disk ≡ Some disk → OnlyReads g disk (disk_under up)
-      → OnlyReadsDisk g now (noted g i.post i.blank other (Some up))
-  started_reads now i disk other up view down has reads =
-      record { before = disk; after = disk_under up; was = ap disk_in (sym (down_now now i disk view down has)); is = refl; reads = reads }
+  no_ok : (answer : Result (Unit {0}) NodeFault) (P : Type 0) → OnOk answer ⊥ → OnOk answer P
+  no_ok (Ok done) P none = absurd none
+  no_ok (Err why) P none = tt
 
-  pub unstarted_reads : (now : Node D) (i : Inside D) (disk left : D) → node_of i ≡ now → is_some i.up ≡ false → i.disk ≡ Some disk → OnlyReads g disk left
-      → OnlyReadsDisk g now (noted g i.post i.blank (Some left) i.up)
-  unstarted_reads now i disk left view down has reads = record {
+  -- a node that was down isn't taken up
+  abbrev pub NotTaken : Node D → Result (Unit {0}) NodeFault → Type 0
+  NotTaken now answer = runs now ≡ false → OnOk answer ⊥
+
+  there_opens : (now : Node D) (disk : Option D) (answer : Result (Unit {0}) NodeFault) → disk_in now ≡ disk → IsSome disk → NotTaken now answer → OpensDisk g now now answer
+  there_opens now None answer is there stays = absurd (cc)
+  there_opens now (Some disk) answer is there stays = record {
     before = disk;
-    after = left;
-    was = ap disk_in (sym (down_now now i disk view down has));
-    is = ap (λ (u : Option (Up D)). disk_by u (Some left)) (no_up i.up down);
-    reads = reads;
+    after = disk;
+    was = is;
+    is = is;
+    reopens = same_reopens (head_of (post_in now)) disk;
+    marks = λ honest down. no_ok answer (MarksJournal (head_of (post_in now)) (g.seen disk) (g.seen disk)) (stays down);
+    quiet = λ honest goes_on. same_reads disk;
+    unwritten = each_err answer (λ why. why ≢ fault.Store Disk → OnlyReads g disk disk) (λ why other. same_reads disk);
   }
+
+  stays_opens : (now : Node D) (i : Inside D) (answer : Result (Unit {0}) NodeFault) → node_of i ≡ now → IsKept i → NotTaken now answer → OpensDisk g now now answer
+  stays_opens now i answer view kept stays = there_opens now (disk_by i.up i.disk) answer (ap disk_in (sym view)) kept.has_disk stays
+
+  not_down : (up : Option (Up D)) → is_some up ≡ true → is_up up ≡ false → ⊥
+  not_down None some down = absurd (cc)
+  not_down (Some up) some down = absurd (cc)
+
+  -- one that runs
+  pub runs_opens : (now : Node D) (i : Inside D) (answer : Result (Unit {0}) NodeFault) → node_of i ≡ now → IsKept i → is_some i.up ≡ true → OpensDisk g now now answer
+  runs_opens now i answer view kept some =
+      stays_opens now i answer view kept (λ down. absurd (not_down i.up some (ap (runs {D = D}) view ∙ down)))
+
+  -- one for which there was no memory
+  pub wanting_opens : (now : Node D) (i : Inside D) (answer : Result (Unit {0}) NodeFault) → node_of i ≡ now → IsKept i → answer ≡ Err fault.OutOfMemory → OpensDisk g now now answer
+  wanting_opens now i answer view kept says =
+      stays_opens now i answer view kept (λ down. subst (λ (a : Result (Unit {0}) NodeFault). OnOk a ⊥) (sym says) tt)
+
+  -- what is said of the post that the node had is said of the one that it has
+  head_at : (now : Node D) (i : Inside D) → node_of i ≡ now → head_of i.post ≡ head_of (post_in now)
+  head_at now i view = ap (λ (n : Node D). head_of (post_in n)) view
+
+  pub started_opens : (now : Node D) (i : Inside D) (disk : D) (other : Option D) (up : Up D) → node_of i ≡ now → is_some i.up ≡ false → i.disk ≡ Some disk
+      → Reopens g (head_of i.post) disk (disk_under up) → (IsTrue g.is_honest → MarksJournal (head_of i.post) (g.seen disk) (g.seen (disk_under up)))
+      → (IsTrue g.is_honest → GoesOnNew (head_of i.post) (g.seen disk) → OnlyReads g disk (disk_under up)) → OpensDisk g now (noted g i.post i.blank other (Some up)) (Ok tt)
+  started_opens now i disk other up view down has reopens marks quiet =
+      let heads = head_at now i view in
+      record {
+        before = disk;
+        after = disk_under up;
+        was = ap disk_in (sym (down_now now i disk view down has));
+        is = refl;
+        reopens = subst (λ (head : List ℕ). Reopens g head disk (disk_under up)) heads reopens;
+        marks = λ honest stopped. subst (λ (head : List ℕ). MarksJournal head (g.seen disk) (g.seen (disk_under up))) heads (marks honest);
+        quiet = λ honest goes_on. quiet honest (subst (λ (head : List ℕ). GoesOnNew head (g.seen disk)) (sym heads) goes_on);
+        unwritten = tt;
+      }
+
+  pub unstarted_opens : (now : Node D) (i : Inside D) (disk left : D) (why : NodeFault) → node_of i ≡ now → is_some i.up ≡ false → i.disk ≡ Some disk
+      → Reopens g (head_of i.post) disk left → (IsTrue g.is_honest → GoesOnNew (head_of i.post) (g.seen disk) → OnlyReads g disk left) → (why ≢ fault.Store Disk → OnlyReads g disk left)
+      → OpensDisk g now (noted g i.post i.blank (Some left) i.up) (Err why)
+  unstarted_opens now i disk left why view down has reopens quiet unwritten =
+      let heads = head_at now i view in
+      record {
+        before = disk;
+        after = left;
+        was = ap disk_in (sym (down_now now i disk view down has));
+        is = ap (λ (u : Option (Up D)). disk_by u (Some left)) (no_up i.up down);
+        reopens = subst (λ (head : List ℕ). Reopens g head disk left) heads reopens;
+        marks = λ honest stopped. tt;
+        quiet = λ honest goes_on. quiet honest (subst (λ (head : List ℕ). GoesOnNew head (g.seen disk)) (sym heads) goes_on);
+        unwritten = unwritten;
+      }
 
   -- what the store was found to be is what the bytes of the node's disk stand for
   pub started_finds : (now : Node D) (i : Inside D) (disk : D) (other : Option D) (up : Up D) → node_of i ≡ now → is_some i.up ≡ false → i.disk ≡ Some disk

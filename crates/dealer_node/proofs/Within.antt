@@ -9,7 +9,7 @@ use Rattle.dealer_node.specs.declared.up.Up.{Up}
 use Rattle.dealer_node.specs.Texts.{byte_total}
 use Rattle.dealer_node.specs.Outs.{Told, told_by, nothing_told}
 use Rattle.dealer_node.specs.Rooms.{Grows, Tells}
-use Rattle.dealer_node.specs.Running.{ahead_of}
+use Rattle.dealer_node.specs.Running.{ahead_of, learner_room}
 use Rattle.dealer_node.specs.Working.{HasLeft}
 use Rattle.dealer_node.specs.Handling.{IsWithin}
 use Rattle.dealer_node.specs.Calling.{need_of, close_need, away_need, line_need, frame_need, HasCallRoom}
@@ -71,7 +71,7 @@ module _ {D : Type 0} where
       → after ≡ record up { running = record up.running { pending = after.running.pending } }
       → HasLeft after.running later (away_need up.running) 1 FRAMES_OF_A_CLOSE
   away_left up after earlier later nothing room frames others rest =
-      let learner : after.running.learner.room ≡ up.running.learner.room = ap (λ (u : Up D). u.running.learner.room) rest in
+      let learner : learner_room after.running.learner ≡ learner_room up.running.learner = ap (λ (u : Up D). learner_room u.running.learner) rest in
       let table : after.running.table.room ≡ up.running.table.room = ap (λ (u : Up D). u.running.table.room) rest in
       let ahead : ahead_of after.running ≡ ahead_of up.running = ap (λ (u : Up D). ahead_of u.running) rest in
       let text_room : later.shown.text_room ≡ earlier.shown.text_room = ap (λ (m : Made). m.shown.text_room) others in
@@ -101,7 +101,7 @@ module _ {D : Type 0} where
       → after ≡ record up { running = record up.running { pending = after.running.pending; seats = after.running.seats } }
       → HasLeft after.running later (line_need up.running limit) 1 FRAMES_OF_A_CLOSE
   line_left up after earlier later limit nothing room frames shown faults rest =
-      let learner : after.running.learner.room ≡ up.running.learner.room = ap (λ (u : Up D). u.running.learner.room) rest in
+      let learner : learner_room after.running.learner ≡ learner_room up.running.learner = ap (λ (u : Up D). learner_room u.running.learner) rest in
       let table : after.running.table.room ≡ up.running.table.room = ap (λ (u : Up D). u.running.table.room) rest in
       let ahead : ahead_of after.running ≡ ahead_of up.running = ap (λ (u : Up D). ahead_of u.running) rest in
       record {

@@ -15,7 +15,7 @@ use Rattle.dealer_node.specs.declared.fault.NodeFault.{NodeFault}
 use Rattle.dealer_node.specs.declared.fault.NodeFault.TheVariants as fault
 use Rattle.dealer_node.specs.Outs.{Told, HasRoom}
 use Rattle.dealer_node.specs.Posts.{Post, place_at}
-use Rattle.dealer_node.specs.Running.{ahead_of}
+use Rattle.dealer_node.specs.Running.{ahead_of, learner_room}
 use Rattle.dealer_node.specs.Working.{disk_under, store_room, IsUp}
 use Rattle.dealer_node.specs.Handling.{Stays, Handles}
 
@@ -55,7 +55,7 @@ module _ {D : Type 0} where
   -- there is room for so much, to learn of so many commands, and to store as many votes
   pub record HasCallRoom (up : Up D) (made : Made) (need : Need) (commands : ℕ) : Type 0 where
     pub shown : HasRoom made need
-    pub learner : commands ≤ up.running.learner.room
+    pub learner : commands ≤ learner_room up.running.learner
     pub table : ahead_of up.running + commands ≤ up.running.table.room
     pub store : commands ≤ store_room up
 

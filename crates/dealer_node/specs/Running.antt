@@ -1,11 +1,12 @@
 -- What runs at a node, as the rules see it.
-use Rattle.std.specs.Prelude.{◌≡◌, ℕ, ◌+◌, ◌-◌, ◌*◌, ◌^◌, ◌≤◌, ◌==◌, ◌||◌, Bool, true, nat_le, length, List, ◌++◌, Option, Some, None, IfSome, Result, Ok}
+use Rattle.std.specs.Prelude.{◌≡◌, ℕ, ◌+◌, ◌-◌, ◌*◌, ◌^◌, ◌≤◌, ◌==◌, ◌||◌, Bool, true, nat_le, min, length, List, ◌++◌, Option, Some, None, IfSome, Result, Ok}
 use Rattle.std.specs.List.{AllByRecursion}
 use Rattle.paxos_wire.specs.declared.limits.TheConstants.{SLOTS}
 use Rattle.paxos_wire.specs.declared.ballot.Ballot.{Ballot}
 use Rattle.paxos_wire.specs.Fits.{IsBallot, IsEntry, IsInRange}
 use Rattle.slot_log.specs.Slots.{Log, front, known_at}
 use Rattle.slot_log.specs.declared.command.Command.{Command}
+use Rattle.learner.specs.Learning.{Learning}
 use Rattle.proposer.specs.declared.accept.Accept.{Accept}
 use Rattle.proposer.specs.declared.campaign.Campaign.{Campaign}
 use Rattle.proposer.specs.Campaigns.{promise_by}
@@ -107,20 +108,24 @@ pub record IsAt (post : Post) (running : Running) : Type 0 where
 
 -- ---- room
 
+-- for how many further messages with one command each a learner has room
+abbrev pub learner_room : Learning → ℕ
+learner_room learning = min learning.answers learning.commands
+
 -- how many commands are known beyond the front
 abbrev pub ahead_of : Running → ℕ
 ahead_of running = length running.learner.learned.log.beyond
 
 -- there is room to learn of so many commands more, and to apply them and all that are known beyond the front
 pub record CanLearn (running : Running) (made : Made) (commands : ℕ) : Type 0 where
-  pub learner : commands ≤ running.learner.room
+  pub learner : commands ≤ learner_room running.learner
   pub table : ahead_of running + commands ≤ running.table.room
   pub texts : 11 * (ahead_of running + commands) ≤ made.shown.text_room
   pub bytes : 45716 * (ahead_of running + commands) ≤ made.shown.byte_room
 
 -- one command more was learned at most, and those that were applied are no longer known beyond the front
 pub record Learns (old new : Running) (earlier later : Made) : Type 0 where
-  pub learner : old.learner.room ≤ new.learner.room + 1
+  pub learner : learner_room old.learner ≤ learner_room new.learner + 1
   pub ahead : ahead_of new ≤ ahead_of old + 1
   pub table : old.table.room + ahead_of new ≤ new.table.room + ahead_of old + 1
   pub shown : Grows earlier.shown later.shown (11 * (ahead_of old + 1 - ahead_of new)) (45716 * (ahead_of old + 1 - ahead_of new))

@@ -1,6 +1,11 @@
 -- What a start makes of a node that is down.
-use Rattle.std.specs.Prelude.{◌≡◌, ◌⊎◌}
+use Rattle.std.specs.Prelude.{◌≡◌, ◌⊎◌, ℕ, List}
 use Rattle.promise_store.specs.declared.disk.Disk.{Ghosts}
+use Rattle.promise_store.specs.declared.records.Record.{Record}
+use Rattle.promise_store.specs.declared.stage.Stage.{Stage}
+use Rattle.promise_store.specs.declared.stage.Stage.TheVariants.{New}
+use Rattle.promise_store.specs.Stages.{marked}
+use Rattle.promise_store.specs.Journals.{IsJournalOf}
 use Rattle.promise_store.specs.declared.fault.StoreFault.TheVariants.{Disk}
 use Rattle.promise_store.specs.Holding.{StandsFor}
 use Rattle.promise_store.specs.Keeping.{Leaves, LeavesDuring}
@@ -15,6 +20,18 @@ use Rattle.dealer_node.specs.Posts.{Post, place_at}
 use Rattle.dealer_node.specs.Turned.{told_of}
 use Rattle.dealer_node.specs.Fitting.{AreMessages}
 use Rattle.dealer_node.specs.Working.{head_of, disk_under, IsUp}
+
+-- ---- the journal
+
+-- the file is a journal that goes on with records of version 2: it began with that version, or was opened for it
+abbrev pub GoesOnNew : List ℕ → List ℕ → Type 0
+GoesOnNew head file = (first : Stage) × (records : List Record) × IsJournalOf first New head file records
+
+-- the later file is the journal that the earlier one is, with the record behind the others that opens it for version 2 where that was missing
+abbrev pub MarksJournal : List ℕ → List ℕ → List ℕ → Type 0
+MarksJournal head earlier later = (first last : Stage) (records : List Record) → IsJournalOf first last head earlier records → IsJournalOf first New head later (marked last records)
+
+-- ---- the node
 
 module _ {D : Type 0} (g : Ghosts D) where
   -- it runs with one of the two stores that its disk may have, with its header shown and the others asked

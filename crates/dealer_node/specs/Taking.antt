@@ -1,11 +1,12 @@
 -- What a call makes of a node, however it ends.
-use Rattle.std.specs.Prelude.{◌≡◌, ◌≢◌, ◌⊎◌, ℕ, ◌≤◌, Bool, true, false, List, [], map, Some, Result, Ok, Err, IsErr}
+use Rattle.std.specs.Prelude.{◌≡◌, ◌≢◌, ◌⊎◌, ℕ, ◌≤◌, Bool, true, false, List, [], map, Some, IsTrue, Result, Ok, Err, IsErr, IfErr, OnOk}
 use Rattle.promise_store.specs.declared.disk.Disk.{Ghosts}
 use Rattle.promise_store.specs.declared.fault.StoreFault.{StoreFault}
 use Rattle.promise_store.specs.declared.fault.StoreFault.TheVariants.{Disk, OutOfMemory}
 use Rattle.promise_store.specs.Disks.{During, Rose, Picks}
 use Rattle.promise_store.specs.Holding.{StandsFor}
 use Rattle.promise_store.specs.Settled.{OnlyReads}
+use Rattle.promise_store.specs.Keeping.{Reopens}
 use Rattle.acceptor.specs.Taken.{IsFault}
 use Rattle.paxos_wire.specs.Spelling.{frame}
 use Rattle.paxos_wire.specs.Faults.{reading}
@@ -27,6 +28,7 @@ use Rattle.dealer_node.specs.Posts.{place_at}
 use Rattle.dealer_node.specs.Turned.{posted, printed, fault_of}
 use Rattle.dealer_node.specs.Working.{IsDone, AreStill}
 use Rattle.dealer_node.specs.Handling.{HasNoEffect}
+use Rattle.dealer_node.specs.Starting.{GoesOnNew, MarksJournal}
 use Rattle.dealer_node.specs.Seeing.{head_of, post_in, runs, disk_in, IsSeen, begun_of, bytes_of, picked_of, failures_of, since_of}
 
 -- ---- what it answers
@@ -151,13 +153,20 @@ module _ {D : Type 0} (g : Ghosts D) where
     pub stands : StandsFor (head_of (post_in old)) (bytes_of g old) held
     pub seen : IsSeen g new (started (place_at (post_in old)) held)
 
-  -- the node has its disk, which was only read or synced meanwhile
-  pub record OnlyReadsDisk (old new : Node D) : Type 0 where
+  -- what a start that answered this made of the disk, which the node has
+  pub record OpensDisk (old new : Node D) (answer : Result (Unit {0}) NodeFault) : Type 0 where
     pub before : D
     pub after : D
     pub was : disk_in old ≡ Some before
     pub is : disk_in new ≡ Some after
-    pub reads : OnlyReads g before after
+    -- at each moment each image stands for what it stood for
+    pub reopens : Reopens g (head_of (post_in old)) before after
+    -- by Ok the journal of a node that was down is as it was, or has the one record behind it that opens it for version 2
+    pub marks : IsTrue g.is_honest → runs old ≡ false → OnOk answer (MarksJournal (head_of (post_in old)) (g.seen before) (g.seen after))
+    -- one that goes on with version 2 was only read or synced
+    pub quiet : IsTrue g.is_honest → GoesOnNew (head_of (post_in old)) (g.seen before) → OnlyReads g before after
+    -- and so was each where the start was refused, but for a failed disk
+    pub unwritten : IfErr answer (λ why. why ≢ fault.Store Disk → OnlyReads g before after)
 
   -- the disk was stopped, and has what was picked; or a call of it failed, and a read gives what it gave before
   abbrev pub StopsBy : ℕ → Node D → Node D → Type 0

@@ -14,7 +14,7 @@ ghost use Rattle.dealer_node.specs.Scenes.{IsScene};
 ghost use Rattle.dealer_node.specs.Posts.{place_at};
 ghost use Rattle.dealer_node.specs.Outs.{told_by};
 ghost use Rattle.dealer_node.specs.Rooms.{Grows};
-ghost use Rattle.dealer_node.specs.Running.{IsRunning, IsTaken, TakesTurn, IsAt, AreInRange, GoesOn, CanLearn, Learns};
+ghost use Rattle.dealer_node.specs.Running.{IsRunning, IsTaken, TakesTurn, IsAt, AreInRange, GoesOn, CanLearn, Learns, learner_room};
 
 use crate::applying::take_all;
 use crate::chosen_frames::{ask, tell, told_slots};
@@ -38,14 +38,14 @@ fn hear_vote(
     command: Command,
 ) -> Result<(), SlotFault>
     requires from { from < learner.old.learned.nodes }
-    requires room { 1 ≤ learner.old.room }
+    requires room { 1 ≤ learner_room learner.old }
     requires command { IsInRange command }
     requires commands { AreInRange learner.old.learned.log }
     ensures ok { OnOk result (IsOk (answer_to learner.old.learned from ballot slot command)) }
     ensures err { OnErr result (IsErr (answer_to learner.old.learned from ballot slot command)) }
     ensures learned { learner.new.learned ≡ hearing learner.old.learned from ballot slot command }
     ensures nodes { learner.new.learned.nodes ≡ learner.old.learned.nodes }
-    ensures room { learner.old.room ≤ learner.new.room + 1 }
+    ensures room { learner_room learner.old ≤ learner_room learner.new + 1 }
     ensures goes_on { GoesOn learner.old.learned.log learner.new.learned.log }
     ensures commands { AreInRange learner.new.learned.log }
 {
@@ -59,14 +59,14 @@ fn hear_vote(
 
 /// Takes a node's word that a command was chosen at a slot.
 fn hear_chosen(learner: &mut Learner, slot: u32, command: Command) -> Result<(), SlotFault>
-    requires room { 1 ≤ learner.old.room }
+    requires room { 1 ≤ learner_room learner.old }
     requires command { IsInRange command }
     requires commands { AreInRange learner.old.learned.log }
     ensures ok { OnOk result (IsOk (answer_to_chosen learner.old.learned.log slot command)) }
     ensures err { OnErr result (IsErr (answer_to_chosen learner.old.learned.log slot command)) }
     ensures learned { learner.new.learned ≡ with_chosen learner.old.learned slot command }
     ensures nodes { learner.new.learned.nodes ≡ learner.old.learned.nodes }
-    ensures room { learner.old.room ≤ learner.new.room + 1 }
+    ensures room { learner_room learner.old ≤ learner_room learner.new + 1 }
     ensures goes_on { GoesOn learner.old.learned.log learner.new.learned.log }
     ensures commands { AreInRange learner.new.learned.log }
 {

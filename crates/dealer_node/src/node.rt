@@ -82,7 +82,7 @@ impl<D: Disk + Drop> Node<D> {
     ghost use Rattle.promise_store.specs.Refusals.{Refuses};
     ghost use Rattle.dealer_node.specs.Working.{head_of};
     ghost use Rattle.dealer_node.specs.Most.{most_shown_of};
-    ghost use Rattle.dealer_node.specs.Taking.{Takes, StaysItself, AnswersRightly, LeavesDisk, IsOfStart, FindsStore, OnlyReadsDisk, StopsBy};
+    ghost use Rattle.dealer_node.specs.Taking.{Takes, StaysItself, AnswersRightly, LeavesDisk, IsOfStart, FindsStore, OpensDisk, StopsBy};
 
     /// The node of this number, counted from 0, of a match, over this disk. It is down. An `Err` comes only where
     /// memory was refused.
@@ -136,13 +136,14 @@ impl<D: Disk + Drop> Node<D> {
     /// Starts the node: it opens its store, begins a log with its header, and asks the others for what was chosen where
     /// its store has a promise. A node that runs stays as it is.
     ///
-    /// Whatever it answers, its disk was only synced and read. Refused are 91 where the store can't be opened, and 92;
-    /// then the node stays down.
+    /// Where version 1 made the store, opening it writes there, once, that version 2 goes on, which changes nothing that it
+    /// stands for; any other disk is only synced and read. Refused are 91 where the store can't be opened, and 92; then the
+    /// node stays down, and but by 91 with 63 nothing was written.
     pub fn start(&mut self, out: &mut Out) -> Result<(), NodeFault>
         ensures taken { (s : Standing) → IsTrue D.is_honest → IsSeen D.Disk self.old s
             → (found : Kept) × Takes D.Disk (Start found) s self.old self.new out.old out.new result }
         ensures found { IsTrue D.is_honest → runs self.old ≡ false → OnOk result (FindsStore D.Disk self.old self.new) }
-        ensures reads { OnlyReadsDisk D.Disk self.old self.new }
+        ensures disk { OpensDisk D.Disk self.old self.new result }
         ensures stays { StaysItself D.Disk self.old self.new out.old out.new result }
         ensures shows { ShowsWithin (most_shown_of self.old) out.old out.new }
         ensures running { runs self.old ≡ true → (self.new ≡ self.old) × (out.new ≡ out.old) × (result ≡ Ok tt) }

@@ -4,7 +4,7 @@ ghost use Rattle.std.specs.Prelude.{◌≡◌, ◌+◌, ◌≤◌, IfOk, OnOk};
 ghost use Rattle.paxos_wire.specs.declared.limits.TheConstants.{WINDOW};
 ghost use Rattle.dealer_node.specs.Outs.{told_by, nothing_told, HasRoom};
 ghost use Rattle.dealer_node.specs.Posts.{Post as Station};
-ghost use Rattle.dealer_node.specs.Running.{IsAt, ahead_of};
+ghost use Rattle.dealer_node.specs.Running.{IsAt, ahead_of, learner_room};
 
 use crate::made::{Made, Need};
 use crate::up::Up;
@@ -24,7 +24,7 @@ impl<D: Disk + Drop> Up<D> {
         ensures ahead { ahead_of self.new.running ≡ ahead_of self.old.running }
         ensures learned { self.new.running.learner.learned ≡ self.old.running.learner.learned }
         ensures seen { self.new.running.seen ≡ self.old.running.seen }
-        ensures learner { OnOk result (commands ≤ self.new.running.learner.room) }
+        ensures learner { OnOk result (commands ≤ learner_room self.new.running.learner) }
         ensures table { OnOk result (ahead_of self.new.running + commands ≤ self.new.running.table.room) }
         ensures store { OnOk result (commands ≤ store_room self.new) }
     {

@@ -14,7 +14,7 @@ ghost use Rattle.dealer_node.specs.Rooms.{Grows, Tells};
 ghost use Rattle.dealer_node.specs.Seated.{feeds_with, HasRoomAt};
 ghost use Rattle.seat_session.specs.declared.said.Said.TheVariants.{Act as SaidAct};
 ghost use Rattle.dealer_node.specs.Hearing.{IsForwardable};
-ghost use Rattle.dealer_node.specs.Running.{IsRunning, IsTaken, TakesPiece, IsAt, ahead_of};
+ghost use Rattle.dealer_node.specs.Running.{IsRunning, IsTaken, TakesPiece, IsAt, ahead_of, learner_room};
 ghost use Rattle.dealer_node.specs.Calling.{need_of};
 ghost use Rattle.dealer_node.specs.Most.{most_after};
 
@@ -147,12 +147,12 @@ impl Running {
         ensures at { (post : Station) → IsAt post self.old → IsAt post self.new }
         ensures ahead { ahead_of self.new ≡ ahead_of self.old }
         ensures learned { self.new.learner.learned ≡ self.old.learner.learned }
-        ensures learner { OnOk result (commands ≤ self.new.learner.room) }
+        ensures learner { OnOk result (commands ≤ learner_room self.new.learner) }
         ensures table { OnOk result (ahead_of self.new + commands ≤ self.new.table.room) }
         ensures rest { self.new ≡ record self.old { learner = self.new.learner; table = self.new.table } }
     {
         let applied = self.most_applied(commands);
-        self.learner.reserve(commands)?;
+        self.learner.reserve(commands, commands)?;
         self.table.reserve(applied)
     }
 

@@ -1,11 +1,11 @@
-ghost use Rattle.std.specs.Prelude.{◌≡◌, ◌⊎◌, ◌+◌, ◌≤◌, ℕ, length, IsTrue, IfOk, IfErr};
+ghost use Rattle.std.specs.Prelude.{◌≡◌, ◌≢◌, ◌⊎◌, ◌+◌, ◌≤◌, ℕ, length, IsTrue, IfOk, IfErr};
 ghost use Rattle.protocol_model.specs.Stores.{Store as Kept};
 ghost use Rattle.node_rules.specs.Standings.{started};
 ghost use Rattle.node_rules.specs.Rules.{asking_all, starting};
 ghost use Rattle.promise_store.specs.Disks.{Rose};
 ghost use Rattle.promise_store.specs.Holding.{StandsFor};
 ghost use Rattle.promise_store.specs.Settled.{OnlyReads};
-ghost use Rattle.promise_store.specs.Keeping.{disk_of, Keeps, Leaves};
+ghost use Rattle.promise_store.specs.Keeping.{disk_of, Keeps, Leaves, Reopens};
 ghost use Rattle.acceptor.specs.Stored.{store_of};
 ghost use Rattle.promise_store.specs.Refusals.{Refuses};
 ghost use Rattle.promise_store.specs.declared.fault.StoreFault.{StoreFault as Fault};
@@ -18,7 +18,7 @@ ghost use Rattle.dealer_node.specs.Turned.{told_of};
 ghost use Rattle.dealer_node.specs.Fitting.{AreMessages};
 ghost use Rattle.dealer_node.specs.Running.{IsRunning, IsAt};
 ghost use Rattle.dealer_node.specs.Working.{head_of, disk_under};
-ghost use Rattle.dealer_node.specs.Starting.{Starts, StaysDown, Finds};
+ghost use Rattle.dealer_node.specs.Starting.{GoesOnNew, MarksJournal, Starts, StaysDown, Finds};
 ghost use Rattle.dealer_node.specs.Taking.{IsOfStart};
 
 use crate::fault::NodeFault;
@@ -94,15 +94,19 @@ fn fault_of(fault: StoreFault) -> NodeFault
     }
 }
 
-/// Opens the store on a disk. With a fault the disk is handed back.
+/// Opens the store on a disk, and where version 1 made it has it go on with version 2. With a fault the disk is handed back.
 fn open_store<D: Disk>(alloc: Global, post: &Post, disk: D) -> Result<Acceptor<D>, (D, NodeFault)>
     ensures opened { (old new : Kept) → IsTrue D.is_honest → Leaves D.Disk (head_of post.now) old new disk
         → IfOk result (λ acceptor. Keeps D.Disk (head_of post.now) old (store_of acceptor) ⊎ Keeps D.Disk (head_of post.now) new (store_of acceptor)) }
     ensures stands { IsTrue D.is_honest → IfOk result (λ acceptor. (held : Kept) × StandsFor (head_of post.now) (D.seen disk) held × Keeps D.Disk (head_of post.now) held (store_of acceptor)) }
     ensures refused { (old new : Kept) → IsTrue D.is_honest → Leaves D.Disk (head_of post.now) old new disk
         → IfErr result (λ x. (x.1 ≡ NodeFault.OutOfMemory) ⊎ (x.1 ≡ NodeFault.Store DiskFailed)) }
-    ensures reads { IfOk result (λ acceptor. OnlyReads D.Disk disk (disk_of (store_of acceptor))) }
-    ensures reads_err { IfErr result (λ x. OnlyReads D.Disk disk x.0) }
+    ensures reopens { IfOk result (λ acceptor. Reopens D.Disk (head_of post.now) disk (disk_of (store_of acceptor))) }
+    ensures reopens_err { IfErr result (λ x. Reopens D.Disk (head_of post.now) disk x.0) }
+    ensures marks { IsTrue D.is_honest → IfOk result (λ acceptor. MarksJournal (head_of post.now) (D.seen disk) (D.seen (disk_of (store_of acceptor)))) }
+    ensures quiet { IsTrue D.is_honest → GoesOnNew (head_of post.now) (D.seen disk) → IfOk result (λ acceptor. OnlyReads D.Disk disk (disk_of (store_of acceptor))) }
+    ensures quiet_err { IsTrue D.is_honest → GoesOnNew (head_of post.now) (D.seen disk) → IfErr result (λ x. OnlyReads D.Disk disk x.0) }
+    ensures unwritten { IfErr result (λ x. x.1 ≢ NodeFault.Store DiskFailed → OnlyReads D.Disk disk x.0) }
     ensures rose { IfErr result (λ x. x.1 ≡ NodeFault.Store DiskFailed → Rose (D.count disk) (D.count x.0)) }
     ensures faults { IfErr result (λ x. IsOfStart x.1) }
     ensures finds { IsTrue D.is_honest → IfErr result (λ x. (why : Fault) → x.1 ≡ NodeFault.Store why → Refuses (head_of post.now) (D.seen disk) why) }
@@ -129,8 +133,12 @@ pub(crate) fn open<D: Disk + Drop>(
     ensures stays { (store begun : Kept) → IsTrue D.is_honest → Leaves D.Disk (head_of post.now) store begun disk
         → IfErr result (λ x. StaysDown D.Disk post.now store begun disk x.0 x.1) }
     ensures stands { IsTrue D.is_honest → IfOk result (λ up. Finds D.Disk post.now disk up) }
-    ensures reads { IfOk result (λ up. OnlyReads D.Disk disk (disk_under up)) }
-    ensures reads_err { IfErr result (λ x. OnlyReads D.Disk disk x.0) }
+    ensures reopens { IfOk result (λ up. Reopens D.Disk (head_of post.now) disk (disk_under up)) }
+    ensures reopens_err { IfErr result (λ x. Reopens D.Disk (head_of post.now) disk x.0) }
+    ensures marks { IsTrue D.is_honest → IfOk result (λ up. MarksJournal (head_of post.now) (D.seen disk) (D.seen (disk_under up))) }
+    ensures quiet { IsTrue D.is_honest → GoesOnNew (head_of post.now) (D.seen disk) → IfOk result (λ up. OnlyReads D.Disk disk (disk_under up)) }
+    ensures quiet_err { IsTrue D.is_honest → GoesOnNew (head_of post.now) (D.seen disk) → IfErr result (λ x. OnlyReads D.Disk disk x.0) }
+    ensures unwritten { IfErr result (λ x. x.1 ≢ NodeFault.Store DiskFailed → OnlyReads D.Disk disk x.0) }
     ensures rose { IfErr result (λ x. x.1 ≡ NodeFault.Store DiskFailed → Rose (D.count disk) (D.count x.0)) }
     ensures faults_err { IfErr result (λ x. IsOfStart x.1) }
     ensures finds { IsTrue D.is_honest → IfErr result (λ x. (why : Fault) → x.1 ≡ NodeFault.Store why → Refuses (head_of post.now) (D.seen disk) why) }

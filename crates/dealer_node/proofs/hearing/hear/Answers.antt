@@ -1,6 +1,6 @@
-use Rattle.std.proofs.Common.{◌≡◌, ◌∙◌, ap, sym, subst, arith, ◌+◌, ◌<◌, None, Some}
+use Rattle.std.proofs.Common.{◌∙◌, ap, sym, arith, None, Some}
 use Rattle.seat_session.specs.Feeds.{line_feeds}
-use Rattle.seat_session.specs.Session.{Standing, with_piece, is_closed}
+use Rattle.seat_session.specs.Session.{Standing, is_closed}
 use Rattle.dealer_node.proofs.Draining.{heard_piece, closed_left, open_left}
 use Rattle.dealer_node.proofs.hearing.hear.Goals as goal
 

@@ -1,4 +1,3 @@
-use Rattle.std.proofs.Common.{◌≡◌}
 use Rattle.dealer_node.specs.Posts.{place_at}
 use Rattle.dealer_node.proofs.Messages.{asks_fit}
 use Rattle.dealer_node.proofs.starting.greet.Goals as goal

@@ -1,16 +1,14 @@
-use Rattle.std.proofs.Common.{◌≡◌, refl}
-use Rattle.std.specs.Prelude.{◌⊎◌}
-use Rattle.protocol_model.specs.Stores.{Store}
+use Rattle.std.proofs.Common.{refl}
 use Rattle.dealer_node.specs.Outs.{told_by}
 use Rattle.dealer_node.specs.Working.{head_of}
-use Rattle.dealer_node.proofs.Started.{starts_by, stays_by}
+use Rattle.dealer_node.proofs.Started.{starts_by}
 use Rattle.dealer_node.proofs.starting.open.Goals as goal
 
 pub returns-in-Ok-clause-starts : goal.returns-in-Ok-clause-starts
 returns-in-Ok-clause-starts g c = λ store begun honest leaves.
     let head = head_of c.args.post.now in
     starts_by g.D.Disk c.args.post.now store begun c.args.disk c.in-Ok.acceptor c.args.running (told_by c.args.made.now) (told_by c.greet.new.made)
-    (c.in-Ok.ensures.opened store begun honest leaves) c.requires.runs leaves c.in-Ok.ensures.reads
+    (c.in-Ok.ensures.opened store begun honest leaves) c.requires.runs (c.in-Ok.ensures.reopens.during store begun honest leaves)
     (λ found keeps. c.greet.ensures.told found (c.promised.ensures.kept head found keeps honest))
     (λ found keeps. c.greet.ensures.fits found (c.promised.ensures.kept head found keeps honest))
 
@@ -21,4 +19,8 @@ returns-in-Ok-clause-stands g c = λ honest.
 
 pub returns-in-Err-clause-stays : goal.returns-in-Err-clause-stays
 returns-in-Err-clause-stays g c = λ store begun honest leaves.
-    stays_by g.D.Disk c.args.post.now store begun c.args.disk c.in-Err.failed.0 c.in-Err.failed.1 leaves c.in-Err.ensures.reads_err (c.in-Err.ensures.refused store begun honest leaves)
+    let reopens = c.in-Err.ensures.reopens_err in record {
+      leaves = reopens.leaves store begun honest leaves;
+      moments = reopens.during store begun honest leaves;
+      fault = c.in-Err.ensures.refused store begun honest leaves;
+    }

@@ -1,9 +1,9 @@
-use Rattle.std.proofs.Common.{◌≡◌, ℕ, ap, sym, ◌∙◌, subst}
+use Rattle.std.proofs.Common.{ℕ, sym, subst}
 use Rattle.promise_store.specs.Journals.{header}
 use Rattle.promise_store.specs.Keeping.{Keeps, Leaves}
 use Rattle.protocol_model.specs.Stores.{empty_store}
 use Rattle.dealer_node.specs.Working.{head_of}
-use Rattle.dealer_node.proofs.Settled.{created_at, begun_at, rose_at}
+use Rattle.dealer_node.proofs.Settled.{created_at}
 use Rattle.dealer_node.proofs.node.Node.create.Goals as goal
 
 pub returns-in-Ok-clause-made : goal.returns-in-Ok-clause-made

@@ -1,12 +1,10 @@
-use Rattle.std.proofs.Common.{◌≡◌, Bool, true, false, refl, ap, subst, Ok, Err, sym, Some}
-use Rattle.node_rules.specs.Standings.{Place, Standing}
+use Rattle.std.proofs.Common.{refl, ap, subst, Ok, sym, Some}
 use Rattle.node_rules.specs.Seats.{dropping}
 use Rattle.node_rules.specs.Calls.{Drop}
 use Rattle.dealer_node.specs.NodeInside.{node_of, IsKept}
-use Rattle.dealer_node.specs.Posts.{place_at}
 use Rattle.dealer_node.specs.Outs.{nothing_told}
 use Rattle.dealer_node.proofs.Worked.{memory_took, nothing_more}
-use Rattle.dealer_node.proofs.Settled.{seen_at, taken_at, refuses_at, up_took, noted, kept_some}
+use Rattle.dealer_node.proofs.Settled.{seen_at, taken_at, refuses_at, up_took, kept_some}
 use Rattle.dealer_node.proofs.node.Node.drop_seat.Goals as goal
 use Rattle.dealer_node.proofs.node.Node.drop_seat.Goals.{in-None, in-Some}
 

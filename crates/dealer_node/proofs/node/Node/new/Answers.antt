@@ -1,4 +1,4 @@
-use Rattle.std.proofs.Common.{◌≡◌, ℕ, ap, sym, ◌∙◌, refl, subst}
+use Rattle.std.proofs.Common.{ℕ, ap, sym, ◌∙◌, refl, subst}
 use Rattle.slot_log.specs.Hand.{Match}
 use Rattle.slot_log.specs.Dealer.{hands_of}
 use Rattle.promise_store.specs.Journals.{header}

@@ -1,4 +1,4 @@
-use Rattle.std.proofs.Common.{◌≡◌, refl, subst}
+use Rattle.std.proofs.Common.{refl, subst}
 use Rattle.std.specs.Prelude.{Some}
 use Rattle.node_rules.specs.Calls.{Tick}
 use Rattle.dealer_node.specs.Outs.{Told, told_by}

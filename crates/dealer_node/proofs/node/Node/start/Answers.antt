@@ -1,9 +1,8 @@
-use Rattle.std.proofs.Common.{◌≡◌, refl, ap, sym, ◌∙◌}
+use Rattle.std.proofs.Common.{◌≡◌, Ok, refl, ap, sym, ◌∙◌}
 use Rattle.dealer_node.specs.Outs.{Told, told_by, both_told}
-use Rattle.dealer_node.specs.Working.{head_of}
 use Rattle.dealer_node.specs.declared.fault.NodeFault.TheVariants as fault
 use Rattle.dealer_node.proofs.Heard.{err_is, err_of}
-use Rattle.dealer_node.proofs.Started.{runs_on_at, wanting_at, seen_down, started_at, unstarted_at, refused_at, starts_behind, stays_reads, started_reads, unstarted_reads, started_finds}
+use Rattle.dealer_node.proofs.Started.{runs_on_at, wanting_at, seen_down, started_at, unstarted_at, refused_at, starts_behind, runs_opens, wanting_opens, started_opens, unstarted_opens, started_finds}
 use Rattle.std.proofs.Common.{arith}
 use Rattle.dealer_node.specs.Most.{most_shown_of}
 use Rattle.dealer_node.proofs.Most.{none_shown, start_shown}
@@ -42,21 +41,22 @@ returns-in-Ok-clause-found g c = λ honest down.
     started_finds g.D.Disk c.args.self.now c.self.inside c.in-Some.disk c.take.new.self c.in-Ok.up c.self.view_is (sym c.is_some.ensures ∙ c.if-is_some.false)
     (sym c.take.ensures.value ∙ c.in-Some.is) c.self.invariant.blank (c.in-Ok.ensures.stands honest)
 
-pub returns-then-is_some-clause-reads : goal.returns-then-is_some-clause-reads
-returns-then-is_some-clause-reads g c = stays_reads g.D.Disk c.args.self.now c.self.inside c.self.view_is c.self.invariant
+pub returns-then-is_some-clause-disk : goal.returns-then-is_some-clause-disk
+returns-then-is_some-clause-disk g c = runs_opens g.D.Disk c.args.self.now c.self.inside (Ok tt) c.self.view_is c.self.invariant (sym c.is_some.ensures ∙ c.if-is_some.true)
 
-pub returns-in_err-running-clause-reads : goal.returns-in_err-running-clause-reads
-returns-in_err-running-clause-reads g c = stays_reads g.D.Disk c.args.self.now c.self.inside c.self.view_is c.self.invariant
+pub returns-in_err-running-clause-disk : goal.returns-in_err-running-clause-disk
+returns-in_err-running-clause-disk g c =
+    wanting_opens g.D.Disk c.args.self.now c.self.inside c.from_residual.result c.self.view_is c.self.invariant (err_is c.from_residual.result fault.OutOfMemory c.from_residual.ensures.1)
 
-pub returns-in-Ok-clause-reads : goal.returns-in-Ok-clause-reads
-returns-in-Ok-clause-reads g c =
-    started_reads g.D.Disk c.args.self.now c.self.inside c.in-Some.disk c.take.new.self c.in-Ok.up c.self.view_is (sym c.is_some.ensures ∙ c.if-is_some.false)
-    (sym c.take.ensures.value ∙ c.in-Some.is) c.in-Ok.ensures.reads
+pub returns-in-Ok-clause-disk : goal.returns-in-Ok-clause-disk
+returns-in-Ok-clause-disk g c =
+    started_opens g.D.Disk c.args.self.now c.self.inside c.in-Some.disk c.take.new.self c.in-Ok.up c.self.view_is (sym c.is_some.ensures ∙ c.if-is_some.false)
+    (sym c.take.ensures.value ∙ c.in-Some.is) c.in-Ok.ensures.reopens c.in-Ok.ensures.marks c.in-Ok.ensures.quiet
 
-pub returns-in-Err-clause-reads : goal.returns-in-Err-clause-reads
-returns-in-Err-clause-reads g c =
-    unstarted_reads g.D.Disk c.args.self.now c.self.inside c.in-Some.disk c.in-Err.disk c.self.view_is (sym c.is_some.ensures ∙ c.if-is_some.false)
-    (sym c.take.ensures.value ∙ c.in-Some.is) c.in-Err.ensures.reads_err
+pub returns-in-Err-clause-disk : goal.returns-in-Err-clause-disk
+returns-in-Err-clause-disk g c =
+    unstarted_opens g.D.Disk c.args.self.now c.self.inside c.in-Some.disk c.in-Err.disk c.in-Err.fault c.self.view_is (sym c.is_some.ensures ∙ c.if-is_some.false)
+    (sym c.take.ensures.value ∙ c.in-Some.is) c.in-Err.ensures.reopens_err c.in-Err.ensures.quiet_err c.in-Err.ensures.unwritten
 
 pub returns-in-Err-clause-refused : goal.returns-in-Err-clause-refused
 returns-in-Err-clause-refused g c = λ honest why is.

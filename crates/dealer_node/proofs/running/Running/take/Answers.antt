@@ -1,16 +1,13 @@
-use Rattle.std.proofs.Common.{◌≡◌, ap, sym, subst, refl}
-use Rattle.std.specs.Prelude.{Result, Ok, OnOk}
+use Rattle.std.proofs.Common.{sym, subst, refl}
 use Rattle.std.proofs.lemmas.Result.{on_ok_weaker}
 use Rattle.paxos_wire.specs.declared.message.Message.{Message}
 use Rattle.learner.specs.Learning.{answer_to, hearing, answer_to_chosen, believing}
-use Rattle.node_rules.specs.Standings.{Standing}
 use Rattle.node_rules.specs.Rules.{taking}
 use Rattle.node_rules.specs.Learning.{telling}
 use Rattle.node_rules.specs.Proposing.{counting_promise, hearing_refusal}
 use Rattle.node_rules.specs.Seats.{taking_over}
 use Rattle.dealer_node.specs.Posts.{place_at}
 use Rattle.dealer_node.specs.Outs.{told_by}
-use Rattle.dealer_node.specs.Running.{IsRunning}
 use Rattle.dealer_node.specs.Memory.{TakesInMemory}
 use Rattle.dealer_node.proofs.Remembered.{counted_keeps, refused_keeps, learned_keeps, believed_keeps, still_taken}
 use Rattle.dealer_node.proofs.running.Running.take.Goals as goal

@@ -1,5 +1,4 @@
 use Rattle.std.proofs.lemmas.Result.{on_ok_weaker}
-use Rattle.node_rules.specs.Standings.{Standing}
 use Rattle.dealer_node.specs.Outs.{told_by}
 use Rattle.dealer_node.proofs.Voted.{vote_told}
 use Rattle.dealer_node.proofs.running.Running.tell_vote.Goals as goal

@@ -1,7 +1,7 @@
-use Rattle.std.proofs.Common.{◌≡◌, ◌∙◌, ap, None}
+use Rattle.std.proofs.Common.{◌∙◌, ap, None}
 use Rattle.std.proofs.Math.ListN.{set}
 use Rattle.std.proofs.lemmas.List.{map-set}
-use Rattle.dealer_node.specs.Turned.{talk_of, talks}
+use Rattle.dealer_node.specs.Turned.{talk_of}
 use Rattle.dealer_node.specs.Seated.{Seated}
 use Rattle.dealer_node.proofs.seats.Seats.drop_seat.Goals as goal
 

@@ -1,4 +1,4 @@
-use Rattle.std.proofs.Common.{◌≡◌, ◌∙◌, ap, sym, subst, arith}
+use Rattle.std.proofs.Common.{◌∙◌, ap, sym, subst, arith}
 use Rattle.std.specs.Prelude.{None, replicate}
 use Rattle.dealer_node.specs.Turned.{talks}
 use Rattle.dealer_node.specs.SeatsInside.{AreOwn}

@@ -1,5 +1,4 @@
-use Rattle.std.proofs.Common.{◌≡◌, ◌∙◌, ap, sym, arith, ◌<◌, length, None}
-use Rattle.std.proofs.Math.ListN.{set}
+use Rattle.std.proofs.Common.{◌∙◌, ap, sym, arith, ◌<◌, length, None}
 use Rattle.std.proofs.lemmas.List.{get_or_default, length-map}
 use Rattle.dealer_node.specs.Turned.{talk_of}
 use Rattle.dealer_node.specs.Seated.{Seated}

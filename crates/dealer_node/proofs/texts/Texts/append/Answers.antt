@@ -1,5 +1,5 @@
-use Rattle.std.proofs.Common.{◌≡◌, ◌+◌, ◌≤◌, ◌++◌, length, vec_len, vec_capacity, arith, sym, ◌∙◌, ap}
-use Rattle.dealer_node.specs.Texts.{byte_total, run_total, Written}
+use Rattle.std.proofs.Common.{◌≡◌, length, vec_len, arith, ◌∙◌, ap}
+use Rattle.dealer_node.specs.Texts.{run_total, Written}
 use Rattle.dealer_node.proofs.Cutting.{length_of, size_of, run_total-append, both}
 use Rattle.dealer_node.proofs.texts.Texts.append.Goals as goal
 

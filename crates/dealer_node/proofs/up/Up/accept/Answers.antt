@@ -1,11 +1,11 @@
-use Rattle.std.proofs.Common.{◌≡◌, ◌≤◌, ◌+◌, refl, ap, sym, ◌∙◌, arith}
+use Rattle.std.proofs.Common.{◌+◌, refl, ap, sym, ◌∙◌, arith}
 use Rattle.paxos_wire.specs.Order.{is_below}
 use Rattle.node_rules.specs.Standings.{idle}
 use Rattle.dealer_node.specs.declared.limits.TheConstants.{FRAMES_TO_ALL, FRAMES_OF_AN_ANSWER}
 use Rattle.dealer_node.specs.Outs.{told_by}
 use Rattle.dealer_node.specs.Working.{head_of, IsUp}
 use Rattle.dealer_node.proofs.Left.{fewer_left}
-use Rattle.dealer_node.proofs.Stored.{accept_refused, accept_voted}
+use Rattle.dealer_node.proofs.Stored.{accept_voted}
 use Rattle.dealer_node.proofs.up.Up.accept.Goals as goal
 
 pub vote-requires-clause-at : goal.vote-requires-clause-at

@@ -1,11 +1,10 @@
-use Rattle.std.proofs.Common.{◌≡◌, true, Ok, subst, Err, refl, ap, sym, ◌∙◌}
+use Rattle.std.proofs.Common.{◌≡◌, true, Ok, subst, Err, ap, sym, ◌∙◌}
 use Rattle.slot_log.specs.Slots.{front}
 use Rattle.learner.specs.Learning.{Learned}
 use Rattle.paxos_wire.specs.Order.{is_below}
 use Rattle.proposer.specs.Campaigns.{next_ballot}
 use Rattle.paxos_wire.specs.declared.ballot.Ballot.{Ballot}
-use Rattle.protocol_model.specs.Stores.{Store}
-use Rattle.acceptor.specs.Answers.{prepared, answer_to_prepare}
+use Rattle.acceptor.specs.Answers.{prepared}
 use Rattle.promise_store.specs.Keeping.{disk_of, Keeps, LeavesDuring}
 use Rattle.acceptor.specs.Stored.{store_of}
 use Rattle.node_rules.specs.Standings.{front_of}

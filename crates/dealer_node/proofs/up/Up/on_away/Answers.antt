@@ -1,5 +1,4 @@
 use Rattle.std.proofs.Common.{◌≡◌, ◌∙◌, ap, sym, subst, refl, inr, Result, Ok, Err, arith}
-use Rattle.std.specs.Prelude.{None, Some}
 use Rattle.node_rules.specs.Turns.{and_then}
 use Rattle.node_rules.specs.Proposing.{closing}
 use Rattle.node_rules.specs.Seats.{ordering}

@@ -1,9 +1,7 @@
-use Rattle.std.proofs.Common.{◌≡◌, ◌+◌, ◌≤◌, refl, arith}
+use Rattle.std.proofs.Common.{◌+◌, refl, arith}
 use Rattle.node_rules.specs.Rules.{seeing}
 use Rattle.dealer_node.specs.declared.limits.TheConstants.{FRAMES_OF_A_CLOSE, COMMANDS_OF_A_CALL, FRAMES_OF_A_MESSAGE}
-use Rattle.dealer_node.specs.declared.made.Need.{Need}
 use Rattle.dealer_node.specs.Outs.{told_by}
-use Rattle.dealer_node.specs.Working.{HasLeft}
 use Rattle.dealer_node.proofs.Framed.{message_took, close_failed, take_failed, seen_up, left_of, seen_left, asked_left}
 use Rattle.dealer_node.proofs.up.Up.on_message.Goals as goal
 

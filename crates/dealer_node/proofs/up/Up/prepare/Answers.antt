@@ -1,4 +1,4 @@
-use Rattle.std.proofs.Common.{◌≡◌, Ok, Err, refl, ap, sym, ◌∙◌}
+use Rattle.std.proofs.Common.{Ok, Err, refl, ap, sym}
 use Rattle.acceptor.specs.Stored.{store_of}
 use Rattle.dealer_node.specs.Outs.{told_by}
 use Rattle.dealer_node.specs.Working.{head_of}

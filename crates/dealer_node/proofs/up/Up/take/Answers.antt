@@ -1,4 +1,4 @@
-use Rattle.std.proofs.Common.{◌≡◌, sym, subst}
+use Rattle.std.proofs.Common.{sym, subst}
 use Rattle.paxos_wire.specs.declared.message.Message.{Message}
 use Rattle.node_rules.specs.Rules.{taking}
 use Rattle.dealer_node.specs.Posts.{place_at}
