@@ -1,10 +1,12 @@
 -- A node's disk at a start, at a stop and when a cluster is opened, and a run in which a call is answered 95: what is so of them, and what isn't.
-use Rattle.std.proofs.Common.{◌≡◌, ◌⊎◌, ℕ, zero, suc, ◌<◌, inl, inr, true, false, Some, None, List, [], ◌∷◌, length, get_or, Ok, Err, Result, refl, ap, sym, ◌∙◌, subst, arith}
+use Rattle.std.proofs.Common.{◌≡◌, ◌≢◌, ◌⊎◌, ℕ, zero, suc, ◌<◌, inl, inr, true, false, Some, None, List, [], ◌∷◌, length, get_or, Ok, Err, Result, refl, ap, sym, ◌∙◌, subst, arith}
 use Rattle.std.proofs.lemmas.List.Elements.{All-nil, All-cons}
 use Rattle.promise_store.specs.declared.disk.Disk.{Ghosts}
 use Rattle.promise_store.specs.declared.fault.StoreFault.{StoreFault}
 use Rattle.promise_store.specs.declared.fault.StoreFault.TheVariants.{NoStore, Disk}
 use Rattle.promise_store.specs.Journals.{header}
+use Rattle.promise_store.specs.Settled.{OnlyReads}
+use Rattle.promise_store.specs.Keeping.{Reopens}
 use Rattle.promise_store.specs.Refusals.{Refuses}
 use Rattle.promise_store.specs.Holding.{StandsFor}
 use Rattle.protocol_model.specs.Stores.{empty_store}
@@ -17,7 +19,7 @@ use Rattle.dealer_node.specs.declared.fault.NodeFault.TheVariants as fault
 use Rattle.dealer_node.specs.Outs.{nothing_told}
 use Rattle.dealer_node.specs.Posts.{place_at}
 use Rattle.dealer_node.specs.Seeing.{post_in, disk_in, IsSeen, seen_by, bytes_of, images_of, since_by}
-use Rattle.dealer_node.specs.Taking.{FindsStore, OnlyReadsDisk, StopsBy}
+use Rattle.dealer_node.specs.Taking.{FindsStore, StopsBy}
 use Rattle.dealer_world.specs.declared.event.Event.TheVariants as event
 use Rattle.dealer_world.specs.Records.{no_record}
 use Rattle.dealer_world.specs.Stepping.{View, IsStartOf, Stepped, call, Ran, none, more}
@@ -28,7 +30,7 @@ use Rattle.dealer_world.proofs.LeftExamples.{plan, with_promise, created, stands
 -- ---- a disk on paper
 
 -- what a read gives, what was synced last, what a crash left before and leaves no more, what a read gave when it was begun, and how many calls failed
-record Paper : Type 0 where
+pub record Paper : Type 0 where
   pub shown : List ℕ
   pub synced : List ℕ
   pub earlier : List ℕ
@@ -36,11 +38,11 @@ record Paper : Type 0 where
   pub failed : ℕ
 
 -- a crash leaves what a read gives, or what was synced
-abbrev Left : Paper → List ℕ → Type 0
+abbrev pub Left : Paper → List ℕ → Type 0
 Left disk image = (image ≡ disk.shown) ⊎ (image ≡ disk.synced)
 
 -- it is moment 1; what a crash leaves no more it left at moment 0
-abbrev Since : Paper → ℕ → List ℕ → Type 0
+abbrev pub Since : Paper → ℕ → List ℕ → Type 0
 Since disk t image = Left disk image ⊎ ((t ≡ 0) × (image ≡ disk.earlier))
 
 since_now : (disk : Paper) (image : List ℕ) → Since disk 1 image → Left disk image
@@ -48,11 +50,11 @@ since_now disk image (inl now) = now
 since_now disk image (inr (past, is)) = absurd (omega (arith, past))
 
 -- 0 picks what was synced, and any other number what a read gives
-abbrev picked : Paper → ℕ → List ℕ
+abbrev pub picked : Paper → ℕ → List ℕ
 picked disk zero = disk.synced
 picked disk (suc pick) = disk.shown
 
-abbrev paper : Ghosts Paper
+abbrev pub paper : Ghosts Paper
 paper = record {
   is_honest = true;
   seen = λ disk. disk.shown;
@@ -65,7 +67,7 @@ paper = record {
 }
 
 -- all of it was synced
-abbrev settled : List ℕ → Paper
+abbrev pub settled : List ℕ → Paper
 settled bytes = record { shown = bytes; synced = bytes; earlier = []; begun = bytes; failed = 0 }
 
 -- it was begun empty, and a store was made on it
@@ -73,11 +75,11 @@ abbrev made : Paper
 made = record (settled (created 0)) { begun = [] }
 
 -- a promise was written on a new store, and not yet synced
-abbrev written : Paper
+abbrev pub written : Paper
 written = record (settled (created 0)) { shown = with_promise }
 
 -- node 0 of three, down
-abbrev down : Paper → Node Paper
+abbrev pub down : Paper → Node Paper
 down disk = record {
   post = record { setting = setting; source = Seed 7; nodes = 3; node = 0 };
   blank = record { game = setting.game; count = setting.title.hands; hands = []; room = 0 };
@@ -99,28 +101,28 @@ nothing_for_promised same = omega (arith, ap length same)
 
 -- ---- a start
 
--- the disk was only synced
-only_synced : OnlyReadsDisk paper (down written) (down (record written { synced = with_promise }))
+-- a disk that was only synced leaves no more than it did
+only_synced : OnlyReads paper written (record written { synced = with_promise })
 only_synced = record {
-  before = written;
-  after = record written { synced = with_promise };
-  was = refl;
-  is = refl;
-  reads = record {
-    seen = refl;
-    begun = refl;
-    images = λ image left. elim left [ inl shown ↦ inl shown | inr synced ↦ inl synced ];
-    during = λ t image since. elim since [ inl (inl shown) ↦ inr (inl shown) | inl (inr synced) ↦ inr (inl synced) | inr past ↦ inl (inr past) ];
-    counts = omega arith;
-  };
+  seen = refl;
+  begun = refl;
+  images = λ image left. elim left [ inl shown ↦ inl shown | inr synced ↦ inl synced ];
+  during = λ t image since. elim since [ inl (inl shown) ↦ inr (inl shown) | inl (inr synced) ↦ inr (inl synced) | inr past ↦ inl (inr past) ];
+  counts = omega arith;
 }
 
-reads_the_same : (old new : Node Paper) → OnlyReadsDisk paper old new → bytes_of paper new ≡ bytes_of paper old
-reads_the_same old new only = ap (seen_by paper) only.is ∙ (only.reads.seen ∙ sym (ap (seen_by paper) only.was))
+-- what only reads leaves what stands for the same
+read_reopens : (head : List ℕ) (before after : Paper) → OnlyReads paper before after → Reopens paper head before after
+read_reopens head before after reads = record {
+  begun = reads.begun;
+  counts = reads.counts;
+  leaves = λ old new honest leaves image at. leaves image (reads.images image at);
+  during = λ old new honest leaves t image at. elim (reads.during t image at) [ inl was ↦ inl was | inr now ↦ inr (leaves image now) ];
+}
 
--- a store was made where there was none
-made_where_none_was : OnlyReadsDisk paper (down (settled [])) (down made) → ⊥
-made_where_none_was only = created_for_nothing (reads_the_same (down (settled [])) (down made) only)
+-- nothing made where there was no journal is only read
+made_where_none_was : OnlyReads paper (settled []) made → ⊥
+made_where_none_was reads = created_for_nothing reads.seen
 
 -- what runs with the store of the file found it
 found_what_stands : (new : Node Paper) → IsSeen paper new (started (place_at (post_in (down (settled (created 0))))) empty_store) → FindsStore paper (down (settled (created 0))) new
@@ -136,11 +138,23 @@ found_without_the_promise new found older = no_promise (subst (StandsFor (header
 same_fault : (a b : StoreFault) → ◌≡◌ {A = Result (Unit {0}) NodeFault} (Err (fault.Store a)) (Err (fault.Store b)) → a ≡ b
 same_fault a b same = cc
 
+untouched : OnlyReads paper (settled []) (settled [])
+untouched = record { seen = refl; begun = refl; images = λ image at. at; during = λ t image was. inl was; counts = omega arith }
+
 -- an empty file is told as no store
 refused_start : IsStartOf paper (down (settled [])) (down (settled [])) (Err (fault.Store NoStore))
 refused_start = record {
   faults = λ want. cc;
-  reads = inl refl;
+  opens = inr (record {
+    before = settled [];
+    after = settled [];
+    was = refl;
+    is = refl;
+    reopens = read_reopens (header 0 3) (settled []) (settled []) untouched;
+    marks = λ honest stopped. tt;
+    quiet = λ honest goes_on. untouched;
+    unwritten = λ other. untouched;
+  });
   found = λ honest stopped. tt;
   refused = λ honest why same. subst (Refuses (header 0 3) []) (same_fault NoStore why same) refl;
 }
@@ -153,10 +167,15 @@ store_told_as_none : (new : Node Paper) → IsStartOf paper (down (settled (crea
 store_told_as_none new start = created_for_nothing (start.refused refl NoStore refl)
 
 refused_and_made : IsStartOf paper (down (settled [])) (down made) (Err (fault.Store NoStore)) → ⊥
-refused_and_made start = elim start.reads [
-  | inl same ↦ created_for_nothing (ap (bytes_of paper) same)
-  | inr only ↦ made_where_none_was only
+refused_and_made start = elim start.opens [
+  | inl same ↦ created_for_nothing (ap (bytes_of paper) same.0)
+  | inr opens ↦
+      let reads = opens.unwritten no_disk_fault in
+      created_for_nothing (ap (seen_by paper) opens.is ∙ (reads.seen ∙ sym (ap (seen_by paper) opens.was)))
 ]
+  where
+    no_disk_fault : fault.Store NoStore ≢ fault.Store Disk
+    no_disk_fault same = cc
 
 -- ---- a stop
 

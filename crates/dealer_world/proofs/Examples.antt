@@ -1,10 +1,10 @@
 -- Records, read out; and records that aren't so.
 use Rattle.std.proofs.Common.{◌≡◌, Err, Ok, get_or, ◌≢◌, ℕ, zero, suc, ◌+◌, ◌*◌, ◌<◌, ◌≤◌, inl, inr, Bool, true, false, cond, Option, Some, None, Vec, Global, List, [], ◌∷◌, ◌++◌, length, take, replicate, refl, ap, sym, ◌∙◌, subst, arith}
-use Rattle.paxos_wire.specs.Reading.{body_of, message_at, ask_at, below_at}
+use Rattle.paxos_wire.specs.Reading.{body_of, message_at, of_ballot_at, ballot_at, ask_at, below_at}
 use Rattle.paxos_wire.specs.Faults.{header_fault, reading}
 use Rattle.slot_log.specs.declared.command.Command.{Command}
 use Rattle.protocol_model.specs.Sets.{In, IsBeginning}
-use Rattle.protocol_model.specs.Messages.{Ask}
+use Rattle.protocol_model.specs.Messages.{Prepare, Ask}
 use Rattle.protocol_model.specs.Arrivals as model
 use Rattle.protocol_model.specs.Dealers.{Dealer, Seat, Log}
 use Rattle.protocol_model.specs.Moves.{Shown}
@@ -48,7 +48,7 @@ use Rattle.dealer_world.specs.Beginning.{first_starts, first_asks}
 
 -- node 1 asks for what was chosen from slot 1 on
 asking : List ℕ
-asking = 0 ∷ 0 ∷ 0 ∷ 6 ∷ 1 ∷ 7 ∷ 0 ∷ 0 ∷ 0 ∷ 1 ∷ []
+asking = 0 ∷ 0 ∷ 0 ∷ 6 ∷ 2 ∷ 7 ∷ 0 ∷ 0 ∷ 0 ∷ 1 ∷ []
 
 abbrev asks : Frame
 asks = record { from = 1; to = 0; bytes = asking }
@@ -62,9 +62,29 @@ asked_by_another : said_by (record asks { from = 2 }) ≡ Ask 2 1 ∷ []
 unfolding asking reading header_fault body_of message_at ask_at below_at
 asked_by_another = refl
 
+-- a frame of version 1 says the same
+asking_before : List ℕ
+asking_before = 0 ∷ 0 ∷ 0 ∷ 6 ∷ 1 ∷ 7 ∷ 0 ∷ 0 ∷ 0 ∷ 1 ∷ []
+
+asked_before : said_by (record asks { bytes = asking_before }) ≡ Ask 1 1 ∷ []
+unfolding asking_before reading header_fault body_of message_at ask_at below_at
+asked_before = refl
+
+-- but nothing of a node that it doesn't know, of which one of version 2 speaks
+abbrev preparing_by_node_5 : ℕ → Frame
+preparing_by_node_5 version = record { from = 5; to = 0; bytes = 0 ∷ 0 ∷ 0 ∷ 11 ∷ version ∷ 1 ∷ 0 ∷ 0 ∷ 0 ∷ 1 ∷ 5 ∷ 0 ∷ 0 ∷ 0 ∷ 0 ∷ [] }
+
+unknown_before : said_by (preparing_by_node_5 1) ≡ []
+unfolding reading header_fault body_of message_at of_ballot_at ballot_at below_at
+unknown_before = refl
+
+known_now : said_by (preparing_by_node_5 2) ≡ Prepare (record { round = 1; node = 5 }) 0 ∷ []
+unfolding reading header_fault body_of message_at of_ballot_at ballot_at below_at
+known_now = refl
+
 -- bytes that are no frame say nothing
 abbrev broken : Frame
-broken = record { from = 1; to = 0; bytes = 0 ∷ 0 ∷ 0 ∷ 2 ∷ 1 ∷ 9 ∷ [] }
+broken = record { from = 1; to = 0; bytes = 0 ∷ 0 ∷ 0 ∷ 2 ∷ 2 ∷ 9 ∷ [] }
 
 nothing_said : said_by broken ≡ []
 unfolding reading header_fault

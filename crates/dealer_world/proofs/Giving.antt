@@ -57,7 +57,7 @@ module _ {D : Type 0} (g : Ghosts D) where
   nothing_of_disk (event.Stop number pick) node answer none = λ honest. subst (λ (a : Result (Unit {0}) NodeFault). OnOk a (StopsBy g pick node node)) (sym none) tt
   nothing_of_disk (event.Start number) node answer none = record {
     faults = subst (λ (a : Result (Unit {0}) NodeFault). IfErr a IsOfStart) (sym none) tt;
-    reads = inl refl;
+    opens = inl (refl, none);
     found = λ honest down. subst (λ (a : Result (Unit {0}) NodeFault). OnOk a (FindsStore g node node)) (sym none) tt;
     refused = λ honest why failed. absurd (no_fault answer why none failed);
   }

@@ -10,9 +10,12 @@ use Rattle.promise_store.specs.declared.records.Record.{Record as Stored}
 use Rattle.promise_store.specs.declared.records.Record.TheVariants.{Promised}
 use Rattle.promise_store.specs.declared.disk.Disk.{Ghosts}
 use Rattle.promise_store.specs.declared.fault.StoreFault.TheVariants.{NoStore, BadHeader, Closed}
-use Rattle.promise_store.specs.Journals.{header, gated}
+use Rattle.promise_store.specs.declared.stage.Stage.TheVariants.{Old, New}
+use Rattle.promise_store.specs.Stages.{head_of}
+use Rattle.promise_store.specs.Journals.{header, gated, IsJournal}
 use Rattle.promise_store.specs.Refusals.{Refuses}
 use Rattle.promise_store.specs.Holding.{holding, store_of, StandsFor}
+use Rattle.promise_store.proofs.Stages.{head_long}
 use Rattle.promise_store.proofs.Journals.{one_journal}
 use Rattle.protocol_model.specs.Sets.{In}
 use Rattle.protocol_model.specs.Messages.{Message, Prepare}
@@ -137,7 +140,7 @@ starts = record {
 abbrev ticked : Result Turn Refusal
 ticked = and_then (ticking (place_of plan 0) first_node) (closing (place_of plan 0))
 
-abbrev next : Store
+abbrev pub next : Store
 next = (standing_after (place_of plan 0) first_node ticked).begun
 
 -- node 0 may have begun that append
@@ -146,19 +149,19 @@ begun zero = next
 begun (suc node) = empty_store
 
 abbrev pub with_promise : List ℕ
-with_promise = 72 ∷ 68 ∷ 74 ∷ 49 ∷ 0 ∷ 3 ∷ 0 ∷ 0 ∷ 1 ∷ 0 ∷ 6 ∷ 1 ∷ 0 ∷ 0 ∷ 0 ∷ 1 ∷ 0 ∷ 0 ∷ []
+with_promise = 72 ∷ 68 ∷ 74 ∷ 50 ∷ 0 ∷ 3 ∷ 0 ∷ 0 ∷ 1 ∷ 0 ∷ 6 ∷ 1 ∷ 0 ∷ 0 ∷ 0 ∷ 1 ∷ 0 ∷ 0 ∷ []
 
 abbrev pub created : ℕ → List ℕ
-created node = 72 ∷ 68 ∷ 74 ∷ 49 ∷ node ∷ 3 ∷ 0 ∷ 0 ∷ 0 ∷ []
+created node = 72 ∷ 68 ∷ 74 ∷ 50 ∷ node ∷ 3 ∷ 0 ∷ 0 ∷ 0 ∷ []
 
 pub stands_created : (node : ℕ) → StandsFor (header node 3) (created node) empty_store
-stands_created node = record { records = []; journal = record { gate = 0; rest = []; shut = λ e. omega (arith, e); each = tt; text = refl }; is = refl }
+stands_created node = record { records = []; journal = (New, New, record { gate = 0; rest = []; stands = refl; shut = λ e. omega (arith, e); each = tt; text = refl }); is = refl }
 
-stands_promised : StandsFor (header 0 3) with_promise next
+pub stands_promised : StandsFor (header 0 3) with_promise next
 unfolding opened
 stands_promised = record {
   records = Promised (ballot 1 0) ∷ [];
-  journal = record { gate = 0; rest = []; shut = λ e. omega (arith, e); each = (record { first = omega arith; last = omega arith; node = omega arith }, tt); text = refl };
+  journal = (New, New, record { gate = 0; rest = []; stands = refl; shut = λ e. omega (arith, e); each = (record { first = omega arith; last = omega arith; node = omega arith }, tt); text = refl });
   is = refl;
 }
 
@@ -187,12 +190,12 @@ goes_on_from_a_stop = goes_on_with with_promise (inr stands_promised)
 
 -- a part of its bytes is there, and the gate in front of them is shut
 abbrev torn : List ℕ
-torn = 72 ∷ 68 ∷ 74 ∷ 49 ∷ 0 ∷ 3 ∷ 0 ∷ 0 ∷ 0 ∷ 0 ∷ 6 ∷ 1 ∷ 0 ∷ []
+torn = 72 ∷ 68 ∷ 74 ∷ 50 ∷ 0 ∷ 3 ∷ 0 ∷ 0 ∷ 0 ∷ 0 ∷ 6 ∷ 1 ∷ 0 ∷ []
 
 goes_on_from_a_torn_append : GoesOn true setting 3 (era ∷ []) (torn ∷ created 1 ∷ created 2 ∷ [])
 goes_on_from_a_torn_append = goes_on_with torn (inl (record {
   records = [];
-  journal = record { gate = 0; rest = 0 ∷ 6 ∷ 1 ∷ 0 ∷ []; shut = λ e. omega (arith, e); each = tt; text = refl };
+  journal = (New, New, record { gate = 0; rest = 0 ∷ 6 ∷ 1 ∷ 0 ∷ []; stands = refl; shut = λ e. omega (arith, e); each = tt; text = refl });
   is = refl;
 }))
 
@@ -235,7 +238,11 @@ file_of_another_node : GoesOn true setting 3 [] (created 1 ∷ created 1 ∷ cre
 file_of_another_node = only_new_stores (created 1 ∷ created 1 ∷ created 2 ∷ []) (λ count have. not_of_node_0 (have 0 (omega arith)))
   where
     not_of_node_0 : StandsFor (header 0 3) (created 1) empty_store → ⊥
-    not_of_node_0 stands = let node : 1 ≡ 0 = ap (λ (l : List ℕ). get_or l 4 9) stands.journal.text in omega (arith, node)
+    not_of_node_0 stands = by_stage stands.records stands.journal
+      where
+        by_stage : (records : List Stored) → IsJournal (header 0 3) (created 1) records → ⊥
+        by_stage records (Old, last, is) = let version : 50 ≡ 49 = ap (λ (l : List ℕ). get_or l 3 9) is.text in omega (arith, version)
+        by_stage records (New, last, is) = let node : 1 ≡ 0 = ap (λ (l : List ℕ). get_or l 4 9) is.text in omega (arith, node)
 
 -- one file too few
 two_files : GoesOn true setting 3 [] (created 0 ∷ created 1 ∷ []) → ⊥
@@ -262,13 +269,16 @@ closed_store files first = first.kind
 -- a file of another node, where one before it is empty
 pub stands_for_none : (head : List ℕ) (store : Store) → length head ≡ 8 → StandsFor head [] store → ⊥
 stands_for_none head store eight stands =
-    let whole = ap length stands.journal.text in
+    let first = stands.journal.0 in
+    let is = stands.journal.2 in
+    let whole = ap length is.text in
     omega (
       arith,
       eight,
       whole,
-      length-append (head ++ gated stands.records) (stands.journal.gate ∷ stands.journal.rest),
-      length-append head (gated stands.records),
+      head_long first head,
+      length-append (head_of first head ++ gated stands.records) (is.gate ∷ is.rest),
+      length-append (head_of first head) (gated stands.records),
     )
 
 later_file_first : IsFirstNoStore 3 ([] ∷ created 0 ∷ created 2 ∷ []) BadHeader → ⊥

@@ -40,3 +40,4 @@ mod ListExamples
 mod OrderExamples
 mod LeftExamples
 mod DiskExamples
+mod OpeningExamples

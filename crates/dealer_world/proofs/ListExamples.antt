@@ -11,7 +11,7 @@ use Rattle.slot_log.specs.declared.command.Command.TheVariants.{Deal, Act}
 use Rattle.match_log.proofs.Examples.{opened, two_players, alice_and_bob}
 use Rattle.deck_draw.proofs.Examples.{drawn_of_zero}
 use Rattle.paxos_wire.specs.declared.ballot.Ballot.{Ballot}
-use Rattle.paxos_wire.specs.Reading.{body_of, message_at, of_ballot_at, ballot_at, below_at, promise_at, entries_at, accept_at, command_at, dealt_at, deal_at, deal_of, acted_at, action_at, action_of, ask_at}
+use Rattle.paxos_wire.specs.Reading.{body_of, message_at, of_ballot_at, ballot_at, below_at, promise_at, entries_at, accept_at, behind_count, command_at, dealt_at, deal_at, deal_of, acted_at, action_at, action_of, ask_at}
 use Rattle.paxos_wire.specs.Faults.{header_fault, reading}
 use Rattle.protocol_model.specs.Sets.{In, IsBeginning}
 use Rattle.protocol_model.specs.Messages.{Message, Prepare, Promise, Accept, Accepted, Ask}
@@ -86,25 +86,25 @@ abbrev pub ballot : Ballot
 ballot = record { round = 1; node = 0 }
 
 pub prepare : List ℕ
-prepare = 0 ∷ 0 ∷ 0 ∷ 11 ∷ 1 ∷ 1 ∷ 0 ∷ 0 ∷ 0 ∷ 1 ∷ 0 ∷ 0 ∷ 0 ∷ 0 ∷ 0 ∷ []
+prepare = 0 ∷ 0 ∷ 0 ∷ 11 ∷ 2 ∷ 1 ∷ 0 ∷ 0 ∷ 0 ∷ 1 ∷ 0 ∷ 0 ∷ 0 ∷ 0 ∷ 0 ∷ []
 
 pub promise : List ℕ
-promise = 0 ∷ 0 ∷ 0 ∷ 12 ∷ 1 ∷ 2 ∷ 0 ∷ 0 ∷ 0 ∷ 1 ∷ 0 ∷ 0 ∷ 0 ∷ 0 ∷ 0 ∷ 0 ∷ []
+promise = 0 ∷ 0 ∷ 0 ∷ 12 ∷ 2 ∷ 2 ∷ 0 ∷ 0 ∷ 0 ∷ 1 ∷ 0 ∷ 0 ∷ 0 ∷ 0 ∷ 0 ∷ 0 ∷ []
 
 pub accept_deal : List ℕ
-accept_deal = 0 ∷ 0 ∷ 0 ∷ 26 ∷ 1 ∷ 4 ∷ 0 ∷ 0 ∷ 0 ∷ 1 ∷ 0 ∷ 0 ∷ 0 ∷ 0 ∷ 0 ∷ 1 ∷ 0 ∷ 0 ∷ 0 ∷ 0 ∷ 9 ∷ 17 ∷ 10 ∷ 1 ∷ 29 ∷ 33 ∷ 49 ∷ 48 ∷ 6 ∷ 35 ∷ []
+accept_deal = 0 ∷ 0 ∷ 0 ∷ 27 ∷ 2 ∷ 4 ∷ 0 ∷ 0 ∷ 0 ∷ 1 ∷ 0 ∷ 0 ∷ 0 ∷ 0 ∷ 0 ∷ 1 ∷ 1 ∷ 0 ∷ 0 ∷ 0 ∷ 0 ∷ 9 ∷ 17 ∷ 10 ∷ 1 ∷ 29 ∷ 33 ∷ 49 ∷ 48 ∷ 6 ∷ 35 ∷ []
 
 pub accepted_deal : List ℕ
-accepted_deal = 0 ∷ 0 ∷ 0 ∷ 26 ∷ 1 ∷ 5 ∷ 0 ∷ 0 ∷ 0 ∷ 1 ∷ 0 ∷ 0 ∷ 0 ∷ 0 ∷ 0 ∷ 1 ∷ 0 ∷ 0 ∷ 0 ∷ 0 ∷ 9 ∷ 17 ∷ 10 ∷ 1 ∷ 29 ∷ 33 ∷ 49 ∷ 48 ∷ 6 ∷ 35 ∷ []
+accepted_deal = 0 ∷ 0 ∷ 0 ∷ 27 ∷ 2 ∷ 5 ∷ 0 ∷ 0 ∷ 0 ∷ 1 ∷ 0 ∷ 0 ∷ 0 ∷ 0 ∷ 0 ∷ 1 ∷ 1 ∷ 0 ∷ 0 ∷ 0 ∷ 0 ∷ 9 ∷ 17 ∷ 10 ∷ 1 ∷ 29 ∷ 33 ∷ 49 ∷ 48 ∷ 6 ∷ 35 ∷ []
 
 accept_fold : List ℕ
-accept_fold = 0 ∷ 0 ∷ 0 ∷ 23 ∷ 1 ∷ 4 ∷ 0 ∷ 0 ∷ 0 ∷ 1 ∷ 0 ∷ 0 ∷ 0 ∷ 0 ∷ 1 ∷ 2 ∷ 0 ∷ 0 ∷ 0 ∷ 0 ∷ 0 ∷ 0 ∷ 0 ∷ 0 ∷ 0 ∷ 0 ∷ 0 ∷ []
+accept_fold = 0 ∷ 0 ∷ 0 ∷ 24 ∷ 2 ∷ 4 ∷ 0 ∷ 0 ∷ 0 ∷ 1 ∷ 0 ∷ 0 ∷ 0 ∷ 0 ∷ 1 ∷ 1 ∷ 2 ∷ 0 ∷ 0 ∷ 0 ∷ 0 ∷ 0 ∷ 0 ∷ 0 ∷ 0 ∷ 0 ∷ 0 ∷ 0 ∷ []
 
 accepted_fold : List ℕ
-accepted_fold = 0 ∷ 0 ∷ 0 ∷ 23 ∷ 1 ∷ 5 ∷ 0 ∷ 0 ∷ 0 ∷ 1 ∷ 0 ∷ 0 ∷ 0 ∷ 0 ∷ 1 ∷ 2 ∷ 0 ∷ 0 ∷ 0 ∷ 0 ∷ 0 ∷ 0 ∷ 0 ∷ 0 ∷ 0 ∷ 0 ∷ 0 ∷ []
+accepted_fold = 0 ∷ 0 ∷ 0 ∷ 24 ∷ 2 ∷ 5 ∷ 0 ∷ 0 ∷ 0 ∷ 1 ∷ 0 ∷ 0 ∷ 0 ∷ 0 ∷ 1 ∷ 1 ∷ 2 ∷ 0 ∷ 0 ∷ 0 ∷ 0 ∷ 0 ∷ 0 ∷ 0 ∷ 0 ∷ 0 ∷ 0 ∷ 0 ∷ []
 
 asking : List ℕ
-asking = 0 ∷ 0 ∷ 0 ∷ 6 ∷ 1 ∷ 7 ∷ 0 ∷ 0 ∷ 0 ∷ 0 ∷ []
+asking = 0 ∷ 0 ∷ 0 ∷ 6 ∷ 2 ∷ 7 ∷ 0 ∷ 0 ∷ 0 ∷ 0 ∷ []
 
 abbrev pub from_to : ℕ → ℕ → List ℕ → Frame
 from_to from to bytes = record { from = from; to = to; bytes = bytes }
@@ -131,11 +131,11 @@ messages =
     messages_before_the_fold ++ Accept ballot 1 fold ∷ Accept ballot 1 fold ∷ Accepted 0 ballot 1 fold ∷ Accepted 0 ballot 1 fold ∷ Accepted 1 ballot 1 fold ∷ Accepted 1 ballot 1 fold ∷ Ask 1 0 ∷ []
 
 pub said_before_the_fold : said sent_before_the_fold ≡ messages_before_the_fold
-unfolding prepare promise accept_deal accepted_deal reading header_fault body_of message_at of_ballot_at ballot_at below_at promise_at entries_at accept_at command_at dealt_at deal_at deal_of
+unfolding prepare promise accept_deal accepted_deal reading header_fault body_of message_at of_ballot_at ballot_at below_at promise_at entries_at accept_at behind_count command_at dealt_at deal_at deal_of
 said_before_the_fold = refl
 
 all_said : said sent ≡ messages
-unfolding prepare promise accept_deal accepted_deal accept_fold accepted_fold asking reading header_fault body_of message_at of_ballot_at ballot_at below_at promise_at entries_at accept_at command_at dealt_at deal_at deal_of acted_at action_at action_of ask_at
+unfolding prepare promise accept_deal accepted_deal accept_fold accepted_fold asking reading header_fault body_of message_at of_ballot_at ballot_at below_at promise_at entries_at accept_at behind_count command_at dealt_at deal_at deal_of acted_at action_at action_of ask_at
 all_said = refl
 
 pub prepare_said : said_by (from_to 0 1 prepare) ≡ Prepare ballot 0 ∷ []

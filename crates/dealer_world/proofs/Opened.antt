@@ -1,13 +1,15 @@
 -- What the starts of an `open` make of the disks, and what they find there.
-use Rattle.std.proofs.Common.{◌≡◌, ◌≢◌, ℕ, zero, suc, ◌+◌, ◌-◌, ◌<◌, ◌≤◌, ◌⊎◌, inl, inr, false, List, [], ◌∷◌, ◌++◌, map, length, get_or, set, take, drop, Result, Ok, Err, OnOk, IfErr, IsTrue, refl, ap, sym, ◌∙◌, subst, arith}
+use Rattle.std.proofs.Common.{◌≡◌, ◌≢◌, ℕ, zero, suc, ◌+◌, ◌-◌, ◌<◌, ◌≤◌, ◌⊎◌, inl, inr, false, List, [], ◌∷◌, ◌++◌, map, length, get_or, set, take, drop, Some, Result, Ok, Err, OnOk, IfErr, IsTrue, refl, ap, sym, ◌∙◌, subst, arith}
 use Rattle.std.specs.List.{AllZip}
 use Rattle.std.proofs.lemmas.Bool.{cases_eq, cases_lt}
-use Rattle.std.proofs.lemmas.List.{get_or_default, get_or-map, get_or-set_other, length-map, length-drop, drop_more}
+use Rattle.std.proofs.lemmas.List.{get_or_default, get_or-map, get_or-set_other, get_or-set_same, length-map, length-drop, drop_more}
 use Rattle.promise_store.specs.declared.disk.Disk.{Ghosts}
 use Rattle.promise_store.specs.declared.fault.StoreFault.{StoreFault}
 use Rattle.promise_store.specs.declared.fault.StoreFault.TheVariants.{NoStore, BadHeader, BadRecord, Disk, Closed, OutOfMemory}
 use Rattle.promise_store.specs.Journals.{header}
 use Rattle.promise_store.specs.Holding.{StandsFor}
+use Rattle.promise_store.specs.Settled.{OnlyReads}
+use Rattle.promise_store.specs.Keeping.{Leaves}
 use Rattle.promise_store.specs.Refusals.{Refuses}
 use Rattle.protocol_model.specs.Stores.{Store, empty_store}
 use Rattle.dealer_kind.specs.Plans.{Plan}
@@ -15,11 +17,12 @@ use Rattle.node_rules.specs.Standings.{Place}
 use Rattle.dealer_node.specs.Nodes.{Node}
 use Rattle.dealer_node.specs.declared.fault.NodeFault.{NodeFault}
 use Rattle.dealer_node.specs.declared.fault.NodeFault.TheVariants as fault
-use Rattle.dealer_node.specs.Seeing.{head_of, post_in, runs, seen_by, begun_by, count_by, images_by, since_by, begun_of, bytes_of, images_of}
-use Rattle.dealer_node.specs.Taking.{IsOfStart, FindsStore, OnlyReadsDisk}
+use Rattle.dealer_node.specs.Seeing.{head_of, post_in, runs, seen_by, begun_by, count_by, images_by, since_by, begun_of, bytes_of, images_of, disk_in}
+use Rattle.dealer_node.specs.Starting.{GoesOnNew, MarksJournal}
+use Rattle.dealer_node.specs.Taking.{IsOfStart, FindsStore, OpensDisk}
 use Rattle.dealer_world.specs.declared.event.Event.TheVariants as event
 use Rattle.dealer_world.specs.Stepping.{View, Stepped}
-use Rattle.dealer_world.specs.Beginning.{IsWant, IsReopenedAt, HaveStores, HasStore, AreEach, IsOver, IsOnlyRead, MayBeFound, AreImagesOf, LeaveNoMore, AreImages, IsOfBytes, IsFirstRefused, IsFirstNoStore, IsUnopened}
+use Rattle.dealer_world.specs.Beginning.{IsWant, IsReopenedAt, HaveStores, HasStore, HaveEither, AreEach, IsOver, IsOnlyRead, LeavesIn, IsOpenedSince, MarkFirst, IsOpenedOver, AreOpenedOver, LeaveStores, GoOnNew, MayBeFound, AreImagesOf, LeaveNoMore, AreImages, IsOfBytes, IsFirstRefused, IsFirstNoStore, IsUnopened}
 
 -- ---- lists, side by side
 
@@ -98,16 +101,16 @@ module _ {D : Type 0} (g : Ghosts D) where
     during = λ t image was. inl was;
   }
 
-  read_disk : (old new : Node D) → post_in new ≡ post_in old → OnlyReadsDisk g old new → IsOnlyRead g old new
-  read_disk old new post only = record {
+  read_disk : (old new : Node D) (before after : D) → post_in new ≡ post_in old → disk_in old ≡ Some before → disk_in new ≡ Some after → OnlyReads g before after → IsOnlyRead g old new
+  read_disk old new before after post was is reads = record {
     post = post;
-    bytes = ap (seen_by g) only.is ∙ (only.reads.seen ∙ sym (ap (seen_by g) only.was));
-    begun = ap (begun_by g) only.is ∙ (only.reads.begun ∙ sym (ap (begun_by g) only.was));
-    counts = let a = ap (count_by g) only.was in let b = ap (count_by g) only.is in let c = only.reads.counts in omega arith;
-    images = λ image is. subst (λ disk. images_by g disk image) (sym only.was) (only.reads.images image (subst (λ disk. images_by g disk image) only.is is));
-    during = λ t image is. elim (only.reads.during t image (subst (λ disk. since_by g disk t image) only.is is)) [
-      | inl before ↦ inl (subst (λ disk. since_by g disk t image) (sym only.was) before)
-      | inr now ↦ inr (subst (λ disk. images_by g disk image) (sym only.was) now)
+    bytes = ap (seen_by g) is ∙ (reads.seen ∙ sym (ap (seen_by g) was));
+    begun = ap (begun_by g) is ∙ (reads.begun ∙ sym (ap (begun_by g) was));
+    counts = let a = ap (count_by g) was in let b = ap (count_by g) is in let c = reads.counts in omega arith;
+    images = λ image left. subst (λ disk. images_by g disk image) (sym was) (reads.images image (subst (λ disk. images_by g disk image) is left));
+    during = λ t image left. elim (reads.during t image (subst (λ disk. since_by g disk t image) is left)) [
+      | inl before ↦ inl (subst (λ disk. since_by g disk t image) (sym was) before)
+      | inr now ↦ inr (subst (λ disk. images_by g disk image) (sym was) now)
     ];
   }
 
@@ -121,20 +124,73 @@ module _ {D : Type 0} (g : Ghosts D) where
     during = λ t image is. elim (second.during t image is) [ inl before ↦ first.during t image before | inr now ↦ inr (first.images image now) ];
   }
 
-  start_reads : (old new : View (Node D)) (k : ℕ) (answer : Result (Unit {0}) NodeFault) (stepped : Stepped g old (event.Start k) answer new) → IsOnlyRead g stepped.before stepped.after
-  start_reads old new k answer stepped = elim stepped.given.disk.reads [
-    | inl same ↦ subst (IsOnlyRead g stepped.before) (sym same) (read_itself stepped.before)
-    | inr only ↦ read_disk stepped.before stepped.after stepped.given.stays.post only
+  pub opened_itself : (node : Node D) → IsOpenedSince g node node
+  opened_itself node = record {
+    post = refl;
+    begun = refl;
+    counts = omega arith;
+    leaves = λ store begun honest leaves. leaves;
+    during = λ store begun honest leaves t image was. inl was;
+    quiet = λ honest goes_on. read_itself node;
+  }
+
+  open_disk : (old new : Node D) (answer : Result (Unit {0}) NodeFault) → post_in new ≡ post_in old → OpensDisk g old new answer → IsOpenedSince g old new
+  open_disk old new answer post opens =
+      let head = head_of (post_in old) in
+      let at_first : (store begun : Store) → LeavesIn g head store begun old → Leaves g head store begun opens.before =
+      λ store begun leaves image left. leaves image (subst (λ disk. images_by g disk image) (sym opens.was) left) in
+      record {
+        post = post;
+        begun = ap (begun_by g) opens.is ∙ (opens.reopens.begun ∙ sym (ap (begun_by g) opens.was));
+        counts = let a = ap (count_by g) opens.was in let b = ap (count_by g) opens.is in let c = opens.reopens.counts in omega arith;
+        leaves = λ store begun honest leaves image left.
+            opens.reopens.leaves store begun honest (at_first store begun leaves) image (subst (λ disk. images_by g disk image) opens.is left);
+        during = λ store begun honest leaves t image left.
+            elim (opens.reopens.during store begun honest (at_first store begun leaves) t image (subst (λ disk. since_by g disk t image) opens.is left)) [
+              | inl before ↦ inl (subst (λ disk. since_by g disk t image) (sym opens.was) before)
+              | inr either ↦ inr either
+            ];
+        quiet = λ honest goes_on.
+            read_disk old new opens.before opens.after post opens.was opens.is
+            (opens.quiet honest (subst (GoesOnNew head) (ap (seen_by g) opens.was) goes_on));
+      }
+
+  opened_on : (a b c : Node D) → IsOpenedSince g a b → IsOpenedSince g b c → IsOpenedSince g a c
+  opened_on a b c first second =
+      let heads : head_of (post_in b) ≡ head_of (post_in a) = ap (λ post. head_of post) first.post in
+      let later : (store begun : Store) → IsTrue g.is_honest → LeavesIn g (head_of (post_in a)) store begun a → LeavesIn g (head_of (post_in b)) store begun b =
+      λ store begun honest leaves. subst (λ head. LeavesIn g head store begun b) (sym heads) (first.leaves store begun honest leaves) in
+      record {
+        post = second.post ∙ first.post;
+        begun = second.begun ∙ first.begun;
+        counts = let x = first.counts in let y = second.counts in omega arith;
+        leaves = λ store begun honest leaves.
+            subst (λ head. LeavesIn g head store begun c) heads (second.leaves store begun honest (later store begun honest leaves));
+        during = λ store begun honest leaves t image left.
+            elim (second.during store begun honest (later store begun honest leaves) t image left) [
+              | inl before ↦ first.during store begun honest leaves t image before
+              | inr either ↦ inr (subst (λ head. StandsFor head image store ⊎ StandsFor head image begun) heads either)
+            ];
+        quiet = λ honest goes_on.
+            let one = first.quiet honest goes_on in
+            let there = subst (λ head. GoesOnNew head (bytes_of g b)) (sym heads) (subst (GoesOnNew (head_of (post_in a))) (sym one.bytes) goes_on) in
+            read_on a b c one (second.quiet honest there);
+      }
+
+  start_opens : (old new : View (Node D)) (k : ℕ) (answer : Result (Unit {0}) NodeFault) (stepped : Stepped g old (event.Start k) answer new) → IsOpenedSince g stepped.before stepped.after
+  start_opens old new k answer stepped = elim stepped.given.disk.opens [
+    | inl same ↦ subst (IsOpenedSince g stepped.before) (sym same.0) (opened_itself stepped.before)
+    | inr opens ↦ open_disk stepped.before stepped.after answer stepped.given.stays.post opens
   ]
 
   -- ---- one start after another: of the nodes, the first ones were started
 
-  pub step_reads : (first : List (Node D)) (old new : View (Node D)) (k : ℕ) (answer : Result (Unit {0}) NodeFault) → Stepped g old (event.Start k) answer new
-      → AllZip (IsOnlyRead g) first old.nodes → AllZip (IsOnlyRead g) first new.nodes
-  step_reads first old new k answer stepped zipped =
-      subst (λ (nodes : List (Node D)). AllZip (IsOnlyRead g) first nodes) (sym stepped.others)
-      (all_zip_set (IsOnlyRead g) first old.nodes k stepped.before stepped.after zipped stepped.within (λ node was.
-      read_on node stepped.before stepped.after (subst (IsOnlyRead g node) stepped.at was) (start_reads old new k answer stepped)))
+  pub step_opens : (first : List (Node D)) (old new : View (Node D)) (k : ℕ) (answer : Result (Unit {0}) NodeFault) → Stepped g old (event.Start k) answer new
+      → AllZip (IsOpenedSince g) first old.nodes → AllZip (IsOpenedSince g) first new.nodes
+  step_opens first old new k answer stepped zipped =
+      subst (λ (nodes : List (Node D)). AllZip (IsOpenedSince g) first nodes) (sym stepped.others)
+      (all_zip_set (IsOpenedSince g) first old.nodes k stepped.before stepped.after zipped stepped.within (λ node was.
+      opened_on node stepped.before stepped.after (subst (IsOpenedSince g node) stepped.at was) (start_opens old new k answer stepped)))
 
   -- those from this one on are as they were
   abbrev pub Wait : List (Node D) → ℕ → List (Node D) → Type 0
@@ -159,6 +215,33 @@ module _ {D : Type 0} (g : Ghosts D) where
       → Wait first k old.nodes → k < length first → AreDown first → runs stepped.before ≡ false
   is_down first old new k answer stepped waits less down =
       ap (runs {D = D}) (sym (next_is first old new k answer stepped.before stepped waits less)) ∙ down k stepped.before less
+
+  -- the journal of a node whose start went well
+  start_marks : (old new : View (Node D)) (k : ℕ) (answer : Result (Unit {0}) NodeFault) (stepped : Stepped g old (event.Start k) answer new) → answer ≡ Ok tt → IsTrue g.is_honest
+      → runs stepped.before ≡ false → MarksJournal (head_of (post_in stepped.before)) (bytes_of g stepped.before) (bytes_of g stepped.after)
+  start_marks old new k answer stepped went honest down = elim stepped.given.disk.opens [
+    | inl same ↦ absurd (let e : ◌≡◌ {A = Result (Unit {0}) NodeFault} (Ok tt) (Err fault.OutOfMemory) = sym went ∙ same.1 in cc)
+    | inr opens ↦
+        let head = head_of (post_in stepped.before) in
+        let marks = subst (λ (a : Result (Unit {0}) NodeFault). OnOk a (MarksJournal head (g.seen opens.before) (g.seen opens.after))) went (opens.marks honest down) in
+        subst (λ (file : List ℕ). MarksJournal head file (bytes_of g stepped.after)) (sym (ap (seen_by g) opens.was))
+        (subst (MarksJournal head (g.seen opens.before)) (sym (ap (seen_by g) opens.is)) marks)
+  ]
+
+  pub step_marks : (first : List (Node D)) (old new : View (Node D)) (k : ℕ) (answer : Result (Unit {0}) NodeFault) → Stepped g old (event.Start k) answer new → answer ≡ Ok tt
+      → IsTrue g.is_honest → AreDown first → Wait first k old.nodes → k < length first → MarkFirst g first k old.nodes → MarkFirst g first (k + 1) new.nodes
+  step_marks first old new k answer stepped went honest down waits less marks i d below = elim (cases_eq i k) [
+    | inl is ↦
+        let one = start_marks old new k answer stepped went honest (is_down first old new k answer stepped waits less down) in
+        let was : get_or first k d ≡ stepped.before = next_is first old new k answer d stepped waits less in
+        let now : get_or new.nodes k d ≡ stepped.after = ap (λ (nodes : List (Node D)). get_or nodes k d) stepped.others ∙ get_or-set_same old.nodes k stepped.after d stepped.within in
+        subst (λ j. MarksJournal (head_of (post_in (get_or first j d))) (bytes_of g (get_or first j d)) (bytes_of g (get_or new.nodes j d))) (sym is)
+        (subst (λ (node : Node D). MarksJournal (head_of (post_in node)) (bytes_of g node) (bytes_of g (get_or new.nodes k d))) (sym was)
+        (subst (λ (node : Node D). MarksJournal (head_of (post_in stepped.before)) (bytes_of g stepped.before) (bytes_of g node)) (sym now) one))
+    | inr ne ↦
+        let other : get_or new.nodes i d ≡ get_or old.nodes i d = ap (λ (nodes : List (Node D)). get_or nodes i d) stepped.others ∙ get_or-set_other old.nodes k i stepped.after d ne in
+        subst (λ (node : Node D). MarksJournal (head_of (post_in (get_or first i d))) (bytes_of g (get_or first i d)) (bytes_of g node)) (sym other) (marks i d (omega (arith, below, ne)))
+  ]
 
   pub step_finds : (first : List (Node D)) (old new : View (Node D)) (k : ℕ) (answer : Result (Unit {0}) NodeFault) → Stepped g old (event.Start k) answer new → answer ≡ Ok tt
       → IsTrue g.is_honest → AreDown first → Wait first k old.nodes → k < length first → (d : Node D) → HasStore g (get_or first k d)
@@ -222,11 +305,6 @@ module _ {D : Type 0} (g : Ghosts D) where
     during = λ t image is. elim (read.during t image is) [ inl before ↦ over.during t image before | inr now ↦ inr (over.images image now) ];
   }
 
-  -- what the first starts read, of the nodes that were put over the disks
-  pub opened_over : (given : List D) (nodes first now : List (Node D)) → AllZip (IsOver g) given nodes → first ≡ nodes → AllZip (IsOnlyRead g) first now → AllZip (IsOver g) given now
-  opened_over given nodes first now over same reads =
-      all_zip_on (IsOver g) (IsOnlyRead g) (IsOver g) over_on given nodes now over (subst (λ (ns : List (Node D)). AllZip (IsOnlyRead g) ns now) same reads)
-
   pub begun_are : (given : List D) (nodes : List (Node D)) → AllZip (IsOver g) given nodes → map (begun_of g) nodes ≡ map g.seen given
   begun_are given nodes over = all_zip_map (IsOver g) g.seen (begun_of g) (λ disk node one. one.begun) given nodes over
 
@@ -234,25 +312,81 @@ module _ {D : Type 0} (g : Ghosts D) where
   abbrev pub OnlyNow : Type 0
   OnlyNow = (disk : D) (image : List ℕ) → g.since disk (g.moment disk) image → g.images disk image
 
-  pub found_within : (given : List D) (nodes : List (Node D)) (files : List (List ℕ)) → OnlyNow → AllZip (IsOver g) given nodes → MayBeFound g given nodes files → AreImagesOf g given files
-  found_within given nodes files law over found =
-      let size : length given ≡ length nodes = zip_count (IsOver g) given nodes over in
+  -- what a read gave when the disks were begun, of the nodes that were put over them
+  pub begun_since : (given : List D) (nodes first now : List (Node D)) → AllZip (IsOver g) given nodes → first ≡ nodes → AllZip (IsOpenedSince g) first now → map (begun_of g) now ≡ map g.seen given
+  begun_since given nodes first now over same opens =
+      all_zip_map (IsOpenedSince g) (begun_of g) (begun_of g) (λ old new one. one.begun) first now opens
+      ∙ (ap (map (begun_of g)) same ∙ begun_are given nodes over)
+
+  opened_one : (head : List ℕ) (given : D) (old new : Node D) → head_of (post_in old) ≡ head → IsOver g given old → IsOpenedSince g old new
+      → (IsTrue g.is_honest → MarksJournal (head_of (post_in old)) (bytes_of g old) (bytes_of g new)) → IsOpenedOver g head given new
+  opened_one head given old new heads over opens marks = record {
+    begun = opens.begun ∙ over.begun;
+    counts = let a = over.counts in let b = opens.counts in omega arith;
+    during = λ store begun honest leaves t image left.
+        let first : LeavesIn g (head_of (post_in old)) store begun old =
+        λ other is. subst (λ h. StandsFor h other store ⊎ StandsFor h other begun) (sym heads) (leaves other (over.images other is)) in
+        elim (opens.during store begun honest first t image left) [
+          | inl before ↦ elim (over.during t image before) [ inl was ↦ inl was | inr now ↦ inr (leaves image now) ]
+          | inr either ↦ inr (subst (λ h. StandsFor h image store ⊎ StandsFor h image begun) heads either)
+        ];
+    marks = λ honest.
+        subst (λ (file : List ℕ). MarksJournal head file (bytes_of g new)) over.bytes
+        (subst (λ (h : List ℕ). MarksJournal h (bytes_of g old) (bytes_of g new)) heads (marks honest));
+    quiet = λ honest goes_on.
+        let there = subst (λ (h : List ℕ). GoesOnNew h (bytes_of g old)) (sym heads) (subst (GoesOnNew head) (sym over.bytes) goes_on) in
+        over_on given old new over (opens.quiet honest there);
+  }
+
+  -- what the first starts made of the disks, of the nodes that were put over them
+  pub opened_over : (plan : Plan) (given : List D) (nodes first now : List (Node D)) → length given ≡ length plan.sources → length nodes ≡ length plan.sources → AreEach (IsReopenedAt g plan) nodes
+      → AllZip (IsOver g) given nodes → first ≡ nodes → AllZip (IsOpenedSince g) first now → (IsTrue g.is_honest → AreDown first → MarkFirst g first (length first) now)
+      → AreOpenedOver g (length plan.sources) given now
+  opened_over plan given nodes first now count many each over same opens marks =
+      let since = subst (λ (ns : List (Node D)). AllZip (IsOpenedSince g) ns now) same opens in
+      let marked = subst (λ (ns : List (Node D)). IsTrue g.is_honest → AreDown ns → MarkFirst g ns (length ns) now) same marks in
+      let size : length nodes ≡ length now = zip_count (IsOpenedSince g) nodes now since in
       record {
-        count = found.count ∙ sym size;
-        each = λ i e less.
+        count = count ∙ (sym many ∙ size);
+        each = λ i d e less.
             let here : i < length nodes = omega (arith, less, size) in
+            let there : i < length given = omega (arith, here, count, many) in
+            opened_one (header i (length plan.sources)) (get_or given i e) (get_or nodes i d) (get_or now i d) (ap (λ (p : Place). header p.node p.nodes) (each i d here).placed)
+            (zip_at (IsOver g) given nodes i e d over there) (zip_at (IsOpenedSince g) nodes now i d d since here) (λ honest. marked honest (λ j other within. (each j other within).down) i d here);
+      }
+
+  pub found_settles : (n : ℕ) (given : List D) (nodes : List (Node D)) (files : List (List ℕ)) (stores begun : ℕ → Store) → OnlyNow → AreOpenedOver g n given nodes → IsTrue g.is_honest
+      → LeaveStores g n given stores begun → MayBeFound g given nodes files → HaveEither n files stores begun
+  found_settles n given nodes files stores begun law over honest leave found i less =
+      let here : i < length nodes = omega (arith, less, found.count) in
+      let there : i < length given = omega (arith, here, over.count) in
+      let Either : Type 0 = StandsFor (header i n) (get_or files i []) (stores i) ⊎ StandsFor (header i n) (get_or files i []) (begun i) in
+      with_one nodes i Either here (λ d. with_one given i Either there (λ e.
+      elim ((over.each i d e here).during (stores i) (begun i) honest (leave i e there) (g.moment (get_or given i e)) (get_or files i []) (found.each i d e here)) [
+        | inl was ↦ leave i e there (get_or files i []) (law (get_or given i e) (get_or files i []) was)
+        | inr is ↦ is
+      ]))
+
+  pub found_within : (n : ℕ) (given : List D) (nodes : List (Node D)) (files : List (List ℕ)) → OnlyNow → AreOpenedOver g n given nodes → IsTrue g.is_honest → GoOnNew n (map g.seen given)
+      → MayBeFound g given nodes files → AreImagesOf g given files
+  found_within n given nodes files law over honest goes_on found =
+      record {
+        count = found.count ∙ sym over.count;
+        each = λ i e less.
+            let here : i < length nodes = omega (arith, less, over.count) in
             with_one nodes i (g.images (get_or given i e) (get_or files i [])) here (λ d.
-            let one = zip_at (IsOver g) given nodes i e d over less in
+            let new = subst (GoesOnNew (header i n)) (get_or-map g.seen given i e [] less) (goes_on i (omega (arith, less, length-map given g.seen))) in
+            let one = (over.each i d e here).quiet honest new in
             elim (one.during (g.moment (get_or given i e)) (get_or files i []) (found.each i d e here)) [
               | inl was ↦ law (get_or given i e) (get_or files i []) was
               | inr is ↦ is
             ]);
       }
 
-  pub found_resumes : (given : List D) (nodes before : List (Node D)) (files : List (List ℕ)) → OnlyNow → AllZip (IsOver g) given nodes → LeaveNoMore g given before → MayBeFound g given nodes files
-      → AreImages g before files
-  found_resumes given nodes before files law over leave found =
-      let there = found_within given nodes files law over found in
+  pub found_resumes : (n : ℕ) (given : List D) (nodes before : List (Node D)) (files : List (List ℕ)) → OnlyNow → AreOpenedOver g n given nodes → IsTrue g.is_honest → GoOnNew n (map g.seen given)
+      → LeaveNoMore g given before → MayBeFound g given nodes files → AreImages g before files
+  found_resumes n given nodes before files law over honest goes_on leave found =
+      let there = found_within n given nodes files law over honest goes_on found in
       record {
         count = there.count ∙ leave.count;
         each = λ i d less.

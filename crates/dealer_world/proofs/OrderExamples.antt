@@ -1,6 +1,6 @@
 -- An order in a record, as the origin of the command that it means. Near misses: one that came before the deal was chosen, one whose node knew of no deal, one
 -- of a node that there isn't, and the command of another turn.
-use Rattle.std.proofs.Common.{◌≡◌, ℕ, zero, suc, ◌<◌, inl, inr, Bool, true, false, true≢false, List, [], ◌∷◌, length, take, refl, ap, sym, ◌∙◌, subst, arith}
+use Rattle.std.proofs.Common.{◌≡◌, ℕ, zero, suc, ◌<◌, inl, inr, true, false, true≢false, List, [], ◌∷◌, length, take, refl, ap, sym, ◌∙◌, subst, arith}
 use Rattle.slot_log.specs.declared.command.Command.{Command}
 use Rattle.slot_log.specs.declared.command.Command.TheVariants.{Away}
 use Rattle.match_log.proofs.Examples.{opened}

@@ -1,5 +1,5 @@
 -- Each order of the world is in the records.
-use Rattle.std.proofs.Common.{◌≡◌, ℕ, ◌⊎◌, inl, inr, Bool, true, false, if◌then◌else◌, List, [], ◌∷◌, ◌++◌, map, length, take, refl, ap, sym, ◌∙◌, subst}
+use Rattle.std.proofs.Common.{◌≡◌, ℕ, ◌⊎◌, inl, inr, Bool, true, false, List, [], ◌∷◌, ◌++◌, map, length, take, refl, ap, sym, subst}
 use Rattle.std.proofs.Math.Seq.{take-append_seam}
 use Rattle.paxos_wire.specs.declared.ballot.Ballot.{Ballot}
 use Rattle.slot_log.specs.declared.command.Command.{Command}
@@ -7,15 +7,15 @@ use Rattle.protocol_model.specs.Sets.{In}
 use Rattle.protocol_model.specs.Messages.{Message, Accepted}
 use Rattle.protocol_model.specs.Quorums.{AreChosen}
 use Rattle.protocol_model.specs.Arrivals as model
-use Rattle.protocol_model.specs.Nodes.{Node as WorldNode, Knows}
+use Rattle.protocol_model.specs.Nodes.{Knows}
 use Rattle.protocol_model.specs.Dealers.{Dealer}
 use Rattle.protocol_model.specs.Worlds.{World, Reached}
 use Rattle.protocol_model.proofs.Sets.{in_first, in_later, in_split}
-use Rattle.dealer_world.specs.Records.{Record, Frame, Arrived, Delivered, Came, Connected, Dropped, Ordered, Arrival, said}
+use Rattle.dealer_world.specs.Records.{Record, Frame, Arrived, Delivered, Came, Connected, Dropped, Ordered, said}
 use Rattle.dealer_world.specs.Headline.{Era, said_in}
 use Rattle.dealer_world.specs.Calls.{Made, HasKnown, Brings, BringsAll}
 use Rattle.dealer_world.specs.Views.{placed_at, grown}
-use Rattle.dealer_world.specs.Behind.{IsOrderIn, IsOrderOf, CameAs, AreOrdered}
+use Rattle.dealer_world.specs.Behind.{IsOrderIn, AreOrdered}
 use Rattle.dealer_world.specs.Given.{KnownIsChosen}
 use Rattle.dealer_world.proofs.Saying.{said_more, in_map_placed}
 

@@ -28,7 +28,7 @@ use Rattle.node_rules.specs.Being.{IsPlace, IsOf}
 use Rattle.node_rules.specs.Called.{Comes, IsSaidTo, IsSaid, AreShown, text_in, text_with, texts_of, log_with, came_in, Called as RuleCalled, Ends, took, refused, failed, unchanged, events_by, events_of}
 use Rattle.node_rules.specs.Called as rule
 use Rattle.node_rules.specs.Sound.{Stands, CallsAreSound, LinesAreRefusedDown}
-use Rattle.dealer_world.specs.Records.{Frame, Arrived, Delivered, Came, Connected, Dropped, Ordered, said, said_by, messages_of}
+use Rattle.dealer_world.specs.Records.{Frame, Arrived, Ordered, said, said_by, messages_of}
 use Rattle.dealer_world.specs.Calls.{Made, nothing_made, AreTold, added_by, log_after, read_by, HasKnown, BringsAll, frames_in, log_before, IsSound, HasHeader, Called}
 use Rattle.dealer_world.specs.Runs.{AreWritten, text_by_rule, arrived_by, arrived_at, begins_by, Keeps, IsSeated, Ruled, IsOfRule}
 use Rattle.node_rules.proofs.Results.{ok_is, err_is, ok_not}

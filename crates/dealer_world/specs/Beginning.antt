@@ -1,5 +1,5 @@
 -- How the nodes of a cluster begin.
-use Rattle.std.specs.Prelude.{◌≡◌, ◌≢◌, ℕ, zero, suc, ◌⊎◌, ◌<◌, ◌≤◌, false, List, [], ◌∷◌, ◌++◌, map, length, Ok}
+use Rattle.std.specs.Prelude.{◌≡◌, ◌≢◌, ℕ, zero, suc, ◌⊎◌, ◌<◌, ◌≤◌, false, List, [], ◌∷◌, ◌++◌, map, length, IsTrue, Ok}
 use Rattle.std.proofs.Common.{get_or}
 use Rattle.promise_store.specs.declared.disk.Disk.{Ghosts}
 use Rattle.promise_store.specs.declared.fault.StoreFault.{StoreFault}
@@ -8,6 +8,7 @@ use Rattle.promise_store.specs.Disks.{Within, During}
 use Rattle.promise_store.specs.Refusals.{Refuses}
 use Rattle.promise_store.specs.Journals.{header}
 use Rattle.promise_store.specs.Holding.{StandsFor}
+use Rattle.promise_store.specs.Keeping.{Leaves}
 use Rattle.protocol_model.specs.Stores.{Store, empty_store}
 use Rattle.protocol_model.specs.Dealers.{Log}
 use Rattle.match_log.specs.Lines.{header_line}
@@ -21,6 +22,7 @@ use Rattle.dealer_node.specs.declared.fault.NodeFault.TheVariants as fault
 use Rattle.dealer_node.specs.Outs.{nothing_told}
 use Rattle.dealer_node.specs.Turned.{posted}
 use Rattle.dealer_node.specs.Posts.{place_at}
+use Rattle.dealer_node.specs.Starting.{GoesOnNew, MarksJournal}
 use Rattle.dealer_node.specs.Seeing.{head_of, post_in, runs, IsSeen, begun_of, bytes_of, failures_of, images_of, since_of, moment_of}
 use Rattle.dealer_world.specs.declared.event.Event.TheVariants as event
 use Rattle.dealer_world.specs.Records.{Record, Frame, Start, Piece}
@@ -77,6 +79,43 @@ module _ {D : Type 0} (g : Ghosts D) where
     pub images : Within (images_of g old) (images_of g new)
     pub during : During (since_of g old) (since_of g new) (images_of g old)
 
+  -- each image of the node's disk stands for the one store or for the other
+  abbrev pub LeavesIn : List ℕ → Store → Store → Node D → Type 0
+  LeavesIn head store begun node = Within (λ image. StandsFor head image store ⊎ StandsFor head image begun) (images_of g node)
+
+  -- the node's disk was opened meanwhile: at each moment each image stands for what it stood for, and a journal that goes on with version 2 was only read
+  pub record IsOpenedSince (old new : Node D) : Type 0 where
+    pub post : post_in new ≡ post_in old
+    pub begun : begun_of g new ≡ begun_of g old
+    pub counts : failures_of g old ≤ failures_of g new
+    pub leaves : (store begun : Store) → IsTrue g.is_honest → LeavesIn (head_of (post_in old)) store begun old → LeavesIn (head_of (post_in old)) store begun new
+    pub during : (store begun : Store) → IsTrue g.is_honest → LeavesIn (head_of (post_in old)) store begun old
+        → During (since_of g old) (since_of g new) (λ image. StandsFor (head_of (post_in old)) image store ⊎ StandsFor (head_of (post_in old)) image begun)
+    pub quiet : IsTrue g.is_honest → GoesOnNew (head_of (post_in old)) (bytes_of g old) → IsOnlyRead old new
+
+  -- the journals of the first nodes are as they were, or have the record behind them that opens them for version 2
+  abbrev pub MarkFirst : List (Node D) → ℕ → List (Node D) → Type 0
+  MarkFirst first k nodes =
+      (i : ℕ) (d : Node D) → i < k → MarksJournal (head_of (post_in (get_or first i d))) (bytes_of g (get_or first i d)) (bytes_of g (get_or nodes i d))
+
+  -- the node's disk is the one that was given, begun anew and opened since, under the head of its journal
+  pub record IsOpenedOver (head : List ℕ) (given : D) (node : Node D) : Type 0 where
+    pub begun : begun_of g node ≡ g.seen given
+    pub counts : g.count given ≤ failures_of g node
+    pub during : (store begun : Store) → IsTrue g.is_honest → Leaves g head store begun given
+        → During (g.since given) (since_of g node) (λ image. StandsFor head image store ⊎ StandsFor head image begun)
+    pub marks : IsTrue g.is_honest → MarksJournal head (g.seen given) (bytes_of g node)
+    pub quiet : IsTrue g.is_honest → GoesOnNew head (g.seen given) → IsOver given node
+
+  -- the disk of each of n nodes is
+  pub record AreOpenedOver (n : ℕ) (given : List D) (nodes : List (Node D)) : Type 0 where
+    pub count : length given ≡ length nodes
+    pub each : (i : ℕ) (d : Node D) (e : D) → i < length nodes → IsOpenedOver (header i n) (get_or given i e) (get_or nodes i d)
+
+  -- each image of each disk, of a node of n, stands for one of two stores of it
+  abbrev pub LeaveStores : ℕ → List D → (ℕ → Store) → (ℕ → Store) → Type 0
+  LeaveStores n disks stores begun = (i : ℕ) (e : D) → i < length disks → Leaves g (header i n) (stores i) (begun i) (get_or disks i e)
+
   -- each file may be found on its node's disk, at a moment since that disk was the given one
   pub record MayBeFound (given : List D) (nodes : List (Node D)) (files : List (List ℕ)) : Type 0 where
     pub count : length files ≡ length nodes
@@ -127,6 +166,14 @@ IsUnopened n files why = IsWant why ⊎ ((f : StoreFault) × (why ≡ fault.Stor
 -- each file, that of node i of n, stands for this store of the node
 abbrev pub HaveStores : ℕ → List (List ℕ) → (ℕ → Store) → Type 0
 HaveStores n files stores = (i : ℕ) → i < length files → StandsFor (header i n) (get_or files i []) (stores i)
+
+-- each stands for the one of two stores of the node, or for the other
+abbrev pub HaveEither : ℕ → List (List ℕ) → (ℕ → Store) → (ℕ → Store) → Type 0
+HaveEither n files stores begun = (i : ℕ) → i < length files → StandsFor (header i n) (get_or files i []) (stores i) ⊎ StandsFor (header i n) (get_or files i []) (begun i)
+
+-- each is a journal that goes on with version 2: none is of version 1
+abbrev pub GoOnNew : ℕ → List (List ℕ) → Type 0
+GoOnNew n files = (i : ℕ) → i < length files → GoesOnNew (header i n) (get_or files i [])
 
 -- each of these, by their numbers, is so
 abbrev pub AreEach : {N : Type 0} → (ℕ → N → Type 0) → List N → Type 0

@@ -1,6 +1,9 @@
 -- What follows for whoever reads the records.
 use Rattle.std.specs.Prelude.{◌≡◌, ℕ, true, Some, List, length}
 use Rattle.std.specs.List.{All}
+use Rattle.paxos_wire.specs.declared.message.Message.{Message as Content}
+use Rattle.paxos_wire.specs.Fits.{IsMessage, IsOld}
+use Rattle.paxos_wire.specs.Spelling.{old_frame}
 use Rattle.slot_log.specs.Dealer.{hands_of, is_match_over}
 use Rattle.slot_log.specs.declared.command.Command.{Command}
 use Rattle.matchstate.specs.View.{View}
@@ -8,11 +11,16 @@ use Rattle.matchstate.specs.Line.{line_text}
 use Rattle.matchstate.specs.Laws.{Agree, Alike}
 use Rattle.match_log.specs.Check.{IsMatchLog}
 use Rattle.protocol_model.specs.Sets.{In, IsBeginning}
+use Rattle.protocol_model.specs.Frames.{carried}
 use Rattle.dealer_kind.specs.Kind.{Setting}
 use Rattle.dealer_kind.specs.Plans.{IsSetting}
 use Rattle.dealer_kind.specs.Sources.{HasDeals}
-use Rattle.dealer_world.specs.Records.{Line, Written, lines_of, logs_of}
+use Rattle.dealer_world.specs.Records.{Line, Written, lines_of, logs_of, said_by}
 use Rattle.dealer_world.specs.Headline.{Era, InEach, InSome, dealer_in, OneList}
+
+-- a frame that version 1 wrote of a message says what its sender says by that message
+abbrev pub OldFramesSayTheSame : Type 0
+OldFramesSayTheSame = (from to : ℕ) (m : Content) → IsMessage m → IsOld m → said_by (record { from = from; to = to; bytes = old_frame m }) ≡ carried from m
 
 -- some era's record has this line, or this log
 abbrev pub HasLine : List Era → Line → Type 0

@@ -13,7 +13,7 @@ use Rattle.dealer_node.specs.declared.fault.NodeFault.{NodeFault}
 use Rattle.dealer_node.specs.declared.fault.NodeFault.TheVariants as fault
 use Rattle.dealer_node.specs.Outs.{Told, nothing_told}
 use Rattle.dealer_node.specs.Seeing.{head_of, post_in, runs, front_in, IsSeen, bytes_of}
-use Rattle.dealer_node.specs.Taking.{Takes, StaysItself, IsOfStart, FindsStore, OnlyReadsDisk, StopsBy}
+use Rattle.dealer_node.specs.Taking.{Takes, StaysItself, IsOfStart, FindsStore, OpensDisk, StopsBy}
 use Rattle.dealer_world.specs.declared.event.Event.{Event}
 use Rattle.dealer_world.specs.declared.event.Event.TheVariants as event
 use Rattle.dealer_world.specs.Records.{Record, Arrived}
@@ -71,11 +71,11 @@ abbrev pub begins_by_event : Bool → Event → Result (Unit {0}) NodeFault → 
 begins_by_event is_up e answer = if is_ok answer then may_begin is_up e else false
 
 module _ {D : Type 0} (g : Ghosts D) where
-  -- a start only reads its node's disk, or there was no memory to give it; where it is taken, a node that was down runs with the store that the disk has; and
+  -- a start opens its node's disk, or there was no memory to give it; where it is taken, a node that was down runs with the store that the disk has; and
   -- it is refused for want of memory, or for what opening the disk found
   pub record IsStartOf (old new : Node D) (answer : Result (Unit {0}) NodeFault) : Type 0 where
     pub faults : IfErr answer IsOfStart
-    pub reads : (new ≡ old) ⊎ OnlyReadsDisk g old new
+    pub opens : ((new ≡ old) × (answer ≡ Err fault.OutOfMemory)) ⊎ OpensDisk g old new answer
     pub found : IsTrue g.is_honest → runs old ≡ false → OnOk answer (FindsStore g old new)
     pub refused : IsTrue g.is_honest → (why : StoreFault) → answer ≡ Err (fault.Store why) → Refuses (head_of (post_in old)) (bytes_of g old) why
 

@@ -9,7 +9,7 @@ ghost use Rattle.dealer_node.specs.Seeing.{post_in, runs, front_in, IsSeen, begu
 ghost use Rattle.node_rules.specs.Standings.{Standing};
 ghost use Rattle.dealer_world.specs.Records.{no_record, log_of};
 ghost use Rattle.dealer_world.specs.Headline.{Era};
-ghost use Rattle.dealer_world.specs.Beginning.{AreImages, AreImagesDuring, AreStarted, StartsAll, HaveStores, HasStore, AreEach, IsWant, IsOver, IsOnlyRead, MayBeFound, AreImagesOf, LeaveNoMore, IsFirstRefused, IsUnopened};
+ghost use Rattle.dealer_world.specs.Beginning.{AreImages, AreImagesDuring, AreStarted, StartsAll, HaveStores, HaveEither, HasStore, AreEach, IsWant, GoOnNew, IsOpenedSince, MarkFirst, AreOpenedOver, LeaveStores, MayBeFound, AreImagesOf, LeaveNoMore, IsFirstRefused, IsUnopened};
 ghost use Rattle.protocol_model.specs.Stores.{Store, empty_store};
 ghost use Rattle.dealer_world.specs.Stepping.{View, IsFor, IsGiven, begins_by_event, Stepped, Ran};
 ghost use Rattle.dealer_world.specs.Shows.{GrowsWithin, most_shown_at};
@@ -204,7 +204,9 @@ impl<D: Disk + Drop> Cluster<D> {
         ensures last { OnOk result ((view_of self.new).last ≡ nothing_told) }
         ensures started { OnOk result (StartsAll D.Disk (view_of self.old) (view_of self.new)) }
         ensures failed { IfErr result (λ why. (standings : List Standing) → IsTrue D.is_honest → AreSeen D.Disk (view_of self.old).nodes standings → IsWant why) }
-        ensures reads { AllZip (IsOnlyRead D.Disk) (view_of self.old).nodes (view_of self.new).nodes }
+        ensures opens { AllZip (IsOpenedSince D.Disk) (view_of self.old).nodes (view_of self.new).nodes }
+        ensures marks { OnOk result (IsTrue D.is_honest → AreEach (λ i node. runs node ≡ false) (view_of self.old).nodes
+            → MarkFirst D.Disk (view_of self.old).nodes (length (view_of self.old).nodes) (view_of self.new).nodes) }
         ensures stores { OnOk result (IsTrue D.is_honest → AreEach (λ i node. runs node ≡ false) (view_of self.old).nodes → AreEach (λ i. HasStore D.Disk) (view_of self.old).nodes) }
         ensures refused { IfErr result (λ why. IsTrue D.is_honest → AreEach (λ i node. runs node ≡ false) (view_of self.old).nodes
             → IsWant why ⊎ ((f : StoreFault) × (why ≡ NodeFault.Store f) × IsFirstRefused D.Disk (view_of self.old).nodes f)) }
@@ -240,8 +242,9 @@ impl<D: Disk + Drop> Cluster<D> {
 
     /// A cluster that goes on from the stores that its disks have; all nodes are started.
     ///
-    /// Where it goes well, each disk was synced first and begun anew, and only read since. Refused is 92, 91 with 63, or 91
-    /// of the first disk, in order, that has no store of its node; then the disks are dropped, and nothing is said of them.
+    /// Where it goes well, each disk was synced first and begun anew, and then opened: a store that version 1 made goes on
+    /// with version 2, and any other disk was only read. Refused is 92, 91 with 63, or 91 of the first disk, in order, that
+    /// has no store of its node; then the disks are dropped, and nothing is said of them.
     pub fn open(alloc: Global, config: Config, disks: Vec<D>) -> Result<Cluster<D>, NodeFault>
         requires { length disks.items ≡ length config.sources }
         ensures config { IfOk result (λ made. (view_of made).config ≡ config) }
@@ -249,7 +252,7 @@ impl<D: Disk + Drop> Cluster<D> {
         // It goes on with the stores that the disks have.
         ensures stands { IfOk result (λ made. IsTrue D.is_honest
             → (stores : ℕ → Store) × HaveStores (length config.sources) (map D.seen disks.items) stores × AreStarted D.Disk stores (view_of made)) }
-        ensures over { IfOk result (λ made. AllZip (IsOver D.Disk) disks.items (view_of made).nodes) }
+        ensures over { IfOk result (λ made. AreOpenedOver D.Disk (length config.sources) disks.items (view_of made).nodes) }
         // Over new stores it goes on from no era, like a new one.
         ensures fresh { IfOk result (λ made. HaveStores (length config.sources) (map D.seen disks.items) (λ i. empty_store) → GoesOnFrom D.Disk (view_of made) []) }
         // It goes on from a cluster of the same match, wherever its events have led, whose disks may be left with what
@@ -264,10 +267,13 @@ impl<D: Disk + Drop> Cluster<D> {
             → AreImagesDuring D.Disk (node_of event) stepped.before stepped.after before.nodes (map D.seen disks.items)
             → GoesOnFrom D.Disk before eras → IsTrue D.is_honest → HasNoForged before → HasNoForged (with_brought before (front_in stepped.before) event)
             → ∥ GoesOnFrom D.Disk (view_of made) (era_of before ∷ eras) ⊎ GoesOnFrom D.Disk (view_of made) (era_of (with_brought before (front_in stepped.before) event) ∷ eras) ∥₁) }
-        // Where it goes well, the disks left no more at any moment of it than they did before. So where it is broken off and
-        // would have gone well, over disks that were handed on from a cluster, the next one goes on from that cluster.
-        ensures within { IfOk result (λ made. (files : List (List ℕ)) → MayBeFound D.Disk disks.items (view_of made).nodes files → AreImagesOf D.Disk disks.items files) }
-        ensures resumes { IfOk result (λ made. (before : View (Node D)) (files : List (List ℕ)) → LeaveNoMore D.Disk disks.items before.nodes
+        // Where it goes well, what the disks left at any moment of it stands for the stores that they left before.
+        ensures settles { IfOk result (λ made. (stores begun : ℕ → Store) (files : List (List ℕ)) → IsTrue D.is_honest → LeaveStores D.Disk (length config.sources) disks.items stores begun
+            → MayBeFound D.Disk disks.items (view_of made).nodes files → HaveEither (length config.sources) files stores begun) }
+        // Where none of them is of version 1, they left no more than they did before. So where it is broken off and would have
+        // gone well, over disks that were handed on from a cluster, the next one goes on from that cluster.
+        ensures within { IfOk result (λ made. (files : List (List ℕ)) → IsTrue D.is_honest → GoOnNew (length config.sources) (map D.seen disks.items) → MayBeFound D.Disk disks.items (view_of made).nodes files → AreImagesOf D.Disk disks.items files) }
+        ensures resumes { IfOk result (λ made. (before : View (Node D)) (files : List (List ℕ)) → IsTrue D.is_honest → GoOnNew (length config.sources) (map D.seen disks.items) → LeaveNoMore D.Disk disks.items before.nodes
             → MayBeFound D.Disk disks.items (view_of made).nodes files → AreImages D.Disk before.nodes files) }
         ensures last { IfOk result (λ made. (view_of made).last ≡ nothing_told) }
         ensures promised { IfOk result (λ made. IsPromised D.Disk (view_of made)) }

@@ -12,7 +12,7 @@ ghost use Rattle.protocol_model.specs.Dealers.{Dealer};
 ghost use Rattle.protocol_model.specs.Laws.{OneDealer, HasOrigin};
 ghost use Rattle.protocol_model.specs.Worlds.{World, Reached};
 ghost use Rattle.dealer_world.specs.Given.{Given};
-ghost use Rattle.dealer_world.specs.RecordLaws.{LinesOfRecordsAgree, AlikeListsShowTheSame, CompleteLogsAreMatchLogs};
+ghost use Rattle.dealer_world.specs.RecordLaws.{OldFramesSayTheSame, LinesOfRecordsAgree, AlikeListsShowTheSame, CompleteLogsAreMatchLogs};
 ghost use Rattle.dealer_world.specs.CalmRun.{RoundsMoveOn, FreshClustersAreCalm};
 ghost use Rattle.dealer_world.specs.RuleRuns.{RunsShowOneList, RunsAreBacked, RunsSendToNodes, RunsNeverConflict};
 
@@ -20,6 +20,7 @@ use dealer_kind::laws::{deals_are_owned_acts_are_said_and_aways_are_ordered, own
 use deck_draw::laws::draws_are_deals;
 use matchstate::laws::{agree, beginnings_are_alike};
 use node_rules::laws::{calls_are_sound, calm_rounds_move, refusals_have_reasons};
+use paxos_wire::old_frames_read_back;
 use protocol_model::laws::{
     backing_lasts, chains_reach, known_is_chosen, one_dealer as protocol_one_dealer,
     owners_may_change,
@@ -96,6 +97,14 @@ pub fn complete_logs_are_match_logs()
     ensures { CompleteLogsAreMatchLogs }
 {
     draws_are_deals();
+}
+
+/// A record of frames that version 1 wrote says what it said to nodes of that version: so what is promised of eras holds
+/// of one whose frames are of it.
+pub fn old_frames_say_the_same()
+    ensures { OldFramesSayTheSame }
+{
+    old_frames_read_back();
 }
 
 /// In every run of a cluster whose nodes keep the rules, over all its eras, in which no frame was forged, there is one

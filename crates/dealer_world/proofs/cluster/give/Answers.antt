@@ -39,7 +39,7 @@ returns-in-Stop-clause-given g c = rw c.requires.nothing (given g.D.Disk call.St
 pub returns-in-Start-clause-given : goal.returns-in-Start-clause-given
 returns-in-Start-clause-given g c = started g.D.Disk c.args.event.now c.args.node.now c.start.new.self c.args.made.now c.start.new.out c.start.result c.requires.nothing
     (λ s honest seen. let t = c.start.ensures.taken s honest seen in (t.0, rw c.in-Start.is t.1)) c.start.ensures.stays
-    (rw c.in-Start.is record { faults = c.start.ensures.faults; reads = inr c.start.ensures.reads; found = c.start.ensures.found; refused = c.start.ensures.refused })
+    (rw c.in-Start.is record { faults = c.start.ensures.faults; opens = inr c.start.ensures.disk; found = c.start.ensures.found; refused = c.start.ensures.refused })
 
 pub returns-in-Frame-clause-shows : goal.returns-in-Frame-clause-shows
 returns-in-Frame-clause-shows g c = shown_first (most_shown_of c.args.node.now) c.args.made.now c.on_frame.new.out c.requires.nothing c.on_frame.ensures.shows

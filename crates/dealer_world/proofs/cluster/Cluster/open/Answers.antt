@@ -1,7 +1,7 @@
 use Rattle.dealer_world.specs.Viewing.{view_of}
 use Rattle.dealer_world.proofs.Founding.{reopened_posted, reopened_behind}
 use Rattle.dealer_world.proofs.Started.{all_started, reopened_wait}
-use Rattle.dealer_world.proofs.Opened.{AreDown, IsRefusedStart, opened_over, begun_are, found_within, found_resumes, files_have, unopened}
+use Rattle.dealer_world.proofs.Opened.{AreDown, IsRefusedStart, opened_over, begun_are, begun_since, found_settles, found_within, found_resumes, files_have, unopened}
 use Rattle.dealer_world.proofs.Wanting.{on_fault}
 use Rattle.dealer_world.proofs.Promising.{promised}
 use Rattle.dealer_world.proofs.Reached.{reached_keeps}
@@ -27,8 +27,7 @@ returns-clause-promised g c = promised g.D.Disk (view_of c.start_all.new.self) c
 pub returns-clause-fresh : goal.returns-clause-fresh
 returns-clause-fresh g c = λ have.
     let now = view_of c.start_all.new.self in
-    let files = begun_are g.D.Disk c.args.disks.items now.nodes
-    (opened_over g.D.Disk c.args.disks.items c.in_ok-nodes.nodes.items (view_of c.down-cluster.result).nodes now.nodes c.in_ok-nodes.ensures.over c.down-cluster.ensures.nodes c.start_all.ensures.reads) in
+    let files = begun_since g.D.Disk c.args.disks.items c.in_ok-nodes.nodes.items (view_of c.down-cluster.result).nodes now.nodes c.in_ok-nodes.ensures.over c.down-cluster.ensures.nodes c.start_all.ensures.opens in
     let is_open : now.opened ≡ true = search rules in
     let same : now.config ≡ c.args.config = search rules in
     let count : length c.args.disks.items ≡ length c.args.config.sources = c.requires in
@@ -37,8 +36,7 @@ returns-clause-fresh g c = λ have.
 pub returns-clause-goes_on : goal.returns-clause-goes_on
 returns-clause-goes_on g c = λ first before eras reached same images goes honest unforged.
     let now = view_of c.start_all.new.self in
-    let files = begun_are g.D.Disk c.args.disks.items now.nodes
-    (opened_over g.D.Disk c.args.disks.items c.in_ok-nodes.nodes.items (view_of c.down-cluster.result).nodes now.nodes c.in_ok-nodes.ensures.over c.down-cluster.ensures.nodes c.start_all.ensures.reads) in
+    let files = begun_since g.D.Disk c.args.disks.items c.in_ok-nodes.nodes.items (view_of c.down-cluster.result).nodes now.nodes c.in_ok-nodes.ensures.over c.down-cluster.ensures.nodes c.start_all.ensures.opens in
     let is_open : now.opened ≡ true = search rules in
     let there = (reached_keeps g.D.Disk (view_of first) before c.seen_as_one.ensures.up (record { count = first.count; posted = first.posted; behind = first.behind }) reached).kept in
     goes_on g.D.Disk before now eras c.images_are_seen.ensures there.posted there.behind is_open same.setting same.count
@@ -47,8 +45,7 @@ returns-clause-goes_on g c = λ first before eras reached same images goes hones
 pub returns-clause-goes_on_inside : goal.returns-clause-goes_on_inside
 returns-clause-goes_on_inside g c = λ first before after event answer eras reached same stepped is_for images goes honest unforged brought.
     let now = view_of c.start_all.new.self in
-    let files = begun_are g.D.Disk c.args.disks.items now.nodes
-    (opened_over g.D.Disk c.args.disks.items c.in_ok-nodes.nodes.items (view_of c.down-cluster.result).nodes now.nodes c.in_ok-nodes.ensures.over c.down-cluster.ensures.nodes c.start_all.ensures.reads) in
+    let files = begun_since g.D.Disk c.args.disks.items c.in_ok-nodes.nodes.items (view_of c.down-cluster.result).nodes now.nodes c.in_ok-nodes.ensures.over c.down-cluster.ensures.nodes c.start_all.ensures.opens in
     let is_open : now.opened ≡ true = search rules in
     let there = (reached_keeps g.D.Disk (view_of first) before c.seen_as_one.ensures.up (record { count = first.count; posted = first.posted; behind = first.behind }) reached).kept in
     goes_on_inside g.D.Disk before after now event answer eras c.images_are_seen.ensures c.moments_pass.ensures there.posted there.behind there.count is_open same.setting same.count stepped is_for
@@ -73,20 +70,29 @@ returns-clause-stands g c = λ honest.
 
 pub returns-clause-over : goal.returns-clause-over
 returns-clause-over g c =
-    opened_over g.D.Disk c.args.disks.items c.in_ok-nodes.nodes.items (view_of c.down-cluster.result).nodes (view_of c.start_all.new.self).nodes c.in_ok-nodes.ensures.over c.down-cluster.ensures.nodes
-    c.start_all.ensures.reads
+    opened_over g.D.Disk c.args.config c.args.disks.items c.in_ok-nodes.nodes.items (view_of c.down-cluster.result).nodes (view_of c.start_all.new.self).nodes c.requires c.in_ok-nodes.ensures.count
+    c.in_ok-nodes.ensures.each c.in_ok-nodes.ensures.over c.down-cluster.ensures.nodes c.start_all.ensures.opens c.in_ok-start_all.ensures.marks
+
+pub returns-clause-settles : goal.returns-clause-settles
+returns-clause-settles g c = λ stores begun files honest leave found.
+    let now = (view_of c.start_all.new.self).nodes in
+    let over = opened_over g.D.Disk c.args.config c.args.disks.items c.in_ok-nodes.nodes.items (view_of c.down-cluster.result).nodes now c.requires c.in_ok-nodes.ensures.count
+    c.in_ok-nodes.ensures.each c.in_ok-nodes.ensures.over c.down-cluster.ensures.nodes c.start_all.ensures.opens c.in_ok-start_all.ensures.marks in
+    found_settles g.D.Disk (length c.args.config.sources) c.args.disks.items now files stores begun g.met.D.Disk.only_now over honest leave found
 
 pub returns-clause-within : goal.returns-clause-within
-returns-clause-within g c = λ files found.
+returns-clause-within g c = λ files honest goes_on found.
     let now = (view_of c.start_all.new.self).nodes in
-    let over = opened_over g.D.Disk c.args.disks.items c.in_ok-nodes.nodes.items (view_of c.down-cluster.result).nodes now c.in_ok-nodes.ensures.over c.down-cluster.ensures.nodes c.start_all.ensures.reads in
-    found_within g.D.Disk c.args.disks.items now files g.met.D.Disk.only_now over found
+    let over = opened_over g.D.Disk c.args.config c.args.disks.items c.in_ok-nodes.nodes.items (view_of c.down-cluster.result).nodes now c.requires c.in_ok-nodes.ensures.count
+    c.in_ok-nodes.ensures.each c.in_ok-nodes.ensures.over c.down-cluster.ensures.nodes c.start_all.ensures.opens c.in_ok-start_all.ensures.marks in
+    found_within g.D.Disk (length c.args.config.sources) c.args.disks.items now files g.met.D.Disk.only_now over honest goes_on found
 
 pub returns-clause-resumes : goal.returns-clause-resumes
-returns-clause-resumes g c = λ before files leave found.
+returns-clause-resumes g c = λ before files honest goes_on leave found.
     let now = (view_of c.start_all.new.self).nodes in
-    let over = opened_over g.D.Disk c.args.disks.items c.in_ok-nodes.nodes.items (view_of c.down-cluster.result).nodes now c.in_ok-nodes.ensures.over c.down-cluster.ensures.nodes c.start_all.ensures.reads in
-    found_resumes g.D.Disk c.args.disks.items now before.nodes files g.met.D.Disk.only_now over leave found
+    let over = opened_over g.D.Disk c.args.config c.args.disks.items c.in_ok-nodes.nodes.items (view_of c.down-cluster.result).nodes now c.requires c.in_ok-nodes.ensures.count
+    c.in_ok-nodes.ensures.each c.in_ok-nodes.ensures.over c.down-cluster.ensures.nodes c.start_all.ensures.opens c.in_ok-start_all.ensures.marks in
+    found_resumes g.D.Disk (length c.args.config.sources) c.args.disks.items now before.nodes files g.met.D.Disk.only_now over honest goes_on leave found
 
 pub returns-in_err-start_all-clause-first : goal.returns-in_err-start_all-clause-first
 returns-in_err-start_all-clause-first g c =

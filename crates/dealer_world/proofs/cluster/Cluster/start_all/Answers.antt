@@ -1,14 +1,14 @@
-use Rattle.std.proofs.Common.{◌≡◌, ◌∙◌, ◌+◌, ◌<◌, suc, List, length, Ok, Err, Result, IsTrue, refl, ap, subst, arith, rules}
+use Rattle.std.proofs.Common.{◌≡◌, ◌∙◌, ◌+◌, ◌<◌, suc, List, length, Ok, Err, Result, IsTrue, refl, ap, sym, subst, arith, rules}
 use Rattle.node_rules.specs.Standings.{Standing}
 use Rattle.dealer_node.specs.declared.fault.NodeFault.{NodeFault}
 use Rattle.dealer_node.specs.Outs.{Told}
 use Rattle.dealer_world.specs.declared.event.Event.TheVariants as event
 use Rattle.dealer_world.specs.Records.{Record}
 use Rattle.dealer_world.specs.Stepping.{Stepped}
-use Rattle.dealer_world.specs.Beginning.{Starts, IsWant, IsOnlyRead, none, more}
+use Rattle.dealer_world.specs.Beginning.{Starts, IsWant, IsOpenedSince, MarkFirst, none, more}
 use Rattle.dealer_world.specs.Ruling.{AreSeen}
 use Rattle.dealer_world.specs.Viewing.{view_of}
-use Rattle.dealer_world.proofs.Opened.{AreDown, IsRefusedStart, all_zip_itself, read_itself, step_reads, step_waits, step_finds, step_have, step_refused}
+use Rattle.dealer_world.proofs.Opened.{AreDown, IsRefusedStart, all_zip_itself, opened_itself, step_opens, step_marks, step_waits, step_finds, step_have, step_refused}
 use Rattle.dealer_world.proofs.Wanting.{seen_on, start_wants, on_fault}
 use Rattle.dealer_world.proofs.cluster.Cluster.start_all.Goals as goal
 
@@ -18,7 +18,8 @@ loop-node-init g c = record {
   same_opened = refl;
   started = none 0 _ refl refl;
   seen = λ standings honest are. (standings, are);
-  reads = all_zip_itself (IsOnlyRead g.D.Disk) (read_itself g.D.Disk) _;
+  opens = all_zip_itself (IsOpenedSince g.D.Disk) (opened_itself g.D.Disk) _;
+  marks = λ honest down i d less. absurd (omega (arith, less));
   waits = λ i d most. refl;
   stores = λ honest down i d less. absurd (omega (arith, less));
 }
@@ -39,7 +40,9 @@ loop-node-preserved g c =
       seen = λ standings honest are.
           let now = c.loop-node.invariant.seen standings honest are in
           seen_on g.D.Disk (view_of c.loop-node.self) (view_of c.advance.new.self) (event.Start k) c.advance.result now.0 c.advance.ensures.stepped honest now.1;
-      reads = step_reads g.D.Disk first (view_of c.loop-node.self) (view_of c.advance.new.self) k c.advance.result c.advance.ensures.stepped c.loop-node.invariant.reads;
+      opens = step_opens g.D.Disk first (view_of c.loop-node.self) (view_of c.advance.new.self) k c.advance.result c.advance.ensures.stepped c.loop-node.invariant.opens;
+      marks = λ honest down. step_marks g.D.Disk first (view_of c.loop-node.self) (view_of c.advance.new.self) k c.advance.result c.advance.ensures.stepped went honest down
+          c.loop-node.invariant.waits within (c.loop-node.invariant.marks honest down);
       waits = step_waits g.D.Disk first (view_of c.loop-node.self) (view_of c.advance.new.self) k c.advance.result c.advance.ensures.stepped c.loop-node.invariant.waits;
       stores = λ honest down. step_have g.D.Disk first k (c.loop-node.invariant.stores honest down)
           (step_finds g.D.Disk first (view_of c.loop-node.self) (view_of c.advance.new.self) k c.advance.result c.advance.ensures.stepped went honest down c.loop-node.invariant.waits within);
@@ -66,8 +69,13 @@ returns-in_err-advance-clause-failed g c =
     let now = c.loop-node.invariant.seen standings honest are in
     start_wants g.D.Disk (view_of c.loop-node.self) (view_of c.advance.new.self) c.loop-node.node c.advance.result why now.0 c.advance.ensures.stepped honest now.1 went)
 
-pub returns-clause-reads : goal.returns-clause-reads
-returns-clause-reads g c = c.loop-node.invariant.reads
+pub returns-clause-opens : goal.returns-clause-opens
+returns-clause-opens g c = c.loop-node.invariant.opens
+
+pub returns-clause-marks : goal.returns-clause-marks
+returns-clause-marks g c = λ honest down.
+    let end : c.loop-node.node ≡ length c.args.self.now.config.sources = search rules in
+    subst (λ n. MarkFirst g.D.Disk c.args.self.now.nodes.items n c.loop-node.self.nodes.items) (end ∙ sym c.args.self.now.count) (c.loop-node.invariant.marks honest down)
 
 pub returns-clause-stores : goal.returns-clause-stores
 returns-clause-stores g c = λ honest down i d less.
@@ -86,6 +94,6 @@ returns-in_err-advance-clause-refused g c =
     step_refused g.D.Disk first (view_of c.loop-node.self) (view_of c.advance.new.self) c.loop-node.node c.advance.result why c.advance.ensures.stepped failed honest c.loop-node.invariant.waits
     within (c.loop-node.invariant.stores honest down))
 
-pub returns-in_err-advance-clause-reads : goal.returns-in_err-advance-clause-reads
-returns-in_err-advance-clause-reads g c =
-    step_reads g.D.Disk c.args.self.now.nodes.items (view_of c.loop-node.self) (view_of c.advance.new.self) c.loop-node.node c.advance.result c.advance.ensures.stepped c.loop-node.invariant.reads
+pub returns-in_err-advance-clause-opens : goal.returns-in_err-advance-clause-opens
+returns-in_err-advance-clause-opens g c =
+    step_opens g.D.Disk c.args.self.now.nodes.items (view_of c.loop-node.self) (view_of c.advance.new.self) c.loop-node.node c.advance.result c.advance.ensures.stepped c.loop-node.invariant.opens
