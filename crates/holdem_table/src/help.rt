@@ -79,8 +79,8 @@ Example:
 /// Of `init`: the match file's keys, what is made and may be thrown away, the exit statuses, an example.
 pub(crate) const AFTER_INIT_HELP: &str = "\
 MATCH is a match file: TOML with name, game, hands, names, a node table for
-each of three or five nodes, and stores, the folder of the stores. Its paths
-go from the working folder; the game file is read too.
+each of three, five or seven nodes, and stores, the folder of the stores. Its
+paths go from the working folder; the game file is read too.
 
 Made are the files match.kept, which says of which match the stores are, and
 node0.journal, node1.journal and so on in that folder, each written and synced
@@ -112,9 +112,9 @@ Example:
 /// Of `play`: the match file's keys, a script's lines, the answers to them, the exit statuses, an example.
 pub(crate) const AFTER_PLAY_HELP: &str = "\
 MATCH is a match file: TOML with name, game, hands, names, and a node table
-for each of three or five nodes. Its paths go from the working folder. All
-nodes start over new stores in memory; what one sends to another stays on its
-way until the script delivers it.
+for each of three, five or seven nodes. Its paths go from the working folder.
+All nodes start over new stores in memory; what one sends to another stays on
+its way until the script delivers it.
 
 A script comes on standard input, one line after another. I is a node, S a
 seat, K a frame, each counted from 0:
@@ -155,12 +155,12 @@ Example:
 /// Of `serve`: the match file's keys, ports and notes, the exit statuses, an example.
 pub(crate) const AFTER_SERVE_HELP: &str = "\
 MATCH is a match file: TOML with name, game, hands, names, a node table for
-each of three or five nodes, stores, logs, port, and perhaps outage and away.
-Its paths go from the working folder. The stores must be there: holdem_table
-init makes them. They are locked while serve runs, and match.kept beside them
-must say this match. A log that an earlier start left, node0.log and so on, is
-kept as node0.log.1 and so on, unless all of it stands in the newest kept one
-too.
+each of three, five or seven nodes, stores, logs, port, and perhaps outage and
+away. Its paths go from the working folder. The stores must be there:
+holdem_table init makes them. They are locked while serve runs, and match.kept
+beside them must say this match. A log that an earlier start left, node0.log
+and so on, is kept as node0.log.1 and so on, unless all of it stands in the
+newest kept one too.
 
 Seat S is awaited at node I at port + I * (seats) + S on 127.0.0.1, first at
 node 0. It names the version, and then answers each line on which it is to

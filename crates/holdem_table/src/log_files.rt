@@ -5,6 +5,7 @@ ghost use Rattle.std.specs.Prelude.{◌≤◌};
 use crate::locking::locked;
 use crate::notes::Notes;
 use match_links::TcpLinks;
+use match_links::limits::NODES;
 use match_runs::{Cause, Unserved, kept_log_path, kept_number, log_path, stands_in};
 use serving::ServeFault;
 use std::alloc::AllocError;
@@ -18,7 +19,7 @@ pub(crate) fn open_logs(
     nodes: usize,
     notes: &mut Notes<'_>,
 ) -> Result<Vec<File>, Unserved>
-    requires { nodes ≤ 5 }
+    requires { nodes ≤ NODES }
 {
     let mut found = Vec::new(rt.alloc());
     for node in 0..nodes {

@@ -13,6 +13,7 @@ use dealer_kind::Config;
 use dealer_node::NodeFault;
 use dealer_world::Cluster;
 use match_file::{MatchFile, Service};
+use match_links::limits::NODES;
 use match_links::{Failed, PortFault, TcpLinks};
 use match_runs::{
     Cause, Conclusion, SeatPorts, Unserved, log_path, serve_run, store_path, tell_ports,
@@ -30,7 +31,8 @@ type TcpServer<'a> = Server<FileDisk, TcpLinks<'a>>;
 /// Deals the match of a match file to its end: listens for its seats, and keeps its stores and logs.
 ///
 /// The match file's entries are looked at, its ports bound, the match compared with the one that its stores are kept for,
-/// its stores locked and read, and its logs opened and locked, in this order, before anything is changed. `Ended` with
+/// its stores locked and read, and its logs opened and locked, in this order, before anything is changed; and of what is
+/// changed the logs come first, so that where they are refused the stores are as they were. `Ended` with
 /// `Match`, `Unreadable`, `OtherMatch` or `StoreInUse` (status 2) comes where the match file is refused, where it, its
 /// game or a store file can't be read, where the stores are of another match, or where one is in use; else it is `Done`,
 /// once the match is over. What else comes, want of memory too, is the fault of the server (status 1). Notes go to standard
@@ -205,8 +207,9 @@ fn begin<'a>(
     compare_kept(rt, stores, &config, notes)?;
     let disks = open_stores(rt, stores, nodes, notes)?;
     let logs = open_logs(rt, folder, nodes, notes)?;
-    let cluster = open_cluster(rt, config, disks, stores, notes)?;
     add_logs(rt, folder, logs, &mut links, old_logs, notes)?;
+    // Behind all that may be refused of the logs, since opening a store of version 1 writes there.
+    let cluster = open_cluster(rt, config, disks, stores, notes)?;
     let outages = Outages::new(outages);
     match Server::new(rt.alloc(), cluster, links, outages, absent) {
         Ok(server) => Ok(server),
@@ -248,7 +251,7 @@ fn bind<'a>(
     notes: &mut Notes<'_>,
 ) -> Result<TcpLinks<'a>, Unserved>
     requires port { port ≤ 65000 }
-    requires nodes { nodes ≤ 5 }
+    requires nodes { nodes ≤ NODES }
     requires players { players ≤ 10 }
 {
     match TcpLinks::bind(rt, port, nodes, players) {

@@ -6,6 +6,7 @@ use crate::kept_match::unread;
 use crate::locking::locked;
 use crate::notes::Notes;
 use dealer_node::NodeFault;
+use match_links::limits::NODES;
 use match_runs::{Cause, Unserved, store_path};
 use promise_store::{FileDisk, Store, StoreFault};
 use serving::ServeFault;
@@ -13,15 +14,15 @@ use std::alloc::AllocError;
 use std::fs::File;
 use std::io;
 
-/// Opens and locks the stores of so many nodes, and looks whether they are stores. Each stays locked while its disk is
-/// there: a disk keeps the file that was opened here.
+/// Opens and locks the stores of so many nodes, and looks whether they are stores; it writes nothing there. Each stays
+/// locked while its disk is there: a disk keeps the file that was opened here.
 pub(crate) fn open_stores(
     rt: &HostRuntime,
     folder: &str,
     nodes: usize,
     notes: &mut Notes<'_>,
 ) -> Result<Vec<FileDisk>, Unserved>
-    requires { nodes ≤ 5 }
+    requires { nodes ≤ NODES }
     ensures { IfOk result (λ disks. length disks.items ≡ nodes) }
 {
     let mut disks = Vec::with_capacity(rt.alloc(), nodes)?;
@@ -57,8 +58,8 @@ fn look_at_store(
     (node, nodes): (u8, u8),
     notes: &mut Notes<'_>,
 ) -> Result<FileDisk, Unserved> {
-    match Store::open(rt.alloc(), FileDisk::new(file), node, nodes) {
-        Ok(store) => Ok(store.close()),
+    match Store::look(rt.alloc(), FileDisk::new(file), node, nodes) {
+        Ok(disk) => Ok(disk),
         Err((_, StoreFault::OutOfMemory)) => Err(Unserved::from(AllocError)),
         Err((disk, fault)) => {
             notes.tell_file(path, cause(&disk));
