@@ -14,7 +14,7 @@ use std::process::Abort;
 use std::test::Fail;
 
 /// That the first player of hand 0 is away, handed on.
-pub(crate) const FORWARD: &[u8] = b"\x00\x00\x00\x09\x01\x08\x03\x00\x00\x00\x00\x00\x00";
+pub(crate) const FORWARD: &[u8] = b"\x00\x00\x00\x09\x02\x08\x03\x00\x00\x00\x00\x00\x00";
 
 /// A first line that names no version which is spoken here.
 const WRONG: &[u8] = b"VERSION:1.0.0\r\n";

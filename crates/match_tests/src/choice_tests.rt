@@ -69,6 +69,63 @@ static TWO_DOWN: Course<'_> = Course {
     fronts: &[(2, 1, Some(2)), (1, 0, None), (4, 0, None)],
 };
 
+/// The first round of node 0 with three of six others: its frames by their numbers among all that are sent, and the votes of
+/// the others. Behind the second of them nothing is chosen yet.
+static AMONG_SEVEN: Course<'_> = Course {
+    nodes: 7,
+    steps: &[Step::Round(0, &[1, 2, 3])],
+    sent: &[
+        (0, (0, 1), PREPARE, 0),
+        (6, (1, 0), PROMISE, 0),
+        (9, (0, 1), ACCEPT, 0),
+        (15, (0, 1), ACCEPTED, 0),
+        (21, (1, 0), ACCEPTED, 0),
+        (27, (2, 0), ACCEPTED, 0),
+        (33, (3, 0), ACCEPTED, 0),
+    ],
+    arrived: &[],
+    arrivals: 12,
+    fronts: &[(0, 1, Some(0)), (1, 0, None)],
+};
+
+/// The same but for its last delivery.
+static ONE_VOTE_SHORT: Course<'_> = Course {
+    nodes: 7,
+    steps: &[
+        Step::Tick(0),
+        Step::Deliver(0),
+        Step::Deliver(1),
+        Step::Deliver(2),
+        Step::Deliver(6),
+        Step::Deliver(7),
+        Step::Deliver(8),
+        Step::Deliver(9),
+        Step::Deliver(10),
+        Step::Deliver(11),
+        Step::Deliver(21),
+        Step::Deliver(27),
+    ],
+    sent: &[],
+    arrived: &[],
+    arrivals: 11,
+    fronts: &[(0, 0, None)],
+};
+
+/// Three of seven nodes are down, and node 6 has a round with the three others.
+static THREE_DOWN: Course<'_> = Course {
+    nodes: 7,
+    steps: &[
+        Step::Stop(1),
+        Step::Stop(2),
+        Step::Stop(4),
+        Step::Round(6, &[0, 3, 5]),
+    ],
+    sent: &[],
+    arrived: &[],
+    arrivals: 12,
+    fronts: &[(6, 1, Some(6)), (1, 0, None), (4, 0, None)],
+};
+
 /// Nothing is done with a new cluster.
 static NOTHING: Course<'_> = Course {
     nodes: 3,
@@ -107,6 +164,24 @@ fn a_round_takes_up_what_was_accepted(rt: HostRuntime) -> Result<(), Fail> {
 #[test]
 fn two_of_five_nodes_may_be_down(rt: HostRuntime) -> Result<(), Fail> {
     assert_course(&rt, rt.alloc(), &TWO_DOWN)
+}
+
+/// On seven nodes at rest a tick and twelve deliveries among four of them do.
+#[test]
+fn a_tick_and_twelve_deliveries_deal_among_seven(rt: HostRuntime) -> Result<(), Fail> {
+    assert_course(&rt, rt.alloc(), &AMONG_SEVEN)
+}
+
+/// Three of seven votes choose nothing.
+#[test]
+fn three_votes_of_seven_choose_nothing(rt: HostRuntime) -> Result<(), Fail> {
+    assert_course(&rt, rt.alloc(), &ONE_VOTE_SHORT)
+}
+
+/// Four of seven nodes choose a command while the other three are down.
+#[test]
+fn three_of_seven_nodes_may_be_down(rt: HostRuntime) -> Result<(), Fail> {
+    assert_course(&rt, rt.alloc(), &THREE_DOWN)
 }
 
 /// The log of a start begins with its header, and is put behind what stands there; that of a start that never was is

@@ -7,8 +7,10 @@
 //! - `peer` and `node_tests`: one node of three, what it sends and shows, and which seats are connected to it.
 //! - `rounds`, `record_tests` and `choice_tests`: all nodes of a match, step by step, and the record of them; `run_tests`:
 //!   events that are given at once, and the rest of them again where memory was wanting.
+//! - `opening_tests`: a cluster that is opened over stores of version 1.
 //! - `course` and `server_tests`: a match that is served over links in memory, whose calls fail in turn, and over disks
-//!   whose calls do; `slow_tests`: the same, each call of a link being slow in turn; `tcp_tests`: over sockets and files.
+//!   whose calls do; `slow_tests`: the same, each call of a link being slow in turn; `want_tests`: each wait for a seat
+//!   finding no memory in turn; `tcp_tests`: over sockets and files.
 //!   `lost_leader` looks at what one node passes on to another that is down.
 //! - `absent_tests`: the match where seats were dropped, and are played for or waited for; `absent_fault_tests`: the same
 //!   where a call of a link or of a disk fails.
@@ -33,6 +35,8 @@ mod lost_leader;
 #[cfg(test)]
 mod node_tests;
 #[cfg(test)]
+mod opening_tests;
+#[cfg(test)]
 mod peer;
 #[cfg(test)]
 mod record_tests;
@@ -48,3 +52,5 @@ mod server_tests;
 mod slow_tests;
 #[cfg(test)]
 mod tcp_tests;
+#[cfg(test)]
+mod want_tests;

@@ -6,10 +6,10 @@ use promise_store::Disk;
 use std::process::Abort;
 
 /// Bob's fold of the first hand, which a node passes on to the leader that it knows.
-const FORWARD: &[u8] = b"\x00\x00\x00\x0e\x01\x08\x02\x00\x00\x00\x00\x00\x00\x00\x00\x00\x00\x00";
+const FORWARD: &[u8] = b"\x00\x00\x00\x0e\x02\x08\x02\x00\x00\x00\x00\x00\x00\x00\x00\x00\x00\x00";
 
 /// Node 1 asks for a promise of (2, 1) at slot 1.
-const PREPARE_OF_NODE_1: &[u8] = b"\x00\x00\x00\x0b\x01\x01\x00\x00\x00\x02\x01\x00\x00\x00\x01";
+const PREPARE_OF_NODE_1: &[u8] = b"\x00\x00\x00\x0b\x02\x01\x00\x00\x00\x02\x01\x00\x00\x00\x01";
 
 /// The number of the first frame of these bytes from node 1 to node 0; none where there is none.
 fn sent_to_node_0<D: Disk + Drop>(cluster: &Cluster<D>, bytes: &[u8]) -> Option<usize> {

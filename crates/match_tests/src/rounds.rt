@@ -73,6 +73,26 @@ fn stop<D: Disk + Drop>(
     cluster.step(&Event::Stop { node, pick: 0 })
 }
 
+/// Starts a node.
+fn start<D: Disk + Drop>(
+    rt: &impl Abort,
+    cluster: &mut Cluster<D>,
+    node: u8,
+) -> Result<(), NodeFault> {
+    assert!(rt; (node as usize) < cluster.node_count());
+    cluster.step(&Event::Start { node })
+}
+
+/// Stops a node and starts it.
+pub(crate) fn start_again<D: Disk + Drop>(
+    rt: &impl Abort,
+    cluster: &mut Cluster<D>,
+    node: u8,
+) -> Result<(), NodeFault> {
+    stop(rt, cluster, node)?;
+    start(rt, cluster, node)
+}
+
 /// Delivers the frame of this number, counted from 0 in the order of sending.
 fn deliver<D: Disk + Drop>(
     rt: &impl Abort,
@@ -303,7 +323,7 @@ fn assert_logs<D: Disk + Drop>(
 }
 
 /// Takes the steps of a course, and asserts what is due then.
-fn run<D: Disk + Drop>(
+pub(crate) fn run<D: Disk + Drop>(
     rt: &impl Abort,
     alloc: Global,
     cluster: &mut Cluster<D>,
@@ -324,6 +344,17 @@ pub(crate) fn cluster_over<D: Disk + Drop>(
     let config = one_hand(rt, alloc, disks.len())?;
     assert!(rt; disks.len() == config.nodes());
     Cluster::new(alloc, config, disks)
+}
+
+/// A cluster of the same match over the stores that these disks have.
+pub(crate) fn opened_over<D: Disk + Drop>(
+    rt: &impl Abort,
+    alloc: Global,
+    disks: Vec<D>,
+) -> Result<Cluster<D>, NodeFault> {
+    let config = one_hand(rt, alloc, disks.len())?;
+    assert!(rt; disks.len() == config.nodes());
+    Cluster::open(alloc, config, disks)
 }
 
 /// A course of a new cluster over these disks: what is due comes of it.

@@ -25,7 +25,7 @@ const TOLD: &[u8] = b"0 0 MATCHSTATE:0:0::TdAs|
 ";
 
 /// What the seats are told where both stay at node 0: each deal and each fold, alice before bob.
-const TOLD_AT_NODE_0: &[u8] = b"0 0 MATCHSTATE:0:0::TdAs|
+pub(crate) const TOLD_AT_NODE_0: &[u8] = b"0 0 MATCHSTATE:0:0::TdAs|
 0 1 MATCHSTATE:1:0::|8hTc
 0 0 MATCHSTATE:0:0:f:TdAs|
 0 1 MATCHSTATE:1:0:f:|8hTc

@@ -146,8 +146,8 @@ fn is_refused_at_each_byte<R: Abort + AllocGlobal + Files<File = File>>(
     rt: &R,
     path: &str,
 ) -> Result<(), Fail> {
-    for cut in 0..37u64 {
-        is_refused_at(rt, path, 45 - cut, 62)?;
+    for cut in 0..38u64 {
+        is_refused_at(rt, path, 46 - cut, 62)?;
     }
     for cut in 0..8u64 {
         is_refused_at(rt, path, 8 - cut, 61)?;

@@ -1,9 +1,12 @@
 //! A store of node 0 of 3, and the bytes of its journal: what the tests of acceptors, stores and disks call and compare.
 
-ghost use Rattle.paxos_wire.specs.Fits.{IsInRange};
+ghost use Rattle.std.specs.Prelude.{◌≡◌, ◌+◌, ◌<◌, ◌≤◌, ◌^◌, length};
+ghost use Rattle.std.specs.List.{AllByRecursion};
+ghost use Rattle.paxos_wire.specs.Fits.{IsBallot, IsCommandRun, IsInRange};
 
-use paxos_wire::{Ballot, read_command};
-use promise_store::{Disk, MemoryDisk, Store, StoreFault};
+use crate::samples::assert_same;
+use paxos_wire::{Ballot, CommandList, read_command, read_commands};
+use promise_store::{Call, Disk, MemoryDisk, Placed, Store, StoreFault};
 use slot_log::Command;
 use std::alloc::{AllocError, Global};
 use std::process::Abort;
@@ -17,7 +20,13 @@ static DEAL: [u8; 15] = [
 ];
 
 /// Node 0 of 3 after a promise of (1, 0) and an accept of the deal in it at slot 0.
-pub(crate) static JOURNAL: [u8; 46] = [
+pub(crate) static JOURNAL: [u8; 47] = [
+    0x48, 0x44, 0x4a, 0x32, 0, 3, 0, 0, 1, 0, 6, 1, 0, 0, 0, 1, 0, 1, 0, 26, 4, 0, 0, 0, 1, 0, 0,
+    0, 0, 0, 1, 0x01, 0, 0, 0, 0, 0x09, 0x21, 0x33, 0x1a, 0x20, 0x00, 0x18, 0x06, 0x1c, 0x2e, 0,
+];
+
+/// The same as a journal of version 1.
+pub(crate) const OLD_JOURNAL: [u8; 46] = [
     0x48, 0x44, 0x4a, 0x31, 0, 3, 0, 0, 1, 0, 6, 1, 0, 0, 0, 1, 0, 1, 0, 25, 2, 0, 0, 0, 1, 0, 0,
     0, 0, 0, 0x01, 0, 0, 0, 0, 0x09, 0x21, 0x33, 0x1a, 0x20, 0x00, 0x18, 0x06, 0x1c, 0x2e, 0,
 ];
@@ -28,6 +37,19 @@ pub(crate) fn deal(rt: &impl Abort) -> Command
     match read_command(&DEAL) {
         Some((command, _)) => command,
         None => panic!(rt; "a deal"),
+    }
+}
+
+/// The commands whose bytes stand in front of these.
+pub(crate) fn commands(rt: &impl Abort, bytes: &[u8], count: usize) -> CommandList
+    requires { count ≤ 64 }
+    ensures count { length result ≡ count }
+    ensures range { AllByRecursion IsInRange result }
+{
+    let mut list = CommandList::new();
+    match read_commands(bytes, count, &mut list) {
+        Some(_) => list,
+        None => panic!(rt; "{count} commands"),
     }
 }
 
@@ -85,6 +107,19 @@ pub(crate) fn accept<D: Disk>(rt: &impl Abort, store: &mut Store<D>) -> Result<(
     store.accept(FIRST, 0, &deal(rt))
 }
 
+/// Stores that commands were accepted in a ballot, one at each slot from this one on.
+pub(crate) fn accept_run<D: Disk>(
+    store: &mut Store<D>,
+    ballot: Ballot,
+    slot: u32,
+    commands: &[Command],
+) -> Result<(), StoreFault>
+    requires ballot { IsBallot ballot }
+    requires run { IsCommandRun slot commands.now }
+{
+    store.accept_run(ballot, slot, commands)
+}
+
 /// Stores both, the promise and the accept.
 pub(crate) fn store_both<D: Disk>(rt: &impl Abort, store: &mut Store<D>) -> Result<(), StoreFault> {
     promise(store)?;
@@ -97,6 +132,58 @@ pub(crate) fn entry<D: Disk>(
     slot: u32,
 ) -> Result<Option<(Ballot, Command)>, StoreFault> {
     store.entry(slot)
+}
+
+/// In the ballot these commands were accepted, one at each slot from this one on.
+pub(crate) fn are_found<D: Disk>(
+    rt: &impl Abort,
+    store: &mut Store<D>,
+    ballot: Ballot,
+    slot: u32,
+    commands: &[Command],
+) -> Result<(), Fail>
+    requires { slot + length commands.now < 2 ^ 32 }
+{
+    for place in 0..commands.len() {
+        let found = entry(store, slot + place as u32)?;
+        assert!(rt; found == Some((ballot, commands[place])));
+    }
+    Ok(())
+}
+
+/// Where what was accepted at a slot stands, the journal's place, the length and the place inside of its record.
+pub(crate) fn is_placed<D: Disk>(
+    rt: &impl Abort,
+    store: &Store<D>,
+    slot: u32,
+    ballot: Ballot,
+    (place, length, inside): (usize, u16, u16),
+) {
+    let placed = Placed {
+        place,
+        ballot,
+        slot,
+        length,
+        inside,
+    };
+    assert_same(rt, store.held().find(slot), Some(placed));
+}
+
+/// What a call of a disk wrote: where, which bytes, and whether all of it; nothing of a sync.
+pub(crate) fn written<'a>(rt: &impl Abort, call: &'a Call) -> Option<(usize, &'a [u8], bool)> {
+    match call {
+        Call::Wrote { at, bytes, done } => Some((*at, bytes.as_slice(), *done)),
+        Call::Synced => None,
+        Call::Stopped { .. } => panic!(rt; "a stop"),
+    }
+}
+
+/// How many calls of the disk were to write.
+pub(crate) fn writes(disk: &MemoryDisk) -> usize {
+    disk.calls()
+        .iter()
+        .filter(|call| matches!(call, Call::Wrote { .. }))
+        .count()
 }
 
 /// Whether the store has promised the first ballot, and has the deal accepted in it at slot 0.

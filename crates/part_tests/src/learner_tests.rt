@@ -4,6 +4,7 @@ use crate::samples::{act, assert_same};
 use betting::Action;
 use learner::{Chosen, Learner};
 use paxos_wire::Ballot;
+use paxos_wire::limits::NODES;
 use slot_log::{Command, SlotFault};
 use std::alloc::{AllocError, Global};
 use std::process::Abort;
@@ -61,7 +62,7 @@ fn answer_in_room(
     requires { learner.old.learned.nodes ≡ nodes }
     ensures { learner.new.learned.nodes ≡ nodes }
 {
-    learner.reserve(1)?;
+    learner.reserve(1, 1)?;
     match said {
         Said::Accepted(from, ballot) => {
             assert!(rt; from < nodes);
@@ -155,7 +156,7 @@ fn learns(
     calls: &[Call],
     known: (u32, Option<Action>),
 ) -> Result<(), AllocError> {
-    assert!(rt; nodes <= 5);
+    assert!(rt; nodes <= NODES);
     let mut learner = Learner::new(alloc, nodes)?;
     answers_all(rt, &mut learner, nodes, calls, false)?;
     knows(rt, &learner, known);
@@ -220,6 +221,41 @@ static SPLITS: [Call; 10] = [
 #[test]
 fn splits_choose_nothing(rt: HostRuntime) -> Result<(), Fail> {
     learns(&rt, rt.alloc(), 5, &SPLITS, (1, None))?;
+    Ok(())
+}
+
+/// The answers of seven nodes, of three, two and two to a command at slot 0, and to a ballot at slot 1; then the fourth to a
+/// ballot there, which completes a quorum, and a fifth.
+static SPLITS_OF_SEVEN: [Call; 16] = [
+    (Said::Accepted(0, FIRST), 0, Action::Call, Ok(false), 0),
+    (Said::Accepted(1, FIRST), 0, Action::Call, Ok(false), 0),
+    (Said::Accepted(2, FIRST), 0, Action::Call, Ok(false), 0),
+    (Said::Accepted(3, FIRST), 0, Action::Fold, Ok(false), 0),
+    (Said::Accepted(4, FIRST), 0, Action::Fold, Ok(false), 0),
+    (Said::Accepted(5, FIRST), 0, Action::Raise(20), Ok(false), 0),
+    (Said::Accepted(6, FIRST), 0, Action::Raise(20), Ok(false), 0),
+    (Said::Accepted(0, FIRST), 1, Action::Call, Ok(false), 0),
+    (Said::Accepted(1, FIRST), 1, Action::Call, Ok(false), 0),
+    (Said::Accepted(2, FIRST), 1, Action::Call, Ok(false), 0),
+    (Said::Accepted(3, SECOND), 1, Action::Call, Ok(false), 0),
+    (Said::Accepted(4, SECOND), 1, Action::Call, Ok(false), 0),
+    (Said::Accepted(5, THIRD), 1, Action::Call, Ok(false), 0),
+    (Said::Accepted(6, THIRD), 1, Action::Call, Ok(false), 0),
+    (Said::Accepted(6, FIRST), 1, Action::Call, Ok(true), 0),
+    (Said::Accepted(5, FIRST), 1, Action::Call, Ok(false), 0),
+];
+
+/// Seven nodes that split into three, two and two choose nothing; four of them are a quorum, once.
+#[test]
+fn four_of_seven_choose(rt: HostRuntime) -> Result<(), Fail> {
+    learns(&rt, rt.alloc(), 7, &SPLITS_OF_SEVEN[..14], (1, None))?;
+    learns(
+        &rt,
+        rt.alloc(),
+        7,
+        &SPLITS_OF_SEVEN,
+        (1, Some(Action::Call)),
+    )?;
     Ok(())
 }
 

@@ -2,7 +2,7 @@ ghost use Rattle.std.specs.Prelude.{◌≡◌, ◌≤◌, ◌<◌, length};
 
 use crate::journal::{
     FIRST, JOURNAL, accept, answer, created, created_in_memory, deal, disk_with, entry, has_both,
-    keeps_both, next, opened, promise, store_both,
+    is_placed, keeps_both, next, opened, promise, store_both, written,
 };
 use crate::samples::{assert_bytes, assert_same, prints};
 use paxos_wire::Ballot;
@@ -11,14 +11,6 @@ use slot_log::Command;
 use std::alloc::Global;
 use std::process::Abort;
 use std::test::Fail;
-
-/// The accept of the deal stands at byte 20 of the file, in 25 bytes.
-fn is_placed<D: Disk>(rt: &impl Abort, store: &Store<D>) -> Result<(), Fail> {
-    let placed = store.held().find(0).ok_or("no entry")?;
-    assert_same(rt, placed.place, 20);
-    assert_same(rt, placed.length, 25);
-    Ok(())
-}
 
 /// The store has both, and nothing else.
 fn has_both_alone<D: Disk>(rt: &impl Abort, store: &mut Store<D>) -> Result<(), Fail> {
@@ -30,7 +22,7 @@ fn has_both_alone<D: Disk>(rt: &impl Abort, store: &mut Store<D>) -> Result<(), 
 /// Stores both; there is nothing else.
 fn stores_both<D: Disk>(rt: &impl Abort, store: &mut Store<D>) -> Result<(), Fail> {
     store_both(rt, store)?;
-    is_placed(rt, store)?;
+    is_placed(rt, store, 0, FIRST, (20, 26, 11));
     has_both_alone(rt, store)
 }
 
@@ -49,15 +41,6 @@ fn journal_byte_by_byte(rt: HostRuntime) -> Result<(), Fail> {
     keeps_both(&rt, alloc, disk)
 }
 
-/// What a call of a disk wrote: where, which bytes, and whether all of it; nothing of a sync.
-fn written<'a>(rt: &impl Abort, call: &'a Call) -> Option<(usize, &'a [u8], bool)> {
-    match call {
-        Call::Wrote { at, bytes, done } => Some((*at, bytes.as_slice(), *done)),
-        Call::Synced => None,
-        Call::Stopped { .. } => panic!(rt; "a stop"),
-    }
-}
-
 /// The disk of a new store with a promise of the first ballot; before there was no call.
 fn disk_with_a_promise(rt: &impl Abort, alloc: Global) -> Result<MemoryDisk, Fail> {
     let disk = MemoryDisk::new(alloc, &[])?;
@@ -69,7 +52,7 @@ fn disk_with_a_promise(rt: &impl Abort, alloc: Global) -> Result<MemoryDisk, Fai
 
 /// What the calls of a create and of an append write; nothing of a sync.
 static CALLS: [Option<(usize, &[u8], bool)>; 6] = [
-    Some((0, &[72, 68, 74, 49, 0, 3, 0, 0, 0], true)),
+    Some((0, &[72, 68, 74, 50, 0, 3, 0, 0, 0], true)),
     None,
     Some((9, &[0, 6, 1, 0, 0, 0, 1, 0, 0], true)),
     None,
@@ -151,59 +134,28 @@ fn answers(rt: &impl Abort, alloc: Global, bytes: &[u8], code: u8) -> Result<(),
     Ok(())
 }
 
-/// Files, and what opening them answers: none, the header of node 0 of 3 with a gate and what isn't that header, and open
-/// gates before no record.
-static FILES: [(&[u8], u8); 8] = [
-    (&[], 60),
-    (&[0x48, 0x44, 0x4a, 0x31, 0, 3, 0], 61),
-    (&[0x48, 0x44, 0x4a, 0x31, 0, 3, 0, 0], 61),
-    (&[0x48, 0x44, 0x4a, 0x31, 1, 3, 0, 0, 0], 61),
-    (&[0x48, 0x44, 0x4a, 0x31, 0, 5, 0, 0, 0], 61),
-    (&[0x48, 0x44, 0x4a, 0x31, 0, 3, 0, 0, 0], 0),
-    // no next gate, and a length that is too great
-    (
-        &[
-            0x48, 0x44, 0x4a, 0x31, 0, 3, 0, 0, 1, 0, 6, 1, 0, 0, 0, 1, 0,
-        ],
-        62,
-    ),
-    (
-        &[
-            0x48, 0x44, 0x4a, 0x31, 0, 3, 0, 0, 1, 0, 7, 1, 0, 0, 0, 1, 0, 0,
-        ],
-        62,
-    ),
-];
-
 /// A gate of another value than 1 before the accept is shut.
-fn opens_shut(rt: &impl Abort, alloc: Global) -> Result<(), Fail> {
+#[test]
+fn a_gate_of_another_value_is_shut(rt: HostRuntime) -> Result<(), Fail> {
+    let alloc = rt.alloc();
     let mut shut = JOURNAL;
     shut[17] = 2;
-    keeps_promise_alone(rt, alloc, disk_with(alloc, &shut, &[])?)
-}
-
-#[test]
-fn malformed_journals(rt: HostRuntime) -> Result<(), Fail> {
-    let alloc = rt.alloc();
-    for &(bytes, code) in &FILES {
-        answers(&rt, alloc, bytes, code)?;
-    }
-    opens_shut(&rt, alloc)
+    keeps_promise_alone(&rt, alloc, disk_with(alloc, &shut, &[])?)
 }
 
 /// That the first player to act of the first hand is away.
 const AWAY: Command = Command::Away { hand: 0, index: 0 };
 
 /// Node 0 of 3 after a promise of (1, 0) and an accept of that in it at slot 1.
-static AWAY_JOURNAL: [u8; 38] = [
-    0x48, 0x44, 0x4a, 0x31, 0, 3, 0, 0, 1, 0, 6, 1, 0, 0, 0, 1, 0, 1, 0, 17, 2, 0, 0, 0, 1, 0, 0,
-    0, 0, 1, 3, 0, 0, 0, 0, 0, 0, 0,
+static AWAY_JOURNAL: [u8; 39] = [
+    0x48, 0x44, 0x4a, 0x32, 0, 3, 0, 0, 1, 0, 6, 1, 0, 0, 0, 1, 0, 1, 0, 18, 4, 0, 0, 0, 1, 0, 0,
+    0, 0, 1, 1, 3, 0, 0, 0, 0, 0, 0, 0,
 ];
 
 /// The same with a byte more in that record.
-static LONGER_AWAY_JOURNAL: [u8; 39] = [
-    0x48, 0x44, 0x4a, 0x31, 0, 3, 0, 0, 1, 0, 6, 1, 0, 0, 0, 1, 0, 1, 0, 18, 2, 0, 0, 0, 1, 0, 0,
-    0, 0, 1, 3, 0, 0, 0, 0, 0, 0, 0, 0,
+static LONGER_AWAY_JOURNAL: [u8; 40] = [
+    0x48, 0x44, 0x4a, 0x32, 0, 3, 0, 0, 1, 0, 6, 1, 0, 0, 0, 1, 0, 1, 0, 19, 4, 0, 0, 0, 1, 0, 0,
+    0, 0, 1, 1, 3, 0, 0, 0, 0, 0, 0, 0, 0,
 ];
 
 /// Stores that at slot 1.
@@ -220,12 +172,12 @@ fn disk_of_away(rt: &impl Abort, alloc: Global) -> Result<MemoryDisk, Fail> {
 }
 
 /// Two bytes of that journal in place of its own: hand 10000, index 256, and a fourth kind of command.
-static NO_AWAYS: [(usize, [u8; 2]); 3] = [(33, [0x27, 0x10]), (35, [1, 0]), (30, [4, 0])];
+static NO_AWAYS: [(usize, [u8; 2]); 3] = [(34, [0x27, 0x10]), (36, [1, 0]), (31, [4, 0])];
 
 /// That journal with these two bytes is refused.
 fn refuses_changed(rt: &impl Abort, alloc: Global, at: usize, bytes: [u8; 2]) -> Result<(), Fail> {
     let mut changed = AWAY_JOURNAL;
-    if at < 37 {
+    if at < 38 {
         changed[at] = bytes[0];
         changed[at + 1] = bytes[1];
     }
@@ -241,7 +193,7 @@ fn journal_of_one_who_is_away(rt: HostRuntime) -> Result<(), Fail> {
     assert_bytes(&rt, disk.bytes(), AWAY_JOURNAL.as_slice());
     let mut store = opened(&rt, alloc, disk);
     assert!(rt; entry(&mut store, 1)? == Some((FIRST, AWAY)));
-    for len in 9..38usize {
+    for len in 9..39usize {
         answers(&rt, alloc, &AWAY_JOURNAL[..len], 62)?;
     }
     answers(&rt, alloc, LONGER_AWAY_JOURNAL.as_slice(), 62)?;

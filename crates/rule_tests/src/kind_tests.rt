@@ -30,9 +30,9 @@ fn config(
     Ok(Config::new(game(rt, L2), name, word, names, hands, sources))
 }
 
-/// Sees a match of one hand, of three nodes of which the first deals this, and nothing in a second hand.
-fn is_one_hand(rt: &impl Abort, found: &Config, deal: Deal) {
-    assert_eq!(rt; found.nodes(), 3);
+/// Sees a match of one hand, of so many nodes of which the first deals this, and nothing in a second hand.
+fn is_one_hand(rt: &impl Abort, found: &Config, nodes: u64, deal: Deal) {
+    assert_eq!(rt; found.nodes() as u64, nodes);
     same!(rt; found.hands(), 1);
     same!(rt; found.source(0).deal(0, 2), Some(deal));
     same!(rt; found.source(0).deal(1, 2), None);
@@ -51,16 +51,30 @@ fn is_match(
     let found = config(rt, alloc, hands, sources(alloc, nodes, deal)?)?;
     holds!(rt; found.is_some() == wanted);
     if let Some(found) = &found {
-        is_one_hand(rt, found, deal);
+        is_one_hand(rt, found, nodes, deal);
     }
     Ok(())
 }
 
 /// How many hands and nodes there are, and whether they are a match.
-static MATCHES: [(u32, u64, bool); 4] = [(1, 3, true), (2, 3, false), (1, 4, false), (0, 3, false)];
+static MATCHES: [(u32, u64, bool); 11] = [
+    (1, 3, true),
+    (1, 5, true),
+    (1, 7, true),
+    (2, 3, false),
+    (0, 3, false),
+    (1, 1, false),
+    (1, 2, false),
+    (1, 4, false),
+    (1, 6, false),
+    (1, 8, false),
+    (1, 9, false),
+];
 
 #[test]
-fn a_match_has_three_or_five_nodes_with_deals_for_each_hand(rt: HostRuntime) -> Result<(), Fail> {
+fn a_match_has_three_five_or_seven_nodes_with_deals_for_each_hand(
+    rt: HostRuntime,
+) -> Result<(), Fail> {
     for &(hands, nodes, wanted) in &MATCHES {
         is_match(&rt, rt.alloc(), hands, nodes, wanted)?;
     }

@@ -1,6 +1,7 @@
 //! Tests of cards, games, lines, logs and frames, by the public calls of their crates alone: from `card_core` to
-//! `match_file` and `play_script`, a module a crate; `samples` has the games and cards that they share, and `asserting`
-//! the assertions.
+//! `match_file` and `play_script`, a module a crate, but for `slot_log`, which has two, and `paxos_wire`, whose frames, feeds
+//! and records have one each; `samples` has the games and cards that they share, `frames` the frames, and `asserting` the
+//! assertions.
 //!
 //! They stand in a crate of their own, which has nothing else: a crate with tests is proved twice, once without them and
 //! once with all of it, and each crate that is tested here is so proved once.
@@ -18,6 +19,10 @@ mod card_tests;
 #[cfg(test)]
 mod draw_tests;
 #[cfg(test)]
+mod feed_tests;
+#[cfg(test)]
+mod frames;
+#[cfg(test)]
 mod game_def_tests;
 #[cfg(test)]
 mod kind_tests;
@@ -32,6 +37,8 @@ mod pot_tests;
 #[cfg(test)]
 mod rank_tests;
 #[cfg(test)]
+mod record_tests;
+#[cfg(test)]
 mod samples;
 #[cfg(test)]
 mod script_tests;
@@ -39,5 +46,7 @@ mod script_tests;
 mod session_tests;
 #[cfg(test)]
 mod slot_log_tests;
+#[cfg(test)]
+mod slots_tests;
 #[cfg(test)]
 mod wire_tests;

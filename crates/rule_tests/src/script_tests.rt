@@ -125,7 +125,7 @@ fn other_lines_are_none(rt: HostRuntime) {
 
 /// Prints each kind of line.
 fn put_each(out: &mut Vec<u8>) -> Result<(), AllocError> {
-    put_frame(out, 9, 0, 1, b"\x00\x00\x00\x06\x01\x07\x00\x00\x00\x00")?;
+    put_frame(out, 9, 0, 1, b"\x00\x00\x00\x06\x02\x07\x00\x00\x00\x00")?;
     put_seat_line(out, 0, 1, b"MATCHSTATE:1:0::|8hTc")?;
     put_log_line(out, 2, b"# name/game/hands m1 l2.game 1")?;
     put_seat_fault(out, 1, 0, &"85 Illegal 22 TooManyRaises")?;
@@ -137,7 +137,7 @@ fn put_each(out: &mut Vec<u8>) -> Result<(), AllocError> {
 fn what_comes_is_printed(rt: HostRuntime) -> Result<(), Fail> {
     let mut out = Vec::new(rt.alloc());
     put_each(&mut out)?;
-    let expected = b"frame 9 0>1 00000006010700000000
+    let expected = b"frame 9 0>1 00000006020700000000
 0 1 MATCHSTATE:1:0::|8hTc
 2 L # name/game/hands m1 l2.game 1
 1 0 E 85 Illegal 22 TooManyRaises

@@ -6,8 +6,8 @@ use paxos_wire::{FrameFault, Message, decode, encode};
 use std::alloc::{AllocError, Global};
 use std::io;
 
-/// Reads lines of a frame's bytes in hexadecimal and `ok` or the fault, and prints for how many of them reading answers
-/// that, and encodes a message to the same bytes again.
+/// Reads lines of a frame's bytes in hexadecimal, and behind them the frame as which its message is written, or the fault.
+/// Prints for how many of them it comes to that.
 pub fn print_checked(rt: &(impl Input + Print + AllocGlobal)) -> io::Result<()> {
     let mut verdicts = Verdicts::none();
     for line in rt.lines(rt.alloc()) {
@@ -36,21 +36,24 @@ fn is_right(alloc: Global, line: &str) -> Result<bool, AllocError> {
     reads_as(alloc, bytes.as_slice(), answer)
 }
 
-/// Whether bytes read as `ok`, and are encoded so again, or as a fault.
+/// Whether bytes read as a message that is written as the answer says, or as the fault that it names.
 fn reads_as(alloc: Global, bytes: &[u8], answer: &str) -> Result<bool, AllocError> {
     match decode(bytes) {
-        Ok(message) => Ok(is_encoded_so(alloc, &message, bytes)? && answer == "ok"),
+        Ok(message) => is_written_so(alloc, &message, answer),
         Err(fault) => is_named_so(alloc, fault, answer),
     }
 }
 
-/// Whether a message is encoded to these bytes.
-fn is_encoded_so(alloc: Global, message: &Message, bytes: &[u8]) -> Result<bool, AllocError>
+/// Whether a message is written as the bytes that these digits say.
+fn is_written_so(alloc: Global, message: &Message, digits: &str) -> Result<bool, AllocError>
     requires { Fits message.now }
 {
-    let mut again = Vec::new(alloc);
-    encode(&mut again, message)?;
-    Ok(again.as_slice() == bytes)
+    let Some(wanted) = from_hexadecimal(alloc, digits.as_bytes())? else {
+        return Ok(false);
+    };
+    let mut written = Vec::new(alloc);
+    encode(&mut written, message)?;
+    Ok(written.as_slice() == wanted.as_slice())
 }
 
 /// Whether a fault is printed so.

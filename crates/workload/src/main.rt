@@ -3,9 +3,9 @@
 //! Each argument names what to run, and prints counts and checksums: `five-card-hands`, `best-of-seven`, `draws`,
 //! `sevens-by-counts`, `sevens-by-fives`, `sevens`, `short-hands`, `long-hands`, `encode`, `decode`, `promises`,
 //! `answers`, `refusals`, `nodes`, `nodes-short`, `creations`; `decks`, which reads lines `seed hand players deal`; and
-//! `frames`, which reads lines of a frame in hexadecimal and `ok` or its fault. The tasks of the store work on the file
-//! `workload.journal`: `store-append`, `store-appends`, `store-short`, `store-long`, `store-open-short`,
-//! `store-open-long`.
+//! `frames`, which reads lines of a frame in hexadecimal and the frame as which its message is written, or its fault.
+//! The tasks of the store work on the file `workload.journal`: `store-append`, `store-appends`, `store-short`,
+//! `store-long`, `store-open-short`, `store-open-long`.
 //!
 //! `fused-cluster`, `failing-cluster`, `new-file-cluster` and `file-cluster` read lines that drive the nodes of a match
 //! over disks of that kind (`clusters`), and print all that comes of each.
