@@ -6,12 +6,15 @@ from .faults import Fault
 from .models import GAMES, MOST_CHIPS, TOP, dealer, nodes
 from .running import LONG_RUN, WORKLOAD, Tally, run, shown, take_lines
 
+# The greatest node of a ballot, by the frame's version.
+LAST_NODE = {1: 4, nodes.VERSION: 6}
+
 
 class Body:
-    """A frame's body that is read from its front."""
+    """The body of a frame of some version that is read from its front."""
 
-    def __init__(self, data):
-        self.data = data
+    def __init__(self, data, version):
+        self.data, self.version = data, version
 
     def take(self, count):
         if len(self.data) < count:
@@ -26,7 +29,7 @@ class Body:
         return value
 
     def ballot(self):
-        return self.number(4, 0xFFFFFFFF, 1), self.number(1, 4)
+        return self.number(4, 0xFFFFFFFF, 1), self.number(1, LAST_NODE[self.version])
 
     def slot(self):
         return self.number(4, nodes.SLOTS - 1)
@@ -38,6 +41,12 @@ class Body:
         if not all(low < high < begin + nodes.WINDOW for low, high in zip(slots, slots[1:])):
             raise Fault("54 BadBody")
         return entries
+
+    def counted(self):
+        """The command that is proposed or accepted, behind how many there are; version 1 had no such count."""
+        if self.version == nodes.VERSION:
+            self.number(1, 1, 1)
+        return self.command()
 
     def command(self, may_go_on=False):
         begin = self.data
@@ -57,7 +66,7 @@ class Body:
 
 
 def read_frame(data):
-    """The message of bytes that are to be one whole frame."""
+    """The message of bytes that are to be one whole frame, of this version or the one before."""
     length = int.from_bytes(data[:4], "big")
     if len(data) < 4 or length < 2:
         raise Fault("50 TooShort")
@@ -65,11 +74,11 @@ def read_frame(data):
         raise Fault("51 TooLong")
     if len(data) != length + 4:
         raise Fault("54 BadBody")
-    if data[4] != 1:
+    if data[4] not in LAST_NODE:
         raise Fault("52 BadVersion")
     if not nodes.PREPARE <= data[5] <= nodes.FORWARD:
         raise Fault("53 BadKind")
-    body = Body(data[6:])
+    body = Body(data[6:], data[4])
     message = (data[5], *read_parts(data[5], body))
     if body.data:
         raise Fault("54 BadBody")
@@ -85,7 +94,7 @@ def read_parts(kind, body):
     ballot, slot = body.ballot(), body.slot()
     if kind == nodes.PROMISE:
         return [ballot, slot, body.entries(slot)]
-    behind = {nodes.PREPARE: [], nodes.REFUSE: [body.ballot], nodes.ACCEPT: [body.command], nodes.ACCEPTED: [body.command]}
+    behind = {nodes.PREPARE: [], nodes.REFUSE: [body.ballot], nodes.ACCEPT: [body.counted], nodes.ACCEPTED: [body.counted]}
     return [ballot, slot] + [part() for part in behind[kind]]
 
 
@@ -107,30 +116,62 @@ MESSAGES = [
     (nodes.CHOSEN, 0, DEAL), (nodes.ASK, 0), (nodes.FORWARD, CALL), (nodes.CHOSEN, 2, LONG_DEAL),
     (nodes.ACCEPT, (1, 0), 1, AWAY), (nodes.CHOSEN, 1, AWAY), (nodes.FORWARD, AWAY),
     (nodes.PROMISE, (2, 1), 3, [(slot, (1, 0), AWAY) for slot in range(3, 67)]),
+    (nodes.PREPARE, (1, 4), 0), (nodes.PREPARE, (1, 6), 0), (nodes.REFUSE, (1, 4), 0, (2, 5)),
 ]  # fmt: skip
+
+
+class Values:
+    """Values of any range that are drawn, few of them wrong."""
+
+    def __init__(self, dice):
+        self.dice = dice
+
+    def number(self, *usual):
+        return self.dice.choice([*usual, *usual, self.dice.randrange(1 << 32)])
+
+    def ballot(self):
+        return self.number(1, 1, 2, 0xFFFFFFFF), self.dice.choice([0, 1, 2, 3, 4, 4, 5, 6, 6, 7])
+
+    def slot(self):
+        return self.number(0, 1, 2, 63, 64, 3999999, 3999935)
+
+    def cards(self):
+        return self.dice.sample(dealer.CARDS, self.dice.choice([9, 9, 11, 25, 24, 7, 27]))
+
+    def goes_on(self):
+        hand, index = self.number(0, 0, 9999), self.dice.choice([0, 1, 255, 256])
+        if self.dice.random() < 0.3:
+            return away_bytes(hand, index)
+        return nodes.act_bytes(hand, index, self.dice.choice("fcr"), self.number(0, 0, 20, MOST_CHIPS))
+
+    def command(self):
+        return self.goes_on() if self.dice.random() < 0.6 else nodes.deal_bytes(self.number(0, 0, 9999), self.cards())
 
 
 def drawn_message(dice):
     """A message with values of any range, few of them wrong."""
-    number = lambda *usual: dice.choice([*usual, *usual, dice.randrange(1 << 32)])
-    ballot = lambda: (number(1, 1, 2, 0xFFFFFFFF), dice.choice([0, 1, 2, 3, 4, 4, 5]))
-    slot = lambda: number(0, 1, 2, 63, 64, 3999999, 3999935)
-    cards = lambda: dice.sample(dealer.CARDS, dice.choice([9, 9, 11, 25, 24, 7, 27]))
-    act = lambda: nodes.act_bytes(number(0, 0, 9999), dice.choice([0, 1, 255, 256]), dice.choice("fcr"), number(0, 0, 20, MOST_CHIPS))
-    away = lambda: away_bytes(number(0, 0, 9999), dice.choice([0, 1, 255, 256]))
-    goes_on = lambda: act() if dice.random() < 0.7 else away()
-    command = lambda: goes_on() if dice.random() < 0.6 else nodes.deal_bytes(number(0, 0, 9999), cards())
+    values = Values(dice)
     kind = dice.randrange(1, 9)
     if kind == nodes.FORWARD:
-        return kind, command() if dice.random() < 0.1 else goes_on()
+        return kind, values.command() if dice.random() < 0.1 else values.goes_on()
     if kind in (nodes.CHOSEN, nodes.ASK):
-        return (kind, slot(), command())[: 3 if kind == nodes.CHOSEN else 2]
-    behind = {nodes.PREPARE: [], nodes.REFUSE: [ballot], nodes.ACCEPT: [command], nodes.ACCEPTED: [command], nodes.PROMISE: []}
-    message = [kind, ballot(), slot(), *(part() for part in behind[kind])]
+        return (kind, values.slot(), values.command())[: 3 if kind == nodes.CHOSEN else 2]
+    behind = {nodes.REFUSE: [values.ballot], nodes.ACCEPT: [values.command], nodes.ACCEPTED: [values.command]}
+    message = [kind, values.ballot(), values.slot(), *(part() for part in behind.get(kind, []))]
     if kind == nodes.PROMISE:
         rising = sorted(dice.sample(range(70), dice.choice([0, 1, 3, 64])))
-        message.append([(message[2] + step & 0xFFFFFFFF, ballot(), command()) for step in rising])
+        message.append([(message[2] + step & 0xFFFFFFFF, values.ballot(), values.command()) for step in rising])
     return tuple(message)
+
+
+def drawn_proposal(dice):
+    """A frame of either version of some commands that are proposed or accepted, whose count is mostly theirs."""
+    values, version = Values(dice), dice.choice([1, 2])
+    commands = [values.command() for _ in range(dice.choice([0, 1, 1, 1, 1, 1, 1, 2, 3, 64, 65]))]
+    count = dice.choice([len(commands), len(commands), len(commands), 0, 1, 2, 65, 255])
+    is_counted = (version == nodes.VERSION) != (dice.random() < 0.1)
+    body = nodes.ballot_bytes(values.ballot()) + values.slot().to_bytes(4, "big") + bytes([count]) * is_counted
+    return with_length(bytes([version, dice.choice([nodes.ACCEPT, nodes.ACCEPTED])]) + body + b"".join(commands))
 
 
 def drawn_frame(dice):
@@ -139,8 +180,8 @@ def drawn_frame(dice):
     if kind == 0:
         return random_bytes(dice, dice.choice([0, 1, 3, 4, 6, 20, 100]))
     if kind == 1:
-        return with_length(bytes([1, dice.randrange(10)]) + random_bytes(dice, dice.randrange(40)))
-    frame = nodes.frame_of(drawn_message(dice))
+        return with_length(bytes([dice.randrange(1, 3), dice.randrange(10)]) + random_bytes(dice, dice.randrange(40)))
+    frame = nodes.frame_of(drawn_message(dice), dice.choice([1, 2, 2]))
     for _ in range(dice.choice([0, 0, 0, 1, 2])):
         place, end = dice.randrange(len(frame) + 1), dice.choice([0, 1, 1, 2])
         frame = frame[:place] + random_bytes(dice, dice.choice([0, 1, 1, 2])) + frame[place + end :]
@@ -168,9 +209,9 @@ def shown_frames():
 
 
 def frame_inputs(dice):
-    frames = [nodes.frame_of(message) for message in MESSAGES] + shown_frames()
+    frames = [nodes.frame_of(message, version) for version in (1, 2) for message in MESSAGES] + shown_frames()
     inputs = [one for frame in frames for one in [*cuts(frame), *long_frames(frame), *changes(dice, frame), frame]]
-    return inputs + [drawn_frame(dice) for _ in range(DRAWN)]
+    return inputs + [draw(dice) for draw in (drawn_frame, drawn_proposal) for _ in range(DRAWN)]
 
 
 def frames(dice, folder):
@@ -184,20 +225,28 @@ def frames(dice, folder):
     told = set(got[1].decode().splitlines()) if isinstance(got, tuple) else set()
     for frame, line, answer in zip(inputs, lines, answers):
         is_right = f"wrong: {line}" not in told
-        tally.take(frame, is_right, True, [] if answer == "ok" else [answer])
+        tally.take(frame, is_right, True, [fault_of(frame)] if fault_of(frame) else [])
     if got != wanted and not tally.wrong:
         tally.wrong.append(f"workload ended with {shown(got)}")
     tally.want("50 TooShort,51 TooLong,52 BadVersion,53 BadKind,54 BadBody,read".split(","))
     return tally
 
 
-def answer_of(frame):
-    """What reading a frame answers: 'ok' or its fault."""
+def fault_of(frame):
+    """The fault of bytes that are no frame; else none."""
     try:
-        message = read_frame(frame)
+        read_frame(frame)
     except Fault as fault:
         return str(fault)
-    return "ok" if nodes.frame_of(message) == frame else "two readings"
+    return None
+
+
+def answer_of(frame):
+    """What comes of a frame: the frame as which its message is written, or its fault."""
+    if fault_of(frame):
+        return fault_of(frame)
+    message = read_frame(frame)
+    return nodes.frame_of(message).hex() if nodes.frame_of(message, frame[4]) == frame else "two readings"
 
 
 class Conflict(Exception):
@@ -231,11 +280,10 @@ class Cluster:
     def give(self, sender, receiver, frame):
         node = self.model.nodes[receiver]
         line = b"frame %d %d %s" % (sender, receiver, frame.hex().encode())
-        answer = answer_of(frame)
-        if answer == "ok":
-            wanted = self.model.told(node.call(lambda: node.frame(sender, read_frame(frame))))
+        if fault_of(frame):
+            wanted = [b"%d E 94 BadFrame %s" % (receiver, fault_of(frame).encode())]
         else:
-            wanted = [b"%d E 94 BadFrame %s" % (receiver, answer.encode())]
+            wanted = self.model.told(node.call(lambda: node.frame(sender, read_frame(frame))))
         self.lines.append((line, wanted, frame))
 
 
