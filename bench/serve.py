@@ -8,9 +8,8 @@ same order (the floor) are run in turn, RUNS times each (10 by default): printed
 second, and their ratio. Where a sync in FOLDER takes less than 0.3 ms the same is done once more with each sync of both
 programs made as long as that, by a library that is loaded before them. Then, how long the first act at a new node waits
 for its line when a node was lost, the worst of a hundred losses; and with stores in memory what the process takes at
-1,000 and at 10,000 hands. The last lines are a table of the aims, of which none is for seven nodes: each is met or not, and the status is 1 where one
-isn't.
-Where /dev/shm isn't there, what goes by memory is left out.
+1,000 and at 10,000 hands. The last lines are a table of the aims, of which none is for seven nodes: each is met or not,
+and the status is 1 where one isn't. Where /dev/shm isn't there, what goes by memory is left out.
 """
 import os
 import statistics
