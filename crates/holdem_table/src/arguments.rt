@@ -141,7 +141,7 @@ pub(crate) fn command<'a>(alloc: Global) -> Result<Command<'a>, AllocError> {
 /// The program's command line without its commands.
 fn whole<'a>(alloc: Global) -> Command<'a> {
     Command::new(alloc, "holdem_table")
-        .version("0.1.0")
+        .version("0.2.0")
         .about("Deals Texas hold'em by the ACPC dealer protocol 2.0.0, and checks logs")
         .after_help(AFTER_HELP)
         .subcommand_required(true)

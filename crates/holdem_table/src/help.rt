@@ -158,9 +158,10 @@ MATCH is a match file: TOML with name, game, hands, names, a node table for
 each of three, five or seven nodes, stores, logs, port, and perhaps outage and
 away. Its paths go from the working folder. The stores must be there:
 holdem_table init makes them. They are locked while serve runs, and match.kept
-beside them must say this match. A log that an earlier start left, node0.log
-and so on, is kept as node0.log.1 and so on, unless all of it stands in the
-newest kept one too.
+beside them must say this match. Stores that version 0.1 of this program made
+are opened for this one, once and for good: copy them before. A log that an
+earlier start left, node0.log and so on, is kept as node0.log.1 and so on,
+unless all of it stands in the newest kept one too.
 
 Seat S is awaited at node I at port + I * (seats) + S on 127.0.0.1, first at
 node 0. It names the version, and then answers each line on which it is to

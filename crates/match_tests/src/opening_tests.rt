@@ -153,7 +153,11 @@ fn broken_off(alloc: Global, calls: u64, pick: u64) -> Result<Option<MemoryDisk>
 fn assert_goes_on_with(rt: &impl Abort, alloc: Global, pick: u64) -> Result<(), Fail> {
     for calls in 0..64u64 {
         match broken_off(alloc, calls, pick)? {
-            None => return Ok(()),
+            None => {
+                // A sync, a length, a reading and the four calls of an append are there to be broken off.
+                assert!(rt; calls > 6);
+                return Ok(());
+            }
             Some(disk) => assert_goes_on(rt, alloc, disk)?,
         }
     }

@@ -423,7 +423,7 @@ fn stops_in_an_opening(
 }
 
 /// How many calls of the disk an opening takes that is stopped with this pick at each of them. Once its append began the
-/// stop may leave five bytes more, and it leaves them once the append has ended.
+/// stop may leave four bytes more, and it leaves them once the append has ended.
 fn calls_of_an_opening(rt: &impl Abort, alloc: Global, pick: u64) -> Result<u64, Fail> {
     for calls in 0..100u64 {
         let (is_opened, left) = stops_in_an_opening(rt, alloc, calls, pick)?;
