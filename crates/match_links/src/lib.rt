@@ -32,6 +32,7 @@ mod input;
 pub mod limits;
 mod links;
 mod memory_links;
+mod memory_logs;
 mod passages;
 mod peers;
 mod piece;

@@ -1,16 +1,17 @@
 //! Links in memory, of whose calls one may fail.
 
-ghost use Rattle.std.specs.Prelude.{◌≡◌, ◌≤◌, ◌<◌, ◌+◌, ◌++◌, ◌==◌, [], ℕ, if◌then◌else◌, ◌∷◌, length, take, map, replicate, get_or, nat_lt, is_some, position, vec_len, Ok, IfOk, IfErr, IsOk, OnOk, OnErr};
+ghost use Rattle.std.specs.Prelude.{◌≡◌, ◌≤◌, ◌<◌, ◌+◌, ◌++◌, ◌==◌, [], if◌then◌else◌, ◌∷◌, length, take, map, replicate, get_or, nat_lt, is_some, position, vec_len, Ok, IfOk, IfErr, IsOk, OnOk, OnErr};
 ghost use Rattle.match_links.specs.Memory.{told_by, AreTold, told_prop, AreLogged, logged_prop};
 ghost use Rattle.match_links.specs.Counting.{is_due, one_less, passing, once_more};
 ghost use Rattle.match_links.specs.Passages.{sat, came, lines_in, log_of, Told as WasTold, Emptied as WasEmptied, Logged as WasLogged};
-ghost use Rattle.match_links.specs.Room.{line_room, log_room, reaching};
+ghost use Rattle.match_links.specs.Room.{line_room, reaching};
 ghost use Rattle.match_links.specs.declared.links.LinkFault.TheVariants.{OutOfMemory, Failed};
 
 use crate::blank::Blank;
 use crate::callers::Callers;
 use crate::limits::{FRAME, NODES};
 use crate::links::{LinkFault, Links};
+use crate::memory_logs::{add_to_one, empty_logs, empty_one, reserve_logs};
 use crate::passages::Passages;
 use std::alloc::{AllocError, Global};
 
@@ -161,66 +162,6 @@ fn reserve_blanks(alloc: Global, blanks: &mut Vec<Blank>, lines: usize) -> Resul
         blanks.push(Blank::new(alloc)?)?;
     }
     Ok(())
-}
-
-/// Makes the room of so many bytes more in each log.
-fn reserve_logs(logs: &mut Vec<Vec<u8>>, text: usize) -> Result<(), AllocError>
-    ensures same { map (λ log. log.items) logs.new.items ≡ map (λ log. log.items) logs.old.items }
-    ensures room { OnOk result ((node : ℕ) → node < length logs.new.items → text ≤ log_room logs.new.items node) }
-    ensures kept { (node : ℕ) → log_room logs.old.items node ≤ log_room logs.new.items node }
-    ensures count { length logs.new.items ≡ length logs.old.items }
-{
-    for node in 0..logs.len() {
-        logs[node].reserve(text)?;
-    }
-    Ok(())
-}
-
-/// The logs of so many nodes, with nothing in them.
-#[tactic(auto, using(crate::proofs::Passed::none_more))]
-fn empty_logs(alloc: Global, nodes: usize) -> Result<Vec<Vec<u8>>, AllocError>
-    ensures empty { IfOk result (λ logs. (node : ℕ) → get_or (map (λ log. log.items) logs.items) node [] ≡ []) }
-    ensures count { IfOk result (λ logs. length logs.items ≡ nodes) }
-{
-    let mut logs = Vec::new(alloc);
-    for _ in 0..nodes {
-        logs.push(Vec::new(alloc))?;
-    }
-    Ok(logs)
-}
-
-/// Empties the log of this number; fails where there is none.
-#[tactic(auto, using(crate::proofs::Passed::put_in))]
-fn empty_one(logs: &mut Vec<Vec<u8>>, node: usize) -> Result<(), LinkFault>
-    ensures emptied { OnOk result ((i : ℕ) → get_or (map (λ log. log.items) logs.new.items) i [] ≡ (if node == i then [] else get_or (map (λ log. log.items) logs.old.items) i [])) }
-    ensures failed { OnErr result (map (λ log. log.items) logs.new.items ≡ map (λ log. log.items) logs.old.items) }
-    ensures missing { IfErr result (λ why. why ≡ Failed) }
-    ensures kept { (i : ℕ) → log_room logs.old.items i ≤ log_room logs.new.items i }
-{
-    if node >= logs.len() {
-        return Err(LinkFault::Failed);
-    }
-    logs[node].clear();
-    Ok(())
-}
-
-/// Puts text behind the log of this number, into room that was made for it, and takes memory where there is none; fails
-/// where there is no such log.
-#[tactic(auto, using(crate::proofs::Passed::put_in))]
-fn add_to_one(logs: &mut Vec<Vec<u8>>, node: usize, text: &[u8]) -> Result<(), LinkFault>
-    ensures added { OnOk result ((i : ℕ) → get_or (map (λ log. log.items) logs.new.items) i [] ≡
-        (if node == i then get_or (map (λ log. log.items) logs.old.items) i [] ++ text.now else get_or (map (λ log. log.items) logs.old.items) i [])) }
-    ensures failed { OnErr result (map (λ log. log.items) logs.new.items ≡ map (λ log. log.items) logs.old.items) }
-    ensures ample { length text.now ≤ log_room logs.old.items node → result ≡ reaching (Ok tt) (nat_lt node (length logs.old.items)) }
-    ensures used { (i : ℕ) → log_room logs.old.items i ≤ log_room logs.new.items i + (if node == i then length text.now else 0) }
-{
-    if node >= logs.len() {
-        return Err(LinkFault::Failed);
-    }
-    match logs[node].extend_from_slice(text) {
-        Ok(()) => Ok(()),
-        Err(_) => Err(LinkFault::OutOfMemory),
-    }
 }
 
 impl MemoryLinks {

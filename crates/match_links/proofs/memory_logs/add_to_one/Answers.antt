@@ -1,7 +1,7 @@
 use Rattle.std.proofs.Common.{rules, arith, ◌≡◌, ◌<◌, ◌++◌, ℕ, List, [], Vec, Global, map, get_or, length, ap, ◌∙◌}
 use Rattle.match_links.specs.Room.{byte_room}
 use Rattle.match_links.proofs.Passed.{put_more, put_same, in_place, count_at, count_left}
-use Rattle.match_links.proofs.memory_links.add_to_one.Goals as goal
+use Rattle.match_links.proofs.memory_logs.add_to_one.Goals as goal
 
 pub returns-in-Ok-clause-added : goal.returns-in-Ok-clause-added
 returns-in-Ok-clause-added c = λ i.

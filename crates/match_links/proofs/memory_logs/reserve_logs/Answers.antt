@@ -1,7 +1,7 @@
 use Rattle.std.proofs.Common.{rules, arith, ◌≡◌, ◌<◌, ℕ, Vec, Global, map, get_or, length, ap, ◌∙◌}
 use Rattle.match_links.specs.Room.{byte_room}
 use Rattle.match_links.proofs.Passed.{put_same, in_place, count_at, count_kept, count_more}
-use Rattle.match_links.proofs.memory_links.reserve_logs.Goals as goal
+use Rattle.match_links.proofs.memory_logs.reserve_logs.Goals as goal
 
 pub returns-in_err-reserve-clause-same : goal.returns-in_err-reserve-clause-same
 returns-in_err-reserve-clause-same c =

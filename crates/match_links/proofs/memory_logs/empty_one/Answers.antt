@@ -1,7 +1,7 @@
 use Rattle.std.proofs.Common.{rules, arith, ◌≡◌, ◌<◌, map, get_or, length, ap, ◌∙◌}
 use Rattle.match_links.specs.Room.{byte_room}
 use Rattle.match_links.proofs.Passed.{put_in, count_at, count_kept}
-use Rattle.match_links.proofs.memory_links.empty_one.Goals as goal
+use Rattle.match_links.proofs.memory_logs.empty_one.Goals as goal
 
 pub returns-clause-emptied : goal.returns-clause-emptied
 returns-clause-emptied c = search (rules, put_in)

@@ -1,5 +1,5 @@
 use Rattle.std.proofs.Common.{◌≡◌, ℕ, [], map, get_or, length}
-use Rattle.match_links.proofs.memory_links.empty_logs.Given as goal
+use Rattle.match_links.proofs.memory_logs.empty_logs.Given as goal
 
 abbrev pub invariant-loop : goal.invariant-loop
 invariant-loop l = record {

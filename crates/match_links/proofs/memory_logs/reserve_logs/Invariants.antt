@@ -1,6 +1,6 @@
 use Rattle.std.proofs.Common.{◌≡◌, ◌≤◌, ◌<◌, ℕ, map, length}
 use Rattle.match_links.specs.Room.{log_room}
-use Rattle.match_links.proofs.memory_links.reserve_logs.Given as goal
+use Rattle.match_links.proofs.memory_logs.reserve_logs.Given as goal
 
 -- nothing in the logs changed, those before this one have their room, and none has less than it had
 abbrev pub invariant-loop-node : goal.invariant-loop-node
