@@ -42,11 +42,14 @@ class Body:
             raise Fault("54 BadBody")
         return entries
 
-    def counted(self):
-        """The command that is proposed or accepted, behind how many there are; version 1 had no such count."""
-        if self.version == nodes.VERSION:
-            self.number(1, 1, 1)
-        return self.command()
+    def commands(self, begin):
+        """The commands that are proposed or accepted from a slot on, behind how many there are; version 1 had one, and no
+        such count."""
+        count = self.number(1, nodes.WINDOW, 1) if self.version == nodes.VERSION else 1
+        commands = [self.command() for _ in range(count)]
+        if begin + count > nodes.SLOTS:
+            raise Fault("54 BadBody")
+        return commands
 
     def command(self, may_go_on=False):
         begin = self.data
@@ -94,8 +97,9 @@ def read_parts(kind, body):
     ballot, slot = body.ballot(), body.slot()
     if kind == nodes.PROMISE:
         return [ballot, slot, body.entries(slot)]
-    behind = {nodes.PREPARE: [], nodes.REFUSE: [body.ballot], nodes.ACCEPT: [body.counted], nodes.ACCEPTED: [body.counted]}
-    return [ballot, slot] + [part() for part in behind[kind]]
+    if kind in (nodes.ACCEPT, nodes.ACCEPTED):
+        return [ballot, slot, body.commands(slot)]
+    return [ballot, slot] + ([body.ballot()] if kind == nodes.REFUSE else [])
 
 
 DEAL = nodes.deal_bytes(0, dealer.CARDS[:9])
@@ -112,9 +116,10 @@ AWAY = away_bytes(0, 0)
 MESSAGES = [
     (nodes.PREPARE, (1, 0), 0), (nodes.PROMISE, (1, 0), 0, []),
     (nodes.PROMISE, (2, 1), 3, [(3, (1, 0), DEAL), (5, (1, 2), CALL), (66, (2, 1), RAISE)]), (nodes.REFUSE, (1, 0), 0, (1, 1)),
-    (nodes.ACCEPT, (1, 0), 0, DEAL), (nodes.ACCEPT, (3, 2), 1, CALL), (nodes.ACCEPTED, (1, 0), 0, RAISE), (nodes.CHOSEN, 1, CALL),
+    (nodes.ACCEPT, (1, 0), 0, [DEAL]), (nodes.ACCEPT, (3, 2), 1, [CALL]), (nodes.ACCEPTED, (1, 0), 0, [RAISE]), (nodes.CHOSEN, 1, CALL),
+    (nodes.ACCEPT, (1, 2), 0, [DEAL, CALL]), (nodes.ACCEPTED, (2, 1), 5, [LONG_DEAL, AWAY, RAISE]), (nodes.ACCEPT, (1, 0), 3999936, 64 * [AWAY]),
     (nodes.CHOSEN, 0, DEAL), (nodes.ASK, 0), (nodes.FORWARD, CALL), (nodes.CHOSEN, 2, LONG_DEAL),
-    (nodes.ACCEPT, (1, 0), 1, AWAY), (nodes.CHOSEN, 1, AWAY), (nodes.FORWARD, AWAY),
+    (nodes.ACCEPT, (1, 0), 1, [AWAY]), (nodes.CHOSEN, 1, AWAY), (nodes.FORWARD, AWAY),
     (nodes.PROMISE, (2, 1), 3, [(slot, (1, 0), AWAY) for slot in range(3, 67)]),
     (nodes.PREPARE, (1, 4), 0), (nodes.PREPARE, (1, 6), 0), (nodes.REFUSE, (1, 4), 0, (2, 5)),
 ]  # fmt: skip
@@ -156,7 +161,8 @@ def drawn_message(dice):
         return kind, values.command() if dice.random() < 0.1 else values.goes_on()
     if kind in (nodes.CHOSEN, nodes.ASK):
         return (kind, values.slot(), values.command())[: 3 if kind == nodes.CHOSEN else 2]
-    behind = {nodes.REFUSE: [values.ballot], nodes.ACCEPT: [values.command], nodes.ACCEPTED: [values.command]}
+    commands = lambda: [values.command() for _ in range(dice.choice([0, 1, 1, 1, 2, 2, 3, 64, 65]))]
+    behind = {nodes.REFUSE: [values.ballot], nodes.ACCEPT: [commands], nodes.ACCEPTED: [commands]}
     message = [kind, values.ballot(), values.slot(), *(part() for part in behind.get(kind, []))]
     if kind == nodes.PROMISE:
         rising = sorted(dice.sample(range(70), dice.choice([0, 1, 3, 64])))

@@ -1,5 +1,5 @@
 -- What an acceptor answers, and what it keeps then, by what it kept.
-use Rattle.std.specs.Prelude.{◌≡◌, ℕ, zero, suc, ◌+◌, Bool, false, if◌then◌else◌, List, [], ◌∷◌, ◌++◌, Option, Some, None}
+use Rattle.std.specs.Prelude.{◌≡◌, ℕ, zero, suc, ◌+◌, ◌≤◌, Bool, false, if◌then◌else◌, List, [], ◌∷◌, ◌++◌, Option, Some, None, length}
 use Rattle.paxos_wire.specs.Fits.{IsBallot, IsInRange, IsCommandRun, AreEntries}
 use Rattle.paxos_wire.specs.declared.ballot.Ballot.{Ballot}
 use Rattle.paxos_wire.specs.declared.entry.Entry.{Entry}
@@ -109,7 +109,7 @@ abbrev pub accepted_run : Ballot → ℕ → List Command → Store → Store
 accepted_run ballot slot commands store =
     if is_below ballot store.promise then store else taking_command_run store ballot slot commands
 
--- an answer that a frame carries
-abbrev pub AnswersRun : Ballot → ℕ → RunAnswer → Type 0
-AnswersRun ballot slot (AcceptedRun b s commands) = (b ≡ ballot) × (s ≡ slot) × IsCommandRun slot commands
-AnswersRun ballot slot (RefuseRun b s promise) = (b ≡ ballot) × (s ≡ slot) × IsBallot promise
+-- an answer that a frame carries, with no more commands than were proposed
+abbrev pub AnswersRun : Ballot → ℕ → List Command → RunAnswer → Type 0
+AnswersRun ballot slot commands (AcceptedRun b s told) = (b ≡ ballot) × (s ≡ slot) × IsCommandRun slot told × (length told ≤ length commands)
+AnswersRun ballot slot commands (RefuseRun b s promise) = (b ≡ ballot) × (s ≡ slot) × IsBallot promise

@@ -193,7 +193,7 @@ impl<D: Disk> Acceptor<D> {
         ensures taken { Taken D.Disk (answer_to_run ballot slot commands.now) (accepted_run ballot slot commands.now) (store_of self.old) (store_of self.new) result }
         ensures stored { (head : List ℕ) (held : model.Store) → Keeps D.Disk head held (store_of self.old) → IsTrue D.is_honest → is_voted held ballot slot ≡ true → OnlyReads D.Disk (disk_of (store_of self.old)) (disk_of (store_of self.new)) }
         ensures needs { NeedsStore D.Disk (refusal_of_run ballot slot (promised_in (held_of (store_of self.old)))) (store_of self.old) (store_of self.new) result }
-        ensures fits { IfOk result (AnswersRun ballot slot) }
+        ensures fits { IfOk result (AnswersRun ballot slot commands.now) }
         ensures room { room (held_of (store_of self.old)) ≤ room (held_of (store_of self.new)) + length commands.now }
         ensures full { IsErrOf result StoreFault.OutOfMemory → room (held_of (store_of self.old)) < length commands.now }
     {
@@ -215,7 +215,7 @@ impl<D: Disk> Acceptor<D> {
         ensures taken { Taken D.Disk (answer_to_run ballot slot commands.now) (accepted_run ballot slot commands.now) (store_of self.old) (store_of self.new) result }
         ensures stored { (head : List ℕ) (held : model.Store) → Keeps D.Disk head held (store_of self.old) → IsTrue D.is_honest → is_voted held ballot slot ≡ true → OnlyReads D.Disk (disk_of (store_of self.old)) (disk_of (store_of self.new)) }
         ensures needs { NeedsStore D.Disk (refusal_of_run ballot slot (promised_in (held_of (store_of self.old)))) (store_of self.old) (store_of self.new) result }
-        ensures fits { IfOk result (AnswersRun ballot slot) }
+        ensures fits { IfOk result (AnswersRun ballot slot commands.now) }
         ensures room { room (held_of (store_of self.old)) ≤ room (held_of (store_of self.new)) + length commands.now }
         ensures memory { IsErrOf result StoreFault.OutOfMemory → ⊥ }
     {

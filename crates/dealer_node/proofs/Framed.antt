@@ -1,5 +1,5 @@
 -- A message of another node: what it asks, the close, and a last question.
-use Rattle.std.proofs.Common.{◌≡◌, ℕ, ◌+◌, ◌*◌, ◌≤◌, inl, inr, Bool, true, false, Result, Ok, Err, refl, ap, sym, subst, ◌∙◌, arith, length, vec_len}
+use Rattle.std.proofs.Common.{◌≡◌, ℕ, ◌+◌, ◌*◌, ◌≤◌, inl, inr, Bool, true, false, List, Result, Ok, Err, refl, ap, sym, subst, ◌∙◌, arith, length, vec_len}
 use Rattle.std.specs.Prelude.{◌⊎◌, Option, Some, None, if◌then◌else◌, nat_le, ◌&&◌}
 use Rattle.paxos_wire.specs.declared.ballot.Ballot.{Ballot}
 use Rattle.paxos_wire.specs.declared.message.Message.{Message}
@@ -10,21 +10,24 @@ use Rattle.promise_store.specs.declared.disk.Disk.{Ghosts}
 use Rattle.protocol_model.specs.Stores.{Store}
 use Rattle.paxos_wire.specs.Order.{is_below}
 use Rattle.proposer.specs.declared.campaign.Campaign.{Campaign}
-use Rattle.learner.specs.Learning.{Learned, answer_to, hearing as hearing_vote, answer_to_chosen, believing as with_chosen}
+use Rattle.learner.specs.Learning.{Learned, answer_to_chosen, believing as with_chosen}
+use Rattle.learner.specs.CommandRuns.{answer_to_run, hearing_run}
 use Rattle.node_rules.specs.Standings.{Place, Standing, front_of, idle}
 use Rattle.node_rules.specs.Turns.{Turn, Refusal, Conflict, still, sending, joined, behind, and_then}
 use Rattle.node_rules.specs.Learning.{learning, asking_on}
-use Rattle.protocol_model.specs.Votes.{stored_in, storing}
+use Rattle.protocol_model.specs.Votes.{command_run_at, taking_command_run}
 use Rattle.node_rules.specs.Accepting.{refusing, promising, voting}
 use Rattle.node_rules.specs.Standings.{with_stored}
 use Rattle.node_rules.specs.Sending.{to_others}
 use Rattle.node_rules.specs.Proposing.{closing, closing_by as closing_by_rule, proposal_at}
-use Rattle.proposer.specs.Campaigns.{leads, marked_from}
-use Rattle.proposer.specs.declared.accept.Accept.{Accept}
+use Rattle.proposer.specs.Campaigns.{leads}
+use Rattle.proposer.specs.CommandRuns.{marked_run_from}
+use Rattle.proposer.specs.declared.accept_run.AcceptRun.{AcceptRun}
 use Rattle.proposer.specs.declared.fault.ProposeFault.{ProposeFault}
 use Rattle.paxos_wire.specs.declared.limits.TheConstants.{SLOTS}
 use Rattle.node_rules.specs.Rules.{seeing, taking, asking, on_message}
 use Rattle.paxos_wire.specs.declared.limits.TheConstants.{MOST_SINGLE_FRAME}
+use Rattle.dealer_node.specs.declared.limits.TheConstants.{FRAMES_TO_ALL, FRAMES_OF_A_CLOSE, ANSWERS_OF_A_CALL, FRAMES_OF_AN_ANSWER, FRAMES_OF_A_MESSAGE}
 use Rattle.dealer_node.specs.declared.up.Up.{Up}
 use Rattle.dealer_node.specs.declared.running.Running.{Running}
 use Rattle.dealer_node.specs.declared.made.Made.{Made}
@@ -73,16 +76,16 @@ prepares place from ballot slot s turn true rule =
     leads_nothing s turn (ap (λ (t : Turn). t.after.campaign) e) (ap (λ (t : Turn). t.after.begun) e ∙ sym (ap (λ (t : Turn). t.after.store) e))
 prepares place from ballot slot s turn false rule = stays s (refusing from ballot slot s) turn _ refl refl refl rule
 
-votes : (place : Place) (ballot : Ballot) (slot : ℕ) (command : Command) (s : Standing) (turn : Turn) → voting place ballot slot command (idle s) ≡ Ok turn → Quiet s turn
-votes place ballot slot command s turn rule =
-    let x : Standing = with_stored (idle s) (storing s.store ballot slot command) in
-    let kept = telling_keeps place ballot slot (stored_in (s.store.votes slot) ballot command) x turn rule in
+votes : (place : Place) (ballot : Ballot) (slot : ℕ) (commands : List Command) (s : Standing) (turn : Turn) → voting place ballot slot commands (idle s) ≡ Ok turn → Quiet s turn
+votes place ballot slot commands s turn rule =
+    let x : Standing = with_stored (idle s) (taking_command_run s.store ballot slot commands) in
+    let kept = telling_keeps place ballot slot (command_run_at s.store ballot slot commands) x turn rule in
     leads_nothing s turn kept.campaign (kept.begun ∙ sym kept.store)
 
-accepts : (place : Place) (from : ℕ) (ballot : Ballot) (slot : ℕ) (command : Command) (s : Standing) (turn : Turn) (b : Bool)
-    → (if b then Ok (refusing from ballot slot s) else voting place ballot slot command (idle s)) ≡ Ok turn → Quiet s turn
-accepts place from ballot slot command s turn true rule = stays s (refusing from ballot slot s) turn _ refl refl refl rule
-accepts place from ballot slot command s turn false rule = votes place ballot slot command s turn rule
+accepts : (place : Place) (from : ℕ) (ballot : Ballot) (slot : ℕ) (commands : List Command) (s : Standing) (turn : Turn) (b : Bool)
+    → (if b then Ok (refusing from ballot slot s) else voting place ballot slot commands (idle s)) ≡ Ok turn → Quiet s turn
+accepts place from ballot slot commands s turn true rule = stays s (refusing from ballot slot s) turn _ refl refl refl rule
+accepts place from ballot slot commands s turn false rule = votes place ballot slot commands s turn rule
 
 learns : {A : Type 0} (place : Place) (answer : Result A SlotFault) (learned : Learned) (s : Standing) (turn : Turn) → learning place answer learned s ≡ Ok turn → Quiet s turn
 learns place (Ok answer) learned s turn rule = stays s _ turn _ refl refl refl rule
@@ -98,9 +101,9 @@ quiet : (place : Place) (from : ℕ) (message : Message) (s : Standing) (turn : 
 quiet place from (frame.Prepare ballot slot) s turn rule = prepares place from ballot slot s turn (is_below s.store.promise ballot) rule
 quiet place from (frame.Promise ballot slot entries) s turn rule = stays s _ turn _ refl refl refl rule
 quiet place from (frame.Refuse ballot slot promised) s turn rule = stays s _ turn _ refl refl refl rule
-quiet place from (frame.Accept ballot slot command) s turn rule = accepts place from ballot slot command s turn (is_below ballot s.store.promise) rule
-quiet place from (frame.Accepted ballot slot command) s turn rule =
-    learns place (answer_to s.learned from ballot slot command) (hearing_vote s.learned from ballot slot command) s turn rule
+quiet place from (frame.Accept ballot slot commands) s turn rule = accepts place from ballot slot commands s turn (is_below ballot s.store.promise) rule
+quiet place from (frame.Accepted ballot slot commands) s turn rule =
+    learns place (answer_to_run s.learned from ballot slot commands) (hearing_run s.learned from ballot slot commands) s turn rule
 quiet place from (frame.Chosen slot command) s turn rule =
     believes place from (front_of s) (answer_to_chosen s.learned.log slot command) (with_chosen s.learned slot command) s turn rule
 quiet place from (frame.Ask slot) s turn rule = stays s _ turn _ refl refl refl rule
@@ -113,18 +116,19 @@ both_done (Ok turn) next ends done = done_behind turn (next turn.after) (ends tu
 both_done (Err (Conflict store)) next ends done = tt
 both_done (Err why) next ends done = absurd done
 
-closing_done_by : (place : Place) (proposal : Result (Option Accept) ProposeFault) (s : Standing) → IsDone (closing_by_rule place proposal s)
+closing_done_by : (place : Place) (proposal : Result (Option AcceptRun) ProposeFault) (s : Standing) → IsDone (closing_by_rule place proposal s)
 closing_done_by place (Ok (Some made)) s =
-    done_behind (sending (to_others place (frame.Accept made.ballot made.slot made.command)) s) (voting place made.ballot made.slot made.command s) (telling_done place made.ballot made.slot (stored_in (s.store.votes made.slot) made.ballot made.command) (with_stored s (storing s.store made.ballot made.slot made.command)))
+    done_behind (sending (to_others place (frame.Accept made.ballot made.slot made.commands)) s) (voting place made.ballot made.slot made.commands s)
+    (telling_done place made.ballot made.slot (command_run_at s.store made.ballot made.slot made.commands) (with_stored s (taking_command_run s.store made.ballot made.slot made.commands)))
 closing_done_by place (Ok None) s = tt
 closing_done_by place (Err why) s = tt
 
 closing_done : (place : Place) (s : Standing) → IsDone (closing place s)
 closing_done place s = by (leads place.nodes s.campaign && nat_le SLOTS (front_of s))
   where
-    by : (b : Bool) → IsDone (if b then Ok (still (idle s)) else closing_by_rule place (proposal_at place s) (record s { campaign = marked_from s.campaign (proposal_at place s) }))
+    by : (b : Bool) → IsDone (if b then Ok (still (idle s)) else closing_by_rule place (proposal_at place s) (record s { campaign = marked_run_from s.campaign (proposal_at place s) }))
     by true = tt
-    by false = closing_done_by place (proposal_at place s) (record s { campaign = marked_from s.campaign (proposal_at place s) })
+    by false = closing_done_by place (proposal_at place s) (record s { campaign = marked_run_from s.campaign (proposal_at place s) })
 
 module _ {D : Type 0} (g : Ghosts D) where
   -- the ballots of a message are seen
@@ -228,15 +232,15 @@ module _ {D : Type 0} (g : Ghosts D) where
 -- ---- room
 
 -- so much is left, whatever was needed
-pub left_of : (running : Running) (made : Made) (votes frames : ℕ) → CanLearn running made votes → frames ≤ made.frames.text_room → MOST_SINGLE_FRAME * frames ≤ made.frames.byte_room
+pub left_of : (running : Running) (made : Made) (answers commands frames : ℕ) → CanLearn running made answers commands → frames ≤ made.frames.text_room → MOST_SINGLE_FRAME * frames ≤ made.frames.byte_room
     → HasLeft running made (record {
       frames = length made.frames.texts + frames;
       frame_bytes = byte_total made.frames.texts + MOST_SINGLE_FRAME * frames;
-      texts = length made.shown.texts + 11 * (ahead_of running + votes);
-      text_bytes = byte_total made.shown.texts + 45716 * (ahead_of running + votes);
+      texts = length made.shown.texts + 11 * (ahead_of running + commands);
+      text_bytes = byte_total made.shown.texts + 45716 * (ahead_of running + commands);
       faults = vec_len made.faults;
-    }) votes frames
-left_of running made votes frames learn texts bytes = record {
+    }) answers commands frames
+left_of running made answers commands frames learn texts bytes = record {
   learn = learn;
   texts = texts;
   bytes = bytes;
@@ -248,13 +252,24 @@ left_of running made votes frames learn texts bytes = record {
 }
 
 -- nothing of the room is gone where the ballots are seen
-pub seen_left : (old new : Running) (made : Made) (need : Need) (votes frames : ℕ) → new ≡ record old { seen = new.seen } → HasLeft old made need votes frames → HasLeft new made need votes frames
-seen_left old new made need votes frames rest left =
-    subst (λ (r : Running). HasLeft r made need votes frames) (sym rest) (left_beside old new old made need votes frames left)
+pub seen_left : (old new : Running) (made : Made) (need : Need) (answers commands frames : ℕ) → new ≡ record old { seen = new.seen } → HasLeft old made need answers commands frames
+    → HasLeft new made need answers commands frames
+seen_left old new made need answers commands frames rest left =
+    subst (λ (r : Running). HasLeft r made need answers commands frames) (sym rest) (left_beside old new old made need answers commands frames left)
+
+-- a message whose ballots were seen has room for its answer, for each of its commands, and behind it for the close and a question
+pub message_left : (old new : Running) (made : Made) (need : Need) (k : ℕ) → new ≡ record old { seen = new.seen } → HasLeft old made need ANSWERS_OF_A_CALL (k + 1) (FRAMES_OF_A_MESSAGE + FRAMES_TO_ALL * k)
+    → HasLeft new made need (1 + 1) (1 + k) ((FRAMES_OF_A_CLOSE + 1) + (FRAMES_OF_AN_ANSWER + FRAMES_TO_ALL * k))
+message_left old new made need k rest left =
+    let commands : k + 1 ≡ 1 + k = omega arith in
+    let frames : FRAMES_OF_A_MESSAGE + FRAMES_TO_ALL * k ≡ (FRAMES_OF_A_CLOSE + 1) + (FRAMES_OF_AN_ANSWER + FRAMES_TO_ALL * k) = omega arith in
+    subst (λ (n : ℕ). HasLeft new made need ANSWERS_OF_A_CALL (1 + k) n) frames
+    (subst (λ (n : ℕ). HasLeft new made need ANSWERS_OF_A_CALL n (FRAMES_OF_A_MESSAGE + FRAMES_TO_ALL * k)) commands
+    (seen_left old new made need ANSWERS_OF_A_CALL (k + 1) (FRAMES_OF_A_MESSAGE + FRAMES_TO_ALL * k) rest left))
 
 -- a question was asked
-pub asked_left : (running : Running) (earlier later : Made) (need : Need) (votes frames : ℕ) → later ≡ record earlier { frames = later.frames } → Grows earlier.frames later.frames 1 MOST_SINGLE_FRAME
-    → HasLeft running earlier need votes (frames + 1) → HasLeft running later need votes frames
-asked_left running earlier later need votes frames rest grows left =
-    subst (λ (m : Made). HasLeft running m need votes frames) (sym rest)
-    (sent_left running earlier later.frames need votes frames (frames + 1) 1 (omega arith) grows left)
+pub asked_left : (running : Running) (earlier later : Made) (need : Need) (answers commands frames : ℕ) → later ≡ record earlier { frames = later.frames } → Grows earlier.frames later.frames 1 MOST_SINGLE_FRAME
+    → HasLeft running earlier need answers commands (frames + 1) → HasLeft running later need answers commands frames
+asked_left running earlier later need answers commands frames rest grows left =
+    subst (λ (m : Made). HasLeft running m need answers commands frames) (sym rest)
+    (sent_left running earlier later.frames need answers commands frames (frames + 1) 1 (omega arith) grows left)

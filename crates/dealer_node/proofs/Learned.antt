@@ -27,13 +27,13 @@ use Rattle.dealer_node.proofs.Telling.{told_with, frames_more, shown_more, told_
 
 -- ---- the turn of what was learned
 
-pub applied_taken : (post : Post) (old new : Running) (learner : Learning) (from : ℕ) (s : Standing) (learned : Learned) (told : Told) (shown : List (Marked Reader))
-    → IsRunning post old s → from ≡ front old.learner.learned.log → learner.learned ≡ learned → GoesOn old.learner.learned.log learner.learned.log
+pub applied_taken : (post : Post) (old new : Running) (learner : Learning) (from : ℕ) (s : Standing) (learned : Learned) (told : Told) (shown : List (Marked Reader)) (commands : ℕ)
+    → IsRunning post old s → from ≡ front old.learner.learned.log → learner.learned ≡ learned → GoesOn old.learner.learned.log learner.learned.log commands
     → ((scene : Scene) (before : List (Marked Reader)) → IsScene post.setting scene old.table old.pending before told.shown
     → IsScene post.setting (taking_all post.setting old.seats.talks (drop from (reverse learner.learned.log.below)) scene) new.table new.pending before shown)
     → new ≡ record old { learner = learner; table = new.table; pending = new.pending }
     → IsTaken post new told (told_with told.frames shown told.faults) (applying (place_at post) learned s)
-applied_taken post old new learner from s learned told shown is here same goes scenes rest =
+applied_taken post old new learner from s learned told shown commands is here same goes scenes rest =
     let first : IsScene post.setting (scene_of s) old.table old.pending told.shown told.shown = record { hands = is.hands; waits = is.waits; shown = sym (append-nil told.shown) } in
     let end : Scene = taking_all post.setting s.sessions (passed s.learned.log learned.log) (scene_of s) in
     let ends : taking_all post.setting old.seats.talks (drop from (reverse learner.learned.log.below)) (scene_of s) ≡ end =

@@ -6,17 +6,17 @@ use Rattle.dealer_node.specs.Texts.{byte_total}
 use Rattle.dealer_node.specs.Outs.{Told, nothing_told}
 use Rattle.dealer_node.specs.Most.{most_after, ShowsWithin}
 
--- a line, and what two commands show; and of three more that are known beyond the front
-abbrev of_two : MostShown
-of_two = record { pieces = 23; bytes = 95528 }
+-- a line, and what 65 commands show; and of three more that are known beyond the front
+abbrev of_65 : MostShown
+of_65 = record { pieces = 716; bytes = 2975636 }
 
-nothing_ahead : most_after 0 ≡ of_two
+nothing_ahead : most_after 0 ≡ of_65
 nothing_ahead = refl
 
-abbrev of_five : MostShown
-of_five = record { pieces = 56; bytes = 232676 }
+abbrev of_three_and_65 : MostShown
+of_three_and_65 = record { pieces = 749; bytes = 3112784 }
 
-three_ahead : most_after 3 ≡ of_five
+three_ahead : most_after 3 ≡ of_three_and_65
 three_ahead = refl
 
 -- a line of three bytes was shown, and before it a text of one

@@ -6,8 +6,8 @@ use Rattle.std.specs.List.{AllByRecursion}
 use Rattle.paxos_wire.specs.declared.limits.TheConstants.{NODES, SLOTS}
 use Rattle.paxos_wire.specs.declared.ballot.Ballot.{Ballot}
 use Rattle.paxos_wire.specs.declared.entry.Entry.{Entry}
-use Rattle.paxos_wire.specs.declared.message.Message.TheVariants.{Prepare, Accept as AcceptFrame}
-use Rattle.paxos_wire.specs.Fits.{Fits, IsBallot, IsEntry, IsInRange}
+use Rattle.paxos_wire.specs.declared.message.Message.TheVariants.{Prepare}
+use Rattle.paxos_wire.specs.Fits.{IsBallot, IsEntry, IsInRange}
 use Rattle.slot_log.specs.Slots.{front}
 use Rattle.slot_log.specs.declared.command.Command.{Command}
 use Rattle.protocol_model.proofs.Sets.{all_same}
@@ -18,7 +18,10 @@ use Rattle.proposer.specs.declared.fault.ProposeFault.TheVariants.{OutOfWindow}
 use Rattle.proposer.specs.Told.{better, best_in, best_after}
 use Rattle.paxos_wire.specs.Order.{is_below}
 use Rattle.proposer.specs.Campaigns.{Proposing, next_ballot, new_campaign, is_counted, with_promise, counting, counting_from, has_quorum, leads, is_covered, is_proposed, promise_by, greatest_told, value_of, accept_of, proposal_from, marked_from}
+use Rattle.proposer.specs.declared.accept_run.AcceptRun.{AcceptRun}
+use Rattle.proposer.specs.CommandRuns.{run_of_one, marked_run_from}
 use Rattle.learner.specs.Learning.{Learned}
+use Rattle.node_rules.proofs.Ones.{marks_one}
 use Rattle.node_rules.specs.Standings.{Standing, applied, front_of, idle}
 use Rattle.node_rules.specs.Sending.{Frame, to_first}
 use Rattle.node_rules.specs.Turns.{still}
@@ -66,7 +69,7 @@ value_within None own is within = within
 value_within (Some entry) own is within = is.command
 
 abbrev Fitting : Option Accept → Type 0
-Fitting made = IfSome made (λ m. Fits (AcceptFrame m.ballot m.slot m.command))
+Fitting made = IfSome made (λ m. IsBallot m.ballot × (m.slot < SLOTS) × IsInRange m.command)
 
 accept_fits : (campaign : Campaign) (slot : ℕ) (value : Option Command) → IsBallot campaign.ballot → slot < SLOTS → IfSome value (λ c. IsInRange c) → Fitting (accept_of campaign slot value)
 accept_fits campaign slot None ballot here within = tt
@@ -170,24 +173,25 @@ module _ (post : Post) (old : Running) (s : Standing) (at : IsAt post old) (is :
   same_front = ap (λ (l : Learned). front l.log) is.learned
 
   same_proposal : (own : Option Command) (slot : ℕ) (outcome : Result (Option Accept) ProposeFault) → outcome ≡ proposal_from old.proposer.nodes old.proposer.campaign slot own → slot ≡ front old.learner.learned.log → own ≡ own_value (place_at post) s
-      → proposal_at (place_at post) s ≡ outcome
+      → proposal_at (place_at post) s ≡ run_of_one outcome
   same_proposal own slot outcome e here value =
-      sym (e ∙ (ap (λ n. proposal_from n old.proposer.campaign slot own) at.nodes
+      ap run_of_one (sym (e ∙ (ap (λ n. proposal_from n old.proposer.campaign slot own) at.nodes
       ∙ (ap (λ (c : Option Campaign). proposal_from post.nodes c slot own) is.campaign
       ∙ (ap (λ k. proposal_from post.nodes s.campaign k own) (here ∙ same_front)
-      ∙ ap (λ (v : Option Command). proposal_from post.nodes s.campaign (front_of s) v) value))))
+      ∙ ap (λ (v : Option Command). proposal_from post.nodes s.campaign (front_of s) v) value)))))
 
   goes_on : (leads post.nodes old.proposer.campaign ≡ true → front old.learner.learned.log < SLOTS) → is_spent_leader post s ≡ false
   goes_on left = open_by (leads post.nodes s.campaign) (front_of s) (λ e. subst (λ k. k < SLOTS) same_front (left (ap (λ (c : Option Campaign). leads post.nodes c) is.campaign ∙ e)))
 
-  close_by : (outcome : Result (Option Accept) ProposeFault) → proposal_at (place_at post) s ≡ outcome
+  close_by : (outcome : Result (Option Accept) ProposeFault) → proposal_at (place_at post) s ≡ run_of_one outcome
       → (leads post.nodes old.proposer.campaign ≡ true → front old.learner.learned.log < SLOTS)
-      → closing (place_at post) s ≡ closing_by (place_at post) outcome (record s { campaign = marked_from s.campaign outcome })
+      → closing (place_at post) s ≡ closing_by (place_at post) (run_of_one outcome) (record s { campaign = marked_from s.campaign outcome })
   close_by outcome e left =
-      ap (λ (b : Bool). if b then Ok (still (idle s)) else closing_by (place_at post) (proposal_at (place_at post) s) (record s { campaign = marked_from s.campaign (proposal_at (place_at post) s) })) (goes_on left)
-      ∙ ap (λ (p : Result (Option Accept) ProposeFault). closing_by (place_at post) p (record s { campaign = marked_from s.campaign p })) e
+      ap (λ (b : Bool). if b then Ok (still (idle s)) else closing_by (place_at post) (proposal_at (place_at post) s) (record s { campaign = marked_run_from s.campaign (proposal_at (place_at post) s) })) (goes_on left)
+      ∙ (ap (λ (p : Result (Option AcceptRun) ProposeFault). closing_by (place_at post) p (record s { campaign = marked_run_from s.campaign p })) e
+      ∙ ap (λ (c : Option Campaign). closing_by (place_at post) (run_of_one outcome) (record s { campaign = c })) (marks_one s.campaign outcome))
 
-  closed : (made : Option Accept) (after : Standing) → closing_by (place_at post) (Ok made) after ≡ proposed_by (place_at post) made after
+  closed : (made : Option Accept) (after : Standing) → closing_by (place_at post) (run_of_one (Ok made)) after ≡ proposed_by (place_at post) made after
   closed None after = refl
   closed (Some made) after = refl
 
@@ -237,7 +241,7 @@ module _ (post : Post) (old : Running) (s : Standing) (at : IsAt post old) (is :
       record {
         marked = idle s;
         runs = runs_with post old new s None is gone rest;
-        rule = ap (λ (b : Bool). if b then Ok (still (idle s)) else closing_by (place_at post) (proposal_at (place_at post) s) (record s { campaign = marked_from s.campaign (proposal_at (place_at post) s) })) spent;
+        rule = ap (λ (b : Bool). if b then Ok (still (idle s)) else closing_by (place_at post) (proposal_at (place_at post) s) (record s { campaign = marked_run_from s.campaign (proposal_at (place_at post) s) })) spent;
         rest = refl;
         stands = λ ballot led. tt;
         own = λ ballot led. tt;

@@ -1,5 +1,5 @@
 -- What a node stores: promises and votes, as the rules have them.
-use Rattle.std.proofs.Common.{◌≡◌, ℕ, ◌≤◌, inl, inr, Bool, true, false, List, ◌++◌, Result, Ok, Err, refl, ap, sym, subst, ◌∙◌, arith, true≢false}
+use Rattle.std.proofs.Common.{◌≡◌, ℕ, ◌+◌, ◌≤◌, inl, inr, Bool, true, false, List, [], ◌∷◌, ◌++◌, Result, Ok, Err, refl, ap, sym, subst, ◌∙◌, arith, true≢false}
 use Rattle.std.proofs.lemmas.Option.{same_Some}
 use Rattle.std.specs.Prelude.{◌⊎◌, Option, Some, None, IfSome, MatchResult, map, if◌then◌else◌, nat_lt, ◌==◌}
 use Rattle.std.proofs.lemmas.Bool.{le-ltb, eq-eqb}
@@ -15,17 +15,18 @@ use Rattle.promise_store.specs.Room.{promised_in}
 use Rattle.promise_store.specs.Appended.{IsAsBefore}
 use Rattle.promise_store.specs.Keeping.{disk_of, held_of, Keeps, Leaves, LeavesDuring}
 use Rattle.protocol_model.specs.Sets.{In}
-use Rattle.protocol_model.specs.Stores.{Store, promised, voted}
-use Rattle.protocol_model.specs.Votes.{told_by, is_of_ballot, stored_in, storing}
+use Rattle.protocol_model.specs.Stores.{Store, promised}
+use Rattle.protocol_model.specs.Votes.{told_by, command_run_at, taking_command_run}
 use Rattle.paxos_wire.specs.Order.{is_below}
 use Rattle.proposer.specs.declared.accept.Accept.{Accept}
 use Rattle.proposer.specs.declared.campaign.Campaign.{Campaign}
-use Rattle.learner.specs.Learning.{Learned, answer_to, hearing as hearing_vote}
+use Rattle.learner.specs.Learning.{Learned}
+use Rattle.learner.specs.CommandRuns.{answer_to_run as learner_answer, hearing_run}
 use Rattle.acceptor.specs.declared.answers.PrepareAnswer.{PrepareAnswer}
 use Rattle.acceptor.specs.declared.answers.PrepareAnswer.TheVariants.{Promise, Refuse}
-use Rattle.acceptor.specs.declared.answers.AcceptAnswer.{AcceptAnswer}
-use Rattle.acceptor.specs.declared.answers.AcceptAnswer.TheVariants.{Accepted, Refuse as RefuseAccept}
-use Rattle.acceptor.specs.Answers.{answer_to_prepare, refusal_of_prepare, prepared, answer_to_accept, accepted}
+use Rattle.acceptor.specs.declared.answers.RunAnswer.{RunAnswer}
+use Rattle.acceptor.specs.declared.answers.RunAnswer.TheVariants.{Accepted, Refuse as RefuseRun}
+use Rattle.acceptor.specs.Answers.{answer_to_prepare, refusal_of_prepare, prepared, answer_to_run, accepted_run}
 use Rattle.acceptor.specs.Stored.{store_of}
 use Rattle.acceptor.specs.Taken.{IsFault, NeedsStore}
 use Rattle.node_rules.specs.Standings.{Place, Standing, with_stored, idle}
@@ -33,7 +34,7 @@ use Rattle.node_rules.specs.Sending.{Frame, one, to_others}
 use Rattle.node_rules.specs.Turns.{Turn, Refusal, Conflict, still, sending, joined, behind}
 use Rattle.node_rules.specs.Learning.{learning}
 use Rattle.node_rules.specs.Accepting.{refusing, promising, preparing, voting, accepting}
-use Rattle.node_rules.specs.Proposing.{proposing, closing}
+use Rattle.node_rules.specs.Proposing.{closing}
 use Rattle.dealer_node.specs.declared.up.Up.{Up}
 use Rattle.dealer_node.specs.declared.running.Running.{Running}
 use Rattle.dealer_node.specs.declared.fault.NodeFault.{NodeFault}
@@ -44,8 +45,8 @@ use Rattle.dealer_node.specs.Texts.{Marked}
 use Rattle.dealer_node.specs.Turned.{posted}
 use Rattle.dealer_node.specs.Answering.{message_of, is_promise, accepted_in}
 use Rattle.dealer_node.specs.Fitting.{AreMessages}
-use Rattle.dealer_node.specs.Running.{IsRunning, TakesTurn, Closes}
-use Rattle.dealer_node.specs.Voting.{telling_vote}
+use Rattle.dealer_node.specs.Running.{IsRunning, TakesTurn, Closes, proposed_by}
+use Rattle.dealer_node.specs.Voting.{telling_votes}
 use Rattle.dealer_node.specs.Working.{head_of, disk_under, ComesTo, IsDone, IsUp, Took, Failed, Clashed, Works}
 use Rattle.dealer_node.proofs.Telling.{told_with, frames_more}
 use Rattle.dealer_node.proofs.Learned.{stored_too}
@@ -175,86 +176,92 @@ behind_sends : (first turn : Turn) (next : Result Turn Refusal) (sent : Frame) �
 behind_sends first turn (Ok next) sent rule at = sends_by first next turn sent rule at
 behind_sends first turn (Err why) sent rule at = let never : Err why ≡ Ok turn = rule in absurd (cc)
 
-telling_sends : (place : Place) (ballot : Ballot) (slot : ℕ) (command : Command) (s : Standing) (turn : Turn) (sent : Frame) → telling_vote place ballot slot command s ≡ Ok turn
-    → In sent (to_others place (frame.Accepted ballot slot command)) → In sent turn.frames
-telling_sends place ballot slot command s turn sent rule at =
-    behind_sends (sending (to_others place (frame.Accepted ballot slot command)) s) turn (learning place (answer_to s.learned place.node ballot slot command) (hearing_vote s.learned place.node ballot slot command) s) sent rule at
+telling_sends : (place : Place) (ballot : Ballot) (slot : ℕ) (commands : List Command) (s : Standing) (turn : Turn) (sent : Frame) → telling_votes place ballot slot commands s ≡ Ok turn
+    → In sent (to_others place (frame.Accepted ballot slot commands)) → In sent turn.frames
+telling_sends place ballot slot commands s turn sent rule at =
+    behind_sends (sending (to_others place (frame.Accepted ballot slot commands)) s) turn
+    (learning place (learner_answer s.learned place.node ballot slot commands) (hearing_run s.learned place.node ballot slot commands) s) sent rule at
 
-pub telling_keeps : (place : Place) (ballot : Ballot) (slot : ℕ) (command : Command) (s : Standing) (turn : Turn) → telling_vote place ballot slot command s ≡ Ok turn → KeepsStore s turn.after
-telling_keeps place ballot slot command s turn rule =
-    learning_keeps place (answer_to s.learned place.node ballot slot command) (hearing_vote s.learned place.node ballot slot command) s (sending (to_others place (frame.Accepted ballot slot command)) s) turn rule
+pub telling_keeps : (place : Place) (ballot : Ballot) (slot : ℕ) (commands : List Command) (s : Standing) (turn : Turn) → telling_votes place ballot slot commands s ≡ Ok turn → KeepsStore s turn.after
+telling_keeps place ballot slot commands s turn rule =
+    learning_keeps place (learner_answer s.learned place.node ballot slot commands) (hearing_run s.learned place.node ballot slot commands) s
+    (sending (to_others place (frame.Accepted ballot slot commands)) s) turn rule
 
 learning_comes : {A : Type 0} (place : Place) (answer : Result A SlotFault) (learned : Learned) (s : Standing) (first : Turn) → s.begun ≡ s.store → ComesTo (behind first (learning place answer learned s)) s.store
 learning_comes place (Ok answer) learned s first unbegun = inl (_, refl, sym unbegun)
 learning_comes place (Err why) learned s first unbegun = inr refl
 
-pub telling_comes : (place : Place) (ballot : Ballot) (slot : ℕ) (command : Command) (s : Standing) → s.begun ≡ s.store → ComesTo (telling_vote place ballot slot command s) s.store
-telling_comes place ballot slot command s unbegun =
-    learning_comes place (answer_to s.learned place.node ballot slot command) (hearing_vote s.learned place.node ballot slot command) s (sending (to_others place (frame.Accepted ballot slot command)) s) unbegun
+pub telling_comes : (place : Place) (ballot : Ballot) (slot : ℕ) (commands : List Command) (s : Standing) → s.begun ≡ s.store → ComesTo (telling_votes place ballot slot commands s) s.store
+telling_comes place ballot slot commands s unbegun =
+    learning_comes place (learner_answer s.learned place.node ballot slot commands) (hearing_run s.learned place.node ballot slot commands) s
+    (sending (to_others place (frame.Accepted ballot slot commands)) s) unbegun
 
 learning_done : {A : Type 0} (place : Place) (answer : Result A SlotFault) (learned : Learned) (s : Standing) (first : Turn) → IsDone (behind first (learning place answer learned s))
 learning_done place (Ok answer) learned s first = tt
 learning_done place (Err why) learned s first = tt
 
-pub telling_done : (place : Place) (ballot : Ballot) (slot : ℕ) (command : Command) (s : Standing) → IsDone (telling_vote place ballot slot command s)
-telling_done place ballot slot command s =
-    learning_done place (answer_to s.learned place.node ballot slot command) (hearing_vote s.learned place.node ballot slot command) s (sending (to_others place (frame.Accepted ballot slot command)) s)
+pub telling_done : (place : Place) (ballot : Ballot) (slot : ℕ) (commands : List Command) (s : Standing) → IsDone (telling_votes place ballot slot commands s)
+telling_done place ballot slot commands s =
+    learning_done place (learner_answer s.learned place.node ballot slot commands) (hearing_run s.learned place.node ballot slot commands) s
+    (sending (to_others place (frame.Accepted ballot slot commands)) s)
 
--- the store of a vote
-abbrev stored_by : Bool → Store → Ballot → ℕ → Command → Store
-stored_by b store ballot slot command = if b then store else voted store slot (record { ballot = ballot; command = command })
+-- the store of votes
+abbrev accepted_by : Bool → Ballot → ℕ → List Command → Store → Store
+accepted_by below ballot slot commands store = if below then store else taking_command_run store ballot slot commands
 
-abbrev accepted_by : Bool → Ballot → ℕ → Command → Store → Store
-accepted_by below ballot slot command store = if below then store else storing store ballot slot command
+accepted_stores : (below : Bool) (ballot : Ballot) (slot : ℕ) (commands : List Command) (store : Store) → below ≡ false → accepted_by below ballot slot commands store ≡ taking_command_run store ballot slot commands
+accepted_stores true ballot slot commands store e = absurd (true≢false e)
+accepted_stores false ballot slot commands store e = refl
 
-accepted_stores : (below : Bool) (ballot : Ballot) (slot : ℕ) (command : Command) (store : Store) → below ≡ false → accepted_by below ballot slot command store ≡ storing store ballot slot command
-accepted_stores true ballot slot command store e = absurd (true≢false e)
-accepted_stores false ballot slot command store e = refl
+pub vote_stores : (ballot : Ballot) (slot : ℕ) (commands : List Command) (store : Store) → is_below ballot store.promise ≡ false → accepted_run ballot slot commands store ≡ taking_command_run store ballot slot commands
+vote_stores ballot slot commands store above = accepted_stores (is_below ballot store.promise) ballot slot commands store above
 
-pub vote_stores : (ballot : Ballot) (slot : ℕ) (command : Command) (store : Store) → is_below ballot store.promise ≡ false → accepted ballot slot command store ≡ storing store ballot slot command
-vote_stores ballot slot command store above = accepted_stores (is_below ballot store.promise) ballot slot command store above
+abbrev answered_accept : Bool → Ballot → ℕ → List Command → Store → RunAnswer
+answered_accept below ballot slot commands store = if below then RefuseRun ballot slot store.promise else Accepted ballot slot (command_run_at store ballot slot commands)
 
-abbrev answered_accept : Bool → Ballot → ℕ → Command → Store → AcceptAnswer
-answered_accept below ballot slot command store = if below then RefuseAccept ballot slot store.promise else Accepted ballot slot (stored_in (store.votes slot) ballot command)
+accepts_by : (below : Bool) (ballot : Ballot) (slot : ℕ) (commands : List Command) (store : Store) → below ≡ false → accepted_in (answered_accept below ballot slot commands store) ≡ Some (command_run_at store ballot slot commands)
+accepts_by true ballot slot commands store e = absurd (true≢false e)
+accepts_by false ballot slot commands store e = refl
 
-accepts_by : (below : Bool) (ballot : Ballot) (slot : ℕ) (command : Command) (store : Store) → below ≡ false → accepted_in (answered_accept below ballot slot command store) ≡ Some (stored_in (store.votes slot) ballot command)
-accepts_by true ballot slot command store e = absurd (true≢false e)
-accepts_by false ballot slot command store e = refl
+pub vote_accepts : (ballot : Ballot) (slot : ℕ) (commands : List Command) (store : Store) → is_below ballot store.promise ≡ false
+    → accepted_in (answer_to_run ballot slot commands store) ≡ Some (command_run_at store ballot slot commands)
+vote_accepts ballot slot commands store above = accepts_by (is_below ballot store.promise) ballot slot commands store above
 
-pub vote_accepts : (ballot : Ballot) (slot : ℕ) (command : Command) (store : Store) → is_below ballot store.promise ≡ false
-    → accepted_in (answer_to_accept ballot slot command store) ≡ Some (stored_in (store.votes slot) ballot command)
-vote_accepts ballot slot command store above = accepts_by (is_below ballot store.promise) ballot slot command store above
+-- what the model says of the promise that votes leave
+pub record Promising : Type 0 where
+  pub promise : (store : Store) (ballot : Ballot) (slot : ℕ) (commands : List Command)
+      → ((taking_command_run store ballot slot commands).promise ≡ store.promise) ⊎ ((taking_command_run store ballot slot commands).promise ≡ ballot)
 
 -- a campaign of the ballot stands by the promise then
-stands_by : (b : Bool) (campaign : Option Campaign) (store : Store) (ballot : Ballot) (slot : ℕ) (command : Command) → IfSome campaign (λ c. c.ballot ≡ store.promise) → IfSome campaign (λ c. c.ballot ≡ ballot)
-    → IfSome campaign (λ c. c.ballot ≡ (stored_by b store ballot slot command).promise)
-stands_by true campaign store ballot slot command stands own = stands
-stands_by false campaign store ballot slot command stands own = own
+stands_by : (campaign : Option Campaign) (old new ballot : Ballot) → (new ≡ old) ⊎ (new ≡ ballot) → IfSome campaign (λ c. c.ballot ≡ old) → IfSome campaign (λ c. c.ballot ≡ ballot)
+    → IfSome campaign (λ c. c.ballot ≡ new)
+stands_by campaign old new ballot (inl same) stands own = subst (λ (b : Ballot). IfSome campaign (λ c. c.ballot ≡ b)) (sym same) stands
+stands_by campaign old new ballot (inr same) stands own = subst (λ (b : Ballot). IfSome campaign (λ c. c.ballot ≡ b)) (sym same) own
 
 module _ {D : Type 0} (g : Ghosts D) where
-  abbrev with_vote : Standing → Ballot → ℕ → Command → Standing
-  with_vote s ballot slot command = with_stored s (storing s.store ballot slot command)
+  abbrev with_votes : Standing → Ballot → ℕ → List Command → Standing
+  with_votes s ballot slot commands = with_stored s (taking_command_run s.store ballot slot commands)
 
-  -- a vote was told and counted
-  pub vote_took : (post : Post) (s : Standing) (ballot : Ballot) (slot : ℕ) (command stored : Command) (old new : Up D) (earlier later : Told)
+  -- votes were told and counted
+  pub vote_took : (law : Promising) (post : Post) (s : Standing) (ballot : Ballot) (slot : ℕ) (commands stored : List Command) (old new : Up D) (earlier later : Told)
       → IsUp g post old s → is_below ballot s.store.promise ≡ false → IfSome s.campaign (λ c. c.ballot ≡ ballot)
-      → Some stored ≡ accepted_in (answer_to_accept ballot slot command s.store)
-      → Keeps g (head_of post) (accepted ballot slot command s.store) (store_of new.acceptor)
-      → LeavesDuring g (head_of post) s.store (accepted ballot slot command s.store) (disk_under old) (disk_under new)
-      → ((x : Standing) → IsRunning post old.running x → TakesTurn post new.running earlier later (telling_vote (place_at post) ballot slot stored x))
+      → Some stored ≡ accepted_in (answer_to_run ballot slot commands s.store)
+      → Keeps g (head_of post) (accepted_run ballot slot commands s.store) (store_of new.acceptor)
+      → LeavesDuring g (head_of post) s.store (accepted_run ballot slot commands s.store) (disk_under old) (disk_under new)
+      → ((x : Standing) → IsRunning post old.running x → TakesTurn post new.running earlier later (telling_votes (place_at post) ballot slot stored x))
       → 2 ≤ post.nodes
-      → Took g post s (voting (place_at post) ballot slot command s) old new earlier later
-  vote_took post s ballot slot command stored old new earlier later is above own accepts keeps during tells many =
-      let x : Standing = with_vote s ballot slot command in
-      let t = tells x (stored_too post old.running s (storing s.store ballot slot command) is.running) in
-      let same : stored ≡ stored_in (s.store.votes slot) ballot command = same_Some _ _ (accepts ∙ vote_accepts ballot slot command s.store above) in
+      → Took g post s (voting (place_at post) ballot slot commands s) old new earlier later
+  vote_took law post s ballot slot commands stored old new earlier later is above own accepts keeps during tells many =
+      let x : Standing = with_votes s ballot slot commands in
+      let t = tells x (stored_too post old.running s (taking_command_run s.store ballot slot commands) is.running) in
+      let same : stored ≡ command_run_at s.store ballot slot commands = same_Some _ _ (accepts ∙ vote_accepts ballot slot commands s.store above) in
       let kept = telling_keeps (place_at post) ballot slot stored x t.turn t.rule in
-      let stores : accepted ballot slot command s.store ≡ t.turn.after.store = vote_stores ballot slot command s.store above ∙ sym kept.store in
-      let promise : (storing s.store ballot slot command).promise ≡ t.turn.after.store.promise = ap (λ (st : Store). st.promise) (sym kept.store) in
-      let stands = stands_by (is_of_ballot (s.store.votes slot) ballot) s.campaign s.store ballot slot command is.stands own in
+      let stores : accepted_run ballot slot commands s.store ≡ t.turn.after.store = vote_stores ballot slot commands s.store above ∙ sym kept.store in
+      let promise : (taking_command_run s.store ballot slot commands).promise ≡ t.turn.after.store.promise = ap (λ (st : Store). st.promise) (sym kept.store) in
+      let stands = stands_by s.campaign s.store.promise (taking_command_run s.store ballot slot commands).promise ballot (law.promise s.store ballot slot commands) is.stands own in
       record {
         turn = t.turn;
-        rule = sym (ap (λ (c : Command). telling_vote (place_at post) ballot slot c x) same) ∙ t.rule;
+        rule = sym (ap (λ (cs : List Command). telling_votes (place_at post) ballot slot cs x) same) ∙ t.rule;
         now = record {
           running = t.taken.runs;
           keeps = subst (λ (st : Store). Keeps g (head_of post) st (store_of new.acceptor)) stores keeps;
@@ -268,71 +275,71 @@ module _ {D : Type 0} (g : Ghosts D) where
       }
 
   -- another command was known
-  pub vote_clashed : (post : Post) (s : Standing) (ballot : Ballot) (slot : ℕ) (command stored : Command) (old new : Up D)
+  pub vote_clashed : (post : Post) (s : Standing) (ballot : Ballot) (slot : ℕ) (commands stored : List Command) (old new : Up D)
       → IsUp g post old s → is_below ballot s.store.promise ≡ false
-      → Some stored ≡ accepted_in (answer_to_accept ballot slot command s.store)
-      → Leaves g (head_of post) s.store (accepted ballot slot command s.store) (disk_under new)
-      → LeavesDuring g (head_of post) s.store (accepted ballot slot command s.store) (disk_under old) (disk_under new)
-      → ((x : Standing) → IsRunning post old.running x → telling_vote (place_at post) ballot slot stored x ≡ Err (Conflict x.store))
-      → Clashed g post s (voting (place_at post) ballot slot command s) old new
-  vote_clashed post s ballot slot command stored old new is above accepts leaves during clashes =
-      let x : Standing = with_vote s ballot slot command in
-      let same : stored ≡ stored_in (s.store.votes slot) ballot command = same_Some _ _ (accepts ∙ vote_accepts ballot slot command s.store above) in
-      let stores = vote_stores ballot slot command s.store above in
+      → Some stored ≡ accepted_in (answer_to_run ballot slot commands s.store)
+      → Leaves g (head_of post) s.store (accepted_run ballot slot commands s.store) (disk_under new)
+      → LeavesDuring g (head_of post) s.store (accepted_run ballot slot commands s.store) (disk_under old) (disk_under new)
+      → ((x : Standing) → IsRunning post old.running x → telling_votes (place_at post) ballot slot stored x ≡ Err (Conflict x.store))
+      → Clashed g post s (voting (place_at post) ballot slot commands s) old new
+  vote_clashed post s ballot slot commands stored old new is above accepts leaves during clashes =
+      let x : Standing = with_votes s ballot slot commands in
+      let same : stored ≡ command_run_at s.store ballot slot commands = same_Some _ _ (accepts ∙ vote_accepts ballot slot commands s.store above) in
+      let stores = vote_stores ballot slot commands s.store above in
       record {
         left = x.store;
-        rule = sym (ap (λ (c : Command). telling_vote (place_at post) ballot slot c x) same) ∙ clashes x (stored_too post old.running s (storing s.store ballot slot command) is.running);
+        rule = sym (ap (λ (cs : List Command). telling_votes (place_at post) ballot slot cs x) same) ∙ clashes x (stored_too post old.running s (taking_command_run s.store ballot slot commands) is.running);
         leaves = subst (λ (st : Store). Leaves g (head_of post) s.store st (disk_under new)) stores leaves;
         moments = subst (λ (st : Store). LeavesDuring g (head_of post) s.store st (disk_under old) (disk_under new)) stores during;
       }
 
   -- the disk failed
-  pub vote_failed : (post : Post) (s : Standing) (ballot : Ballot) (slot : ℕ) (command : Command) (old new : Up D)
+  pub vote_failed : (post : Post) (s : Standing) (ballot : Ballot) (slot : ℕ) (commands : List Command) (old new : Up D)
       → is_below ballot s.store.promise ≡ false
-      → Leaves g (head_of post) s.store (accepted ballot slot command s.store) (disk_under new)
-      → LeavesDuring g (head_of post) s.store (accepted ballot slot command s.store) (disk_under old) (disk_under new)
-      → Failed g post s (voting (place_at post) ballot slot command s) old new
-  vote_failed post s ballot slot command old new above leaves during =
-      let stores = vote_stores ballot slot command s.store above in
+      → Leaves g (head_of post) s.store (accepted_run ballot slot commands s.store) (disk_under new)
+      → LeavesDuring g (head_of post) s.store (accepted_run ballot slot commands s.store) (disk_under old) (disk_under new)
+      → Failed g post s (voting (place_at post) ballot slot commands s) old new
+  vote_failed post s ballot slot commands old new above leaves during =
+      let stores = vote_stores ballot slot commands s.store above in
       record {
-        left = storing s.store ballot slot command;
-        comes = inr (telling_comes (place_at post) ballot slot (stored_in (s.store.votes slot) ballot command) (with_vote s ballot slot command) refl);
-        done = telling_done (place_at post) ballot slot (stored_in (s.store.votes slot) ballot command) (with_vote s ballot slot command);
+        left = taking_command_run s.store ballot slot commands;
+        comes = inr (telling_comes (place_at post) ballot slot (command_run_at s.store ballot slot commands) (with_votes s ballot slot commands) refl);
+        done = telling_done (place_at post) ballot slot (command_run_at s.store ballot slot commands) (with_votes s ballot slot commands);
         leaves = subst (λ (st : Store). Leaves g (head_of post) s.store st (disk_under new)) stores leaves;
         moments = subst (λ (st : Store). LeavesDuring g (head_of post) s.store st (disk_under old) (disk_under new)) stores during;
       }
 
-  -- an own vote that isn't below the promise is never refused
-  pub vote_stands : {P : Type 0} (ballot : Ballot) (slot : ℕ) (command : Command) (store : Store) (answer : AcceptAnswer) → is_below ballot store.promise ≡ false → answer ≡ answer_to_accept ballot slot command store
+  -- own votes that aren't below the promise are never refused
+  pub vote_stands : {P : Type 0} (ballot : Ballot) (slot : ℕ) (commands : List Command) (store : Store) (answer : RunAnswer) → is_below ballot store.promise ≡ false → answer ≡ answer_to_run ballot slot commands store
       → None ≡ accepted_in answer → P
-  vote_stands {P} ballot slot command store answer above given none =
-      let some : Some (stored_in (store.votes slot) ballot command) ≡ None = sym (vote_accepts ballot slot command store above) ∙ sym (ap accepted_in given) ∙ sym none in
+  vote_stands {P} ballot slot commands store answer above given none =
+      let some : Some (command_run_at store ballot slot commands) ≡ None = sym (vote_accepts ballot slot commands store above) ∙ sym (ap accepted_in given) ∙ sym none in
       absurd (cc)
 
 -- ---- a proposal of another
 
-abbrev accepting_by : Bool → Place → ℕ → Ballot → ℕ → Command → Standing → Result Turn Refusal
-accepting_by below place from ballot slot command s = if below then Ok (refusing from ballot slot s) else voting place ballot slot command (idle s)
+abbrev accepting_by : Bool → Place → ℕ → Ballot → ℕ → List Command → Standing → Result Turn Refusal
+accepting_by below place from ballot slot commands s = if below then Ok (refusing from ballot slot s) else voting place ballot slot commands (idle s)
 
-refusing_is : (below : Bool) (place : Place) (from : ℕ) (ballot : Ballot) (slot : ℕ) (command : Command) (s : Standing) → below ≡ true → accepting_by below place from ballot slot command s ≡ Ok (refusing from ballot slot s)
-refusing_is true place from ballot slot command s e = refl
-refusing_is false place from ballot slot command s e = absurd (true≢false (sym e))
+refusing_is : (below : Bool) (place : Place) (from : ℕ) (ballot : Ballot) (slot : ℕ) (commands : List Command) (s : Standing) → below ≡ true → accepting_by below place from ballot slot commands s ≡ Ok (refusing from ballot slot s)
+refusing_is true place from ballot slot commands s e = refl
+refusing_is false place from ballot slot commands s e = absurd (true≢false (sym e))
 
-voting_is : (below : Bool) (place : Place) (from : ℕ) (ballot : Ballot) (slot : ℕ) (command : Command) (s : Standing) → below ≡ false → accepting_by below place from ballot slot command s ≡ voting place ballot slot command (idle s)
-voting_is true place from ballot slot command s e = absurd (true≢false e)
-voting_is false place from ballot slot command s e = refl
+voting_is : (below : Bool) (place : Place) (from : ℕ) (ballot : Ballot) (slot : ℕ) (commands : List Command) (s : Standing) → below ≡ false → accepting_by below place from ballot slot commands s ≡ voting place ballot slot commands (idle s)
+voting_is true place from ballot slot commands s e = absurd (true≢false e)
+voting_is false place from ballot slot commands s e = refl
 
 module _ {D : Type 0} (g : Ghosts D) where
-  pub accept_refused : (post : Post) (s : Standing) (from : ℕ) (ballot promise : Ballot) (slot : ℕ) (command : Command) (up : Up D) (told : Told) (texts : List (Marked ℕ))
+  pub accept_refused : (post : Post) (s : Standing) (from : ℕ) (ballot promise : Ballot) (slot : ℕ) (commands : List Command) (up : Up D) (told : Told) (texts : List (Marked ℕ))
       → IsUp g post up s → promise ≡ s.store.promise → is_below ballot promise ≡ true
       → texts ≡ told.frames ++ map posted (one from (frame.Refuse ballot slot promise)) → AreMessages (one from (frame.Refuse ballot slot promise))
-      → Took g post s (accepting (place_at post) from ballot slot command s) up up told (told_with texts told.shown told.faults)
-  accept_refused post s from ballot promise slot command up told texts is same below sent fits =
+      → Took g post s (accepting (place_at post) from ballot slot commands s) up up told (told_with texts told.shown told.faults)
+  accept_refused post s from ballot promise slot commands up told texts is same below sent fits =
       let turn : Turn = refusing from ballot slot s in
       let b : is_below ballot s.store.promise ≡ true = ap (is_below ballot) (sym same) ∙ below in
       record {
         turn = turn;
-        rule = refusing_is (is_below ballot s.store.promise) (place_at post) from ballot slot command s b;
+        rule = refusing_is (is_below ballot s.store.promise) (place_at post) from ballot slot commands s b;
         now = is;
         told = frames_more told texts (map posted (one from (frame.Refuse ballot slot s.store.promise))) (sent ∙ ap (λ (p : Ballot). told.frames ++ map posted (one from (frame.Refuse ballot slot p))) same);
         fits = subst (λ (p : Ballot). AreMessages (one from (frame.Refuse ballot slot p))) same fits;
@@ -340,14 +347,14 @@ module _ {D : Type 0} (g : Ghosts D) where
         untouched = λ still. refl;
       }
 
-  pub accept_voted : (post : Post) (s : Standing) (from : ℕ) (ballot promise : Ballot) (slot : ℕ) (command : Command) (mid old new : Up D) (earlier later : Told) (answer : Result (Unit {0}) NodeFault)
+  pub accept_voted : (post : Post) (s : Standing) (from : ℕ) (ballot promise : Ballot) (slot : ℕ) (commands : List Command) (mid old new : Up D) (earlier later : Told) (answer : Result (Unit {0}) NodeFault)
       → disk_under mid ≡ disk_under old → promise ≡ s.store.promise → is_below ballot promise ≡ false
-      → Works g post (idle s) (voting (place_at post) ballot slot command (idle s)) mid new earlier later answer
-      → Works g post s (accepting (place_at post) from ballot slot command s) old new earlier later answer
-  accept_voted post s from ballot promise slot command mid old new earlier later answer disk same above works =
+      → Works g post (idle s) (voting (place_at post) ballot slot commands (idle s)) mid new earlier later answer
+      → Works g post s (accepting (place_at post) from ballot slot commands s) old new earlier later answer
+  accept_voted post s from ballot promise slot commands mid old new earlier later answer disk same above works =
       let b : is_below ballot s.store.promise ≡ false = ap (is_below ballot) (sym same) ∙ above in
       works_from g post s (idle s) _ mid old new earlier later answer refl disk
-      (subst (λ (o : Result Turn Refusal). Works g post (idle s) o mid new earlier later answer) (sym (voting_is (is_below ballot s.store.promise) (place_at post) from ballot slot command s b)) works)
+      (subst (λ (o : Result Turn Refusal). Works g post (idle s) o mid new earlier later answer) (sym (voting_is (is_below ballot s.store.promise) (place_at post) from ballot slot commands s b)) works)
 
 -- ---- proposals
 
@@ -363,12 +370,12 @@ not_below ballot promise e = ap (λ (b : Ballot). is_below b promise) e ∙ belo
 module _ {D : Type 0} (g : Ghosts D) where
   pub propose_works : (post : Post) (s : Standing) (made : Accept) (old new : Up D) (told later : Told) (texts : List (Marked ℕ)) (answer : Result (Unit {0}) NodeFault)
       → IsUp g post old s → made.ballot ≡ s.store.promise
-      → texts ≡ told.frames ++ map posted (to_others (place_at post) (frame.Accept made.ballot made.slot made.command)) → AreMessages (to_others (place_at post) (frame.Accept made.ballot made.slot made.command))
+      → texts ≡ told.frames ++ map posted (to_others (place_at post) (frame.Accept made.ballot made.slot (made.command ∷ []))) → AreMessages (to_others (place_at post) (frame.Accept made.ballot made.slot (made.command ∷ [])))
       → (is_below made.ballot s.store.promise ≡ false → IfSome s.campaign (λ c. c.ballot ≡ made.ballot)
-      → Works g post s (voting (place_at post) made.ballot made.slot made.command s) old new (told_with texts told.shown told.faults) later answer)
-      → Works g post s (proposing (place_at post) made s) old new told later answer
+      → Works g post s (voting (place_at post) made.ballot made.slot (made.command ∷ []) s) old new (told_with texts told.shown told.faults) later answer)
+      → Works g post s (proposed_by (place_at post) (Some made) s) old new told later answer
   propose_works post s made old new told later texts answer is own sent fits votes =
-      let frames : List Frame = to_others (place_at post) (frame.Accept made.ballot made.slot made.command) in
+      let frames : List Frame = to_others (place_at post) (frame.Accept made.ballot made.slot (made.command ∷ [])) in
       let turn : Turn = sending frames s in
       let first : Took g post s (Ok turn) old old told (told_with texts told.shown told.faults) = record {
         turn = turn;
@@ -379,7 +386,7 @@ module _ {D : Type 0} (g : Ghosts D) where
         moments = λ t image was. inl was;
         untouched = λ still. refl;
       } in
-      then_works g post s (voting (place_at post) made.ballot made.slot made.command) (Ok turn) old old new told (told_with texts told.shown told.faults) later answer first (inl refl)
+      then_works g post s (voting (place_at post) made.ballot made.slot (made.command ∷ [])) (Ok turn) old old new told (told_with texts told.shown told.faults) later answer first (inl refl)
       (votes (not_below made.ballot s.store.promise own) (subst (λ (b : Ballot). IfSome s.campaign (λ c. c.ballot ≡ b)) (sym own) is.stands))
 
   marked_up : (post : Post) (s marked : Standing) (old : Up D) (running : Running) → IsUp g post old s → IsRunning post running marked → marked ≡ record s { campaign = marked.campaign }
@@ -396,7 +403,7 @@ module _ {D : Type 0} (g : Ghosts D) where
   pub close_works : (post : Post) (s : Standing) (made : Accept) (old new : Up D) (running : Running) (told later : Told) (answer : Result (Unit {0}) NodeFault)
       → IsUp g post old s → (closes : Closes post running s (Some made))
       → (IsUp g post (record old { running = running }) closes.marked → made.ballot ≡ closes.marked.store.promise
-      → Works g post closes.marked (proposing (place_at post) made closes.marked) (record old { running = running }) new told later answer)
+      → Works g post closes.marked (proposed_by (place_at post) (Some made) closes.marked) (record old { running = running }) new told later answer)
       → Works g post s (closing (place_at post) s) old new told later answer
   close_works post s made old new running told later answer is closes proposes =
       let store : s.store ≡ closes.marked.store = sym (ap (λ (x : Standing). x.store) closes.rest) in

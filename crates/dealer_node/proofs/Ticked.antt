@@ -14,7 +14,8 @@ use Rattle.proposer.specs.declared.accept.Accept.{Accept}
 use Rattle.proposer.specs.declared.campaign.Campaign.{Campaign}
 use Rattle.proposer.specs.declared.fault.ProposeFault.{ProposeFault}
 use Rattle.paxos_wire.specs.Order.{is_below}
-use Rattle.proposer.specs.Campaigns.{next_ballot, new_campaign, is_counted, has_quorum, is_covered, is_proposed, accept_of, value_of, greatest_told, with_mark}
+use Rattle.proposer.specs.Campaigns.{next_ballot, new_campaign, is_counted, has_quorum, is_covered, is_proposed, accept_of, value_of, greatest_told}
+use Rattle.proposer.specs.CommandRuns.{run_of_one, with_marks}
 use Rattle.proposer.specs.declared.fault.ProposeFault.TheVariants.{OutOfWindow}
 use Rattle.proposer.proofs.Alone.{one_promise_leads_not}
 use Rattle.acceptor.specs.declared.answers.PrepareAnswer.{PrepareAnswer}
@@ -41,8 +42,8 @@ use Rattle.dealer_node.proofs.Stored.{answered_prepare, prepared_by}
 -- ---- one promise is no quorum, so the close of a call that began a ballot does nothing
 
 unled_by : (place : Place) (s : Standing) (campaign : Campaign) (quorum full : Bool) (rest : Result (Option Accept) ProposeFault) → s.campaign ≡ Some campaign → quorum ≡ false
-    → (let after : Standing = record s { campaign = Some (with_mark campaign (if not quorum then Ok None else rest)) } in
-    if quorum && full then Ok (still (idle s)) else closing_by place (if not quorum then Ok None else rest) after) ≡ Ok (still s)
+    → (let after : Standing = record s { campaign = Some (with_marks campaign (run_of_one (if not quorum then Ok None else rest))) } in
+    if quorum && full then Ok (still (idle s)) else closing_by place (run_of_one (if not quorum then Ok None else rest)) after) ≡ Ok (still s)
 unled_by place s campaign true full rest is e = absurd (true≢false e)
 unled_by place s campaign false full rest is e = ap (λ (c : Option Campaign). Ok (still (record s { campaign = c }))) (sym is)
 

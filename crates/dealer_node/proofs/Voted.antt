@@ -1,4 +1,4 @@
--- What a node tells of its own vote, as it stands among what a call makes.
+-- What a node tells of its own votes, as it stands among what a call makes.
 use Rattle.std.proofs.Common.{◌≡◌, ℕ, List, ◌++◌, ap, sym, subst, ◌∙◌}
 use Rattle.std.specs.Prelude.{map}
 use Rattle.paxos_wire.specs.declared.ballot.Ballot.{Ballot}
@@ -8,7 +8,7 @@ use Rattle.slot_log.specs.declared.command.Command.{Command}
 use Rattle.node_rules.specs.Standings.{Standing}
 use Rattle.node_rules.specs.Sending.{Frame, to_first, to_others}
 use Rattle.node_rules.specs.Turns.{Turn, sending, behind, joined}
-use Rattle.node_rules.specs.Learning.{counting_vote}
+use Rattle.node_rules.specs.Learning.{counting_votes}
 use Rattle.dealer_node.specs.declared.running.Running.{Running}
 use Rattle.dealer_node.specs.Texts.{Marked}
 use Rattle.dealer_node.specs.Posts.{Post, place_at}
@@ -16,7 +16,7 @@ use Rattle.dealer_node.specs.Outs.{Told}
 use Rattle.dealer_node.specs.Turned.{posted}
 use Rattle.dealer_node.specs.Fitting.{AreMessages}
 use Rattle.dealer_node.specs.Running.{IsRunning, TakesTurn}
-use Rattle.dealer_node.specs.Voting.{telling_vote}
+use Rattle.dealer_node.specs.Voting.{telling_votes}
 use Rattle.dealer_node.proofs.Telling.{told_with}
 use Rattle.dealer_node.proofs.Learned.{sent_taken, taken_behind}
 
@@ -26,15 +26,15 @@ messages_to nodes node n i message a b are =
     let Q : ℕ → Type 0 = λ k. AreMessages (to_first nodes k message) in
     subst Q b (subst P a are)
 
-pub vote_told : (post : Post) (old new : Running) (node : ℕ) (ballot : Ballot) (slot : ℕ) (command : Command) (told later : Told) (texts : List (Marked ℕ)) (s : Standing)
-    → IsRunning post old s → node ≡ post.node → texts ≡ told.frames ++ map posted (to_others (place_at post) (Accepted ballot slot command)) → AreMessages (to_others (place_at post) (Accepted ballot slot command))
-    → TakesTurn post new (told_with texts told.shown told.faults) later (counting_vote (place_at post) node ballot slot command s)
-    → TakesTurn post new told later (telling_vote (place_at post) ballot slot command s)
-vote_told post old new node ballot slot command told later texts s is own e are t =
-    let frames : List Frame = to_others (place_at post) (Accepted ballot slot command) in
+pub votes_told : (post : Post) (old new : Running) (node : ℕ) (ballot : Ballot) (slot : ℕ) (commands : List Command) (told later : Told) (texts : List (Marked ℕ)) (s : Standing)
+    → IsRunning post old s → node ≡ post.node → texts ≡ told.frames ++ map posted (to_others (place_at post) (Accepted ballot slot commands)) → AreMessages (to_others (place_at post) (Accepted ballot slot commands))
+    → TakesTurn post new (told_with texts told.shown told.faults) later (counting_votes (place_at post) node ballot slot commands s)
+    → TakesTurn post new told later (telling_votes (place_at post) ballot slot commands s)
+votes_told post old new node ballot slot commands told later texts s is own e are t =
+    let frames : List Frame = to_others (place_at post) (Accepted ballot slot commands) in
     let sent : Turn = sending frames s in
     record {
       turn = joined sent t.turn;
-      rule = ap (behind sent) (sym (ap (λ i. counting_vote (place_at post) i ballot slot command s) own) ∙ t.rule);
+      rule = ap (behind sent) (sym (ap (λ i. counting_votes (place_at post) i ballot slot commands s) own) ∙ t.rule);
       taken = taken_behind post old new told (told_with texts told.shown told.faults) later sent t.turn (sent_taken post old s told texts frames is e are) t.taken;
     }

@@ -1,7 +1,7 @@
 -- No more is made than was needed.
-use Rattle.std.proofs.Common.{◌≡◌, ℕ, ◌*◌, arith, ap, length, vec_len}
+use Rattle.std.proofs.Common.{◌≡◌, ℕ, ◌+◌, ◌*◌, arith, ap, length, vec_len}
 use Rattle.paxos_wire.specs.declared.limits.TheConstants.{MOST_SINGLE_FRAME}
-use Rattle.dealer_node.specs.declared.limits.TheConstants.{FRAMES_OF_A_CLOSE, COMMANDS_OF_A_CALL, FRAMES_OF_A_MESSAGE}
+use Rattle.dealer_node.specs.declared.limits.TheConstants.{FRAMES_TO_ALL, FRAMES_OF_A_CLOSE, ANSWERS_OF_A_CALL, FRAMES_OF_A_MESSAGE}
 use Rattle.dealer_node.specs.declared.running.Running.{Running}
 use Rattle.dealer_node.specs.declared.made.Made.{Made}
 use Rattle.dealer_node.specs.declared.made.Need.{Need}
@@ -9,13 +9,13 @@ use Rattle.dealer_node.specs.declared.up.Up.{Up}
 use Rattle.dealer_node.specs.Texts.{byte_total}
 use Rattle.dealer_node.specs.Outs.{Told, told_by, nothing_told}
 use Rattle.dealer_node.specs.Rooms.{Grows, Tells}
-use Rattle.dealer_node.specs.Running.{ahead_of, learner_room}
+use Rattle.dealer_node.specs.Running.{ahead_of}
 use Rattle.dealer_node.specs.Working.{HasLeft}
 use Rattle.dealer_node.specs.Handling.{IsWithin}
 use Rattle.dealer_node.specs.Calling.{need_of, close_need, away_need, line_need, frame_need, HasCallRoom}
 
 -- what is left was needed
-pub left_within : (running : Running) (made : Made) (need : Need) → HasLeft running made need 0 0 → IsWithin made need
+pub left_within : (running : Running) (made : Made) (need : Need) → HasLeft running made need 0 0 0 → IsWithin made need
 left_within running made need left = record {
   frames = omega (arith, left.frames_made);
   frame_bytes = omega (arith, left.bytes_made);
@@ -41,11 +41,12 @@ no_faults : (made : Made) → told_by made ≡ nothing_told → vec_len made.fau
 no_faults made nothing = let none : length made.faults.items ≡ 0 = ap (λ (t : Told). length t.faults) nothing in omega (arith, none, made.faults.ok.0)
 
 module _ {D : Type 0} where
-  call_left : (up : Up D) (made : Made) (votes frames : ℕ) → told_by made ≡ nothing_told → HasCallRoom up made (need_of up.running votes frames) votes
-      → HasLeft up.running made (need_of up.running votes frames) votes frames
-  call_left up made votes frames nothing room = record {
+  call_left : (up : Up D) (made : Made) (answers commands frames : ℕ) → told_by made ≡ nothing_told → HasCallRoom up made (need_of up.running commands frames) answers commands
+      → HasLeft up.running made (need_of up.running commands frames) answers commands frames
+  call_left up made answers commands frames nothing room = record {
     learn = record {
-      learner = room.learner;
+      counted = room.counted;
+      known = room.known;
       table = room.table;
       texts = omega (arith, room.shown.texts);
       bytes = omega (arith, room.shown.text_bytes);
@@ -59,19 +60,21 @@ module _ {D : Type 0} where
     faults_told = omega (arith, no_faults made nothing);
   }
 
-  pub close_left : (up : Up D) (made : Made) → told_by made ≡ nothing_told → HasCallRoom up made (close_need up.running) 1 → HasLeft up.running made (close_need up.running) 1 FRAMES_OF_A_CLOSE
-  close_left up made nothing room = call_left up made 1 FRAMES_OF_A_CLOSE nothing room
+  pub close_left : (up : Up D) (made : Made) → told_by made ≡ nothing_told → HasCallRoom up made (close_need up.running) 1 1 → HasLeft up.running made (close_need up.running) 1 1 FRAMES_OF_A_CLOSE
+  close_left up made nothing room = call_left up made 1 1 FRAMES_OF_A_CLOSE nothing room
 
-  pub frame_left : (up : Up D) (made : Made) → told_by made ≡ nothing_told → HasCallRoom up made (frame_need up.running) COMMANDS_OF_A_CALL → HasLeft up.running made (frame_need up.running) COMMANDS_OF_A_CALL FRAMES_OF_A_MESSAGE
-  frame_left up made nothing room = call_left up made COMMANDS_OF_A_CALL FRAMES_OF_A_MESSAGE nothing room
+  pub frame_left : (up : Up D) (made : Made) (commands : ℕ) → told_by made ≡ nothing_told → HasCallRoom up made (frame_need up.running commands) ANSWERS_OF_A_CALL (commands + 1)
+      → HasLeft up.running made (frame_need up.running commands) ANSWERS_OF_A_CALL (commands + 1) (FRAMES_OF_A_MESSAGE + FRAMES_TO_ALL * commands)
+  frame_left up made commands nothing room = call_left up made ANSWERS_OF_A_CALL (commands + 1) (FRAMES_OF_A_MESSAGE + FRAMES_TO_ALL * commands) nothing room
 
   -- once what was ordered goes on
-  pub away_left : (up after : Up D) (earlier later : Made) → told_by earlier ≡ nothing_told → HasCallRoom up earlier (away_need up.running) 1
+  pub away_left : (up after : Up D) (earlier later : Made) → told_by earlier ≡ nothing_told → HasCallRoom up earlier (away_need up.running) 1 1
       → Grows earlier.frames later.frames 1 MOST_SINGLE_FRAME → later ≡ record earlier { frames = later.frames }
       → after ≡ record up { running = record up.running { pending = after.running.pending } }
-      → HasLeft after.running later (away_need up.running) 1 FRAMES_OF_A_CLOSE
+      → HasLeft after.running later (away_need up.running) 1 1 FRAMES_OF_A_CLOSE
   away_left up after earlier later nothing room frames others rest =
-      let learner : learner_room after.running.learner ≡ learner_room up.running.learner = ap (λ (u : Up D). learner_room u.running.learner) rest in
+      let answers : after.running.learner.answers ≡ up.running.learner.answers = ap (λ (u : Up D). u.running.learner.answers) rest in
+      let commands : after.running.learner.commands ≡ up.running.learner.commands = ap (λ (u : Up D). u.running.learner.commands) rest in
       let table : after.running.table.room ≡ up.running.table.room = ap (λ (u : Up D). u.running.table.room) rest in
       let ahead : ahead_of after.running ≡ ahead_of up.running = ap (λ (u : Up D). ahead_of u.running) rest in
       let text_room : later.shown.text_room ≡ earlier.shown.text_room = ap (λ (m : Made). m.shown.text_room) others in
@@ -81,7 +84,8 @@ module _ {D : Type 0} where
       let faults : vec_len later.faults ≡ vec_len earlier.faults = ap (λ (m : Made). vec_len m.faults) others in
       record {
         learn = record {
-          learner = omega (arith, learner, room.learner);
+          counted = omega (arith, answers, room.counted);
+          known = omega (arith, commands, room.known);
           table = omega (arith, table, ahead, room.table);
           texts = omega (arith, ahead, room.shown.texts, text_room);
           bytes = omega (arith, ahead, room.shown.text_bytes, byte_room);
@@ -96,17 +100,19 @@ module _ {D : Type 0} where
       }
 
   -- once the piece was heard
-  pub line_left : (up after : Up D) (earlier later : Made) (limit : ℕ) → told_by earlier ≡ nothing_told → HasCallRoom up earlier (line_need up.running limit) 1
+  pub line_left : (up after : Up D) (earlier later : Made) (limit : ℕ) → told_by earlier ≡ nothing_told → HasCallRoom up earlier (line_need up.running limit) 1 1
       → Grows earlier.frames later.frames limit (MOST_SINGLE_FRAME * limit) → Grows earlier.shown later.shown 1 4096 → Tells earlier later limit
       → after ≡ record up { running = record up.running { pending = after.running.pending; seats = after.running.seats } }
-      → HasLeft after.running later (line_need up.running limit) 1 FRAMES_OF_A_CLOSE
+      → HasLeft after.running later (line_need up.running limit) 1 1 FRAMES_OF_A_CLOSE
   line_left up after earlier later limit nothing room frames shown faults rest =
-      let learner : learner_room after.running.learner ≡ learner_room up.running.learner = ap (λ (u : Up D). learner_room u.running.learner) rest in
+      let answers : after.running.learner.answers ≡ up.running.learner.answers = ap (λ (u : Up D). u.running.learner.answers) rest in
+      let commands : after.running.learner.commands ≡ up.running.learner.commands = ap (λ (u : Up D). u.running.learner.commands) rest in
       let table : after.running.table.room ≡ up.running.table.room = ap (λ (u : Up D). u.running.table.room) rest in
       let ahead : ahead_of after.running ≡ ahead_of up.running = ap (λ (u : Up D). ahead_of u.running) rest in
       record {
         learn = record {
-          learner = omega (arith, learner, room.learner);
+          counted = omega (arith, answers, room.counted);
+          known = omega (arith, commands, room.known);
           table = omega (arith, table, ahead, room.table);
           texts = omega (arith, ahead, room.shown.texts, shown.text_room);
           bytes = omega (arith, ahead, room.shown.text_bytes, shown.byte_room);

@@ -1,12 +1,14 @@
 -- What a whole call needs and makes of a node that runs.
-use Rattle.std.specs.Prelude.{◌≡◌, ◌⊎◌, ℕ, ◌+◌, ◌*◌, ◌≤◌, Result, Err}
+use Rattle.std.specs.Prelude.{◌≡◌, ◌⊎◌, ℕ, ◌+◌, ◌*◌, ◌≤◌, length, Result, Err}
 use Rattle.paxos_wire.specs.declared.limits.TheConstants.{MOST_SINGLE_FRAME}
+use Rattle.paxos_wire.specs.declared.message.Message.{Message}
+use Rattle.paxos_wire.specs.declared.message.Message.TheVariants as message
 use Rattle.promise_store.specs.declared.disk.Disk.{Ghosts}
 use Rattle.node_rules.specs.Standings.{Standing}
 use Rattle.node_rules.specs.Turns.{Turn, Refusal}
 use Rattle.node_rules.specs.Calls.{Call}
 use Rattle.node_rules.specs.Rules.{IsTurnUp}
-use Rattle.dealer_node.specs.declared.limits.TheConstants.{FRAMES_OF_A_CLOSE, COMMANDS_OF_A_CALL, FRAMES_OF_A_MESSAGE}
+use Rattle.dealer_node.specs.declared.limits.TheConstants.{FRAMES_TO_ALL, FRAMES_OF_A_CLOSE, FRAMES_OF_A_MESSAGE}
 use Rattle.dealer_node.specs.declared.up.Up.{Up}
 use Rattle.dealer_node.specs.declared.running.Running.{Running}
 use Rattle.dealer_node.specs.declared.made.Made.{Made}
@@ -15,7 +17,7 @@ use Rattle.dealer_node.specs.declared.fault.NodeFault.{NodeFault}
 use Rattle.dealer_node.specs.declared.fault.NodeFault.TheVariants as fault
 use Rattle.dealer_node.specs.Outs.{Told, HasRoom}
 use Rattle.dealer_node.specs.Posts.{Post, place_at}
-use Rattle.dealer_node.specs.Running.{ahead_of, learner_room}
+use Rattle.dealer_node.specs.Running.{ahead_of}
 use Rattle.dealer_node.specs.Working.{disk_under, store_room, IsUp}
 use Rattle.dealer_node.specs.Handling.{Stays, Handles}
 
@@ -47,15 +49,28 @@ line_need running limit = record {
   faults = limit;
 }
 
--- what a message of another node makes at most: what it is answered with, what the close makes, and a question
-abbrev pub frame_need : Running → Need
-frame_need running = need_of running COMMANDS_OF_A_CALL FRAMES_OF_A_MESSAGE
+-- how many commands a message has that may be voted for or learned: those that it asks to accept, or tells to be accepted, and else one
+abbrev pub commands_in : Message → ℕ
+commands_in (message.Prepare ballot slot) = 1
+commands_in (message.Promise ballot slot entries) = 1
+commands_in (message.Refuse ballot slot promised) = 1
+commands_in (message.Accept ballot slot commands) = length commands
+commands_in (message.Accepted ballot slot commands) = length commands
+commands_in (message.Chosen slot command) = 1
+commands_in (message.Ask slot) = 1
+commands_in (message.Forward command) = 1
+
+-- what a message of another node makes at most that has so many: what it is answered with, a vote for each of them, what the close makes, and a
+-- question
+abbrev pub frame_need : Running → ℕ → Need
+frame_need running commands = need_of running (commands + 1) (FRAMES_OF_A_MESSAGE + FRAMES_TO_ALL * commands)
 
 module _ {D : Type 0} where
-  -- there is room for so much, to learn of so many commands, and to store as many votes
-  pub record HasCallRoom (up : Up D) (made : Made) (need : Need) (commands : ℕ) : Type 0 where
+  -- there is room for so much, to count so many answers with so many commands in all, and to store as many votes
+  pub record HasCallRoom (up : Up D) (made : Made) (need : Need) (answers commands : ℕ) : Type 0 where
     pub shown : HasRoom made need
-    pub learner : commands ≤ learner_room up.running.learner
+    pub counted : answers ≤ up.running.learner.answers
+    pub known : commands ≤ up.running.learner.commands
     pub table : ahead_of up.running + commands ≤ up.running.table.room
     pub store : commands ≤ store_room up
 

@@ -15,8 +15,8 @@ abbrev pub IsOfMemory : Message → Type 0
 IsOfMemory (frame.Prepare ballot slot) = ⊥
 IsOfMemory (frame.Promise ballot slot entries) = Unit {0}
 IsOfMemory (frame.Refuse ballot slot promised) = Unit {0}
-IsOfMemory (frame.Accept ballot slot command) = ⊥
-IsOfMemory (frame.Accepted ballot slot command) = Unit {0}
+IsOfMemory (frame.Accept ballot slot commands) = ⊥
+IsOfMemory (frame.Accepted ballot slot commands) = Unit {0}
 IsOfMemory (frame.Chosen slot command) = Unit {0}
 IsOfMemory (frame.Ask slot) = Unit {0}
 IsOfMemory (frame.Forward command) = Unit {0}

@@ -8,9 +8,9 @@ use Rattle.dealer_node.specs.Texts.{Marked, byte_total}
 use Rattle.dealer_node.specs.Outs.{Told}
 use Rattle.dealer_node.specs.Running.{ahead_of}
 
--- where so many commands are known beyond the front: a line of a seat that got ready; and of each of them, and of two that are learned, a line for each of ten seats and what the log gets
+-- where so many commands are known beyond the front: a line of a seat that got ready; and of each of them, and of 65 that are learned, a line for each of ten seats and what the log gets
 abbrev pub most_after : ℕ → MostShown
-most_after ahead = record { pieces = 1 + 11 * (ahead + 2); bytes = 4096 + 45716 * (ahead + 2) }
+most_after ahead = record { pieces = 1 + 11 * (ahead + 65); bytes = 4096 + 45716 * (ahead + 65) }
 
 module _ {D : Type 0} where
   -- how many commands are known beyond the front; none by a node that is down

@@ -1,12 +1,11 @@
 -- What runs at a node, as the rules see it.
-use Rattle.std.specs.Prelude.{◌≡◌, ℕ, ◌+◌, ◌-◌, ◌*◌, ◌^◌, ◌≤◌, ◌==◌, ◌||◌, Bool, true, nat_le, min, length, List, ◌++◌, Option, Some, None, IfSome, Result, Ok}
+use Rattle.std.specs.Prelude.{◌≡◌, ℕ, ◌+◌, ◌-◌, ◌*◌, ◌^◌, ◌≤◌, ◌==◌, ◌||◌, Bool, true, nat_le, length, List, [], ◌∷◌, ◌++◌, Option, Some, None, IfSome, Result, Ok}
 use Rattle.std.specs.List.{AllByRecursion}
 use Rattle.paxos_wire.specs.declared.limits.TheConstants.{SLOTS}
 use Rattle.paxos_wire.specs.declared.ballot.Ballot.{Ballot}
 use Rattle.paxos_wire.specs.Fits.{IsBallot, IsEntry, IsInRange}
 use Rattle.slot_log.specs.Slots.{Log, front, known_at}
 use Rattle.slot_log.specs.declared.command.Command.{Command}
-use Rattle.learner.specs.Learning.{Learning}
 use Rattle.proposer.specs.declared.accept.Accept.{Accept}
 use Rattle.proposer.specs.declared.campaign.Campaign.{Campaign}
 use Rattle.proposer.specs.Campaigns.{promise_by}
@@ -57,10 +56,10 @@ pub record TakesPiece (post : Post) (running : Running) (earlier later : Told) (
 
 -- ---- the close
 
--- what is left of the close of a call, once this was proposed or nothing
+-- what is left of the close of a call, once this was proposed, as a command run of one, or nothing
 abbrev pub proposed_by : Place → Option Accept → Standing → Result Turn Refusal
 proposed_by place None s = Ok (still s)
-proposed_by place (Some made) s = proposing place made s
+proposed_by place (Some made) s = proposing place (record { ballot = made.ballot; slot = made.slot; commands = made.command ∷ [] }) s
 
 -- the close comes to proposing this; its campaign alone may have changed
 pub record Closes (post : Post) (running : Running) (s : Standing) (made : Option Accept) : Type 0 where
@@ -87,12 +86,12 @@ pub record IsCampaign (campaign : Campaign) : Type 0 where
 abbrev pub AreInRange : Log → Type 0
 AreInRange log = (slot : ℕ) (command : Command) → known_at log slot ≡ Some command → IsInRange command
 
--- the log went on: what lay below its front does still, and one command more is known at most
-pub record GoesOn (old new : Log) : Type 0 where
+-- the log went on: what lay below its front does still, and so many commands more are known at most
+pub record GoesOn (old new : Log) (commands : ℕ) : Type 0 where
   pub later : List Command
   pub below : new.below ≡ later ++ old.below
   pub fronts : front old ≤ front new
-  pub count : front new + length new.beyond ≤ front old + length old.beyond + 1
+  pub count : front new + length new.beyond ≤ front old + length old.beyond + commands
 
 -- it runs at this post, and all that it may send has its numbers within their ranges
 pub record IsAt (post : Post) (running : Running) : Type 0 where
@@ -108,24 +107,22 @@ pub record IsAt (post : Post) (running : Running) : Type 0 where
 
 -- ---- room
 
--- for how many further messages with one command each a learner has room
-abbrev pub learner_room : Learning → ℕ
-learner_room learning = min learning.answers learning.commands
-
 -- how many commands are known beyond the front
 abbrev pub ahead_of : Running → ℕ
 ahead_of running = length running.learner.learned.log.beyond
 
--- there is room to learn of so many commands more, and to apply them and all that are known beyond the front
-pub record CanLearn (running : Running) (made : Made) (commands : ℕ) : Type 0 where
-  pub learner : commands ≤ learner_room running.learner
+-- there is room to count so many answers more, which have so many commands in all, and to apply these and all that are known beyond the front
+pub record CanLearn (running : Running) (made : Made) (answers commands : ℕ) : Type 0 where
+  pub counted : answers ≤ running.learner.answers
+  pub known : commands ≤ running.learner.commands
   pub table : ahead_of running + commands ≤ running.table.room
   pub texts : 11 * (ahead_of running + commands) ≤ made.shown.text_room
   pub bytes : 45716 * (ahead_of running + commands) ≤ made.shown.byte_room
 
--- one command more was learned at most, and those that were applied are no longer known beyond the front
-pub record Learns (old new : Running) (earlier later : Made) : Type 0 where
-  pub learner : learner_room old.learner ≤ learner_room new.learner + 1
-  pub ahead : ahead_of new ≤ ahead_of old + 1
-  pub table : old.table.room + ahead_of new ≤ new.table.room + ahead_of old + 1
-  pub shown : Grows earlier.shown later.shown (11 * (ahead_of old + 1 - ahead_of new)) (45716 * (ahead_of old + 1 - ahead_of new))
+-- one answer at most was counted, so many commands more were learned at most, and those that were applied are no longer known beyond the front
+pub record Learns (commands : ℕ) (old new : Running) (earlier later : Made) : Type 0 where
+  pub counted : old.learner.answers ≤ new.learner.answers + 1
+  pub known : old.learner.commands ≤ new.learner.commands + commands
+  pub ahead : ahead_of new ≤ ahead_of old + commands
+  pub table : old.table.room + ahead_of new ≤ new.table.room + ahead_of old + commands
+  pub shown : Grows earlier.shown later.shown (11 * (ahead_of old + commands - ahead_of new)) (45716 * (ahead_of old + commands - ahead_of new))

@@ -1,13 +1,13 @@
--- What a node tells of its own vote.
-use Rattle.std.specs.Prelude.{ℕ, Result, Ok}
+-- What a node tells of its own votes.
+use Rattle.std.specs.Prelude.{ℕ, List, Result, Ok}
 use Rattle.paxos_wire.specs.declared.ballot.Ballot.{Ballot}
 use Rattle.paxos_wire.specs.declared.message.Message.TheVariants.{Accepted}
 use Rattle.slot_log.specs.declared.command.Command.{Command}
 use Rattle.node_rules.specs.Standings.{Place, Standing}
 use Rattle.node_rules.specs.Sending.{to_others}
 use Rattle.node_rules.specs.Turns.{Turn, Refusal, sending, and_then}
-use Rattle.node_rules.specs.Learning.{counting_vote}
+use Rattle.node_rules.specs.Learning.{counting_votes}
 
--- a vote that is stored is told to the others, and counted as that of any other node
-abbrev pub telling_vote : Place → Ballot → ℕ → Command → Standing → Result Turn Refusal
-telling_vote place ballot slot command s = and_then (Ok (sending (to_others place (Accepted ballot slot command)) s)) (counting_vote place place.node ballot slot command)
+-- votes that are stored are told to the others, and counted as those of any other node
+abbrev pub telling_votes : Place → Ballot → ℕ → List Command → Standing → Result Turn Refusal
+telling_votes place ballot slot commands s = and_then (Ok (sending (to_others place (Accepted ballot slot commands)) s)) (counting_votes place place.node ballot slot commands)

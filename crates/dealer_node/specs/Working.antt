@@ -52,7 +52,7 @@ IsDone (Err other) = ⊥
 abbrev pub TellsNoStore : Message → Type 0
 TellsNoStore (frame.Prepare ballot slot) = ⊥
 TellsNoStore (frame.Promise ballot slot entries) = ⊥
-TellsNoStore (frame.Accepted ballot slot command) = ⊥
+TellsNoStore (frame.Accepted ballot slot commands) = ⊥
 TellsNoStore other = Unit {0}
 
 abbrev pub AreStill : List Frame → Type 0
@@ -124,13 +124,14 @@ module _ {D : Type 0} (g : Ghosts D) where
 
 -- ---- room
 
--- there is room for so many votes and frames more of one command each, and no more was made than was needed
-pub record HasLeft (running : Running) (made : Made) (need : Need) (votes frames : ℕ) : Type 0 where
-  pub learn : CanLearn running made votes
+-- there is room for so many answers more with so many commands in all, and for so many frames of one command each, as which a frame of several
+-- counts for each; and no more was made than was needed
+pub record HasLeft (running : Running) (made : Made) (need : Need) (answers commands frames : ℕ) : Type 0 where
+  pub learn : CanLearn running made answers commands
   pub texts : frames ≤ made.frames.text_room
   pub bytes : MOST_SINGLE_FRAME * frames ≤ made.frames.byte_room
   pub frames_made : length made.frames.texts + frames ≤ need.frames
   pub bytes_made : byte_total made.frames.texts + MOST_SINGLE_FRAME * frames ≤ need.frame_bytes
-  pub texts_shown : length made.shown.texts + 11 * (ahead_of running + votes) ≤ need.texts
-  pub bytes_shown : byte_total made.shown.texts + 45716 * (ahead_of running + votes) ≤ need.text_bytes
+  pub texts_shown : length made.shown.texts + 11 * (ahead_of running + commands) ≤ need.texts
+  pub bytes_shown : byte_total made.shown.texts + 45716 * (ahead_of running + commands) ≤ need.text_bytes
   pub faults_told : vec_len made.faults ≤ need.faults

@@ -1,16 +1,16 @@
-ghost use Rattle.std.specs.Prelude.{◌≡◌, ◌+◌, ◌≤◌, ◌++◌, map};
+ghost use Rattle.std.specs.Prelude.{◌≡◌, ◌+◌, ◌≤◌, ◌++◌, map, option_map};
 ghost use Rattle.paxos_wire.specs.Fits.{Fits, IsBallot, IsSlot, AreEntries};
 ghost use Rattle.paxos_wire.specs.declared.limits.TheConstants.{MOST_FRAME, MOST_SINGLE_FRAME};
 ghost use Rattle.paxos_wire.specs.declared.message.Message.TheVariants.{Promise as Promising, Refuse as Refusing};
 ghost use Rattle.node_rules.specs.Sending.{one};
 ghost use Rattle.dealer_node.specs.Rooms.{Grows};
 ghost use Rattle.dealer_node.specs.Turned.{posted};
-ghost use Rattle.dealer_node.specs.Answering.{message_of, is_promise, accepted_in, FitsRefusal, refusals_to};
+ghost use Rattle.dealer_node.specs.Answering.{message_of, is_promise, accepted_in};
 ghost use Rattle.dealer_node.specs.Fitting.{AreMessages};
 
 use crate::sending::send;
 use crate::texts::Texts;
-use acceptor::{AcceptAnswer, PrepareAnswer};
+use acceptor::{PrepareAnswer, RunAnswer};
 use paxos_wire::{Ballot, Entries, Message, frame_len};
 use slot_log::Command;
 
@@ -96,31 +96,12 @@ pub(crate) fn send_prepare_answer(frames: &mut Texts<u8>, to: u8, answer: &Prepa
     }
 }
 
-/// The command that the acceptor accepted; none where it refuses.
-pub(crate) fn accepted_command(answer: &AcceptAnswer) -> Option<Command>
-    ensures { result ≡ accepted_in answer.now }
+/// The commands that the acceptor accepted; none where it refuses.
+pub(crate) fn accepted_commands<'a>(answer: &RunAnswer<'a>) -> Option<&'a [Command]>
+    ensures { option_map (λ commands. commands.now) result ≡ accepted_in answer.now }
 {
     match answer {
-        AcceptAnswer::Accepted { command, .. } => Some(*command),
-        AcceptAnswer::Refuse { .. } => None,
-    }
-}
-
-/// Sends a node that the acceptor refuses its proposal, where it does.
-pub(crate) fn send_accept_refusal(frames: &mut Texts<u8>, to: u8, answer: &AcceptAnswer)
-    requires fits { FitsRefusal answer.now }
-    requires texts { 1 ≤ frames.old.text_room }
-    requires bytes { MOST_SINGLE_FRAME ≤ frames.old.byte_room }
-    ensures texts { frames.new.texts ≡ frames.old.texts ++ map posted (refusals_to to answer.now) }
-    ensures grows { Grows frames.old frames.new 1 MOST_SINGLE_FRAME }
-    ensures fits { AreMessages (refusals_to to answer.now) }
-{
-    match answer {
-        AcceptAnswer::Accepted { .. } => return,
-        AcceptAnswer::Refuse {
-            ballot,
-            slot,
-            promised,
-        } => send_refusal(frames, to, *ballot, *slot, *promised),
+        RunAnswer::Accepted { commands, .. } => Some(commands.as_slice()),
+        RunAnswer::Refuse { .. } => None,
     }
 }

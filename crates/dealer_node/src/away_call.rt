@@ -42,7 +42,7 @@ impl<D: Disk + Drop> Up<D> {
     fn play_for(&mut self, post: &Post, act: &Command, made: &mut Made) -> Result<(), NodeFault>
         requires at { IsAt post.now self.old.running }
         requires act { IsForwardable (Ok (SaidAct act.now)) }
-        requires room { HasCallRoom self.old made.old (away_need self.old.running) 1 }
+        requires room { HasCallRoom self.old made.old (away_need self.old.running) 1 1 }
         ensures works { (s : Standing) → IsTrue D.is_honest → IsUp D.Disk post.now self.old s → away_at (place_at post.now) s ≡ Some act.now
             → Works D.Disk post.now s (and_then (ordering (place_at post.now) s) (closing (place_at post.now))) self.old self.new (told_by made.old) (told_by made.new) result }
         ensures goes_on { GoesOn D.Disk self.old self.new result }
@@ -78,7 +78,7 @@ impl<D: Disk + Drop> Up<D> {
             return Err(NodeFault::NothingToAct);
         };
         let need = away_need(&self.running);
-        let mut made = self.ready(alloc, 1, &need, out)?;
+        let mut made = self.ready(alloc, 1, 1, &need, out)?;
         self.play_for(post, &act, &mut made)?;
         out.append(made);
         Ok(())

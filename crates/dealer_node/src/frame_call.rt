@@ -1,6 +1,6 @@
 //! The call with a frame: what a node that runs does with its bytes.
 
-ghost use Rattle.std.specs.Prelude.{◌≡◌, ◌<◌, IfOk, OnOk, IsTrue, IsErr};
+ghost use Rattle.std.specs.Prelude.{◌≡◌, ◌+◌, ◌≤◌, ◌<◌, IfOk, OnOk, IsTrue, IsErr};
 ghost use Rattle.paxos_wire.specs.Fits.{IsMessage};
 ghost use Rattle.paxos_wire.specs.Faults.{reading};
 ghost use Rattle.node_rules.specs.Standings.{Standing};
@@ -11,11 +11,13 @@ ghost use Rattle.dealer_node.specs.Posts.{place_at};
 ghost use Rattle.dealer_node.specs.Running.{IsAt, ahead_of};
 ghost use Rattle.dealer_node.specs.Working.{IsOfPart};
 ghost use Rattle.dealer_node.specs.Handling.{IsWithin, AnswersUp};
-ghost use Rattle.dealer_node.specs.Calling.{frame_need};
+ghost use Rattle.dealer_node.specs.Calling.{commands_in, frame_need};
+ghost use Rattle.dealer_node.specs.declared.limits.TheConstants.{ANSWERS_OF_A_CALL};
+ghost use Rattle.paxos_wire.specs.declared.limits.TheConstants.{WINDOW};
 ghost use Rattle.dealer_node.specs.Most.{most_after, ShowsWithin};
 
 use crate::fault::NodeFault;
-use crate::limits::{COMMANDS_OF_A_CALL, FRAMES_OF_A_MESSAGE};
+use crate::limits::{ANSWERS_OF_A_CALL, FRAMES_OF_A_MESSAGE, FRAMES_TO_ALL};
 use crate::made::{Made, Need};
 use crate::post::Post;
 use crate::running::Running;
@@ -32,11 +34,29 @@ fn read(bytes: &[u8]) -> Result<Message, FrameFault>
     decode(bytes)
 }
 
-/// What a message of another node makes at most.
-fn frame_need(running: &Running) -> Need
-    ensures { result ≡ frame_need running.now }
+/// How many commands a message has that may be voted for or learned: those that it asks to accept, or tells to be
+/// accepted, 64 at most, and else one.
+fn commands_in(message: &Message) -> usize
+    ensures value { result ≡ commands_in message.now }
+    ensures most { result ≤ WINDOW }
 {
-    running.need(COMMANDS_OF_A_CALL, FRAMES_OF_A_MESSAGE)
+    match message {
+        Message::Accept { commands, .. } | Message::Accepted { commands, .. } => commands.len(),
+        Message::Prepare { .. }
+        | Message::Promise { .. }
+        | Message::Refuse { .. }
+        | Message::Chosen { .. }
+        | Message::Ask { .. }
+        | Message::Forward { .. } => 1,
+    }
+}
+
+/// What a message of another node makes at most that has so many commands.
+fn frame_need(running: &Running, commands: usize) -> Need
+    requires { commands ≤ WINDOW }
+    ensures { result ≡ frame_need running.now commands }
+{
+    running.need(commands + 1, FRAMES_OF_A_MESSAGE + FRAMES_TO_ALL * commands)
 }
 
 impl<D: Disk + Drop> Up<D> {
@@ -54,13 +74,13 @@ impl<D: Disk + Drop> Up<D> {
         requires at { IsAt post.now self.old.running }
         requires from { from < post.now.nodes }
         requires message { IsMessage message.now }
-        requires room { HasCallRoom self.old made.old (frame_need self.old.running) COMMANDS_OF_A_CALL }
+        requires room { HasCallRoom self.old made.old (frame_need self.old.running (commands_in message.now)) ANSWERS_OF_A_CALL (commands_in message.now + 1) }
         ensures works { (s : Standing) → IsTrue D.is_honest → IsUp D.Disk post.now self.old s
             → Works D.Disk post.now s (on_message (place_at post.now) from message.now s) self.old self.new (told_by made.old) (told_by made.new) result }
         ensures goes_on { GoesOn D.Disk self.old self.new result }
         ensures only { IsOfPart result }
         ensures at { IsAt post.now self.new.running }
-        ensures within { told_by made.old ≡ nothing_told → OnOk result (IsWithin made.new (frame_need self.old.running)) }
+        ensures within { told_by made.old ≡ nothing_told → OnOk result (IsWithin made.new (frame_need self.old.running (commands_in message.now))) }
     {
         self.on_message(post, from, message, made)
     }
@@ -88,8 +108,9 @@ impl<D: Disk + Drop> Up<D> {
         match read(bytes) {
             Err(fault) => Err(NodeFault::BadFrame(fault)),
             Ok(message) => {
-                let need = frame_need(&self.running);
-                let mut made = self.ready(alloc, COMMANDS_OF_A_CALL, &need, out)?;
+                let commands = commands_in(&message);
+                let need = frame_need(&self.running, commands);
+                let mut made = self.ready(alloc, ANSWERS_OF_A_CALL, commands + 1, &need, out)?;
                 self.message(post, from, &message, &mut made)?;
                 out.append(made);
                 Ok(())

@@ -1,16 +1,17 @@
 //! What a node that runs does with a message of another node.
 
-ghost use Rattle.std.specs.Prelude.{◌≡◌, ℕ, ◌+◌, ◌≤◌, ◌<◌, IsTrue, OnOk};
+ghost use Rattle.std.specs.Prelude.{◌≡◌, ℕ, ◌+◌, ◌*◌, ◌≤◌, ◌<◌, IsTrue, OnOk};
 ghost use Rattle.paxos_wire.specs.Fits.{IsMessage};
 ghost use Rattle.paxos_wire.specs.declared.limits.TheConstants.{MOST_SINGLE_FRAME};
 ghost use Rattle.node_rules.specs.Standings.{Standing};
 ghost use Rattle.node_rules.specs.Rules.{taking, asking, on_message};
 ghost use Rattle.dealer_node.specs.Posts.{place_at};
 ghost use Rattle.dealer_node.specs.Outs.{told_by};
-ghost use Rattle.dealer_node.specs.declared.limits.TheConstants.{COMMANDS_OF_A_CALL, FRAMES_OF_AN_ANSWER, FRAME_BYTES_OF_AN_ANSWER, FRAMES_OF_A_MESSAGE, FRAME_BYTES_OF_A_MESSAGE};
+ghost use Rattle.dealer_node.specs.declared.limits.TheConstants.{FRAMES_TO_ALL, ANSWERS_OF_A_CALL, FRAMES_OF_AN_ANSWER, FRAMES_OF_A_MESSAGE};
 ghost use Rattle.dealer_node.specs.Rooms.{Grows};
 ghost use Rattle.dealer_node.specs.declared.made.Need.{Need as Needs};
 ghost use Rattle.dealer_node.specs.Running.{IsRunning, IsTaken, IsAt, CanLearn};
+ghost use Rattle.dealer_node.specs.Calling.{commands_in};
 ghost use Rattle.dealer_node.specs.Working.{HasLeft, IsOfPart};
 
 use crate::fault::NodeFault;
@@ -56,25 +57,27 @@ impl<D: Disk + Drop> Up<D> {
         requires at { IsAt post.now self.old.running }
         requires from { from < post.now.nodes }
         requires message { IsMessage message.now }
-        requires store { 1 ≤ store_room self.old }
-        requires learn { CanLearn self.old.running made.old 1 }
+        requires store { commands_in message.now ≤ store_room self.old }
+        requires learn { CanLearn self.old.running made.old 1 (commands_in message.now) }
         requires texts { FRAMES_OF_AN_ANSWER ≤ made.old.frames.text_room }
-        requires bytes { FRAME_BYTES_OF_AN_ANSWER ≤ made.old.frames.byte_room }
+        requires bytes { MOST_SINGLE_FRAME * (FRAMES_OF_AN_ANSWER + FRAMES_TO_ALL * commands_in message.now) ≤ made.old.frames.byte_room }
         ensures works { (s : Standing) → IsTrue D.is_honest → IsUp D.Disk post.now self.old s
             → Works D.Disk post.now s (taking (place_at post.now) from message.now s) self.old self.new (told_by made.old) (told_by made.new) result }
         ensures goes_on { GoesOn D.Disk self.old self.new result }
         ensures only { IsOfPart result }
         ensures at { IsAt post.now self.new.running }
-        ensures room { store_room self.old ≤ store_room self.new + 1 }
-        ensures left { (need : Needs) (votes frames : ℕ) → HasLeft self.old.running made.old need (votes + 1) (frames + FRAMES_OF_AN_ANSWER) → HasLeft self.new.running made.new need votes frames }
+        ensures room { store_room self.old ≤ store_room self.new + commands_in message.now }
+        ensures left { (need : Needs) (answers more frames : ℕ)
+            → HasLeft self.old.running made.old need (answers + 1) (more + commands_in message.now) (frames + (FRAMES_OF_AN_ANSWER + FRAMES_TO_ALL * commands_in message.now))
+            → HasLeft self.new.running made.new need answers more frames }
     {
         match message {
             Message::Prepare { ballot, slot } => self.prepare(post, from, *ballot, *slot, made),
             Message::Accept {
                 ballot,
                 slot,
-                command,
-            } => self.accept(post, from, *ballot, *slot, command, made),
+                commands,
+            } => self.accept(post, from, *ballot, *slot, commands.as_slice(), made),
             Message::Promise { .. }
             | Message::Refuse { .. }
             | Message::Accepted { .. }
@@ -95,16 +98,17 @@ impl<D: Disk + Drop> Up<D> {
         requires at { IsAt post.now self.old.running }
         requires from { from < post.now.nodes }
         requires message { IsMessage message.now }
-        requires store { COMMANDS_OF_A_CALL ≤ store_room self.old }
-        requires learn { CanLearn self.old.running made.old COMMANDS_OF_A_CALL }
-        requires texts { FRAMES_OF_A_MESSAGE ≤ made.old.frames.text_room }
-        requires bytes { FRAME_BYTES_OF_A_MESSAGE ≤ made.old.frames.byte_room }
+        requires store { commands_in message.now + 1 ≤ store_room self.old }
+        requires learn { CanLearn self.old.running made.old ANSWERS_OF_A_CALL (commands_in message.now + 1) }
+        requires texts { FRAMES_OF_A_MESSAGE + FRAMES_TO_ALL * commands_in message.now ≤ made.old.frames.text_room }
+        requires bytes { MOST_SINGLE_FRAME * (FRAMES_OF_A_MESSAGE + FRAMES_TO_ALL * commands_in message.now) ≤ made.old.frames.byte_room }
         ensures works { (s : Standing) → IsTrue D.is_honest → IsUp D.Disk post.now self.old s
             → Works D.Disk post.now s (on_message (place_at post.now) from message.now s) self.old self.new (told_by made.old) (told_by made.new) result }
         ensures goes_on { GoesOn D.Disk self.old self.new result }
         ensures only { IsOfPart result }
         ensures at { IsAt post.now self.new.running }
-        ensures left { (need : Needs) → HasLeft self.old.running made.old need COMMANDS_OF_A_CALL FRAMES_OF_A_MESSAGE → OnOk result (HasLeft self.new.running made.new need 0 0) }
+        ensures left { (need : Needs) → HasLeft self.old.running made.old need ANSWERS_OF_A_CALL (commands_in message.now + 1) (FRAMES_OF_A_MESSAGE + FRAMES_TO_ALL * commands_in message.now)
+            → OnOk result (HasLeft self.new.running made.new need 0 0 0) }
     {
         self.running.see(message);
         match self.take(post, from, message, made) {

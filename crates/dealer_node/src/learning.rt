@@ -1,12 +1,13 @@
 ghost use Rattle.std.specs.Prelude.{◌≡◌, ◌+◌, ◌-◌, ◌*◌, ◌≤◌, ◌<◌, List, length, drop, reverse, OnOk, OnErr, IsOk, IsErr, Err, IfSome};
-ghost use Rattle.paxos_wire.specs.Fits.{IsInRange, IsSlot};
+ghost use Rattle.paxos_wire.specs.Fits.{IsInRange, IsSlot, IsCommandRun};
 ghost use Rattle.paxos_wire.specs.declared.limits.TheConstants.{MOST_SINGLE_FRAME};
 ghost use Rattle.slot_log.specs.Slots.{front};
-ghost use Rattle.learner.specs.Learning.{answer_to, hearing, answer_to_chosen, believing as with_chosen};
+ghost use Rattle.learner.specs.Learning.{answer_to_chosen, believing as with_chosen};
+ghost use Rattle.learner.specs.CommandRuns.{answer_to_run, hearing_run};
 ghost use Rattle.node_rules.specs.Standings.{Standing};
 ghost use Rattle.node_rules.specs.Applying.{Scene, taking_all};
 ghost use Rattle.node_rules.specs.Turns.{Conflict as Conflicting};
-ghost use Rattle.node_rules.specs.Learning.{learning, counting_vote, asking_on, believing, telling, asking_above};
+ghost use Rattle.node_rules.specs.Learning.{learning, counting_votes, asking_on, believing, telling, asking_above};
 ghost use Rattle.dealer_node.specs.declared.reader.Reader.{Reader as Reads};
 ghost use Rattle.dealer_node.specs.Texts.{Marked};
 ghost use Rattle.dealer_node.specs.declared.limits.TheConstants.{FRAMES_OF_AN_ANSWER, FRAME_BYTES_OF_AN_ANSWER};
@@ -14,7 +15,7 @@ ghost use Rattle.dealer_node.specs.Scenes.{IsScene};
 ghost use Rattle.dealer_node.specs.Posts.{place_at};
 ghost use Rattle.dealer_node.specs.Outs.{told_by};
 ghost use Rattle.dealer_node.specs.Rooms.{Grows};
-ghost use Rattle.dealer_node.specs.Running.{IsRunning, IsTaken, TakesTurn, IsAt, AreInRange, GoesOn, CanLearn, Learns, learner_room};
+ghost use Rattle.dealer_node.specs.Running.{IsRunning, IsTaken, TakesTurn, IsAt, AreInRange, GoesOn, CanLearn, Learns};
 
 use crate::applying::take_all;
 use crate::chosen_frames::{ask, tell, told_slots};
@@ -26,48 +27,52 @@ use crate::texts::Texts;
 use learner::Learner;
 use paxos_wire::Ballot;
 use paxos_wire::limits::{SLOTS, WINDOW};
-use slot_log::laws::{commands_are_kept, fronts_go_on, one_more_is_known};
+use slot_log::laws::{commands_are_kept, front_is_first_hole, fronts_go_on, one_more_is_known};
 use slot_log::{Command, SlotFault, SlotLog};
 
-/// Counts that a node accepted a command at a slot in a ballot.
-fn hear_vote(
+/// Counts that a node accepted commands in a ballot, the first at the slot and each further one at the slot behind.
+fn hear_votes(
     learner: &mut Learner,
     from: u8,
     ballot: Ballot,
     slot: u32,
-    command: Command,
+    commands: &[Command],
 ) -> Result<(), SlotFault>
     requires from { from < learner.old.learned.nodes }
-    requires room { 1 ≤ learner_room learner.old }
-    requires command { IsInRange command }
+    requires run { IsCommandRun slot commands.now }
+    requires answers { 1 ≤ learner.old.answers }
+    requires room { length commands.now ≤ learner.old.commands }
     requires commands { AreInRange learner.old.learned.log }
-    ensures ok { OnOk result (IsOk (answer_to learner.old.learned from ballot slot command)) }
-    ensures err { OnErr result (IsErr (answer_to learner.old.learned from ballot slot command)) }
-    ensures learned { learner.new.learned ≡ hearing learner.old.learned from ballot slot command }
+    ensures ok { OnOk result (IsOk (answer_to_run learner.old.learned from ballot slot commands.now)) }
+    ensures err { OnErr result (IsErr (answer_to_run learner.old.learned from ballot slot commands.now)) }
+    ensures learned { learner.new.learned ≡ hearing_run learner.old.learned from ballot slot commands.now }
     ensures nodes { learner.new.learned.nodes ≡ learner.old.learned.nodes }
-    ensures room { learner_room learner.old ≤ learner_room learner.new + 1 }
-    ensures goes_on { GoesOn learner.old.learned.log learner.new.learned.log }
+    ensures answers { learner.old.answers ≤ learner.new.answers + 1 }
+    ensures room { learner.old.commands ≤ learner.new.commands + length commands.now }
+    ensures goes_on { GoesOn learner.old.learned.log learner.new.learned.log (length commands.now) }
     ensures commands { AreInRange learner.new.learned.log }
 {
     learner.log().limits();
     one_more_is_known();
     fronts_go_on();
+    front_is_first_hole();
     commands_are_kept();
-    learner.on_accepted_reserved(from, ballot, slot, command)?;
+    learner.on_accepted_run_reserved(from, ballot, slot, commands)?;
     Ok(())
 }
 
 /// Takes a node's word that a command was chosen at a slot.
 fn hear_chosen(learner: &mut Learner, slot: u32, command: Command) -> Result<(), SlotFault>
-    requires room { 1 ≤ learner_room learner.old }
+    requires room { 1 ≤ learner.old.commands }
     requires command { IsInRange command }
     requires commands { AreInRange learner.old.learned.log }
     ensures ok { OnOk result (IsOk (answer_to_chosen learner.old.learned.log slot command)) }
     ensures err { OnErr result (IsErr (answer_to_chosen learner.old.learned.log slot command)) }
     ensures learned { learner.new.learned ≡ with_chosen learner.old.learned slot command }
     ensures nodes { learner.new.learned.nodes ≡ learner.old.learned.nodes }
-    ensures room { learner_room learner.old ≤ learner_room learner.new + 1 }
-    ensures goes_on { GoesOn learner.old.learned.log learner.new.learned.log }
+    ensures answers { learner.old.answers ≤ learner.new.answers }
+    ensures room { learner.old.commands ≤ learner.new.commands + 1 }
+    ensures goes_on { GoesOn learner.old.learned.log learner.new.learned.log 1 }
     ensures commands { AreInRange learner.new.learned.log }
 {
     learner.log().limits();
@@ -117,31 +122,32 @@ impl Running {
         );
     }
 
-    /// Counts that a node accepted a command at a slot in a ballot, and applies what the front then passes. An `Err` is
-    /// 30: another command is known there.
-    pub(crate) fn count_vote(
+    /// Counts that a node accepted commands in a ballot, the first at the slot and each further one at the slot behind, and
+    /// applies what the front then passes, once all are counted. An `Err` is 30: another command is known at one of the
+    /// slots.
+    pub(crate) fn count_votes(
         &mut self,
         post: &Post,
         from: u8,
         ballot: Ballot,
         slot: u32,
-        command: Command,
+        commands: &[Command],
         made: &mut Made,
     ) -> Result<(), SlotFault>
         requires at { IsAt post.now self.old }
         requires from { from < post.now.nodes }
-        requires command { IsInRange command }
-        requires room { CanLearn self.old made.old 1 }
+        requires run { IsCommandRun slot commands.now }
+        requires room { CanLearn self.old made.old 1 (length commands.now) }
         ensures ok { OnOk result ((s : Standing) → IsRunning post.now self.old s
-            → TakesTurn post.now self.new (told_by made.old) (told_by made.new) (counting_vote (place_at post.now) from ballot slot command s)) }
+            → TakesTurn post.now self.new (told_by made.old) (told_by made.new) (counting_votes (place_at post.now) from ballot slot commands.now s)) }
         ensures err { OnErr result ((s : Standing) → IsRunning post.now self.old s
-            → counting_vote (place_at post.now) from ballot slot command s ≡ Err (Conflicting s.store)) }
+            → counting_votes (place_at post.now) from ballot slot commands.now s ≡ Err (Conflicting s.store)) }
         ensures at { IsAt post.now self.new }
-        ensures learns { Learns self.old self.new made.old made.new }
+        ensures learns { Learns (length commands.now) self.old self.new made.old made.new }
         ensures rest { made.new ≡ record made.old { shown = made.new.shown } }
     {
         let front = self.front();
-        hear_vote(&mut self.learner, from, ballot, slot, command)?;
+        hear_votes(&mut self.learner, from, ballot, slot, commands)?;
         self.apply_from(front, post, &mut made.shown);
         Ok(())
     }
@@ -157,13 +163,13 @@ impl Running {
     ) -> Result<(), SlotFault>
         requires at { IsAt post.now self.old }
         requires command { IsInRange command }
-        requires room { CanLearn self.old made.old 1 }
+        requires room { CanLearn self.old made.old 0 1 }
         ensures ok { OnOk result ((s : Standing) → IsRunning post.now self.old s
             → TakesTurn post.now self.new (told_by made.old) (told_by made.new) (learning (place_at post.now) (answer_to_chosen s.learned.log slot command) (with_chosen s.learned slot command) s)) }
         ensures err { OnErr result ((s : Standing) → IsRunning post.now self.old s
             → learning (place_at post.now) (answer_to_chosen s.learned.log slot command) (with_chosen s.learned slot command) s ≡ Err (Conflicting s.store)) }
         ensures at { IsAt post.now self.new }
-        ensures learns { Learns self.old self.new made.old made.new }
+        ensures learns { Learns 1 self.old self.new made.old made.new }
         ensures rest { made.new ≡ record made.old { shown = made.new.shown } }
     {
         let front = self.front();
@@ -199,7 +205,7 @@ impl Running {
     ) -> Result<(), SlotFault>
         requires at { IsAt post.now self.old }
         requires command { IsInRange command }
-        requires room { CanLearn self.old made.old 1 }
+        requires room { CanLearn self.old made.old 0 1 }
         requires frames { 1 ≤ made.old.frames.text_room }
         requires frame_bytes { MOST_SINGLE_FRAME ≤ made.old.frames.byte_room }
         ensures ok { OnOk result ((s : Standing) → IsRunning post.now self.old s
@@ -207,7 +213,7 @@ impl Running {
         ensures err { OnErr result ((s : Standing) → IsRunning post.now self.old s
             → believing (place_at post.now) from slot command s ≡ Err (Conflicting s.store)) }
         ensures at { IsAt post.now self.new }
-        ensures learns { Learns self.old self.new made.old made.new }
+        ensures learns { Learns 1 self.old self.new made.old made.new }
         ensures frames { Grows made.old.frames made.new.frames 1 MOST_SINGLE_FRAME }
         ensures rest { made.new ≡ record made.old { frames = made.new.frames; shown = made.new.shown } }
     {

@@ -1,9 +1,9 @@
 //! The most that parts of a call make, by the limits of frames, lines and logs.
 //!
-//! Frames of one command at most are counted, each as the longest of them (`MOST_SINGLE_FRAME`), so that the room of two
-//! parts of a call is the sum of theirs. Contracts and definitions name those of frames, so another count of nodes or
-//! another longest frame is changed where it stands, in `paxos_wire`, and nowhere here; those of texts they say as
-//! numbers.
+//! Frames of one command at most are counted, each as the longest of them (`MOST_SINGLE_FRAME`), and a frame of several as
+//! one for each of its commands, so that the room of two parts of a call is the sum of theirs. Contracts and definitions
+//! name those of frames, so another count of nodes or another longest frame is changed where it stands, in `paxos_wire`,
+//! and nowhere here; those of texts they say as numbers.
 
 use card_core::limits::PLAYERS;
 use match_log::MOST_FURTHER;
@@ -22,24 +22,28 @@ pub(crate) const FRAMES_OF_A_CLOSE: usize = 2 * FRAMES_TO_ALL;
 /// The most bytes of these frames.
 pub(crate) const FRAME_BYTES_OF_A_CLOSE: usize = FRAMES_OF_A_CLOSE * MOST_SINGLE_FRAME;
 
-/// The most frames that a message of another node is answered with: one for each slot that an Ask is told of. What
-/// other messages are answered with has room in it: a vote to all nodes is fewer frames, and a Promise, which tells of as
-/// many slots in one frame, has fewer bytes.
+/// The most frames that a message of another node is answered with, but for the votes for the commands that it asks to
+/// accept: one for each slot that an Ask is told of. What other messages are answered with has room in it: a Promise, which
+/// tells of as many slots in one frame, has fewer bytes.
 pub(crate) const FRAMES_OF_AN_ANSWER: usize = WINDOW;
 
 /// The most bytes of these frames.
 pub(crate) const FRAME_BYTES_OF_AN_ANSWER: usize = FRAMES_OF_AN_ANSWER * MOST_SINGLE_FRAME;
 
-/// The most frames that a call makes by a message of another node: what it is answered with, those of the close, and a
-/// question.
+/// The most frames that a call makes by a message of another node, but for the votes for the commands that it asks to
+/// accept: what it is answered with, those of the close, and a question.
 pub(crate) const FRAMES_OF_A_MESSAGE: usize = FRAMES_OF_AN_ANSWER + FRAMES_OF_A_CLOSE + 1;
 
-/// The most bytes of these frames.
-pub(crate) const FRAME_BYTES_OF_A_MESSAGE: usize = FRAMES_OF_A_MESSAGE * MOST_SINGLE_FRAME;
+/// The most answers that a call counts: one that came, or that the node gives itself, and the one for what the close
+/// proposes.
+pub(crate) const ANSWERS_OF_A_CALL: usize = 2;
 
-/// The most commands that a call learns: one that a message tells, or that it completes a quorum for, and one that the
-/// close proposes.
-pub(crate) const COMMANDS_OF_A_CALL: usize = 2;
+/// The most commands that a call learns: those that a message tells, or that it completes a quorum for, 64 at most, and one
+/// that the close proposes.
+pub(crate) const COMMANDS_OF_A_CALL: usize = WINDOW + 1;
+
+/// The most frames of any call by a message, each command that it asks to accept as one to all nodes.
+pub(crate) const MOST_FRAMES_OF_A_MESSAGE: usize = FRAMES_OF_A_MESSAGE + FRAMES_TO_ALL * WINDOW;
 
 /// The most texts that a command shows: a line to each seat, and what the log has further.
 pub(crate) const TEXTS_OF_A_COMMAND: usize = PLAYERS + 1;

@@ -52,7 +52,7 @@ impl<D: Disk + Drop> Up<D> {
         requires seat { seat < post.now.setting.game.players }
         requires bytes { HasRoomAt self.old.running.seats seat (length piece.now) }
         requires limit { feeds_with (session_at self.old.running.seats.talks seat) piece.now < limit }
-        requires room { HasCallRoom self.old made.old (line_need self.old.running limit) 1 }
+        requires room { HasCallRoom self.old made.old (line_need self.old.running limit) 1 1 }
         ensures heard { (s : Standing) → IsTrue D.is_honest → IsUp D.Disk post.now self.old s
             → HearsLine D.Disk post.now s seat piece.now self.old self.new (told_by made.old) (told_by made.new) }
         ensures at { IsAt post.now self.new.running }
@@ -78,7 +78,7 @@ impl<D: Disk + Drop> Up<D> {
         requires seat { seat < post.now.setting.game.players }
         requires bytes { HasRoomAt self.old.running.seats seat (length piece.now) }
         requires limit { feeds_with (session_at self.old.running.seats.talks seat) piece.now < limit }
-        requires room { HasCallRoom self.old made.old (line_need self.old.running limit) 1 }
+        requires room { HasCallRoom self.old made.old (line_need self.old.running limit) 1 1 }
         ensures works { (s : Standing) → IsTrue D.is_honest → IsUp D.Disk post.now self.old s
             → WorksLine D.Disk post.now s seat piece.now self.old self.new (told_by made.old) (told_by made.new) result }
         ensures goes_on { GoesOn D.Disk self.old self.new result }
@@ -107,7 +107,7 @@ impl<D: Disk + Drop> Up<D> {
         ensures memory { IfErr result (λ fault. fault ≡ NodeFault.OutOfMemory) }
         ensures limit { IfOk result (λ ready. feeds_with (session_at self.new.running.seats.talks seat) bytes.now < ready.1) }
         ensures nothing { IfOk result (λ ready. told_by ready.0 ≡ nothing_told) }
-        ensures room { IfOk result (λ ready. HasCallRoom self.new ready.0 (line_need self.new.running ready.1) 1) }
+        ensures room { IfOk result (λ ready. HasCallRoom self.new ready.0 (line_need self.new.running ready.1) 1 1) }
         ensures room_out { IfOk result (λ ready. HasRoom out.new (line_need self.new.running ready.1)) }
         ensures bytes { OnOk result (HasRoomAt self.new.running.seats seat (length bytes.now)) }
     {
@@ -117,7 +117,7 @@ impl<D: Disk + Drop> Up<D> {
         let Some(need) = line_need(&self.running, limit) else {
             return Err(NodeFault::OutOfMemory);
         };
-        let made = self.ready(alloc, 1, &need, out)?;
+        let made = self.ready(alloc, 1, 1, &need, out)?;
         self.running.reserve_bytes(seat, bytes.len())?;
         Ok((made, limit))
     }

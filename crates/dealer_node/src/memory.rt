@@ -1,4 +1,4 @@
-ghost use Rattle.std.specs.Prelude.{◌≡◌, ℕ, ◌+◌, ◌≤◌, ◌<◌, OnOk, OnErr, IsTrue, Err};
+ghost use Rattle.std.specs.Prelude.{◌≡◌, ℕ, ◌+◌, ◌*◌, ◌≤◌, ◌<◌, OnOk, OnErr, IsTrue, Err};
 ghost use Rattle.paxos_wire.specs.Fits.{IsMessage};
 ghost use Rattle.node_rules.specs.Standings.{Standing};
 ghost use Rattle.node_rules.specs.Turns.{Conflict as Conflicting};
@@ -6,10 +6,11 @@ ghost use Rattle.node_rules.specs.Rules.{taking};
 ghost use Rattle.dealer_node.specs.declared.made.Need.{Need as Needs};
 ghost use Rattle.dealer_node.specs.Posts.{place_at};
 ghost use Rattle.dealer_node.specs.Outs.{told_by};
-ghost use Rattle.dealer_node.specs.declared.limits.TheConstants.{FRAMES_OF_AN_ANSWER, FRAME_BYTES_OF_AN_ANSWER};
+ghost use Rattle.dealer_node.specs.declared.limits.TheConstants.{FRAMES_TO_ALL, FRAMES_OF_AN_ANSWER, FRAME_BYTES_OF_AN_ANSWER};
 ghost use Rattle.dealer_node.specs.Rooms.{Grows};
 ghost use Rattle.dealer_node.specs.Running.{IsRunning, IsAt, CanLearn, Learns};
 ghost use Rattle.dealer_node.specs.Memory.{IsOfMemory, TakesInMemory};
+ghost use Rattle.dealer_node.specs.Calling.{commands_in};
 ghost use Rattle.dealer_node.specs.Working.{HasLeft, IsOfPart};
 
 use crate::fault::NodeFault;
@@ -35,7 +36,7 @@ impl Running {
         requires from { from < post.now.nodes }
         requires message { IsMessage message.now }
         requires memory { IsOfMemory message.now }
-        requires learn { CanLearn self.old made.old 1 }
+        requires learn { CanLearn self.old made.old 1 (commands_in message.now) }
         requires texts { FRAMES_OF_AN_ANSWER ≤ made.old.frames.text_room }
         requires bytes { FRAME_BYTES_OF_AN_ANSWER ≤ made.old.frames.byte_room }
         ensures ok { OnOk result ((s : Standing) → IsRunning post.now self.old s
@@ -43,7 +44,7 @@ impl Running {
         ensures err { OnErr result ((s : Standing) → IsRunning post.now self.old s
             → taking (place_at post.now) from message.now s ≡ Err (Conflicting s.store)) }
         ensures at { IsAt post.now self.new }
-        ensures learns { Learns self.old self.new made.old made.new }
+        ensures learns { Learns (commands_in message.now) self.old self.new made.old made.new }
         ensures frames { Grows made.old.frames made.new.frames FRAMES_OF_AN_ANSWER FRAME_BYTES_OF_AN_ANSWER }
         ensures faults { made.new.faults ≡ made.old.faults }
     {
@@ -63,8 +64,8 @@ impl Running {
             Message::Accepted {
                 ballot,
                 slot,
-                command,
-            } => self.count_vote(post, from, *ballot, *slot, *command, made),
+                commands,
+            } => self.count_votes(post, from, *ballot, *slot, commands.as_slice(), made),
             Message::Chosen { slot, command } => self.believe(post, from, *slot, *command, made),
             Message::Ask { slot } => {
                 self.tell(post, from, *slot, made);
@@ -94,7 +95,7 @@ impl<D: Disk + Drop> Up<D> {
         requires from { from < post.now.nodes }
         requires message { IsMessage message.now }
         requires memory { IsOfMemory message.now }
-        requires learn { CanLearn self.old.running made.old 1 }
+        requires learn { CanLearn self.old.running made.old 1 (commands_in message.now) }
         requires texts { FRAMES_OF_AN_ANSWER ≤ made.old.frames.text_room }
         requires bytes { FRAME_BYTES_OF_AN_ANSWER ≤ made.old.frames.byte_room }
         ensures works { (s : Standing) → IsTrue D.is_honest → IsUp D.Disk post.now self.old s
@@ -103,7 +104,7 @@ impl<D: Disk + Drop> Up<D> {
         ensures only { IsOfPart result }
         ensures same { self.new.acceptor ≡ self.old.acceptor }
         ensures at { IsAt post.now self.new.running }
-        ensures left { (need : Needs) (votes frames : ℕ) → HasLeft self.old.running made.old need (votes + 1) (frames + FRAMES_OF_AN_ANSWER) → HasLeft self.new.running made.new need votes frames }
+        ensures left { (need : Needs) (answers more frames : ℕ) → HasLeft self.old.running made.old need (answers + 1) (more + commands_in message.now) (frames + (FRAMES_OF_AN_ANSWER + FRAMES_TO_ALL * commands_in message.now)) → HasLeft self.new.running made.new need answers more frames }
     {
         match self.running.take(post, from, message, made) {
             Ok(()) => Ok(()),

@@ -1,7 +1,6 @@
 ghost use Rattle.std.specs.Prelude.{◌≡◌, ◌*◌, ◌≤◌, ◌<◌, true, false, IfSome};
 ghost use Rattle.std.specs.List.{AllByRecursion};
-ghost use Rattle.paxos_wire.specs.Fits.{Fits, IsEntry};
-ghost use Rattle.paxos_wire.specs.declared.message.Message.TheVariants.{Accept as Accepting};
+ghost use Rattle.paxos_wire.specs.Fits.{IsBallot, IsEntry, IsInRange};
 ghost use Rattle.paxos_wire.specs.declared.limits.TheConstants.{SLOTS, MOST_SINGLE_FRAME};
 ghost use Rattle.slot_log.specs.Slots.{front};
 ghost use Rattle.proposer.specs.Campaigns.{next_ballot, leads};
@@ -119,7 +118,7 @@ impl Running {
         requires at { IsAt post.now self.old }
         requires left { leads post.now.nodes self.old.proposer.campaign ≡ true → front self.old.learner.learned.log < SLOTS }
         ensures closes { (s : Standing) → IsRunning post.now self.old s → Closes post.now self.new s result }
-        ensures fits { IfSome result (λ made. Fits (Accepting made.ballot made.slot made.command)) }
+        ensures fits { IfSome result (λ made. IsBallot made.ballot × (made.slot < SLOTS) × IsInRange made.command) }
         ensures at { IsAt post.now self.new }
         ensures rest { self.new ≡ record self.old { proposer = self.new.proposer } }
     {
@@ -144,7 +143,7 @@ impl Running {
     pub(crate) fn proposal(&mut self, post: &Post) -> Option<Accept>
         requires { IsAt post.now self.old }
         ensures closes { (s : Standing) → IsRunning post.now self.old s → Closes post.now self.new s result }
-        ensures fits { IfSome result (λ made. Fits (Accepting made.ballot made.slot made.command)) }
+        ensures fits { IfSome result (λ made. IsBallot made.ballot × (made.slot < SLOTS) × IsInRange made.command) }
         ensures at { IsAt post.now self.new }
         ensures rest { self.new ≡ record self.old { proposer = self.new.proposer } }
     {

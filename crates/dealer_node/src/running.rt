@@ -1,5 +1,5 @@
 ghost use Rattle.std.specs.Prelude.{◌≡◌, ◌+◌, ◌*◌, ◌≤◌, ◌<◌, length, Ok, IfOk, IfSome, OnOk, vec_len, vec_capacity};
-ghost use Rattle.paxos_wire.specs.declared.limits.TheConstants.{SLOTS, WINDOW};
+ghost use Rattle.paxos_wire.specs.declared.limits.TheConstants.{SLOTS};
 ghost use Rattle.slot_log.specs.Slots.{front};
 ghost use Rattle.protocol_model.specs.Stores.{Store};
 ghost use Rattle.node_rules.specs.Standings.{Standing, started};
@@ -9,12 +9,12 @@ ghost use Rattle.node_rules.specs.Seats.{session_at, connecting, dropping, pendi
 ghost use Rattle.node_rules.specs.Showing.{is_connected as is_talk_ready};
 ghost use Rattle.dealer_node.specs.Posts.{Post as Station, place_at};
 ghost use Rattle.dealer_node.specs.Outs.{told_by};
-ghost use Rattle.dealer_node.specs.declared.limits.TheConstants.{FRAMES_OF_A_MESSAGE};
+ghost use Rattle.dealer_node.specs.declared.limits.TheConstants.{COMMANDS_OF_A_CALL, MOST_FRAMES_OF_A_MESSAGE};
 ghost use Rattle.dealer_node.specs.Rooms.{Grows, Tells};
 ghost use Rattle.dealer_node.specs.Seated.{feeds_with, HasRoomAt};
 ghost use Rattle.seat_session.specs.declared.said.Said.TheVariants.{Act as SaidAct};
 ghost use Rattle.dealer_node.specs.Hearing.{IsForwardable};
-ghost use Rattle.dealer_node.specs.Running.{IsRunning, IsTaken, TakesPiece, IsAt, ahead_of, learner_room};
+ghost use Rattle.dealer_node.specs.Running.{IsRunning, IsTaken, TakesPiece, IsAt, ahead_of};
 ghost use Rattle.dealer_node.specs.Calling.{need_of};
 ghost use Rattle.dealer_node.specs.Most.{most_after};
 
@@ -110,7 +110,7 @@ impl Running {
 
     /// How many commands are applied at most once so many more are known.
     pub(crate) fn most_applied(&self, commands: usize) -> usize
-        requires { commands ≤ WINDOW }
+        requires { commands ≤ COMMANDS_OF_A_CALL }
         ensures value { result ≡ ahead_of self.now + commands }
         ensures most { result ≤ SLOTS + commands }
     {
@@ -126,8 +126,8 @@ impl Running {
 
     /// What a call makes at most that learns so many commands and sends so many frames.
     pub(crate) fn need(&self, commands: usize, frames: usize) -> Need
-        requires commands { commands ≤ WINDOW }
-        requires frames { frames ≤ FRAMES_OF_A_MESSAGE }
+        requires commands { commands ≤ COMMANDS_OF_A_CALL }
+        requires frames { frames ≤ MOST_FRAMES_OF_A_MESSAGE }
         ensures { result ≡ need_of self.now commands frames }
     {
         let applied = self.most_applied(commands);
@@ -140,19 +140,20 @@ impl Running {
         }
     }
 
-    /// Makes room to learn of so many commands more. An `Err` changes room alone.
-    pub(crate) fn reserve(&mut self, commands: usize) -> Result<(), AllocError>
-        requires { commands ≤ WINDOW }
+    /// Makes room to count so many answers more, with so many commands in all. An `Err` changes room alone.
+    pub(crate) fn reserve(&mut self, answers: usize, commands: usize) -> Result<(), AllocError>
+        requires { commands ≤ COMMANDS_OF_A_CALL }
         ensures same { (post : Station) (s : Standing) → IsRunning post self.old s → IsRunning post self.new s }
         ensures at { (post : Station) → IsAt post self.old → IsAt post self.new }
         ensures ahead { ahead_of self.new ≡ ahead_of self.old }
         ensures learned { self.new.learner.learned ≡ self.old.learner.learned }
-        ensures learner { OnOk result (commands ≤ learner_room self.new.learner) }
+        ensures answers { OnOk result (answers ≤ self.new.learner.answers) }
+        ensures commands { OnOk result (commands ≤ self.new.learner.commands) }
         ensures table { OnOk result (ahead_of self.new + commands ≤ self.new.table.room) }
         ensures rest { self.new ≡ record self.old { learner = self.new.learner; table = self.new.table } }
     {
         let applied = self.most_applied(commands);
-        self.learner.reserve(commands, commands)?;
+        self.learner.reserve(answers, commands)?;
         self.table.reserve(applied)
     }
 

@@ -1,6 +1,5 @@
 ghost use Rattle.std.specs.Prelude.{◌≡◌, ◌+◌, ◌*◌, ◌≤◌, ◌++◌, length, map};
-ghost use Rattle.paxos_wire.specs.declared.limits.TheConstants.{MOST_SINGLE_FRAME};
-ghost use Rattle.paxos_wire.specs.Fits.{Fits, IsSingle, IsMessage};
+ghost use Rattle.paxos_wire.specs.Fits.{Fits, IsMessage, most_bytes};
 ghost use Rattle.paxos_wire.specs.Spelling.{frame};
 ghost use Rattle.dealer_node.specs.Texts.{byte_total};
 ghost use Rattle.node_rules.specs.Sending.{one, to_first};
@@ -28,18 +27,17 @@ pub(crate) fn send(frames: &mut Texts<u8>, to: u8, message: &Message)
     frames.runs.push_reserved(Run { mark: to, len });
 }
 
-/// Sends the frame of a message of one command at most to each node but this one, in order of their numbers.
+/// Sends the frame of a message to each node but this one, in order of their numbers.
 pub(crate) fn send_to_others(frames: &mut Texts<u8>, nodes: u8, number: u8, message: &Message)
     requires fits { Fits message.now }
-    requires single { IsSingle message.now }
     requires texts { nodes ≤ frames.old.text_room }
-    requires bytes { MOST_SINGLE_FRAME * nodes ≤ frames.old.byte_room }
+    requires bytes { most_bytes message.now * nodes ≤ frames.old.byte_room }
     ensures texts { frames.new.texts ≡ frames.old.texts ++ map posted (to_first nodes number message.now) }
     ensures fits { AreMessages (to_first nodes number message.now) }
     ensures text_room { frames.old.text_room ≤ frames.new.text_room + nodes }
-    ensures byte_room { frames.old.byte_room ≤ frames.new.byte_room + MOST_SINGLE_FRAME * nodes }
+    ensures byte_room { frames.old.byte_room ≤ frames.new.byte_room + most_bytes message.now * nodes }
     ensures len { length frames.new.texts ≤ length frames.old.texts + nodes }
-    ensures size { byte_total frames.new.texts ≤ byte_total frames.old.texts + MOST_SINGLE_FRAME * nodes }
+    ensures size { byte_total frames.new.texts ≤ byte_total frames.old.texts + most_bytes message.now * nodes }
 {
     let _len = frame_len(message);
     for to in 0..nodes {

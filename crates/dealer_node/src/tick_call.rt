@@ -44,7 +44,7 @@ impl<D: Disk + Drop> Up<D> {
     ) -> Result<(), NodeFault>
         requires at { IsAt post.now self.old.running }
         requires unspent { over ≡ false → is_spent_at self.old.running promised ≡ false }
-        requires room { HasCallRoom self.old made.old (close_need self.old.running) 1 }
+        requires room { HasCallRoom self.old made.old (close_need self.old.running) 1 1 }
         ensures works { (s : Standing) → IsTrue D.is_honest → IsUp D.Disk post.now self.old s → promised ≡ s.store.promise → over ≡ is_over (place_at post.now) s
             → Works D.Disk post.now s (and_then (ticking (place_at post.now) s) (closing (place_at post.now))) self.old self.new (told_by made.old) (told_by made.new) result }
         ensures goes_on { GoesOn D.Disk self.old self.new result }
@@ -82,7 +82,7 @@ impl<D: Disk + Drop> Up<D> {
             return Err(NodeFault::Spent);
         }
         let need = close_need(&self.running);
-        let mut made = self.ready(alloc, 1, &need, out)?;
+        let mut made = self.ready(alloc, 1, 1, &need, out)?;
         self.tick(post, promised, over, &mut made)?;
         out.append(made);
         Ok(())

@@ -90,7 +90,7 @@ impl<D: Disk + Drop> Up<D> {
         ensures goes_on { GoesOn D.Disk self.old self.new result }
         ensures only { IsOfPart result }
         ensures at { IsAt post.now self.new.running }
-        ensures left { (need : Needs) (votes frames : ℕ) → HasLeft self.old.running made.old need (votes + 1) (frames + FRAMES_OF_A_CLOSE) → HasLeft self.new.running made.new need votes frames }
+        ensures left { (need : Needs) (answers commands frames : ℕ) → HasLeft self.old.running made.old need (answers + 1) (commands + 1) (frames + FRAMES_OF_A_CLOSE) → HasLeft self.new.running made.new need answers commands frames }
     {
         post.limits();
         let _nodes = post.nodes();

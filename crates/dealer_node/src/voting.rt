@@ -1,9 +1,9 @@
-ghost use Rattle.std.specs.Prelude.{◌≡◌, ◌+◌, ◌*◌, ◌≤◌, ◌++◌, map, OnOk, OnErr, Err};
+ghost use Rattle.std.specs.Prelude.{◌≡◌, ◌+◌, ◌*◌, ◌≤◌, ◌++◌, ◌∷◌, [], length, map, OnOk, OnErr, Err};
 ghost use Rattle.paxos_wire.specs.declared.message.Message.TheVariants.{Accept as Proposing, Accepted as Accepting};
 ghost use Rattle.node_rules.specs.Sending.{to_others};
 ghost use Rattle.dealer_node.specs.Turned.{posted};
 ghost use Rattle.dealer_node.specs.Fitting.{AreMessages};
-ghost use Rattle.paxos_wire.specs.Fits.{IsBallot, IsSlot, IsInRange};
+ghost use Rattle.paxos_wire.specs.Fits.{IsBallot, IsSlot, IsInRange, IsCommandRun};
 ghost use Rattle.paxos_wire.specs.declared.limits.TheConstants.{MOST_SINGLE_FRAME};
 ghost use Rattle.node_rules.specs.Standings.{Standing};
 ghost use Rattle.node_rules.specs.Turns.{Conflict as Conflicting};
@@ -11,34 +11,42 @@ ghost use Rattle.dealer_node.specs.Posts.{place_at};
 ghost use Rattle.dealer_node.specs.Outs.{told_by};
 ghost use Rattle.dealer_node.specs.Rooms.{Grows};
 ghost use Rattle.dealer_node.specs.Running.{IsRunning, TakesTurn, IsAt, CanLearn, Learns};
-ghost use Rattle.dealer_node.specs.Voting.{telling_vote};
+ghost use Rattle.dealer_node.specs.Voting.{telling_votes};
+ghost use Rattle.dealer_node.specs.declared.limits.TheConstants.{FRAMES_TO_ALL};
 
 use crate::made::Made;
 use crate::post::Post;
 use crate::running::Running;
 use crate::sending::send_to_others;
 use crate::texts::Texts;
-use paxos_wire::{Ballot, Message};
+use paxos_wire::{Ballot, CommandList, Message};
 use proposer::Accept;
 use slot_log::{Command, SlotFault};
 
-/// Sends the others that this node accepted a command at a slot in a ballot.
-fn send_accepted(frames: &mut Texts<u8>, post: &Post, ballot: Ballot, slot: u32, command: &Command)
+/// Sends the others that this node accepted commands in a ballot, the first at the slot and each further one at the slot
+/// behind. The frame of each counts as one for each of its commands.
+fn send_accepted(
+    frames: &mut Texts<u8>,
+    post: &Post,
+    ballot: Ballot,
+    slot: u32,
+    commands: &[Command],
+)
     requires ballot { IsBallot ballot }
-    requires slot { IsSlot slot }
-    requires command { IsInRange command.now }
-    requires texts { post.now.nodes ≤ frames.old.text_room }
-    requires bytes { MOST_SINGLE_FRAME * post.now.nodes ≤ frames.old.byte_room }
-    ensures texts { frames.new.texts ≡ frames.old.texts ++ map posted (to_others (place_at post.now) (Accepting ballot slot command.now)) }
-    ensures fits { AreMessages (to_others (place_at post.now) (Accepting ballot slot command.now)) }
-    ensures grows { Grows frames.old frames.new post.now.nodes (MOST_SINGLE_FRAME * post.now.nodes) }
+    requires run { IsCommandRun slot commands.now }
+    requires texts { FRAMES_TO_ALL ≤ frames.old.text_room }
+    requires bytes { MOST_SINGLE_FRAME * (FRAMES_TO_ALL * length commands.now) ≤ frames.old.byte_room }
+    ensures texts { frames.new.texts ≡ frames.old.texts ++ map posted (to_others (place_at post.now) (Accepting ballot slot commands.now)) }
+    ensures fits { AreMessages (to_others (place_at post.now) (Accepting ballot slot commands.now)) }
+    ensures grows { Grows frames.old frames.new FRAMES_TO_ALL (MOST_SINGLE_FRAME * (FRAMES_TO_ALL * length commands.now)) }
 {
+    let nodes = post.nodes();
     let message = Message::Accepted {
         ballot,
         slot,
-        command: *command,
+        commands: CommandList::from_slice(commands),
     };
-    send_to_others(frames, post.nodes(), post.node(), &message);
+    send_to_others(frames, nodes, post.node(), &message);
 }
 
 /// Sends the others a proposal.
@@ -48,46 +56,45 @@ pub(crate) fn send_proposal(frames: &mut Texts<u8>, post: &Post, proposal: &Acce
     requires command { IsInRange proposal.now.command }
     requires texts { post.now.nodes ≤ frames.old.text_room }
     requires bytes { MOST_SINGLE_FRAME * post.now.nodes ≤ frames.old.byte_room }
-    ensures texts { frames.new.texts ≡ frames.old.texts ++ map posted (to_others (place_at post.now) (Proposing proposal.now.ballot proposal.now.slot proposal.now.command)) }
-    ensures fits { AreMessages (to_others (place_at post.now) (Proposing proposal.now.ballot proposal.now.slot proposal.now.command)) }
+    ensures texts { frames.new.texts ≡ frames.old.texts ++ map posted (to_others (place_at post.now) (Proposing proposal.now.ballot proposal.now.slot (proposal.now.command ∷ []))) }
+    ensures fits { AreMessages (to_others (place_at post.now) (Proposing proposal.now.ballot proposal.now.slot (proposal.now.command ∷ []))) }
     ensures grows { Grows frames.old frames.new post.now.nodes (MOST_SINGLE_FRAME * post.now.nodes) }
 {
     let message = Message::Accept {
         ballot: proposal.ballot,
         slot: proposal.slot,
-        command: proposal.command,
+        commands: CommandList::from_slice(&[proposal.command]),
     };
     send_to_others(frames, post.nodes(), post.node(), &message);
 }
 
 impl Running {
-    /// Tells the others that the node accepted a command at a slot in a ballot, and counts that as the vote of any other
-    /// node. An `Err` is 30: another command is known there.
-    pub(crate) fn tell_vote(
+    /// Tells the others that the node accepted commands in a ballot, the first at the slot and each further one at the slot
+    /// behind, and counts that as the votes of any other node. An `Err` is 30: another command is known at one of the slots.
+    pub(crate) fn tell_votes(
         &mut self,
         post: &Post,
         ballot: Ballot,
         slot: u32,
-        command: &Command,
+        commands: &[Command],
         made: &mut Made,
     ) -> Result<(), SlotFault>
         requires at { IsAt post.now self.old }
         requires ballot { IsBallot ballot }
-        requires slot { IsSlot slot }
-        requires command { IsInRange command.now }
-        requires room { CanLearn self.old made.old 1 }
-        requires texts { post.now.nodes ≤ made.old.frames.text_room }
-        requires bytes { MOST_SINGLE_FRAME * post.now.nodes ≤ made.old.frames.byte_room }
+        requires run { IsCommandRun slot commands.now }
+        requires room { CanLearn self.old made.old 1 (length commands.now) }
+        requires texts { FRAMES_TO_ALL ≤ made.old.frames.text_room }
+        requires bytes { MOST_SINGLE_FRAME * (FRAMES_TO_ALL * length commands.now) ≤ made.old.frames.byte_room }
         ensures ok { OnOk result ((s : Standing) → IsRunning post.now self.old s
-            → TakesTurn post.now self.new (told_by made.old) (told_by made.new) (telling_vote (place_at post.now) ballot slot command.now s)) }
+            → TakesTurn post.now self.new (told_by made.old) (told_by made.new) (telling_votes (place_at post.now) ballot slot commands.now s)) }
         ensures err { OnErr result ((s : Standing) → IsRunning post.now self.old s
-            → telling_vote (place_at post.now) ballot slot command.now s ≡ Err (Conflicting s.store)) }
+            → telling_votes (place_at post.now) ballot slot commands.now s ≡ Err (Conflicting s.store)) }
         ensures at { IsAt post.now self.new }
-        ensures learns { Learns self.old self.new made.old made.new }
-        ensures frames { Grows made.old.frames made.new.frames post.now.nodes (MOST_SINGLE_FRAME * post.now.nodes) }
+        ensures learns { Learns (length commands.now) self.old self.new made.old made.new }
+        ensures frames { Grows made.old.frames made.new.frames FRAMES_TO_ALL (MOST_SINGLE_FRAME * (FRAMES_TO_ALL * length commands.now)) }
         ensures rest { made.new ≡ record made.old { frames = made.new.frames; shown = made.new.shown } }
     {
-        send_accepted(&mut made.frames, post, ballot, slot, command);
-        self.count_vote(post, post.node(), ballot, slot, *command, made)
+        send_accepted(&mut made.frames, post, ballot, slot, commands);
+        self.count_votes(post, post.node(), ballot, slot, commands, made)
     }
 }

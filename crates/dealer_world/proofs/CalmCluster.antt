@@ -1,5 +1,5 @@
 -- A cluster at rest moves: its events are those of a round of the rules.
-use Rattle.std.proofs.Common.{Option, Some, None, ◌≡◌, ◌≢◌, ℕ, ◌<◌, ◌≤◌, ◌-◌, ◌^◌, ◌⊎◌, inl, inr, Bool, true, false, ◌==◌, if◌then◌else◌, List, [], ◌∷◌, ◌++◌, map, length, get_or, set, Result, Err, IsTrue, refl, ap, sym, ◌∙◌, subst, arith, length-set, get_or-set_same, get_or-set_other, le_refl}
+use Rattle.std.proofs.Common.{Option, Some, None, ◌≡◌, ◌≢◌, ℕ, ◌+◌, ◌<◌, ◌≤◌, ◌-◌, ◌^◌, ◌⊎◌, inl, inr, Bool, true, false, ◌==◌, if◌then◌else◌, List, [], ◌∷◌, ◌++◌, map, length, get_or, set, Result, Err, IsTrue, refl, ap, sym, ◌∙◌, subst, arith, length-set, get_or-set_same, get_or-set_other, le_refl}
 use Rattle.std.proofs.Math.Logic.{∥∥₁_map, ∥∥₁_elim}
 use Rattle.std.proofs.lemmas.List.{get_or_default}
 use Rattle.std.proofs.lemmas.Bool.Decides.{eqb_tells}
@@ -7,7 +7,6 @@ use Rattle.promise_store.specs.declared.disk.Disk.{Ghosts}
 use Rattle.promise_store.specs.Disks.{Rose}
 use Rattle.promise_store.specs.declared.fault.StoreFault.TheVariants.{Disk}
 use Rattle.paxos_wire.specs.declared.ballot.Ballot.{Ballot}
-use Rattle.slot_log.specs.Slots.{known_at}
 use Rattle.slot_log.specs.declared.command.Command.{Command}
 use Rattle.protocol_model.specs.Sets.{In}
 use Rattle.protocol_model.specs.Ballots.{Below}
@@ -25,10 +24,10 @@ use Rattle.node_rules.specs.Called.{Ends, took, refused, failed, unchanged}
 use Rattle.protocol_model.specs.Votes.{told_by}
 use Rattle.node_rules.specs.Proposing.{is_over, own_value}
 use Rattle.paxos_wire.specs.declared.limits.TheConstants.{SLOTS}
-use Rattle.node_rules.specs.Calm.{without, IsHeld, IsGreatestHeld, IsOwn, Calm, Ticks, Delivers, delivers, ballot_after, round}
+use Rattle.node_rules.specs.Calm.{without, IsHeld, IsGreatestHeld, AreGreatestHeld, IsToldRun, Calm, Ticks, Delivers, delivers, ballot_after, round}
 use Rattle.node_rules.specs.Calm as calm
 use Rattle.node_rules.specs.CalmRound as of_round
-use Rattle.node_rules.specs.CalmRound.{HasMovedOn}
+use Rattle.node_rules.specs.CalmRound.{AreKnown}
 use Rattle.paxos_wire.specs.declared.message.Message.TheVariants.{Prepare, Promise, Accept, Accepted}
 use Rattle.dealer_node.specs.Nodes.{Node}
 use Rattle.dealer_node.specs.declared.fault.NodeFault.{NodeFault}
@@ -132,9 +131,9 @@ without_in : (i : ℕ) (ms : List ℕ) (k : ℕ) → In k (without i ms) → In 
 without_in i [] k h = absurd h
 without_in i (m ∷ ms) k h = without_step i m ms k (m == i) (λ t. without_in i ms k t) h
 
-round_in : (standings : ℕ → Standing) (i : ℕ) (members : List ℕ) (command : Command) → In i members → (y : calm.Event) → In y (round standings i members command) → In (of_round.node_of y) members
-round_in standings i members command member y (inl e) = subst (λ (k : ℕ). In k members) (sym (ap of_round.node_of e)) member
-round_in standings i members command member y (inr h) = elim (in_split (map asks others) _ y h) [
+round_in : (standings : ℕ → Standing) (i : ℕ) (members : List ℕ) (commands : List Command) → In i members → (y : calm.Event) → In y (round standings i members commands) → In (of_round.node_of y) members
+round_in standings i members commands member y (inl e) = subst (λ (k : ℕ). In k members) (sym (ap of_round.node_of e)) member
+round_in standings i members commands member y (inr h) = elim (in_split (map asks others) _ y h) [
   | inl a ↦ from_map asks (λ j. j) others members (λ j. refl) (λ j k. without_in i members j k) y a
   | inr h ↦ elim (in_split (map promises others) _ y h) [
     | inl a ↦ from_map promises (λ j. i) others members (λ j. refl) (λ j k. member) y a
@@ -161,10 +160,10 @@ round_in standings i members command member y (inr h) = elim (in_split (map asks
     promises j = delivers j i (Promise (ballot_after i (standings i)) (front_of (standings i)) (told_by (standings j).store (front_of (standings i))))
 
     proposes : ℕ → calm.Event
-    proposes j = delivers i j (Accept (ballot_after i (standings i)) (front_of (standings i)) command)
+    proposes j = delivers i j (Accept (ballot_after i (standings i)) (front_of (standings i)) commands)
 
     accepts : ℕ → calm.Event
-    accepts j = delivers j i (Accepted (ballot_after i (standings i)) (front_of (standings i)) command)
+    accepts j = delivers j i (Accepted (ballot_after i (standings i)) (front_of (standings i)) commands)
 
 -- ---- standings that are the same at all members
 
@@ -172,14 +171,14 @@ map_same : {A : Type 0} (f h : ℕ → A) (js : List ℕ) → ((j : ℕ) → In 
 map_same f h [] same = refl
 map_same f h (j ∷ js) same = λ k. same j (inl refl) k ∷ map_same f h js (λ m i. same m (inr i)) k
 
-round_same : (a b : ℕ → Standing) (i : ℕ) (members : List ℕ) (command : Command) → In i members → ((k : ℕ) → In k members → a k ≡ b k) → round a i members command ≡ round b i members command
-round_same a b i members command member same = λ k.
+round_same : (a b : ℕ → Standing) (i : ℕ) (members : List ℕ) (commands : List Command) → In i members → ((k : ℕ) → In k members → a k ≡ b k) → round a i members commands ≡ round b i members commands
+round_same a b i members commands member same = λ k.
     let ballot = ballot_after i (here k) in
     let slot = front_of (here k) in
     Ticks i ∷ (map (λ j. delivers i j (Prepare ballot slot)) (without i members)
     ++ (told k
-    ++ (map (λ j. delivers i j (Accept ballot slot command)) (without i members)
-    ++ map (λ j. delivers j i (Accepted ballot slot command)) (without i members))))
+    ++ (map (λ j. delivers i j (Accept ballot slot commands)) (without i members)
+    ++ map (λ j. delivers j i (Accepted ballot slot commands)) (without i members))))
   where
     here : a i ≡ b i
     here = same i member
@@ -192,8 +191,21 @@ round_same a b i members command member same = λ k.
 held_same : (a b : ℕ → Standing) (members : List ℕ) (slot : ℕ) (vote : Vote) → ((k : ℕ) → In k members → a k ≡ b k) → IsHeld a members slot vote → IsHeld b members slot vote
 held_same a b members slot vote same (node, member, e) = (node, member, ap (λ (s : Standing). s.store.votes slot) (sym (same node member)) ∙ e)
 
-calm_same : (place : Place) (a b : ℕ → Standing) (i : ℕ) (members : List ℕ) (command : Command) → ((k : ℕ) → In k members → a k ≡ b k) → Calm place a i members command → Calm place b i members command
-calm_same place a b i members command same calm = record {
+greatest_same : (a b : ℕ → Standing) (members : List ℕ) (slot : ℕ) (command : Command) → ((k : ℕ) → In k members → a k ≡ b k) → IsGreatestHeld a members slot command → IsGreatestHeld b members slot command
+greatest_same a b members slot command same held = record {
+  greatest = held.greatest;
+  held = held_same a b members slot held.greatest same held.held;
+  same = held.same;
+  above = λ v h. held.above v (held_same b a members slot v (λ k m. sym (same k m)) h);
+}
+
+all_greatest_same : (a b : ℕ → Standing) (members : List ℕ) (slot : ℕ) (commands : List Command) → ((k : ℕ) → In k members → a k ≡ b k)
+    → AreGreatestHeld a members slot commands → AreGreatestHeld b members slot commands
+all_greatest_same a b members slot [] same held = tt
+all_greatest_same a b members slot (command ∷ later) same (first, rest) = (greatest_same a b members slot command same first, all_greatest_same a b members (slot + 1) later same rest)
+
+calm_same : (place : Place) (a b : ℕ → Standing) (i : ℕ) (members : List ℕ) (commands : List Command) → ((k : ℕ) → In k members → a k ≡ b k) → Calm place a i members commands → Calm place b i members commands
+calm_same place a b i members commands same calm = record {
   of_node = calm.of_node;
   quorum = calm.quorum;
   member = calm.member;
@@ -204,18 +216,27 @@ calm_same place a b i members command same calm = record {
       (subst (λ (s : Standing). Below (a k).store.promise (ballot_after i s)) (same i calm.member) (calm.unpromised k h));
   goes_on = ap (is_over place) (sym (same i calm.member)) ∙ calm.goes_on;
   value = elim calm.value [
-    | inl held ↦ inl (subst (λ (s : Standing). IsGreatestHeld b members (front_of s) command) (same i calm.member) (record {
-      greatest = held.greatest;
-      held = held_same a b members (front_of (a i)) held.greatest same held.held;
-      same = held.same;
-      above = λ v h. held.above v (held_same b a members (front_of (a i)) v (λ k m. sym (same k m)) h);
+    | inl told ↦ inl (subst (λ (s : Standing). IsToldRun b members (front_of s) commands) (same i calm.member) (record {
+      held = all_greatest_same a b members (front_of (a i)) commands same told.held;
+      one = told.one;
     }))
     | inr own ↦ inr (
-      (λ v h. own.0 v (held_same b a members (front_of (a i)) v (λ k m. sym (same k m)) (subst (λ (s : Standing). IsHeld b members (front_of s) v) (sym (same i calm.member)) h))),
-      ap (own_value place) (sym (same i calm.member)) ∙ own.1,
+      own.0,
+      own.1,
+      (
+        (λ v h. own.2.0 v (held_same b a members (front_of (a i)) v (λ k m. sym (same k m)) (subst (λ (s : Standing). IsHeld b members (front_of s) v) (sym (same i calm.member)) h))),
+        ap (own_value place) (sym (same i calm.member)) ∙ own.2.1,
+      ),
     )
   ];
 }
+
+-- as yet a round has one command
+one_command : (place : Place) (standings : ℕ → Standing) (i : ℕ) (members : List ℕ) (commands : List Command) → Calm place standings i members commands → length commands ≡ 1
+one_command place standings i members commands calm = elim calm.value [
+  | inl told ↦ told.one
+  | inr own ↦ ap (λ (l : List Command). length l) own.1
+]
 
 -- ---- small facts
 
@@ -399,7 +420,7 @@ module _ {D : Type 0} (g : Ghosts D) where
 
   pub moves_on : (old new : View (Node D)) (events : List Event) → RoundsMoveOn → SeenAsOne → TellsUp g → ∥ ArePosted old.config old.nodes ∥₁ → length old.nodes ≡ length old.config.sources
       → IsBehind g old.opened old.config old.nodes old.all → Ran g old events new → MovesOn g old events new
-  moves_on old new events law one up posted count behind ran before standings i members command first rest goes honest unforged seen calm_now whole are sound =
+  moves_on old new events law one up posted count behind ran before standings i members commands first rest goes honest unforged seen calm_now whole are sound =
       ∥∥₁_elim posted (hlevel) (λ each. ∥∥₁_map (behind before goes honest) (λ ruled.
       let plan : Plan = old.config in
       let n : ℕ = length old.config.sources in
@@ -410,12 +431,12 @@ module _ {D : Type 0} (g : Ghosts D) where
       node_there old.nodes k within (λ d.
       one (get_or old.nodes k d) (standings k) (standing_at plan state k) honest (seen k d h)
       (seen_at g old.nodes ruled.standings k d (stopped (place_of plan k) empty_store empty_store) within ruled.seen) (calm_now.up k h))) in
-      let calm_then = calm_same (place_of plan i) standings (standing_at plan state) i members command same calm_now in
-      let split_then : round (standing_at plan state) i members command ≡ first ++ rest = sym (round_same standings (standing_at plan state) i members command calm_now.member same) ∙ whole in
+      let calm_then = calm_same (place_of plan i) standings (standing_at plan state) i members commands same calm_now in
+      let split_then : round (standing_at plan state) i members commands ≡ first ++ rest = sym (round_same standings (standing_at plan state) i members commands calm_now.member same) ∙ whole in
       let inside : AllIn members first =
-      (λ y h. round_in (standing_at plan state) i members command calm_now.member y (subst (λ (l : List calm.Event). In y l) (sym split_then) (in_first first rest y h))) in
+      (λ y h. round_in (standing_at plan state) i members commands calm_now.member y (subst (λ (l : List calm.Event). In y l) (sym split_then) (in_first first rest y h))) in
       let m = ran_on n members plan ruled.standings old new events first count low ran are inside each ruled.seen honest up sound in
-      let moved = law plan.setting n before plan.sources state (state_of m.after new) i members command first rest ruled.runs unforged calm_then split_then m.takes in
+      let moved = law plan.setting n before plan.sources state (state_of m.after new) i members commands first rest ruled.runs unforged calm_then split_then m.takes in
       let within : i < length new.nodes = subst (λ (k : ℕ). i < k) (sym (m.count ∙ count)) (low i calm_now.member) in
       let front_is : front_of (standing_at plan state i) ≡ front_of (standings i) = ap (λ (x : Standing). front_of x) (sym (same i calm_now.member)) in
       let s : Standing = standing_at plan (state_of m.after new) i in (
@@ -423,6 +444,9 @@ module _ {D : Type 0} (g : Ghosts D) where
         λ all d.
             let is = seen_at g new.nodes m.after i d (stopped (place_of plan i) empty_store empty_store) within m.seen in
             let passed = moved.2 all in
-            let further = subst (λ (f : ℕ). (f < front_of s) × (known_at s.learned.log f ≡ Some command)) front_is passed in
-            (s, is, up_above (post_in (get_or new.nodes i d)) (get_or new.nodes i d).up (get_or new.nodes i d).disk s (front_of (standings i)) is.by further.0, further.0, further.1),
+            let further = subst (λ (f : ℕ). (f + length commands ≤ front_of s) × AreKnown s.learned.log f commands) front_is passed in
+            let one_only = one_command (place_of plan i) standings i members commands calm_now in
+            let up_to = further.0 in
+            let above : front_of (standings i) < front_of s = omega (arith, one_only, up_to) in
+            (s, is, up_above (post_in (get_or new.nodes i d)) (get_or new.nodes i d).up (get_or new.nodes i d).disk s (front_of (standings i)) is.by above, further.0, further.1),
       )))

@@ -233,11 +233,11 @@ members_of laws setting n before sources old members was unforged low =
     )
 
 pub rounds_move_on : Given → CalmRoundMoves → RoundsMoveOn
-rounds_move_on laws calm_moves setting n before sources old new i members command first rest run unforged calm e takes =
+rounds_move_on laws calm_moves setting n before sources old new i members commands first rest run unforged calm e takes =
     let was = run_keeps laws setting n before sources old run in
     let plan : Plan = plan_of setting sources in
     let are = members_of laws setting n before sources old members was unforged (λ k h. (above_all 0 (length sources) members k calm.quorum.rise h).1) in
-    let go = calm_moves (own_of setting sources before) setting (length sources) (λ k. deals_from setting.game.players (slice_get sources k)) are.0 (standing_at plan old) i members command are.1 calm in
-    walk plan (HasMovedOn i (front_of (standing_at plan old i)) command) first rest (standing_at plan old) [] old new
+    let go = calm_moves (own_of setting sources before) setting (length sources) (λ k. deals_from setting.game.players (slice_get sources k)) are.0 (standing_at plan old) i members commands are.1 calm in
+    walk plan (HasMovedOn i (front_of (standing_at plan old i)) commands) first rest (standing_at plan old) [] old new
     (record { standings = refl; known = λ s h. absurd h; unforged = unforged; placed = was.placed })
-    (subst (GoOn (place_of plan) (HasMovedOn i (front_of (standing_at plan old i)) command) (standing_at plan old) []) e go) takes
+    (subst (GoOn (place_of plan) (HasMovedOn i (front_of (standing_at plan old i)) commands) (standing_at plan old) []) e go) takes

@@ -205,9 +205,13 @@ opened_over = record {
   bytes = refl;
   begun = refl;
   counts = omega arith;
+  settled = λ image left. elim left [ inl shown ↦ shown | inr synced ↦ synced ];
   images = λ image left. elim left [ inl shown ↦ inl shown | inr synced ↦ inl synced ];
   during = λ t image since. elim since [ inl (inl shown) ↦ inr (inl shown) | inl (inr synced) ↦ inr (inl synced) | inr past ↦ inl (inr past) ];
 }
+
+not_synced : IsOver paper written (down (record written { begun = with_promise })) → ⊥
+not_synced over = created_for_promised (over.settled (created 0) (inr refl))
 
 not_begun_anew : IsOver paper written (down written) → ⊥
 not_begun_anew over = created_for_promised over.begun

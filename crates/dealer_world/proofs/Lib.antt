@@ -27,6 +27,7 @@ mod ShowsExamples
 mod Answering
 mod Reached
 mod Opened
+mod Again
 mod CalmCluster
 mod Founding
 mod Wanting

@@ -11,7 +11,7 @@ use Rattle.slot_log.specs.declared.command.Command.TheVariants.{Deal, Act}
 use Rattle.match_log.proofs.Examples.{opened, two_players, alice_and_bob}
 use Rattle.deck_draw.proofs.Examples.{drawn_of_zero}
 use Rattle.paxos_wire.specs.declared.ballot.Ballot.{Ballot}
-use Rattle.paxos_wire.specs.Reading.{body_of, message_at, of_ballot_at, ballot_at, below_at, promise_at, entries_at, accept_at, behind_count, command_at, dealt_at, deal_at, deal_of, acted_at, action_at, action_of, ask_at}
+use Rattle.paxos_wire.specs.Reading.{body_of, message_at, of_ballot_at, ballot_at, below_at, promise_at, entries_at, accept_at, proposed_at, behind_count, commands_at, command_at, dealt_at, deal_at, deal_of, acted_at, action_at, action_of, ask_at}
 use Rattle.paxos_wire.specs.Faults.{header_fault, reading}
 use Rattle.protocol_model.specs.Sets.{In, IsBeginning}
 use Rattle.protocol_model.specs.Messages.{Message, Prepare, Promise, Accept, Accepted, Ask}
@@ -131,11 +131,11 @@ messages =
     messages_before_the_fold ++ Accept ballot 1 fold ∷ Accept ballot 1 fold ∷ Accepted 0 ballot 1 fold ∷ Accepted 0 ballot 1 fold ∷ Accepted 1 ballot 1 fold ∷ Accepted 1 ballot 1 fold ∷ Ask 1 0 ∷ []
 
 pub said_before_the_fold : said sent_before_the_fold ≡ messages_before_the_fold
-unfolding prepare promise accept_deal accepted_deal reading header_fault body_of message_at of_ballot_at ballot_at below_at promise_at entries_at accept_at behind_count command_at dealt_at deal_at deal_of
+unfolding prepare promise accept_deal accepted_deal reading header_fault body_of message_at of_ballot_at ballot_at below_at promise_at entries_at accept_at proposed_at behind_count commands_at command_at dealt_at deal_at deal_of
 said_before_the_fold = refl
 
 all_said : said sent ≡ messages
-unfolding prepare promise accept_deal accepted_deal accept_fold accepted_fold asking reading header_fault body_of message_at of_ballot_at ballot_at below_at promise_at entries_at accept_at behind_count command_at dealt_at deal_at deal_of acted_at action_at action_of ask_at
+unfolding prepare promise accept_deal accepted_deal accept_fold accepted_fold asking reading header_fault body_of message_at of_ballot_at ballot_at below_at promise_at entries_at accept_at proposed_at behind_count commands_at command_at dealt_at deal_at deal_of acted_at action_at action_of ask_at
 all_said = refl
 
 pub prepare_said : said_by (from_to 0 1 prepare) ≡ Prepare ballot 0 ∷ []

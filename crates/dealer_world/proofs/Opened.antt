@@ -22,7 +22,7 @@ use Rattle.dealer_node.specs.Starting.{GoesOnNew, MarksJournal}
 use Rattle.dealer_node.specs.Taking.{IsOfStart, FindsStore, OpensDisk}
 use Rattle.dealer_world.specs.declared.event.Event.TheVariants as event
 use Rattle.dealer_world.specs.Stepping.{View, Stepped}
-use Rattle.dealer_world.specs.Beginning.{IsWant, IsReopenedAt, HaveStores, HasStore, HaveEither, AreEach, IsOver, IsOnlyRead, LeavesIn, IsOpenedSince, MarkFirst, IsOpenedOver, AreOpenedOver, LeaveStores, GoOnNew, MayBeFound, AreImagesOf, LeaveNoMore, AreImages, IsOfBytes, IsFirstRefused, IsFirstNoStore, IsUnopened}
+use Rattle.dealer_world.specs.Beginning.{IsWant, IsReopenedAt, HaveStores, HasStore, AreEach, IsOver, IsOnlyRead, LeavesIn, IsOpenedSince, MarkFirst, IsOpenedOver, AreOpenedOver, GoOnNew, MayBeFound, AreImagesOf, KeepStores, AreAtRest, LeaveNoMore, AreImages, IsOfBytes, IsFirstRefused, IsFirstNoStore, IsUnopened}
 
 -- ---- lists, side by side
 
@@ -301,6 +301,7 @@ module _ {D : Type 0} (g : Ghosts D) where
     bytes = read.bytes ∙ over.bytes;
     begun = read.begun ∙ over.begun;
     counts = let a = over.counts in let b = read.counts in omega arith;
+    settled = λ image is. over.settled image (read.images image is);
     images = λ image is. over.images image (read.images image is);
     during = λ t image is. elim (read.during t image is) [ inl before ↦ over.during t image before | inr now ↦ inr (over.images image now) ];
   }
@@ -323,12 +324,12 @@ module _ {D : Type 0} (g : Ghosts D) where
   opened_one head given old new heads over opens marks = record {
     begun = opens.begun ∙ over.begun;
     counts = let a = over.counts in let b = opens.counts in omega arith;
-    during = λ store begun honest leaves t image left.
-        let first : LeavesIn g (head_of (post_in old)) store begun old =
-        λ other is. subst (λ h. StandsFor h other store ⊎ StandsFor h other begun) (sym heads) (leaves other (over.images other is)) in
-        elim (opens.during store begun honest first t image left) [
-          | inl before ↦ elim (over.during t image before) [ inl was ↦ inl was | inr now ↦ inr (leaves image now) ]
-          | inr either ↦ inr (subst (λ h. StandsFor h image store ⊎ StandsFor h image begun) heads either)
+    during = λ store honest stands t image left.
+        let first : LeavesIn g (head_of (post_in old)) store store old =
+        λ other is. inl (subst (λ (h : List ℕ). StandsFor h other store) (sym heads) (subst (λ (file : List ℕ). StandsFor head file store) (sym (over.settled other is)) stands)) in
+        elim (opens.during store store honest first t image left) [
+          | inl before ↦ elim (over.during t image before) [ inl was ↦ inl was | inr now ↦ inr (inl now) ]
+          | inr either ↦ inr (inr (subst (λ (h : List ℕ). StandsFor h image store) heads (elim either [ inl one ↦ one | inr other ↦ other ])))
         ];
     marks = λ honest.
         subst (λ (file : List ℕ). MarksJournal head file (bytes_of g new)) over.bytes
@@ -355,17 +356,37 @@ module _ {D : Type 0} (g : Ghosts D) where
             (zip_at (IsOver g) given nodes i e d over there) (zip_at (IsOpenedSince g) nodes now i d d since here) (λ honest. marked honest (λ j other within. (each j other within).down) i d here);
       }
 
-  pub found_settles : (n : ℕ) (given : List D) (nodes : List (Node D)) (files : List (List ℕ)) (stores begun : ℕ → Store) → OnlyNow → AreOpenedOver g n given nodes → IsTrue g.is_honest
-      → LeaveStores g n given stores begun → MayBeFound g given nodes files → HaveEither n files stores begun
-  found_settles n given nodes files stores begun law over honest leave found i less =
-      let here : i < length nodes = omega (arith, less, found.count) in
-      let there : i < length given = omega (arith, here, over.count) in
-      let Either : Type 0 = StandsFor (header i n) (get_or files i []) (stores i) ⊎ StandsFor (header i n) (get_or files i []) (begun i) in
-      with_one nodes i Either here (λ d. with_one given i Either there (λ e.
-      elim ((over.each i d e here).during (stores i) (begun i) honest (leave i e there) (g.moment (get_or given i e)) (get_or files i []) (found.each i d e here)) [
-        | inl was ↦ leave i e there (get_or files i []) (law (get_or given i e) (get_or files i []) was)
+  -- what may be found is an image of its disk, or stands for what that disk has
+  found_as : (n : ℕ) (given : List D) (nodes : List (Node D)) (files : List (List ℕ)) → OnlyNow → AreOpenedOver g n given nodes → IsTrue g.is_honest → MayBeFound g given nodes files
+      → (i : ℕ) (store : Store) (e : D) → i < length given → StandsFor (header i n) (get_or (map g.seen given) i []) store
+      → g.images (get_or given i e) (get_or files i []) ⊎ StandsFor (header i n) (get_or files i []) store
+  found_as n given nodes files law over honest found i store e less stands =
+      let here : i < length nodes = omega (arith, less, over.count) in
+      let file = get_or files i [] in
+      with_one nodes i (g.images (get_or given i e) file ⊎ StandsFor (header i n) file store) here (λ d.
+      let at = subst (λ (f : List ℕ). StandsFor (header i n) f store) (get_or-map g.seen given i e [] less) stands in
+      elim ((over.each i d e here).during store honest at (g.moment (get_or given i e)) file (found.each i d e here)) [
+        | inl was ↦ inl (law (get_or given i e) file was)
         | inr is ↦ is
-      ]))
+      ])
+
+  pub found_keeps : (n : ℕ) (given : List D) (nodes : List (Node D)) (files : List (List ℕ)) (stores : ℕ → Store) → OnlyNow → AreOpenedOver g n given nodes → IsTrue g.is_honest
+      → HaveStores n (map g.seen given) stores → MayBeFound g given nodes files → KeepStores g n stores given files
+  found_keeps n given nodes files stores law over honest have found = record {
+    count = found.count ∙ sym over.count;
+    each = λ i e less. found_as n given nodes files law over honest found i (stores i) e less (have i (omega (arith, less, length-map given g.seen)));
+  }
+
+  -- of disks at rest it stands for what that disk has
+  pub found_again : (n : ℕ) (given : List D) (nodes : List (Node D)) (files : List (List ℕ)) → OnlyNow → AreOpenedOver g n given nodes → IsTrue g.is_honest → AreAtRest g given
+      → MayBeFound g given nodes files → (i : ℕ) (store : Store) → i < length (map g.seen given) → StandsFor (header i n) (get_or (map g.seen given) i []) store → StandsFor (header i n) (get_or files i []) store
+  found_again n given nodes files law over honest rest found i store less stands =
+      let there : i < length given = omega (arith, less, length-map given g.seen) in
+      with_one given i (StandsFor (header i n) (get_or files i []) store) there (λ e.
+      elim (found_as n given nodes files law over honest found i store e there stands) [
+        | inl image ↦ subst (λ (f : List ℕ). StandsFor (header i n) f store) (get_or-map g.seen given i e [] there ∙ sym (rest i e there (get_or files i []) image)) stands
+        | inr is ↦ is
+      ])
 
   pub found_within : (n : ℕ) (given : List D) (nodes : List (Node D)) (files : List (List ℕ)) → OnlyNow → AreOpenedOver g n given nodes → IsTrue g.is_honest → GoOnNew n (map g.seen given)
       → MayBeFound g given nodes files → AreImagesOf g given files

@@ -8,13 +8,12 @@ use Rattle.promise_store.specs.Records.{record_text}
 use Rattle.promise_store.specs.Stages.{head_of, marked}
 use Rattle.promise_store.specs.Journals.{header, gated, IsJournalOf, IsJournal}
 use Rattle.promise_store.specs.Holding.{holding, store_of, StandsFor}
-use Rattle.promise_store.specs.Keeping.{Leaves}
 use Rattle.promise_store.proofs.Journals.{one_journal, same_stages}
 use Rattle.promise_store.proofs.Stages.{head_long}
 use Rattle.protocol_model.specs.Stores.{Store, empty_store}
 use Rattle.dealer_node.specs.Nodes.{Node}
 use Rattle.dealer_node.specs.Starting.{GoesOnNew, MarksJournal}
-use Rattle.dealer_world.specs.Beginning.{LeavesIn, IsOpenedSince, MarkFirst, IsOpenedOver, AreOpenedOver, LeaveStores, HaveEither, GoOnNew}
+use Rattle.dealer_world.specs.Beginning.{LeavesIn, IsOpenedSince, MarkFirst, IsOpenedOver, AreOpenedOver, KeepStores, AreAtRest, GoOnNew}
 use Rattle.dealer_world.proofs.LeftExamples.{next, with_promise, created, stands_created, stands_promised, no_promise}
 use Rattle.dealer_world.proofs.DiskExamples.{Paper, Left, Since, paper, settled, written, down}
 
@@ -122,33 +121,32 @@ abbrev opened_by_way_of : List ℕ → Paper
 opened_by_way_of file = record (settled opened_file) { earlier = file; begun = old_file }
 
 -- each image stands for what the store of version 1 stood for
-either : (store begun : Store) (file image : List ℕ) → StandsFor (header 0 3) file empty_store → image ≡ file → StandsFor (header 0 3) old_file store ⊎ StandsFor (header 0 3) old_file begun
-    → StandsFor (header 0 3) image store ⊎ StandsFor (header 0 3) image begun
-either store begun file image here is (inl old) = inl (subst (λ (f : List ℕ). StandsFor (header 0 3) f store) (sym is) (stands_as_well file store here old))
-either store begun file image here is (inr old) = inr (subst (λ (f : List ℕ). StandsFor (header 0 3) f begun) (sym is) (stands_as_well file begun here old))
-
-during_the_opening : (store begun : Store) → Leaves paper (header 0 3) store begun (settled old_file) → (t : ℕ) (image : List ℕ) → Since (opened_by_way_of torn_file) t image
-    → StandsFor (header 0 3) image store ⊎ StandsFor (header 0 3) image begun
-during_the_opening store begun leaves t image (inl (inl shown)) = either store begun opened_file image opened_stands shown (leaves old_file (inl refl))
-during_the_opening store begun leaves t image (inl (inr synced)) = either store begun opened_file image opened_stands synced (leaves old_file (inl refl))
-during_the_opening store begun leaves t image (inr past) = either store begun torn_file image torn_stands past.1 (leaves old_file (inl refl))
+during_the_opening : (store : Store) → StandsFor (header 0 3) old_file store → (t : ℕ) (image : List ℕ) → Since (opened_by_way_of torn_file) t image → StandsFor (header 0 3) image store
+during_the_opening store old t image (inl (inl shown)) = subst (λ (f : List ℕ). StandsFor (header 0 3) f store) (sym shown) (stands_as_well opened_file store opened_stands old)
+during_the_opening store old t image (inl (inr synced)) = subst (λ (f : List ℕ). StandsFor (header 0 3) f store) (sym synced) (stands_as_well opened_file store opened_stands old)
+during_the_opening store old t image (inr past) = subst (λ (f : List ℕ). StandsFor (header 0 3) f store) (sym past.1) (stands_as_well torn_file store torn_stands old)
 
 disk_opened : IsOpenedOver paper (header 0 3) (settled old_file) (down (opened_by_way_of torn_file))
 disk_opened = record {
   begun = refl;
   counts = omega arith;
-  during = λ store begun honest leaves t image left. inr (during_the_opening store begun leaves t image left);
+  during = λ store honest old t image left. inr (inr (during_the_opening store old t image left));
   marks = λ honest. is_marked;
   quiet = λ honest goes_on. absurd (old_goes_on goes_on);
 }
+
+either : (store begun : Store) (t : ℕ) (image : List ℕ) → StandsFor (header 0 3) old_file store ⊎ StandsFor (header 0 3) old_file begun → Since (opened_by_way_of torn_file) t image
+    → StandsFor (header 0 3) image store ⊎ StandsFor (header 0 3) image begun
+either store begun t image (inl old) left = inl (during_the_opening store old t image left)
+either store begun t image (inr old) left = inr (during_the_opening begun old t image left)
 
 opened_since : IsOpenedSince paper (down (settled old_file)) (down (opened_by_way_of torn_file))
 opened_since = record {
   post = refl;
   begun = refl;
   counts = omega arith;
-  leaves = λ store begun honest leaves image left. during_the_opening store begun leaves 1 image (inl left);
-  during = λ store begun honest leaves t image left. inr (during_the_opening store begun leaves t image left);
+  leaves = λ store begun honest leaves image left. either store begun 1 image (leaves old_file (inl refl)) (inl left);
+  during = λ store begun honest leaves t image left. inr (either store begun t image (leaves old_file (inl refl)) left);
   quiet = λ honest goes_on. absurd (old_goes_on goes_on);
 }
 
@@ -185,9 +183,9 @@ leaves_nothing image (inl shown) = inl (subst (λ (f : List ℕ). StandsFor (hea
 leaves_nothing image (inr synced) = inl (subst (λ (f : List ℕ). StandsFor (header 0 3) f empty_store) (sym synced) old_stands)
 
 by_way_of_no_store : IsOpenedOver paper (header 0 3) (settled old_file) (down (opened_by_way_of gate_alone)) → ⊥
-by_way_of_no_store over = elim (over.during empty_store empty_store refl leaves_nothing 0 gate_alone (inr (refl, refl))) [
+by_way_of_no_store over = elim (over.during empty_store refl old_stands 0 gate_alone (inr (refl, refl))) [
   | inl before ↦ not_before before
-  | inr stands ↦ elim stands [ inl one ↦ no_store empty_store one | inr other ↦ no_store empty_store other ]
+  | inr now ↦ elim now [ inl image ↦ not_before (inl image) | inr stands ↦ no_store empty_store stands ]
 ]
 
 since_by_way_of_no_store : IsOpenedSince paper (down (settled old_file)) (down (opened_by_way_of gate_alone)) → ⊥
@@ -213,31 +211,39 @@ opened_again = record (settled (72 ∷ 68 ∷ 74 ∷ 49 ∷ 0 ∷ 3 ∷ 0 ∷ 0 
 opened_twice : IsOpenedOver paper (header 0 3) (settled opened_file) (down opened_again) → ⊥
 opened_twice over = let long = ap length (over.quiet refl opened_goes_on).bytes in omega (arith, long)
 
--- ---- two stores of each node
+-- ---- what is found of disks, and what they leave
 
 -- a promise was written on a new store, and not yet synced
-leave_stores : LeaveStores paper 3 (written ∷ []) (λ i. empty_store) (λ i. next)
-leave_stores zero e less image (inl shown) = inr (subst (λ (f : List ℕ). StandsFor (header 0 3) f next) (sym shown) stands_promised)
-leave_stores zero e less image (inr synced) = inl (subst (λ (f : List ℕ). StandsFor (header 0 3) f empty_store) (sym synced) (stands_created 0))
-leave_stores (suc i) e less image left = absurd (omega (arith, less))
+keep_stores : KeepStores paper 3 (λ i. empty_store) (written ∷ settled old_file ∷ []) (with_promise ∷ created 1 ∷ [])
+keep_stores = record { count = refl; each = each }
+  where
+    each : (i : ℕ) (e : Paper) → i < 2 → Left (get_or (written ∷ settled old_file ∷ []) i e) (get_or (with_promise ∷ created 1 ∷ []) i []) ⊎ StandsFor (header i 3) (get_or (with_promise ∷ created 1 ∷ []) i []) empty_store
+    each zero e less = inl (inl refl)
+    each (suc zero) e less = inr (stands_created 1)
+    each (suc (suc i)) e less = absurd (omega (arith, less))
 
-no_promise_either : StandsFor (header 0 3) with_promise empty_store ⊎ StandsFor (header 0 3) with_promise empty_store → ⊥
-no_promise_either (inl stands) = no_promise stands
-no_promise_either (inr stands) = no_promise stands
+-- what no crash left of a disk, and stands for more than it has
+promise_found : KeepStores paper 3 (λ i. empty_store) (settled (created 0) ∷ []) (with_promise ∷ []) → ⊥
+promise_found keep = elim (keep.each 0 written (omega arith)) [
+  | inl image ↦ elim image [ inl shown ↦ longer shown | inr synced ↦ longer synced ]
+  | inr stands ↦ no_promise stands
+]
+  where
+    longer : with_promise ≡ created 0 → ⊥
+    longer same = omega (arith, ap length same)
 
-promise_forgotten : LeaveStores paper 3 (written ∷ []) (λ i. empty_store) (λ i. empty_store) → ⊥
-promise_forgotten leave = no_promise_either (leave 0 written (omega arith) with_promise (inl refl))
+at_rest : AreAtRest paper (settled (created 0) ∷ [])
+at_rest zero e less image (inl shown) = shown
+at_rest zero e less image (inr synced) = synced
+at_rest (suc i) e less image left = absurd (omega (arith, less))
 
+not_at_rest : AreAtRest paper (written ∷ []) → ⊥
+not_at_rest rest = let same = ap length (rest 0 written (omega arith) (created 0) (inr refl)) in omega (arith, same)
+
+-- each of them stands for one of two stores
 node_leaves : LeavesIn paper (header 0 3) empty_store next (down written)
-node_leaves image left = leave_stores 0 written (omega arith) image left
+node_leaves image (inl shown) = inr (subst (λ (f : List ℕ). StandsFor (header 0 3) f next) (sym shown) stands_promised)
+node_leaves image (inr synced) = inl (subst (λ (f : List ℕ). StandsFor (header 0 3) f empty_store) (sym synced) (stands_created 0))
 
 node_forgets : LeavesIn paper (header 0 3) empty_store empty_store (down written) → ⊥
-node_forgets leaves = no_promise_either (leaves with_promise (inl refl))
-
-have_either : HaveEither 3 (with_promise ∷ created 1 ∷ []) (λ i. empty_store) (λ i. next)
-have_either zero less = inr stands_promised
-have_either (suc zero) less = inl (stands_created 1)
-have_either (suc (suc i)) less = absurd (omega (arith, less))
-
-have_neither : HaveEither 3 (with_promise ∷ []) (λ i. empty_store) (λ i. empty_store) → ⊥
-have_neither have = no_promise_either (have 0 (omega arith))
+node_forgets leaves = elim (leaves with_promise (inl refl)) [ inl stands ↦ no_promise stands | inr stands ↦ no_promise stands ]

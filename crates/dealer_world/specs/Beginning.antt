@@ -4,11 +4,10 @@ use Rattle.std.proofs.Common.{get_or}
 use Rattle.promise_store.specs.declared.disk.Disk.{Ghosts}
 use Rattle.promise_store.specs.declared.fault.StoreFault.{StoreFault}
 use Rattle.promise_store.specs.declared.fault.StoreFault.TheVariants.{Disk, NoStore, BadHeader, BadRecord}
-use Rattle.promise_store.specs.Disks.{Within, During}
+use Rattle.promise_store.specs.Disks.{Only, Within, During}
 use Rattle.promise_store.specs.Refusals.{Refuses}
 use Rattle.promise_store.specs.Journals.{header}
 use Rattle.promise_store.specs.Holding.{StandsFor}
-use Rattle.promise_store.specs.Keeping.{Leaves}
 use Rattle.protocol_model.specs.Stores.{Store, empty_store}
 use Rattle.protocol_model.specs.Dealers.{Log}
 use Rattle.match_log.specs.Lines.{header_line}
@@ -62,11 +61,12 @@ module _ {D : Type 0} (g : Ghosts D) where
 -- ---- the disks, when a cluster is opened
 
 module _ {D : Type 0} (g : Ghosts D) where
-  -- the node's disk is the one that was given, begun anew, and it was only read or synced since
+  -- the node's disk is the one that was given, synced and begun anew, and it was only read or synced since
   pub record IsOver (given : D) (node : Node D) : Type 0 where
     pub bytes : bytes_of g node ≡ g.seen given
     pub begun : begun_of g node ≡ g.seen given
     pub counts : g.count given ≤ failures_of g node
+    pub settled : Only (g.seen given) (images_of g node)
     pub images : Within (g.images given) (images_of g node)
     pub during : During (g.since given) (since_of g node) (g.images given)
 
@@ -98,12 +98,12 @@ module _ {D : Type 0} (g : Ghosts D) where
   MarkFirst first k nodes =
       (i : ℕ) (d : Node D) → i < k → MarksJournal (head_of (post_in (get_or first i d))) (bytes_of g (get_or first i d)) (bytes_of g (get_or nodes i d))
 
-  -- the node's disk is the one that was given, begun anew and opened since, under the head of its journal
+  -- the node's disk is the one that was given, begun anew and opened since, under the head of its journal: what it left meanwhile that one left, or it stands for
+  -- the store that a read of that one gave
   pub record IsOpenedOver (head : List ℕ) (given : D) (node : Node D) : Type 0 where
     pub begun : begun_of g node ≡ g.seen given
     pub counts : g.count given ≤ failures_of g node
-    pub during : (store begun : Store) → IsTrue g.is_honest → Leaves g head store begun given
-        → During (g.since given) (since_of g node) (λ image. StandsFor head image store ⊎ StandsFor head image begun)
+    pub during : (store : Store) → IsTrue g.is_honest → StandsFor head (g.seen given) store → During (g.since given) (since_of g node) (λ image. g.images given image ⊎ StandsFor head image store)
     pub marks : IsTrue g.is_honest → MarksJournal head (g.seen given) (bytes_of g node)
     pub quiet : IsTrue g.is_honest → GoesOnNew head (g.seen given) → IsOver given node
 
@@ -111,10 +111,6 @@ module _ {D : Type 0} (g : Ghosts D) where
   pub record AreOpenedOver (n : ℕ) (given : List D) (nodes : List (Node D)) : Type 0 where
     pub count : length given ≡ length nodes
     pub each : (i : ℕ) (d : Node D) (e : D) → i < length nodes → IsOpenedOver (header i n) (get_or given i e) (get_or nodes i d)
-
-  -- each image of each disk, of a node of n, stands for one of two stores of it
-  abbrev pub LeaveStores : ℕ → List D → (ℕ → Store) → (ℕ → Store) → Type 0
-  LeaveStores n disks stores begun = (i : ℕ) (e : D) → i < length disks → Leaves g (header i n) (stores i) (begun i) (get_or disks i e)
 
   -- each file may be found on its node's disk, at a moment since that disk was the given one
   pub record MayBeFound (given : List D) (nodes : List (Node D)) (files : List (List ℕ)) : Type 0 where
@@ -125,6 +121,15 @@ module _ {D : Type 0} (g : Ghosts D) where
   pub record AreImagesOf (disks : List D) (files : List (List ℕ)) : Type 0 where
     pub count : length files ≡ length disks
     pub each : (i : ℕ) (e : D) → i < length disks → g.images (get_or disks i e) (get_or files i [])
+
+  -- each file is an image of its disk, or stands for this store of its node, of n
+  pub record KeepStores (n : ℕ) (stores : ℕ → Store) (disks : List D) (files : List (List ℕ)) : Type 0 where
+    pub count : length files ≡ length disks
+    pub each : (i : ℕ) (e : D) → i < length disks → g.images (get_or disks i e) (get_or files i []) ⊎ StandsFor (header i n) (get_or files i []) (stores i)
+
+  -- a crash leaves of each disk what a read of it gives, and nothing else
+  abbrev pub AreAtRest : List D → Type 0
+  AreAtRest disks = (i : ℕ) (e : D) → i < length disks → Only (g.seen (get_or disks i e)) (g.images (get_or disks i e))
 
   -- each image of a disk is one of its node's disk, as where the disk was handed on since
   pub record LeaveNoMore (disks : List D) (nodes : List (Node D)) : Type 0 where
@@ -166,10 +171,6 @@ IsUnopened n files why = IsWant why ⊎ ((f : StoreFault) × (why ≡ fault.Stor
 -- each file, that of node i of n, stands for this store of the node
 abbrev pub HaveStores : ℕ → List (List ℕ) → (ℕ → Store) → Type 0
 HaveStores n files stores = (i : ℕ) → i < length files → StandsFor (header i n) (get_or files i []) (stores i)
-
--- each stands for the one of two stores of the node, or for the other
-abbrev pub HaveEither : ℕ → List (List ℕ) → (ℕ → Store) → (ℕ → Store) → Type 0
-HaveEither n files stores begun = (i : ℕ) → i < length files → StandsFor (header i n) (get_or files i []) (stores i) ⊎ StandsFor (header i n) (get_or files i []) (begun i)
 
 -- each is a journal that goes on with version 2: none is of version 1
 abbrev pub GoOnNew : ℕ → List (List ℕ) → Type 0

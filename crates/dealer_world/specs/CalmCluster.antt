@@ -1,13 +1,13 @@
 -- A cluster at rest moves.
-use Rattle.std.specs.Prelude.{◌≡◌, ℕ, ◌<◌, ◌-◌, ◌^◌, true, List, [], ◌∷◌, ◌++◌, Some, IsTrue}
+use Rattle.std.specs.Prelude.{◌≡◌, ℕ, ◌+◌, ◌<◌, ◌≤◌, ◌-◌, ◌^◌, true, List, [], ◌∷◌, ◌++◌, length, IsTrue}
 use Rattle.std.proofs.Common.{get_or}
 use Rattle.promise_store.specs.declared.disk.Disk.{Ghosts}
-use Rattle.slot_log.specs.Slots.{known_at}
 use Rattle.slot_log.specs.declared.command.Command.{Command}
 use Rattle.protocol_model.specs.Sets.{In}
 use Rattle.node_rules.specs.Standings.{Standing, place_of, front_of}
 use Rattle.node_rules.specs.Calm.{Calm, Ticks, Delivers, round}
 use Rattle.node_rules.specs.Calm as calm
+use Rattle.node_rules.specs.CalmRound.{AreKnown}
 use Rattle.dealer_node.specs.Nodes.{Node}
 use Rattle.dealer_node.specs.Seeing.{IsSeen, failures_of}
 use Rattle.dealer_world.specs.declared.event.Event.{Event}
@@ -41,17 +41,17 @@ module _ {D : Type 0} (g : Ghosts D) where
   HaveNotFailed old new members = (k : ℕ) (d : Node D) → In k members
       → (failures_of g (get_or new.nodes k d) ≡ failures_of g (get_or old.nodes k d)) × (failures_of g (get_or new.nodes k d) < 2 ^ 64 - 1)
 
-  -- node i is seen as one that runs, its front has passed the slot, and there it knows the command
-  abbrev pub HasPassed : View (Node D) → ℕ → ℕ → Command → Type 0
-  HasPassed view i slot command = (d : Node D)
-      → (s : Standing) × IsSeen g (get_or view.nodes i d) s × (s.up ≡ true) × (slot < front_of s) × (known_at s.learned.log slot ≡ Some command)
+  -- node i is seen as one that runs, its front has passed the slot and those of the further commands, and there it knows the commands
+  abbrev pub HasPassed : View (Node D) → ℕ → ℕ → List Command → Type 0
+  HasPassed view i slot commands = (d : Node D)
+      → (s : Standing) × IsSeen g (get_or view.nodes i d) s × (s.up ≡ true) × (slot + length commands ≤ front_of s) × AreKnown s.learned.log slot commands
 
-  -- over honest disks, where no frame was forged before: where the members of a least quorum, seen as these standings, were calm for node i, with the value c
-  -- at its front f, the events were a beginning of its round, and no member's disk failed, no frame was forged in it either; and if they were all of its round,
-  -- the front of i is above f, and c is known at f
+  -- over honest disks, where no frame was forged before: where the members of a least quorum, seen as these standings, were calm for node i and some commands,
+  -- the events were a beginning of its round, and no member's disk failed, no frame was forged in it either; and if they were all of its round, the front of i has
+  -- passed as many slots from where it stood, at each of which its command is known
   abbrev pub MovesOn : View (Node D) → List Event → View (Node D) → Type 0
-  MovesOn old events new = (before : List Era) (standings : ℕ → Standing) (i : ℕ) (members : List ℕ) (command : Command) (first rest : List calm.Event)
+  MovesOn old events new = (before : List Era) (standings : ℕ → Standing) (i : ℕ) (members : List ℕ) (commands : List Command) (first rest : List calm.Event)
       → GoesOnFrom g old before → IsTrue g.is_honest → HasNoForged old
-      → ((k : ℕ) (d : Node D) → In k members → IsSeen g (get_or old.nodes k d) (standings k)) → Calm (place_of old.config i) standings i members command
-      → round standings i members command ≡ first ++ rest → AreEvents events first → HaveNotFailed old new members
-      → ∥ HasNoForged new × (rest ≡ [] → HasPassed new i (front_of (standings i)) command) ∥₁
+      → ((k : ℕ) (d : Node D) → In k members → IsSeen g (get_or old.nodes k d) (standings k)) → Calm (place_of old.config i) standings i members commands
+      → round standings i members commands ≡ first ++ rest → AreEvents events first → HaveNotFailed old new members
+      → ∥ HasNoForged new × (rest ≡ [] → HasPassed new i (front_of (standings i)) commands) ∥₁

@@ -51,18 +51,19 @@ IsNextTaken plan state (event ∷ events) =
     (outcome : Result Turn Refusal) → IsTurn (place_of plan (node_of event)) (standing_at plan state (node_of event)) (call_of event) outcome → (turn : Turn) × (outcome ≡ Ok turn)
 
 -- in every run of the rules in which no frame was forged: where the members of a least quorum are calm for a node, after each beginning of its round no frame
--- was forged, and the event that comes next isn't refused; and after all of it the node's front has passed the slot, where it knows the command
+-- was forged, and the event that comes next isn't refused; and after all of it the node's front has passed the slots of the commands, each of which
+-- it knows at its own
 abbrev pub RoundsMoveOn : Type 0
-RoundsMoveOn = (setting : Setting) (n : ℕ) (before : List Era) (sources : List Source) (old new : State) (i : ℕ) (members : List ℕ) (command : Command) (first rest : List Event)
+RoundsMoveOn = (setting : Setting) (n : ℕ) (before : List Era) (sources : List Source) (old new : State) (i : ℕ) (members : List ℕ) (commands : List Command) (first rest : List Event)
     → RunsTo setting n before sources old → IsUnforged old.now.sent old.now.delivered
-    → Calm (place_of (plan_of setting sources) i) (standing_at (plan_of setting sources) old) i members command
-    → round (standing_at (plan_of setting sources) old) i members command ≡ first ++ rest → TakesEvents (plan_of setting sources) old first new
+    → Calm (place_of (plan_of setting sources) i) (standing_at (plan_of setting sources) old) i members commands
+    → round (standing_at (plan_of setting sources) old) i members commands ≡ first ++ rest → TakesEvents (plan_of setting sources) old first new
     → IsUnforged new.now.sent new.now.delivered
     × IsNextTaken (plan_of setting sources) new rest
-    × (rest ≡ [] → HasMovedOn i (front_of (standing_at (plan_of setting sources) old i)) command (standing_at (plan_of setting sources) new))
+    × (rest ≡ [] → HasMovedOn i (front_of (standing_at (plan_of setting sources) old i)) commands (standing_at (plan_of setting sources) new))
 
 -- nodes that have just been started on empty stores are at rest: each could move each least quorum to which it belongs on to its own first deal
 abbrev pub FreshClustersAreCalm : Type 0
 FreshClustersAreCalm = (plan : Plan) (i : ℕ) (members : List ℕ) (deal : List ℕ) → IsPlan plan → IsLeastQuorum (length plan.sources) members → In i members
     → (place_of plan i).deals 0 ≡ Some deal → length deal ≡ 2 * plan.setting.game.players + 5
-    → Calm (place_of plan i) (λ node. started (place_of plan node) empty_store) i members (Deal 0 deal)
+    → Calm (place_of plan i) (λ node. started (place_of plan node) empty_store) i members (Deal 0 deal ∷ [])

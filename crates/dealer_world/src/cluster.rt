@@ -9,7 +9,7 @@ ghost use Rattle.dealer_node.specs.Seeing.{post_in, runs, front_in, IsSeen, begu
 ghost use Rattle.node_rules.specs.Standings.{Standing};
 ghost use Rattle.dealer_world.specs.Records.{no_record, log_of};
 ghost use Rattle.dealer_world.specs.Headline.{Era};
-ghost use Rattle.dealer_world.specs.Beginning.{AreImages, AreImagesDuring, AreStarted, StartsAll, HaveStores, HaveEither, HasStore, AreEach, IsWant, GoOnNew, IsOpenedSince, MarkFirst, AreOpenedOver, LeaveStores, MayBeFound, AreImagesOf, LeaveNoMore, IsFirstRefused, IsUnopened};
+ghost use Rattle.dealer_world.specs.Beginning.{AreImages, AreImagesDuring, AreStarted, StartsAll, HaveStores, HasStore, AreEach, IsWant, GoOnNew, IsOpenedSince, MarkFirst, AreOpenedOver, MayBeFound, AreImagesOf, KeepStores, AreAtRest, LeaveNoMore, IsFirstRefused, IsUnopened};
 ghost use Rattle.protocol_model.specs.Stores.{Store, empty_store};
 ghost use Rattle.dealer_world.specs.Stepping.{View, IsFor, IsGiven, begins_by_event, Stepped, Ran};
 ghost use Rattle.dealer_world.specs.Shows.{GrowsWithin, most_shown_at};
@@ -20,7 +20,7 @@ ghost use Rattle.dealer_node.specs.declared.fault.NodeFault.{NodeFault as Fault}
 ghost use Rattle.promise_store.specs.declared.fault.StoreFault.{StoreFault};
 ghost use Rattle.dealer_node.specs.Nodes.{Node};
 ghost use Rattle.dealer_world.specs.Promise.{IsForMatch, IsPromised, IsPromisedNew, IsBackedBy, StopsAt, IsSameMatch, GoesOnFrom, WasReached, HasNoForged, AreAddressed, NeverConflicts, NoneConflicts, era_of, with_brought};
-ghost use Rattle.dealer_world.specs.Ruling.{ArePosted, AreSeen, IsBehind};
+ghost use Rattle.dealer_world.specs.Ruling.{ArePosted, AreSeen, IsBehind, GoesOn};
 
 use crate::arrivals::Arrival;
 use crate::beginning::{created_all, reopened_all};
@@ -267,11 +267,14 @@ impl<D: Disk + Drop> Cluster<D> {
             → AreImagesDuring D.Disk (node_of event) stepped.before stepped.after before.nodes (map D.seen disks.items)
             → GoesOnFrom D.Disk before eras → IsTrue D.is_honest → HasNoForged before → HasNoForged (with_brought before (front_in stepped.before) event)
             → ∥ GoesOnFrom D.Disk (view_of made) (era_of before ∷ eras) ⊎ GoesOnFrom D.Disk (view_of made) (era_of (with_brought before (front_in stepped.before) event) ∷ eras) ∥₁) }
-        // Where it goes well, what the disks left at any moment of it stands for the stores that they left before.
-        ensures settles { IfOk result (λ made. (stores begun : ℕ → Store) (files : List (List ℕ)) → IsTrue D.is_honest → LeaveStores D.Disk (length config.sources) disks.items stores begun
-            → MayBeFound D.Disk disks.items (view_of made).nodes files → HaveEither (length config.sources) files stores begun) }
-        // Where none of them is of version 1, they left no more than they did before. So where it is broken off and would have
-        // gone well, over disks that were handed on from a cluster, the next one goes on from that cluster.
+        // Where it goes well, what the disks left at any moment of it they left before, or it stands for the stores that they
+        // have. So where it is broken off and would have gone well, over disks at rest, the next one goes on from the same eras.
+        ensures keeps { IfOk result (λ made. (stores : ℕ → Store) (files : List (List ℕ)) → IsTrue D.is_honest → HaveStores (length config.sources) (map D.seen disks.items) stores
+            → MayBeFound D.Disk disks.items (view_of made).nodes files → KeepStores D.Disk (length config.sources) stores disks.items files) }
+        ensures again { IfOk result (λ made. (eras : List Era) (files : List (List ℕ)) → IsTrue D.is_honest → AreAtRest D.Disk disks.items → MayBeFound D.Disk disks.items (view_of made).nodes files
+            → GoesOnFrom D.Disk (view_of made) eras → GoesOn true (view_of made).config.setting (length config.sources) eras files) }
+        // Where none of them is of version 1, they left no more than they did before. So where it is broken off then, over disks
+        // that were handed on from a cluster, the next one goes on from that cluster.
         ensures within { IfOk result (λ made. (files : List (List ℕ)) → IsTrue D.is_honest → GoOnNew (length config.sources) (map D.seen disks.items) → MayBeFound D.Disk disks.items (view_of made).nodes files → AreImagesOf D.Disk disks.items files) }
         ensures resumes { IfOk result (λ made. (before : View (Node D)) (files : List (List ℕ)) → IsTrue D.is_honest → GoOnNew (length config.sources) (map D.seen disks.items) → LeaveNoMore D.Disk disks.items before.nodes
             → MayBeFound D.Disk disks.items (view_of made).nodes files → AreImages D.Disk before.nodes files) }

@@ -145,7 +145,7 @@ pub fn runs_never_conflict()
 /// A cluster at rest whose nodes keep the rules moves: in every run in which no frame was forged, where the members of a
 /// least quorum are calm for a node, none of the frames of its round is forged and none of its events is refused, after
 /// each beginning of it; and once all of it was given to its nodes, and found memory and disks that didn't fail, that
-/// node's front has passed the slot, where it knows the command.
+/// node's front has passed the slots of the round's commands, each of which it knows.
 pub fn rounds_move_on()
     ensures { RoundsMoveOn }
 {

@@ -13,7 +13,8 @@ use Rattle.protocol_model.specs.Stores.{Store}
 use Rattle.protocol_model.specs.Nodes.{Node}
 use Rattle.protocol_model.specs.Worlds.{World}
 use Rattle.paxos_wire.specs.Order.{is_below}
-use Rattle.learner.specs.Learning.{Learned, answer_to, hearing, answer_to_chosen, believing as with_chosen}
+use Rattle.learner.specs.Learning.{Learned, answer_to_chosen, believing as with_chosen}
+use Rattle.learner.specs.CommandRuns.{answer_to_run, hearing_run}
 use Rattle.seat_session.specs.Session.{Standing as Talk}
 use Rattle.seat_session.specs.declared.said.Said.{Said}
 use Rattle.seat_session.specs.declared.said.Said.TheVariants.{Ready, Act}
@@ -23,7 +24,7 @@ use Rattle.node_rules.specs.Sending.{Frame, one, to_others}
 use Rattle.node_rules.specs.Turns.{Turn, Refusal, Down, Spent, Conflict, still, sending, joined, behind, and_then}
 use Rattle.node_rules.specs.Applying.{applying}
 use Rattle.node_rules.specs.Learning.{learning, comes_to_window, asking_on, told_of, telling_from, next_window, telling, asking_above}
-use Rattle.protocol_model.specs.Votes.{told_by, stored_in, storing}
+use Rattle.protocol_model.specs.Votes.{told_by, command_run_at, taking_command_run}
 use Rattle.node_rules.specs.Accepting.{refusing, promising, preparing, voting}
 use Rattle.node_rules.specs.Proposing.{greatest_seen, is_over, is_spent, beginning}
 use Rattle.proposer.specs.Campaigns.{next_ballot}
@@ -56,10 +57,11 @@ close_sends place s c (proposes made campaign learned led mine at promise none l
     let same : front_of c.after ≡ front_of s = ap (λ (t : Turn). front_of t.after) e ∙ ap front log in (
       inr (
         made.ballot,
-        made.command,
+        made.command ∷ [],
+        omega arith,
         mine,
         ap (λ (t : Turn). t.frames) e
-            ∙ ap (λ k. to_others place (frame.Accept made.ballot k made.command) ++ to_others place (frame.Accepted made.ballot k made.command)) (at ∙ sym same),
+            ∙ ap (λ k. to_others place (frame.Accept made.ballot k (made.command ∷ [])) ++ to_others place (frame.Accepted made.ballot k (made.command ∷ []))) (at ∙ sym same),
       ),
       same,
     )
@@ -115,16 +117,16 @@ vote_frames : {A : Type 0} (place : Place) (answer : Result A SlotFault) (learne
 vote_frames place (Ok answer) learned s sent first e = ap (λ (t : Turn). t.frames) (sym (ok_is (joined (sending sent s) (applying place learned s)) first e)) ∙ append-nil sent
 vote_frames place (Err fault) learned s sent first e = absurd (ok_not first (Conflict s.store) (sym e))
 
-pub accept_answer : (place : Place) (from : ℕ) (ballot : Ballot) (slot : ℕ) (command : Command) (s : Standing) (first : Turn) (b : Bool) → is_below ballot s.store.promise ≡ b
-    → (if b then Ok (refusing from ballot slot s) else voting place ballot slot command (idle s)) ≡ Ok first
-    → AnswersAccept place s.store from ballot slot command first.frames
-accept_answer place from ballot slot command s first true e h =
+pub accept_answer : (place : Place) (from : ℕ) (ballot : Ballot) (slot : ℕ) (commands : List Command) (s : Standing) (first : Turn) (b : Bool) → is_below ballot s.store.promise ≡ b
+    → (if b then Ok (refusing from ballot slot s) else voting place ballot slot commands (idle s)) ≡ Ok first
+    → AnswersAccept place s.store from ballot slot commands first.frames
+accept_answer place from ballot slot commands s first true e h =
     answers.AnswersAccept.refuses (below_if ballot s.store.promise e) (ap (λ (t : Turn). t.frames) (sym (ok_is (refusing from ballot slot s) first h)))
-accept_answer place from ballot slot command s first false e h =
-    let stored : Command = stored_in (s.store.votes slot) ballot command in
-    let kept : Standing = with_stored (idle s) (storing s.store ballot slot command) in
+accept_answer place from ballot slot commands s first false e h =
+    let told : List Command = command_run_at s.store ballot slot commands in
+    let kept : Standing = with_stored (idle s) (taking_command_run s.store ballot slot commands) in
     accepts (at_most_if_not ballot s.store.promise e)
-    (vote_frames place (answer_to kept.learned place.node ballot slot stored) (hearing kept.learned place.node ballot slot stored) kept (to_others place (frame.Accepted ballot slot stored)) first h)
+    (vote_frames place (answer_to_run kept.learned place.node ballot slot told) (hearing_run kept.learned place.node ballot slot told) kept (to_others place (frame.Accepted ballot slot told)) first h)
 
 pub chosen_frames : {A : Type 0} (place : Place) (answer : Result A SlotFault) (learned : Learned) (s : Standing) (from : ℕ) (first : Turn)
     → and_then (learning place answer learned s) (λ told. Ok (asking_on from (front_of s) told)) ≡ Ok first
@@ -183,17 +185,17 @@ answer_by place s node from (frame.Promise ballot slot told) turn first c stored
     three place s turn first c (still c.after) [] [] whole after closed (ap (λ (t : Turn). t.frames) (sym (ok_is _ first is))) refl
 answer_by place s node from (frame.Refuse ballot slot promised) turn first c stored knows is closed whole after now same =
     three place s turn first c (still c.after) [] [] whole after closed (ap (λ (t : Turn). t.frames) (sym (ok_is _ first is))) refl
-answer_by place s node from (frame.Accept ballot slot command) turn first c stored knows is closed whole after now same =
-    let s0 : Standing = seeing (frame.Accept ballot slot command) s in (
+answer_by place s node from (frame.Accept ballot slot commands) turn first c stored knows is closed whole after now same =
+    let s0 : Standing = seeing (frame.Accept ballot slot commands) s in (
       first.frames,
-      subst (λ (st : Store). AnswersAccept place st from ballot slot command first.frames) (sym stored) (accept_answer place from ballot slot command s0 first (is_below ballot s0.store.promise) refl is),
+      subst (λ (st : Store). AnswersAccept place st from ballot slot commands first.frames) (sym stored) (accept_answer place from ballot slot commands s0 first (is_below ballot s0.store.promise) refl is),
       three place s turn first c (asking_above from slot c.after) first.frames (asks_if (nat_lt (front_of turn.after) slot) from (front_of turn.after)) whole after closed
           refl (above_frames turn c from slot now),
     )
-answer_by place s node from (frame.Accepted ballot slot command) turn first c stored knows is closed whole after now same =
-    let s0 : Standing = seeing (frame.Accepted ballot slot command) s in
+answer_by place s node from (frame.Accepted ballot slot commands) turn first c stored knows is closed whole after now same =
+    let s0 : Standing = seeing (frame.Accepted ballot slot commands) s in
     three place s turn first c (asking_above from slot c.after) [] (asks_if (nat_lt (front_of turn.after) slot) from (front_of turn.after)) whole after closed
-    (learned_frames place (answer_to s0.learned from ballot slot command) (hearing s0.learned from ballot slot command) s0 first is) (above_frames turn c from slot now)
+    (learned_frames place (answer_to_run s0.learned from ballot slot commands) (hearing_run s0.learned from ballot slot commands) s0 first is) (above_frames turn c from slot now)
 answer_by place s node from (frame.Chosen slot command) turn first c stored knows is closed whole after now same =
     let s0 : Standing = seeing (frame.Chosen slot command) s in
     three place s turn first c (still c.after) (asks_if (comes_to_window (front_of s) (front_of turn.after)) from (front_of turn.after)) [] whole after closed

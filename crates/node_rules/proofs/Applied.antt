@@ -16,7 +16,8 @@ use Rattle.matchstate.specs.Line.{line_text}
 use Rattle.match_log.specs.Further.{further_lines}
 use Rattle.protocol_model.specs.Dealers.{Dealer, Log as ToLog}
 use Rattle.paxos_wire.specs.Order.{is_below}
-use Rattle.learner.specs.Learning.{Learned, is_open, is_other, completes, answer_to, hearing, counting, knowing, answer_to_chosen, believing as with_chosen}
+use Rattle.learner.specs.Learning.{Learned, is_open, is_other, completes, hearing, counting, knowing, answer_to_chosen, believing as with_chosen}
+use Rattle.learner.specs.CommandRuns.{hearing_each, is_refused, hearing_run, answer_to_run}
 use Rattle.seat_session.specs.Session.{Standing as Talk}
 use Rattle.dealer_kind.specs.Kind.{Setting, hands_after, fits, line_of, log_of, dealer_of}
 use Rattle.node_rules.specs.Standings.{Place, Standing, applied, front_of, with_stored, idle}
@@ -25,7 +26,7 @@ use Rattle.node_rules.specs.Showing.{Piece, is_connected, line_piece, seat_line,
 use Rattle.node_rules.specs.Turns.{Turn, Conflict, still, sending, joined, behind, and_then}
 use Rattle.node_rules.specs.Applying.{Scene, kept, shown_of, taking as applies, taking_all, passed, scene_of, applying}
 use Rattle.node_rules.specs.Learning.{learning, asking_on, telling, comes_to_window}
-use Rattle.protocol_model.specs.Votes.{stored_in, storing}
+use Rattle.protocol_model.specs.Votes.{command_run_at, taking_command_run}
 use Rattle.node_rules.specs.Accepting.{preparing, promising, refusing, voting}
 use Rattle.node_rules.specs.Seats.{session_at, waiting}
 use Rattle.node_rules.specs.Rules.{seeing, taking}
@@ -149,6 +150,26 @@ heard_by g l from ballot slot command true true false = with_known_by g l.log sl
 heard_on : (g : Given) (l : Learned) (from : ℕ) (ballot : Ballot) (slot : ℕ) (command : Command) → (later : List Command) × ((hearing l from ballot slot command).log.below ≡ later ++ l.log.below)
 heard_on g l from ballot slot command = heard_by g l from ballot slot command (is_open l.log slot) (completes l from ballot slot command) (is_other (known_at l.log slot) command)
 
+heard_each_on : (g : Given) (l : Learned) (from : ℕ) (ballot : Ballot) (slot : ℕ) (commands : List Command)
+    → (later : List Command) × ((hearing_each l from ballot slot commands).log.below ≡ later ++ l.log.below)
+unfolding hearing_each
+heard_each_on g l from ballot slot [] = ([], refl)
+heard_each_on g l from ballot slot (command ∷ more) =
+    let first = heard_on g l from ballot slot command in
+    let rest = heard_each_on g (hearing l from ballot slot command) from ballot (slot + 1) more in (
+      rest.0 ++ first.0,
+      rest.1 ∙ (ap (λ (b : List Command). rest.0 ++ b) first.1 ∙ sym (append_assoc rest.0 first.0 l.log.below)),
+    )
+
+-- commands for slots that follow one another
+heard_run_on : (g : Given) (l : Learned) (from : ℕ) (ballot : Ballot) (slot : ℕ) (commands : List Command)
+    → (later : List Command) × ((hearing_run l from ballot slot commands).log.below ≡ later ++ l.log.below)
+heard_run_on g l from ballot slot commands = by_refusal (is_refused l from ballot slot commands)
+  where
+    by_refusal : (b : Bool) → (later : List Command) × ((if b then l else hearing_each l from ballot slot commands).log.below ≡ later ++ l.log.below)
+    by_refusal true = ([], refl)
+    by_refusal false = heard_each_on g l from ballot slot commands
+
 told_by : (g : Given) (l : Learned) (slot : ℕ) (command : Command) (ahead other : Bool)
     → (later : List Command) × ((if not ahead then l else if other then l else knowing l slot command).log.below ≡ later ++ l.log.below)
 told_by g l slot command false other = ([], refl)
@@ -169,8 +190,8 @@ abbrev pub waits_then : Place → Standing → Learned → Wire → Option Comma
 waits_then place s learned (frame.Prepare ballot slot) = (scene_over place s learned).pending
 waits_then place s learned (frame.Promise ballot slot told) = (scene_over place s learned).pending
 waits_then place s learned (frame.Refuse ballot slot promised) = (scene_over place s learned).pending
-waits_then place s learned (frame.Accept ballot slot command) = (scene_over place s learned).pending
-waits_then place s learned (frame.Accepted ballot slot command) = (scene_over place s learned).pending
+waits_then place s learned (frame.Accept ballot slot commands) = (scene_over place s learned).pending
+waits_then place s learned (frame.Accepted ballot slot commands) = (scene_over place s learned).pending
 waits_then place s learned (frame.Chosen slot command) = (scene_over place s learned).pending
 waits_then place s learned (frame.Ask slot) = (scene_over place s learned).pending
 waits_then place s learned (frame.Forward act) = waiting place act s
@@ -239,18 +260,18 @@ prepare_by : (place : Place) (from : ℕ) (ballot : Ballot) (slot : ℕ) (s : St
 prepare_by place from ballot slot s true = (refl, refl, refl)
 prepare_by place from ballot slot s false = (refl, refl, refl)
 
-accept_by : (g : Given) (place : Place) (from : ℕ) (ballot : Ballot) (slot : ℕ) (command : Command) (s : Standing) (first : Turn) (b : Bool)
-    → (if b then Ok (refusing from ballot slot s) else voting place ballot slot command (idle s)) ≡ Ok first → Applies place s (frame.Accept ballot slot command) first
-accept_by g place from ballot slot command s first true h =
+accept_by : (g : Given) (place : Place) (from : ℕ) (ballot : Ballot) (slot : ℕ) (commands : List Command) (s : Standing) (first : Turn) (b : Bool)
+    → (if b then Ok (refusing from ballot slot s) else voting place ballot slot commands (idle s)) ≡ Ok first → Applies place s (frame.Accept ballot slot commands) first
+accept_by g place from ballot slot commands s first true h =
     let e : first ≡ refusing from ballot slot s = sym (ok_is (refusing from ballot slot s) first h) in
-    unchanged place s (frame.Accept ballot slot command) first refl (ap (λ (t : Turn). t.after.learned) e) (ap (λ (t : Turn). t.shown) e) (ap (λ (t : Turn). t.after.pending) e)
-accept_by g place from ballot slot command s first false h =
-    let stored : Command = stored_in (s.store.votes slot) ballot command in
-    let kept : Standing = with_stored (idle s) (storing s.store ballot slot command) in
-    let l : Learns place kept (hearing s.learned place.node ballot slot stored) first =
-    learns_behind place (answer_to s.learned place.node ballot slot stored) (hearing s.learned place.node ballot slot stored) kept (to_others place (frame.Accepted ballot slot stored)) first h in
-    let on = heard_on g s.learned place.node ballot slot stored in
-    record { learned = hearing s.learned place.node ballot slot stored; later = on.0; goes_on = on.1; same = l.same; shown = l.shown; pending = l.pending }
+    unchanged place s (frame.Accept ballot slot commands) first refl (ap (λ (t : Turn). t.after.learned) e) (ap (λ (t : Turn). t.shown) e) (ap (λ (t : Turn). t.after.pending) e)
+accept_by g place from ballot slot commands s first false h =
+    let told : List Command = command_run_at s.store ballot slot commands in
+    let kept : Standing = with_stored (idle s) (taking_command_run s.store ballot slot commands) in
+    let l : Learns place kept (hearing_run s.learned place.node ballot slot told) first =
+    learns_behind place (answer_to_run s.learned place.node ballot slot told) (hearing_run s.learned place.node ballot slot told) kept (to_others place (frame.Accepted ballot slot told)) first h in
+    let on = heard_run_on g s.learned place.node ballot slot told in
+    record { learned = hearing_run s.learned place.node ballot slot told; later = on.0; goes_on = on.1; same = l.same; shown = l.shown; pending = l.pending }
 
 pub message_applies : (g : Given) (place : Place) (s : Standing) (from : ℕ) (message : Wire) (first : Turn) → taking place from message (seeing message s) ≡ Ok first → Applies place s message first
 message_applies g place s from (frame.Prepare ballot slot) first is =
@@ -264,15 +285,15 @@ message_applies g place s from (frame.Promise ballot slot told) first is =
 message_applies g place s from (frame.Refuse ballot slot promised) first is =
     let e = sym (ok_is _ first is) in
     unchanged place s (frame.Refuse ballot slot promised) first refl (ap (λ (t : Turn). t.after.learned) e) (ap (λ (t : Turn). t.shown) e) (ap (λ (t : Turn). t.after.pending) e)
-message_applies g place s from (frame.Accept ballot slot command) first is =
-    let s0 : Standing = seeing (frame.Accept ballot slot command) s in
-    let a = accept_by g place from ballot slot command s0 first (is_below ballot s0.store.promise) is in
+message_applies g place s from (frame.Accept ballot slot commands) first is =
+    let s0 : Standing = seeing (frame.Accept ballot slot commands) s in
+    let a = accept_by g place from ballot slot commands s0 first (is_below ballot s0.store.promise) is in
     record { learned = a.learned; later = a.later; goes_on = a.goes_on; same = a.same; shown = a.shown; pending = a.pending }
-message_applies g place s from (frame.Accepted ballot slot command) first is =
-    let s0 : Standing = seeing (frame.Accepted ballot slot command) s in
-    let l = learns place (answer_to s.learned from ballot slot command) (hearing s.learned from ballot slot command) s0 first is in
-    let on = heard_on g s.learned from ballot slot command in
-    record { learned = hearing s.learned from ballot slot command; later = on.0; goes_on = on.1; same = l.same; shown = l.shown; pending = l.pending }
+message_applies g place s from (frame.Accepted ballot slot commands) first is =
+    let s0 : Standing = seeing (frame.Accepted ballot slot commands) s in
+    let l = learns place (answer_to_run s.learned from ballot slot commands) (hearing_run s.learned from ballot slot commands) s0 first is in
+    let on = heard_run_on g s.learned from ballot slot commands in
+    record { learned = hearing_run s.learned from ballot slot commands; later = on.0; goes_on = on.1; same = l.same; shown = l.shown; pending = l.pending }
 message_applies g place s from (frame.Chosen slot command) first is =
     let s0 : Standing = seeing (frame.Chosen slot command) s in
     let l = learns_asking place (answer_to_chosen s.learned.log slot command) (with_chosen s.learned slot command) s0 from first is in

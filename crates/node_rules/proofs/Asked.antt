@@ -21,8 +21,8 @@ pub question : (from : ℕ) (message : Wire) (s : Standing) → IsQuestion from 
 question from (frame.Prepare ballot slot) s = question_if from s (nat_lt (front_of s) slot)
 question from (frame.Promise ballot slot told) s = inl refl
 question from (frame.Refuse ballot slot promised) s = inl refl
-question from (frame.Accept ballot slot command) s = question_if from s (nat_lt (front_of s) slot)
-question from (frame.Accepted ballot slot command) s = question_if from s (nat_lt (front_of s) slot)
+question from (frame.Accept ballot slot commands) s = question_if from s (nat_lt (front_of s) slot)
+question from (frame.Accepted ballot slot commands) s = question_if from s (nat_lt (front_of s) slot)
 question from (frame.Chosen slot command) s = inl refl
 question from (frame.Ask slot) s = inl refl
 question from (frame.Forward command) s = inl refl

@@ -1,5 +1,5 @@
 -- What is sent is backed, and stays so.
-use Rattle.std.proofs.Common.{◌≡◌, ℕ, ◌⊎◌, inl, inr, Bool, true, false, true≢false, if◌then◌else◌, List, [], ◌∷◌, Option, Some, None, Result, Ok, Err, refl, sym, ap, subst, ◌∙◌}
+use Rattle.std.proofs.Common.{◌≡◌, ℕ, ◌⊎◌, inl, inr, Bool, true, false, if◌then◌else◌, List, [], ◌∷◌, Option, Some, None, Result, Ok, Err, refl, sym, ap, subst, ◌∙◌}
 use Rattle.paxos_wire.specs.declared.ballot.Ballot.{Ballot}
 use Rattle.paxos_wire.specs.declared.message.Message.{Message as Wire}
 use Rattle.paxos_wire.specs.declared.message.Message.TheVariants as frame
@@ -16,7 +16,8 @@ use Rattle.protocol_model.specs.Worlds.{World, Reached, new_world}
 use Rattle.protocol_model.specs.Laws.{IsLeft}
 use Rattle.paxos_wire.specs.Order.{is_below}
 use Rattle.proposer.specs.Campaigns.{next_ballot}
-use Rattle.learner.specs.Learning.{Learned, answer_to, hearing, answer_to_chosen, believing as with_chosen}
+use Rattle.learner.specs.Learning.{Learned, answer_to_chosen, believing as with_chosen}
+use Rattle.learner.specs.CommandRuns.{answer_to_run, hearing_run}
 use Rattle.seat_session.specs.Session.{Standing as Talk}
 use Rattle.seat_session.specs.declared.said.Said.{Said as Saying}
 use Rattle.seat_session.specs.declared.said.Said.TheVariants.{Ready, Act}
@@ -28,7 +29,7 @@ use Rattle.node_rules.specs.Showing.{Piece}
 use Rattle.node_rules.specs.Turns.{Turn, Refusal, Down, Spent, Conflict, still, sending, joined, behind, and_then}
 use Rattle.node_rules.specs.Applying.{applying}
 use Rattle.node_rules.specs.Learning.{learning, asking_on, comes_to_window}
-use Rattle.protocol_model.specs.Votes.{is_of_ballot, stored_in, storing}
+use Rattle.protocol_model.specs.Votes.{command_run_at, taking_command_run}
 use Rattle.node_rules.specs.Accepting.{refusing, promising, preparing, voting}
 use Rattle.node_rules.specs.Proposing.{higher, greatest_seen, is_over, is_spent, beginning}
 use Rattle.node_rules.specs.Seats.{session_at, with_session, connecting, dropping, left, answering, answering_all, HearsPiece}
@@ -42,7 +43,7 @@ use Rattle.node_rules.specs.Given.{Given}
 use Rattle.node_rules.specs.Sound.{Stands}
 use Rattle.node_rules.specs.LawsBacking.{SentIsBacked, BackedStaysSo}
 use Rattle.protocol_model.proofs.Sets.{in_first}
-use Rattle.protocol_model.proofs.Ballots.{at_most_self, below_if, at_most_if_not, is_same_if}
+use Rattle.protocol_model.proofs.Ballots.{at_most_self, below_if, at_most_if_not}
 use Rattle.node_rules.proofs.Ordering.{higher_is}
 use Rattle.node_rules.proofs.Ticking.{above}
 use Rattle.node_rules.proofs.Results.{ok_is, ok_not}
@@ -58,6 +59,8 @@ pub record Backing : Type 0 where
   pub promise : (store : Store) (ballot : Ballot) (message : Message) → Below store.promise ballot → Backs store message → Backs (promised store ballot) message
   pub vote : (store : Store) (slot : ℕ) (vote : Vote) (message : Message)
       → IsWithinPromise store → AtMost store.promise vote.ballot → HasNoOther store slot vote → Backs store message → Backs (voted store slot vote) message
+  pub command_run : (store : Store) (ballot : Ballot) (slot : ℕ) (commands : List Command) (message : Message)
+      → IsWithinPromise store → AtMost store.promise ballot → Backs store message → Backs (taking_command_run store ballot slot commands) message
   pub left : (dealer : Dealer) (n i : ℕ) (world : World) (store : Store) (message : Message)
       → Reached dealer n world → IsLeft i (world.nodes i) store → In message world.ever → sender_of message ≡ i
       → IsAcceptedToo world.ever message → Backs store message
@@ -142,25 +145,16 @@ chosen_store place (Err fault) learned s from first e = absurd (ok_not first (Co
 keeps_by : (old new same : Store) → new ≡ same → Keeps old same → Keeps old new
 keeps_by old new same e keeps m h = subst (λ (st : Store). Backs st m) (sym e) (keeps m h)
 
--- a vote of a ballot of which there is none
-storing_by : (b : Backing) (store : Store) (ballot : Ballot) (slot : ℕ) (command : Command) (of : Bool) → is_of_ballot (store.votes slot) ballot ≡ of → IsWithinPromise store → AtMost store.promise ballot
-    → Keeps store (if of then store else voted store slot (record { ballot = ballot; command = command }))
-storing_by b store ballot slot command true e within above m h = h
-storing_by b store ballot slot command false e within above m h =
-    let vote : Vote = record { ballot = ballot; command = command } in
-    b.vote store slot vote m within above
-    (λ found ef same. absurd (true≢false (sym (ap (λ (o : Option Vote). is_of_ballot o ballot) ef ∙ is_same_if found.ballot ballot same) ∙ e))) h
-
-accept_keeps : (b : Backing) (place : Place) (from : ℕ) (ballot : Ballot) (slot : ℕ) (command : Command) (s : Standing) (first : Turn) (low : Bool) → is_below ballot s.store.promise ≡ low
-    → IsWithinPromise s.store → (if low then Ok (refusing from ballot slot s) else voting place ballot slot command (idle s)) ≡ Ok first → Keeps s.store first.after.store
-accept_keeps b place from ballot slot command s first true e within h =
+accept_keeps : (b : Backing) (place : Place) (from : ℕ) (ballot : Ballot) (slot : ℕ) (commands : List Command) (s : Standing) (first : Turn) (low : Bool) → is_below ballot s.store.promise ≡ low
+    → IsWithinPromise s.store → (if low then Ok (refusing from ballot slot s) else voting place ballot slot commands (idle s)) ≡ Ok first → Keeps s.store first.after.store
+accept_keeps b place from ballot slot commands s first true e within h =
     keeps_by s.store first.after.store s.store (ap (λ (t : Turn). t.after.store) (sym (ok_is (refusing from ballot slot s) first h))) (λ m k. k)
-accept_keeps b place from ballot slot command s first false e within h =
-    let stored : Command = stored_in (s.store.votes slot) ballot command in
-    let kept : Standing = with_stored (idle s) (storing s.store ballot slot command) in
+accept_keeps b place from ballot slot commands s first false e within h =
+    let told : List Command = command_run_at s.store ballot slot commands in
+    let kept : Standing = with_stored (idle s) (taking_command_run s.store ballot slot commands) in
     keeps_by s.store first.after.store kept.store
-    (voted_store place (answer_to kept.learned place.node ballot slot stored) (hearing kept.learned place.node ballot slot stored) kept (to_others place (frame.Accepted ballot slot stored)) first h)
-    (storing_by b s.store ballot slot command (is_of_ballot (s.store.votes slot) ballot) refl within (at_most_if_not ballot s.store.promise e))
+    (voted_store place (answer_to_run kept.learned place.node ballot slot told) (hearing_run kept.learned place.node ballot slot told) kept (to_others place (frame.Accepted ballot slot told)) first h)
+    (λ m k. b.command_run s.store ballot slot commands m within (at_most_if_not ballot s.store.promise e) k)
 
 prepare_keeps : (b : Backing) (from : ℕ) (ballot : Ballot) (slot : ℕ) (s : Standing) (above : Bool) → is_below s.store.promise ballot ≡ above
     → Keeps s.store (if above then promising from ballot slot s else refusing from ballot slot s).after.store
@@ -175,12 +169,12 @@ message_keeps b place s from (frame.Prepare ballot slot) first within is =
     (prepare_keeps b from ballot slot s0 (is_below s0.store.promise ballot) refl)
 message_keeps b place s from (frame.Promise ballot slot told) first within is = keeps_by s.store first.after.store s.store (ap (λ (t : Turn). t.after.store) (sym (ok_is _ first is))) (λ m h. h)
 message_keeps b place s from (frame.Refuse ballot slot promised) first within is = keeps_by s.store first.after.store s.store (ap (λ (t : Turn). t.after.store) (sym (ok_is _ first is))) (λ m h. h)
-message_keeps b place s from (frame.Accept ballot slot command) first within is =
-    let s0 : Standing = seeing (frame.Accept ballot slot command) s in
-    accept_keeps b place from ballot slot command s0 first (is_below ballot s0.store.promise) refl within is
-message_keeps b place s from (frame.Accepted ballot slot command) first within is =
-    let s0 : Standing = seeing (frame.Accepted ballot slot command) s in
-    keeps_by s.store first.after.store s.store (learned_store place (answer_to s0.learned from ballot slot command) (hearing s0.learned from ballot slot command) s0 first is) (λ m h. h)
+message_keeps b place s from (frame.Accept ballot slot commands) first within is =
+    let s0 : Standing = seeing (frame.Accept ballot slot commands) s in
+    accept_keeps b place from ballot slot commands s0 first (is_below ballot s0.store.promise) refl within is
+message_keeps b place s from (frame.Accepted ballot slot commands) first within is =
+    let s0 : Standing = seeing (frame.Accepted ballot slot commands) s in
+    keeps_by s.store first.after.store s.store (learned_store place (answer_to_run s0.learned from ballot slot commands) (hearing_run s0.learned from ballot slot commands) s0 first is) (λ m h. h)
 message_keeps b place s from (frame.Chosen slot command) first within is =
     let s0 : Standing = seeing (frame.Chosen slot command) s in
     keeps_by s.store first.after.store s.store (chosen_store place (answer_to_chosen s0.learned.log slot command) (with_chosen s0.learned slot command) s0 from first is) (λ m h. h)

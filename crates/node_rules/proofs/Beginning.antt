@@ -1,5 +1,5 @@
 -- Where the path of a call begins, and what it is when it ends.
-use Rattle.std.proofs.Common.{◌≡◌, ℕ, inl, inr, Bool, true, false, if◌then◌else◌, List, [], ◌∷◌, ◌++◌, Option, Some, None, Result, Ok, Err, refl, sym, ap, subst, ◌∙◌, arith, length, reverse}
+use Rattle.std.proofs.Common.{◌≡◌, ℕ, ◌+◌, inl, inr, Bool, true, false, if◌then◌else◌, List, [], ◌∷◌, ◌++◌, Option, Some, None, Result, Ok, Err, refl, sym, ap, subst, ◌∙◌, arith, length, reverse}
 use Rattle.std.specs.Prelude.{slice_get}
 use Rattle.std.proofs.lemmas.List.{reverse-append, length-reverse}
 use Rattle.std.proofs.lemmas.Option.{same_Some, slice_get_within}
@@ -14,26 +14,29 @@ use Rattle.protocol_model.specs.Messages.{Message, Prepare, Promise, Refuse, Acc
 use Rattle.protocol_model.specs.Calls.{HasGotAtMost}
 use Rattle.protocol_model.specs.Nodes.{Node, Knows as KnowsCommands}
 use Rattle.protocol_model.specs.Arrivals.{Arrival, Event}
-use Rattle.protocol_model.specs.Moves.{nothing, more, none, gets}
+use Rattle.protocol_model.specs.Frames.{proposals, answers}
+use Rattle.protocol_model.specs.Dealers.{Dealer}
+use Rattle.protocol_model.specs.Moves.{Chain, nothing, more, none, gets}
 use Rattle.proposer.specs.declared.campaign.Campaign.{Campaign}
 use Rattle.paxos_wire.specs.Order.{is_below}
 use Rattle.proposer.specs.Campaigns.{with_promise, counting_from, refused_from}
 use Rattle.seat_session.specs.Session.{Standing as Talk}
 use Rattle.dealer_kind.specs.Kind.{log_of}
-use Rattle.node_rules.specs.Standings.{Standing, applied, front_of}
+use Rattle.node_rules.specs.Standings.{Place, Standing, applied, front_of}
 use Rattle.node_rules.specs.Turns.{Turn, Refusal, still, behind, and_then}
 use Rattle.node_rules.specs.Rules.{highest}
 use Rattle.node_rules.specs.Seen.{ballots_in}
 use Rattle.node_rules.specs.Being.{Campaigns, IsProposer, AreSessions, Knows, IsOf}
 use Rattle.node_rules.specs.Called.{AreShown, events_of, Taken}
-use Rattle.protocol_model.proofs.Sets.{in_split}
+use Rattle.protocol_model.proofs.Sets.{Within, in_split}
 use Rattle.node_rules.proofs.Carrying.{nothing_carried, nothing_lost}
 use Rattle.node_rules.proofs.Telling.{nothing_shown}
 use Rattle.protocol_model.proofs.Ballots.{below_if, at_most_if_not, not_below}
-use Rattle.node_rules.proofs.Ordering.{sees_more}
+use Rattle.node_rules.proofs.Ordering.{highest_all, sees_more, sees_again}
 use Rattle.node_rules.specs.Given.{Given}
 use Rattle.node_rules.proofs.Keeping.{with_got, IsNoAnswer, stood_before, got_knows, got_learner, got_pending}
 use Rattle.node_rules.proofs.Paths.{Hearing, Scope, dealer_in, first_in, Path, Goes, has_in}
+use Rattle.node_rules.proofs.Together.{with_got_each}
 use Rattle.node_rules.proofs.Settling.{below_front}
 use Rattle.node_rules.specs.Proposing.{own_value}
 use Rattle.node_rules.specs.Proposed.{IsSettled}
@@ -96,17 +99,24 @@ begin x s r quiet = record {
   got_all = λ m h. absurd (subst (λ (l : List Message). In m l) quiet h);
 }
 
--- one message came, and the standing has it
-begin_with : (x : Scope) (s after : Standing) (m : Message) → Runs x s → x.messages ≡ m ∷ []
-    → In m x.world.ever → after.sessions ≡ s.sessions → after.up ≡ true → after.begun ≡ after.store → after.learned ≡ s.learned
-    → Knows (dealer_in x) x.place (applied s) after (with_got (first_in x) m)
+-- messages are got, the first of them last
+got_chain : (x : Scope) (messages : List Message) → (first_in x).up ≡ true → Within messages x.world.ever
+    → Chain (dealer_in x) x.place.nodes x.place.node x.world.ever (first_in x) nothing (with_got_each (first_in x) messages)
+got_chain x [] up sent = none _ _ refl refl
+got_chain x (m ∷ messages) up sent =
+    more _ (with_got_each (first_in x) messages) nothing _ _ (got_chain x messages up (λ o h. sent o (inr h))) (gets m up (sent m (inl refl)) refl refl) refl
+
+-- messages came, and the standing has them
+begin_with : (x : Scope) (s after : Standing) (messages : List Message) → Runs x s → x.messages ≡ messages
+    → Within messages x.world.ever → after.sessions ≡ s.sessions → after.up ≡ true → after.begun ≡ after.store → after.learned ≡ s.learned
+    → Knows (dealer_in x) x.place (applied s) after (with_got_each (first_in x) messages)
     → Path x [] (hearing_of s (first_in x)) (applied s) (still after)
-begin_with x s after m r one sent talks runs unbegun learned knows = record {
+begin_with x s after messages r are sent talks runs unbegun learned knows = record {
   sent = [];
   shown = [];
-  got = m ∷ [];
-  node = with_got (first_in x) m;
-  chain = more _ (first_in x) nothing _ _ (none _ _ refl refl) (gets m (r.of.up ∙ r.up) sent refl refl) refl;
+  got = messages;
+  node = with_got_each (first_in x) messages;
+  chain = got_chain x messages (r.of.up ∙ r.up) sent;
   knows = knows;
   commands = commands_known s.learned.log (first_in x).known (r.of.runs r.up).knows.learner.knows;
   hears = refl;
@@ -115,7 +125,7 @@ begin_with x s after m r one sent talks runs unbegun learned knows = record {
   begun = r.of.begun ∙ ((r.of.runs r.up).unbegun ∙ sym r.of.store);
   unbegun = unbegun;
   starts = r.start;
-  has = ap (λ (l : List Message). m ∷ l) r.had;
+  has = ap (λ (l : List Message). messages ++ l) r.had;
   carry = nothing_carried x.place.nodes x.place.node;
   all = nothing_lost x.place.nodes x.place.node;
   pieces = λ ends. nothing_shown x.place.node x.start x.log;
@@ -123,25 +133,61 @@ begin_with x s after m r one sent talks runs unbegun learned knows = record {
   unshown = λ q. refl;
   unvoted = λ q k b l c h. absurd h;
   unstored = λ q. refl;
-  got_only = λ o h. elim h [ inl e ↦ inl (subst (λ (l : List Message). In o l) (sym one) (inl e)) | inr old ↦ absurd old ];
-  got_all = λ o h. subst (λ (l : List Message). In o l) one h;
+  got_only = λ o h. inl (subst (λ (l : List Message). In o l) (sym are) h);
+  got_all = λ o h. subst (λ (l : List Message). In o l) are h;
 }
+
+one_within : (m : Message) (ever : List Message) → In m ever → Within (m ∷ []) ever
+one_within m ever sent o (inl e) = subst (λ (y : Message). In y ever) (sym e) sent
+one_within m ever sent o (inr h) = absurd h
 
 -- a message of another node that is no answer to a Prepare
 pub begin_frame : (x : Scope) (s : Standing) (m : Message) (bs : List Ballot) → Runs x s → x.messages ≡ m ∷ []
     → In m x.world.ever → IsNoAnswer m → ballots_in m ≡ bs
     → Path x [] (hearing_of s (first_in x)) (applied s) (still (record s { seen = highest s.seen bs }))
 begin_frame x s m bs r one sent other ballots =
-    begin_with x s (record s { seen = highest s.seen bs }) m r one sent refl r.up (r.of.runs r.up).unbegun refl
+    begin_with x s (record s { seen = highest s.seen bs }) (m ∷ []) r one (one_within m x.world.ever sent) refl r.up (r.of.runs r.up).unbegun refl
     (got_knows x.given (dealer_in x) x.place (applied s) s (first_in x) m (highest s.seen bs) other
     (sees_more (first_in x).has m (first_in x).store.promise s.seen bs ballots (r.of.runs r.up).knows.seen) (r.of.runs r.up).knows)
+
+-- messages of a frame that tells this ballot, none of them an answer to a Prepare
+abbrev pub AreOfFrame : Ballot → List Message → Type 0
+AreOfFrame ballot [] = Unit {0}
+AreOfFrame ballot (m ∷ messages) = IsNoAnswer m × (ballots_in m ≡ ballot ∷ []) × AreOfFrame ballot messages
+
+pub of_proposals : (ballot : Ballot) (slot : ℕ) (commands : List Command) → AreOfFrame ballot (proposals ballot slot commands)
+of_proposals ballot slot [] = tt
+of_proposals ballot slot (command ∷ later) = (tt, refl, of_proposals ballot (slot + 1) later)
+
+pub of_answers : (from : ℕ) (ballot : Ballot) (slot : ℕ) (commands : List Command) → AreOfFrame ballot (answers from ballot slot commands)
+of_answers from ballot slot [] = tt
+of_answers from ballot slot (command ∷ later) = (tt, refl, of_answers from ballot (slot + 1) later)
+
+frame_knows : (g : Given) (d : Dealer) (place : Place) (upto : List Command) (s : Standing) (node : Node) (ballot : Ballot) (m : Message) (messages : List Message) → AreOfFrame ballot (m ∷ messages)
+    → Knows d place upto s node → Knows d place upto (record s { seen = highest s.seen (ballot ∷ []) }) (with_got_each node (m ∷ messages))
+frame_knows g d place upto s node ballot m [] are k =
+    got_knows g d place upto s node m (highest s.seen (ballot ∷ [])) are.0 (sees_more node.has m node.store.promise s.seen (ballot ∷ []) are.1 k.seen) k
+frame_knows g d place upto s node ballot m (next ∷ messages) are k =
+    let rest = frame_knows g d place upto s node ballot next messages are.2 k in
+    got_knows g d place upto (record s { seen = highest s.seen (ballot ∷ []) }) (with_got_each node (next ∷ messages)) m (highest s.seen (ballot ∷ [])) are.0
+    (sees_again (next ∷ messages ++ node.has) m node.store.promise (highest s.seen (ballot ∷ []))
+    (λ b h. highest_all s.seen (ballot ∷ []) b (subst (In b) are.1 h)) rest.seen)
+    rest
+
+-- they came
+pub begin_frames : (x : Scope) (s : Standing) (ballot : Ballot) (m : Message) (messages : List Message) → Runs x s → x.messages ≡ m ∷ messages
+    → Within (m ∷ messages) x.world.ever → AreOfFrame ballot (m ∷ messages)
+    → Path x [] (hearing_of s (first_in x)) (applied s) (still (record s { seen = highest s.seen (ballot ∷ []) }))
+begin_frames x s ballot m messages r are sent of_frame =
+    begin_with x s (record s { seen = highest s.seen (ballot ∷ []) }) (m ∷ messages) r are sent refl r.up (r.of.runs r.up).unbegun refl
+    (frame_knows x.given (dealer_in x) x.place (applied s) s (first_in x) ballot m messages of_frame (r.of.runs r.up).knows)
 
 -- an answer to a Prepare came, and the campaign is what it makes of it
 begin_answer : (x : Scope) (s : Standing) (m : Message) (bs : List Ballot) (campaign : Option Campaign) → Runs x s → x.messages ≡ m ∷ [] → In m x.world.ever → ballots_in m ≡ bs
     → (IsProposer x.place.nodes x.place.node (first_in x) (front_of s) s.campaign → IsProposer x.place.nodes x.place.node (with_got (first_in x) m) (front_of s) campaign)
     → Path x [] (hearing_of s (first_in x)) (applied s) (still (record s { seen = highest s.seen bs; campaign = campaign }))
 begin_answer x s m bs campaign r one sent ballots proposer =
-    begin_with x s (record s { seen = highest s.seen bs; campaign = campaign }) m r one sent refl r.up (r.of.runs r.up).unbegun refl
+    begin_with x s (record s { seen = highest s.seen bs; campaign = campaign }) (m ∷ []) r one (one_within m x.world.ever sent) refl r.up (r.of.runs r.up).unbegun refl
     (record {
       up = k.up;
       store = k.store;

@@ -1,5 +1,5 @@
 -- Clusters at rest, and their rounds, worked out.
-use Rattle.std.proofs.Common.{◌≡◌, ℕ, zero, suc, inl, inr, true, [], ◌∷◌, Option, Some, None, refl, ap, subst, ◌∙◌, arith}
+use Rattle.std.proofs.Common.{◌≡◌, ℕ, zero, suc, inl, inr, true, [], ◌∷◌, Option, Some, None, refl, ap, subst, ◌∙◌, arith, length}
 use Rattle.paxos_wire.specs.declared.message.Message.TheVariants.{Prepare, Promise, Accept, Accepted}
 use Rattle.slot_log.specs.declared.command.Command.{Command}
 use Rattle.protocol_model.specs.Ballots.{Below, AtMost}
@@ -7,7 +7,7 @@ use Rattle.protocol_model.specs.Messages.{Vote}
 use Rattle.protocol_model.specs.Stores.{empty_store, promised}
 use Rattle.node_rules.specs.Standings.{Standing}
 use Rattle.node_rules.specs.Calm.{IsLeastQuorum, Calm, Ticks, delivers, round}
-use Rattle.node_rules.proofs.Examples.{opened, place, ballot, dealt, first, voted_1}
+use Rattle.node_rules.proofs.Examples.{opened, place, ballot, dealt, two, first, voted_1}
 
 -- ---- quorums
 
@@ -38,7 +38,7 @@ twice_the_same h = let l = h.rise.2.0 in omega arith
 
 -- ---- three nodes, just started
 
-fresh_is_at_rest : Calm (place 0) first 0 (0 ∷ 1 ∷ []) (dealt 0)
+fresh_is_at_rest : Calm (place 0) first 0 (0 ∷ 1 ∷ []) (dealt 0 ∷ [])
 unfolding opened
 fresh_is_at_rest = record {
   of_node = refl;
@@ -49,40 +49,48 @@ fresh_is_at_rest = record {
   slot_left = omega arith;
   unpromised = λ node h. inl (omega arith);
   goes_on = refl;
-  value = inr (λ vote h. (let e : ◌≡◌ {A = Option Vote} None (Some vote) = h.2 in absurd (cc)), refl);
+  value = inr (dealt 0, refl, (λ vote h. (let e : ◌≡◌ {A = Option Vote} None (Some vote) = h.2 in absurd (cc)), refl));
 }
 
 -- its tick and four deliveries
-fresh_round : round first 0 (0 ∷ 1 ∷ []) (dealt 0)
+fresh_round : round first 0 (0 ∷ 1 ∷ []) (dealt 0 ∷ [])
     ≡ Ticks 0 ∷ delivers 0 1 (Prepare (ballot 1 0) 0) ∷ delivers 1 0 (Promise (ballot 1 0) 0 [])
-    ∷ delivers 0 1 (Accept (ballot 1 0) 0 (dealt 0)) ∷ delivers 1 0 (Accepted (ballot 1 0) 0 (dealt 0)) ∷ []
+    ∷ delivers 0 1 (Accept (ballot 1 0) 0 (dealt 0 ∷ [])) ∷ delivers 1 0 (Accepted (ballot 1 0) 0 (dealt 0 ∷ [])) ∷ []
 unfolding opened
 fresh_round = refl
 
 -- five nodes: a tick and eight deliveries, four times to or from node 1 and then node 2
-five_round : round first 0 (0 ∷ 1 ∷ 2 ∷ []) (dealt 0)
+five_round : round first 0 (0 ∷ 1 ∷ 2 ∷ []) (dealt 0 ∷ [])
     ≡ Ticks 0 ∷ delivers 0 1 (Prepare (ballot 1 0) 0) ∷ delivers 0 2 (Prepare (ballot 1 0) 0)
     ∷ delivers 1 0 (Promise (ballot 1 0) 0 []) ∷ delivers 2 0 (Promise (ballot 1 0) 0 [])
-    ∷ delivers 0 1 (Accept (ballot 1 0) 0 (dealt 0)) ∷ delivers 0 2 (Accept (ballot 1 0) 0 (dealt 0))
-    ∷ delivers 1 0 (Accepted (ballot 1 0) 0 (dealt 0)) ∷ delivers 2 0 (Accepted (ballot 1 0) 0 (dealt 0)) ∷ []
+    ∷ delivers 0 1 (Accept (ballot 1 0) 0 (dealt 0 ∷ [])) ∷ delivers 0 2 (Accept (ballot 1 0) 0 (dealt 0 ∷ []))
+    ∷ delivers 1 0 (Accepted (ballot 1 0) 0 (dealt 0 ∷ [])) ∷ delivers 2 0 (Accepted (ballot 1 0) 0 (dealt 0 ∷ [])) ∷ []
 unfolding opened
 five_round = refl
 
 -- seven nodes: a tick and twelve deliveries, four times to or from node 1, then node 2 and then node 3
-seven_round : round first 0 (0 ∷ 1 ∷ 2 ∷ 3 ∷ []) (dealt 0)
+seven_round : round first 0 (0 ∷ 1 ∷ 2 ∷ 3 ∷ []) (dealt 0 ∷ [])
     ≡ Ticks 0 ∷ delivers 0 1 (Prepare (ballot 1 0) 0) ∷ delivers 0 2 (Prepare (ballot 1 0) 0) ∷ delivers 0 3 (Prepare (ballot 1 0) 0)
     ∷ delivers 1 0 (Promise (ballot 1 0) 0 []) ∷ delivers 2 0 (Promise (ballot 1 0) 0 []) ∷ delivers 3 0 (Promise (ballot 1 0) 0 [])
-    ∷ delivers 0 1 (Accept (ballot 1 0) 0 (dealt 0)) ∷ delivers 0 2 (Accept (ballot 1 0) 0 (dealt 0)) ∷ delivers 0 3 (Accept (ballot 1 0) 0 (dealt 0))
-    ∷ delivers 1 0 (Accepted (ballot 1 0) 0 (dealt 0)) ∷ delivers 2 0 (Accepted (ballot 1 0) 0 (dealt 0)) ∷ delivers 3 0 (Accepted (ballot 1 0) 0 (dealt 0)) ∷ []
+    ∷ delivers 0 1 (Accept (ballot 1 0) 0 (dealt 0 ∷ [])) ∷ delivers 0 2 (Accept (ballot 1 0) 0 (dealt 0 ∷ [])) ∷ delivers 0 3 (Accept (ballot 1 0) 0 (dealt 0 ∷ []))
+    ∷ delivers 1 0 (Accepted (ballot 1 0) 0 (dealt 0 ∷ [])) ∷ delivers 2 0 (Accepted (ballot 1 0) 0 (dealt 0 ∷ [])) ∷ delivers 3 0 (Accepted (ballot 1 0) 0 (dealt 0 ∷ [])) ∷ []
 unfolding opened
 seven_round = refl
 
 -- another node's deal isn't the value
-other_deal_is_refuted : Calm (place 0) first 0 (0 ∷ 1 ∷ []) (dealt 1) → ⊥
+other_deal_is_refuted : Calm (place 0) first 0 (0 ∷ 1 ∷ []) (dealt 1 ∷ []) → ⊥
 unfolding opened
 other_deal_is_refuted calm = elim calm.value [
-  | inl held ↦ (let e : ◌≡◌ {A = Option Vote} None (Some held.greatest) = held.held.2 in let bad : ⊥ = cc in bad)
-  | inr own ↦ (let e : ◌≡◌ {A = Option Command} (Some (dealt 0)) (Some (dealt 1)) = own.1 in let bad : ⊥ = cc in bad)
+  | inl told ↦ (let e : ◌≡◌ {A = Option Vote} None (Some told.held.0.greatest) = told.held.0.held.2 in let bad : ⊥ = cc in bad)
+  | inr own ↦ (let is : ◌≡◌ {A = Option Command} (Some (dealt 0)) (Some own.0) = own.2.1 in let same : dealt 1 ∷ [] ≡ own.0 ∷ [] = own.1 in let bad : ⊥ = cc in bad)
+]
+
+-- nor is its own with an act behind it
+own_with_more_is_refuted : Calm (place 0) first 0 (0 ∷ 1 ∷ []) two → ⊥
+unfolding opened
+own_with_more_is_refuted calm = elim calm.value [
+  | inl told ↦ (let e : ◌≡◌ {A = Option Vote} None (Some told.held.0.greatest) = told.held.0.held.2 in let bad : ⊥ = cc in bad)
+  | inr own ↦ (let few : 2 ≡ 1 = ap length own.1 in absurd (omega (arith, few)))
 ]
 
 -- ---- node 1 voted for node 0's deal, and nobody knows it; node 2 promised that ballot
@@ -96,7 +104,7 @@ last_two : IsLeastQuorum 3 (1 ∷ 2 ∷ [])
 last_two = record { rise = (omega arith, omega arith, (omega arith, omega arith, tt)); most = omega arith; least = omega arith }
 
 -- the vote that is told goes before node 2's own deal
-told_vote_is_the_value : Calm (place 2) left_over 2 (1 ∷ 2 ∷ []) (dealt 0)
+told_vote_is_the_value : Calm (place 2) left_over 2 (1 ∷ 2 ∷ []) (dealt 0 ∷ [])
 unfolding opened
 told_vote_is_the_value = record {
   of_node = refl;
@@ -108,10 +116,16 @@ told_vote_is_the_value = record {
   unpromised = λ node h. above_at node;
   goes_on = refl;
   value = inl (record {
-    greatest = record { ballot = ballot 1 0; command = dealt 0 };
-    held = (1, inl refl, refl);
-    same = refl;
-    above = λ vote h. vote_at h.0 vote h.2;
+    held = (
+      record {
+        greatest = record { ballot = ballot 1 0; command = dealt 0 };
+        held = (1, inl refl, refl);
+        same = refl;
+        above = λ vote h. vote_at h.0 vote h.2;
+      },
+      tt,
+    );
+    one = refl;
   });
 }
   where
@@ -131,11 +145,11 @@ told_vote_is_the_value = record {
     vote_at (suc (suc node)) vote e = absurd (cc)
 
 -- so its own deal isn't the value
-own_over_told_is_refuted : Calm (place 2) left_over 2 (1 ∷ 2 ∷ []) (dealt 2) → ⊥
+own_over_told_is_refuted : Calm (place 2) left_over 2 (1 ∷ 2 ∷ []) (dealt 2 ∷ []) → ⊥
 unfolding opened
 own_over_told_is_refuted calm = elim calm.value [
-  | inl held ↦ only_vote held.held.0 held.greatest held.held.2 held.same
-  | inr own ↦ own.0 (record { ballot = ballot 1 0; command = dealt 0 }) (1, inl refl, refl)
+  | inl told ↦ only_vote told.held.0.held.0 told.held.0.greatest told.held.0.held.2 told.held.0.same
+  | inr own ↦ own.2.0 (record { ballot = ballot 1 0; command = dealt 0 }) (1, inl refl, refl)
 ]
   where
     only_vote : (node : ℕ) (vote : Vote) → (left_over node).store.votes 0 ≡ Some vote → vote.command ≡ dealt 2 → ⊥
@@ -150,6 +164,6 @@ further_on (suc zero) = record voted_1 { store = promised voted_1.store (ballot 
 further_on (suc (suc node)) = left_over (suc (suc node))
 
 -- who would be refused isn't at rest
-promised_more_is_refuted : Calm (place 2) further_on 2 (1 ∷ 2 ∷ []) (dealt 0) → ⊥
+promised_more_is_refuted : Calm (place 2) further_on 2 (1 ∷ 2 ∷ []) (dealt 0 ∷ []) → ⊥
 unfolding opened
 promised_more_is_refuted calm = elim (calm.unpromised 1 (inl refl)) [ inl l ↦ omega arith | inr t ↦ (let a = t.0 in omega arith) ]

@@ -403,11 +403,12 @@ heard_turn r s j = joined (joined (still (with_heard_vote r s j)) (still (with_h
 
 all_votes : (r : Round) → IsRest r → (others : List ℕ) → Others r others → (todo : List ℕ) (j from : ℕ) (voters : List ℕ) → ToCome r others from (j ∷ todo) → length voters + suc (length todo) ≡ length r.members
     → (st : ℕ → Standing) (sent : List Sent) → Votes r others voters from st sent
-    → GoOn (place_in r.setting r.n r.deals) (HasMovedOn r.i (slot_in r) r.command) st sent (map (λ k. delivers k r.i (accepted_in r)) (j ∷ todo))
+    → GoOn (place_in r.setting r.n r.deals) (HasMovedOn r.i (slot_in r) (r.command ∷ [])) st sent (map (λ k. delivers k r.i (accepted_in r)) (j ∷ todo))
 all_votes r rest others o [] j from voters c size st sent p =
-    deliver r (HasMovedOn r.i (slot_in r) r.command) st sent j r.i (accepted_in r) [] l.turn p.leading.up (p.voted_so j jin).reads (p.voted_so j jin).way l.goes
-    (λ back. ended (place_in r.setting r.n r.deals) (HasMovedOn r.i (slot_in r) r.command) (put st r.i l.turn.after) (sent_by r.i l.turn.frames ++ sent)
-    (subst (λ (s : Standing). (slot_in r < front_of s) × (known_at s.learned.log (slot_in r) ≡ Some r.command)) (sym (put_same st r.i l.turn.after)) (l.learned.passed, l.learned.known)))
+    deliver r (HasMovedOn r.i (slot_in r) (r.command ∷ [])) st sent j r.i (accepted_in r) [] l.turn p.leading.up (p.voted_so j jin).reads (p.voted_so j jin).way l.goes
+    (λ back. ended (place_in r.setting r.n r.deals) (HasMovedOn r.i (slot_in r) (r.command ∷ [])) (put st r.i l.turn.after) (sent_by r.i l.turn.frames ++ sent)
+    (subst (λ (s : Standing). (slot_in r + 1 ≤ front_of s) × ((known_at s.learned.log (slot_in r) ≡ Some r.command) × Unit {0})) (sym (put_same st r.i l.turn.after))
+    ((let passed = l.learned.passed in omega (arith, passed)), (l.learned.known, tt))))
   where
     jin : In j others
     jin = c.inside j (inl refl)
@@ -415,7 +416,7 @@ all_votes r rest others o [] j from voters c size st sent p =
     l : LastTurn r (st r.i) j
     l = last_turn r rest voters (st r.i) p.leading j (rest.low j (o.member j (c.inside j (inl refl)))) (all_in r others o voters from j c p.done p.own)
 all_votes r rest others o (next ∷ todo) j from voters c size st sent p =
-    deliver r (HasMovedOn r.i (slot_in r) r.command) st sent j r.i (accepted_in r) (map (λ k. delivers k r.i (accepted_in r)) (next ∷ todo)) (heard_turn r (st r.i) j)
+    deliver r (HasMovedOn r.i (slot_in r) (r.command ∷ [])) st sent j r.i (accepted_in r) (map (λ k. delivers k r.i (accepted_in r)) (next ∷ todo)) (heard_turn r (st r.i) j)
     p.leading.up (p.voted_so j (c.inside j (inl refl))).reads (p.voted_so j (c.inside j (inl refl))).way
     (accepted_goes r rest voters (st r.i) p.leading j (distinct_more r rest others o voters from j (next ∷ todo) c p.only p.distinct) (half r rest (suc (length voters)) (length todo) (omega (arith, size))))
     (λ back. all_votes r rest others o todo next (j + 1) (j ∷ voters) (next_come r others from j (next ∷ todo) c) (omega (arith, size)) (put st r.i (heard_turn r (st r.i) j).after)
@@ -452,7 +453,7 @@ prepare_framed : (r : Round) (k : ℕ) → k < r.n → (k ≡ r.i → ⊥) → I
 prepare_framed r k low other = in_first (to_others (place_at r r.i) (prepare_in r)) [] (record { to = k; message = prepare_in r }) (has_to r.n r.i k (prepare_in r) low other)
 
 by_others : (r : Round) → IsRest r → (others : List ℕ) → Others r others
-    → GoOn (place_in r.setting r.n r.deals) (HasMovedOn r.i (slot_in r) r.command) r.standings []
+    → GoOn (place_in r.setting r.n r.deals) (HasMovedOn r.i (slot_in r) (r.command ∷ [])) r.standings []
     (Ticks r.i ∷ (map (λ j. delivers r.i j (prepare_in r)) others ++ (map (λ j. delivers j r.i (promise_in r j)) others
     ++ (map (λ j. delivers r.i j (accept_in r)) others ++ map (λ j. delivers j r.i (accepted_in r)) others))))
 by_others r rest [] o = absurd (let q = rest.quorum.most in let m = r.given.least_nodes r.n rest.few in let s = o.size in omega (arith, q, m, s))
@@ -499,8 +500,8 @@ by_others r rest (j ∷ todo) o =
     come = first_come r (j ∷ todo) o
 
     Moved : (ℕ → Standing) → Type 0
-    Moved = HasMovedOn r.i (slot_in r) r.command
+    Moved = HasMovedOn r.i (slot_in r) (r.command ∷ [])
 
 -- the round of members at rest
-pub rounds_go_on : (r : Round) → IsRest r → GoOn (place_in r.setting r.n r.deals) (HasMovedOn r.i (slot_in r) r.command) r.standings [] (round r.standings r.i r.members r.command)
+pub rounds_go_on : (r : Round) → IsRest r → GoOn (place_in r.setting r.n r.deals) (HasMovedOn r.i (slot_in r) (r.command ∷ [])) r.standings [] (round r.standings r.i r.members (r.command ∷ []))
 rounds_go_on r rest = by_others r rest (without r.i r.members) (others_of r rest)

@@ -34,9 +34,9 @@ use Rattle.node_rules.specs.Sending.{to_others}
 use Rattle.node_rules.specs.Turns.{Turn, Refusal, Spent, still, sending, joined, behind, and_then}
 use Rattle.protocol_model.specs.Votes.{told_by, is_of_ballot, storing}
 use Rattle.node_rules.specs.Accepting.{promising, refusing, voting}
-use Rattle.node_rules.specs.Learning.{learning, counting_vote}
+use Rattle.node_rules.specs.Learning.{learning}
 use Rattle.node_rules.specs.Applying.{applying}
-use Rattle.node_rules.specs.Proposing.{is_over, is_spent, prepared, beginning, ticking, own_value, closing_by, proposal_at, closing}
+use Rattle.node_rules.specs.Proposing.{is_over, is_spent, prepared, beginning, ticking, own_value, closing}
 use Rattle.node_rules.specs.Rules.{seeing, taking, asking, on_message}
 use Rattle.node_rules.specs.Calm.{IsLeastQuorum, ballot_after, IsGreatestHeld, IsOwn}
 use Rattle.node_rules.specs.CalmRound.{place_in}
@@ -44,6 +44,7 @@ use Rattle.node_rules.specs.Given.{Given}
 use Rattle.protocol_model.proofs.Ballots.{at_most_self, not_below, below_if, is_below_if}
 use Rattle.node_rules.proofs.Closing.{none_of_ballot, stored_new, unmarked}
 use Rattle.node_rules.proofs.Halting.{unled_by}
+use Rattle.node_rules.proofs.Ones.{counting_one, counts_one, votes_one, one_at, closing_by_one, closing_one, closes_one}
 use Rattle.node_rules.proofs.Asked.{asked_same}
 use Rattle.node_rules.proofs.Settled.{PassesOver, passes_over, counted_is, proposal_is, turn_made, Fresh, made_turn, marked_none}
 use Rattle.learner.proofs.Kept.{open_means}
@@ -90,39 +91,43 @@ new_vote_passes g n i l came ballot slot command few nodes counts only = passes_
 -- ---- closes
 
 -- a node that doesn't lead rests
-pub unled_close : (place : Place) (s : Standing) → leads place.nodes s.campaign ≡ false → closing place s ≡ Ok (still s)
-unled_close place s e =
-    ap (λ (b : Bool). if b && nat_le SLOTS (front_of s) then Ok (still (idle s)) else closing_by place (proposal_at place s) (record s { campaign = marked_from s.campaign (proposal_at place s) })) e
+unled_one : (place : Place) (s : Standing) → leads place.nodes s.campaign ≡ false → closing_one place s ≡ Ok (still s)
+unled_one place s e =
+    ap (λ (b : Bool). if b && nat_le SLOTS (front_of s) then Ok (still (idle s)) else closing_by_one place (one_at place s) (record s { campaign = marked_from s.campaign (one_at place s) })) e
     ∙ rest_close place s (unled_by place.nodes s.campaign (front_of s) (own_value place s) e)
   where
-    rest_close : (place : Place) (s : Standing) → proposal_at place s ≡ Ok None
-        → closing_by place (proposal_at place s) (record s { campaign = marked_from s.campaign (proposal_at place s) }) ≡ Ok (still s)
+    rest_close : (place : Place) (s : Standing) → one_at place s ≡ Ok None
+        → closing_by_one place (one_at place s) (record s { campaign = marked_from s.campaign (one_at place s) }) ≡ Ok (still s)
     rest_close place s e =
-        ap (λ (r : Result (Option Made) ProposeFault). closing_by place r (record s { campaign = marked_from s.campaign r })) e
+        ap (λ (r : Result (Option Made) ProposeFault). closing_by_one place r (record s { campaign = marked_from s.campaign r })) e
         ∙ ap (λ (y : Option Campaign). let t : Result Turn Refusal = Ok (still (record s { campaign = y })) in t) (unmarked s.campaign)
 
-room_close : (place : Place) (s : Standing) (r : Result (Option Made) ProposeFault) → nat_le SLOTS (front_of s) ≡ false → proposal_at place s ≡ r
-    → closing place s ≡ closing_by place r (record s { campaign = marked_from s.campaign r })
-room_close place s r room e =
-    ap (λ (b : Bool). if leads place.nodes s.campaign && b then Ok (still (idle s)) else closing_by place (proposal_at place s) (record s { campaign = marked_from s.campaign (proposal_at place s) })) room
+pub unled_close : (g : Given) (place : Place) (s : Standing) → leads place.nodes s.campaign ≡ false → closing place s ≡ Ok (still s)
+unled_close g place s e = closes_one g place s ∙ unled_one place s e
+
+room_close : (g : Given) (place : Place) (s : Standing) (r : Result (Option Made) ProposeFault) → nat_le SLOTS (front_of s) ≡ false → one_at place s ≡ r
+    → closing place s ≡ closing_by_one place r (record s { campaign = marked_from s.campaign r })
+room_close g place s r room e =
+    closes_one g place s
+    ∙ (ap (λ (b : Bool). if leads place.nodes s.campaign && b then Ok (still (idle s)) else closing_by_one place (one_at place s) (record s { campaign = marked_from s.campaign (one_at place s) })) room
     ∙ (by_lead (leads place.nodes s.campaign)
-    ∙ ap (λ (y : Result (Option Made) ProposeFault). closing_by place y (record s { campaign = marked_from s.campaign y })) e)
+    ∙ ap (λ (y : Result (Option Made) ProposeFault). closing_by_one place y (record s { campaign = marked_from s.campaign y })) e))
   where
-    by_lead : (b : Bool) → (if b && false then Ok (still (idle s)) else closing_by place (proposal_at place s) (record s { campaign = marked_from s.campaign (proposal_at place s) }))
-        ≡ closing_by place (proposal_at place s) (record s { campaign = marked_from s.campaign (proposal_at place s) })
+    by_lead : (b : Bool) → (if b && false then Ok (still (idle s)) else closing_by_one place (one_at place s) (record s { campaign = marked_from s.campaign (one_at place s) }))
+        ≡ closing_by_one place (one_at place s) (record s { campaign = marked_from s.campaign (one_at place s) })
     by_lead true = refl
     by_lead false = refl
 
 -- nothing to propose: it rests
-pub quiet_close : (place : Place) (s : Standing) → nat_le SLOTS (front_of s) ≡ false → proposal_at place s ≡ Ok None → closing place s ≡ Ok (still s)
-quiet_close place s room e =
-    room_close place s (Ok None) room e
+pub quiet_close : (g : Given) (place : Place) (s : Standing) → nat_le SLOTS (front_of s) ≡ false → one_at place s ≡ Ok None → closing place s ≡ Ok (still s)
+quiet_close g place s room e =
+    room_close g place s (Ok None) room e
     ∙ ap (λ (y : Option Campaign). let t : Result Turn Refusal = Ok (still (record s { campaign = y })) in t) (unmarked s.campaign)
 
 -- a proposal
-pub made_close : (place : Place) (s : Standing) (k : Campaign) (made : Made) → nat_le SLOTS (front_of s) ≡ false → s.campaign ≡ Some k → proposal_at place s ≡ Ok (Some made) → Fresh place s k made
+pub made_close : (g : Given) (place : Place) (s : Standing) (k : Campaign) (made : Made) → nat_le SLOTS (front_of s) ≡ false → s.campaign ≡ Some k → one_at place s ≡ Ok (Some made) → Fresh place s k made
     → closing place s ≡ Ok (turn_made place s k made)
-made_close place s k made room has e f = room_close place s (Ok (Some made)) room e ∙ made_turn place s k made has f
+made_close g place s k made room has e f = room_close g place s (Ok (Some made)) room e ∙ made_turn place s k made has f
 
 -- however it is, it comes to a turn that learns nothing
 pub record ClosesSo (place : Place) (s : Standing) : Type 0 where
@@ -130,27 +135,29 @@ pub record ClosesSo (place : Place) (s : Standing) : Type 0 where
   pub closes_so : closing place s ≡ Ok turn
   pub same_log : turn.after.learned.log ≡ s.learned.log
 
-pub total_close : (place : Place) (s : Standing) (k : Campaign) → s.campaign ≡ Some k → ((made : Made) → proposal_by place.nodes k (front_of s) (own_value place s) ≡ Ok (Some made) → Fresh place s k made) → ClosesSo place s
-total_close place s k has fresh_if = by_room (nat_le SLOTS (front_of s)) refl
+pub total_close : (g : Given) (place : Place) (s : Standing) (k : Campaign) → s.campaign ≡ Some k
+    → ((made : Made) → proposal_by place.nodes k (front_of s) (own_value place s) ≡ Ok (Some made) → Fresh place s k made) → ClosesSo place s
+total_close g place s k has fresh_if = by_room (nat_le SLOTS (front_of s)) refl
   where
-    by_proposal : (r : Result (Option Made) ProposeFault) → nat_le SLOTS (front_of s) ≡ false → proposal_at place s ≡ r → ClosesSo place s
-    by_proposal (Ok None) room e = record { turn = still s; closes_so = quiet_close place s room e; same_log = refl }
-    by_proposal (Err fault) room e = record { turn = still (idle s); closes_so = room_close place s (Err fault) room e; same_log = refl }
+    by_proposal : (r : Result (Option Made) ProposeFault) → nat_le SLOTS (front_of s) ≡ false → one_at place s ≡ r → ClosesSo place s
+    by_proposal (Ok None) room e = record { turn = still s; closes_so = quiet_close g place s room e; same_log = refl }
+    by_proposal (Err fault) room e = record { turn = still (idle s); closes_so = room_close g place s (Err fault) room e; same_log = refl }
     by_proposal (Ok (Some made)) room e =
         let f = fresh_if made (ap (λ (y : Option Campaign). proposal_from place.nodes y (front_of s) (own_value place s)) (sym has) ∙ e) in
-        record { turn = turn_made place s k made; closes_so = made_close place s k made room has e f; same_log = f.over.log }
+        record { turn = turn_made place s k made; closes_so = made_close g place s k made room has e f; same_log = f.over.log }
 
     by_lead : (b : Bool) → leads place.nodes s.campaign ≡ b → nat_le SLOTS (front_of s) ≡ true → ClosesSo place s
     by_lead true led room = record {
       turn = still (idle s);
-      closes_so = (λ j. if led j && room j then Ok (still (idle s)) else closing_by place (proposal_at place s) (record s { campaign = marked_from s.campaign (proposal_at place s) }));
+      closes_so = closes_one g place s
+          ∙ (λ j. if led j && room j then Ok (still (idle s)) else closing_by_one place (one_at place s) (record s { campaign = marked_from s.campaign (one_at place s) }));
       same_log = refl;
     }
-    by_lead false led room = record { turn = still s; closes_so = unled_close place s led; same_log = refl }
+    by_lead false led room = record { turn = still s; closes_so = unled_close g place s led; same_log = refl }
 
     by_room : (b : Bool) → nat_le SLOTS (front_of s) ≡ b → ClosesSo place s
     by_room true room = by_lead (leads place.nodes s.campaign) refl room
-    by_room false room = by_proposal (proposal_at place s) room refl
+    by_room false room = by_proposal (one_at place s) room refl
 
 -- ---- whole messages
 
@@ -230,7 +237,7 @@ pub tick_turn : (r : Round) → IsRest r
     → and_then (ticking (place_at r r.i) (r.standings r.i)) (closing (place_at r r.i)) ≡ Ok (joined (begun_turn r) (still (begun_turn r).after))
 tick_turn r rest =
     ap (λ (x : Result Turn Refusal). and_then x (closing (place_at r r.i))) begins_so
-    ∙ ap (behind (begun_turn r)) (unled_close (place_at r r.i) (begun_turn r).after unled)
+    ∙ ap (behind (begun_turn r)) (unled_close r.given (place_at r r.i) (begun_turn r).after unled)
   where
     begins_so : ticking (place_at r r.i) (r.standings r.i) ≡ Ok (begun_turn r)
     begins_so = λ j. if rest.not_over j then Ok (still (r.standings r.i)) else if rest.not_spent j then Err Spent else Ok (begun_turn r)
@@ -256,7 +263,7 @@ prepare_turn r rest j h =
     message_turn (place_at r j) r.i (prepare_in r) (r.standings j) (promised_turn r j) (still (promised_turn r j).after)
     (ap (λ (b : Bool). let x : Result Turn Refusal = Ok (if b then promised_turn r j else refusing r.i (ballot_in r) (slot_in r) (seeing (prepare_in r) (r.standings j))) in x)
     (is_below_if (r.standings j).store.promise (ballot_in r) (rest.above j h)))
-    (unled_close (place_at r j) (promised_turn r j).after refl)
+    (unled_close r.given (place_at r j) (promised_turn r j).after refl)
 
 -- ---- a Promise
 
@@ -304,7 +311,7 @@ pub promise_turn : (r : Round) → IsRest r → (counted : List ℕ) (s : Standi
     ≡ Ok (joined (joined (still (with_counted r counted s p j)) (still (with_counted r counted s p j))) (asking j (promise_in r j) (with_counted r counted s p j)))
 promise_turn r rest counted s p j distinct less still_less =
     message_turn (place_at r r.i) j (promise_in r j) s (still (with_counted r counted s p j)) (still (with_counted r counted s p j)) (promise_taken r counted s p j)
-    (unled_close (place_at r r.i) (with_counted r counted s p j)
+    (unled_close r.given (place_at r r.i) (with_counted r counted s p j)
     (quorum_is r.n (ballot_in r) (slot_in r) (stores_in r) (j ∷ counted) (with_promise r.n p.campaign j (ballot_in r) (slot_in r) (told_in r j)) distinct
     (more_counted r rest counted s p j distinct.2 less distinct.1 distinct.0) ∙ le-ltb r.n (2 * length (j ∷ counted)) still_less))
 
@@ -377,7 +384,7 @@ pub completing_turn : (r : Round) → IsRest r → (counted : List ℕ) (s : Sta
     ≡ Ok (joined (joined (still (with_counted r counted s p j)) (completed_turn r counted s p j)) (asking j (promise_in r j) (completed_turn r counted s p j).after))
 completing_turn r rest counted s p j distinct less inside all enough =
     message_turn (place_at r r.i) j (promise_in r j) s (still u) (completed_turn r counted s p j) (promise_taken r counted s p j)
-    (made_close (place_at r r.i) u k (made_in r) (ap (λ (l : Learned). nat_le SLOTS (front l.log)) p.learned ∙ room_left r rest) refl proposal
+    (made_close r.given (place_at r r.i) u k (made_in r) (ap (λ (l : Learned). nat_le SLOTS (front l.log)) p.learned ∙ room_left r rest) refl proposal
     (proposal_fresh r rest u k p.store p.learned c.unproposed proposal))
   where
     u : Standing
@@ -397,10 +404,10 @@ completing_turn r rest counted s p j distinct less inside all enough =
 -- ---- an Accept
 
 abbrev pub accept_in : Round → Wire
-accept_in r = frame.Accept (ballot_in r) (slot_in r) r.command
+accept_in r = frame.Accept (ballot_in r) (slot_in r) (r.command ∷ [])
 
 abbrev pub accepted_in : Round → Wire
-accepted_in r = frame.Accepted (ballot_in r) (slot_in r) r.command
+accepted_in r = frame.Accepted (ballot_in r) (slot_in r) (r.command ∷ [])
 
 -- what another member is once it promised
 pub record HasPromised (r : Round) (j : ℕ) (s : Standing) : Type 0 where
@@ -409,20 +416,21 @@ pub record HasPromised (r : Round) (j : ℕ) (s : Standing) : Type 0 where
   pub learned : s.learned ≡ (r.standings j).learned
 
 -- a vote where none of the ballot was, which completes nothing
-voting_is : (place : Place) (ballot : Ballot) (slot : ℕ) (command : Command) (s : Standing) → is_of_ballot (s.store.votes slot) ballot ≡ false → PassesOver s.learned place.node ballot slot command
-    → voting place ballot slot command s
-    ≡ Ok (joined (sending (to_others place (frame.Accepted ballot slot command)) (with_stored s (voted s.store slot (record { ballot = ballot; command = command }))))
+voting_is : (g : Given) (place : Place) (ballot : Ballot) (slot : ℕ) (command : Command) (s : Standing) → is_of_ballot (s.store.votes slot) ballot ≡ false → PassesOver s.learned place.node ballot slot command
+    → voting place ballot slot (command ∷ []) s
+    ≡ Ok (joined (sending (to_others place (frame.Accepted ballot slot (command ∷ []))) (with_stored s (voted s.store slot (record { ballot = ballot; command = command }))))
     (still (record (with_stored s (voted s.store slot (record { ballot = ballot; command = command }))) { learned = hearing s.learned place.node ballot slot command })))
-voting_is place ballot slot command s fresh over =
-    ap (λ (k : Command). by_stored k (storing s.store ballot slot command)) (stored_new (s.store.votes slot) ballot command fresh)
+voting_is g place ballot slot command s fresh over =
+    votes_one g place ballot slot command s
+    ∙ (ap (λ (k : Command). by_stored k (storing s.store ballot slot command)) (stored_new (s.store.votes slot) ballot command fresh)
     ∙ (ap (λ (b : Bool). by_stored command (if b then s.store else voted s.store slot (record { ballot = ballot; command = command }))) fresh
-    ∙ ap (behind (sending (to_others place (frame.Accepted ballot slot command)) (with_stored s store))) (counted_is place place.node ballot slot command (with_stored s store) over))
+    ∙ ap (behind (sending (to_others place (frame.Accepted ballot slot (command ∷ []))) (with_stored s store))) (counted_is place place.node ballot slot command (with_stored s store) over)))
   where
     store : Store
     store = voted s.store slot (record { ballot = ballot; command = command })
 
     by_stored : Command → Store → Result Turn Refusal
-    by_stored k st = behind (sending (to_others place (frame.Accepted ballot slot k)) (with_stored s st)) (counting_vote place place.node ballot slot k (with_stored s st))
+    by_stored k st = behind (sending (to_others place (frame.Accepted ballot slot (k ∷ []))) (with_stored s st)) (counting_one place place.node ballot slot k (with_stored s st))
 
 abbrev pub accepted_turn : Round → ℕ → Standing → Turn
 accepted_turn r j s =
@@ -435,14 +443,14 @@ pub accept_turn : (r : Round) → IsRest r → (j : ℕ) (h : In j r.members) (s
     ≡ Ok (joined (joined (accepted_turn r j s) (still (accepted_turn r j s).after)) (asking r.i (accept_in r) (accepted_turn r j s).after))
 accept_turn r rest j h s p =
     message_turn (place_at r j) r.i (accept_in r) s (accepted_turn r j s) (still (accepted_turn r j s).after)
-    (ap (λ (b : Bool). if b then Ok (refusing r.i (ballot_in r) (slot_in r) (seeing (accept_in r) s)) else voting (place_at r j) (ballot_in r) (slot_in r) r.command (idle (seeing (accept_in r) s)))
+    (ap (λ (b : Bool). if b then Ok (refusing r.i (ballot_in r) (slot_in r) (seeing (accept_in r) s)) else voting (place_at r j) (ballot_in r) (slot_in r) (r.command ∷ []) (idle (seeing (accept_in r) s)))
     (ap (λ (st : Store). is_below (ballot_in r) st.promise) p.store ∙ not_below_self (ballot_in r))
-    ∙ voting_is (place_at r j) (ballot_in r) (slot_in r) r.command (idle (seeing (accept_in r) s))
+    ∙ voting_is r.given (place_at r j) (ballot_in r) (slot_in r) r.command (idle (seeing (accept_in r) s))
     (ap (λ (st : Store). is_of_ballot (st.votes (slot_in r)) (ballot_in r)) p.store ∙ unvoted_slot r rest j h (slot_in r))
     (subst (λ (l : Learned). PassesOver l j (ballot_in r) (slot_in r) r.command) (sym p.learned)
     (new_vote_passes r.given r.n j (r.standings j).learned (rest.came j h) (ballot_in r) (slot_in r) r.command rest.few (rest.nodes j h) (rest.counts j h)
     (λ voter v. absurd (rest.unvoted j h voter (slot_in r) r.command v)))))
-    (unled_close (place_at r j) (accepted_turn r j s).after refl)
+    (unled_close r.given (place_at r j) (accepted_turn r j s).after refl)
 
 -- ---- an Accepted
 
@@ -526,8 +534,9 @@ pub accepted_goes : (r : Round) → IsRest r → (voters : List ℕ) (s : Standi
     ≡ Ok (joined (joined (still (with_heard_vote r s j)) (still (with_heard_vote r s j))) (asking j (accepted_in r) (with_heard_vote r s j)))
 accepted_goes r rest voters s p j distinct less =
     message_turn (place_at r r.i) j (accepted_in r) s (still (with_heard_vote r s j)) (still (with_heard_vote r s j))
-    (counted_is (place_at r r.i) j (ballot_in r) (slot_in r) r.command (seeing (accepted_in r) s) over)
-    (quiet_close (place_at r r.i) (with_heard_vote r s j) (ap (λ (l : Log). nat_le SLOTS (front l)) same ∙ room_left r rest)
+    (counts_one r.given (place_at r r.i) j (ballot_in r) (slot_in r) r.command (seeing (accepted_in r) s)
+    ∙ counted_is (place_at r r.i) j (ballot_in r) (slot_in r) r.command (seeing (accepted_in r) s) over)
+    (quiet_close r.given (place_at r r.i) (with_heard_vote r s j) (ap (λ (l : Log). nat_le SLOTS (front l)) same ∙ room_left r rest)
     (ap (λ (y : Option Campaign). proposal_from r.n y (front_of (with_heard_vote r s j)) (own_value (place_at r r.i) (with_heard_vote r s j))) p.has
     ∙ (ap (λ (l : Log). proposal_by r.n p.campaign (front l) (own_value (place_at r r.i) (with_heard_vote r s j))) same
     ∙ marked_none r.n p.campaign (slot_in r) (own_value (place_at r r.i) (with_heard_vote r s j)) p.covers p.marked)))
@@ -648,7 +657,8 @@ pub last_turn : (r : Round) → IsRest r → (voters : List ℕ) (s : Standing) 
 last_turn r rest voters s p j low all = record {
   turn = joined (joined t c.turn) (asking j (accepted_in r) c.turn.after);
   goes = message_turn (place_at r r.i) j (accepted_in r) s t c.turn
-      (ap (λ (x : Result (Option Learnt) SlotFault). learning (place_at r r.i) x new (seeing (accepted_in r) s)) (not_refused s.learned j (ballot_in r) (slot_in r) r.command (unknown r rest s.learned p.log)).1)
+      (counts_one r.given (place_at r r.i) j (ballot_in r) (slot_in r) r.command (seeing (accepted_in r) s)
+      ∙ ap (λ (x : Result (Option Learnt) SlotFault). learning (place_at r r.i) x new (seeing (accepted_in r) s)) (not_refused s.learned j (ballot_in r) (slot_in r) r.command (unknown r rest s.learned p.log)).1)
       c.closes_so;
   learned = subst (λ (y : Standing). HasLearned r y.learned) (sym (asked_same j (accepted_in r) c.turn.after)) (record {
     known = ap (λ (y : Log). known_at y (slot_in r)) c.same_log ∙ l.known;
@@ -683,4 +693,4 @@ last_turn r rest voters s p j low all = record {
         }
 
     c : ClosesSo (place_at r r.i) t.after
-    c = total_close (place_at r r.i) t.after p.campaign p.has fresh_if
+    c = total_close r.given (place_at r r.i) t.after p.campaign p.has fresh_if

@@ -1,5 +1,5 @@
 -- A cluster at rest in the world: what its members' standings are.
-use Rattle.std.proofs.Common.{◌≡◌, ℕ, ◌<◌, ◌-◌, ◌^◌, ◌||◌, ◌==◌, inl, inr, Bool, true, false, List, [], ◌∷◌, Option, refl, sym, ap, subst, ◌∙◌, arith}
+use Rattle.std.proofs.Common.{◌≡◌, ℕ, ◌<◌, ◌-◌, ◌^◌, ◌||◌, ◌==◌, inl, inr, Bool, true, false, List, [], ◌∷◌, Option, refl, sym, ap, subst, ◌∙◌, arith, length}
 use Rattle.std.specs.Prelude.{nat_le}
 use Rattle.std.proofs.lemmas.Bool.{eqb-true, leb-true}
 use Rattle.paxos_wire.specs.declared.limits.TheConstants.{SLOTS}
@@ -20,8 +20,8 @@ use Rattle.node_rules.specs.Standings.{Standing, applied, front_of}
 use Rattle.protocol_model.specs.Votes.{told_by}
 use Rattle.node_rules.specs.Proposing.{greatest_seen, is_spent}
 use Rattle.node_rules.specs.Being.{Knows}
-use Rattle.node_rules.specs.Calm.{Calm, ballot_after}
-use Rattle.node_rules.specs.CalmRound.{place_in, AreOf, CalmRoundMoves}
+use Rattle.node_rules.specs.Calm.{Calm, IsOwn, ballot_after, round}
+use Rattle.node_rules.specs.CalmRound.{place_in, GoOn, HasMovedOn, AreOf, CalmRoundMoves}
 use Rattle.node_rules.specs.Given.{Given}
 use Rattle.protocol_model.proofs.Sets.{in_later}
 use Rattle.node_rules.proofs.Sourcing.{had_was_sent}
@@ -87,8 +87,11 @@ unspent i s round_left slot_left =
     (λ e. let k = eqb-true (greatest_seen s).round (2 ^ 32 - 1) e in omega (arith, k))
     (λ e. let k = leb-true SLOTS (front_of s) e in omega arith)
 
+first_is : (a b : Command) → a ∷ [] ≡ b ∷ [] → a ≡ b
+first_is a b e = cc
+
 pub rest_of : (g : Given) (own : ℕ → Command → Bool) (setting : Setting) (n : ℕ) (deals : ℕ → ℕ → Option (List ℕ)) (world : World) (standings : ℕ → Standing) (i : ℕ) (members : List ℕ) (command : Command)
-    → AreOf own setting n deals world standings members → Calm (place_in setting n deals i) standings i members command
+    → AreOf own setting n deals world standings members → Calm (place_in setting n deals i) standings i members (command ∷ [])
     → IsRest (record { given = g; setting = setting; n = n; deals = deals; standings = standings; i = i; members = members; command = command })
 rest_of g own setting n deals world standings i members command are calm = record {
   few = (are.is_place i calm.member).few;
@@ -103,7 +106,10 @@ rest_of g own setting n deals world standings i members command are calm = recor
   within = λ k h. subst IsWithinPromise (are.of k h).store (knows k h).within;
   agree = λ m k hm hk v w ev ew same. votes_agree g dealer n world m k (front_of (standings i)) v w are.reached
       (ap (λ (st : Store). st.votes (front_of (standings i))) (are.of m hm).store ∙ ev) (ap (λ (st : Store). st.votes (front_of (standings i))) (are.of k hk).store ∙ ew) same;
-  value = calm.value;
+  value = elim calm.value [
+    | inl told ↦ inl told.held.0
+    | inr own_one ↦ inr (subst (IsOwn (place_in setting n deals i) (standings i) standings members (front_of (standings i))) (sym (first_is command own_one.0 own_one.1)) own_one.2)
+  ];
   came = λ k h. (knows k h).learner.in_time;
   nodes = λ k h. (knows k h).learner.nodes;
   log = λ k h. (knows k h).learner.log;
@@ -122,8 +128,18 @@ rest_of g own setting n deals world standings i members command are calm = recor
     knows : (k : ℕ) (h : In k members) → Knows (dealer_of setting own) (place_in setting n deals k) (applied (standings k)) (standings k) (world.nodes k)
     knows k h = ((are.of k h).runs (calm.up k h)).knows
 
+-- as yet one command is told, as the own one is one
+one_of : (commands : List Command) → length commands ≡ 1 → (command : Command) × (commands ≡ command ∷ [])
+one_of [] e = absurd (omega (arith, e))
+one_of (command ∷ []) e = (command, refl)
+one_of (command ∷ (next ∷ later)) e = absurd (omega (arith, e))
+
 -- a cluster at rest moves
 pub calm_round_moves : Given → CalmRoundMoves
-calm_round_moves g own setting n deals world standings i members command are calm =
-    rounds_go_on (record { given = g; setting = setting; n = n; deals = deals; standings = standings; i = i; members = members; command = command })
-    (rest_of g own setting n deals world standings i members command are calm)
+calm_round_moves g own setting n deals world standings i members commands are calm =
+    subst (λ (cs : List Command). GoOn (place_in setting n deals) (HasMovedOn i (front_of (standings i)) cs) standings [] (round standings i members cs)) (sym one.1)
+    (rounds_go_on (record { given = g; setting = setting; n = n; deals = deals; standings = standings; i = i; members = members; command = one.0 })
+    (rest_of g own setting n deals world standings i members one.0 are (subst (Calm (place_in setting n deals i) standings i members) one.1 calm)))
+  where
+    one : (command : Command) × (commands ≡ command ∷ [])
+    one = elim calm.value [ inl told ↦ one_of commands told.one | inr own_one ↦ (own_one.0, own_one.1) ]

@@ -159,7 +159,7 @@ says_to : (n i to : ℕ) (w : Wire) (m : Message) → carried i w ≡ m ∷ [] �
 says_to n i to w m e l ne = (record { to = to; message = w }, has_to n i to w l ne, refl, subst (λ (x : List Message). In m x) (sym e) (inl refl))
 
 -- there is another node
-another : (i : ℕ) → (j : ℕ) × (j < 2) × (j ≢ i)
+pub another : (i : ℕ) → (j : ℕ) × (j < 2) × (j ≢ i)
 another zero = (1, omega arith, λ e. absurd (omega (arith, e)))
 another (suc i) = (0, omega arith, λ e. absurd (omega (arith, e)))
 

@@ -96,9 +96,9 @@ chain_up g own place world s turn Away st up comes h = by_act (away_at place s) 
 chain_up g own place world s turn (call.Frame from bytes) st up comes h =
     let x : Scope = scope_of g own place world s st true (came_in (call.Frame from bytes)) in
     finish x [] (hearing_of s (first_in x)) turn ([] ∷ []) refl
-    (subst (Goes x [] (hearing_of s (first_in x))) (sym h) (frame_goes x s from (reading bytes) refl (runs_in g own place world s st up true (came_in (call.Frame from bytes))) refl comes))
+    (subst (Goes x [] (hearing_of s (first_in x))) (sym h) (frame_goes x s from (reading bytes) (g.has_commands bytes) refl (runs_in g own place world s st up true (came_in (call.Frame from bytes))) refl comes))
     (λ m k. k) (st.of.runs up).sessions (inl refl)
-    (frame_settled x s from (reading bytes) turn refl (runs_in g own place world s st up true (came_in (call.Frame from bytes))) refl comes (sym h))
+    (frame_settled x s from (reading bytes) turn (g.has_commands bytes) refl (runs_in g own place world s st up true (came_in (call.Frame from bytes))) refl comes (sym h))
 chain_up g own place world s turn (Line seat bytes) st up comes (heard, hears, e) =
     let x : Scope = scope_of g own place world s st true [] in
     let sits = (piece_sits x s seat bytes heard (runs_in g own place world s st up true []) refl comes hears).0 in

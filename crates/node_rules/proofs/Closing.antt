@@ -35,8 +35,7 @@ use Rattle.node_rules.specs.Sending.{to_others}
 use Rattle.node_rules.specs.Showing.{Piece}
 use Rattle.node_rules.specs.Turns.{Turn, Refusal, still, sending, joined, behind}
 use Rattle.protocol_model.specs.Votes.{is_of_ballot, stored_in, storing}
-use Rattle.node_rules.specs.Learning.{counting_vote}
-use Rattle.node_rules.specs.Proposing.{own_deal, fitting, own_value, proposing, closing_by, proposal_at, closing}
+use Rattle.node_rules.specs.Proposing.{own_deal, fitting, own_value, closing}
 use Rattle.node_rules.specs.Being.{Campaigns, IsCampaign, Stands, IsProposer, IsPending}
 use Rattle.node_rules.specs.Called.{AreShown, log_after}
 use Rattle.node_rules.proofs.Carrying.{joined_carry, joined_all, proposal_carry, proposal_all}
@@ -49,6 +48,7 @@ use Rattle.node_rules.proofs.Steps.{Leads, get_own, go_on}
 use Rattle.protocol_model.proofs.Backing.{vote_within}
 use Rattle.node_rules.proofs.Voting.{voted_is}
 use Rattle.node_rules.proofs.Learning.{count}
+use Rattle.node_rules.proofs.Ones.{counting_one, counts_one, proposing_one, one_at, closing_by_one, closes_one}
 use Rattle.node_rules.proofs.Asking.{joined_assoc, with_campaign}
 use Rattle.node_rules.specs.Proposed.{IsValue}
 use Rattle.node_rules.proofs.Proposed.{made_proposed}
@@ -187,7 +187,7 @@ proposed_campaign g n i node new c at own made h so ballot promised has sent vot
 pub propose : (x : Scope) (came : List Arrival) (heard : Hearing) (t : Turn) (ends : x.ends ≡ true) (p : Path x came heard (applied t.after) t) (c : Campaign) (made : Made)
     → IsMade x.place t.after c made
     → Leads x came heard (applied t.after)
-    (joined t (sending (to_others x.place (frame.Accept made.ballot made.slot made.command) ++ to_others x.place (frame.Accepted made.ballot made.slot made.command))
+    (joined t (sending (to_others x.place (frame.Accept made.ballot made.slot (made.command ∷ [])) ++ to_others x.place (frame.Accepted made.ballot made.slot (made.command ∷ [])))
     (with_stored (record t.after { campaign = Some (with_mark c (Ok (Some made))) }) (voted t.after.store made.slot (record { ballot = made.ballot; command = made.command })))))
     (Accepted x.place.node made.ballot made.slot made.command)
 propose x came heard t ends p c made is =
@@ -240,7 +240,7 @@ propose x came heard t ends p c made is =
     mine = ap (λ (b : Ballot). b.node) safe.ballot ∙ camp.own
 
     path : Path x came heard (applied t.after)
-        (joined t (sending (to_others x.place (frame.Accept made.ballot made.slot made.command) ++ to_others x.place (frame.Accepted made.ballot made.slot made.command))
+        (joined t (sending (to_others x.place (frame.Accept made.ballot made.slot (made.command ∷ [])) ++ to_others x.place (frame.Accepted made.ballot made.slot (made.command ∷ [])))
         (with_stored (record t.after { campaign = Some (with_mark c (Ok (Some made))) }) (voted t.after.store made.slot stored))))
     path = record {
       sent = vote ∷ accept ∷ p.sent;
@@ -290,10 +290,10 @@ propose x came heard t ends p c made is =
       unbegun = refl;
       starts = p.starts;
       has = ap (λ (l : List Message). accept ∷ l) p.has;
-      carry = joined_carry n i t.frames (to_others x.place (frame.Accept made.ballot made.slot made.command) ++ to_others x.place (frame.Accepted made.ballot made.slot made.command)) p.sent (vote ∷ accept ∷ []) p.carry
-          (proposal_carry n i (frame.Accept made.ballot made.slot made.command) (frame.Accepted made.ballot made.slot made.command) made.ballot made.slot made.command (three_in x) refl refl mine);
-      all = joined_all n i t.frames (to_others x.place (frame.Accept made.ballot made.slot made.command) ++ to_others x.place (frame.Accepted made.ballot made.slot made.command)) p.sent (vote ∷ accept ∷ []) p.all
-          (proposal_all n i (frame.Accept made.ballot made.slot made.command) (frame.Accepted made.ballot made.slot made.command) made.ballot made.slot made.command (three_in x) refl refl);
+      carry = joined_carry n i t.frames (to_others x.place (frame.Accept made.ballot made.slot (made.command ∷ [])) ++ to_others x.place (frame.Accepted made.ballot made.slot (made.command ∷ []))) p.sent (vote ∷ accept ∷ []) p.carry
+          (proposal_carry n i (frame.Accept made.ballot made.slot (made.command ∷ [])) (frame.Accepted made.ballot made.slot (made.command ∷ [])) made.ballot made.slot made.command (three_in x) refl refl mine);
+      all = joined_all n i t.frames (to_others x.place (frame.Accept made.ballot made.slot (made.command ∷ [])) ++ to_others x.place (frame.Accepted made.ballot made.slot (made.command ∷ []))) p.sent (vote ∷ accept ∷ []) p.all
+          (proposal_all n i (frame.Accept made.ballot made.slot (made.command ∷ [])) (frame.Accepted made.ballot made.slot (made.command ∷ [])) made.ballot made.slot made.command (three_in x) refl refl);
       pieces = λ ends. subst (λ (l : List Piece). AreShown i x.start x.log l p.shown) (sym (append-nil t.shown)) (p.pieces ends);
       logged = λ ends. ap (log_after x.log) (append-nil t.shown) ∙ p.logged ends;
       unshown = p.unshown;
@@ -328,6 +328,18 @@ propose x came heard t ends p c made is =
             let same : c ≡ found.0 = same_Some c found.0 (sym is.has ∙ found.1) in
             (with_mark c (Ok (Some made)), refl, ap (λ (y : Campaign). y.ballot) same ∙ found.2, ap (λ (y : Campaign). y.first) same ∙ found.3)
 
+-- ---- its own vote is counted
+
+count_one : (x : Scope) (came : List Arrival) (heard : Hearing) (t : Turn) (from : ℕ) (ballot : Ballot) (slot : ℕ) (command : Command)
+    (p : Path x came heard (applied t.after) t) → In (Accepted from ballot slot command) p.node.has → from < x.place.nodes
+    → Goes x came heard (behind t (counting_one x.place from ballot slot command t.after))
+count_one x came heard t from ballot slot command p had below =
+    subst (λ (r : Result Turn Refusal). Goes x came heard (behind t r)) (counts_one x.given x.place from ballot slot command t.after)
+    (count x came heard t from ballot slot (command ∷ []) p (λ m h. elim h [
+      | inl e ↦ subst (λ (y : Message). In y p.node.has) (sym e) had
+      | inr none ↦ absurd none
+    ]) below)
+
 -- ---- the vote that is stored is the proposal
 
 pub none_of_ballot : (held : Option Vote) (ballot : Ballot) → ((v : Vote) → held ≡ Some v → v.ballot ≡ ballot → ⊥) → is_of_ballot held ballot ≡ false
@@ -349,8 +361,8 @@ unmarked None = refl
 unmarked (Some c) = refl
 
 closes_by : (x : Scope) (came : List Arrival) (heard : Hearing) (t : Turn) (ends : x.ends ≡ true) (p : Path x came heard (applied t.after) t) (r : Result (Option Made) ProposeFault)
-    → proposal_at x.place t.after ≡ r
-    → Goes x came heard (behind t (closing_by x.place r (record t.after { campaign = marked_from t.after.campaign r })))
+    → one_at x.place t.after ≡ r
+    → Goes x came heard (behind t (closing_by_one x.place r (record t.after { campaign = marked_from t.after.campaign r })))
 closes_by x came heard t ends p (Ok None) e =
     subst (λ (c : Option Campaign). Path x came heard (applied t.after) (joined t (still (record t.after { campaign = c })))) (sym (unmarked t.after.campaign))
     (go_on x came heard (applied t.after) t p)
@@ -388,9 +400,9 @@ closes_by x came heard t ends p (Err fault) e = rest x came heard t p (λ b f st
 closes_by x came heard t ends p (Ok (Some made)) e = by_campaign (made_by x.place t.after made t.after.campaign refl e)
   where
     by_campaign : (found : (f : Campaign) × IsMade x.place t.after f made)
-        → Goes x came heard (behind t (proposing x.place made (record t.after { campaign = marked_from t.after.campaign (Ok (Some made)) })))
+        → Goes x came heard (behind t (proposing_one x.place made (record t.after { campaign = marked_from t.after.campaign (Ok (Some made)) })))
     by_campaign (c, is) =
-        subst (λ (y : Option Campaign). Goes x came heard (behind t (proposing x.place made (record t.after { campaign = y })))) (sym marked)
+        subst (λ (y : Option Campaign). Goes x came heard (behind t (proposing_one x.place made (record t.after { campaign = y })))) (sym marked)
         (subst (Goes x came heard) (regroup t u (behind v rest_of))
         (subst (Goes x came heard) (regroup (joined t u) v rest_of)
         (subst (λ (o : Turn). Goes x came heard (behind o rest_of)) (sym (joined_assoc t u v)) by_vote)))
@@ -402,14 +414,14 @@ closes_by x came heard t ends p (Ok (Some made)) e = by_campaign (made_by x.plac
         s = record t.after { campaign = Some (with_mark c (Ok (Some made))) }
 
         u : Turn
-        u = sending (to_others x.place (frame.Accept made.ballot made.slot made.command)) s
+        u = sending (to_others x.place (frame.Accept made.ballot made.slot (made.command ∷ []))) s
 
         v : Turn
-        v = sending (to_others x.place (frame.Accepted made.ballot made.slot (stored_in (s.store.votes made.slot) made.ballot made.command)))
+        v = sending (to_others x.place (frame.Accepted made.ballot made.slot (stored_in (s.store.votes made.slot) made.ballot made.command ∷ [])))
             (with_stored s (storing s.store made.ballot made.slot made.command))
 
         rest_of : Result Turn Refusal
-        rest_of = counting_vote x.place x.place.node made.ballot made.slot (stored_in (s.store.votes made.slot) made.ballot made.command) v.after
+        rest_of = counting_one x.place x.place.node made.ballot made.slot (stored_in (s.store.votes made.slot) made.ballot made.command) v.after
 
         held : Option Vote
         held = t.after.store.votes made.slot
@@ -430,34 +442,35 @@ closes_by x came heard t ends p (Ok (Some made)) e = by_campaign (made_by x.plac
         fresh = none_of_ballot held made.ballot none_stored
 
         told : Leads x came heard (applied t.after)
-            (joined t (sending (to_others x.place (frame.Accept made.ballot made.slot made.command) ++ to_others x.place (frame.Accepted made.ballot made.slot made.command))
+            (joined t (sending (to_others x.place (frame.Accept made.ballot made.slot (made.command ∷ [])) ++ to_others x.place (frame.Accepted made.ballot made.slot (made.command ∷ [])))
             (with_stored s (voted t.after.store made.slot (record { ballot = made.ballot; command = made.command })))))
             (Accepted x.place.node made.ballot made.slot made.command)
         told = propose x came heard t ends p c made is
 
-        counted : Goes x came heard (behind (joined t (joined u (sending (to_others x.place (frame.Accepted made.ballot made.slot made.command))
+        counted : Goes x came heard (behind (joined t (joined u (sending (to_others x.place (frame.Accepted made.ballot made.slot (made.command ∷ [])))
             (with_stored s (voted t.after.store made.slot (record { ballot = made.ballot; command = made.command }))))))
-            (counting_vote x.place x.place.node made.ballot made.slot made.command (with_stored s (voted t.after.store made.slot (record { ballot = made.ballot; command = made.command })))))
-        counted = count x came heard _ x.place.node made.ballot made.slot made.command told.path told.had x.is_place.node
+            (counting_one x.place x.place.node made.ballot made.slot made.command (with_stored s (voted t.after.store made.slot (record { ballot = made.ballot; command = made.command })))))
+        counted = count_one x came heard _ x.place.node made.ballot made.slot made.command told.path told.had x.is_place.node
 
         by_vote : Goes x came heard (behind (joined t (joined u v)) rest_of)
         by_vote =
-            subst (λ (k : Command). Goes x came heard (behind (joined t (joined u (sending (to_others x.place (frame.Accepted made.ballot made.slot k))
+            subst (λ (k : Command). Goes x came heard (behind (joined t (joined u (sending (to_others x.place (frame.Accepted made.ballot made.slot (k ∷ [])))
             (with_stored s (storing s.store made.ballot made.slot made.command)))))
-            (counting_vote x.place x.place.node made.ballot made.slot k (with_stored s (storing s.store made.ballot made.slot made.command)))))
+            (counting_one x.place x.place.node made.ballot made.slot k (with_stored s (storing s.store made.ballot made.slot made.command)))))
             (sym (stored_new held made.ballot made.command fresh))
-            (subst (λ (st : Store). Goes x came heard (behind (joined t (joined u (sending (to_others x.place (frame.Accepted made.ballot made.slot made.command)) (with_stored s st))))
-            (counting_vote x.place x.place.node made.ballot made.slot made.command (with_stored s st))))
+            (subst (λ (st : Store). Goes x came heard (behind (joined t (joined u (sending (to_others x.place (frame.Accepted made.ballot made.slot (made.command ∷ []))) (with_stored s st))))
+            (counting_one x.place x.place.node made.ballot made.slot made.command (with_stored s st))))
             (ap (λ (b : Bool). if b then t.after.store else voted t.after.store made.slot (record { ballot = made.ballot; command = made.command })) (sym fresh)) counted)
 
 close_by : (x : Scope) (came : List Arrival) (heard : Hearing) (t : Turn) (ends : x.ends ≡ true) (p : Path x came heard (applied t.after) t) (b : Bool)
     → (leads x.place.nodes t.after.campaign && nat_le SLOTS (front_of t.after)) ≡ b
     → Goes x came heard (behind t (if b then Ok (still (idle t.after))
-    else closing_by x.place (proposal_at x.place t.after) (record t.after { campaign = marked_from t.after.campaign (proposal_at x.place t.after) })))
+    else closing_by_one x.place (one_at x.place t.after) (record t.after { campaign = marked_from t.after.campaign (one_at x.place t.after) })))
 close_by x came heard t ends p true e = rest x came heard t p (λ b f st near left.
     let l = leb-true SLOTS (front_of t.after) (and_parts (leads x.place.nodes t.after.campaign) (nat_le SLOTS (front_of t.after)) e).1 in omega arith)
-close_by x came heard t ends p false e = closes_by x came heard t ends p (proposal_at x.place t.after) refl
+close_by x came heard t ends p false e = closes_by x came heard t ends p (one_at x.place t.after) refl
 
 -- at the end of a call a node that leads proposes at its front
 pub close : (x : Scope) (came : List Arrival) (heard : Hearing) (t : Turn) (ends : x.ends ≡ true) → Path x came heard (applied t.after) t → Goes x came heard (behind t (closing x.place t.after))
-close x came heard t ends p = close_by x came heard t ends p _ refl
+close x came heard t ends p =
+    subst (λ (r : Result Turn Refusal). Goes x came heard (behind t r)) (sym (closes_one x.given x.place t.after)) (close_by x came heard t ends p _ refl)

@@ -1,15 +1,18 @@
 -- What is counted of the votes that came, from call to call.
-use Rattle.std.proofs.Common.{◌≡◌, ℕ, ◌<◌, ◌≤◌, inl, inr, Bool, true, false, true≢false, List, ◌∷◌, Result, Ok, Err, refl, sym, ap, subst, ◌∙◌}
-use Rattle.std.specs.Prelude.{IsOk}
-use Rattle.paxos_wire.specs.declared.limits.TheConstants.{SLOTS}
+use Rattle.std.proofs.Common.{◌≡◌, ℕ, ◌+◌, ◌<◌, ◌≤◌, ◌⊎◌, inl, inr, Bool, true, false, true≢false, if◌then◌else◌, List, [], ◌∷◌, ◌++◌, Option, Some, None, Result, Ok, Err, refl, sym, ap, subst, ◌∙◌, arith, length}
+use Rattle.std.specs.Prelude.{IsOk, IsSome}
+use Rattle.paxos_wire.specs.declared.limits.TheConstants.{SLOTS, WINDOW}
 use Rattle.paxos_wire.specs.declared.ballot.Ballot.{Ballot}
 use Rattle.slot_log.specs.declared.slot_fault.SlotFault.{SlotFault}
-use Rattle.slot_log.specs.Slots.{IsLog, front}
+use Rattle.slot_log.specs.Slots.{Log, IsLog, front, known_at}
 use Rattle.slot_log.specs.declared.command.Command.{Command}
 use Rattle.protocol_model.specs.Sets.{In}
 use Rattle.protocol_model.specs.Messages.{Message, Accepted}
+use Rattle.protocol_model.specs.Frames.{answers}
 use Rattle.protocol_model.specs.Quorums.{IsChosenIn}
 use Rattle.learner.specs.Learning.{Learned, is_open, answer_to, hearing, believing as with_chosen}
+use Rattle.learner.specs.CommandRuns.{hearing_each, hearing_run, answer_to_run}
+use Rattle.learner.specs.CommandRunLaws.{open_answers}
 use Rattle.learner.specs.Counted.{IsOpen, CountsFrom, CountsAll, KnowsChosen}
 use Rattle.node_rules.specs.Standings.{Place, Standing}
 use Rattle.node_rules.specs.Turns.{Turn}
@@ -18,6 +21,9 @@ use Rattle.node_rules.specs.Given.{Given}
 use Rattle.node_rules.specs.Being.{IsLearner}
 use Rattle.learner.proofs.Counting.{counted_came}
 use Rattle.learner.proofs.Kept.{open_means, open_is}
+use Rattle.learner.proofs.RunSteps.{is_log_heard, front_heard, known_elsewhere}
+use Rattle.learner.proofs.KeptRuns.{run_ok}
+use Rattle.protocol_model.proofs.Sets.{in_first, in_later, in_split}
 use Rattle.node_rules.proofs.Results.{ok_is}
 
 -- ---- what is counted grows
@@ -79,6 +85,123 @@ vote_grows g came l voter ballot slot command log low ok c = by_test (is_open l.
           (g.passed_over l voter ballot slot command (λ o. absurd (not_open l slot e o))) c;
       has_vote = λ o. absurd (not_open l slot e o);
     }
+
+-- ---- votes for commands at slots that follow one another
+
+-- what is known below them stays, and the front moves at most on
+below_each : (g : Given) (l : Learned) (from : ℕ) (ballot : Ballot) (slot : ℕ) (commands : List Command) (other : ℕ) → IsLog l.log → other < slot
+    → known_at (hearing_each l from ballot slot commands).log other ≡ known_at l.log other
+unfolding hearing_each
+below_each g l from ballot slot [] other log below = refl
+below_each g l from ballot slot (command ∷ more) other log below =
+    below_each g (hearing l from ballot slot command) from ballot (slot + 1) more other (is_log_heard g.goes_on g.one_more g.hole l from ballot slot command log) (omega (arith, below))
+    ∙ known_elsewhere g.goes_on g.one_more g.hole l from ballot slot other command log (λ same. omega (arith, same, below))
+
+pub log_each : (g : Given) (l : Learned) (from : ℕ) (ballot : Ballot) (slot : ℕ) (commands : List Command) → IsLog l.log
+    → IsLog (hearing_each l from ballot slot commands).log × (front l.log ≤ front (hearing_each l from ballot slot commands).log)
+unfolding hearing_each
+log_each g l from ballot slot [] log = (log, omega arith)
+log_each g l from ballot slot (command ∷ more) log =
+    let rest = log_each g (hearing l from ballot slot command) from ballot (slot + 1) more (is_log_heard g.goes_on g.one_more g.hole l from ballot slot command log) in
+    (rest.0, (let on = front_heard g.goes_on g.one_more g.hole l from ballot slot command in let later = rest.1 in omega (arith, on, later)))
+
+none_is_some : (o : Option Command) → o ≡ None → IsSome o → ⊥
+none_is_some None e some = absurd (cc)
+none_is_some (Some c) e some = absurd (cc)
+
+-- a slot of theirs that is open behind them was open before
+was_open : (g : Given) (l : Learned) (from : ℕ) (ballot : Ballot) (slot : ℕ) (commands : List Command) (k : ℕ) → IsLog l.log → length commands ≤ WINDOW
+    → slot ≤ k → k < slot + length commands → IsOpen (hearing_each l from ballot slot commands).log k → is_open l.log k ≡ true
+was_open g l from ballot slot commands k log most first last opens =
+    open_is l.log k (record {
+      reached = (let on = after.1 in let reached = opens.reached in omega (arith, on, reached));
+      within = by_front (apart (front l.log) slot);
+      is_slot = opens.is_slot;
+    })
+  where
+    after : IsLog (hearing_each l from ballot slot commands).log × (front l.log ≤ front (hearing_each l from ballot slot commands).log)
+    after = log_each g l from ballot slot commands log
+
+    apart : (a b : ℕ) → (b ≤ a) ⊎ (a < b)
+    apart a b = grind arith
+
+    -- the front is below them all, so that it stays
+    stays : front l.log < slot → (front (hearing_each l from ballot slot commands).log ≤ front l.log) ⊎ (front l.log < front (hearing_each l from ballot slot commands).log)
+        → front (hearing_each l from ballot slot commands).log ≤ front l.log
+    stays below (inl low) = low
+    stays below (inr moved) =
+        let some : IsSome (known_at (hearing_each l from ballot slot commands).log (front l.log)) = (g.hole (hearing_each l from ballot slot commands).log after.0).0 (front l.log) moved in
+        let none : known_at (hearing_each l from ballot slot commands).log (front l.log) ≡ None = below_each g l from ballot slot commands (front l.log) log below ∙ (g.hole l.log log).1 in
+        absurd (none_is_some (known_at (hearing_each l from ballot slot commands).log (front l.log)) none some)
+
+    by_front : (slot ≤ front l.log) ⊎ (front l.log < slot) → k < front l.log + WINDOW
+    by_front (inl low) = omega (arith, low, last, most)
+    by_front (inr high) =
+        let same = stays high (apart (front l.log) (front (hearing_each l from ballot slot commands).log)) in
+        let within = opens.within in omega (arith, same, within)
+
+in_open_answers : (log : Log) (from : ℕ) (ballot : Ballot) (slot : ℕ) (commands : List Command) (v : ℕ) (b : Ballot) (k : ℕ) (c : Command) → is_open log k ≡ true
+    → In (Accepted v b k c) (answers from ballot slot commands) → In (Accepted v b k c) (open_answers log from ballot slot commands)
+in_open_answers log from ballot slot [] v b k c opens h = h
+in_open_answers log from ballot slot (command ∷ more) v b k c opens (inl e) = by_test (is_open log slot) refl
+  where
+    same : k ≡ slot
+    same = cc
+
+    by_test : (x : Bool) → is_open log slot ≡ x → In (Accepted v b k c) (if x then Accepted from ballot slot command ∷ open_answers log from ballot (slot + 1) more else open_answers log from ballot (slot + 1) more)
+    by_test true ex = inl e
+    by_test false ex = absurd (true≢false (sym opens ∙ (ap (is_open log) same ∙ ex)))
+in_open_answers log from ballot slot (command ∷ more) v b k c opens (inr h) = by_test (is_open log slot) (in_open_answers log from ballot (slot + 1) more v b k c opens h)
+  where
+    by_test : (x : Bool) → In (Accepted v b k c) (open_answers log from ballot (slot + 1) more)
+        → In (Accepted v b k c) (if x then Accepted from ballot slot command ∷ open_answers log from ballot (slot + 1) more else open_answers log from ballot (slot + 1) more)
+    by_test true inside = inr inside
+    by_test false inside = inside
+
+-- what isn't refused is heard
+pub heard_run : (l : Learned) (from : ℕ) (ballot : Ballot) (slot : ℕ) (commands : List Command) → IsOk (answer_to_run l from ballot slot commands)
+    → hearing_run l from ballot slot commands ≡ hearing_each l from ballot slot commands
+heard_run l from ballot slot commands ok = ap (λ (b : Bool). if b then l else hearing_each l from ballot slot commands) (run_ok l from ballot slot commands ok)
+
+-- each vote for a slot that is open is counted
+pub record GrowsByEach (came : List Message) (l new : Learned) (voter : ℕ) (ballot : Ballot) (slot : ℕ) (commands : List Command) : Type 0 where
+  pub grows : Grows came new
+  pub has_votes : (v : ℕ) (b : Ballot) (k : ℕ) (c : Command) → In (Accepted v b k c) (answers voter ballot slot commands) → IsOpen l.log k → In (Accepted v b k c) grows.more
+
+pub votes_grow : (g : Given) (came : List Message) (l : Learned) (voter : ℕ) (ballot : Ballot) (slot : ℕ) (commands : List Command) → IsLog l.log → voter < l.nodes → length commands ≤ WINDOW
+    → IsOk (answer_to_run l voter ballot slot commands) → Counts came l → GrowsByEach came l (hearing_run l voter ballot slot commands) voter ballot slot commands
+votes_grow g came l voter ballot slot commands log low most ok c = record {
+  grows = record {
+    more = more;
+    counts = record {
+      counts_from = subst (CountsFrom more) (sym is_each) from;
+      counts_all = g.run_counts_all came l voter ballot slot commands log low most ok c.counts_all;
+      knows_chosen = g.runs_known came l voter ballot slot commands log low most ok c.counts_from c.counts_all c.knows_chosen;
+    };
+    kept = λ m h. in_later (open_answers l.log voter ballot slot commands) came m h;
+  };
+  has_votes = λ v b k d h opens. in_first (open_answers l.log voter ballot slot commands) came (Accepted v b k d) (in_open_answers l.log voter ballot slot commands v b k d (open_is l.log k opens) h);
+}
+  where
+    more : List Message
+    more = open_answers l.log voter ballot slot commands ++ came
+
+    is_each : hearing_run l voter ballot slot commands ≡ hearing_each l voter ballot slot commands
+    is_each = heard_run l voter ballot slot commands ok
+
+    all : CountsFrom (answers voter ballot slot commands ++ came) (hearing_each l voter ballot slot commands)
+    all = subst (CountsFrom (answers voter ballot slot commands ++ came)) is_each
+        (g.run_counts (answers voter ballot slot commands ++ came) l voter ballot slot commands (λ m h. in_first (answers voter ballot slot commands) came m h)
+        (λ k tally opens inside node has. in_later (answers voter ballot slot commands) came (Accepted node tally.ballot k tally.command) (c.counts_from k tally opens inside node has)))
+
+    from : CountsFrom more (hearing_each l voter ballot slot commands)
+    from k tally opens inside node has = elim (in_split (answers voter ballot slot commands) came (Accepted node tally.ballot k tally.command) (all k tally opens inside node has)) [
+      | inl own ↦ (
+          let at = (g.in_answers voter node ballot tally.ballot slot k tally.command commands).0 own in
+          in_first (open_answers l.log voter ballot slot commands) came (Accepted node tally.ballot k tally.command)
+          (in_open_answers l.log voter ballot slot commands node tally.ballot k tally.command (was_open g l voter ballot slot commands k log most at.2 at.3 opens) own))
+      | inr old ↦ in_later (open_answers l.log voter ballot slot commands) came (Accepted node tally.ballot k tally.command) old
+    ]
 
 pub belief_grows : (g : Given) (came : List Message) (l : Learned) (slot : ℕ) (command : Command) → IsLog l.log → Counts came l → Grows came (with_chosen l slot command)
 belief_grows g came l slot command log c = record {

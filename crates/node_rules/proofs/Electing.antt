@@ -23,6 +23,7 @@ use Rattle.node_rules.specs.Given.{Given}
 use Rattle.node_rules.specs.Being.{Campaigns, Knows, IsOf}
 use Rattle.node_rules.specs.Proposed.{IsValue}
 use Rattle.node_rules.specs.Outcomes.{IsElected, HasValue, PromisesMakeProposals}
+use Rattle.node_rules.proofs.Ones.{one_at, none_of_one}
 use Rattle.node_rules.proofs.Closing.{campaigns_of}
 use Rattle.node_rules.proofs.Sent.{sent_by_chain}
 
@@ -116,7 +117,7 @@ proposed_of g own place s node ballot first of up e value = (
 
     none : proposal_by place.nodes found.0 (front_of s) (own_value place s) ≡ Ok None
     none = ap (λ (y : Option Campaign). proposal_from place.nodes y (front_of s) (own_value place s)) (sym found.1)
-        ∙ ((of.runs up).settled (ap (leads place.nodes) found.1 ∙ quorum)).1
+        ∙ none_of_one (one_at place s) ((of.runs up).settled (ap (leads place.nodes) found.1 ∙ quorum)).1
 
     marked : IsMarked node found.0 (front_of s)
     marked = marked_by g place.nodes place.node node found.0 (front_of s) (own_value place s) camp quorum

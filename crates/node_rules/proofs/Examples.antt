@@ -10,6 +10,7 @@ use Rattle.slot_log.specs.declared.command.Command.{Command}
 use Rattle.slot_log.specs.declared.command.Command.TheVariants.{Deal, Act}
 use Rattle.learner.specs.declared.tally.Tally.{Tally}
 use Rattle.learner.specs.Learning.{new_learned}
+use Rattle.learner.specs.CommandRuns.{hearing_each, chosen_each, is_refused}
 use Rattle.learner.specs.Same.{is_same}
 use Rattle.learner.specs.Tallies.{is_of}
 use Rattle.match_log.proofs.Examples.{opened as log_opened, two_players, ten_ace, twos_threes, alice_and_bob}
@@ -36,7 +37,7 @@ use Rattle.node_rules.specs.Rules.{on_message, starting, stopping, IsTurn, highe
 
 -- opens the definitions
 unfoldable pub opened : ℕ
-unfolding log_opened is_same is_of to_first taking_all telling_from told_from answering_all
+unfolding log_opened is_same is_of to_first taking_all telling_from told_from answering_all hearing_each chosen_each is_refused
 opened = 0
 
 abbrev pub setting : Setting
@@ -125,8 +126,8 @@ abbrev pub leading : Turn
 leading = done (on_message (place 0) 1 (Promise (ballot 1 0) 0 []) ticked.after)
 
 leader_proposes_and_accepts : leading.frames
-    ≡ to 1 (Accept (ballot 1 0) 0 (dealt 0)) ∷ to 2 (Accept (ballot 1 0) 0 (dealt 0))
-    ∷ to 1 (Accepted (ballot 1 0) 0 (dealt 0)) ∷ to 2 (Accepted (ballot 1 0) 0 (dealt 0)) ∷ []
+    ≡ to 1 (Accept (ballot 1 0) 0 (dealt 0 ∷ [])) ∷ to 2 (Accept (ballot 1 0) 0 (dealt 0 ∷ []))
+    ∷ to 1 (Accepted (ballot 1 0) 0 (dealt 0 ∷ [])) ∷ to 2 (Accepted (ballot 1 0) 0 (dealt 0 ∷ [])) ∷ []
 unfolding opened
 leader_proposes_and_accepts = refl
 
@@ -172,9 +173,9 @@ unfolding opened
 third_promise_passed_over = refl
 
 abbrev voting : Turn
-voting = done (on_message (place 1) 0 (Accept (ballot 1 0) 0 (dealt 0)) promised_1)
+voting = done (on_message (place 1) 0 (Accept (ballot 1 0) 0 (dealt 0 ∷ [])) promised_1)
 
-vote_is_told : voting.frames ≡ to 0 (Accepted (ballot 1 0) 0 (dealt 0)) ∷ to 2 (Accepted (ballot 1 0) 0 (dealt 0)) ∷ []
+vote_is_told : voting.frames ≡ to 0 (Accepted (ballot 1 0) 0 (dealt 0 ∷ [])) ∷ to 2 (Accepted (ballot 1 0) 0 (dealt 0 ∷ [])) ∷ []
 unfolding opened
 vote_is_told = refl
 
@@ -196,7 +197,7 @@ unfolding opened
 vote_is_counted = refl
 
 abbrev learning : Turn
-learning = done (on_message (place 0) 1 (Accepted (ballot 1 0) 0 (dealt 0)) leads_0)
+learning = done (on_message (place 0) 1 (Accepted (ballot 1 0) 0 (dealt 0 ∷ [])) leads_0)
 
 each_seat_gets_its_line : learning.shown
     ≡ (record { reader = Seat 0; text = codes "MATCHSTATE:0:0::TdAs|" }) ∷ (record { reader = Seat 1; text = codes "MATCHSTATE:1:0::|8hTc" }) ∷ []
@@ -226,8 +227,8 @@ abbrev forwarded : Turn
 forwarded = done (on_message (place 0) 1 (Forward (Act 0 0 Fold)) dealt_0)
 
 act_is_proposed_at_the_front : forwarded.frames
-    ≡ to 1 (Accept (ballot 1 0) 1 (Act 0 0 Fold)) ∷ to 2 (Accept (ballot 1 0) 1 (Act 0 0 Fold))
-    ∷ to 1 (Accepted (ballot 1 0) 1 (Act 0 0 Fold)) ∷ to 2 (Accepted (ballot 1 0) 1 (Act 0 0 Fold)) ∷ []
+    ≡ to 1 (Accept (ballot 1 0) 1 (Act 0 0 Fold ∷ [])) ∷ to 2 (Accept (ballot 1 0) 1 (Act 0 0 Fold ∷ []))
+    ∷ to 1 (Accepted (ballot 1 0) 1 (Act 0 0 Fold ∷ [])) ∷ to 2 (Accepted (ballot 1 0) 1 (Act 0 0 Fold ∷ [])) ∷ []
 unfolding opened
 act_is_proposed_at_the_front = refl
 
@@ -251,7 +252,7 @@ unfolding opened
 act_is_counted = refl
 
 abbrev folded : Turn
-folded = done (on_message (place 0) 2 (Accepted (ballot 1 0) 1 (Act 0 0 Fold)) waits_0)
+folded = done (on_message (place 0) 2 (Accepted (ballot 1 0) 1 (Act 0 0 Fold ∷ [])) waits_0)
 
 -- lines first, and then the log: the hand's line and the score together
 lines_then_log : folded.shown
@@ -313,13 +314,13 @@ abbrev taken_over : Turn
 taken_over = done (on_message (place 2) 1 (Promise (ballot 2 2) 0 (told ∷ [])) ticked_2.after)
 
 told_value_is_proposed : taken_over.frames
-    ≡ to 0 (Accept (ballot 2 2) 0 (dealt 0)) ∷ to 1 (Accept (ballot 2 2) 0 (dealt 0))
-    ∷ to 0 (Accepted (ballot 2 2) 0 (dealt 0)) ∷ to 1 (Accepted (ballot 2 2) 0 (dealt 0)) ∷ []
+    ≡ to 0 (Accept (ballot 2 2) 0 (dealt 0 ∷ [])) ∷ to 1 (Accept (ballot 2 2) 0 (dealt 0 ∷ []))
+    ∷ to 0 (Accepted (ballot 2 2) 0 (dealt 0 ∷ [])) ∷ to 1 (Accepted (ballot 2 2) 0 (dealt 0 ∷ [])) ∷ []
 unfolding opened
 told_value_is_proposed = refl
 
 -- an older proposal is refused, with the ballot that was promised
-older_is_refused : (done (on_message (place 1) 0 (Accept (ballot 1 0) 0 (dealt 0)) (record voted_1 { store = promised store_0 (ballot 2 2) }))).frames ≡ to 0 (Refuse (ballot 1 0) 0 (ballot 2 2)) ∷ []
+older_is_refused : (done (on_message (place 1) 0 (Accept (ballot 1 0) 0 (dealt 0 ∷ [])) (record voted_1 { store = promised store_0 (ballot 2 2) }))).frames ≡ to 0 (Refuse (ballot 1 0) 0 (ballot 2 2)) ∷ []
 unfolding opened
 older_is_refused = refl
 
@@ -337,21 +338,77 @@ unfolding opened
 outbid = refl
 
 -- an Accept of a promised ballot ends the node's own
-votes_for_another : (done (on_message (place 0) 1 (Accept (ballot 2 1) 0 (dealt 1)) leads_0)).after.campaign ≡ None
+votes_for_another : (done (on_message (place 0) 1 (Accept (ballot 2 1) 0 (dealt 1 ∷ [])) leads_0)).after.campaign ≡ None
 unfolding opened
 votes_for_another = refl
 
 -- what is stored in a ballot stays, whatever comes in it
-first_of_a_ballot_stays : (done (on_message (place 1) 0 (Accept (ballot 1 0) 0 (dealt 2)) voted_1)).frames
-    ≡ to 0 (Accepted (ballot 1 0) 0 (dealt 0)) ∷ to 2 (Accepted (ballot 1 0) 0 (dealt 0)) ∷ []
+first_of_a_ballot_stays : (done (on_message (place 1) 0 (Accept (ballot 1 0) 0 (dealt 2 ∷ [])) voted_1)).frames
+    ≡ to 0 (Accepted (ballot 1 0) 0 (dealt 0 ∷ [])) ∷ to 2 (Accepted (ballot 1 0) 0 (dealt 0 ∷ [])) ∷ []
 unfolding opened
 first_of_a_ballot_stays = refl
+
+-- ---- commands for slots that follow one another
+
+-- node 0's deal and an act behind it
+abbrev pub two : List Command
+two = dealt 0 ∷ Act 0 0 Fold ∷ []
+
+-- both are voted for at once, and counted
+abbrev voting_for_two : Turn
+voting_for_two = done (on_message (place 1) 0 (Accept (ballot 1 0) 0 two) promised_1)
+
+both_are_told : voting_for_two.frames ≡ to 0 (Accepted (ballot 1 0) 0 two) ∷ to 2 (Accepted (ballot 1 0) 0 two) ∷ []
+unfolding opened
+both_are_told = refl
+
+second_is_stored : voting_for_two.after.store.votes 1 ≡ Some (record { ballot = ballot 1 0; command = Act 0 0 Fold })
+unfolding opened
+second_is_stored = refl
+
+second_is_counted : voting_for_two.after.learned.cells
+    ≡ (record own_vote { nodes = false ∷ true ∷ false ∷ false ∷ false ∷ false ∷ false ∷ [] } ∷ []) ∷ (record own_fold { nodes = false ∷ true ∷ false ∷ false ∷ false ∷ false ∷ false ∷ [] } ∷ []) ∷ replicate 62 []
+unfolding opened
+second_is_counted = refl
+
+-- where the first is stored already, it is told alone
+first_is_told_alone : (done (on_message (place 1) 0 (Accept (ballot 1 0) 0 two) voted_1)).frames
+    ≡ to 0 (Accepted (ballot 1 0) 0 (dealt 0 ∷ [])) ∷ to 2 (Accepted (ballot 1 0) 0 (dealt 0 ∷ [])) ∷ []
+unfolding opened
+first_is_told_alone = refl
+
+second_stays_unstored : (done (on_message (place 1) 0 (Accept (ballot 1 0) 0 two) voted_1)).after.store.votes 1 ≡ None
+unfolding opened
+second_stays_unstored = refl
+
+-- the last votes for both: the front passes both, and each is applied in its turn
+abbrev learning_two : Turn
+learning_two = done (on_message (place 1) 0 (Accepted (ballot 1 0) 0 two) voting_for_two.after)
+
+front_passes_both : front_of learning_two.after ≡ 2
+unfolding opened
+front_passes_both = refl
+
+both_are_applied_in_order : learning_two.after.learned.log.below ≡ Act 0 0 Fold ∷ dealt 0 ∷ []
+unfolding opened
+both_are_applied_in_order = refl
+
+-- those for the second slot alone apply nothing, and the first is asked for
+second_waits_for_the_first : (done (on_message (place 1) 0 (Accepted (ballot 1 0) 1 (Act 0 0 Fold ∷ [])) voting_for_two.after)).frames ≡ to 0 (Ask 0) ∷ []
+unfolding opened
+second_waits_for_the_first = refl
+
+-- a ballot below the promise is refused at the first slot
+two_are_refused_at_the_first : (done (on_message (place 1) 0 (Accept (ballot 1 0) 0 two) (record voted_1 { store = promised store_0 (ballot 2 2) }))).frames
+    ≡ to 0 (Refuse (ballot 1 0) 0 (ballot 2 2)) ∷ []
+unfolding opened
+two_are_refused_at_the_first = refl
 
 -- ---- asking and telling
 
 -- who speaks of a slot above the front is asked, last in the call
-asks_for_what_it_missed : (done (on_message (place 1) 0 (Accept (ballot 1 0) 2 (dealt 0)) (first 1))).frames
-    ≡ to 0 (Accepted (ballot 1 0) 2 (dealt 0)) ∷ to 2 (Accepted (ballot 1 0) 2 (dealt 0)) ∷ to 0 (Ask 0) ∷ []
+asks_for_what_it_missed : (done (on_message (place 1) 0 (Accept (ballot 1 0) 2 (dealt 0 ∷ [])) (first 1))).frames
+    ≡ to 0 (Accepted (ballot 1 0) 2 (dealt 0 ∷ [])) ∷ to 2 (Accepted (ballot 1 0) 2 (dealt 0 ∷ [])) ∷ to 0 (Ask 0) ∷ []
 unfolding opened
 asks_for_what_it_missed = refl
 

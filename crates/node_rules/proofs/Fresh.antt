@@ -45,5 +45,5 @@ fresh_is_calm setting n deals i members deal is quorum member own count = record
   slot_left = omega arith;
   unpromised = λ node h. inl (omega arith);
   goes_on = first_goes_on (place_in setting n deals i) is.least;
-  value = inr (λ vote h. none_held setting n deals members 0 vote h, first_value (place_in setting n deals i) deal is.least count own);
+  value = inr (Deal 0 deal, refl, (λ vote h. none_held setting n deals members 0 vote h, first_value (place_in setting n deals i) deal is.least count own));
 }

@@ -1,5 +1,5 @@
 -- Calls that stop in their append: the chain as far as the append, with nothing shown.
-use Rattle.std.proofs.Common.{◌≡◌, ◌≢◌, ℕ, ◌<◌, ◌⊎◌, inl, inr, Bool, true, false, true≢false, not, if◌then◌else◌, ◌&&◌, List, [], ◌∷◌, Option, Some, None, Result, Ok, Err, refl, sym, ap, subst, ◌∙◌}
+use Rattle.std.proofs.Common.{◌≡◌, ◌≢◌, ℕ, ◌+◌, ◌<◌, ◌≤◌, ◌⊎◌, inl, inr, Bool, true, false, true≢false, not, if◌then◌else◌, ◌&&◌, List, [], ◌∷◌, Option, Some, None, Result, Ok, Err, refl, sym, ap, subst, ◌∙◌, arith, length}
 use Rattle.std.specs.Prelude.{nat_le}
 use Rattle.paxos_wire.specs.declared.limits.TheConstants.{SLOTS}
 use Rattle.paxos_wire.specs.declared.ballot.Ballot.{Ballot}
@@ -11,7 +11,7 @@ use Rattle.slot_log.specs.declared.slot_fault.SlotFault.{SlotFault}
 use Rattle.protocol_model.specs.Sets.{In}
 use Rattle.protocol_model.specs.Ballots.{Below, AtMost}
 use Rattle.protocol_model.specs.Messages.{Message, Prepare, Promise, Refuse, Accept, Accepted, Ask, Forward, sender_of}
-use Rattle.protocol_model.specs.Frames.{carried}
+use Rattle.protocol_model.specs.Frames.{carried, proposals}
 use Rattle.protocol_model.specs.Stores.{Store, promised, voted, Append, unchanged, moved, own_promise, promise, vote}
 use Rattle.protocol_model.specs.Calls.{HasGotAtMost}
 use Rattle.protocol_model.specs.Nodes.{Node}
@@ -25,29 +25,31 @@ use Rattle.proposer.specs.declared.fault.ProposeFault.TheVariants.{OutOfWindow}
 use Rattle.proposer.specs.Laws.{IsSafe}
 use Rattle.proposer.specs.Campaigns.{next_ballot, leads, is_covered, is_proposed, accept_of, value_of, greatest_told, proposal_from, marked_from}
 use Rattle.learner.specs.Learning.{Learned, answer_to, hearing}
+use Rattle.learner.specs.CommandRuns.{answer_to_run, hearing_run}
 use Rattle.node_rules.specs.Standings.{Standing, applied, front_of, with_stored, idle}
 use Rattle.node_rules.specs.Sending.{one, to_others}
 use Rattle.node_rules.specs.Turns.{Turn, Refusal, Spent, still, sending, joined, behind, and_then}
-use Rattle.node_rules.specs.Learning.{learning, counting_vote, telling}
-use Rattle.protocol_model.specs.Votes.{told_by, is_of_ballot, stored_in, storing}
+use Rattle.node_rules.specs.Learning.{learning, counting_votes, telling}
+use Rattle.protocol_model.specs.Votes.{told_by, is_of_ballot, stored_in, storing, command_run_at, taking_command_run}
 use Rattle.node_rules.specs.Accepting.{promising, refusing, preparing, voting, accepting}
-use Rattle.node_rules.specs.Proposing.{higher, greatest_seen, is_over, is_spent, beginning, ticking, own_value, proposing, closing_by, proposal_at, closing}
-use Rattle.node_rules.specs.Rules.{ballots_of, seeing, taking, asking, on_read}
+use Rattle.node_rules.specs.Proposing.{higher, greatest_seen, is_over, is_spent, beginning, ticking, own_value, closing}
+use Rattle.node_rules.specs.Rules.{ballots_of, highest, seeing, taking, asking, on_read}
 use Rattle.node_rules.specs.Being.{Campaigns}
 use Rattle.node_rules.specs.Called.{said_in, IsSent}
-use Rattle.protocol_model.proofs.Sets.{in_split}
+use Rattle.protocol_model.proofs.Sets.{Within, in_split}
 use Rattle.protocol_model.proofs.Ballots.{at_most_self, below_if, at_most_if_not}
 use Rattle.node_rules.proofs.Ordering.{higher_is}
 use Rattle.node_rules.proofs.Keeping.{with_got}
 use Rattle.node_rules.proofs.Paths.{Hearing, Scope, dealer_in, first_in, Path, Goes, has_in, regroup, three_in}
 use Rattle.node_rules.proofs.Promising.{refuse}
-use Rattle.node_rules.proofs.Learning.{count}
+use Rattle.node_rules.proofs.Ones.{counting_one, voting_one, proposing_one, one_at, closing_by_one, closes_one}
+use Rattle.paxos_wire.specs.Fits.{HasCommands}
 use Rattle.node_rules.proofs.Asked.{asked_same}
 use Rattle.node_rules.proofs.Closing.{IsMade, made_by, campaigns_of, may}
 use Rattle.node_rules.proofs.Asking.{tell_known, behind_still}
-use Rattle.node_rules.proofs.Framing.{hand_on, chosen_goes}
+use Rattle.node_rules.proofs.Framing.{hand_on, chosen_goes, accepted_goes}
 use Rattle.node_rules.proofs.Ticking.{above}
-use Rattle.node_rules.proofs.Beginning.{Runs, hearing_of, begin, begin_frame, begin_promise, begin_refusal}
+use Rattle.node_rules.proofs.Beginning.{Runs, hearing_of, begin, begin_frame, begin_frames, of_proposals, begin_promise, begin_refusal}
 
 -- the chain of a call that stops here, whose append may leave this store
 pub record Halted (x : Scope) (came : List Arrival) (store : Store) : Type 0 where
@@ -118,7 +120,7 @@ unled_by n (Some c) front own e = ap (λ (b : Bool). if not b then Ok None else 
     else Ok (accept_of c front (value_of (greatest_told c front n) own))) e
 
 close_unled_by : (x : Scope) (came : List Arrival) (s : Standing) (store : Store) (a b : Bool) (r : Result (Option Made) ProposeFault) → a ≡ false → r ≡ Ok None → s.store ≡ store → Halted x came store
-    → Leaves x came (if a && b then Ok (still (idle s)) else closing_by x.place r (record s { campaign = marked_from s.campaign r }))
+    → Leaves x came (if a && b then Ok (still (idle s)) else closing_by_one x.place r (record s { campaign = marked_from s.campaign r }))
 close_unled_by x came s store true b r e er es h = absurd (true≢false e)
 close_unled_by x came s store false b (Err f) e er es h = absurd (cc)
 close_unled_by x came s store false b (Ok (Some made)) e er es h = absurd (cc)
@@ -126,7 +128,8 @@ close_unled_by x came s store false b (Ok None) e er es h = subst (Halted x came
 
 close_unled : (x : Scope) (came : List Arrival) (s : Standing) → leads x.place.nodes s.campaign ≡ false → Halted x came s.store → Leaves x came (closing x.place s)
 close_unled x came s e h =
-    close_unled_by x came s s.store (leads x.place.nodes s.campaign) (nat_le SLOTS (front_of s)) (proposal_at x.place s) e (unled_by x.place.nodes s.campaign (front_of s) (own_value x.place s) e) refl h
+    subst (Leaves x came) (sym (closes_one x.given x.place s))
+    (close_unled_by x came s s.store (leads x.place.nodes s.campaign) (nat_le SLOTS (front_of s)) (one_at x.place s) e (unled_by x.place.nodes s.campaign (front_of s) (own_value x.place s) e) refl h)
 
 -- what is left where a vote is counted: the store stays
 counted_leaves : (x : Scope) (came : List Arrival) (s : Standing) {A : Type 0} (answer : Result A SlotFault) (new : Learned) → Halted x came s.store → Leaves x came (learning x.place answer new s)
@@ -184,10 +187,10 @@ halt_proposed x came heard t c made q same p is = record {
 
 proposal_leaves : (x : Scope) (came : List Arrival) (heard : Hearing) (t : Turn) (made : Made) → x.ends ≡ false → x.had ≡ (first_in x).has
     → (p : Path x came heard (applied t.after) t) → (found : (f : Campaign) × IsMade x.place t.after f made) → (c : Option Campaign)
-    → Leaves x came (proposing x.place made (record t.after { campaign = c }))
+    → Leaves x came (proposing_one x.place made (record t.after { campaign = c }))
 proposal_leaves x came heard t made q same p found c =
-    leaves_behind x came (sending (to_others x.place (frame.Accept made.ballot made.slot made.command)) s) (voting x.place made.ballot made.slot made.command s)
-    (leaves_behind x came (sending (to_others x.place (frame.Accepted made.ballot made.slot stored)) after) (counting_vote x.place x.place.node made.ballot made.slot stored after)
+    leaves_behind x came (sending (to_others x.place (frame.Accept made.ballot made.slot (made.command ∷ []))) s) (voting_one x.place made.ballot made.slot made.command s)
+    (leaves_behind x came (sending (to_others x.place (frame.Accepted made.ballot made.slot (stored ∷ []))) after) (counting_one x.place x.place.node made.ballot made.slot stored after)
     (counted_leaves x came after (answer_to after.learned x.place.node made.ballot made.slot stored) (hearing after.learned x.place.node made.ballot made.slot stored)
     (halt_proposed x came heard t found.0 made q same p found.1)))
   where
@@ -201,8 +204,8 @@ proposal_leaves x came heard t made q same p found c =
     after = with_stored s (storing t.after.store made.ballot made.slot made.command)
 
 closing_leaves : (x : Scope) (came : List Arrival) (heard : Hearing) (t : Turn) (b : Bool) (r : Result (Option Made) ProposeFault) → x.ends ≡ false → x.had ≡ (first_in x).has
-    → (p : Path x came heard (applied t.after) t) → proposal_at x.place t.after ≡ r
-    → Leaves x came (if b then Ok (still (idle t.after)) else closing_by x.place r (record t.after { campaign = marked_from t.after.campaign r }))
+    → (p : Path x came heard (applied t.after) t) → one_at x.place t.after ≡ r
+    → Leaves x came (if b then Ok (still (idle t.after)) else closing_by_one x.place r (record t.after { campaign = marked_from t.after.campaign r }))
 closing_leaves x came heard t true r q same p e = halt_same x came heard (applied t.after) t q same p
 closing_leaves x came heard t false (Ok None) q same p e = halt_same x came heard (applied t.after) t q same p
 closing_leaves x came heard t false (Err f) q same p e = halt_same x came heard (applied t.after) t q same p
@@ -212,7 +215,8 @@ closing_leaves x came heard t false (Ok (Some made)) q same p e =
 close_leaves : (x : Scope) (came : List Arrival) (heard : Hearing) (t : Turn) → x.ends ≡ false → x.had ≡ (first_in x).has → Path x came heard (applied t.after) t
     → Leaves x came (closing x.place t.after)
 close_leaves x came heard t q same p =
-    closing_leaves x came heard t (leads x.place.nodes t.after.campaign && nat_le SLOTS (front_of t.after)) (proposal_at x.place t.after) q same p refl
+    subst (Leaves x came) (sym (closes_one x.given x.place t.after))
+    (closing_leaves x came heard t (leads x.place.nodes t.after.campaign && nat_le SLOTS (front_of t.after)) (one_at x.place t.after) q same p refl)
 
 -- a stage, and then the close
 pub then_closes : (x : Scope) (came : List Arrival) (heard : Hearing) (r : Result Turn Refusal) → x.ends ≡ false → x.had ≡ (first_in x).has → Rests x came heard r
@@ -240,28 +244,41 @@ learned_rests : (x : Scope) (came : List Arrival) (heard : Hearing) (u : Turn) (
 learned_rests x came heard u s (Ok a) new none h = inr (h, ap (leads x.place.nodes) none)
 learned_rests x came heard u s (Err e) new none h = tt
 
-accept_rests_by : (x : Scope) (came : List Arrival) (heard : Hearing) (t : Turn) (from : ℕ) (ballot : Ballot) (slot : ℕ) (command : Command) (b : Bool) → x.ends ≡ false → x.had ≡ (first_in x).has
-    → is_below ballot t.after.store.promise ≡ b → (p : Path x came heard (applied t.after) t) → In (Accept ballot slot command) p.node.has → from < x.place.nodes → from ≢ x.place.node
-    → Rests x came heard (behind t (if b then Ok (refusing from ballot slot t.after) else voting x.place ballot slot command (idle t.after)))
-accept_rests_by x came heard t from ballot slot command true q same e p had below other = inl (refuse x came heard (applied t.after) t from ballot slot p below other)
-accept_rests_by x came heard t from ballot slot command false q same e p had below other =
-    let stored : Command = stored_in (t.after.store.votes slot) ballot command in
-    let after : Standing = with_stored (idle t.after) (storing t.after.store ballot slot command) in
-    let u : Turn = sending (to_others x.place (frame.Accepted ballot slot stored)) after in
-    subst (Rests x came heard) (regroup t u (counting_vote x.place x.place.node ballot slot stored after))
-    (learned_rests x came heard (joined t u) after (answer_to after.learned x.place.node ballot slot stored) (hearing after.learned x.place.node ballot slot stored) refl
-    (halt x came heard (applied t.after) t (storing t.after.store ballot slot command) q same p
-    (subst (λ (st : Store). Append x.place.node p.node.has p.node.store (storing st ballot slot command)) p.knows.store
-    (vote_append x.place.node p.node.has p.node.store ballot slot command (is_of_ballot (p.node.store.votes slot) ballot) had
-    (subst (λ (st : Store). AtMost st.promise ballot) (sym p.knows.store) (at_most_if_not ballot t.after.store.promise e))))))
+accept_rests_by : (x : Scope) (came : List Arrival) (heard : Hearing) (t : Turn) (from : ℕ) (ballot : Ballot) (slot : ℕ) (commands : List Command) (b : Bool) → x.ends ≡ false → x.had ≡ (first_in x).has
+    → is_below ballot t.after.store.promise ≡ b → (p : Path x came heard (applied t.after) t) → Within (proposals ballot slot commands) p.node.has → from < x.place.nodes → from ≢ x.place.node
+    → Rests x came heard (behind t (if b then Ok (refusing from ballot slot t.after) else voting x.place ballot slot commands (idle t.after)))
+accept_rests_by x came heard t from ballot slot commands true q same e p had below other = inl (refuse x came heard (applied t.after) t from ballot slot p below other)
+accept_rests_by x came heard t from ballot slot commands false q same e p had below other =
+    let told : List Command = command_run_at t.after.store ballot slot commands in
+    let after : Standing = with_stored (idle t.after) (taking_command_run t.after.store ballot slot commands) in
+    let u : Turn = sending (to_others x.place (frame.Accepted ballot slot told)) after in
+    subst (Rests x came heard) (regroup t u (counting_votes x.place x.place.node ballot slot told after))
+    (learned_rests x came heard (joined t u) after (answer_to_run after.learned x.place.node ballot slot told) (hearing_run after.learned x.place.node ballot slot told) refl
+    (halt x came heard (applied t.after) t (taking_command_run t.after.store ballot slot commands) q same p
+    (subst (λ (st : Store). Append x.place.node p.node.has p.node.store (taking_command_run st ballot slot commands)) p.knows.store
+    (x.given.command_run_append x.place.node p.node.has p.node.store ballot slot commands
+    (subst (λ (st : Store). AtMost st.promise ballot) (sym p.knows.store) (at_most_if_not ballot t.after.store.promise e)) had))))
 
 rested : (x : Scope) (came : List Arrival) (heard : Hearing) (s : Standing) (r : Result Turn Refusal) → Rests x came heard (behind (still s) r) → Rests x came heard r
 rested x came heard s r rests = subst (Rests x came heard) (behind_still s r) rests
 
-taken_rests : (x : Scope) (s : Standing) (from : ℕ) (w : Wire) → x.ends ≡ false → x.had ≡ (first_in x).has → Runs x s
+-- an Accept of another node
+accept_rests : (x : Scope) (s : Standing) (from : ℕ) (ballot : Ballot) (slot : ℕ) (commands : List Command) → x.ends ≡ false → x.had ≡ (first_in x).has → Runs x s → 1 ≤ length commands
+    → x.messages ≡ proposals ballot slot commands → IsSent x.place x.world.ever from (proposals ballot slot commands)
+    → Rests x [] (hearing_of s (first_in x)) (accepting x.place from ballot slot commands (record s { seen = highest s.seen (ballot ∷ []) }))
+accept_rests x s from ballot slot [] q same r some are sent = absurd (omega (arith, some))
+accept_rests x s from ballot slot (command ∷ later) q same r some are sent =
+    let h : Hearing = hearing_of s (first_in x) in
+    let s0 : Standing = record s { seen = highest s.seen (ballot ∷ []) } in
+    let p = begin_frames x s ballot (Accept ballot slot command) (proposals ballot (slot + 1) later) r are (λ m inside. sent.sent m inside) (of_proposals ballot slot (command ∷ later)) in
+    rested x [] h s0 (accepting x.place from ballot slot (command ∷ later) s0)
+    (accept_rests_by x [] h (still s0) from ballot slot (command ∷ later) (is_below ballot s0.store.promise) q same refl p
+    (λ m inside. has_in x [] h (applied s) (still s0) p m (subst (λ (l : List Message). In m l) (sym are) inside)) sent.node sent.other)
+
+taken_rests : (x : Scope) (s : Standing) (from : ℕ) (w : Wire) → HasCommands w → x.ends ≡ false → x.had ≡ (first_in x).has → Runs x s
     → x.messages ≡ carried from w → IsSent x.place x.world.ever from (carried from w)
     → Rests x [] (hearing_of s (first_in x)) (taking x.place from w (seeing w s))
-taken_rests x s from (frame.Prepare ballot slot) q same r one sent =
+taken_rests x s from (frame.Prepare ballot slot) some q same r one sent =
     let h : Hearing = hearing_of s (first_in x) in
     let m : Message = Prepare ballot slot in
     let s0 : Standing = seeing (frame.Prepare ballot slot) s in
@@ -269,34 +286,22 @@ taken_rests x s from (frame.Prepare ballot slot) q same r one sent =
     rested x [] h s0 (Ok (preparing from ballot slot s0))
     (prepare_rests_by x [] h (still s0) from ballot slot (is_below s0.store.promise ballot) q same refl p
     (has_in x [] h (applied s) (still s0) p m (subst (λ (l : List Message). In m l) (sym one) (inl refl))) sent.node sent.other)
-taken_rests x s from (frame.Promise ballot slot told) q same r one sent =
+taken_rests x s from (frame.Promise ballot slot told) some q same r one sent =
     inl (begin_promise x s from ballot slot told (ballots_of (frame.Promise ballot slot told)) r one (sent.sent (Promise from ballot slot told) (inl refl)) refl)
-taken_rests x s from (frame.Refuse ballot slot promised) q same r one sent =
+taken_rests x s from (frame.Refuse ballot slot promised) some q same r one sent =
     inl (begin_refusal x s from ballot slot promised (ballots_of (frame.Refuse ballot slot promised)) r one (sent.sent (Refuse from ballot slot promised) (inl refl)) refl)
-taken_rests x s from (frame.Accept ballot slot command) q same r one sent =
-    let h : Hearing = hearing_of s (first_in x) in
-    let m : Message = Accept ballot slot command in
-    let s0 : Standing = seeing (frame.Accept ballot slot command) s in
-    let p = begin_frame x s m (ballot ∷ []) r one (sent.sent m (inl refl)) tt refl in
-    rested x [] h s0 (accepting x.place from ballot slot command s0)
-    (accept_rests_by x [] h (still s0) from ballot slot command (is_below ballot s0.store.promise) q same refl p
-    (has_in x [] h (applied s) (still s0) p m (subst (λ (l : List Message). In m l) (sym one) (inl refl))) sent.node sent.other)
-taken_rests x s from (frame.Accepted ballot slot command) q same r one sent =
-    let h : Hearing = hearing_of s (first_in x) in
-    let m : Message = Accepted from ballot slot command in
-    let s0 : Standing = seeing (frame.Accepted ballot slot command) s in
-    let p = begin_frame x s m (ballot ∷ []) r one (sent.sent m (inl refl)) tt refl in
-    rested x [] h s0 (counting_vote x.place from ballot slot command s0)
-    (rests_of x [] h (behind (still s0) (counting_vote x.place from ballot slot command s0))
-    (count x [] h (still s0) from ballot slot command p (has_in x [] h (applied s) (still s0) p m (subst (λ (l : List Message). In m l) (sym one) (inl refl))) sent.node))
-taken_rests x s from (frame.Chosen slot command) q same r one sent = rests_of x [] (hearing_of s (first_in x)) (taking x.place from (frame.Chosen slot command) (seeing (frame.Chosen slot command) s)) (chosen_goes x s from slot command r one sent)
-taken_rests x s from (frame.Ask slot) q same r one sent =
+taken_rests x s from (frame.Accept ballot slot commands) some q same r one sent = accept_rests x s from ballot slot commands q same r some.0 one sent
+taken_rests x s from (frame.Accepted ballot slot commands) some q same r one sent =
+    rests_of x [] (hearing_of s (first_in x)) (taking x.place from (frame.Accepted ballot slot commands) (seeing (frame.Accepted ballot slot commands) s))
+    (accepted_goes x s from ballot slot commands r some.0 one sent)
+taken_rests x s from (frame.Chosen slot command) some q same r one sent = rests_of x [] (hearing_of s (first_in x)) (taking x.place from (frame.Chosen slot command) (seeing (frame.Chosen slot command) s)) (chosen_goes x s from slot command r one sent)
+taken_rests x s from (frame.Ask slot) some q same r one sent =
     let h : Hearing = hearing_of s (first_in x) in
     let m : Message = Ask from slot in
     let s0 : Standing = seeing (frame.Ask slot) s in
     let p = begin_frame x s m [] r one (sent.sent m (inl refl)) tt refl in
     rested x [] h s0 (Ok (telling from slot s0)) (inl (tell_known x [] h (still s0) from slot p sent.node sent.other))
-taken_rests x s from (frame.Forward act) q same r one sent =
+taken_rests x s from (frame.Forward act) some q same r one sent =
     let h : Hearing = hearing_of s (first_in x) in
     let m : Message = Forward from act in
     let s0 : Standing = seeing (frame.Forward act) s in
@@ -308,13 +313,13 @@ then_asks x came from w (Ok u) h = subst (λ (s : Standing). Halted x came s.sto
 then_asks x came from w (Err e) h = tt
 
 -- a frame that stops in its append
-pub frame_leaves : (x : Scope) (s : Standing) (from : ℕ) (read : Result Wire FrameFault) → x.ends ≡ false → x.had ≡ (first_in x).has → Runs x s
+pub frame_leaves : (x : Scope) (s : Standing) (from : ℕ) (read : Result Wire FrameFault) → ((w : Wire) → read ≡ Ok w → HasCommands w) → x.ends ≡ false → x.had ≡ (first_in x).has → Runs x s
     → x.messages ≡ said_in from read → IsSent x.place x.world.ever from (said_in from read)
     → Leaves x [] (on_read x.place from read s)
-frame_leaves x s from (Err fault) q same r one sent = tt
-frame_leaves x s from (Ok w) q same r one sent =
+frame_leaves x s from (Err fault) has q same r one sent = tt
+frame_leaves x s from (Ok w) has q same r one sent =
     then_asks x [] from w (and_then (taking x.place from w (seeing w s)) (closing x.place))
-    (then_closes x [] (hearing_of s (first_in x)) (taking x.place from w (seeing w s)) q same (taken_rests x s from w q same r one sent))
+    (then_closes x [] (hearing_of s (first_in x)) (taking x.place from w (seeing w s)) q same (taken_rests x s from w (has w refl) q same r one sent))
 
 -- ---- a tick
 

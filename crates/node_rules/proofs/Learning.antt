@@ -1,8 +1,9 @@
 -- What is counted and known, on the path of a call.
-use Rattle.std.proofs.Common.{◌≡◌, ℕ, ◌<◌, ◌⊎◌, inl, inr, Bool, true, false, not, if◌then◌else◌, ◌==◌, List, [], ◌∷◌, ◌++◌, Option, Some, None, Result, Ok, Err, refl, sym, ap, subst, ◌∙◌, arith, length}
-use Rattle.std.specs.Prelude.{is_none, IsOk}
+use Rattle.std.proofs.Common.{◌≡◌, ℕ, ◌+◌, ◌-◌, ◌<◌, ◌⊎◌, inl, inr, Bool, true, false, not, if◌then◌else◌, ◌==◌, List, [], ◌∷◌, ◌++◌, Option, Some, None, Result, Ok, Err, refl, sym, ap, subst, ◌∙◌, arith, length, replicate, append_assoc}
+use Rattle.std.specs.Prelude.{is_none, is_err, IsOk}
 use Rattle.std.proofs.lemmas.Bool.{eqb-true, eqb-false}
 use Rattle.std.proofs.lemmas.List.{append-nil, length-append}
+use Rattle.paxos_wire.specs.declared.limits.TheConstants.{WINDOW}
 use Rattle.paxos_wire.specs.declared.ballot.Ballot.{Ballot}
 use Rattle.slot_log.specs.declared.limits.TheConstants.{SLOTS}
 use Rattle.slot_log.specs.declared.slot_fault.SlotFault.{SlotFault}
@@ -11,6 +12,8 @@ use Rattle.slot_log.specs.Slots.{Log, IsLog, front, known_at, with_command}
 use Rattle.slot_log.specs.declared.command.Command.{Command}
 use Rattle.protocol_model.specs.Sets.{In}
 use Rattle.protocol_model.specs.Messages.{Message, Accepted, Chosen}
+use Rattle.protocol_model.specs.Frames.{answers}
+use Rattle.protocol_model.proofs.Sets.{Within}
 use Rattle.protocol_model.specs.Quorums.{IsChosen, IsChosenIn}
 use Rattle.protocol_model.specs.Nodes.{Node, Knows as KnowsCommands}
 use Rattle.protocol_model.specs.Arrivals.{Arrival}
@@ -19,13 +22,14 @@ use Rattle.protocol_model.specs.Worlds.{World, Reached, IsAfter, new_world}
 use Rattle.learner.specs.declared.chosen.Chosen.{Chosen as Learnt}
 use Rattle.learner.specs.Same.{is_same}
 use Rattle.learner.specs.Learning.{Learned, is_open, is_other, known_with, knowing, counting, completes, answer_to, hearing, answer_to_chosen, believing as with_chosen}
+use Rattle.learner.specs.CommandRuns.{hearing_each, chosen_each, is_refused}
 use Rattle.learner.specs.Counted.{IsOpen, CountsFrom, CountsAll, KnowsChosen}
-use Rattle.node_rules.specs.Standings.{applied, front_of}
+use Rattle.node_rules.specs.Standings.{Place, Standing, applied}
 use Rattle.node_rules.specs.Showing.{Piece}
 use Rattle.node_rules.specs.Called.{AreShown, log_after}
-use Rattle.node_rules.specs.Turns.{Turn, joined, behind}
+use Rattle.node_rules.specs.Turns.{Turn, Refusal, joined, behind}
 use Rattle.node_rules.specs.Applying.{scene_of, applying}
-use Rattle.node_rules.specs.Learning.{learning, counting_vote}
+use Rattle.node_rules.specs.Learning.{learning, counting_votes}
 use Rattle.node_rules.specs.Being.{IsLearner}
 use Rattle.node_rules.specs.Given.{Given}
 use Rattle.node_rules.proofs.Proposed.{learned_proposed}
@@ -104,31 +108,58 @@ later_by g old new before known slot command (inl same) = ([], ap (λ (l : Log).
 later_by g old new before known slot command (inr one) =
     let on = g.goes_on old slot command in (on.0, ap (λ (l : Log). l.below) one.0 ∙ on.1)
 
--- the path goes on with what was learned, of which nothing was applied yet
-learned : (x : Scope) (came : List Arrival) (heard : Hearing) (t : Turn) (p : Path x came heard (applied t.after) t) (new : Learned) (known : List (ℕ × Command))
-    → (later : List Command) → new.log.below ≡ later ++ applied t.after
-    → IsLearner x.place.nodes p.node.has known new
-    → Chain (dealer_in x) x.place.nodes x.place.node x.world.ever (first_in x) (record { sent = p.sent; shown = p.shown; came = came }) (with_known p.node known)
-    → ((commands : List Command) → KnowsCommands p.node.known commands → KnowsCommands known commands)
-    → Path x came heard (applied t.after) (at_scene t new (scene_of t.after))
-learned x came heard t p new known later e learner chain wider =
-    unsent x came heard (applied t.after) (applied t.after) t (at_scene t new (scene_of t.after)) p known p.shown p.node.shown refl refl p.unbegun (append-nil t.frames) chain
-    (record {
-      up = p.knows.up;
-      store = p.knows.store;
-      within = p.knows.within;
-      proposer = others_proposer x.place.nodes x.place.node p.node known p.node.heard p.node.shown (front_of t.after) (front new.log) t.after.campaign
-          (let h = ap length e ∙ length-append later (applied t.after) in omega (arith, h)) p.knows.proposer;
-      learner = learner;
-      pending = others_pending (dealer_in x) x.place.node p.node known p.node.heard p.node.shown (applied t.after) t.after.pending p.knows.pending;
-      places = p.knows.places;
-      shown = p.knows.shown;
-      seen = p.knows.seen;
-      proposals = learned_proposed x.place.nodes x.place.node x.place t.after new later p.node.store p.node.has p.node.sent e p.knows.proposals;
-    })
-    (wider (applied t.after) p.commands)
-    (λ ends. subst (λ (l : List Piece). AreShown x.place.node x.start x.log l p.shown) (sym (append-nil t.shown)) (p.pieces ends))
-    (λ ends. ap (log_after x.log) (append-nil t.shown) ∙ p.logged ends) p.unshown
+-- a path on which this was learned, the front may have gone on over what was applied, and these messages are had still
+pub record Learns (x : Scope) (came : List Arrival) (heard : Hearing) (t : Turn) (new : Learned) (has : List Message) : Type 0 where
+  pub path : Path x came heard (applied t.after) (at_scene t new (scene_of t.after))
+  pub later : List Command
+  pub goes_on : new.log.below ≡ later ++ applied t.after
+  pub had : (m : Message) → In m has → In m path.node.has
+
+-- at first nothing is
+unlearned : (x : Scope) (came : List Arrival) (heard : Hearing) (t : Turn) (p : Path x came heard (applied t.after) t) → Learns x came heard t t.after.learned p.node.has
+unfolding unsent
+unlearned x came heard t p = record {
+  path = unsent x came heard (applied t.after) (applied t.after) t (at_scene t t.after.learned (scene_of t.after)) p p.node.known p.shown p.node.shown refl refl p.unbegun
+      (append-nil t.frames) p.chain p.knows p.commands
+      (λ ends. subst (λ (l : List Piece). AreShown x.place.node x.start x.log l p.shown) (sym (append-nil t.shown)) (p.pieces ends))
+      (λ ends. ap (log_after x.log) (append-nil t.shown) ∙ p.logged ends) p.unshown;
+  later = [];
+  goes_on = refl;
+  had = λ m h. h;
+}
+
+-- the path goes on with what was learned, of which nothing is applied yet
+learned : (x : Scope) (came : List Arrival) (heard : Hearing) (t : Turn) (mid new : Learned) (has : List Message) (l : Learns x came heard t mid has) (known : List (ℕ × Command))
+    → (later : List Command) → new.log.below ≡ later ++ mid.log.below
+    → IsLearner x.place.nodes l.path.node.has known new
+    → Chain (dealer_in x) x.place.nodes x.place.node x.world.ever (first_in x) (record { sent = l.path.sent; shown = l.path.shown; came = came }) (with_known l.path.node known)
+    → ((commands : List Command) → KnowsCommands l.path.node.known commands → KnowsCommands known commands)
+    → Learns x came heard t new has
+unfolding unsent
+learned x came heard t mid new has l known later e learner chain wider = record {
+  path = unsent x came heard (applied t.after) (applied t.after) (at_scene t mid (scene_of t.after)) (at_scene t new (scene_of t.after)) p known p.shown p.node.shown refl refl p.unbegun refl chain
+      (record {
+        up = p.knows.up;
+        store = p.knows.store;
+        within = p.knows.within;
+        proposer = others_proposer x.place.nodes x.place.node p.node known p.node.heard p.node.shown (front mid.log) (front new.log) t.after.campaign
+            (let h = ap length e ∙ length-append later mid.log.below in omega (arith, h)) p.knows.proposer;
+        learner = learner;
+        pending = others_pending (dealer_in x) x.place.node p.node known p.node.heard p.node.shown (applied t.after) t.after.pending p.knows.pending;
+        places = p.knows.places;
+        shown = p.knows.shown;
+        seen = p.knows.seen;
+        proposals = learned_proposed x.place.nodes x.place.node x.place (record t.after { learned = mid }) (applied t.after) new later p.node.store p.node.has p.node.sent
+            (let h = ap length l.goes_on ∙ length-append l.later (applied t.after) in omega (arith, h)) e p.knows.proposals;
+      })
+      (wider (applied t.after) p.commands) p.pieces p.logged p.unshown;
+  later = later ++ l.later;
+  goes_on = e ∙ (ap (λ (b : List Command). later ++ b) l.goes_on ∙ sym (append_assoc later l.later (applied t.after)));
+  had = λ m h. l.had m h;
+}
+  where
+    p : Path x came heard (applied t.after) (at_scene t mid (scene_of t.after))
+    p = l.path
 
 -- the learner's part, where its log goes on or stays
 learner_by : (g : Given) (n : ℕ) (has : List Message) (known wider : List (ℕ × Command)) (slot : ℕ) (command : Command) (old new : Learned) (in_time : List Message)
@@ -201,40 +232,46 @@ inform_by x came heard upto t p log slot command None e (inr told) = (
 
 -- ---- the path of what is learned
 
--- where what is known is this, with these votes that came in time, it is applied
-apply_known : (x : Scope) (came : List Arrival) (heard : Hearing) (t : Turn) (p : Path x came heard (applied t.after) t) (new : Learned) (slot : ℕ) (command : Command) (in_time : List Message)
-    → new.log ≡ known_with t.after.learned.log slot command → slot < SLOTS → new.nodes ≡ t.after.learned.nodes → Shows x p.sent p.node slot command
-    → ((m : Message) → In m in_time → In m p.node.has) → CountsFrom in_time new → CountsAll in_time new → KnowsChosen in_time new
-    → Path x came heard new.log.below (joined t (applying x.place new t.after))
-apply_known x came heard t p new slot command in_time e is_slot nodes source cames counts all chosen =
-    let told = inform_by x came heard (applied t.after) t p t.after.learned.log slot command (known_at t.after.learned.log slot) refl source in
-    let knew : Knew t.after.learned.log new.log p.node.known told.0 slot command = subst (λ (l : Log). Knew t.after.learned.log l p.node.known told.0 slot command) (sym e) told.1 in
-    let on = later_by x.given t.after.learned.log new.log p.node.known told.0 slot command knew in
-    settle x came heard t new on.0 on.1
-    (learned x came heard t p new told.0 on.0 on.1
-    (learner_by x.given x.place.nodes p.node.has p.node.known told.0 slot command t.after.learned new in_time p.knows.learner knew is_slot nodes cames counts all chosen)
-    told.2 told.3)
+-- where what is known is this, with these votes that came in time
+now_known : (x : Scope) (came : List Arrival) (heard : Hearing) (t : Turn) (mid new : Learned) (has : List Message) (l : Learns x came heard t mid has) (slot : ℕ) (command : Command) (in_time : List Message)
+    → new.log ≡ known_with mid.log slot command → slot < SLOTS → new.nodes ≡ mid.nodes → Shows x l.path.sent l.path.node slot command
+    → ((m : Message) → In m in_time → In m l.path.node.has) → CountsFrom in_time new → CountsAll in_time new → KnowsChosen in_time new
+    → Learns x came heard t new has
+now_known x came heard t mid new has l slot command in_time e is_slot nodes source cames counts all chosen =
+    let told = inform_by x came heard (applied t.after) (at_scene t mid (scene_of t.after)) l.path mid.log slot command (known_at mid.log slot) refl source in
+    let knew : Knew mid.log new.log l.path.node.known told.0 slot command = subst (λ (y : Log). Knew mid.log y l.path.node.known told.0 slot command) (sym e) told.1 in
+    let on = later_by x.given mid.log new.log l.path.node.known told.0 slot command knew in
+    learned x came heard t mid new has l told.0 on.0 on.1
+    (learner_by x.given x.place.nodes l.path.node.has l.path.node.known told.0 slot command mid new in_time l.path.knows.learner knew is_slot nodes cames counts all chosen)
+    told.2 told.3
 
 -- where the log stays
-apply_same : (x : Scope) (came : List Arrival) (heard : Hearing) (t : Turn) (p : Path x came heard (applied t.after) t) (new : Learned) (in_time : List Message)
-    → new.log ≡ t.after.learned.log → new.nodes ≡ t.after.learned.nodes
-    → ((m : Message) → In m in_time → In m p.node.has) → CountsFrom in_time new → CountsAll in_time new → KnowsChosen in_time new
-    → Path x came heard new.log.below (joined t (applying x.place new t.after))
-apply_same x came heard t p new in_time e nodes cames counts all chosen =
-    settle x came heard t new [] (ap (λ (l : Log). l.below) e)
-    (learned x came heard t p new p.node.known [] (ap (λ (l : Log). l.below) e)
+known_before : (x : Scope) (came : List Arrival) (heard : Hearing) (t : Turn) (mid new : Learned) (has : List Message) (l : Learns x came heard t mid has) (in_time : List Message)
+    → new.log ≡ mid.log → new.nodes ≡ mid.nodes
+    → ((m : Message) → In m in_time → In m l.path.node.has) → CountsFrom in_time new → CountsAll in_time new → KnowsChosen in_time new
+    → Learns x came heard t new has
+known_before x came heard t mid new has l in_time e nodes cames counts all chosen =
+    learned x came heard t mid new has l l.path.node.known [] (ap (λ (y : Log). y.below) e)
     (record {
-      nodes = nodes ∙ p.knows.learner.nodes;
-      log = subst IsLog (sym e) p.knows.learner.log;
-      knows = λ k c h. p.knows.learner.knows k c (ap (λ (y : Log). known_at y k) (sym e) ∙ h);
-      only = λ k c h. ap (λ (y : Log). known_at y k) e ∙ p.knows.learner.only k c h;
+      nodes = nodes ∙ old.nodes;
+      log = subst IsLog (sym e) old.log;
+      knows = λ k c h. old.knows k c (ap (λ (y : Log). known_at y k) (sym e) ∙ h);
+      only = λ k c h. ap (λ (y : Log). known_at y k) e ∙ old.only k c h;
       in_time = in_time;
       came = cames;
       counts = counts;
       counts_all = all;
       knows_chosen = chosen;
     })
-    p.chain (λ cs h. h))
+    l.path.chain (λ cs h. h)
+  where
+    old : IsLearner x.place.nodes l.path.node.has l.path.node.known mid
+    old = l.path.knows.learner
+
+-- what was learned is applied
+apply : (x : Scope) (came : List Arrival) (heard : Hearing) (t : Turn) (new : Learned) (has : List Message) → Learns x came heard t new has
+    → Path x came heard new.log.below (joined t (applying x.place new t.after))
+apply x came heard t new has l = settle x came heard t new l.later l.goes_on l.path
 
 -- ---- a node's vote is counted
 
@@ -262,54 +299,110 @@ vote_counted g n has known old new from ballot slot command answer l below opens
       subst (KnowsChosen (m ∷ l.in_time)) en (g.answers_known l.in_time old from ballot slot command l.log at low ok l.counts l.counts_all l.knows_chosen),
     )
 
-count_by : (x : Scope) (came : List Arrival) (heard : Hearing) (t : Turn) (from : ℕ) (ballot : Ballot) (slot : ℕ) (command : Command) (ahead done other : Bool)
-    (p : Path x came heard (applied t.after) t) → In (Accepted from ballot slot command) p.node.has → from < x.place.nodes
-    → is_open t.after.learned.log slot ≡ ahead → completes t.after.learned from ballot slot command ≡ done → is_other (known_at t.after.learned.log slot) command ≡ other
-    → (answer : Result (Option Learnt) SlotFault) → answer_to t.after.learned from ballot slot command ≡ answer
-    → answer ≡ (if not ahead then Ok None else if not done then Ok None else if other then Err KnownOther else Ok (Some (record { slot = slot; command = command })))
-    → (new : Learned) → hearing t.after.learned from ballot slot command ≡ new
-    → new ≡ (if not ahead then t.after.learned else if not done then counting t.after.learned from ballot slot command else if other then t.after.learned
-    else knowing (counting t.after.learned from ballot slot command) slot command)
-    → Goes x came heard (behind t (learning x.place answer new t.after))
-count_by x came heard t from ballot slot command false done other p had below eo ed er (Err f) ea answers new en is = absurd (cc)
-count_by x came heard t from ballot slot command false done other p had below eo ed er (Ok a) ea answers new en is =
-    let l = p.knows.learner in
-    let same : t.after.learned ≡ new = sym is in
-    apply_same x came heard t p new l.in_time (ap (λ (y : Learned). y.log) is) (ap (λ (y : Learned). y.nodes) is) l.came
-    (subst (CountsFrom l.in_time) same l.counts) (subst (CountsAll l.in_time) same l.counts_all) (subst (KnowsChosen l.in_time) same l.knows_chosen)
-count_by x came heard t from ballot slot command true false other p had below eo ed er (Err f) ea answers new en is = absurd (cc)
-count_by x came heard t from ballot slot command true false other p had below eo ed er (Ok a) ea answers new en is =
-    let l = p.knows.learner in
-    let m : Message = Accepted from ballot slot command in
-    let counts = vote_counted x.given x.place.nodes p.node.has p.node.known t.after.learned new from ballot slot command a l below eo ea en in
-    apply_same x came heard t p new (m ∷ l.in_time) (ap (λ (y : Learned). y.log) is) (ap (λ (y : Learned). y.nodes) is) (in_time_had l.in_time p.node.has m had l.came)
-    counts.0 counts.1 counts.2
-count_by x came heard t from ballot slot command true true true p had below eo ed er answer ea answers new en is =
-    let l = p.knows.learner in
-    let m : Message = Accepted from ballot slot command in
-    let chosen : IsChosenIn x.place.nodes p.node.has ballot slot command =
+-- chosen by the votes that are had, where this one completes them
+completed : (x : Scope) (came : List Arrival) (heard : Hearing) (upto : List Command) (t : Turn) (p : Path x came heard upto t) (from : ℕ) (ballot : Ballot) (slot : ℕ) (command : Command)
+    → In (Accepted from ballot slot command) p.node.has → is_open t.after.learned.log slot ≡ true → completes t.after.learned from ballot slot command ≡ true
+    → IsChosenIn x.place.nodes p.node.has ballot slot command
+completed x came heard upto t p from ballot slot command had opens done =
     chosen_more t.after.learned.nodes x.place.nodes (m ∷ l.in_time) p.node.has ballot slot command l.nodes (in_time_had l.in_time p.node.has m had l.came)
-    (x.given.completed (m ∷ l.in_time) t.after.learned from ballot slot command (x.given.more l.in_time t.after.learned m l.counts) (inl refl) (open_means t.after.learned.log slot eo) ed) in
-    let clash : true ≡ false = sym er ∙ no_conflict x came heard (applied t.after) t p slot command (inl (ballot, chosen)) in absurd (cc)
-count_by x came heard t from ballot slot command true true false p had below eo ed er (Err f) ea answers new en is = absurd (cc)
-count_by x came heard t from ballot slot command true true false p had below eo ed er (Ok a) ea answers new en is =
-    let l = p.knows.learner in
-    let at : IsOpen t.after.learned.log slot = open_means t.after.learned.log slot eo in
-    let m : Message = Accepted from ballot slot command in
-    let counts = vote_counted x.given x.place.nodes p.node.has p.node.known t.after.learned new from ballot slot command a l below eo ea en in
-    let chosen : IsChosenIn x.place.nodes p.node.has ballot slot command =
-    chosen_more t.after.learned.nodes x.place.nodes (m ∷ l.in_time) p.node.has ballot slot command l.nodes (in_time_had l.in_time p.node.has m had l.came)
-    (x.given.completed (m ∷ l.in_time) t.after.learned from ballot slot command (x.given.more l.in_time t.after.learned m l.counts) (inl refl) at ed) in
-    apply_known x came heard t p new slot command (m ∷ l.in_time) (ap (λ (y : Learned). y.log) is) at.is_slot (ap (λ (y : Learned). y.nodes) is) (inl (ballot, chosen))
-    (in_time_had l.in_time p.node.has m had l.came) counts.0 counts.1 counts.2
+    (x.given.completed (m ∷ l.in_time) t.after.learned from ballot slot command (x.given.more l.in_time t.after.learned m l.counts) (inl refl) (open_means t.after.learned.log slot opens) done)
+  where
+    m : Message
+    m = Accepted from ballot slot command
 
--- a vote that the node has is counted, and what it completes is applied
-pub count : (x : Scope) (came : List Arrival) (heard : Hearing) (t : Turn) (from : ℕ) (ballot : Ballot) (slot : ℕ) (command : Command)
-    (p : Path x came heard (applied t.after) t) → In (Accepted from ballot slot command) p.node.has → from < x.place.nodes
-    → Goes x came heard (behind t (counting_vote x.place from ballot slot command t.after))
-count x came heard t from ballot slot command p had below =
-    count_by x came heard t from ballot slot command _ _ _ p had below refl refl refl (answer_to t.after.learned from ballot slot command) refl refl
-    (hearing t.after.learned from ballot slot command) refl refl
+    l : IsLearner x.place.nodes p.node.has p.node.known t.after.learned
+    l = p.knows.learner
+
+-- a vote that the node has isn't refused
+pub not_refused : (x : Scope) (came : List Arrival) (heard : Hearing) (upto : List Command) (t : Turn) (p : Path x came heard upto t) (from : ℕ) (ballot : Ballot) (slot : ℕ) (command : Command)
+    → In (Accepted from ballot slot command) p.node.has → is_err (answer_to t.after.learned from ballot slot command) ≡ false
+not_refused x came heard upto t p from ballot slot command had =
+    by_tests (is_open t.after.learned.log slot) (completes t.after.learned from ballot slot command) (is_other (known_at t.after.learned.log slot) command) refl refl refl
+  where
+    by_tests : (ahead done other : Bool) → is_open t.after.learned.log slot ≡ ahead → completes t.after.learned from ballot slot command ≡ done
+        → is_other (known_at t.after.learned.log slot) command ≡ other
+        → is_err (let r : Result (Option Learnt) SlotFault = if not ahead then Ok None else if not done then Ok None else if other then Err KnownOther
+        else Ok (Some (record { slot = slot; command = command })) in r) ≡ false
+    by_tests false done other eo ed er = refl
+    by_tests true false other eo ed er = refl
+    by_tests true true false eo ed er = refl
+    by_tests true true true eo ed er =
+        let clash : true ≡ false = sym er ∙ no_conflict x came heard upto t p slot command (inl (ballot, completed x came heard upto t p from ballot slot command had eo ed)) in absurd (cc)
+
+hear_by : (x : Scope) (came : List Arrival) (heard : Hearing) (t : Turn) (mid : Learned) (has : List Message) (from : ℕ) (ballot : Ballot) (slot : ℕ) (command : Command) (ahead done other : Bool)
+    (l : Learns x came heard t mid has) → In (Accepted from ballot slot command) l.path.node.has → from < x.place.nodes
+    → is_open mid.log slot ≡ ahead → completes mid from ballot slot command ≡ done → is_other (known_at mid.log slot) command ≡ other
+    → (answer : Result (Option Learnt) SlotFault) → answer_to mid from ballot slot command ≡ answer
+    → answer ≡ (if not ahead then Ok None else if not done then Ok None else if other then Err KnownOther else Ok (Some (record { slot = slot; command = command })))
+    → (new : Learned) → hearing mid from ballot slot command ≡ new
+    → new ≡ (if not ahead then mid else if not done then counting mid from ballot slot command else if other then mid
+    else knowing (counting mid from ballot slot command) slot command)
+    → Learns x came heard t new has
+hear_by x came heard t mid has from ballot slot command false done other l had below eo ed er answer ea answers new en is =
+    subst (λ (y : Learned). Learns x came heard t y has) (sym is) l
+hear_by x came heard t mid has from ballot slot command true false other l had below eo ed er (Err f) ea answers new en is = absurd (cc)
+hear_by x came heard t mid has from ballot slot command true false other l had below eo ed er (Ok a) ea answers new en is =
+    let k = l.path.knows.learner in
+    let m : Message = Accepted from ballot slot command in
+    let counts = vote_counted x.given x.place.nodes l.path.node.has l.path.node.known mid new from ballot slot command a k below eo ea en in
+    known_before x came heard t mid new has l (m ∷ k.in_time) (ap (λ (y : Learned). y.log) is) (ap (λ (y : Learned). y.nodes) is) (in_time_had k.in_time l.path.node.has m had k.came)
+    counts.0 counts.1 counts.2
+hear_by x came heard t mid has from ballot slot command true true true l had below eo ed er answer ea answers new en is =
+    let clash : true ≡ false = sym er ∙ no_conflict x came heard (applied t.after) (at_scene t mid (scene_of t.after)) l.path slot command
+    (inl (ballot, completed x came heard (applied t.after) (at_scene t mid (scene_of t.after)) l.path from ballot slot command had eo ed)) in absurd (cc)
+hear_by x came heard t mid has from ballot slot command true true false l had below eo ed er (Err f) ea answers new en is = absurd (cc)
+hear_by x came heard t mid has from ballot slot command true true false l had below eo ed er (Ok a) ea answers new en is =
+    let k = l.path.knows.learner in
+    let m : Message = Accepted from ballot slot command in
+    let counts = vote_counted x.given x.place.nodes l.path.node.has l.path.node.known mid new from ballot slot command a k below eo ea en in
+    now_known x came heard t mid new has l slot command (m ∷ k.in_time) (ap (λ (y : Learned). y.log) is) (open_means mid.log slot eo).is_slot (ap (λ (y : Learned). y.nodes) is)
+    (inl (ballot, completed x came heard (applied t.after) (at_scene t mid (scene_of t.after)) l.path from ballot slot command had eo ed))
+    (in_time_had k.in_time l.path.node.has m had k.came) counts.0 counts.1 counts.2
+
+-- a vote that the node has is counted, and nothing applied yet
+hear : (x : Scope) (came : List Arrival) (heard : Hearing) (t : Turn) (mid : Learned) (has : List Message) (from : ℕ) (ballot : Ballot) (slot : ℕ) (command : Command)
+    → Learns x came heard t mid has → In (Accepted from ballot slot command) has → from < x.place.nodes
+    → Learns x came heard t (hearing mid from ballot slot command) has
+hear x came heard t mid has from ballot slot command l had below =
+    hear_by x came heard t mid has from ballot slot command _ _ _ l (l.had (Accepted from ballot slot command) had) below refl refl refl
+    (answer_to mid from ballot slot command) refl refl (hearing mid from ballot slot command) refl refl
+
+hear_each : (x : Scope) (came : List Arrival) (heard : Hearing) (t : Turn) (mid : Learned) (has : List Message) (from : ℕ) (ballot : Ballot) (slot : ℕ) (commands : List Command)
+    → Learns x came heard t mid has → Within (answers from ballot slot commands) has → from < x.place.nodes
+    → Learns x came heard t (hearing_each mid from ballot slot commands) has
+unfolding hearing_each
+hear_each x came heard t mid has from ballot slot [] l had below = l
+hear_each x came heard t mid has from ballot slot (command ∷ later) l had below =
+    hear_each x came heard t (hearing mid from ballot slot command) has from ballot (slot + 1) later
+    (hear x came heard t mid has from ballot slot command l (had (Accepted from ballot slot command) (inl refl)) below) (λ m h. had m (inr h)) below
+
+-- votes that the node has aren't refused
+pub none_refused : (x : Scope) (came : List Arrival) (heard : Hearing) (upto : List Command) (t : Turn) (p : Path x came heard upto t) (from : ℕ) (ballot : Ballot) (slot : ℕ) (commands : List Command)
+    → Within (answers from ballot slot commands) p.node.has → is_refused t.after.learned from ballot slot commands ≡ false
+unfolding is_refused
+none_refused x came heard upto t p from ballot slot [] had = refl
+none_refused x came heard upto t p from ballot slot (command ∷ later) had =
+    ap (λ (b : Bool). if b then true else is_refused t.after.learned from ballot (slot + 1) later)
+    (not_refused x came heard upto t p from ballot slot command (had (Accepted from ballot slot command) (inl refl)))
+    ∙ none_refused x came heard upto t p from ballot (slot + 1) later (λ m h. had m (inr h))
+
+-- where none is, all are heard, and then what the front has passed is applied
+pub heard_is : (place : Place) (from : ℕ) (ballot : Ballot) (slot : ℕ) (commands : List Command) (s : Standing) → is_refused s.learned from ballot slot commands ≡ false
+    → counting_votes place from ballot slot commands s ≡ Ok (applying place (hearing_each s.learned from ballot slot commands) s)
+heard_is place from ballot slot commands s none = λ j.
+    learning place (let r : Result (List Bool) SlotFault = if none j then Err KnownOther
+    else Ok (chosen_each s.learned from ballot slot commands ++ replicate (WINDOW - length commands) false) in r)
+    (if none j then s.learned else hearing_each s.learned from ballot slot commands) s
+
+-- votes of a node that the node has are counted, and what they complete is applied
+pub count : (x : Scope) (came : List Arrival) (heard : Hearing) (t : Turn) (from : ℕ) (ballot : Ballot) (slot : ℕ) (commands : List Command)
+    (p : Path x came heard (applied t.after) t) → Within (answers from ballot slot commands) p.node.has → from < x.place.nodes
+    → Goes x came heard (behind t (counting_votes x.place from ballot slot commands t.after))
+count x came heard t from ballot slot commands p had below =
+    subst (λ (r : Result Turn Refusal). Goes x came heard (behind t r))
+    (sym (heard_is x.place from ballot slot commands t.after (none_refused x came heard (applied t.after) t p from ballot slot commands had)))
+    (apply x came heard t (hearing_each t.after.learned from ballot slot commands) p.node.has
+    (hear_each x came heard t t.after.learned p.node.has from ballot slot commands (unlearned x came heard t p) had below))
 
 -- ---- what is told as chosen
 
@@ -322,20 +415,20 @@ tell_by : (x : Scope) (came : List Arrival) (heard : Hearing) (t : Turn) (sender
     → Goes x came heard (behind t (learning x.place answer new t.after))
 tell_by x came heard t sender slot command false other p had sent eo er (Err f) answers new en is = absurd (cc)
 tell_by x came heard t sender slot command false other p had sent eo er (Ok a) answers new en is =
-    let l = p.knows.learner in
-    let same : t.after.learned ≡ new = sym is in
-    apply_same x came heard t p new l.in_time (ap (λ (y : Learned). y.log) is) (ap (λ (y : Learned). y.nodes) is) l.came
-    (subst (CountsFrom l.in_time) same l.counts) (subst (CountsAll l.in_time) same l.counts_all) (subst (KnowsChosen l.in_time) same l.knows_chosen)
+    apply x came heard t new p.node.has (subst (λ (y : Learned). Learns x came heard t y p.node.has) (sym is) (unlearned x came heard t p))
 tell_by x came heard t sender slot command true true p had sent eo er answer answers new en is =
     let clash : true ≡ false = sym er ∙ no_conflict x came heard (applied t.after) t p slot command (inr (sender, sent)) in absurd (cc)
 tell_by x came heard t sender slot command true false p had sent eo er (Err f) answers new en is = absurd (cc)
 tell_by x came heard t sender slot command true false p had sent eo er (Ok a) answers new en is =
-    let l = p.knows.learner in
+    let first = unlearned x came heard t p in
+    let l = first.path.knows.learner in
     let g = x.given in
-    apply_known x came heard t p new slot command l.in_time (ap (λ (y : Learned). y.log) is) (open_means t.after.learned.log slot eo).is_slot (ap (λ (y : Learned). y.nodes) is) (inr (sender, had)) l.came
+    apply x came heard t new p.node.has
+    (now_known x came heard t t.after.learned new p.node.has first slot command l.in_time (ap (λ (y : Learned). y.log) is) (open_means t.after.learned.log slot eo).is_slot (ap (λ (y : Learned). y.nodes) is)
+    (inr (sender, first.had (Chosen sender slot command) had)) l.came
     (subst (CountsFrom l.in_time) en (g.chosen_counts l.in_time t.after.learned slot command l.counts))
     (subst (CountsAll l.in_time) en (g.chosen_counts_all l.in_time t.after.learned slot command l.counts_all))
-    (subst (KnowsChosen l.in_time) en (g.chosen_known l.in_time t.after.learned slot command l.log l.knows_chosen))
+    (subst (KnowsChosen l.in_time) en (g.chosen_known l.in_time t.after.learned slot command l.log l.knows_chosen)))
 
 -- what another node tells as chosen is known, and applied
 pub tell : (x : Scope) (came : List Arrival) (heard : Hearing) (t : Turn) (sender slot : ℕ) (command : Command)

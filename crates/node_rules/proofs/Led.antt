@@ -51,7 +51,7 @@ pub message_splits : (g : Given) (own : ℕ → Command → Bool) (place : Place
 message_splits g own place world s st up from bytes message read comes =
     let x : Scope = scope g own place world s st (call.Frame from bytes) in
     splits x [] (hearing_of s (first_in x)) (taking place from message (seeing message s))
-    (taken x s from message refl (runs_in g own place world s st up true (came_in (call.Frame from bytes))) (ap (said_in from) read)
+    (taken x s from message (g.has_commands bytes message read) refl (runs_in g own place world s st up true (came_in (call.Frame from bytes))) (ap (said_in from) read)
     (subst (λ (r : Result Wire FrameFault). IsSent place world.ever from (said_in from r)) read comes))
 
 -- a piece that was heard

@@ -8,12 +8,14 @@ mod Sent
 mod Keeping
 mod Paths
 mod Steps
+mod Together
 mod Promising
 mod Showing
 pub mod Passing
 mod Settling
 mod Learning
 mod Voting
+pub mod Ones
 mod Asking
 pub mod Asked
 mod Closing

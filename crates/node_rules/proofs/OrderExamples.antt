@@ -28,8 +28,8 @@ ordered = done (and_then (ordering (place 0) dealt_0) (closing (place 0)))
 
 -- the player to act is played for, and that is proposed at the front
 order_is_proposed : ordered.frames
-    ≡ to 1 (Accept (ballot 1 0) 1 (Away 0 0)) ∷ to 2 (Accept (ballot 1 0) 1 (Away 0 0))
-    ∷ to 1 (Accepted (ballot 1 0) 1 (Away 0 0)) ∷ to 2 (Accepted (ballot 1 0) 1 (Away 0 0)) ∷ []
+    ≡ to 1 (Accept (ballot 1 0) 1 (Away 0 0 ∷ [])) ∷ to 2 (Accept (ballot 1 0) 1 (Away 0 0 ∷ []))
+    ∷ to 1 (Accepted (ballot 1 0) 1 (Away 0 0 ∷ [])) ∷ to 2 (Accepted (ballot 1 0) 1 (Away 0 0 ∷ [])) ∷ []
 unfolding opened
 order_is_proposed = refl
 

@@ -69,6 +69,14 @@ sees_own messages m promise seen low sees = record {
   some = elim sees.some [ inl none ↦ inl none | inr told ↦ inr (told_more messages m seen told) ];
 }
 
+-- a message of another node comes whose ballots were seen
+pub sees_again : (messages : List Message) (m : Message) (promise seen : Ballot) → ((b : Ballot) → In b (ballots_in m) → AtMost b seen) → Sees messages promise seen
+    → Sees (m ∷ messages) promise seen
+sees_again messages m promise seen low sees = record {
+  all = λ b h. elim (told_split messages m b h) [ inl new ↦ inl (low b new) | inr old ↦ sees.all b old ];
+  some = elim sees.some [ inl none ↦ inl none | inr told ↦ inr (told_more messages m seen told) ];
+}
+
 -- the promise goes up
 pub sees_up : (messages : List Message) (promise new seen : Ballot) → AtMost promise new → Sees messages promise seen → Sees messages new seen
 sees_up messages promise new seen up sees = record {

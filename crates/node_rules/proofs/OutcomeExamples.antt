@@ -1,5 +1,5 @@
 -- Proposals and votes of three nodes, worked out.
-use Rattle.std.proofs.Common.{◌≡◌, ℕ, zero, suc, ◌<◌, ◌≤◌, ◌+◌, inl, inr, Bool, true, false, List, [], ◌∷◌, Option, Some, None, refl, sym, ap, subst, arith, replicate}
+use Rattle.std.proofs.Common.{◌≡◌, ℕ, zero, suc, ◌<◌, ◌≤◌, ◌+◌, inl, inr, Bool, true, false, true≢false, List, [], ◌∷◌, Option, Some, None, refl, sym, ap, subst, ◌∙◌, arith, replicate, length}
 use Rattle.paxos_wire.specs.declared.ballot.Ballot.{Ballot}
 use Rattle.paxos_wire.specs.declared.entry.Entry.{Entry}
 use Rattle.betting.specs.declared.action.Action.TheVariants.{Fold}
@@ -7,8 +7,10 @@ use Rattle.slot_log.specs.declared.command.Command.{Command}
 use Rattle.slot_log.specs.declared.command.Command.TheVariants.{Act}
 use Rattle.protocol_model.specs.Sets.{In}
 use Rattle.protocol_model.specs.Ballots.{AtMost}
-use Rattle.protocol_model.specs.Messages.{Vote, Message, Prepare, Promise, Refuse, Accept, Accepted}
-use Rattle.protocol_model.specs.Quorums.{IsGreatestTold}
+use Rattle.protocol_model.specs.Messages.{Vote, entry_of, Message, Prepare, Promise, Refuse, Accept, Accepted}
+use Rattle.protocol_model.specs.Frames.{answers}
+use Rattle.protocol_model.specs.Votes.{command_run_at}
+use Rattle.protocol_model.specs.Quorums.{HasPromise, IsTold, IsFree, IsGreatestTold}
 use Rattle.protocol_model.specs.Stores.{Store, empty_store, promised, voted}
 use Rattle.protocol_model.specs.Nodes.{Node, new_node}
 use Rattle.proposer.specs.Counted.{HasQuorum}
@@ -19,9 +21,11 @@ use Rattle.node_rules.specs.Turns.{still}
 use Rattle.node_rules.specs.Proposed.{IsValue, IsProposed, IsSettled}
 use Rattle.node_rules.specs.Being.{Campaigns, Stands}
 use Rattle.node_rules.specs.Outcomes.{IsElected, HasValue, HasProposed, IsAhead, Brings, came, own_vote}
+use Rattle.node_rules.specs.LawsRuns.{AreTold, EndsAt, IsProposal}
 use Rattle.node_rules.specs.LawsValue.{IsOwnValue}
 use Rattle.node_rules.specs.Calls.{Tick}
-use Rattle.node_rules.proofs.Examples.{opened, setting, deal_by, place, ballot, dealt, store_0, campaign_0, leads_0, dealt_0, told}
+use Rattle.protocol_model.proofs.Quorums.{one_is_no_quorum}
+use Rattle.node_rules.proofs.Examples.{opened, setting, deal_by, place, ballot, dealt, two, store_0, campaign_0, leads_0, dealt_0, told}
 
 -- ---- the value of a slot
 
@@ -34,8 +38,8 @@ abbrev both_of : ℕ → Bool
 both_of zero = false
 both_of (suc node) = true
 
-told_is_the_value : IsValue 3 had (ballot 2 2) 0 (Some (dealt 2)) (dealt 0)
-told_is_the_value = inl (
+told_here : IsGreatestTold 3 had (ballot 2 2) 0 (dealt 0)
+told_here = (
   ballot 1 0,
   (1, 0, told ∷ [], inl refl, inl refl),
   (both_of, omega arith, λ node below is. promise_of node below is),
@@ -48,6 +52,79 @@ told_is_the_value = inl (
         (0, told ∷ [], inl refl, (omega arith, omega arith), λ entry h same. elim h [ inl e ↦ subst (λ (k : Entry). AtMost k.ballot (ballot 1 0)) (sym e) (inr (refl, omega arith)) | inr none ↦ absurd none ])
     promise_of (suc (suc zero)) below is = (0, [], inr (inl refl), (omega arith, omega arith), λ entry h same. absurd h)
     promise_of (suc (suc (suc node))) below is = absurd (omega arith)
+
+told_is_the_value : IsValue 3 had (ballot 2 2) 0 (Some (dealt 2)) (dealt 0)
+told_is_the_value = inl told_here
+
+-- ---- what a proposal has in it
+
+told_is_proposed : IsProposal 3 had (Some (dealt 2)) [] (ballot 2 2) 0 0 (dealt 0 ∷ [])
+told_is_proposed = inl (omega arith, (told_here, tt), inl refl)
+
+-- of the slot behind none is told
+hole_is_refuted : AreTold 3 had (ballot 2 2) 0 two → ⊥
+hole_is_refuted told_all = of_message told_all.1.0.1
+  where
+    of_message : IsTold had (ballot 2 2) 1 (record { ballot = told_all.1.0.0; command = Act 0 0 Fold }) → ⊥
+    of_message (node, f, entries, inl e, inside) =
+        let same : entries ≡ told ∷ [] = cc in
+        elim (subst (λ (l : List Entry). In (entry_of 1 (record { ballot = told_all.1.0.0; command = Act 0 0 Fold })) l) same inside) [
+          | inl one ↦ (let slot : 1 ≡ 0 = ap (λ (k : Entry). k.slot) one in absurd (omega (arith, slot)))
+          | inr none ↦ absurd none
+        ]
+    of_message (node, f, entries, inr (inl e), inside) =
+        let same : entries ≡ [] = cc in absurd (subst (λ (l : List Entry). In (entry_of 1 (record { ballot = told_all.1.0.0; command = Act 0 0 Fold })) l) same inside)
+    of_message (node, f, entries, inr (inr none), inside) = absurd none
+
+-- a node's own deal with an act behind it is none, where nothing is told
+own_with_more_is_refuted : IsProposal 3 [] (Some (dealt 0)) [] (ballot 2 2) 0 0 two → ⊥
+own_with_more_is_refuted (inl told_all) = told_all.1.0.1.3
+own_with_more_is_refuted (inr alone) = let few : 2 ≡ 1 = ap length alone.1 in absurd (omega (arith, few))
+
+-- node 1 tells of both
+abbrev both_told : List Entry
+both_told = told ∷ record { slot = 1; ballot = ballot 1 0; command = Act 0 0 Fold } ∷ []
+
+abbrev had_both : List Message
+had_both = Promise 1 (ballot 2 2) 0 both_told ∷ Promise 2 (ballot 2 2) 0 [] ∷ []
+
+second_is_not_free : IsFree 3 had_both (ballot 2 2) 1 → ⊥
+second_is_not_free (quorum, most, promises) = by_nodes (quorum 0) refl (quorum 1) refl
+  where
+    of_node_0 : HasPromise had_both 0 (ballot 2 2) 1 (λ entry. ⊥) → ⊥
+    of_node_0 (f, entries, inl e, covers, none) = cc
+    of_node_0 (f, entries, inr (inl e), covers, none) = cc
+    of_node_0 (f, entries, inr (inr h), covers, none) = absurd h
+
+    of_node_1 : HasPromise had_both 1 (ballot 2 2) 1 (λ entry. ⊥) → ⊥
+    of_node_1 (f, entries, inl e, covers, none) =
+        let same : entries ≡ both_told = cc in
+        none (record { slot = 1; ballot = ballot 1 0; command = Act 0 0 Fold })
+        (subst (λ (l : List Entry). In (record { slot = 1; ballot = ballot 1 0; command = Act 0 0 Fold }) l) (sym same) (inr (inl refl))) refl
+    of_node_1 (f, entries, inr (inl e), covers, none) = cc
+    of_node_1 (f, entries, inr (inr h), covers, none) = absurd h
+
+    only_node_2 : quorum 0 ≡ false → quorum 1 ≡ false → (node : ℕ) → node < 3 → quorum node ≡ true → node ≡ 2
+    only_node_2 e f zero below is = absurd (true≢false (sym is ∙ e))
+    only_node_2 e f (suc zero) below is = absurd (true≢false (sym is ∙ f))
+    only_node_2 e f (suc (suc zero)) below is = refl
+    only_node_2 e f (suc (suc (suc node))) below is = absurd (omega arith)
+
+    by_nodes : (a : Bool) → quorum 0 ≡ a → (b : Bool) → quorum 1 ≡ b → ⊥
+    by_nodes true e b f = of_node_0 (promises 0 (omega arith) e)
+    by_nodes false e true f = of_node_1 (promises 1 (omega arith) f)
+    by_nodes false e false f = one_is_no_quorum 3 2 quorum (omega arith) (only_node_2 e f) most
+
+-- so told commands don't end before it
+cut_short_is_refuted : EndsAt 3 had_both [] (ballot 2 2) 0 1 → ⊥
+cut_short_is_refuted (inl window) = absurd (omega (arith, window))
+cut_short_is_refuted (inr (inl last)) = absurd (omega (arith, last))
+cut_short_is_refuted (inr (inr (inl free))) = second_is_not_free free
+cut_short_is_refuted (inr (inr (inr made))) = absurd made.1
+
+-- and end where something was proposed
+ends_at_a_proposal : EndsAt 3 had_both (Accept (ballot 2 2) 1 (Act 0 0 Fold) ∷ []) (ballot 2 2) 0 1
+ends_at_a_proposal = inr (inr (inr (Act 0 0 Fold, inl refl)))
 
 -- ---- a node that leads
 
@@ -205,9 +282,15 @@ beyond_is_not_ahead h = let l = h.within in omega arith
 -- ---- votes
 
 -- a tick brings no vote
-tick_brings_none : Brings (place 0) leads_0 Tick leader 1 (ballot 1 0) 0 (dealt 0) → ⊥
+tick_brings_none : Brings (place 0) leads_0 Tick 1 (ballot 1 0) 0 (dealt 0) → ⊥
 tick_brings_none (came h) = h
-tick_brings_none (own_vote proposed h up mine held) = h
+tick_brings_none (own_vote from first bytes commands is read up mine told) = cc
+
+-- of an Accept of two of which one stands in the store in its ballot already, no vote for the other is told
+only_the_first_is_told : (k : ℕ) (command : Command) → In (Accepted 1 (ballot 1 0) k command) (answers 1 (ballot 1 0) 0 (command_run_at store_0 (ballot 1 0) 0 two)) → k ≡ 0
+unfolding opened
+only_the_first_is_told k command (inl e) = cc
+only_the_first_is_told k command (inr none) = absurd none
 
 -- two votes of three are a quorum's; who knows nothing then has passed them over
 votes_passed_over_are_refuted : KnowsChosen (Accepted 1 (ballot 1 0) 0 (dealt 0) ∷ Accepted 0 (ballot 1 0) 0 (dealt 0) ∷ []) (new_learned 3) → ⊥

@@ -13,6 +13,7 @@ use Rattle.proposer.specs.declared.accept.Accept.{Accept as Made}
 use Rattle.proposer.specs.declared.fault.ProposeFault.{ProposeFault}
 use Rattle.proposer.specs.declared.fault.ProposeFault.TheVariants.{OutOfWindow}
 use Rattle.proposer.specs.Campaigns.{leads, next_ballot, has_quorum, is_covered, is_proposed, accept_of, value_of, greatest_told}
+use Rattle.proposer.specs.CommandRuns.{run_of_one}
 use Rattle.dealer_kind.specs.Plans.{HasNodes}
 use Rattle.node_rules.specs.Standings.{Place, Standing, front_of}
 use Rattle.node_rules.specs.Turns.{Turn, Refusal, Spent, still, joined, behind, and_then}
@@ -110,7 +111,7 @@ settled_rests place s settled = by_lead (leads place.nodes s.campaign) refl
   where
     by_lead : (b : Bool) → leads place.nodes s.campaign ≡ b → IsRest place s
     by_lead true e = record { in_range = ap (λ b. b && nat_le SLOTS (front_of s)) e ∙ (settled e).0; nothing = (settled e).1 }
-    by_lead false e = record { in_range = ap (λ b. b && nat_le SLOTS (front_of s)) e; nothing = unled_by place.nodes s.campaign (front_of s) (own_value place s) e }
+    by_lead false e = record { in_range = ap (λ b. b && nat_le SLOTS (front_of s)) e; nothing = ap run_of_one (unled_by place.nodes s.campaign (front_of s) (own_value place s) e) }
 
 -- a ballot that was just begun has nothing to propose
 begun_rests : (g : Given) (place : Place) (ballot : Ballot) (s : Standing) → HasNodes place.nodes → IsRest place (beginning place ballot s).after
@@ -119,8 +120,8 @@ begun_rests g place ballot s few =
     let after : Standing = (beginning place ballot s).after in
     record {
       in_range = ap (λ b. b && nat_le SLOTS (front_of s)) (no_quorum g place ballot s few);
-      nothing = waits_by (has_quorum place.nodes c) (is_covered c.first (front_of s)) (is_proposed c (front_of s))
-          (accept_of c (front_of s) (value_of (greatest_told c (front_of s) place.nodes) (own_value place after))) (no_quorum g place ballot s few);
+      nothing = ap run_of_one (waits_by (has_quorum place.nodes c) (is_covered c.first (front_of s)) (is_proposed c (front_of s))
+          (accept_of c (front_of s) (value_of (greatest_told c (front_of s) place.nodes) (own_value place after))) (no_quorum g place ballot s few));
     }
 
 -- ---- the turn

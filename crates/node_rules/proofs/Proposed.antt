@@ -1,5 +1,5 @@
 -- What a node proposed, as it gets and sends messages, learns and votes.
-use Rattle.std.proofs.Common.{◌≡◌, ◌≢◌, ℕ, ◌<◌, ◌≤◌, ◌⊎◌, inl, inr, Bool, true, false, if◌then◌else◌, ◌&&◌, List, [], ◌∷◌, ◌++◌, Option, Some, None, sym, ap, subst, ◌∙◌, arith, length}
+use Rattle.std.proofs.Common.{◌≡◌, ℕ, ◌<◌, ◌≤◌, ◌⊎◌, inl, inr, Bool, true, false, if◌then◌else◌, ◌&&◌, List, [], ◌∷◌, ◌++◌, Option, Some, None, sym, ap, subst, ◌∙◌, arith, length}
 use Rattle.std.specs.Prelude.{is_none}
 use Rattle.std.proofs.lemmas.List.{length-append}
 use Rattle.paxos_wire.specs.declared.ballot.Ballot.{Ballot}
@@ -80,14 +80,6 @@ promised_proposed n i upto at own store ballot has more sent others up low befor
     none_proposed n i upto at own (promised store ballot) more others (λ b s c h. p.ballots b s c (before b s c h))
     (λ s c h. not_below ballot store.promise (low ballot s c (before ballot s c h)) up)
 
--- another node's ballot is voted for
-pub voted_proposed : (n i : ℕ) (upto : List Command) (at : ℕ) (own : Option Command) (store : Store) (slot : ℕ) (vote : Vote) (has sent more : List Message) → vote.ballot.node ≢ i
-    → ((b : Ballot) (s : ℕ) (c : Command) → In (Accept b s c) more → In (Accept b s c) sent)
-    → IsProposed n i upto at own store has sent → IsProposed n i upto at own (voted store slot vote) has more
-voted_proposed n i upto at own store slot vote has sent more other before p =
-    none_proposed n i upto at own (voted store slot vote) has more (λ b s c h. p.ballots b s c (before b s c h))
-    (λ s c h. other (p.ballots vote.ballot s c (before vote.ballot s c h)))
-
 -- ---- a proposal
 
 pub accept_is : (a b : Ballot) (s t : ℕ) (c d : Command) → ◌≡◌ {A = Message} (Accept a s c) (Accept b t d) → (a ≡ b) × (s ≡ t) × (c ≡ d)
@@ -143,18 +135,18 @@ made_proposed n i upto own store has sent ballot slot command promised_is at min
 
 -- ---- more is known, applied, and waits
 
--- the front moves on, or nothing changes
-pub learned_proposed : (n i : ℕ) (place : Place) (s : Standing) (new : Learned) (later : List Command) (store : Store) (has sent : List Message)
-    → new.log.below ≡ later ++ applied s → IsProposed n i (applied s) (length (applied s)) (own_value place s) store has sent
-    → IsProposed n i (applied s) (length new.log.below) (own_value place (record s { learned = new })) store has sent
-learned_proposed n i place s new [] store has sent e p =
-    subst (λ (l : List Command). IsProposed n i (applied s) (length l) (own_value place (record s { learned = record new { log = record new.log { below = l } } })) store has sent) (sym e) p
-learned_proposed n i place s new (c ∷ later) store has sent e p = record {
+-- the front moves on over what was applied, or nothing changes
+pub learned_proposed : (n i : ℕ) (place : Place) (s : Standing) (upto : List Command) (new : Learned) (later : List Command) (store : Store) (has sent : List Message)
+    → length upto ≤ length (applied s) → new.log.below ≡ later ++ applied s → IsProposed n i upto (length (applied s)) (own_value place s) store has sent
+    → IsProposed n i upto (length new.log.below) (own_value place (record s { learned = new })) store has sent
+learned_proposed n i place s upto new [] store has sent low e p =
+    subst (λ (l : List Command). IsProposed n i upto (length l) (own_value place (record s { learned = record new { log = record new.log { below = l } } })) store has sent) (sym e) p
+learned_proposed n i place s upto new (c ∷ later) store has sent low e p = record {
   ballots = p.ballots;
   voted = p.voted;
   told = p.told;
-  by_rule = λ d h. beyond n has store.promise (length new.log.below) (own_value place (record s { learned = new })) d (applied s)
-      (let k = ap length e ∙ length-append (c ∷ later) (applied s) in omega (arith, k)) (p.told (length new.log.below) d h);
+  by_rule = λ d h. beyond n has store.promise (length new.log.below) (own_value place (record s { learned = new })) d upto
+      (let k = ap length e ∙ length-append (c ∷ later) (applied s) in omega (arith, k, low)) (p.told (length new.log.below) d h);
 }
 
 -- a command below the front is applied

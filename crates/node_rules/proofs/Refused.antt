@@ -10,13 +10,14 @@ use Rattle.slot_log.specs.declared.slot_fault.SlotFault.{SlotFault}
 use Rattle.protocol_model.specs.Worlds.{World}
 use Rattle.paxos_wire.specs.Order.{is_below}
 use Rattle.proposer.specs.Campaigns.{next_ballot}
-use Rattle.learner.specs.Learning.{Learned, answer_to, hearing, answer_to_chosen, believing as with_chosen}
+use Rattle.learner.specs.Learning.{Learned, answer_to_chosen, believing as with_chosen}
+use Rattle.learner.specs.CommandRuns.{hearing_run, answer_to_run}
 use Rattle.node_rules.specs.Standings.{Place, Standing, front_of, with_stored, idle}
 use Rattle.node_rules.specs.Sending.{Frame, to_others}
 use Rattle.node_rules.specs.Turns.{Turn, Refusal, Down, Spent, BadFrame, Conflict, NothingToAct, still, sending, joined, behind, and_then}
 use Rattle.node_rules.specs.Applying.{applying}
 use Rattle.node_rules.specs.Learning.{learning, asking_on}
-use Rattle.protocol_model.specs.Votes.{stored_in, storing}
+use Rattle.protocol_model.specs.Votes.{command_run_at, taking_command_run}
 use Rattle.node_rules.specs.Accepting.{refusing, voting}
 use Rattle.node_rules.specs.Proposing.{greatest_seen, is_over, is_spent, beginning}
 use Rattle.node_rules.specs.Seats.{connecting, dropping}
@@ -52,23 +53,23 @@ conflicts_asking place (Ok answer) learned s from why e harmless =
     ok_not (joined (applying place learned s) (asking_on from (front_of s) (applying place learned s).after)) why e
 conflicts_asking place (Err fault) learned s from why e harmless = subst IsHarmless (sym (err_is (Conflict s.store) why e)) harmless
 
-accept_conflicts : (place : Place) (from : ℕ) (ballot : Ballot) (slot : ℕ) (command : Command) (s : Standing) (why : Refusal) (b : Bool)
-    → (if b then Ok (refusing from ballot slot s) else voting place ballot slot command (idle s)) ≡ Err why → IsHarmless why → ⊥
-accept_conflicts place from ballot slot command s why true e harmless = ok_not (refusing from ballot slot s) why e
-accept_conflicts place from ballot slot command s why false e harmless =
-    let stored : Command = stored_in (s.store.votes slot) ballot command in
-    let kept : Standing = with_stored (idle s) (storing s.store ballot slot command) in
-    conflicts_behind place (answer_to kept.learned place.node ballot slot stored) (hearing kept.learned place.node ballot slot stored) kept (to_others place (frame.Accepted ballot slot stored)) why e harmless
+accept_conflicts : (place : Place) (from : ℕ) (ballot : Ballot) (slot : ℕ) (commands : List Command) (s : Standing) (why : Refusal) (b : Bool)
+    → (if b then Ok (refusing from ballot slot s) else voting place ballot slot commands (idle s)) ≡ Err why → IsHarmless why → ⊥
+accept_conflicts place from ballot slot commands s why true e harmless = ok_not (refusing from ballot slot s) why e
+accept_conflicts place from ballot slot commands s why false e harmless =
+    let told : List Command = command_run_at s.store ballot slot commands in
+    let kept : Standing = with_stored (idle s) (taking_command_run s.store ballot slot commands) in
+    conflicts_behind place (answer_to_run kept.learned place.node ballot slot told) (hearing_run kept.learned place.node ballot slot told) kept (to_others place (frame.Accepted ballot slot told)) why e harmless
 
 message_conflicts : (place : Place) (s : Standing) (from : ℕ) (message : Wire) (why : Refusal) → taking place from message (seeing message s) ≡ Err why → IsHarmless why → ⊥
 message_conflicts place s from (frame.Prepare ballot slot) why e harmless = ok_not _ why e
 message_conflicts place s from (frame.Promise ballot slot told) why e harmless = ok_not _ why e
 message_conflicts place s from (frame.Refuse ballot slot promised) why e harmless = ok_not _ why e
-message_conflicts place s from (frame.Accept ballot slot command) why e harmless =
-    let s0 : Standing = seeing (frame.Accept ballot slot command) s in accept_conflicts place from ballot slot command s0 why (is_below ballot s0.store.promise) e harmless
-message_conflicts place s from (frame.Accepted ballot slot command) why e harmless =
-    let s0 : Standing = seeing (frame.Accepted ballot slot command) s in
-    conflicts place (answer_to s0.learned from ballot slot command) (hearing s0.learned from ballot slot command) s0 why e harmless
+message_conflicts place s from (frame.Accept ballot slot commands) why e harmless =
+    let s0 : Standing = seeing (frame.Accept ballot slot commands) s in accept_conflicts place from ballot slot commands s0 why (is_below ballot s0.store.promise) e harmless
+message_conflicts place s from (frame.Accepted ballot slot commands) why e harmless =
+    let s0 : Standing = seeing (frame.Accepted ballot slot commands) s in
+    conflicts place (answer_to_run s0.learned from ballot slot commands) (hearing_run s0.learned from ballot slot commands) s0 why e harmless
 message_conflicts place s from (frame.Chosen slot command) why e harmless =
     let s0 : Standing = seeing (frame.Chosen slot command) s in
     conflicts_asking place (answer_to_chosen s0.learned.log slot command) (with_chosen s0.learned slot command) s0 from why e harmless
@@ -101,7 +102,7 @@ refused_up g own place world s (call.Frame from bytes) why st up comes h = by_re
     by_read (Ok message) e =
         let x : Scope = scope g own place world s st (call.Frame from bytes) in
         let goes : Goes x _ (hearing_of s (first_in x)) (taking place from message (seeing message s)) =
-        taken x s from message refl (runs_in g own place world s st up true (came_in (call.Frame from bytes))) (ap (said_in from) e)
+        taken x s from message (g.has_commands bytes message e) refl (runs_in g own place world s st up true (came_in (call.Frame from bytes))) (ap (said_in from) e)
         (subst (λ (r : Result Wire FrameFault). IsSent place world.ever from (said_in from r)) e comes) in
         absurd (elim (message_splits g own place world s st up from bytes message e comes) [
           | inl split ↦ ok_not (joined (joined split.first split.closes.turn) (asking from message split.closes.turn.after)) why

@@ -1,5 +1,5 @@
 -- How a close ends: it proposes at most once, and then nothing is left to propose.
-use Rattle.std.proofs.Common.{◌≡◌, ◌<◌, ◌⊎◌, inl, inr, Bool, true, false, true≢false, if◌then◌else◌, ◌&&◌, List, [], ◌++◌, Option, Some, None, Result, Ok, Err, refl, sym, ap, subst, ◌∙◌, arith}
+use Rattle.std.proofs.Common.{◌≡◌, ◌<◌, ◌⊎◌, inl, inr, Bool, true, false, true≢false, if◌then◌else◌, ◌&&◌, List, [], ◌∷◌, ◌++◌, Option, Some, None, Result, Ok, Err, refl, sym, ap, subst, ◌∙◌, arith}
 use Rattle.std.specs.Prelude.{nat_le, IsOk}
 use Rattle.std.proofs.lemmas.Bool.{leb-false}
 use Rattle.paxos_wire.specs.declared.limits.TheConstants.{SLOTS}
@@ -18,7 +18,10 @@ use Rattle.learner.specs.Learning.{Learned, answer_to, hearing}
 use Rattle.node_rules.specs.Standings.{Place, Standing, applied, front_of, with_stored, idle}
 use Rattle.node_rules.specs.Sending.{to_others}
 use Rattle.node_rules.specs.Turns.{Turn, Refusal, still, joined, behind, and_then}
-use Rattle.node_rules.specs.Proposing.{own_value, proposing, closing_by, proposal_at, closing}
+use Rattle.node_rules.specs.Proposing.{own_value, closing_by, proposal_at, closing}
+use Rattle.proposer.specs.declared.accept_run.AcceptRun.{AcceptRun}
+use Rattle.proposer.specs.CommandRuns.{run_of_one, marked_run_from}
+use Rattle.node_rules.proofs.Ones.{proposing_one, one_at, closing_by_one, closes_one, unmarked_run}
 use Rattle.node_rules.specs.Being.{Campaigns}
 use Rattle.node_rules.proofs.Paths.{Hearing, Scope, Path, Goes}
 use Rattle.node_rules.proofs.Closing.{IsMade, made_by, campaigns_of, unmarked}
@@ -31,12 +34,12 @@ pub record IsRest (place : Place) (s : Standing) : Type 0 where
   pub nothing : proposal_at place s ≡ Ok None
 
 -- then a close changes nothing
-rest_by : (place : Place) (s : Standing) (b : Bool) (r : Result (Option Made) ProposeFault) → b ≡ false → r ≡ Ok None
-    → ◌≡◌ {A = Result Turn Refusal} (if b then Ok (still (idle s)) else closing_by place r (record s { campaign = marked_from s.campaign r })) (Ok (still s))
+rest_by : (place : Place) (s : Standing) (b : Bool) (r : Result (Option AcceptRun) ProposeFault) → b ≡ false → r ≡ Ok None
+    → ◌≡◌ {A = Result Turn Refusal} (if b then Ok (still (idle s)) else closing_by place r (record s { campaign = marked_run_from s.campaign r })) (Ok (still s))
 rest_by place s true r eb er = absurd (true≢false eb)
 rest_by place s false (Ok (Some made)) eb er = absurd (let e = er in cc)
 rest_by place s false (Err fault) eb er = absurd (let e = er in cc)
-rest_by place s false (Ok None) eb er = ap (λ (c : Option Campaign). let r : Result Turn Refusal = Ok (still (record s { campaign = c })) in r) (unmarked s.campaign)
+rest_by place s false (Ok None) eb er = ap (λ (c : Option Campaign). let r : Result Turn Refusal = Ok (still (record s { campaign = c })) in r) (unmarked_run s.campaign)
 
 pub rest_closes : (place : Place) (s : Standing) → IsRest place s → closing place s ≡ Ok (still s)
 rest_closes place s r = rest_by place s (leads place.nodes s.campaign && nat_le SLOTS (front_of s)) (proposal_at place s) r.in_range r.nothing
@@ -45,7 +48,7 @@ rest_closes place s r = rest_by place s (leads place.nodes s.campaign && nat_le 
 pub idle_rests : (place : Place) (s : Standing) → s.campaign ≡ None → IsRest place s
 idle_rests place s e = record {
   in_range = ap (λ (c : Option Campaign). leads place.nodes c && nat_le SLOTS (front_of s)) e;
-  nothing = ap (λ (c : Option Campaign). proposal_from place.nodes c (front_of s) (own_value place s)) e;
+  nothing = ap (λ (c : Option Campaign). run_of_one (proposal_from place.nodes c (front_of s) (own_value place s))) e;
 }
 
 -- ---- how a close ends
@@ -68,7 +71,7 @@ pub data Closed (place : Place) (s : Standing) (turn : Turn) : Type 0 where
       → CountsOwn place s made learned → learned.log ≡ s.learned.log
       → turn ≡ record {
         after = record (with_stored s (voted s.store made.slot (vote_of_made made))) { campaign = Some campaign; learned = learned };
-        frames = to_others place (frame.Accept made.ballot made.slot made.command) ++ to_others place (frame.Accepted made.ballot made.slot made.command);
+        frames = to_others place (frame.Accept made.ballot made.slot (made.command ∷ [])) ++ to_others place (frame.Accepted made.ballot made.slot (made.command ∷ []));
         shown = [];
         faults = [];
       } → Closed place s turn
@@ -81,11 +84,11 @@ pub record Closes (place : Place) (s : Standing) (outcome : Result Turn Refusal)
 
 pub close_is : (x : Scope) (came : List Arrival) (heard : Hearing) (t : Turn) (p : Path x came heard (applied t.after) t)
     → Closes x.place t.after (closing x.place t.after)
-close_is x came heard t p = close_by (leads x.place.nodes t.after.campaign && nat_le SLOTS (front_of t.after)) refl
+close_is x came heard t p = subst (Closes x.place t.after) (sym (closes_one x.given x.place t.after)) (close_by (leads x.place.nodes t.after.campaign && nat_le SLOTS (front_of t.after)) refl)
   where
     by_campaign : (made : Made) → (leads x.place.nodes t.after.campaign && nat_le SLOTS (front_of t.after)) ≡ false
         → (found : (f : Campaign) × IsMade x.place t.after f made)
-        → Closes x.place t.after (proposing x.place made (record t.after { campaign = marked_from t.after.campaign (Ok (Some made)) }))
+        → Closes x.place t.after (proposing_one x.place made (record t.after { campaign = marked_from t.after.campaign (Ok (Some made)) }))
     by_campaign made in_range (c, is) = record {
       turn = turn_made x.place t.after c made;
       is = made_turn x.place t.after c made is.has shows;
@@ -94,9 +97,9 @@ close_is x came heard t p = close_by (leads x.place.nodes t.after.campaign && na
       rest = record {
         in_range = ap (λ (l : Log). has_quorum x.place.nodes c && nat_le SLOTS (front l)) shows.over.log
             ∙ (ap (λ (y : Option Campaign). leads x.place.nodes y && nat_le SLOTS (front_of t.after)) (sym is.has) ∙ in_range);
-        nothing = ap (λ (l : Log). proposal_by x.place.nodes (with_mark c (Ok (Some made))) (front l) (own_value x.place (standing_made x.place t.after c made))) shows.over.log
+        nothing = ap run_of_one (ap (λ (l : Log). proposal_by x.place.nodes (with_mark c (Ok (Some made))) (front l) (own_value x.place (standing_made x.place t.after c made))) shows.over.log
             ∙ marked_none x.place.nodes (with_mark c (Ok (Some made))) (front_of t.after) (own_value x.place (standing_made x.place t.after c made)) shows.proposal.covered
-            (marked_at c (front_of t.after) made shows.places shows.proposal.covered shows.proposal.slot);
+            (marked_at c (front_of t.after) made shows.places shows.proposal.covered shows.proposal.slot));
       };
     }
       where
@@ -119,13 +122,13 @@ close_is x came heard t p = close_by (leads x.place.nodes t.after.campaign && na
         left = let l = leb-false SLOTS (front_of t.after) (and_left (has_quorum x.place.nodes c) (nat_le SLOTS (front_of t.after)) shows.proposal.quorum
             (ap (λ (y : Option Campaign). leads x.place.nodes y && nat_le SLOTS (front_of t.after)) (sym is.has) ∙ in_range)) in omega (arith, l)
 
-    closes_by : (leads x.place.nodes t.after.campaign && nat_le SLOTS (front_of t.after)) ≡ false → (r : Result (Option Made) ProposeFault) → proposal_at x.place t.after ≡ r
-        → Closes x.place t.after (closing_by x.place r (record t.after { campaign = marked_from t.after.campaign r }))
+    closes_by : (leads x.place.nodes t.after.campaign && nat_le SLOTS (front_of t.after)) ≡ false → (r : Result (Option Made) ProposeFault) → one_at x.place t.after ≡ r
+        → Closes x.place t.after (closing_by_one x.place r (record t.after { campaign = marked_from t.after.campaign r }))
     closes_by in_range (Ok None) e = record {
       turn = still (record t.after { campaign = marked_from t.after.campaign (Ok None) });
       is = refl;
       closed = rests (marked_from t.after.campaign (Ok None)) refl;
-      rest = subst (λ (c : Option Campaign). IsRest x.place (record t.after { campaign = c })) (sym (unmarked t.after.campaign)) (record { in_range = in_range; nothing = e });
+      rest = subst (λ (c : Option Campaign). IsRest x.place (record t.after { campaign = c })) (sym (unmarked t.after.campaign)) (record { in_range = in_range; nothing = ap run_of_one e });
     }
     closes_by in_range (Err fault) e = record {
       turn = still (idle t.after);
@@ -137,9 +140,9 @@ close_is x came heard t p = close_by (leads x.place.nodes t.after.campaign && na
 
     close_by : (b : Bool) → (leads x.place.nodes t.after.campaign && nat_le SLOTS (front_of t.after)) ≡ b
         → Closes x.place t.after (if b then Ok (still (idle t.after))
-        else closing_by x.place (proposal_at x.place t.after) (record t.after { campaign = marked_from t.after.campaign (proposal_at x.place t.after) }))
+        else closing_by_one x.place (one_at x.place t.after) (record t.after { campaign = marked_from t.after.campaign (one_at x.place t.after) }))
     close_by true e = record { turn = still (idle t.after); is = refl; closed = rests None refl; rest = idle_rests x.place (idle t.after) refl }
-    close_by false e = closes_by e (proposal_at x.place t.after) refl
+    close_by false e = closes_by e (one_at x.place t.after) refl
 
 -- ---- a rule and then the close
 

@@ -12,7 +12,8 @@ use Rattle.protocol_model.specs.Stores.{Store}
 use Rattle.protocol_model.specs.Worlds.{World}
 use Rattle.paxos_wire.specs.Order.{is_below}
 use Rattle.proposer.specs.Campaigns.{next_ballot}
-use Rattle.learner.specs.Learning.{Learned, answer_to, hearing as counts, answer_to_chosen, believing as with_chosen}
+use Rattle.learner.specs.Learning.{Learned, answer_to_chosen, believing as with_chosen}
+use Rattle.learner.specs.CommandRuns.{answer_to_run, hearing_run as counts}
 use Rattle.seat_session.specs.Session.{Standing as Talk, fresh, with_piece, is_closed, Waits, AnswersOpen, Answers}
 use Rattle.seat_session.specs.declared.phase.Phase.{Phase}
 use Rattle.seat_session.specs.declared.phase.Phase.TheVariants.{Greeting, Ready as InPlay, Closed as IsOver}
@@ -27,7 +28,7 @@ use Rattle.node_rules.specs.Showing.{SeatFault, is_connected}
 use Rattle.node_rules.specs.Turns.{Turn, Refusal, Spent, Conflict, still, sending, joined, behind, and_then}
 use Rattle.node_rules.specs.Applying.{applying}
 use Rattle.node_rules.specs.Learning.{learning, asking_on, telling}
-use Rattle.protocol_model.specs.Votes.{stored_in, storing}
+use Rattle.protocol_model.specs.Votes.{command_run_at, taking_command_run}
 use Rattle.node_rules.specs.Accepting.{preparing, promising, refusing, voting}
 use Rattle.node_rules.specs.Proposing.{greatest_seen, is_over, is_spent, beginning}
 use Rattle.node_rules.specs.Seats.{session_at, with_session, connecting, dropping, left, answering, answering_all, Drains, HearsPiece}
@@ -316,13 +317,13 @@ prepare_faults : (from : ℕ) (ballot : Ballot) (slot : ℕ) (s : Standing) (b :
 prepare_faults from ballot slot s true = refl
 prepare_faults from ballot slot s false = refl
 
-accept_faults : (place : Place) (from : ℕ) (ballot : Ballot) (slot : ℕ) (command : Command) (s : Standing) (first : Turn) (b : Bool)
-    → (if b then Ok (refusing from ballot slot s) else voting place ballot slot command (idle s)) ≡ Ok first → first.faults ≡ []
-accept_faults place from ballot slot command s first true h = ap (λ (t : Turn). t.faults) (sym (ok_is (refusing from ballot slot s) first h))
-accept_faults place from ballot slot command s first false h =
-    let stored : Command = stored_in (s.store.votes slot) ballot command in
-    let kept : Standing = with_stored (idle s) (storing s.store ballot slot command) in
-    voted_faults place (answer_to kept.learned place.node ballot slot stored) (counts kept.learned place.node ballot slot stored) kept (to_others place (frame.Accepted ballot slot stored)) first h
+accept_faults : (place : Place) (from : ℕ) (ballot : Ballot) (slot : ℕ) (commands : List Command) (s : Standing) (first : Turn) (b : Bool)
+    → (if b then Ok (refusing from ballot slot s) else voting place ballot slot commands (idle s)) ≡ Ok first → first.faults ≡ []
+accept_faults place from ballot slot commands s first true h = ap (λ (t : Turn). t.faults) (sym (ok_is (refusing from ballot slot s) first h))
+accept_faults place from ballot slot commands s first false h =
+    let told : List Command = command_run_at s.store ballot slot commands in
+    let kept : Standing = with_stored (idle s) (taking_command_run s.store ballot slot commands) in
+    voted_faults place (answer_to_run kept.learned place.node ballot slot told) (counts kept.learned place.node ballot slot told) kept (to_others place (frame.Accepted ballot slot told)) first h
 
 message_faults : (place : Place) (s : Standing) (from : ℕ) (message : Wire) (first : Turn) → taking place from message (seeing message s) ≡ Ok first → first.faults ≡ []
 message_faults place s from (frame.Prepare ballot slot) first is =
@@ -330,11 +331,11 @@ message_faults place s from (frame.Prepare ballot slot) first is =
     ap (λ (t : Turn). t.faults) (sym (ok_is (preparing from ballot slot s0) first is)) ∙ prepare_faults from ballot slot s0 (is_below s0.store.promise ballot)
 message_faults place s from (frame.Promise ballot slot told) first is = ap (λ (t : Turn). t.faults) (sym (ok_is _ first is))
 message_faults place s from (frame.Refuse ballot slot promised) first is = ap (λ (t : Turn). t.faults) (sym (ok_is _ first is))
-message_faults place s from (frame.Accept ballot slot command) first is =
-    let s0 : Standing = seeing (frame.Accept ballot slot command) s in accept_faults place from ballot slot command s0 first (is_below ballot s0.store.promise) is
-message_faults place s from (frame.Accepted ballot slot command) first is =
-    let s0 : Standing = seeing (frame.Accepted ballot slot command) s in
-    learned_faults place (answer_to s0.learned from ballot slot command) (counts s0.learned from ballot slot command) s0 first is
+message_faults place s from (frame.Accept ballot slot commands) first is =
+    let s0 : Standing = seeing (frame.Accept ballot slot commands) s in accept_faults place from ballot slot commands s0 first (is_below ballot s0.store.promise) is
+message_faults place s from (frame.Accepted ballot slot commands) first is =
+    let s0 : Standing = seeing (frame.Accepted ballot slot commands) s in
+    learned_faults place (answer_to_run s0.learned from ballot slot commands) (counts s0.learned from ballot slot commands) s0 first is
 message_faults place s from (frame.Chosen slot command) first is =
     let s0 : Standing = seeing (frame.Chosen slot command) s in
     chosen_faults place (answer_to_chosen s0.learned.log slot command) (with_chosen s0.learned slot command) s0 from first is

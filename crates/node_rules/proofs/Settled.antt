@@ -30,9 +30,10 @@ use Rattle.node_rules.specs.Standings.{Place, Standing, applied, front_of, with_
 use Rattle.node_rules.specs.Sending.{Frame, to_others}
 use Rattle.node_rules.specs.Turns.{Turn, Refusal, still, sending, joined, behind, and_then}
 use Rattle.node_rules.specs.Applying.{passed, taking_all, scene_of, applying}
-use Rattle.node_rules.specs.Learning.{learning, counting_vote}
+use Rattle.node_rules.specs.Learning.{learning}
 use Rattle.protocol_model.specs.Votes.{is_of_ballot, storing}
-use Rattle.node_rules.specs.Proposing.{own_value, proposing, closing_by, proposal_at, closing}
+use Rattle.node_rules.specs.Proposing.{own_value, closing}
+use Rattle.proposer.specs.CommandRuns.{run_of_one}
 use Rattle.node_rules.specs.Being.{Campaigns}
 use Rattle.node_rules.specs.Proposed.{IsSettled}
 use Rattle.node_rules.specs.Rules.{asking}
@@ -43,6 +44,7 @@ use Rattle.node_rules.proofs.Learning.{world_now}
 use Rattle.node_rules.proofs.Asked.{asked_same}
 use Rattle.node_rules.proofs.Closing.{IsMade, made_by, campaigns_of, none_of_ballot, stored_new, unmarked}
 use Rattle.node_rules.proofs.Sourcing.{had_was_sent}
+use Rattle.node_rules.proofs.Ones.{counting_one, proposing_one, one_at, closing_by_one, closes_one}
 
 -- ---- a node's own vote is no quorum
 
@@ -177,7 +179,7 @@ applying_same place new s e = λ j. record {
 
 -- a vote that completes nothing shows nothing
 pub counted_is : (place : Place) (from : ℕ) (ballot : Ballot) (slot : ℕ) (command : Command) (s : Standing) → PassesOver s.learned from ballot slot command
-    → counting_vote place from ballot slot command s ≡ Ok (still (record s { learned = hearing s.learned from ballot slot command }))
+    → counting_one place from ballot slot command s ≡ Ok (still (record s { learned = hearing s.learned from ballot slot command }))
 counted_is place from ballot slot command s p =
     ap (λ (a : Result (Option Learnt) SlotFault). learning place a (hearing s.learned from ballot slot command) s) p.answer
     ∙ ap (λ (t : Turn). let r : Result Turn Refusal = Ok t in r) (applying_same place (hearing s.learned from ballot slot command) s p.log)
@@ -197,20 +199,20 @@ standing_made place s c made = record s {
 abbrev pub turn_made : Place → Standing → Campaign → Made → Turn
 turn_made place s c made = record {
   after = standing_made place s c made;
-  frames = to_others place (frame.Accept made.ballot made.slot made.command) ++ to_others place (frame.Accepted made.ballot made.slot made.command);
+  frames = to_others place (frame.Accept made.ballot made.slot (made.command ∷ [])) ++ to_others place (frame.Accepted made.ballot made.slot (made.command ∷ []));
   shown = [];
   faults = [];
 }
 
 proposing_is : (place : Place) (made : Made) (s : Standing) → is_of_ballot (s.store.votes made.slot) made.ballot ≡ false
     → PassesOver s.learned place.node made.ballot made.slot made.command
-    → proposing place made s ≡ Ok (record {
+    → proposing_one place made s ≡ Ok (record {
       after = record s {
         store = voted s.store made.slot (record { ballot = made.ballot; command = made.command });
         begun = voted s.store made.slot (record { ballot = made.ballot; command = made.command });
         learned = hearing s.learned place.node made.ballot made.slot made.command;
       };
-      frames = to_others place (frame.Accept made.ballot made.slot made.command) ++ to_others place (frame.Accepted made.ballot made.slot made.command);
+      frames = to_others place (frame.Accept made.ballot made.slot (made.command ∷ [])) ++ to_others place (frame.Accepted made.ballot made.slot (made.command ∷ []));
       shown = [];
       faults = [];
     })
@@ -220,22 +222,22 @@ proposing_is place made s fresh over =
     ∙ (ap (λ (r : Result Turn Refusal). behind u (behind (v made.command store) r)) (counted_is place place.node made.ballot made.slot made.command (with_stored s store) over)
     ∙ ap (λ (l : List Frame). let r : Result Turn Refusal = Ok (record {
       after = record (with_stored s store) { learned = hearing s.learned place.node made.ballot made.slot made.command };
-      frames = to_others place (frame.Accept made.ballot made.slot made.command) ++ l;
+      frames = to_others place (frame.Accept made.ballot made.slot (made.command ∷ [])) ++ l;
       shown = [];
       faults = [];
-    }) in r) (append-nil (to_others place (frame.Accepted made.ballot made.slot made.command)))))
+    }) in r) (append-nil (to_others place (frame.Accepted made.ballot made.slot (made.command ∷ []))))))
   where
     u : Turn
-    u = sending (to_others place (frame.Accept made.ballot made.slot made.command)) s
+    u = sending (to_others place (frame.Accept made.ballot made.slot (made.command ∷ []))) s
 
     v : Command → Store → Turn
-    v k st = sending (to_others place (frame.Accepted made.ballot made.slot k)) (with_stored s st)
+    v k st = sending (to_others place (frame.Accepted made.ballot made.slot (k ∷ []))) (with_stored s st)
 
     store : Store
     store = voted s.store made.slot (record { ballot = made.ballot; command = made.command })
 
     by_stored : Command → Store → Result Turn Refusal
-    by_stored k st = behind u (behind (v k st) (counting_vote place place.node made.ballot made.slot k (with_stored s st)))
+    by_stored k st = behind u (behind (v k st) (counting_one place place.node made.ballot made.slot k (with_stored s st)))
 
 -- what the path of a proposal shows
 pub record Fresh (place : Place) (s : Standing) (c : Campaign) (made : Made) : Type 0 where
@@ -284,9 +286,9 @@ fresh x came heard t p c made is = record {
         (open_means t.after.learned.log made.slot ahead) done))
 
 pub made_turn : (place : Place) (s : Standing) (c : Campaign) (made : Made) → s.campaign ≡ Some c → Fresh place s c made
-    → proposing place made (record s { campaign = marked_from s.campaign (Ok (Some made)) }) ≡ Ok (turn_made place s c made)
+    → proposing_one place made (record s { campaign = marked_from s.campaign (Ok (Some made)) }) ≡ Ok (turn_made place s c made)
 made_turn place s c made has f =
-    ap (λ (y : Option Campaign). proposing place made (record s { campaign = marked_from y (Ok (Some made)) })) has
+    ap (λ (y : Option Campaign). proposing_one place made (record s { campaign = marked_from y (Ok (Some made)) })) has
     ∙ proposing_is place made (record s { campaign = Some (with_mark c (Ok (Some made))) }) f.unvoted f.over
 
 -- ---- nothing is left to propose
@@ -302,9 +304,9 @@ made_settled : (place : Place) (s : Standing) (c : Campaign) (made : Made) → s
     → IsSettled place (standing_made place s c made)
 made_settled place s c made has room f leads_on = (
   ap (λ (l : Log). nat_le SLOTS (front l)) f_log ∙ and_left (leads place.nodes s.campaign) (nat_le SLOTS (front_of s)) (ap (leads place.nodes) has ∙ f.proposal.quorum) room,
-  ap (λ (l : Log). proposal_by place.nodes marked (front l) (own_value place (standing_made place s c made))) f_log
+  ap run_of_one (ap (λ (l : Log). proposal_by place.nodes marked (front l) (own_value place (standing_made place s c made))) f_log
       ∙ marked_none place.nodes marked (front_of s) (own_value place (standing_made place s c made)) f.proposal.covered
-      (marked_at c (front_of s) made f.places f.proposal.covered f.proposal.slot),
+      (marked_at c (front_of s) made f.places f.proposal.covered f.proposal.slot)),
 )
   where
     marked : Campaign
@@ -314,8 +316,8 @@ made_settled place s c made has room f leads_on = (
     f_log = ap (λ (l : Log). l) f.over.log
 
 closed_by : (x : Scope) (came : List Arrival) (heard : Hearing) (t : Turn) (p : Path x came heard (applied t.after) t) (b : Bool) (r : Result (Option Made) ProposeFault) (c : Turn)
-    → (leads x.place.nodes t.after.campaign && nat_le SLOTS (front_of t.after)) ≡ b → proposal_at x.place t.after ≡ r
-    → (if b then Ok (still (idle t.after)) else closing_by x.place r (record t.after { campaign = marked_from t.after.campaign r })) ≡ Ok c → IsSettled x.place c.after
+    → (leads x.place.nodes t.after.campaign && nat_le SLOTS (front_of t.after)) ≡ b → one_at x.place t.after ≡ r
+    → (if b then Ok (still (idle t.after)) else closing_by_one x.place r (record t.after { campaign = marked_from t.after.campaign r })) ≡ Ok c → IsSettled x.place c.after
 closed_by x came heard t p true r c eb er e = subst (λ (y : Turn). IsSettled x.place y.after) (ok_is (still (idle t.after)) c e) (unled x.place t.after)
 closed_by x came heard t p false (Err fault) c eb er e =
     subst (λ (y : Turn). IsSettled x.place y.after) (ok_is (still (idle (record t.after { campaign = marked_from t.after.campaign (Err fault) }))) c e)
@@ -323,7 +325,7 @@ closed_by x came heard t p false (Err fault) c eb er e =
 closed_by x came heard t p false (Ok None) c eb er e =
     subst (λ (y : Turn). IsSettled x.place y.after) (ok_is (still (record t.after { campaign = marked_from t.after.campaign (Ok None) })) c e)
     (subst (λ (y : Option Campaign). IsSettled x.place (record t.after { campaign = y })) (sym (unmarked t.after.campaign))
-    (λ leads_on. (and_left (leads x.place.nodes t.after.campaign) (nat_le SLOTS (front_of t.after)) leads_on eb, er)))
+    (λ leads_on. (and_left (leads x.place.nodes t.after.campaign) (nat_le SLOTS (front_of t.after)) leads_on eb, ap run_of_one er)))
 closed_by x came heard t p false (Ok (Some made)) c eb er e = by_campaign (made_by x.place t.after made t.after.campaign refl er)
   where
     by_campaign : (found : (f : Campaign) × IsMade x.place t.after f made) → IsSettled x.place c.after
@@ -334,7 +336,8 @@ closed_by x came heard t p false (Ok (Some made)) c eb er e = by_campaign (made_
 
 -- after the close of a call nothing is left to propose
 pub closed : (x : Scope) (came : List Arrival) (heard : Hearing) (t : Turn) (p : Path x came heard (applied t.after) t) (c : Turn) → closing x.place t.after ≡ Ok c → IsSettled x.place c.after
-closed x came heard t p c e = closed_by x came heard t p (leads x.place.nodes t.after.campaign && nat_le SLOTS (front_of t.after)) (proposal_at x.place t.after) c refl refl e
+closed x came heard t p c e =
+    closed_by x came heard t p (leads x.place.nodes t.after.campaign && nat_le SLOTS (front_of t.after)) (one_at x.place t.after) c refl refl (sym (closes_one x.given x.place t.after) ∙ e)
 
 -- ---- whole calls
 
@@ -370,8 +373,8 @@ pub data Closes (place : Place) (s : Standing) (c : Turn) : Type 0 where
   makes : (k : Campaign) (made : Made) → s.campaign ≡ Some k → Fresh place s k made → c ≡ turn_made place s k made → Closes place s c
 
 closes_by : (x : Scope) (came : List Arrival) (heard : Hearing) (t : Turn) (p : Path x came heard (applied t.after) t) (b : Bool) (r : Result (Option Made) ProposeFault) (c : Turn)
-    → proposal_at x.place t.after ≡ r
-    → (if b then Ok (still (idle t.after)) else closing_by x.place r (record t.after { campaign = marked_from t.after.campaign r })) ≡ Ok c → Closes x.place t.after c
+    → one_at x.place t.after ≡ r
+    → (if b then Ok (still (idle t.after)) else closing_by_one x.place r (record t.after { campaign = marked_from t.after.campaign r })) ≡ Ok c → Closes x.place t.after c
 closes_by x came heard t p true r c er e = gives_up (sym (ok_is (still (idle t.after)) c e))
 closes_by x came heard t p false (Err fault) c er e = gives_up (sym (ok_is (still (idle t.after)) c e))
 closes_by x came heard t p false (Ok None) c er e =
@@ -384,4 +387,5 @@ closes_by x came heard t p false (Ok (Some made)) c er e = by_campaign (made_by 
         makes k made is.has f (sym (ok_is (turn_made x.place t.after k made) c (sym (made_turn x.place t.after k made is.has f) ∙ e)))
 
 pub closes : (x : Scope) (came : List Arrival) (heard : Hearing) (t : Turn) (p : Path x came heard (applied t.after) t) (c : Turn) → closing x.place t.after ≡ Ok c → Closes x.place t.after c
-closes x came heard t p c e = closes_by x came heard t p (leads x.place.nodes t.after.campaign && nat_le SLOTS (front_of t.after)) (proposal_at x.place t.after) c refl e
+closes x came heard t p c e =
+    closes_by x came heard t p (leads x.place.nodes t.after.campaign && nat_le SLOTS (front_of t.after)) (one_at x.place t.after) c refl (sym (closes_one x.given x.place t.after) ∙ e)

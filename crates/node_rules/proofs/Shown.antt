@@ -363,8 +363,8 @@ message_waits : (g : Given) (own : ℕ → Command → Bool) (place : Place) (s 
 message_waits g own place s from (frame.Prepare ballot slot) first is = waits_by own place s (frame.Prepare ballot slot) first (message_applies g place s from (frame.Prepare ballot slot) first is) refl refl
 message_waits g own place s from (frame.Promise ballot slot told) first is = waits_by own place s (frame.Promise ballot slot told) first (message_applies g place s from (frame.Promise ballot slot told) first is) refl refl
 message_waits g own place s from (frame.Refuse ballot slot promised) first is = waits_by own place s (frame.Refuse ballot slot promised) first (message_applies g place s from (frame.Refuse ballot slot promised) first is) refl refl
-message_waits g own place s from (frame.Accept ballot slot command) first is = waits_by own place s (frame.Accept ballot slot command) first (message_applies g place s from (frame.Accept ballot slot command) first is) refl refl
-message_waits g own place s from (frame.Accepted ballot slot command) first is = waits_by own place s (frame.Accepted ballot slot command) first (message_applies g place s from (frame.Accepted ballot slot command) first is) refl refl
+message_waits g own place s from (frame.Accept ballot slot commands) first is = waits_by own place s (frame.Accept ballot slot commands) first (message_applies g place s from (frame.Accept ballot slot commands) first is) refl refl
+message_waits g own place s from (frame.Accepted ballot slot commands) first is = waits_by own place s (frame.Accepted ballot slot commands) first (message_applies g place s from (frame.Accepted ballot slot commands) first is) refl refl
 message_waits g own place s from (frame.Chosen slot command) first is = waits_by own place s (frame.Chosen slot command) first (message_applies g place s from (frame.Chosen slot command) first is) refl refl
 message_waits g own place s from (frame.Ask slot) first is = waits_by own place s (frame.Ask slot) first (message_applies g place s from (frame.Ask slot) first is) refl refl
 message_waits g own place s from (frame.Forward act) first is =

@@ -12,16 +12,18 @@ use Rattle.protocol_model.specs.Arrivals.{Arrival, Event}
 use Rattle.protocol_model.specs.Worlds.{World}
 use Rattle.protocol_model.specs.Messages.{Message}
 use Rattle.protocol_model.specs.Moves.{nothing, more, stops}
-use Rattle.proposer.specs.declared.accept.Accept.{Accept as Made}
+use Rattle.proposer.specs.declared.accept_run.AcceptRun.{AcceptRun}
 use Rattle.proposer.specs.declared.fault.ProposeFault.{ProposeFault}
-use Rattle.proposer.specs.Campaigns.{leads, marked_from}
-use Rattle.learner.specs.Learning.{Learned, answer_to, hearing}
+use Rattle.proposer.specs.Campaigns.{leads}
+use Rattle.learner.specs.Learning.{Learned}
 use Rattle.node_rules.specs.Standings.{Place, Standing, applied, front_of, stopped, with_stored, idle}
 use Rattle.node_rules.specs.Sending.{Frame, to_others}
 use Rattle.node_rules.specs.Showing.{Piece}
 use Rattle.node_rules.specs.Turns.{Turn, Refusal, Down, Spent, BadFrame, Conflict, NothingToAct, still, sending, behind, and_then}
-use Rattle.node_rules.specs.Learning.{learning, counting_vote}
-use Rattle.protocol_model.specs.Votes.{stored_in, storing}
+use Rattle.node_rules.specs.Learning.{learning, counting_votes}
+use Rattle.proposer.specs.CommandRuns.{marked_run_from}
+use Rattle.learner.specs.CommandRuns.{answer_to_run, hearing_run}
+use Rattle.protocol_model.specs.Votes.{command_run_at, taking_command_run}
 use Rattle.node_rules.specs.Accepting.{voting}
 use Rattle.node_rules.specs.Proposing.{proposing, closing_by, proposal_at, closing}
 use Rattle.node_rules.specs.Seats.{connecting, dropping, away_at, ordering_by}
@@ -68,7 +70,7 @@ harmless_up g own place world s r Away st up comes h = by_act (away_at place s) 
         subst (Goes x sits.came sits.heard) (sym k) (close x sits.came sits.heard (played_for place act s) refl sits.path)
 harmless_up g own place world s r (call.Frame from bytes) st up comes h =
     let x : Scope = scope_of g own place world s st true (came_in (call.Frame from bytes)) in
-    subst (Goes x [] (hearing_of s (first_in x))) (sym h) (frame_goes x s from (reading bytes) refl (runs_in g own place world s st up true (came_in (call.Frame from bytes))) refl comes)
+    subst (Goes x [] (hearing_of s (first_in x))) (sym h) (frame_goes x s from (reading bytes) (g.has_commands bytes) refl (runs_in g own place world s st up true (came_in (call.Frame from bytes))) refl comes)
 harmless_up g own place world s r (Line seat bytes) st up comes (heard, hears, e) =
     let x : Scope = scope_of g own place world s st true [] in
     let sits = (piece_sits x s seat bytes heard (runs_in g own place world s st up true []) refl comes hears).0 in
@@ -201,10 +203,10 @@ halts_up g own place world s st (call.Frame from bytes) turn up comes h =
     let x : Scope = scope_of g own place world s st false ms in
     let y : Scope = scope_of g own place world s st true ms in
     let path : Path y [] (hearing_of s (first_in y)) (applied turn.after) turn =
-    subst (Goes y [] (hearing_of s (first_in y))) (sym h) (frame_goes y s from (reading bytes) refl (runs_in g own place world s st up true ms) refl comes) in
+    subst (Goes y [] (hearing_of s (first_in y))) (sym h) (frame_goes y s from (reading bytes) (g.has_commands bytes) refl (runs_in g own place world s st up true ms) refl comes) in
     record {
       came = [];
-      halted = subst (Halted x []) (sym path.unbegun) (subst (Leaves x []) (sym h) (frame_leaves x s from (reading bytes) refl refl (runs_in g own place world s st up false ms) refl comes));
+      halted = subst (Halted x []) (sym path.unbegun) (subst (Leaves x []) (sym h) (frame_leaves x s from (reading bytes) (g.has_commands bytes) refl refl (runs_in g own place world s st up false ms) refl comes));
       happened = inl refl;
     }
 halts_up g own place world s st (Line seat bytes) turn up comes (heard, hears, e) =
@@ -317,15 +319,15 @@ unfolding OnlyConflict
 learning_only place (Ok a) new s = tt
 learning_only place (Err e) new s = tt
 
-proposing_only : (place : Place) (made : Made) (s : Standing) → OnlyConflict (proposing place made s)
+proposing_only : (place : Place) (made : AcceptRun) (s : Standing) → OnlyConflict (proposing place made s)
 proposing_only place made s =
-    let stored : Command = stored_in (s.store.votes made.slot) made.ballot made.command in
-    let after : Standing = with_stored s (storing s.store made.ballot made.slot made.command) in
-    behind_only (sending (to_others place (frame.Accept made.ballot made.slot made.command)) s) (voting place made.ballot made.slot made.command s)
-    (behind_only (sending (to_others place (frame.Accepted made.ballot made.slot stored)) after) (counting_vote place place.node made.ballot made.slot stored after)
-    (learning_only place (answer_to after.learned place.node made.ballot made.slot stored) (hearing after.learned place.node made.ballot made.slot stored) after))
+    let told : List Command = command_run_at s.store made.ballot made.slot made.commands in
+    let after : Standing = with_stored s (taking_command_run s.store made.ballot made.slot made.commands) in
+    behind_only (sending (to_others place (frame.Accept made.ballot made.slot made.commands)) s) (voting place made.ballot made.slot made.commands s)
+    (behind_only (sending (to_others place (frame.Accepted made.ballot made.slot told)) after) (counting_votes place place.node made.ballot made.slot told after)
+    (learning_only place (answer_to_run after.learned place.node made.ballot made.slot told) (hearing_run after.learned place.node made.ballot made.slot told) after))
 
-closing_by_only : (place : Place) (s t : Standing) (b : Bool) (r : Result (Option Made) ProposeFault) → OnlyConflict (if b then Ok (still (idle t)) else closing_by place r s)
+closing_by_only : (place : Place) (s t : Standing) (b : Bool) (r : Result (Option AcceptRun) ProposeFault) → OnlyConflict (if b then Ok (still (idle t)) else closing_by place r s)
 unfolding OnlyConflict
 closing_by_only place s t true r = tt
 closing_by_only place s t false (Ok (Some made)) = proposing_only place made s
@@ -334,7 +336,7 @@ closing_by_only place s t false (Err fault) = tt
 
 closing_only : (place : Place) (s : Standing) → OnlyConflict (closing place s)
 closing_only place s =
-    closing_by_only place (record s { campaign = marked_from s.campaign (proposal_at place s) }) s (leads place.nodes s.campaign && nat_le SLOTS (front_of s)) (proposal_at place s)
+    closing_by_only place (record s { campaign = marked_run_from s.campaign (proposal_at place s) }) s (leads place.nodes s.campaign && nat_le SLOTS (front_of s)) (proposal_at place s)
 
 conflict_down : (place : Place) (s : Standing) (r : Refusal) → OnlyConflict (Err r) → (standing_after place s (Err r)).up ≡ false
 unfolding OnlyConflict

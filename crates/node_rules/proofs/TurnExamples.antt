@@ -1,5 +1,5 @@
 -- Near misses of the laws of turns: what wrong nodes would do, refused.
-use Rattle.std.proofs.Common.{◌≡◌, ℕ, ◌≤◌, inl, inr, Bool, true, false, List, [], ◌∷◌, ◌++◌, Option, Some, None, Ok, Err, Result, refl, ap, sym, ◌∙◌, subst, arith}
+use Rattle.std.proofs.Common.{◌≡◌, ℕ, ◌≤◌, inl, inr, Bool, true, false, List, [], ◌∷◌, ◌++◌, Option, Some, None, Ok, Err, Result, refl, ap, sym, ◌∙◌, subst, arith, length}
 use Rattle.std.specs.Prelude.{codes}
 use Rattle.betting.specs.declared.action.Action.TheVariants.{Fold, Call}
 use Rattle.paxos_wire.specs.declared.ballot.Ballot.{Ballot}
@@ -37,7 +37,7 @@ use Rattle.node_rules.specs.LawsBacking.{IsBacked}
 use Rattle.node_rules.specs.LawsShown.{IsShownOf}
 use Rattle.node_rules.specs.LawsPending.{first_of, kept_over, WaitsUp}
 use Rattle.node_rules.specs.LawsSeats.{IsUnconnected, Leaves, goes_on, closes, faults_in}
-use Rattle.node_rules.proofs.Examples.{opened, setting, place, ballot, dealt, to, first, dealt_0}
+use Rattle.node_rules.proofs.Examples.{opened, setting, place, ballot, dealt, two, to, first, store_0, dealt_0}
 
 abbrev pub runs : Node
 runs = record new_node { up = true }
@@ -126,12 +126,29 @@ silent_on_a_prepare (sent, answer, sends) = by_answer answer (nothing sent (send
     by_answer (answers.AnswersPrepare.refuses low e) h = let clash : ◌≡◌ {A = List Frame} [] (one 0 (frame.Refuse (ballot 1 0) 0 empty_store.promise)) = sym h ∙ e in cc
 
 -- a vote that is told to its proposer alone
-vote_told_to_one : AnswersAccept (place 1) empty_store 0 (ballot 1 0) 0 (dealt 0) (one 0 (frame.Accepted (ballot 1 0) 0 (dealt 0))) → ⊥
+vote_told_to_one : AnswersAccept (place 1) empty_store 0 (ballot 1 0) 0 (dealt 0 ∷ []) (one 0 (frame.Accepted (ballot 1 0) 0 (dealt 0 ∷ []))) → ⊥
 unfolding opened
 vote_told_to_one (answers.accepts above e) =
-    let clash : one 0 (frame.Accepted (ballot 1 0) 0 (dealt 0)) ≡ to 0 (frame.Accepted (ballot 1 0) 0 (dealt 0)) ∷ to 2 (frame.Accepted (ballot 1 0) 0 (dealt 0)) ∷ [] = e in cc
+    let clash : one 0 (frame.Accepted (ballot 1 0) 0 (dealt 0 ∷ [])) ≡ to 0 (frame.Accepted (ballot 1 0) 0 (dealt 0 ∷ [])) ∷ to 2 (frame.Accepted (ballot 1 0) 0 (dealt 0 ∷ [])) ∷ [] = e in cc
 vote_told_to_one (answers.AnswersAccept.refuses low e) =
-    let clash : frame.Accepted (ballot 1 0) 0 (dealt 0) ≡ frame.Refuse (ballot 1 0) 0 empty_store.promise = ap (λ (l : List Frame). elim l [ [] ↦ frame.Ask 0 | f ∷ others ↦ f.message ]) e in cc
+    let clash : frame.Accepted (ballot 1 0) 0 (dealt 0 ∷ []) ≡ frame.Refuse (ballot 1 0) 0 empty_store.promise = ap (λ (l : List Frame). elim l [ [] ↦ frame.Ask 0 | f ∷ others ↦ f.message ]) e in cc
+
+abbrev told_in : Wire → ℕ
+told_in (frame.Accepted ballot slot commands) = length commands
+told_in other = 0
+
+abbrev told_first : List Frame → ℕ
+told_first [] = 0
+told_first (f ∷ others) = told_in f.message
+
+-- an answer for all of two commands, of which the second isn't taken, since the first stands in the store already
+answer_beyond_what_is_taken : AnswersAccept (place 1) store_0 0 (ballot 1 0) 0 two (to 0 (frame.Accepted (ballot 1 0) 0 two) ∷ to 2 (frame.Accepted (ballot 1 0) 0 two) ∷ []) → ⊥
+unfolding opened
+answer_beyond_what_is_taken (answers.accepts above e) =
+    let clash : to 0 (frame.Accepted (ballot 1 0) 0 two) ∷ to 2 (frame.Accepted (ballot 1 0) 0 two) ∷ []
+    ≡ to 0 (frame.Accepted (ballot 1 0) 0 (dealt 0 ∷ [])) ∷ to 2 (frame.Accepted (ballot 1 0) 0 (dealt 0 ∷ [])) ∷ [] = e in
+    let few : 2 ≡ 1 = ap told_first clash in absurd (omega (arith, few))
+answer_beyond_what_is_taken (answers.AnswersAccept.refuses low e) = let few : 2 ≡ 1 = ap length e in absurd (omega (arith, few))
 
 -- ---- backing
 

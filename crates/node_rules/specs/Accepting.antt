@@ -1,15 +1,15 @@
 -- What a node does as an acceptor: it promises ballots, and votes.
-use Rattle.std.specs.Prelude.{ℕ, if◌then◌else◌, Result, Ok}
+use Rattle.std.specs.Prelude.{ℕ, if◌then◌else◌, List, Result, Ok}
 use Rattle.paxos_wire.specs.declared.ballot.Ballot.{Ballot}
 use Rattle.paxos_wire.specs.declared.message.Message.TheVariants.{Promise, Refuse, Accepted}
 use Rattle.slot_log.specs.declared.command.Command.{Command}
 use Rattle.protocol_model.specs.Stores.{promised}
-use Rattle.protocol_model.specs.Votes.{told_by, stored_in, storing}
+use Rattle.protocol_model.specs.Votes.{told_by, command_run_at, taking_command_run}
 use Rattle.paxos_wire.specs.Order.{is_below}
 use Rattle.node_rules.specs.Standings.{Place, Standing, with_stored, idle}
 use Rattle.node_rules.specs.Sending.{one, to_others}
 use Rattle.node_rules.specs.Turns.{Turn, Refusal, sending, and_then}
-use Rattle.node_rules.specs.Learning.{counting_vote}
+use Rattle.node_rules.specs.Learning.{counting_votes}
 
 -- ---- promises
 
@@ -26,14 +26,15 @@ preparing from ballot slot s = if is_below s.store.promise ballot then promising
 
 -- ---- votes
 
--- the vote is stored, told to the others, and counted as that of any other node
-abbrev pub voting : Place → Ballot → ℕ → Command → Standing → Result Turn Refusal
-voting place ballot slot command s =
-    let stored = stored_in (s.store.votes slot) ballot command in
-    and_then (Ok (sending (to_others place (Accepted ballot slot stored)) (with_stored s (storing s.store ballot slot command))))
-    (counting_vote place place.node ballot slot stored)
+-- of the commands for the slot and those behind it the beginning is taken that may be: its votes are stored, told to the others, and counted as
+-- those of any other node
+abbrev pub voting : Place → Ballot → ℕ → List Command → Standing → Result Turn Refusal
+voting place ballot slot commands s =
+    let told = command_run_at s.store ballot slot commands in
+    and_then (Ok (sending (to_others place (Accepted ballot slot told)) (with_stored s (taking_command_run s.store ballot slot commands))))
+    (counting_votes place place.node ballot slot told)
 
--- a ballot that isn't below the promise is voted for, and the node leads no longer; any other is refused
-abbrev pub accepting : Place → ℕ → Ballot → ℕ → Command → Standing → Result Turn Refusal
-accepting place from ballot slot command s =
-    if is_below ballot s.store.promise then Ok (refusing from ballot slot s) else voting place ballot slot command (idle s)
+-- a ballot that isn't below the promise is voted for, and the node leads no longer; any other is refused at the first slot
+abbrev pub accepting : Place → ℕ → Ballot → ℕ → List Command → Standing → Result Turn Refusal
+accepting place from ballot slot commands s =
+    if is_below ballot s.store.promise then Ok (refusing from ballot slot s) else voting place ballot slot commands (idle s)

@@ -1,4 +1,4 @@
--- A cluster at rest, and the round that moves it one slot on.
+-- A cluster at rest, and the round that moves it on.
 use Rattle.std.specs.Prelude.{◌≡◌, ℕ, ◌+◌, ◌*◌, ◌^◌, ◌<◌, ◌≤◌, ◌⊎◌, ◌==◌, true, false, if◌then◌else◌, List, [], ◌∷◌, ◌++◌, length, map, Some}
 use Rattle.paxos_wire.specs.declared.limits.TheConstants.{SLOTS}
 use Rattle.paxos_wire.specs.declared.ballot.Ballot.{Ballot}
@@ -48,14 +48,28 @@ pub record IsGreatestHeld (standings : ℕ → Standing) (members : List ℕ) (s
   pub same : greatest.command ≡ command
   pub above : (vote : Vote) → IsHeld standings members slot vote → AtMost vote.ballot greatest.ballot
 
+-- at the slot and those behind it each has its command of the greatest ballot
+abbrev pub AreGreatestHeld : (ℕ → Standing) → List ℕ → ℕ → List Command → Type 0
+AreGreatestHeld standings members slot [] = Unit {0}
+AreGreatestHeld standings members slot (command ∷ more) = IsGreatestHeld standings members slot command × AreGreatestHeld standings members (slot + 1) more
+
+-- no member has a vote at the slot
+abbrev pub IsUnheld : (ℕ → Standing) → List ℕ → ℕ → Type 0
+IsUnheld standings members slot = (vote : Vote) → IsHeld standings members slot vote → ⊥
+
+-- where members have votes at the slot and at those behind it, the commands of these, as far as they go; as yet the first of them alone
+pub record IsToldRun (standings : ℕ → Standing) (members : List ℕ) (slot : ℕ) (commands : List Command) : Type 0 where
+  pub held : AreGreatestHeld standings members slot commands
+  pub one : length commands ≡ 1
+
 -- where no member has a vote at the slot, what the node has of its own: its deal where that fits, else the act that waits there
 abbrev pub IsOwn : Place → Standing → (ℕ → Standing) → List ℕ → ℕ → Command → Type 0
-IsOwn place s standings members slot command = ((vote : Vote) → IsHeld standings members slot vote → ⊥) × (own_value place s ≡ Some command)
+IsOwn place s standings members slot command = IsUnheld standings members slot × (own_value place s ≡ Some command)
 
 -- ---- rest
 
--- node i could move the members one slot on, to this command
-pub record Calm (place : Place) (standings : ℕ → Standing) (i : ℕ) (members : List ℕ) (command : Command) : Type 0 where
+-- node i could move the members on, to these commands at its front and behind it
+pub record Calm (place : Place) (standings : ℕ → Standing) (i : ℕ) (members : List ℕ) (commands : List Command) : Type 0 where
   pub of_node : place.node ≡ i
   pub quorum : IsLeastQuorum place.nodes members
   pub member : In i members
@@ -64,8 +78,8 @@ pub record Calm (place : Place) (standings : ℕ → Standing) (i : ℕ) (member
   pub slot_left : front_of (standings i) < SLOTS
   pub unpromised : (node : ℕ) → In node members → Below (standings node).store.promise (ballot_after i (standings i))
   pub goes_on : is_over place (standings i) ≡ false
-  pub value : IsGreatestHeld standings members (front_of (standings i)) command
-      ⊎ IsOwn place (standings i) standings members (front_of (standings i)) command
+  pub value : IsToldRun standings members (front_of (standings i)) commands
+      ⊎ ((command : Command) × (commands ≡ command ∷ []) × IsOwn place (standings i) standings members (front_of (standings i)) command)
 
 -- ---- the round
 
@@ -77,12 +91,12 @@ abbrev pub delivers : ℕ → ℕ → Message → Event
 delivers from to message = Delivers from to (frame message)
 
 -- a tick, and then four times, with each other member in order: it is asked to promise, promises, is asked to accept, and accepts
-abbrev pub round : (ℕ → Standing) → ℕ → List ℕ → Command → List Event
-round standings i members command =
+abbrev pub round : (ℕ → Standing) → ℕ → List ℕ → List Command → List Event
+round standings i members commands =
     let ballot = ballot_after i (standings i) in
     let slot = front_of (standings i) in
     let others = without i members in
     Ticks i ∷ (map (λ j. delivers i j (Prepare ballot slot)) others
     ++ (map (λ j. delivers j i (Promise ballot slot (told_by (standings j).store slot))) others
-    ++ (map (λ j. delivers i j (Accept ballot slot command)) others
-    ++ map (λ j. delivers j i (Accepted ballot slot command)) others)))
+    ++ (map (λ j. delivers i j (Accept ballot slot commands)) others
+    ++ map (λ j. delivers j i (Accepted ballot slot commands)) others)))

@@ -1,9 +1,9 @@
 -- The calm round, call by call.
-use Rattle.std.specs.Prelude.{◌≡◌, ℕ, ◌+◌, ◌*◌, ◌<◌, Bool, List, [], ◌∷◌, ◌++◌, length, map, Option, Some, Result, Ok}
+use Rattle.std.specs.Prelude.{◌≡◌, ℕ, ◌+◌, ◌*◌, ◌≤◌, Bool, List, [], ◌∷◌, ◌++◌, length, map, Option, Some, Result, Ok}
 use Rattle.paxos_wire.specs.declared.message.Message.{Message}
 use Rattle.paxos_wire.specs.Spelling.{frame}
 use Rattle.paxos_wire.specs.Faults.{reading}
-use Rattle.slot_log.specs.Slots.{known_at}
+use Rattle.slot_log.specs.Slots.{Log, known_at}
 use Rattle.slot_log.specs.declared.command.Command.{Command}
 use Rattle.slot_log.specs.declared.command.Command.TheVariants.{Deal}
 use Rattle.protocol_model.specs.Sets.{In, put}
@@ -65,9 +65,14 @@ GoOn places IsSo standings sent (event ∷ events) =
     → (turn : Turn) × (outcome ≡ Ok turn)
     × (AreReadBack turn.frames → GoOn places IsSo (put standings (node_of event) turn.after) (sent_by (node_of event) turn.frames ++ sent) events))
 
--- the node's front has passed the slot, and there it knows the command
-abbrev pub HasMovedOn : ℕ → ℕ → Command → (ℕ → Standing) → Type 0
-HasMovedOn i slot command standings = (slot < front_of (standings i)) × (known_at (standings i).learned.log slot ≡ Some command)
+-- each command is known: the first at this slot, each further one at the slot behind
+abbrev pub AreKnown : Log → ℕ → List Command → Type 0
+AreKnown log slot [] = Unit {0}
+AreKnown log slot (command ∷ more) = (known_at log slot ≡ Some command) × AreKnown log (slot + 1) more
+
+-- the node's front has passed the slot and those of the further commands, and there it knows the commands
+abbrev pub HasMovedOn : ℕ → ℕ → List Command → (ℕ → Standing) → Type 0
+HasMovedOn i slot commands standings = (slot + length commands ≤ front_of (standings i)) × AreKnown (standings i).learned.log slot commands
 
 -- the members' standings are of nodes of a reached world
 pub record AreOf (own : ℕ → Command → Bool) (setting : Setting) (n : ℕ) (deals : ℕ → ℕ → Option (List ℕ)) (world : World) (standings : ℕ → Standing) (members : List ℕ) : Type 0 where
@@ -75,16 +80,16 @@ pub record AreOf (own : ℕ → Command → Bool) (setting : Setting) (n : ℕ) 
   pub is_place : (node : ℕ) → In node members → IsPlace own (place_in setting n deals node)
   pub of : (node : ℕ) → In node members → IsOf own (place_in setting n deals node) (standings node) (world.nodes node)
 
--- a cluster at rest moves: its round goes on to the end, and then the node's front has moved past the slot, where the command is known
+-- a cluster at rest moves: its round goes on to the end, and then the node's front has moved past the commands, which are known
 abbrev pub CalmRoundMoves : Type 0
 CalmRoundMoves =
-    (own : ℕ → Command → Bool) (setting : Setting) (n : ℕ) (deals : ℕ → ℕ → Option (List ℕ)) (world : World) (standings : ℕ → Standing) (i : ℕ) (members : List ℕ) (command : Command)
-    → AreOf own setting n deals world standings members → Calm (place_in setting n deals i) standings i members command
-    → GoOn (place_in setting n deals) (HasMovedOn i (front_of (standings i)) command) standings [] (round standings i members command)
+    (own : ℕ → Command → Bool) (setting : Setting) (n : ℕ) (deals : ℕ → ℕ → Option (List ℕ)) (world : World) (standings : ℕ → Standing) (i : ℕ) (members : List ℕ) (commands : List Command)
+    → AreOf own setting n deals world standings members → Calm (place_in setting n deals i) standings i members commands
+    → GoOn (place_in setting n deals) (HasMovedOn i (front_of (standings i)) commands) standings [] (round standings i members commands)
 
 -- nodes that have just been started on empty stores are at rest: each could move each least quorum to which it belongs on to its own first deal
 abbrev pub FreshIsCalm : Type 0
 FreshIsCalm =
     (setting : Setting) (n : ℕ) (deals : ℕ → ℕ → Option (List ℕ)) (i : ℕ) (members : List ℕ) (deal : List ℕ)
     → IsSetting setting → IsLeastQuorum n members → In i members → deals i 0 ≡ Some deal → length deal ≡ 2 * setting.game.players + 5
-    → Calm (place_in setting n deals i) (λ node. started (place_in setting n deals node) empty_store) i members (Deal 0 deal)
+    → Calm (place_in setting n deals i) (λ node. started (place_in setting n deals node) empty_store) i members (Deal 0 deal ∷ [])

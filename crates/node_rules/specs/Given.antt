@@ -1,22 +1,31 @@
 -- The laws of the layers below that the laws here stand on.
-use Rattle.std.proofs.Common.{◌≡◌, ℕ, ◌<◌, ◌≤◌, ◌++◌, Bool, true, List}
+use Rattle.std.proofs.Common.{◌≡◌, ℕ, ◌+◌, ◌-◌, ◌<◌, ◌≤◌, ◌++◌, Bool, true, List, ◌∷◌, Some, Ok, length}
+use Rattle.std.specs.Prelude.{slice_get, ◌↔◌}
 use Rattle.slot_log.specs.declared.command.Command.{Command}
 use Rattle.slot_log.specs.Laws.{CommandsMakeHands, FitsWithoutReason}
 use Rattle.slot_log.specs.SlotLaws.{FrontIsFirstHole, SlotsEnd, OneMoreIsKnown, FrontsGoOn}
 use Rattle.protocol_model.specs.Sets.{In}
 use Rattle.paxos_wire.specs.declared.ballot.Ballot.{Ballot}
 use Rattle.paxos_wire.specs.declared.limits.TheConstants.{NODES}
+use Rattle.paxos_wire.specs.declared.message.Message.{Message as Wire}
+use Rattle.paxos_wire.specs.Faults.{reading}
+use Rattle.paxos_wire.specs.Fits.{HasCommands}
+use Rattle.protocol_model.specs.Ballots.{AtMost}
 use Rattle.protocol_model.specs.Messages.{Message, Prepare, Accept, Accepted, Chosen}
+use Rattle.protocol_model.specs.Frames.{proposals, answers}
+use Rattle.protocol_model.specs.CommandRuns.{answered as answered_each, sending_all}
+use Rattle.protocol_model.specs.Votes.{command_run_at, taking_command_run}
 use Rattle.protocol_model.specs.Quorums.{IsQuorum, IsChosen}
-use Rattle.protocol_model.specs.Stores.{Store}
-use Rattle.protocol_model.specs.Backing.{IsWithinPromise}
+use Rattle.protocol_model.specs.Stores.{Store, Append}
+use Rattle.protocol_model.specs.Backing.{IsWithinPromise, Backs}
 use Rattle.protocol_model.specs.Dealers.{Dealer}
 use Rattle.protocol_model.specs.Nodes.{Node}
-use Rattle.protocol_model.specs.Moves.{Output, both, Chain}
+use Rattle.protocol_model.specs.Moves.{Output, both, Chain, with_store, with_sent}
 use Rattle.protocol_model.specs.Worlds.{World, Reached, Run, IsAfter}
 use Rattle.protocol_model.specs.Laws.{IsLeft}
 use Rattle.proposer.specs.Laws as proposer
 use Rattle.learner.specs.Laws as learner
+use Rattle.learner.specs.CommandRunLaws as learner_runs
 use Rattle.match_log.specs.Laws.{CommandsAddToTheLog, LogsBeginWithTheirHeader}
 use Rattle.seat_session.specs.Laws.{WholeLines, RunsGoOn}
 use Rattle.dealer_kind.specs.Plans.{HasNodes}
@@ -44,6 +53,27 @@ pub record Given : Type 0 where
   pub own_proposal : (dealer : Dealer) (n i : ℕ) (world : World) (ballot : Ballot) (first slot : ℕ) (command : Command)
       → Reached dealer n world → In (Prepare ballot first) (world.nodes i).sent → In (Accept ballot slot command) world.ever
       → In (Accept ballot slot command) (world.nodes i).sent
+  -- what is read of an Accept or an Accepted has 1 to 64 commands
+  pub has_commands : (bytes : List ℕ) (message : Wire) → reading bytes ≡ Ok message → HasCommands message
+  -- command runs: commands for slots that follow one another
+  pub command_run_votes : (dealer : Dealer) (n i : ℕ) (ever : List Message) (old : Node) (ballot : Ballot) (slot : ℕ) (commands : List Command)
+      → old.up ≡ true → old.begun ≡ old.store → AtMost old.store.promise ballot
+      → ((message : Message) → In message (proposals ballot slot commands) → In message old.has)
+      → Chain dealer n i ever old (sending_all (answered_each i ballot slot (command_run_at old.store ballot slot commands)))
+      (with_sent (with_store old (taking_command_run old.store ballot slot commands)) (answered_each i ballot slot (command_run_at old.store ballot slot commands)))
+  pub command_run_append : (i : ℕ) (has : List Message) (store : Store) (ballot : Ballot) (slot : ℕ) (commands : List Command)
+      → AtMost store.promise ballot → ((message : Message) → In message (proposals ballot slot commands) → In message has)
+      → Append i has store (taking_command_run store ballot slot commands)
+  pub command_run_stays : (store : Store) (ballot : Ballot) (slot : ℕ) (commands : List Command) (message : Message)
+      → IsWithinPromise store → AtMost store.promise ballot → Backs store message → Backs (taking_command_run store ballot slot commands) message
+  pub command_run_within : (store : Store) (ballot : Ballot) (slot : ℕ) (commands : List Command)
+      → IsWithinPromise store → AtMost store.promise ballot → IsWithinPromise (taking_command_run store ballot slot commands)
+  pub command_run_promised : (store : Store) (ballot : Ballot) (slot : ℕ) (command : Command) (later : List Command)
+      → IsWithinPromise store → AtMost store.promise ballot → (taking_command_run store ballot slot (command ∷ later)).promise ≡ ballot
+  pub command_run_most : (store : Store) (ballot : Ballot) (slot : ℕ) (commands : List Command) → length (command_run_at store ballot slot commands) ≤ length commands
+  pub in_answers : (sender from : ℕ) (ballot other : Ballot) (slot k : ℕ) (command : Command) (commands : List Command)
+      → In (Accepted from other k command) (answers sender ballot slot commands)
+      ↔ (from ≡ sender) × (other ≡ ballot) × (slot ≤ k) × (k < slot + length commands) × (slice_get commands (k - slot) ≡ Some command)
   -- one node is no quorum, since a match has three at least
   pub one_node : (n only : ℕ) (set : ℕ → Bool) → 3 ≤ n → ((node : ℕ) → node < n → set node ≡ true → node ≡ only) → IsQuorum n set → ⊥
   pub least_nodes : (n : ℕ) → HasNodes n → 3 ≤ n
@@ -80,6 +110,10 @@ pub record Given : Type 0 where
   pub chosen_counts_all : learner.ChosenCountsAll
   pub more : learner.MoreMessages
   pub nodes_stay : learner.NodesStay
+  pub one_answer : learner_runs.OneIsAnAnswer
+  pub run_counts : learner_runs.CommandRunCounts
+  pub run_counts_all : learner_runs.CommandRunCountsAll
+  pub runs_known : learner_runs.CommandRunsAreKnown
   pub new_knows : learner.NewKnows
   pub answers_known : learner.AnswersAreKnown
   pub chosen_known : learner.ChosenAreKnown

@@ -1,6 +1,6 @@
 -- Which frames each call sends, told by what came, by what the node of the world has stored, knows and has heard, and by its front and its table as
 -- its readers show them. First stand the frames that answer what came, then those of the close of the call, and last a question.
-use Rattle.std.specs.Prelude.{◌≡◌, ℕ, zero, suc, ◌+◌, ◌-◌, ◌⊎◌, Bool, true, false, nat_lt, min, if◌then◌else◌, List, [], ◌∷◌, ◌++◌, Option, Some, None, Result, Ok, Err}
+use Rattle.std.specs.Prelude.{◌≡◌, ℕ, zero, suc, ◌+◌, ◌-◌, ◌⊎◌, Bool, true, false, nat_lt, min, if◌then◌else◌, ◌≤◌, List, [], ◌∷◌, ◌++◌, length, Option, Some, None, Result, Ok, Err}
 use Rattle.game_def.specs.Game.{Game}
 use Rattle.paxos_wire.specs.declared.ballot.Ballot.{Ballot}
 use Rattle.paxos_wire.specs.declared.entry.Entry.{Entry}
@@ -22,7 +22,7 @@ use Rattle.node_rules.specs.Standings.{Place, Standing, front_of, hands_at}
 use Rattle.node_rules.specs.Sending.{Frame, one, to_others}
 use Rattle.node_rules.specs.Turns.{Turn}
 use Rattle.node_rules.specs.Learning.{comes_to_window, next_window}
-use Rattle.protocol_model.specs.Votes.{stored_in}
+use Rattle.protocol_model.specs.Votes.{command_run_at}
 use Rattle.node_rules.specs.Seats.{is_others, away_at, Drains}
 use Rattle.node_rules.specs.Calls.{Call, Start, Tick, Away, Line, Connect, Drop, Stop}
 use Rattle.node_rules.specs.Calls as call
@@ -33,12 +33,13 @@ use Rattle.node_rules.specs.Sound.{Stands}
 
 -- ---- the close, and questions
 
--- what the close sends: nothing, or a proposal of an own ballot at the front, to each other node, and behind it the vote for it, to each other node
+-- what the close sends: nothing, or a proposal of an own ballot from the front on, of one command or more, to each other node, and behind it the
+-- vote for it, to each other node
 abbrev pub IsOfClose : Place → ℕ → List Frame → Type 0
 IsOfClose place front frames =
     (frames ≡ [])
-    ⊎ ((ballot : Ballot) × (command : Command) × (ballot.node ≡ place.node)
-    × (frames ≡ to_others place (frame.Accept ballot front command) ++ to_others place (frame.Accepted ballot front command)))
+    ⊎ ((ballot : Ballot) × (commands : List Command) × (1 ≤ length commands) × (ballot.node ≡ place.node)
+    × (frames ≡ to_others place (frame.Accept ballot front commands) ++ to_others place (frame.Accepted ballot front commands)))
 
 -- the turn sends these, what its close sends, and then those
 pub record Sends (place : Place) (turn : Turn) (answers asked : List Frame) : Type 0 where
@@ -62,12 +63,12 @@ pub data AnswersPrepare (store : Store) (from : ℕ) (ballot : Ballot) (slot : �
       → AnswersPrepare store from ballot slot frames
   refuses : AtMost ballot store.promise → frames ≡ one from (frame.Refuse ballot slot store.promise) → AnswersPrepare store from ballot slot frames
 
--- to an Accept: one Accepted to each other node, of the command that the ballot has at the slot, unless the store has promised a greater ballot; else a
--- Refuse that tells that
-pub data AnswersAccept (place : Place) (store : Store) (from : ℕ) (ballot : Ballot) (slot : ℕ) (command : Command) (frames : List Frame) : Type 0 where
-  accepts : AtMost store.promise ballot → frames ≡ to_others place (frame.Accepted ballot slot (stored_in (store.votes slot) ballot command))
-      → AnswersAccept place store from ballot slot command frames
-  refuses : Below ballot store.promise → frames ≡ one from (frame.Refuse ballot slot store.promise) → AnswersAccept place store from ballot slot command frames
+-- to an Accept: one Accepted to each other node, of the beginning that is taken, of each slot with the command that the ballot has there, unless the
+-- store has promised a greater ballot; else a Refuse that tells that, of the first slot
+pub data AnswersAccept (place : Place) (store : Store) (from : ℕ) (ballot : Ballot) (slot : ℕ) (commands : List Command) (frames : List Frame) : Type 0 where
+  accepts : AtMost store.promise ballot → frames ≡ to_others place (frame.Accepted ballot slot (command_run_at store ballot slot commands))
+      → AnswersAccept place store from ballot slot commands frames
+  refuses : Below ballot store.promise → frames ≡ one from (frame.Refuse ballot slot store.promise) → AnswersAccept place store from ballot slot commands frames
 
 -- one Chosen for each of so many slots from one on, with the command that the node knows there
 abbrev pub AreChosenFrames : List (ℕ × Command) → ℕ → ℕ → ℕ → List Frame → Type 0
@@ -82,9 +83,9 @@ IsAnswered place s node from (frame.Prepare ballot slot) turn =
     (answers : List Frame) × AnswersPrepare node.store from ballot slot answers × Sends place turn answers (asks_above turn from slot)
 IsAnswered place s node from (frame.Promise ballot slot told) turn = Sends place turn [] []
 IsAnswered place s node from (frame.Refuse ballot slot promised) turn = Sends place turn [] []
-IsAnswered place s node from (frame.Accept ballot slot command) turn =
-    (answers : List Frame) × AnswersAccept place node.store from ballot slot command answers × Sends place turn answers (asks_above turn from slot)
-IsAnswered place s node from (frame.Accepted ballot slot command) turn = Sends place turn [] (asks_above turn from slot)
+IsAnswered place s node from (frame.Accept ballot slot commands) turn =
+    (answers : List Frame) × AnswersAccept place node.store from ballot slot commands answers × Sends place turn answers (asks_above turn from slot)
+IsAnswered place s node from (frame.Accepted ballot slot commands) turn = Sends place turn [] (asks_above turn from slot)
 IsAnswered place s node from (frame.Chosen slot command) turn =
     Sends place turn (asks_if (comes_to_window (front_of s) (front_of turn.after)) from (front_of turn.after)) []
 IsAnswered place s node from (frame.Ask slot) turn =

@@ -6,7 +6,8 @@ use Rattle.paxos_wire.specs.declared.message.Message.TheVariants.{Chosen, Ask}
 use Rattle.slot_log.specs.Slots.{Log, known_at}
 use Rattle.slot_log.specs.declared.command.Command.{Command}
 use Rattle.slot_log.specs.declared.slot_fault.SlotFault.{SlotFault}
-use Rattle.learner.specs.Learning.{Learned, answer_to, hearing, answer_to_chosen, believing as with_chosen}
+use Rattle.learner.specs.Learning.{Learned, answer_to_chosen, believing as with_chosen}
+use Rattle.learner.specs.CommandRuns.{answer_to_run, hearing_run}
 use Rattle.node_rules.specs.Standings.{Place, Standing, front_of}
 use Rattle.node_rules.specs.Sending.{Frame, one}
 use Rattle.node_rules.specs.Turns.{Turn, Refusal, Conflict, still, sending, and_then}
@@ -17,10 +18,10 @@ abbrev pub learning : {A : Type 0} → Place → Result A SlotFault → Learned 
 learning place (Ok answer) learned s = Ok (applying place learned s)
 learning place (Err fault) learned s = Err (Conflict s.store)
 
--- that a node accepted a command is counted, and what a quorum accepted is known
-abbrev pub counting_vote : Place → ℕ → Ballot → ℕ → Command → Standing → Result Turn Refusal
-counting_vote place from ballot slot command s =
-    learning place (answer_to s.learned from ballot slot command) (hearing s.learned from ballot slot command) s
+-- that a node accepted commands at a slot and those behind it is counted, slot by slot, and what a quorum accepted is known
+abbrev pub counting_votes : Place → ℕ → Ballot → ℕ → List Command → Standing → Result Turn Refusal
+counting_votes place from ballot slot commands s =
+    learning place (answer_to_run s.learned from ballot slot commands) (hearing_run s.learned from ballot slot commands) s
 
 -- ---- Chosen
 

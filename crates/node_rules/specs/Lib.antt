@@ -29,3 +29,4 @@ pub mod LawsVotes
 pub mod LawsValue
 pub mod LawsCreated
 pub mod LawsOrder
+pub mod LawsRuns

@@ -8,6 +8,8 @@ use Rattle.slot_log.specs.declared.command.Command.{Command}
 use Rattle.protocol_model.specs.Sets.{In}
 use Rattle.protocol_model.specs.Ballots.{AtMost}
 use Rattle.protocol_model.specs.Messages.{Message, Accept, Accepted}
+use Rattle.protocol_model.specs.Frames.{answers}
+use Rattle.protocol_model.specs.Votes.{command_run_at}
 use Rattle.protocol_model.specs.Quorums.{IsFree, IsQuorum}
 use Rattle.protocol_model.specs.Nodes.{Node}
 use Rattle.protocol_model.specs.Worlds.{World}
@@ -96,18 +98,21 @@ ToldIsKnown =
 abbrev pub in_time : (own : ℕ → Command → Bool) (place : Place) (s : Standing) (node : Node) → IsOf own place s node → s.up ≡ true → List Message
 in_time own place s node of up = (of.runs up).knows.learner.in_time
 
--- the call brings this vote of a node: it came with it, or it is the node's own for an Accept that came with it, as it stands in its store then
-pub data Brings (place : Place) (s : Standing) (called : Call) (node : Node) (voter : ℕ) (ballot : Ballot) (slot : ℕ) (command : Command) : Type 0 where
-  came : In (Accepted voter ballot slot command) (came_in called) → Brings place s called node voter ballot slot command
-  own_vote : (proposed : Command) → In (Accept ballot slot proposed) (came_in called) → AtMost s.store.promise ballot
-      → voter ≡ place.node → node.store.votes slot ≡ Some (record { ballot = ballot; command = command }) → Brings place s called node voter ballot slot command
+-- the call brings this vote of a node: it came with it, or it is the node's own for an Accept that came with it, of the beginning that is taken of
+-- its commands
+pub data Brings (place : Place) (s : Standing) (called : Call) (voter : ℕ) (ballot : Ballot) (slot : ℕ) (command : Command) : Type 0 where
+  came : In (Accepted voter ballot slot command) (came_in called) → Brings place s called voter ballot slot command
+  own_vote : (from first : ℕ) (bytes : List ℕ) (commands : List Command) → called ≡ call.Frame from bytes → reading bytes ≡ Ok (frame.Accept ballot first commands)
+      → AtMost s.store.promise ballot → voter ≡ place.node
+      → In (Accepted place.node ballot slot command) (answers place.node ballot first (command_run_at s.store ballot first commands))
+      → Brings place s called voter ballot slot command
 
 -- it got the vote in time, or the call brings it in time
 abbrev pub HasVote : (own : ℕ → Command → Bool) (place : Place) (world : World) (s : Standing) (called : Call) (turn : Turn)
     → Stands own place world s → s.up ≡ true → IsTaken own place world s called turn → ℕ → Ballot → ℕ → Command → Type 0
 HasVote own place world s called turn stands up taken voter ballot slot command =
     In (Accepted voter ballot slot command) (in_time own place s (world.nodes place.node) stands.of up)
-    ⊎ (Brings place s called taken.called.last voter ballot slot command × IsAhead s slot)
+    ⊎ (Brings place s called voter ballot slot command × IsAhead s slot)
 
 -- what a node got in time, or what a call brings in time, it has in time after the call, as long as its slot isn't passed
 abbrev pub VotesStayInTime : Type 0

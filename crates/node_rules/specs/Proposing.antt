@@ -9,11 +9,12 @@ use Rattle.slot_log.specs.Dealer.{finished_count, is_match_over}
 use Rattle.slot_log.specs.declared.command.Command.{Command}
 use Rattle.slot_log.specs.declared.command.Command.TheVariants.{Deal}
 use Rattle.protocol_model.specs.Stores.{promised}
-use Rattle.proposer.specs.declared.accept.Accept.{Accept}
+use Rattle.proposer.specs.declared.accept_run.AcceptRun.{AcceptRun}
 use Rattle.proposer.specs.declared.campaign.Campaign.{Campaign}
 use Rattle.proposer.specs.declared.fault.ProposeFault.{ProposeFault}
 use Rattle.paxos_wire.specs.Order.{is_below}
-use Rattle.proposer.specs.Campaigns.{next_ballot, new_campaign, with_promise, counting_from, refused_from, leads, proposal_from, marked_from}
+use Rattle.proposer.specs.Campaigns.{next_ballot, new_campaign, with_promise, counting_from, refused_from, leads, proposal_from}
+use Rattle.proposer.specs.CommandRuns.{run_of_one, marked_run_from}
 use Rattle.dealer_kind.specs.Kind.{fits}
 use Rattle.node_rules.specs.Standings.{Place, Standing, applied, front_of, hands_at, with_stored, idle}
 use Rattle.node_rules.specs.Sending.{to_others}
@@ -81,21 +82,22 @@ abbrev pub own_value : Place → Standing → Option Command
 own_value place s = fitting place s (own_deal place s) s.pending
 
 -- the proposal goes to the others, and the node votes for it
-abbrev pub proposing : Place → Accept → Standing → Result Turn Refusal
+abbrev pub proposing : Place → AcceptRun → Standing → Result Turn Refusal
 proposing place made s =
-    and_then (Ok (sending (to_others place (AcceptFrame made.ballot made.slot made.command)) s)) (voting place made.ballot made.slot made.command)
+    and_then (Ok (sending (to_others place (AcceptFrame made.ballot made.slot made.commands)) s)) (voting place made.ballot made.slot made.commands)
 
 -- outside of the slots that its ballot covers the node leads no longer
-abbrev pub closing_by : Place → Result (Option Accept) ProposeFault → Standing → Result Turn Refusal
+abbrev pub closing_by : Place → Result (Option AcceptRun) ProposeFault → Standing → Result Turn Refusal
 closing_by place (Ok (Some made)) s = proposing place made s
 closing_by place (Ok None) s = Ok (still s)
 closing_by place (Err fault) s = Ok (still (idle s))
 
-abbrev pub proposal_at : Place → Standing → Result (Option Accept) ProposeFault
-proposal_at place s = proposal_from place.nodes s.campaign (front_of s) (own_value place s)
+-- as yet one command at once
+abbrev pub proposal_at : Place → Standing → Result (Option AcceptRun) ProposeFault
+proposal_at place s = run_of_one (proposal_from place.nodes s.campaign (front_of s) (own_value place s))
 
 -- at the end of a call a node that leads proposes at its front, once in a ballot
 abbrev pub closing : Place → Standing → Result Turn Refusal
 closing place s =
     if leads place.nodes s.campaign && nat_le SLOTS (front_of s) then Ok (still (idle s))
-    else closing_by place (proposal_at place s) (record s { campaign = marked_from s.campaign (proposal_at place s) })
+    else closing_by place (proposal_at place s) (record s { campaign = marked_run_from s.campaign (proposal_at place s) })

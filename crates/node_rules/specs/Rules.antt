@@ -13,7 +13,7 @@ use Rattle.node_rules.specs.Showing.{header}
 use Rattle.node_rules.specs.Turns.{Turn, Refusal, Down, Spent, BadFrame, Conflict, NothingToAct, still, and_then}
 use Rattle.node_rules.specs.Calls.{Call, Start, Tick, Away, Line, Connect, Drop, Stop}
 use Rattle.node_rules.specs.Calls as call
-use Rattle.node_rules.specs.Learning.{counting_vote, believing, telling, asking_above}
+use Rattle.node_rules.specs.Learning.{counting_votes, believing, telling, asking_above}
 use Rattle.node_rules.specs.Accepting.{preparing, accepting}
 use Rattle.node_rules.specs.Proposing.{higher, ticking, counting_promise, hearing_refusal, closing}
 use Rattle.node_rules.specs.Seats.{session_at, connecting, dropping, taking_over, ordering, HearsPiece}
@@ -25,8 +25,8 @@ abbrev pub ballots_of : Message → List Ballot
 ballots_of (frame.Prepare ballot slot) = ballot ∷ []
 ballots_of (frame.Promise ballot slot entries) = ballot ∷ map (λ (entry : Entry). entry.ballot) entries
 ballots_of (frame.Refuse ballot slot promised) = ballot ∷ promised ∷ []
-ballots_of (frame.Accept ballot slot command) = ballot ∷ []
-ballots_of (frame.Accepted ballot slot command) = ballot ∷ []
+ballots_of (frame.Accept ballot slot commands) = ballot ∷ []
+ballots_of (frame.Accepted ballot slot commands) = ballot ∷ []
 ballots_of (frame.Chosen slot command) = []
 ballots_of (frame.Ask slot) = []
 ballots_of (frame.Forward command) = []
@@ -44,19 +44,19 @@ abbrev pub taking : Place → ℕ → Message → Standing → Result Turn Refus
 taking place from (frame.Prepare ballot slot) s = Ok (preparing from ballot slot s)
 taking place from (frame.Promise ballot slot entries) s = Ok (counting_promise place from ballot slot entries s)
 taking place from (frame.Refuse ballot slot promised) s = Ok (hearing_refusal promised s)
-taking place from (frame.Accept ballot slot command) s = accepting place from ballot slot command s
-taking place from (frame.Accepted ballot slot command) s = counting_vote place from ballot slot command s
+taking place from (frame.Accept ballot slot commands) s = accepting place from ballot slot commands s
+taking place from (frame.Accepted ballot slot commands) s = counting_votes place from ballot slot commands s
 taking place from (frame.Chosen slot command) s = believing place from slot command s
 taking place from (frame.Ask slot) s = Ok (telling from slot s)
 taking place from (frame.Forward command) s = Ok (taking_over place command s)
 
--- last in the call, after Prepare, Accept and Accepted: who speaks of a slot above the front is asked
+-- last in the call, after Prepare, Accept and Accepted: who speaks of a slot above the front, of commands of the first of theirs, is asked
 abbrev pub asking : ℕ → Message → Standing → Turn
 asking from (frame.Prepare ballot slot) s = asking_above from slot s
 asking from (frame.Promise ballot slot entries) s = still s
 asking from (frame.Refuse ballot slot promised) s = still s
-asking from (frame.Accept ballot slot command) s = asking_above from slot s
-asking from (frame.Accepted ballot slot command) s = asking_above from slot s
+asking from (frame.Accept ballot slot commands) s = asking_above from slot s
+asking from (frame.Accepted ballot slot commands) s = asking_above from slot s
 asking from (frame.Chosen slot command) s = still s
 asking from (frame.Ask slot) s = still s
 asking from (frame.Forward command) s = still s

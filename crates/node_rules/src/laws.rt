@@ -10,6 +10,7 @@ ghost use Rattle.node_rules.specs.LawsCreated.{CreatedIsNew};
 ghost use Rattle.node_rules.specs.LawsOrder.{OrdersAreTaken};
 ghost use Rattle.node_rules.specs.LawsPending.{ActsWait, WaitingFits};
 ghost use Rattle.node_rules.specs.LawsRefused.{RefusalsHaveReasons};
+ghost use Rattle.node_rules.specs.LawsRuns.{CommandRunsAreTold};
 ghost use Rattle.node_rules.specs.LawsSeats.{PiecesAreHeard, OthersArePassedOver, ConnectBeginsAnew, DropEnds, SessionsStay, FaultsAreOfPieces, LivesAreWhole, UnconnectedSeatsShowSo};
 ghost use Rattle.node_rules.specs.LawsShown.{CallsShow, DownShowsNothing};
 ghost use Rattle.node_rules.specs.LawsTick.{TicksPrepare};
@@ -18,13 +19,15 @@ ghost use Rattle.node_rules.specs.LawsVotes.{OwnVotesAreInTime, RefusedBallotsEn
 
 use dealer_kind::laws::{answers_are_heard, nodes_are_few_and_odd, orders_play_for_the_next};
 use learner::laws::{
-    chosen_is_known, completed_is_chosen, counts_are_kept as votes_are_kept, same_is_equal,
+    answers_of_runs_count, chosen_is_known, command_runs_are_known, command_runs_are_refused_whole,
+    completed_is_chosen, counts_are_kept as votes_are_kept, same_is_equal,
 };
 use match_log::laws::{commands_add_to_the_log, logs_begin_with_their_header};
+use paxos_wire::readings_have_commands;
 use proposer::laws::{counts_are_kept, leaders_propose, proposals_are_safe};
 use protocol_model::laws::{
-    answers_have_proposals, backing_lasts, chains_reach, known_is_chosen, one_choice,
-    one_node_is_no_quorum,
+    answers_have_proposals, backing_lasts, chains_reach, command_runs_are_carried,
+    command_runs_are_moves, known_is_chosen, one_choice, one_node_is_no_quorum,
 };
 use seat_session::laws::{any_pieces, runs_go_on, whole_lines};
 use slot_log::laws::{
@@ -38,9 +41,14 @@ fn layers_below()
 {
     answers_are_heard();
     answers_have_proposals();
+    answers_of_runs_count();
     backing_lasts();
     chains_reach();
     chosen_is_known();
+    command_runs_are_carried();
+    command_runs_are_known();
+    command_runs_are_moves();
+    command_runs_are_refused_whole();
     commands_add_to_the_log();
     commands_make_hands();
     completed_is_chosen();
@@ -57,6 +65,7 @@ fn layers_below()
     one_node_is_no_quorum();
     orders_play_for_the_next();
     proposals_are_safe();
+    readings_have_commands();
     runs_go_on();
     same_is_equal();
     slots_end();
@@ -129,7 +138,8 @@ pub fn sent_is_backed()
 }
 
 /// A cluster at rest moves: where the members of a least quorum are calm for one of them, its round goes on to its end,
-/// whatever each call of it leaves, and then that node's front has passed the slot, at which it knows the command.
+/// whatever each call of it leaves, and then that node's front has passed the slots of the round's commands, each of which
+/// it knows. As yet the round has one.
 ///
 /// The round is a tick of the node, and four times a frame with each other member in order. Each frame of it has been
 /// sent, to that node and with these bytes, by a turn of the round before, so no frame of it is forged; and by the rules
@@ -205,6 +215,14 @@ pub fn own_votes_are_in_time()
 /// start, with this call too, tells a greater one.
 pub fn refused_ballots_end()
     ensures { RefusedBallotsEnd }
+{
+    layers_below();
+}
+
+/// A proposal has told commands in it, each the one of the greatest ballot at its slot, from the front on; or where none was
+/// told at the front, what the node has of its own, alone. As yet it is one command.
+pub fn command_runs_are_told()
+    ensures { CommandRunsAreTold }
 {
     layers_below();
 }

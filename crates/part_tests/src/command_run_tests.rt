@@ -137,6 +137,29 @@ fn told_commands_end_at_a_mark(rt: HostRuntime) -> Result<(), Fail> {
     Ok(())
 }
 
+/// Without a quorum of promises nothing is proposed, and nothing is 71.
+#[test]
+fn told_commands_wait_for_a_quorum(rt: HostRuntime) -> Result<(), Fail> {
+    let mut list = CommandList::new();
+    let mut proposer = Proposer::new(0, 5);
+    begins(&rt, &mut proposer, 0);
+    promises(&mut proposer, 0, 0, &[]);
+    promises(&mut proposer, 1, 0, &SOME);
+    proposes(&rt, &mut proposer, &mut list, 0, &[], None);
+    proposes(&rt, &mut proposer, &mut list, 64, &[], None);
+    Ok(())
+}
+
+/// Behind the 64 slots of the ballot none follows.
+#[test]
+fn told_commands_end_with_the_window(rt: HostRuntime) -> Result<(), Fail> {
+    let mut list = CommandList::new();
+    let last = [(62, FOLD), (63, CALL), (64, AWAY)];
+    let mut proposer = leader(&rt, 0, &last, &[]);
+    proposes(&rt, &mut proposer, &mut list, 62, &[FOLD, CALL], None);
+    Ok(())
+}
+
 /// Behind the last slot, 3999999, none follows.
 #[test]
 fn told_commands_end_with_the_slots(rt: HostRuntime) -> Result<(), Fail> {

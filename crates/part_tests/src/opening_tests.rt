@@ -371,8 +371,14 @@ fn has_all(rt: &impl Abort, alloc: Global, disk: MemoryDisk) -> Result<(), Fail>
     Ok(())
 }
 
-/// What may stand behind a shut gate: a record that was never acknowledged, and any bytes.
-static TAILS: [&[u8]; 4] = [
+/// What may stand behind a shut gate: what is left of the record that opens a journal, a record that was never acknowledged,
+/// and any bytes.
+static TAILS: [&[u8]; 9] = [
+    &[0],
+    &[0, 1],
+    &[0, 1, 3],
+    &[0; 4],
+    &[1; 4],
     &[
         0, 25, 2, 0, 0, 0, 9, 0, 0, 0, 0, 0, 2, 0, 0, 0, 0, 0, 0, 0, 0, 0, 0, 0, 0, 0, 0, 0,
     ],
@@ -393,6 +399,28 @@ fn what_stands_behind_an_old_gate_is_free(rt: HostRuntime) -> Result<(), Fail> {
     let alloc = rt.alloc();
     for &tail in &TAILS {
         let disk = goes_on(&rt, alloc, old_with_tail(alloc, tail)?)?;
+        has_all(&rt, alloc, disk)?;
+    }
+    Ok(())
+}
+
+/// What the write of the gate in front of the record that opens a journal may leave there.
+static GATES: [u8; 4] = [0, 1, 2, 0xff];
+
+/// The old journal with that record behind a gate of this value.
+fn old_behind_gate(alloc: Global, gate: u8) -> Result<MemoryDisk, Fail> {
+    let mut bytes = Vec::from_slice(alloc, &OLD_JOURNAL[..45])?;
+    bytes.push(gate)?;
+    bytes.extend_from_slice(&[0, 1, 3, 0])?;
+    disk_with(alloc, &bytes, &[])
+}
+
+/// Whether the record is there or not, the store is the same.
+#[test]
+fn images_of_the_gate_of_an_opening(rt: HostRuntime) -> Result<(), Fail> {
+    let alloc = rt.alloc();
+    for &gate in &GATES {
+        let disk = goes_on(&rt, alloc, old_behind_gate(alloc, gate)?)?;
         has_all(&rt, alloc, disk)?;
     }
     Ok(())

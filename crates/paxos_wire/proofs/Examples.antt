@@ -15,7 +15,7 @@ use Rattle.paxos_wire.specs.declared.version.Version.TheVariants.{Old, New}
 use Rattle.paxos_wire.specs.Versions.{version_byte, nodes_in, is_version, version_of}
 use Rattle.paxos_wire.specs.Fits.{IsBallot, IsSlot, AreDealt, IsCommand, MayGoOn, Rise, IsSingle, IsMessage, IsCommandRun, IsOld}
 use Rattle.paxos_wire.specs.Spelling.{ballot_text, slot_text, action_text, command_text, run_text, entry_text, entries_text, frame_of, frame, old_frame, IsText}
-use Rattle.paxos_wire.specs.Reading.{below_at, ballot_at, action_of, action_at, is_count, deal_of, deal_at, dealt_at, acted_at, away_at, command_at, commands_at, behind_count, accept_at, of_ballot_at, ask_at, forward_at, message_at, body_of}
+use Rattle.paxos_wire.specs.Reading.{below_at, ballot_at, action_of, action_at, is_count, deal_of, deal_at, dealt_at, acted_at, away_at, command_at, commands_at, behind_count, proposed_at, accept_at, of_ballot_at, ask_at, forward_at, message_at, body_of}
 use Rattle.paxos_wire.specs.Faults.{header_fault, fault_of, reading}
 use Rattle.paxos_wire.specs.Stream.{needed, IsPartial, IsInFront, IsFaulty, Takes, IsStreamOf, Splits}
 use Rattle.paxos_wire.specs.Order.{is_below, is_same_ballot}
@@ -94,11 +94,11 @@ pub prepare : frame (Prepare first_ballot 0) ≡ 0 ∷ 0 ∷ 0 ∷ 11 ∷ 2 ∷ 
 unfolding frame_of
 prepare = refl
 
-pub accept : frame (Accept first_ballot 0 (Deal 0 cards)) ≡ 0 ∷ 0 ∷ 0 ∷ 27 ∷ 2 ∷ 4 ∷ 0 ∷ 0 ∷ 0 ∷ 1 ∷ 0 ∷ 0 ∷ 0 ∷ 0 ∷ 0 ∷ 1 ∷ 1 ∷ 0 ∷ 0 ∷ 0 ∷ 0 ∷ 9 ∷ 33 ∷ 51 ∷ 26 ∷ 32 ∷ 0 ∷ 24 ∷ 6 ∷ 28 ∷ 46 ∷ []
+pub accept : frame (Accept first_ballot 0 (Deal 0 cards ∷ [])) ≡ 0 ∷ 0 ∷ 0 ∷ 27 ∷ 2 ∷ 4 ∷ 0 ∷ 0 ∷ 0 ∷ 1 ∷ 0 ∷ 0 ∷ 0 ∷ 0 ∷ 0 ∷ 1 ∷ 1 ∷ 0 ∷ 0 ∷ 0 ∷ 0 ∷ 9 ∷ 33 ∷ 51 ∷ 26 ∷ 32 ∷ 0 ∷ 24 ∷ 6 ∷ 28 ∷ 46 ∷ []
 unfolding frame_of
 accept = refl
 
-pub accepted : frame (Accepted first_ballot 0 (Act 0 0 Call)) ≡ 0 ∷ 0 ∷ 0 ∷ 24 ∷ 2 ∷ 5 ∷ 0 ∷ 0 ∷ 0 ∷ 1 ∷ 0 ∷ 0 ∷ 0 ∷ 0 ∷ 0 ∷ 1 ∷ 2 ∷ 0 ∷ 0 ∷ 0 ∷ 0 ∷ 0 ∷ 0 ∷ 1 ∷ 0 ∷ 0 ∷ 0 ∷ 0 ∷ []
+pub accepted : frame (Accepted first_ballot 0 (Act 0 0 Call ∷ [])) ≡ 0 ∷ 0 ∷ 0 ∷ 24 ∷ 2 ∷ 5 ∷ 0 ∷ 0 ∷ 0 ∷ 1 ∷ 0 ∷ 0 ∷ 0 ∷ 0 ∷ 0 ∷ 1 ∷ 2 ∷ 0 ∷ 0 ∷ 0 ∷ 0 ∷ 0 ∷ 0 ∷ 1 ∷ 0 ∷ 0 ∷ 0 ∷ 0 ∷ []
 unfolding frame_of
 accepted = refl
 
@@ -110,7 +110,7 @@ pub forward_of_an_away : frame (Forward (Away 0 0)) ≡ 0 ∷ 0 ∷ 0 ∷ 9 ∷ 
 unfolding frame_of
 forward_of_an_away = refl
 
-pub accept_of_an_away : frame (Accept first_ballot 1 (Away 0 0)) ≡ 0 ∷ 0 ∷ 0 ∷ 19 ∷ 2 ∷ 4 ∷ 0 ∷ 0 ∷ 0 ∷ 1 ∷ 0 ∷ 0 ∷ 0 ∷ 0 ∷ 1 ∷ 1 ∷ 3 ∷ 0 ∷ 0 ∷ 0 ∷ 0 ∷ 0 ∷ 0 ∷ []
+pub accept_of_an_away : frame (Accept first_ballot 1 (Away 0 0 ∷ [])) ≡ 0 ∷ 0 ∷ 0 ∷ 19 ∷ 2 ∷ 4 ∷ 0 ∷ 0 ∷ 0 ∷ 1 ∷ 0 ∷ 0 ∷ 0 ∷ 0 ∷ 1 ∷ 1 ∷ 3 ∷ 0 ∷ 0 ∷ 0 ∷ 0 ∷ 0 ∷ 0 ∷ []
 unfolding frame_of
 accept_of_an_away = refl
 
@@ -140,11 +140,11 @@ pub old_prepare : old_frame (Prepare first_ballot 0) ≡ 0 ∷ 0 ∷ 0 ∷ 11 �
 unfolding frame_of
 old_prepare = refl
 
-pub old_accept : old_frame (Accept first_ballot 0 (Deal 0 cards)) ≡ 0 ∷ 0 ∷ 0 ∷ 26 ∷ 1 ∷ 4 ∷ 0 ∷ 0 ∷ 0 ∷ 1 ∷ 0 ∷ 0 ∷ 0 ∷ 0 ∷ 0 ∷ 1 ∷ 0 ∷ 0 ∷ 0 ∷ 0 ∷ 9 ∷ 33 ∷ 51 ∷ 26 ∷ 32 ∷ 0 ∷ 24 ∷ 6 ∷ 28 ∷ 46 ∷ []
+pub old_accept : old_frame (Accept first_ballot 0 (Deal 0 cards ∷ [])) ≡ 0 ∷ 0 ∷ 0 ∷ 26 ∷ 1 ∷ 4 ∷ 0 ∷ 0 ∷ 0 ∷ 1 ∷ 0 ∷ 0 ∷ 0 ∷ 0 ∷ 0 ∷ 1 ∷ 0 ∷ 0 ∷ 0 ∷ 0 ∷ 9 ∷ 33 ∷ 51 ∷ 26 ∷ 32 ∷ 0 ∷ 24 ∷ 6 ∷ 28 ∷ 46 ∷ []
 unfolding frame_of
 old_accept = refl
 
-pub old_accepted : old_frame (Accepted first_ballot 0 (Act 0 0 Call)) ≡ 0 ∷ 0 ∷ 0 ∷ 23 ∷ 1 ∷ 5 ∷ 0 ∷ 0 ∷ 0 ∷ 1 ∷ 0 ∷ 0 ∷ 0 ∷ 0 ∷ 0 ∷ 2 ∷ 0 ∷ 0 ∷ 0 ∷ 0 ∷ 0 ∷ 0 ∷ 1 ∷ 0 ∷ 0 ∷ 0 ∷ 0 ∷ []
+pub old_accepted : old_frame (Accepted first_ballot 0 (Act 0 0 Call ∷ [])) ≡ 0 ∷ 0 ∷ 0 ∷ 23 ∷ 1 ∷ 5 ∷ 0 ∷ 0 ∷ 0 ∷ 1 ∷ 0 ∷ 0 ∷ 0 ∷ 0 ∷ 0 ∷ 2 ∷ 0 ∷ 0 ∷ 0 ∷ 0 ∷ 0 ∷ 0 ∷ 1 ∷ 0 ∷ 0 ∷ 0 ∷ 0 ∷ []
 unfolding frame_of
 old_accepted = refl
 
@@ -162,7 +162,7 @@ written_is_text = inl refl
 
 pub old_is_text : IsText (Prepare first_ballot 0) (0 ∷ 0 ∷ 0 ∷ 11 ∷ 1 ∷ 1 ∷ 0 ∷ 0 ∷ 0 ∷ 1 ∷ 0 ∷ 0 ∷ 0 ∷ 0 ∷ 0 ∷ [])
 unfolding frame_of
-old_is_text = inr (lit< tt, refl)
+old_is_text = inr ((lit< tt, tt), refl)
 
 pub later_version-no_text : IsText (Ask 1) (0 ∷ 0 ∷ 0 ∷ 6 ∷ 3 ∷ 7 ∷ 0 ∷ 0 ∷ 0 ∷ 1 ∷ []) → ⊥
 unfolding frame_of
@@ -177,7 +177,7 @@ new_of_node_5_is_text = inl refl
 pub old_of_node_5-no_text : IsText (Prepare (ballot 1 5) 0) (0 ∷ 0 ∷ 0 ∷ 11 ∷ 1 ∷ 1 ∷ 0 ∷ 0 ∷ 0 ∷ 1 ∷ 5 ∷ 0 ∷ 0 ∷ 0 ∷ 0 ∷ []) → ⊥
 unfolding frame_of
 old_of_node_5-no_text (inl new) = absurd cc
-old_of_node_5-no_text (inr old) = let node = old.0 in absurd (omega arith)
+old_of_node_5-no_text (inr old) = let node = old.0.0 in absurd (omega arith)
 
 -- ---- versions
 
@@ -195,13 +195,13 @@ five_nodes_and_seven = (refl, refl)
 
 -- a Refuse tells of two ballots, a Promise of one for each entry
 pub refuse_of_node_4 : IsOld (Refuse (ballot 1 4) 0 (ballot 2 4))
-refuse_of_node_4 = (lit< tt, lit< tt)
+refuse_of_node_4 = ((lit< tt, lit< tt), tt)
 
 pub refuse_for_node_5-not_old : IsOld (Refuse (ballot 1 4) 0 (ballot 2 5)) → ⊥
-refuse_for_node_5-not_old old = let node = old.1 in absurd (omega arith)
+refuse_for_node_5-not_old old = let node = old.0.1 in absurd (omega arith)
 
 pub promise_of_node_5s-not_old : IsOld (Promise (ballot 2 4) 0 (record { slot = 0; ballot = ballot 1 5; command = Act 0 0 Call } ∷ [])) → ⊥
-promise_of_node_5s-not_old old = let node = old.1.0 in absurd (omega arith)
+promise_of_node_5s-not_old old = let node = old.0.1.0 in absurd (omega arith)
 
 -- ---- ranges
 
@@ -266,12 +266,12 @@ unfolding IsDistinct
 many_cards_dealt = record { least = lit≤ tt; most = lit≤ tt; deal = record { count = refl; cards_of_the_pack = search rules; distinct = search rules } }
 
 -- no frame of one command is longer than this one
-pub longest_of_one : length (frame (Accept first_ballot 0 (Deal 0 many_cards))) ≡ MOST_SINGLE_FRAME
+pub longest_of_one : length (frame (Accept first_ballot 0 (Deal 0 many_cards ∷ []))) ≡ MOST_SINGLE_FRAME
 unfolding frame_of
 longest_of_one = refl
 
-pub longest_of_one_is_message : IsMessage (Accept first_ballot 0 (Deal 0 many_cards)) × IsSingle (Accept first_ballot 0 (Deal 0 many_cards))
-longest_of_one_is_message = (record { numbers = (ballot_fits, lit< tt, lit< tt); cards = (many_cards_dealt, tt) }, tt)
+pub longest_of_one_is_message : IsMessage (Accept first_ballot 0 (Deal 0 many_cards ∷ [])) × IsSingle (Accept first_ballot 0 (Deal 0 many_cards ∷ []))
+longest_of_one_is_message = (record { numbers = (ballot_fits, record { least = lit≤ tt; most = lit≤ tt; slots = lit≤ tt; each = (lit< tt, tt) }); cards = (many_cards_dealt, tt) }, refl)
 
 -- a promise may tell of one such deal, and is longer then
 pub promise_of_one : length (frame (Promise first_ballot 0 (record { slot = 0; ballot = first_ballot; command = Deal 0 many_cards } ∷ []))) ≡ 56
@@ -494,24 +494,24 @@ unfolding reading header_fault body_of message_at forward_at command_at away_at 
 byte_behind_an_away = refl
 
 -- an Accept with the count of its commands, and one of the old version without it
-pub accept_read : reading (0 ∷ 0 ∷ 0 ∷ 19 ∷ 2 ∷ 4 ∷ 0 ∷ 0 ∷ 0 ∷ 1 ∷ 0 ∷ 0 ∷ 0 ∷ 0 ∷ 1 ∷ 1 ∷ 3 ∷ 0 ∷ 0 ∷ 0 ∷ 0 ∷ 0 ∷ 0 ∷ []) ≡ Ok (Accept first_ballot 1 (Away 0 0))
-unfolding reading header_fault body_of message_at of_ballot_at ballot_at accept_at behind_count command_at away_at below_at
+pub accept_read : reading (0 ∷ 0 ∷ 0 ∷ 19 ∷ 2 ∷ 4 ∷ 0 ∷ 0 ∷ 0 ∷ 1 ∷ 0 ∷ 0 ∷ 0 ∷ 0 ∷ 1 ∷ 1 ∷ 3 ∷ 0 ∷ 0 ∷ 0 ∷ 0 ∷ 0 ∷ 0 ∷ []) ≡ Ok (Accept first_ballot 1 (Away 0 0 ∷ []))
+unfolding reading header_fault body_of message_at of_ballot_at ballot_at accept_at proposed_at behind_count commands_at command_at away_at below_at
 accept_read = refl
 
-pub old_accept_read : reading (0 ∷ 0 ∷ 0 ∷ 18 ∷ 1 ∷ 4 ∷ 0 ∷ 0 ∷ 0 ∷ 1 ∷ 0 ∷ 0 ∷ 0 ∷ 0 ∷ 1 ∷ 3 ∷ 0 ∷ 0 ∷ 0 ∷ 0 ∷ 0 ∷ 0 ∷ []) ≡ Ok (Accept first_ballot 1 (Away 0 0))
-unfolding reading header_fault body_of message_at of_ballot_at ballot_at accept_at behind_count command_at away_at below_at
+pub old_accept_read : reading (0 ∷ 0 ∷ 0 ∷ 18 ∷ 1 ∷ 4 ∷ 0 ∷ 0 ∷ 0 ∷ 1 ∷ 0 ∷ 0 ∷ 0 ∷ 0 ∷ 1 ∷ 3 ∷ 0 ∷ 0 ∷ 0 ∷ 0 ∷ 0 ∷ 0 ∷ []) ≡ Ok (Accept first_ballot 1 (Away 0 0 ∷ []))
+unfolding reading header_fault body_of message_at of_ballot_at ballot_at accept_at proposed_at behind_count commands_at command_at away_at below_at
 old_accept_read = refl
 
 pub accept_without_its_count : reading (0 ∷ 0 ∷ 0 ∷ 18 ∷ 2 ∷ 4 ∷ 0 ∷ 0 ∷ 0 ∷ 1 ∷ 0 ∷ 0 ∷ 0 ∷ 0 ∷ 1 ∷ 3 ∷ 0 ∷ 0 ∷ 0 ∷ 0 ∷ 0 ∷ 0 ∷ []) ≡ Err BadBody
-unfolding reading header_fault body_of message_at of_ballot_at ballot_at accept_at behind_count below_at
+unfolding reading header_fault body_of message_at of_ballot_at ballot_at accept_at proposed_at behind_count commands_at command_at below_at
 accept_without_its_count = refl
 
 pub old_accept_with_a_count : reading (0 ∷ 0 ∷ 0 ∷ 19 ∷ 1 ∷ 4 ∷ 0 ∷ 0 ∷ 0 ∷ 1 ∷ 0 ∷ 0 ∷ 0 ∷ 0 ∷ 1 ∷ 1 ∷ 3 ∷ 0 ∷ 0 ∷ 0 ∷ 0 ∷ 0 ∷ 0 ∷ []) ≡ Err BadBody
-unfolding reading header_fault body_of message_at of_ballot_at ballot_at accept_at behind_count command_at dealt_at deal_at deal_of below_at
+unfolding reading header_fault body_of message_at of_ballot_at ballot_at accept_at proposed_at behind_count commands_at command_at dealt_at deal_at deal_of below_at
 old_accept_with_a_count = refl
 
 pub accept_of_no_command : reading (0 ∷ 0 ∷ 0 ∷ 12 ∷ 2 ∷ 4 ∷ 0 ∷ 0 ∷ 0 ∷ 1 ∷ 0 ∷ 0 ∷ 0 ∷ 0 ∷ 0 ∷ 0 ∷ []) ≡ Err BadBody
-unfolding reading header_fault body_of message_at of_ballot_at ballot_at accept_at behind_count below_at
+unfolding reading header_fault body_of message_at of_ballot_at ballot_at accept_at proposed_at behind_count below_at
 accept_of_no_command = refl
 
 -- ---- streams
@@ -542,7 +542,7 @@ ask_in_front = record { text = 0 ∷ 0 ∷ 0 ∷ 6 ∷ 2 ∷ 7 ∷ 0 ∷ 0 ∷ 0
 
 pub old_ask_in_front : IsInFront (Ask 1) (0 ∷ 0 ∷ 0 ∷ 6 ∷ 1 ∷ 7 ∷ 0 ∷ 0 ∷ 0 ∷ 1 ∷ 7 ∷ []) (7 ∷ [])
 unfolding frame_of
-old_ask_in_front = record { text = 0 ∷ 0 ∷ 0 ∷ 6 ∷ 1 ∷ 7 ∷ 0 ∷ 0 ∷ 0 ∷ 1 ∷ []; is = inr (tt, refl); whole = refl }
+old_ask_in_front = record { text = 0 ∷ 0 ∷ 0 ∷ 6 ∷ 1 ∷ 7 ∷ 0 ∷ 0 ∷ 0 ∷ 1 ∷ []; is = inr ((tt, tt), refl); whole = refl }
 
 -- the byte behind it belongs to the rest
 pub byte_left_out-none : IsInFront (Ask 1) (0 ∷ 0 ∷ 0 ∷ 6 ∷ 2 ∷ 7 ∷ 0 ∷ 0 ∷ 0 ∷ 1 ∷ 7 ∷ []) [] → ⊥
@@ -556,7 +556,7 @@ pub both_versions_in_a_stream : IsStreamOf (Ask 1 ∷ Ask 1 ∷ []) (7 ∷ []) (
 unfolding frame_of
 both_versions_in_a_stream = (
   0 ∷ 0 ∷ 0 ∷ 6 ∷ 2 ∷ 7 ∷ 0 ∷ 0 ∷ 0 ∷ 1 ∷ 7 ∷ [],
-  record { text = 0 ∷ 0 ∷ 0 ∷ 6 ∷ 1 ∷ 7 ∷ 0 ∷ 0 ∷ 0 ∷ 1 ∷ []; is = inr (tt, refl); whole = refl },
+  record { text = 0 ∷ 0 ∷ 0 ∷ 6 ∷ 1 ∷ 7 ∷ 0 ∷ 0 ∷ 0 ∷ 1 ∷ []; is = inr ((tt, tt), refl); whole = refl },
   (7 ∷ [], ask_in_front, refl),
 )
 
@@ -574,7 +574,7 @@ frame_splits = record {
 
 -- ---- printed lines
 
-pub accept_line : message_line (Accept (record { round = 3; node = 1 }) 7 (Deal 0 cards)) ≡ codes "Accept (3, 1) at 7: deal of hand 0"
+pub accept_line : message_line (Accept (record { round = 3; node = 1 }) 7 (Deal 0 cards ∷ [])) ≡ codes "Accept (3, 1) at 7: deal of hand 0"
 unfolding digits
 accept_line = refl
 

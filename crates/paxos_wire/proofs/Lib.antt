@@ -12,7 +12,9 @@ pub mod CommandRuns
 pub mod EntryLaws
 pub mod MessageLaws
 pub mod FrameLaws
+pub mod Readings
 pub mod StreamLaws
 pub mod Readers
 pub mod Pieces
 pub mod Examples
+pub mod CommandRunExamples

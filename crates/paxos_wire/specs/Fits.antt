@@ -1,11 +1,11 @@
 -- Which ballots, commands and messages have a frame: the ranges of their numbers.
-use Rattle.std.specs.Prelude.{ℕ, ◌+◌, ◌^◌, ◌<◌, ◌≤◌, List, [], ◌∷◌, length, map}
+use Rattle.std.specs.Prelude.{◌≡◌, ℕ, ◌+◌, ◌*◌, ◌^◌, ◌<◌, ◌≤◌, List, [], ◌∷◌, length, map}
 use Rattle.std.specs.List.{AllByRecursion}
 use Rattle.card_core.specs.Deal.{IsDeal, player_count}
 use Rattle.slot_log.specs.declared.command.Command.{Command}
 use Rattle.slot_log.specs.declared.command.Command.TheVariants.{Deal, Act, Away}
 pub use Rattle.slot_log.specs.Range.{IsInRange}
-use Rattle.paxos_wire.specs.declared.limits.TheConstants.{NODES, OLD_NODES, SLOTS, WINDOW}
+use Rattle.paxos_wire.specs.declared.limits.TheConstants.{NODES, OLD_NODES, SLOTS, WINDOW, MOST_COMMAND, RUN_FRONT, MOST_SINGLE_FRAME, MOST_FRAME}
 use Rattle.paxos_wire.specs.declared.ballot.Ballot.{Ballot}
 use Rattle.paxos_wire.specs.declared.entry.Entry.{Entry}
 use Rattle.paxos_wire.specs.declared.message.Message.{Message}
@@ -73,19 +73,20 @@ abbrev pub Fits : Message → Type 0
 Fits (Prepare ballot slot) = IsBallot ballot × IsSlot slot
 Fits (Promise ballot slot entries) = IsBallot ballot × IsSlot slot × AreEntries slot entries
 Fits (Refuse ballot slot promised) = IsBallot ballot × IsSlot slot × IsBallot promised
-Fits (Accept ballot slot command) = IsBallot ballot × IsSlot slot × IsInRange command
-Fits (Accepted ballot slot command) = IsBallot ballot × IsSlot slot × IsInRange command
+Fits (Accept ballot slot commands) = IsBallot ballot × IsCommandRun slot commands
+Fits (Accepted ballot slot commands) = IsBallot ballot × IsCommandRun slot commands
 Fits (Chosen slot command) = IsSlot slot × IsInRange command
 Fits (Ask slot) = IsSlot slot
 Fits (Forward command) = MayGoOn command × IsInRange command
 
--- a message of one command at most: any but a Promise, which tells what was accepted at many slots
+-- a message of one command at most: any but a Promise, which tells what was accepted at many slots, and an Accept or an
+-- Accepted of more
 abbrev pub IsSingle : Message → Type 0
 IsSingle (Prepare ballot slot) = Unit {0}
 IsSingle (Promise ballot slot entries) = ⊥
 IsSingle (Refuse ballot slot promised) = Unit {0}
-IsSingle (Accept ballot slot command) = Unit {0}
-IsSingle (Accepted ballot slot command) = Unit {0}
+IsSingle (Accept ballot slot commands) = length commands ≡ 1
+IsSingle (Accepted ballot slot commands) = length commands ≡ 1
 IsSingle (Chosen slot command) = Unit {0}
 IsSingle (Ask slot) = Unit {0}
 IsSingle (Forward command) = Unit {0}
@@ -95,23 +96,56 @@ abbrev pub HasNodesBelow : ℕ → Message → Type 0
 HasNodesBelow nodes (Prepare ballot slot) = ballot.node < nodes
 HasNodesBelow nodes (Promise ballot slot entries) = (ballot.node < nodes) × AllByRecursion (λ e. e.ballot.node < nodes) entries
 HasNodesBelow nodes (Refuse ballot slot promised) = (ballot.node < nodes) × (promised.node < nodes)
-HasNodesBelow nodes (Accept ballot slot command) = ballot.node < nodes
-HasNodesBelow nodes (Accepted ballot slot command) = ballot.node < nodes
+HasNodesBelow nodes (Accept ballot slot commands) = ballot.node < nodes
+HasNodesBelow nodes (Accepted ballot slot commands) = ballot.node < nodes
 HasNodesBelow nodes (Chosen slot command) = Unit {0}
 HasNodesBelow nodes (Ask slot) = Unit {0}
 HasNodesBelow nodes (Forward command) = Unit {0}
 
+-- where it is an Accept or an Accepted, it has one command
+abbrev pub HasOneCommand : Message → Type 0
+HasOneCommand (Prepare ballot slot) = Unit {0}
+HasOneCommand (Promise ballot slot entries) = Unit {0}
+HasOneCommand (Refuse ballot slot promised) = Unit {0}
+HasOneCommand (Accept ballot slot commands) = length commands ≡ 1
+HasOneCommand (Accepted ballot slot commands) = length commands ≡ 1
+HasOneCommand (Chosen slot command) = Unit {0}
+HasOneCommand (Ask slot) = Unit {0}
+HasOneCommand (Forward command) = Unit {0}
+
+-- where it is an Accept or an Accepted, it has 1 to 64 commands
+abbrev pub HasCommands : Message → Type 0
+HasCommands (Prepare ballot slot) = Unit {0}
+HasCommands (Promise ballot slot entries) = Unit {0}
+HasCommands (Refuse ballot slot promised) = Unit {0}
+HasCommands (Accept ballot slot commands) = (1 ≤ length commands) × (length commands ≤ WINDOW)
+HasCommands (Accepted ballot slot commands) = (1 ≤ length commands) × (length commands ≤ WINDOW)
+HasCommands (Chosen slot command) = Unit {0}
+HasCommands (Ask slot) = Unit {0}
+HasCommands (Forward command) = Unit {0}
+
 -- a message that frames of the old version can say
 abbrev pub IsOld : Message → Type 0
-IsOld m = HasNodesBelow OLD_NODES m
+IsOld m = HasNodesBelow OLD_NODES m × HasOneCommand m
+
+-- the most bytes of the frame of a message of this kind and, where its commands are counted, of so many
+abbrev pub most_bytes : Message → ℕ
+most_bytes (Prepare ballot slot) = MOST_SINGLE_FRAME
+most_bytes (Promise ballot slot entries) = MOST_FRAME
+most_bytes (Refuse ballot slot promised) = MOST_SINGLE_FRAME
+most_bytes (Accept ballot slot commands) = RUN_FRONT + MOST_COMMAND * length commands
+most_bytes (Accepted ballot slot commands) = RUN_FRONT + MOST_COMMAND * length commands
+most_bytes (Chosen slot command) = MOST_SINGLE_FRAME
+most_bytes (Ask slot) = MOST_SINGLE_FRAME
+most_bytes (Forward command) = MOST_SINGLE_FRAME
 
 -- the commands that a message carries
 abbrev pub commands : Message → List Command
 commands (Prepare ballot slot) = []
 commands (Promise ballot slot entries) = map (λ e. e.command) entries
 commands (Refuse ballot slot promised) = []
-commands (Accept ballot slot command) = command ∷ []
-commands (Accepted ballot slot command) = command ∷ []
+commands (Accept ballot slot listed) = listed
+commands (Accepted ballot slot listed) = listed
 commands (Chosen slot command) = command ∷ []
 commands (Ask slot) = []
 commands (Forward command) = command ∷ []

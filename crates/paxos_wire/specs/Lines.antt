@@ -1,5 +1,6 @@
 -- What ballots, commands and messages print as, each on one line, and what faults print as.
-use Rattle.std.specs.Prelude.{ℕ, List, ◌++◌, length, codes}
+use Rattle.std.specs.Prelude.{ℕ, ◌+◌, ◌-◌, nat_lt, if◌then◌else◌, List, [], ◌∷◌, ◌++◌, length, codes}
+use Rattle.std.specs.List.{flat_map}
 use Rattle.std.specs.Fmt.{decimal}
 use Rattle.betting.specs.declared.action.Action.{Action}
 use Rattle.betting.specs.declared.action.Action.TheVariants.{Fold, Call, Raise}
@@ -43,13 +44,30 @@ command_line (Deal hand cards) = codes "deal of hand " ++ decimal hand
 command_line (Act hand index action) = codes "act " ++ decimal index ++ codes " of hand " ++ decimal hand ++ codes ": " ++ action_line action
 command_line (Away hand index) = codes "away at act " ++ decimal index ++ codes " of hand " ++ decimal hand
 
--- as in Accept (3, 1) at 7: deal of hand 0
+-- a command behind another one
+abbrev pub further_line : Command → List ℕ
+further_line command = codes ", " ++ command_line command
+
+-- commands for slots that follow one another, with a comma behind each but the last
+abbrev pub commands_line : List Command → List ℕ
+commands_line [] = []
+commands_line (first ∷ others) = command_line first ++ flat_map further_line others
+
+-- the slots from one on, as many as this: as in 7, or 7 to 9
+abbrev pub slots_line : ℕ → ℕ → List ℕ
+slots_line slot count = if nat_lt count 2 then decimal slot else decimal slot ++ codes " to " ++ decimal (slot + count - 1)
+
+-- a command run at its slots, as in 7: deal of hand 0
+abbrev pub run_line : ℕ → List Command → List ℕ
+run_line slot commands = slots_line slot (length commands) ++ codes ": " ++ commands_line commands
+
+-- as in Accept (3, 1) at 7: deal of hand 0, or Accept (3, 1) at 7 to 8: deal of hand 0, act 0 of hand 0: call
 abbrev pub message_line : Message → List ℕ
 message_line (Prepare ballot slot) = codes "Prepare " ++ ballot_line ballot ++ codes " from " ++ decimal slot
 message_line (Promise ballot slot entries) = codes "Promise " ++ ballot_line ballot ++ codes " from " ++ decimal slot ++ codes ": " ++ decimal (length entries) ++ codes " accepted"
 message_line (Refuse ballot slot promised) = codes "Refuse " ++ ballot_line ballot ++ codes " at " ++ decimal slot ++ codes ": promised " ++ ballot_line promised
-message_line (Accept ballot slot command) = codes "Accept " ++ ballot_line ballot ++ codes " at " ++ decimal slot ++ codes ": " ++ command_line command
-message_line (Accepted ballot slot command) = codes "Accepted " ++ ballot_line ballot ++ codes " at " ++ decimal slot ++ codes ": " ++ command_line command
+message_line (Accept ballot slot commands) = codes "Accept " ++ ballot_line ballot ++ codes " at " ++ run_line slot commands
+message_line (Accepted ballot slot commands) = codes "Accepted " ++ ballot_line ballot ++ codes " at " ++ run_line slot commands
 message_line (Chosen slot command) = codes "Chosen at " ++ decimal slot ++ codes ": " ++ command_line command
 message_line (Ask slot) = codes "Ask from " ++ decimal slot
 message_line (Forward command) = codes "Forward " ++ command_line command

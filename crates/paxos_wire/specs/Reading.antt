@@ -154,20 +154,26 @@ refuse_at version ballot slot bytes = do
   promised ← ballot_at version bytes
   Some (Refuse ballot slot promised.0, promised.1)
 
--- the bytes behind the count of an Accept's commands, which in the old version isn't there; a count other than 1 is
--- none that is read as yet
-unfoldable pub behind_count : Version → List ℕ → Option (List ℕ)
-behind_count Old bytes = Some bytes
+-- how many commands an Accept has, 1 to 64, and the bytes behind that count, which in the old version isn't there: there
+-- it is one command
+unfoldable pub behind_count : Version → List ℕ → Option (ℕ × List ℕ)
+behind_count Old bytes = Some (1, bytes)
 behind_count New bytes = do
   count ← byte_at bytes
-  when (count.0 == 1) count.1
+  when (nat_lt 0 count.0 && nat_le count.0 WINDOW) count
+
+-- so many commands, for the slots from this one on, all of which there are
+unfoldable pub proposed_at : Version → ℕ → List ℕ → Option (List Command × List ℕ)
+proposed_at version slot bytes = do
+  count ← behind_count version bytes
+  commands ← commands_at count.0 count.1
+  when (nat_le (slot + count.0) SLOTS) commands
 
 -- Accept and Accepted
-unfoldable pub accept_at : Version → (Ballot → ℕ → Command → Message) → Ballot → ℕ → List ℕ → Option (Message × List ℕ)
+unfoldable pub accept_at : Version → (Ballot → ℕ → List Command → Message) → Ballot → ℕ → List ℕ → Option (Message × List ℕ)
 accept_at version made ballot slot bytes = do
-  rest ← behind_count version bytes
-  command ← command_at rest
-  Some (made ballot slot command.0, command.1)
+  commands ← proposed_at version slot bytes
+  Some (made ballot slot commands.0, commands.1)
 
 -- the kinds 1 to 5, which begin with a ballot and a slot
 unfoldable pub of_ballot_at : Version → ℕ → List ℕ → Option (Message × List ℕ)

@@ -57,25 +57,25 @@ abbrev pub kind : Message → ℕ
 kind (Prepare ballot slot) = 1
 kind (Promise ballot slot entries) = 2
 kind (Refuse ballot slot promised) = 3
-kind (Accept ballot slot command) = 4
-kind (Accepted ballot slot command) = 5
+kind (Accept ballot slot commands) = 4
+kind (Accepted ballot slot commands) = 5
 kind (Chosen slot command) = 6
 kind (Ask slot) = 7
 kind (Forward command) = 8
 
--- what an Accept or an Accepted tells at its slot: the commands from there on, of which there is one, or in the old
--- version that one without a count
-abbrev pub proposed_text : Version → Command → List ℕ
-proposed_text Old command = command_text command
-proposed_text New command = run_text (command ∷ [])
+-- what an Accept or an Accepted tells behind its slot: the commands for the slots from there on, behind their count,
+-- which the old version, where there is one command, doesn't have
+abbrev pub proposed_text : Version → List Command → List ℕ
+proposed_text Old commands = flat_map command_text commands
+proposed_text New commands = run_text commands
 
 -- the fields of a message, in their order
 abbrev pub body : Version → Message → List ℕ
 body version (Prepare ballot slot) = ballot_text ballot ++ slot_text slot
 body version (Promise ballot slot entries) = ballot_text ballot ++ (slot_text slot ++ entries_text entries)
 body version (Refuse ballot slot promised) = ballot_text ballot ++ (slot_text slot ++ ballot_text promised)
-body version (Accept ballot slot command) = ballot_text ballot ++ (slot_text slot ++ proposed_text version command)
-body version (Accepted ballot slot command) = ballot_text ballot ++ (slot_text slot ++ proposed_text version command)
+body version (Accept ballot slot commands) = ballot_text ballot ++ (slot_text slot ++ proposed_text version commands)
+body version (Accepted ballot slot commands) = ballot_text ballot ++ (slot_text slot ++ proposed_text version commands)
 body version (Chosen slot command) = slot_text slot ++ command_text command
 body version (Ask slot) = slot_text slot
 body version (Forward command) = command_text command

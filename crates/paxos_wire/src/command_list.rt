@@ -46,6 +46,26 @@ impl CommandList {
         }
     }
 
+    /// These commands.
+    pub fn from_slice(commands: &[Command]) -> CommandList
+        requires { length commands.now ≤ WINDOW }
+        ensures { result ≡ commands.now }
+    {
+        let mut list = CommandList::new();
+        for command in commands {
+            list.push(*command);
+        }
+        list
+    }
+
+    /// How many there are.
+    pub fn len(&self) -> usize
+        ensures value { result ≡ length self.now }
+        ensures most { result ≤ WINDOW }
+    {
+        self.as_slice().len()
+    }
+
     /// Takes all commands out.
     pub fn clear(&mut self)
         ensures { self.new ≡ [] }

@@ -3,7 +3,7 @@
 ghost use Rattle.std.specs.Prelude.{◌≡◌, ◌+◌, ◌<◌, ◌≤◌, ◌++◌, ◌∷◌, [], length, map, IsOk, OnOk, OnErr};
 ghost use Rattle.std.specs.Vec.{vec_len, vec_capacity};
 ghost use Rattle.std.specs.List.{flat_map, AllByRecursion};
-ghost use Rattle.paxos_wire.specs.Fits.{IsDealt, Fits, IsMessage, IsSingle, commands};
+ghost use Rattle.paxos_wire.specs.Fits.{IsDealt, Fits, IsMessage, IsSingle, commands, most_bytes};
 ghost use Rattle.paxos_wire.specs.declared.version.Version.TheVariants.{New};
 ghost use Rattle.paxos_wire.specs.Spelling.{ballot_text, slot_text, command_text, entry_text, kind, body, payload, frame};
 
@@ -14,6 +14,7 @@ use crate::lengths::{frame_len, payload_len};
 use crate::limits::{MOST_FRAME, MOST_SINGLE_FRAME, VERSION};
 use crate::message::Message;
 use crate::writing::{put_ballot, put_command, put_entry, put_number};
+use slot_log::Command;
 use std::alloc::AllocError;
 
 /// Puts entries behind the last byte.
@@ -25,6 +26,18 @@ fn put_entries(out: &mut Vec<u8>, entries: &[Entry])
 {
     for entry in entries {
         put_entry(out, entry);
+    }
+}
+
+/// Puts commands behind the last byte.
+fn put_commands(out: &mut Vec<u8>, commands: &[Command])
+    requires { vec_len out.old + length (flat_map command_text commands.now) ≤ vec_capacity out.old }
+    ensures items { out.new.items ≡ out.old.items ++ flat_map command_text commands.now }
+    ensures capacity { vec_capacity out.old ≤ vec_capacity out.new }
+    ensures dealt { AllByRecursion IsDealt commands.now }
+{
+    for command in commands {
+        put_command(out, command);
     }
 }
 
@@ -67,17 +80,16 @@ fn put_body(out: &mut Vec<u8>, message: &Message)
         Message::Accept {
             ballot,
             slot,
-            command,
+            commands,
         }
         | Message::Accepted {
             ballot,
             slot,
-            command,
+            commands,
         } => {
             put_place(out, *ballot, *slot);
-            // how many commands follow
-            out.push_reserved(1);
-            put_command(out, command);
+            out.push_reserved(commands.len() as u8);
+            put_commands(out, commands.as_slice());
         }
         Message::Chosen { slot, command } => {
             put_number(out, *slot);
@@ -113,6 +125,7 @@ pub fn encode_reserved(out: &mut Vec<u8>, message: &Message)
     ensures len { vec_len out.new ≡ vec_len out.old + length (frame message.now) }
     ensures most { length (frame message.now) ≤ MOST_FRAME }
     ensures single { IsSingle message.now → length (frame message.now) ≤ MOST_SINGLE_FRAME }
+    ensures kind { length (frame message.now) ≤ most_bytes message.now }
     // The cards of its deals are dealt too, so that the frame decodes to the message.
     ensures message { IsMessage message.now }
 {

@@ -136,13 +136,15 @@ impl Feed {
         if let Some(fault) = self.fault {
             return Some(Err(fault));
         }
-        match frame_in_front(self.queue.waiting()) {
-            None => None,
-            Some((Ok(message), end)) => {
+        let Some((read, end)) = frame_in_front(self.queue.waiting()) else {
+            return None;
+        };
+        match read {
+            Ok(message) => {
                 self.queue.skip(end);
                 Some(Ok(message))
             }
-            Some((Err(fault), _)) => {
+            Err(fault) => {
                 self.fault = Some(fault);
                 Some(Err(fault))
             }

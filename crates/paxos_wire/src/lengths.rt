@@ -2,7 +2,7 @@
 
 ghost use Rattle.std.specs.Prelude.{◌≡◌, ◌+◌, ◌*◌, ◌≤◌, length};
 ghost use Rattle.std.specs.List.{flat_map};
-ghost use Rattle.paxos_wire.specs.Fits.{IsSingle};
+ghost use Rattle.paxos_wire.specs.Fits.{IsSingle, most_bytes};
 ghost use Rattle.paxos_wire.specs.Spelling.{command_text, entry_text, payload, frame};
 ghost use Rattle.paxos_wire.specs.declared.version.Version.TheVariants.{New};
 
@@ -40,18 +40,32 @@ fn entries_len(entries: &[Entry]) -> usize
     sum
 }
 
+/// How many bytes these commands take.
+fn commands_len(commands: &[Command]) -> usize
+    requires { length commands.now ≤ WINDOW }
+    ensures value { result ≡ length (flat_map command_text commands.now) }
+    ensures most { result ≤ MOST_COMMAND * length commands.now }
+{
+    let mut sum = 0;
+    for command in commands {
+        sum += command_len(command);
+    }
+    sum
+}
+
 /// How many bytes stand in a message's frame behind the length.
 pub(crate) fn payload_len(message: &Message) -> usize
     ensures value { result ≡ length (payload New message.now) }
     ensures most { LENGTH_BYTES + result ≤ MOST_FRAME }
     ensures single { IsSingle message.now → LENGTH_BYTES + result ≤ MOST_SINGLE_FRAME }
+    ensures kind { LENGTH_BYTES + result ≤ most_bytes message.now }
 {
     match message {
         Message::Prepare { .. } => 11,
         Message::Promise { entries, .. } => 12 + entries_len(entries.as_slice()),
         Message::Refuse { .. } => 16,
-        Message::Accept { command, .. } | Message::Accepted { command, .. } => {
-            12 + command_len(command)
+        Message::Accept { commands, .. } | Message::Accepted { commands, .. } => {
+            12 + commands_len(commands.as_slice())
         }
         Message::Chosen { command, .. } => 6 + command_len(command),
         Message::Ask { .. } => 6,
@@ -59,13 +73,14 @@ pub(crate) fn payload_len(message: &Message) -> usize
     }
 }
 
-/// How many bytes a message's frame takes, its length's four among them: at most 2576, and at most 47 for every
-/// message but a Promise.
+/// How many bytes a message's frame takes, its length's four among them: at most 2576 for a Promise, 31 for each command
+/// and 16 more for an Accept or an Accepted, and 47 for every other message.
 #[tactic(auto, unfolding(crate::specs::Spelling::frame_of))]
 pub fn frame_len(message: &Message) -> usize
     ensures value { result ≡ length (frame message.now) }
     ensures most { result ≤ MOST_FRAME }
     ensures single { IsSingle message.now → result ≤ MOST_SINGLE_FRAME }
+    ensures kind { result ≤ most_bytes message.now }
 {
     LENGTH_BYTES + payload_len(message)
 }

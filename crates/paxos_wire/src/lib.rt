@@ -45,7 +45,10 @@ pub use entries::Entries;
 pub use entry::Entry;
 pub use fault::FrameFault;
 pub use feed::Feed;
-pub use laws::{frames_are_short, frames_are_told_apart, frames_read_back, old_frames_read_back};
+pub use laws::{
+    frames_are_short, frames_are_told_apart, frames_read_back, old_frames_read_back,
+    readings_have_commands,
+};
 pub use lengths::{command_len, frame_len};
 pub use message::Message;
 pub use records::{

@@ -48,23 +48,21 @@ pub const MOST_LENGTH: usize = 4096;
 /// The bytes of a frame's length itself.
 pub const LENGTH_BYTES: usize = 4;
 
-/// The most bytes of the frame of one command, its length's four among them: those of an Accept, or an Accepted,
-/// of a deal for ten players, behind the byte that counts the commands.
-pub const MOST_SINGLE_FRAME: usize = LENGTH_BYTES
-    + LEAST_LENGTH
-    + BALLOT_BYTES
-    + SLOT_BYTES
-    + 1
-    + MOST_COMMAND;
+/// The bytes in front of the commands of an Accept or an Accepted, and of the entries of a Promise: those of the length, the
+/// version and the kind, of a ballot, of a slot, and the one that counts them.
+pub const RUN_FRONT: usize = LENGTH_BYTES + LEAST_LENGTH + BALLOT_BYTES + SLOT_BYTES + 1;
+
+/// The most bytes of the frame of one command, its length's four among them: those of an Accept, or an Accepted, of a deal
+/// for ten players.
+pub const MOST_SINGLE_FRAME: usize = RUN_FRONT + MOST_COMMAND;
+
+/// The most bytes of an Accept, or an Accepted, its length's four among them: those of one of such a deal at each of 64
+/// slots.
+pub const MOST_RUN_FRAME: usize = RUN_FRONT + WINDOW * MOST_COMMAND;
 
 /// The most bytes of an entry of a Promise.
 const MOST_ENTRY: usize = SLOT_BYTES + BALLOT_BYTES + MOST_COMMAND;
 
 /// The most bytes of a frame, its length's four among them: those of a Promise that tells of such a deal at each of
-/// its slots, behind the byte that counts them.
-pub const MOST_FRAME: usize = LENGTH_BYTES
-    + LEAST_LENGTH
-    + BALLOT_BYTES
-    + SLOT_BYTES
-    + 1
-    + WINDOW * MOST_ENTRY;
+/// its slots.
+pub const MOST_FRAME: usize = RUN_FRONT + WINDOW * MOST_ENTRY;

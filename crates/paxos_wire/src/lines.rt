@@ -1,8 +1,10 @@
 //! How messages print, each on one line.
 
 ghost use Rattle.std.specs.Prelude.{Some};
-ghost use Rattle.paxos_wire.specs.Lines.{action_line, command_line, message_line};
+ghost use Rattle.std.specs.List.{flat_map};
+ghost use Rattle.paxos_wire.specs.Lines.{action_line, command_line, further_line, commands_line, slots_line, run_line, message_line};
 
+use crate::command_list::CommandList;
 use crate::message::Message;
 use betting::Action;
 use slot_log::Command;
@@ -15,6 +17,28 @@ struct ActionLine(Action);
 /// A command, to be printed.
 #[derive(Clone, Copy)]
 struct CommandLine(Command);
+
+/// Commands behind another one, to be printed.
+#[derive(Clone, Copy)]
+struct FurtherLine<'a>(&'a [Command]);
+
+/// Commands for slots that follow one another, to be printed.
+#[derive(Clone, Copy)]
+struct CommandsLine<'a>(&'a [Command]);
+
+/// The slots from one on, to be printed.
+#[derive(Clone, Copy)]
+struct SlotsLine {
+    slot: u32,
+    count: u8,
+}
+
+/// A command run at its slots, to be printed.
+#[derive(Clone, Copy)]
+struct RunLine<'a> {
+    slot: u32,
+    commands: &'a CommandList,
+}
 
 impl fmt::Display for ActionLine {
     ghost output = { λ line. Some (action_line line.0) };
@@ -47,6 +71,53 @@ impl fmt::Display for CommandLine {
     }
 }
 
+impl<'a> fmt::Display for FurtherLine<'a> {
+    ghost output = { λ line. Some (flat_map further_line line.0.now) };
+
+    fn fmt<W: fmt::Write>(&self, f: &mut fmt::Formatter<W>) -> fmt::Result {
+        let commands = self.0;
+        for command in commands {
+            write!(f, ", {}", CommandLine(*command))?;
+        }
+        Ok(())
+    }
+}
+
+impl<'a> fmt::Display for CommandsLine<'a> {
+    ghost output = { λ line. Some (commands_line line.0.now) };
+
+    fn fmt<W: fmt::Write>(&self, f: &mut fmt::Formatter<W>) -> fmt::Result {
+        match self.0 {
+            [] => Ok(()),
+            [first, others @ ..] => write!(f, "{}{}", CommandLine(*first), FurtherLine(others)),
+        }
+    }
+}
+
+impl fmt::Display for SlotsLine {
+    ghost output = { λ line. Some (slots_line line.slot line.count) };
+
+    fn fmt<W: fmt::Write>(&self, f: &mut fmt::Formatter<W>) -> fmt::Result {
+        if self.count < 2 {
+            return write!(f, "{}", self.slot);
+        }
+        let last = self.slot as u64 + self.count as u64 - 1;
+        write!(f, "{} to {last}", self.slot)
+    }
+}
+
+impl<'a> fmt::Display for RunLine<'a> {
+    ghost output = { λ line. Some (run_line line.slot line.commands.now) };
+
+    fn fmt<W: fmt::Write>(&self, f: &mut fmt::Formatter<W>) -> fmt::Result {
+        let slots = SlotsLine {
+            slot: self.slot,
+            count: self.commands.len() as u8,
+        };
+        write!(f, "{slots}: {}", CommandsLine(self.commands.as_slice()))
+    }
+}
+
 impl fmt::Display for Message {
     ghost output = { λ m. Some (message_line m) };
 
@@ -70,13 +141,25 @@ impl fmt::Display for Message {
             Message::Accept {
                 ballot,
                 slot,
-                command,
-            } => write!(f, "Accept {ballot} at {slot}: {}", CommandLine(*command)),
+                commands,
+            } => {
+                let run = RunLine {
+                    slot: *slot,
+                    commands,
+                };
+                write!(f, "Accept {ballot} at {run}")
+            }
             Message::Accepted {
                 ballot,
                 slot,
-                command,
-            } => write!(f, "Accepted {ballot} at {slot}: {}", CommandLine(*command)),
+                commands,
+            } => {
+                let run = RunLine {
+                    slot: *slot,
+                    commands,
+                };
+                write!(f, "Accepted {ballot} at {run}")
+            }
             Message::Chosen { slot, command } => write!(
                 f,
                 "Chosen at {slot}: {}",

@@ -1,9 +1,10 @@
 use crate::ballot::Ballot;
+use crate::command_list::CommandList;
 use crate::entries::Entries;
 use slot_log::Command;
 
 /// What a node says to another, after 'Paxos Made Simple'. Slots are counted from 0.
-#[derive(Clone, Copy, Debug, PartialEq, Eq)]
+#[derive(Debug, Drop)]
 pub enum Message {
     /// Asks for a promise to take no lower ballot, and for what was accepted from the slot on.
     Prepare {
@@ -22,17 +23,18 @@ pub enum Message {
         slot: u32,
         promised: Ballot,
     },
-    /// Asks to accept the command in the ballot at the slot.
+    /// Asks to accept the commands in the ballot, 1 to 64, the first at the slot and each further one at the slot behind.
     Accept {
         ballot: Ballot,
         slot: u32,
-        command: Command,
+        commands: CommandList,
     },
-    /// Tells that the command was accepted in the ballot at the slot.
+    /// Tells that the commands were accepted in the ballot, 1 to 64, the first at the slot and each further one at the slot
+    /// behind.
     Accepted {
         ballot: Ballot,
         slot: u32,
-        command: Command,
+        commands: CommandList,
     },
     /// Tells that the command is chosen at the slot.
     Chosen {

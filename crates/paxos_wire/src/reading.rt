@@ -1,17 +1,18 @@
 //! Messages, read from the bytes of a frame.
 
-ghost use Rattle.std.specs.Prelude.{◌≡◌, ◌<◌, ◌≤◌, ◌+◌, ◌^◌, length, Some, ◌∷◌, []};
+ghost use Rattle.std.specs.Prelude.{◌≡◌, ◌<◌, ◌≤◌, ◌+◌, IfSome};
 ghost use Rattle.paxos_wire.specs.declared.message.Message.TheVariants.{Accept, Accepted};
 ghost use Rattle.paxos_wire.specs.declared.limits.TheConstants.{SLOTS};
 ghost use Rattle.paxos_wire.specs.Kinds.{kind_byte};
-ghost use Rattle.paxos_wire.specs.Reading.{Gives, entries_at, promise_at, refuse_at, behind_count, accept_at, of_ballot_at, chosen_at, ask_at, forward_at, message_at, body_of};
+ghost use Rattle.paxos_wire.specs.Reading.{Gives, entries_at, promise_at, refuse_at, behind_count, proposed_at, accept_at, of_ballot_at, chosen_at, ask_at, forward_at, message_at, body_of};
 
 use crate::ballot::Ballot;
-use crate::commands::{read_command, read_entry_within};
+use crate::command_list::CommandList;
+use crate::commands::{read_command, read_commands, read_entry_within};
 use crate::entries::Entries;
 use crate::fields::{read_ballot, read_byte, read_slot};
 use crate::kind::Kind;
-use crate::limits::WINDOW;
+use crate::limits::{SLOTS, WINDOW};
 use crate::message::Message;
 use crate::version::Version;
 use slot_log::Command;
@@ -87,18 +88,41 @@ fn read_refuse(
     ))
 }
 
-/// The bytes behind the count of an Accept's commands, which frames of the old version don't have. A count other than 1
-/// isn't read as yet.
+/// How many commands an Accept has, and the bytes after their count: frames of the old version have no count, and one
+/// command.
 #[tactic(auto, unfolding(crate::specs::Reading::behind_count))]
-fn skip_count(version: Version, bytes: &[u8]) -> Option<&[u8]>
-    ensures { Gives (λ x. x.now) result (behind_count version bytes.now) }
+fn read_count(version: Version, bytes: &[u8]) -> Option<(u8, &[u8])>
+    ensures most { IfSome result (λ x. x.0 ≤ WINDOW) }
+    ensures exact { Gives (λ x. (x.0, x.1.now)) result (behind_count version bytes.now) }
 {
     match version {
-        Version::Old => Some(bytes),
+        Version::Old => Some((1, bytes)),
         Version::New => {
             let (count, rest) = read_byte(bytes)?;
-            if count == 1 { Some(rest) } else { None }
+            if count > 0 && count as usize <= WINDOW {
+                Some((count, rest))
+            } else {
+                None
+            }
         }
+    }
+}
+
+/// The commands of an Accept or an Accepted, for the slots from this one on, and the bytes after them.
+#[tactic(auto, unfolding(crate::specs::Reading::proposed_at))]
+fn read_proposed(version: Version, slot: u32, bytes: &[u8]) -> Option<(CommandList, &[u8])>
+    requires { slot < SLOTS }
+    ensures { Gives (λ x. (x.0, x.1.now)) result (proposed_at version slot bytes.now) }
+{
+    let (count, rest) = read_count(version, bytes)?;
+    let mut commands = CommandList::new();
+    let Some(rest) = read_commands(rest, count as usize, &mut commands) else {
+        return None;
+    };
+    if slot + count as u32 <= SLOTS {
+        Some((commands, rest))
+    } else {
+        None
     }
 }
 
@@ -110,17 +134,17 @@ fn read_accept(
     slot: u32,
     bytes: &[u8],
 ) -> Option<(Message, &[u8])>
+    requires { slot < SLOTS }
     ensures { Gives (λ x. (x.0, x.1.now)) result (accept_at version Accept ballot slot bytes.now) }
 {
-    let rest = skip_count(version, bytes)?;
-    let Some((command, rest)) = read_command(rest) else {
+    let Some((commands, rest)) = read_proposed(version, slot, bytes) else {
         return None;
     };
     Some((
         Message::Accept {
             ballot,
             slot,
-            command,
+            commands,
         },
         rest,
     ))
@@ -134,17 +158,17 @@ fn read_accepted(
     slot: u32,
     bytes: &[u8],
 ) -> Option<(Message, &[u8])>
+    requires { slot < SLOTS }
     ensures { Gives (λ x. (x.0, x.1.now)) result (accept_at version Accepted ballot slot bytes.now) }
 {
-    let rest = skip_count(version, bytes)?;
-    let Some((command, rest)) = read_command(rest) else {
+    let Some((commands, rest)) = read_proposed(version, slot, bytes) else {
         return None;
     };
     Some((
         Message::Accepted {
             ballot,
             slot,
-            command,
+            commands,
         },
         rest,
     ))

@@ -117,7 +117,7 @@ deal = Deal 1 []
 carries : carried 2 (frame.Chosen 5 deal) ≡ Chosen 2 5 deal ∷ []
 carries = refl
 
-carries_own : carried 2 (frame.Accept (record { round = 1; node = 2 }) 5 deal) ≡ Accept (record { round = 1; node = 2 }) 5 deal ∷ []
+carries_own : carried 2 (frame.Accept (record { round = 1; node = 2 }) 5 (deal ∷ [])) ≡ Accept (record { round = 1; node = 2 }) 5 deal ∷ []
 carries_own = refl
 
 sends : sender_of (Chosen 2 5 deal) ≡ 2

@@ -49,8 +49,15 @@ proposed_in_order = refl
 answered_in_order : answered 2 ballot 7 (deal ∷ next ∷ []) ≡ Accepted 2 ballot 8 next ∷ Accepted 2 ballot 7 deal ∷ []
 answered_in_order = refl
 
-frame_of_one : carried 2 (frame.Accepted ballot 7 deal) ≡ Accepted 2 ballot 7 deal ∷ []
+frame_of_one : carried 2 (frame.Accepted ballot 7 (deal ∷ [])) ≡ Accepted 2 ballot 7 deal ∷ []
 frame_of_one = refl
+
+frame_of_two : carried 2 (frame.Accept ballot 7 (deal ∷ next ∷ [])) ≡ Accept ballot 7 deal ∷ Accept ballot 8 next ∷ []
+frame_of_two = refl
+
+-- the command of the last slot is carried too
+last_left_out-none : carried 2 (frame.Accepted ballot 7 (deal ∷ next ∷ [])) ≡ Accepted 2 ballot 7 deal ∷ [] → ⊥
+last_left_out-none e = absurd cc
 
 -- ---- what is taken
 

@@ -21,8 +21,8 @@ abbrev pub carried : ℕ → Frame → List Message
 carried sender (frame.Prepare ballot slot) = Prepare ballot slot ∷ []
 carried sender (frame.Promise ballot slot entries) = Promise sender ballot slot entries ∷ []
 carried sender (frame.Refuse ballot slot promised) = Refuse sender ballot slot promised ∷ []
-carried sender (frame.Accept ballot slot command) = proposals ballot slot (command ∷ [])
-carried sender (frame.Accepted ballot slot command) = answers sender ballot slot (command ∷ [])
+carried sender (frame.Accept ballot slot commands) = proposals ballot slot commands
+carried sender (frame.Accepted ballot slot commands) = answers sender ballot slot commands
 carried sender (frame.Chosen slot command) = Chosen sender slot command ∷ []
 carried sender (frame.Ask slot) = Ask sender slot ∷ []
 carried sender (frame.Forward command) = Forward sender command ∷ []

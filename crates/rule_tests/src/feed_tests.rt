@@ -1,19 +1,15 @@
+ghost use Rattle.std.specs.Prelude.{◌≤◌, length, IfSome};
 ghost use Rattle.paxos_wire.specs.Fits.{Fits};
 
-use crate::asserting::{holds, same};
-use crate::frames::{ACCEPT_AWAY, FORWARD, FORWARD_AWAY, OLD_FRAMES, PREPARE, message_of, writes};
+use crate::asserting::{holds, prints, same};
+use crate::frames::{
+    ACCEPT_AWAY, ACCEPT_FRONT, ACCEPT_OF_TWO, ACCEPTED_OF_TWO, FORWARD, FORWARD_AWAY, LONG_ACCEPT,
+    NO_FRAMES, OLD_FRAMES, PREPARE, PREPARE_OF_5, WRONG_RUNS, frame_of_calls, framed, writes,
+};
 use paxos_wire::{Ballot, Feed, FrameFault, Message, read_stream};
 use std::alloc::{AllocError, Global};
 use std::process::Abort;
 use std::test::Fail;
-
-/// Prepare of (1, 0) at slot 0.
-fn prepare() -> Message {
-    Message::Prepare {
-        ballot: Ballot { round: 1, node: 0 },
-        slot: 0,
-    }
-}
 
 /// A deal for ten players at a slot, as a Promise tells of it.
 fn put_deal(bytes: &mut Vec<u8>, slot: u8) -> Result<(), AllocError> {
@@ -34,43 +30,49 @@ fn full_promise(alloc: Global) -> Result<Vec<u8>, AllocError> {
     Ok(bytes)
 }
 
-/// Sees that a feed has this message next, and nothing behind it.
-fn ends_with(rt: &impl Abort, feed: &mut Feed, whole: &Message) {
+/// The next message of a feed, if there is one.
+fn next_message(feed: &mut Feed) -> Option<Message>
+    ensures { IfSome result (λ message. Fits message) }
+{
     match feed.next() {
-        Some(Ok(message)) => holds!(rt; message == *whole),
-        _ => assert!(rt; false),
+        Some(Ok(message)) => Some(message),
+        Some(Err(_)) | None => None,
     }
-    holds!(rt; feed.next().is_none());
 }
 
-/// Sees that a frame that comes in two pieces is read as this message once the second is there, and nothing else is.
-fn reads_in_pieces(
+/// Sees that a feed has next the message that is written as this frame, and nothing behind it.
+fn ends_with(
     rt: &impl Abort,
     alloc: Global,
-    front: &[u8],
-    behind: &[u8],
-    whole: &Message,
+    feed: &mut Feed,
+    frame: &[u8],
 ) -> Result<(), AllocError> {
-    let mut feed = Feed::new(alloc);
-    wants_more(rt, &mut feed, front)?;
-    feed.feed(behind)?;
-    ends_with(rt, &mut feed, whole);
+    let message = next_message(feed).expect(rt, "a frame is there");
+    let mut out = Vec::new(alloc);
+    writes(rt, &mut out, &message, frame)?;
+    holds!(rt; feed.next().is_none());
     Ok(())
 }
 
-/// Sees that a message is written as these bytes, and read as the same wherever they are cut.
-fn reads_cut_anywhere(
+/// Sees that a frame that comes in two pieces is read once the second is there, and nothing else is.
+fn reads_in_pieces(
     rt: &impl Abort,
     alloc: Global,
-    bytes: &[u8],
-    whole: &Message,
+    frame: &[u8],
+    cut: usize,
 ) -> Result<(), AllocError>
-    requires { Fits whole.now }
+    requires { cut ≤ length frame.now }
 {
-    let mut out = Vec::new(alloc);
-    writes(rt, &mut out, whole, bytes)?;
-    for cut in 0..bytes.len() {
-        reads_in_pieces(rt, alloc, &bytes[..cut], &bytes[cut..], whole)?;
+    let mut feed = Feed::new(alloc);
+    wants_more(rt, &mut feed, &frame[..cut])?;
+    feed.feed(&frame[cut..])?;
+    ends_with(rt, alloc, &mut feed, frame)
+}
+
+/// Sees that a frame is written as it is read, wherever it is cut.
+fn reads_cut_anywhere(rt: &impl Abort, alloc: Global, frame: &[u8]) -> Result<(), AllocError> {
+    for cut in 0..frame.len() {
+        reads_in_pieces(rt, alloc, frame, cut)?;
     }
     Ok(())
 }
@@ -79,8 +81,14 @@ fn reads_cut_anywhere(
 fn the_longest_promise_reads_the_same_cut_at_any_place(rt: HostRuntime) -> Result<(), Fail> {
     let bytes = full_promise(rt.alloc())?;
     same!(&rt; bytes.len(), 4 + 2572);
-    let whole = message_of(&bytes).ok_or("the bytes are a frame")?;
-    reads_cut_anywhere(&rt, rt.alloc(), &bytes, &whole)?;
+    reads_cut_anywhere(&rt, rt.alloc(), &bytes)?;
+    Ok(())
+}
+
+#[test]
+fn two_commands_read_the_same_cut_at_any_place(rt: HostRuntime) -> Result<(), Fail> {
+    reads_cut_anywhere(&rt, rt.alloc(), &ACCEPT_OF_TWO)?;
+    reads_cut_anywhere(&rt, rt.alloc(), &ACCEPTED_OF_TWO)?;
     Ok(())
 }
 
@@ -98,9 +106,8 @@ fn promise_of_aways(alloc: Global) -> Result<Vec<u8>, AllocError> {
 fn who_is_away_reads_the_same_cut_at_any_place(rt: HostRuntime) -> Result<(), Fail> {
     let promise = promise_of_aways(rt.alloc())?;
     let frames = [&FORWARD_AWAY[..], &ACCEPT_AWAY[..], promise.as_slice()];
-    for bytes in frames {
-        let whole = message_of(bytes).ok_or("the bytes are a frame")?;
-        reads_cut_anywhere(&rt, rt.alloc(), bytes, &whole)?;
+    for frame in frames {
+        reads_cut_anywhere(&rt, rt.alloc(), frame)?;
     }
     Ok(())
 }
@@ -113,21 +120,34 @@ fn wants_more(rt: &impl Abort, feed: &mut Feed, piece: &[u8]) -> Result<(), Allo
 }
 
 /// What a feed answers to a piece.
-#[derive(Clone, Copy)]
+#[derive(Clone, Copy, Debug, PartialEq, Eq)]
 enum Next {
     /// Nothing, since more is to come.
     Nothing,
     /// Prepare of (1, 0) at slot 0.
     Prepare,
+    /// Another message.
+    Other,
     Fault(FrameFault),
 }
 
-/// The answer that is wanted.
-fn answer_of(wanted: Next) -> Option<Result<Message, FrameFault>> {
-    match wanted {
-        Next::Nothing => None,
-        Next::Prepare => Some(Ok(prepare())),
-        Next::Fault(fault) => Some(Err(fault)),
+/// What a feed answers.
+fn next_of(feed: &mut Feed) -> Next {
+    match feed.next() {
+        None => Next::Nothing,
+        Some(Ok(message)) => named(&message),
+        Some(Err(fault)) => Next::Fault(fault),
+    }
+}
+
+/// The answer that is this message.
+fn named(message: &Message) -> Next {
+    match message {
+        Message::Prepare {
+            ballot: Ballot { round: 1, node: 0 },
+            slot: 0,
+        } => Next::Prepare,
+        _ => Next::Other,
     }
 }
 
@@ -135,7 +155,7 @@ fn answer_of(wanted: Next) -> Option<Result<Message, FrameFault>> {
 fn answers(rt: &impl Abort, feed: &mut Feed, piece: &[u8], wanted: Next) -> Result<(), AllocError> {
     feed.reserve(piece.len())?;
     feed.feed_reserved(piece);
-    holds!(rt; feed.next() == answer_of(wanted));
+    same!(rt; next_of(feed), wanted);
     Ok(())
 }
 
@@ -275,33 +295,111 @@ fn a_stream_of_both_versions(rt: HostRuntime) -> Result<(), Fail> {
     same!(&rt; messages.len(), 2 * OLD_FRAMES.len());
     holds!(&rt; fault.is_none());
     for pair in messages.as_slice().chunks_exact(2) {
-        holds!(&rt; pair[0] == pair[1]);
+        says_the_same(&rt, rt.alloc(), &pair[0], &pair[1])?;
     }
     Ok(())
 }
 
-/// Sees that a feed of which each byte comes by itself has this message with the last one, and nothing before.
+/// Sees that two messages print alike.
+fn says_the_same(
+    rt: &impl Abort,
+    alloc: Global,
+    one: &Message,
+    other: &Message,
+) -> Result<(), AllocError> {
+    let line = format!(in alloc; "{other}")?;
+    prints(rt, alloc, one, line.as_str())
+}
+
+#[test]
+fn runs_in_a_stream_of_both_versions(rt: HostRuntime) -> Result<(), Fail> {
+    let (old_accept, _) = OLD_FRAMES[1];
+    let pieces = [
+        old_accept,
+        &ACCEPT_OF_TWO[..20],
+        &ACCEPT_OF_TWO[20..],
+        &PREPARE[..],
+        &ACCEPTED_OF_TWO[..],
+    ];
+    let pieces = owned(rt.alloc(), &pieces)?;
+    let (messages, fault) = read_stream(rt.alloc(), &pieces)?;
+    same!(&rt; messages.len(), 4);
+    holds!(&rt; fault.is_none());
+    Ok(())
+}
+
+/// A feed that has all bytes but the last, each of which came by itself and ended no frame.
+fn fed_but_last(rt: &impl Abort, alloc: Global, bytes: &[u8]) -> Result<Feed, AllocError> {
+    let mut feed = Feed::new(alloc);
+    for place in 0..bytes.len().saturating_sub(1) {
+        wants_more(rt, &mut feed, &bytes[place..place + 1])?;
+    }
+    Ok(feed)
+}
+
+/// Sees that a feed of which each byte comes by itself has with the last one the message that is written as the other frame,
+/// and nothing before.
 fn comes_byte_by_byte(
     rt: &impl Abort,
     alloc: Global,
     frame: &[u8],
-    whole: &Message,
+    written: &[u8],
 ) -> Result<(), AllocError> {
-    let mut feed = Feed::new(alloc);
-    for place in 0..frame.len().saturating_sub(1) {
-        wants_more(rt, &mut feed, &frame[place..place + 1])?;
-    }
+    let mut feed = fed_but_last(rt, alloc, frame)?;
     feed.feed(&frame[frame.len().saturating_sub(1)..])?;
-    ends_with(rt, &mut feed, whole);
-    Ok(())
+    ends_with(rt, alloc, &mut feed, written)
 }
 
 #[test]
 fn frames_that_come_byte_by_byte(rt: HostRuntime) -> Result<(), Fail> {
     for &(old, new) in &OLD_FRAMES {
-        let whole = message_of(new).ok_or("the bytes are a frame")?;
-        comes_byte_by_byte(&rt, rt.alloc(), old, &whole)?;
-        comes_byte_by_byte(&rt, rt.alloc(), new, &whole)?;
+        comes_byte_by_byte(&rt, rt.alloc(), old, new)?;
+        comes_byte_by_byte(&rt, rt.alloc(), new, new)?;
+    }
+    let others = [
+        &ACCEPT_OF_TWO[..],
+        &ACCEPTED_OF_TWO[..],
+        &LONG_ACCEPT[..],
+        &PREPARE_OF_5[..],
+    ];
+    for frame in others {
+        comes_byte_by_byte(&rt, rt.alloc(), frame, frame)?;
+    }
+    Ok(())
+}
+
+/// Sees that a feed of which each byte comes by itself has the fault with the last one, and nothing before.
+fn is_refused_with_the_last_byte(
+    rt: &impl Abort,
+    alloc: Global,
+    bytes: &[u8],
+    fault: FrameFault,
+) -> Result<(), AllocError> {
+    let mut feed = fed_but_last(rt, alloc, bytes)?;
+    let last = &bytes[bytes.len().saturating_sub(1)..];
+    answers(rt, &mut feed, last, Next::Fault(fault))
+}
+
+/// Whether the length in front of bytes is theirs, and that of a frame.
+fn is_long_enough(alloc: Global, bytes: &[u8]) -> Result<bool, AllocError> {
+    if bytes.len() < 6 {
+        return Ok(false);
+    }
+    Ok(framed(alloc, &bytes[4..])?.as_slice() == bytes)
+}
+
+/// What makes a frame whole is its length alone: it is at fault once it is there, and not before.
+#[test]
+fn faults_that_come_byte_by_byte(rt: HostRuntime) -> Result<(), Fail> {
+    let alloc = rt.alloc();
+    for &(bytes, fault, _) in &NO_FRAMES {
+        if is_long_enough(alloc, bytes)? {
+            is_refused_with_the_last_byte(&rt, alloc, bytes, fault)?;
+        }
+    }
+    for &(slot, said, calls) in &WRONG_RUNS {
+        let bytes = frame_of_calls(alloc, &ACCEPT_FRONT, &slot, said, calls)?;
+        is_refused_with_the_last_byte(&rt, alloc, &bytes, FrameFault::BadBody)?;
     }
     Ok(())
 }

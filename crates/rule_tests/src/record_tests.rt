@@ -103,6 +103,9 @@ fn commands_of_a_record_one_after_the_other(rt: HostRuntime) {
     let commands = Commands::new(room.as_slice());
     same!(&rt; commands.len(), 2);
     holds!(&rt; commands.as_slice() == [CALL, AWAY].as_slice());
+    let copy = CommandList::from_slice(room.as_slice());
+    same!(&rt; copy.len(), 2);
+    holds!(&rt; copy.as_slice() == [CALL, AWAY].as_slice());
     holds!(&rt; read_commands(&TWO_COMMANDS[..18], 2, &mut room).is_none());
     room.clear();
     holds!(&rt; room.as_slice().is_empty());

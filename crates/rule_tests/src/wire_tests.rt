@@ -1,9 +1,10 @@
 ghost use Rattle.paxos_wire.specs.Fits.{Fits};
 
-use crate::asserting::{holds, prints, same};
+use crate::asserting::{prints, same};
 use crate::frames::{
-    ACCEPT, ACCEPT_AWAY, ACCEPTED, CHOSEN_AWAY, FORWARD, FORWARD_AWAY, LONG_ACCEPT, OLD_FRAMES,
-    PREPARE, PROMISE, fault_of, message_of, writes,
+    ACCEPT, ACCEPT_AWAY, ACCEPT_FRONT, ACCEPT_OF_TWO, ACCEPTED, ACCEPTED_FRONT, ACCEPTED_OF_TWO,
+    CHOSEN_AWAY, FORWARD, FORWARD_AWAY, LONG_ACCEPT, NO_FRAMES, OLD_FRAMES, PREPARE, PREPARE_OF_5,
+    PROMISE, WRONG_RUNS, fault_of, frame_of_calls, framed, message_of, writes,
 };
 use paxos_wire::{FrameFault, Message, encode_reserved, frame_len};
 use std::alloc::{AllocError, Global};
@@ -11,8 +12,9 @@ use std::process::Abort;
 use std::test::Fail;
 
 /// These frames, and what is printed of their messages.
-static FRAMES: [(&[u8], &str); 9] = [
+static FRAMES: [(&[u8], &str); 12] = [
     (&PREPARE, "Prepare (1, 0) from 0"),
+    (&PREPARE_OF_5, "Prepare (1, 5) from 0"),
     (&ACCEPT, "Accept (1, 0) at 0: deal of hand 0"),
     (&LONG_ACCEPT, "Accept (1, 0) at 0: deal of hand 0"),
     (&ACCEPTED, "Accepted (1, 0) at 1: act 0 of hand 0: call"),
@@ -21,6 +23,14 @@ static FRAMES: [(&[u8], &str); 9] = [
     (&FORWARD_AWAY, "Forward away at act 0 of hand 0"),
     (&ACCEPT_AWAY, "Accept (1, 0) at 1: away at act 0 of hand 0"),
     (&CHOSEN_AWAY, "Chosen at 1: away at act 0 of hand 0"),
+    (
+        &ACCEPT_OF_TWO,
+        "Accept (1, 2) at 0 to 1: deal of hand 0, act 0 of hand 0: call",
+    ),
+    (
+        &ACCEPTED_OF_TWO,
+        "Accepted (1, 0) at 7 to 8: away at act 0 of hand 0, away at act 1 of hand 0",
+    ),
 ];
 
 /// Writes a message into room that is made for its frame, which has so many bytes.
@@ -81,90 +91,6 @@ fn frames_of_the_version_before_are_read(rt: HostRuntime) -> Result<(), Fail> {
     Ok(())
 }
 
-/// Bytes that are no frame, each with its fault and the fault's number.
-static NO_FRAMES: [(&[u8], FrameFault, u8); 23] = [
-    (&[0, 0, 0, 2, 3, 1], FrameFault::BadVersion, 52),
-    (&[0, 0, 0, 2, 0, 1], FrameFault::BadVersion, 52),
-    (&[0, 0, 0, 2, 3, 9], FrameFault::BadVersion, 52),
-    (&[0, 0, 0, 2, 2, 9], FrameFault::BadKind, 53),
-    (&[0, 0, 0, 2, 1, 9], FrameFault::BadKind, 53),
-    (&[0, 0, 0, 2, 2, 1], FrameFault::BadBody, 54),
-    (&[0, 0, 0, 2, 1, 1], FrameFault::BadBody, 54),
-    // a byte is missing, which comes before the version
-    (&[0, 0, 0, 3, 3, 1], FrameFault::BadBody, 54),
-    // of an Accept: no command, one without its count, and one of the version before with a count
-    (
-        &[0, 0, 0, 12, 2, 4, 0, 0, 0, 1, 0, 0, 0, 0, 0, 0],
-        FrameFault::BadBody,
-        54,
-    ),
-    (
-        &[
-            0, 0, 0, 0x12, 2, 4, 0, 0, 0, 1, 0, 0, 0, 0, 1, 3, 0, 0, 0, 0, 0, 0,
-        ],
-        FrameFault::BadBody,
-        54,
-    ),
-    (
-        &[
-            0, 0, 0, 0x13, 1, 4, 0, 0, 0, 1, 0, 0, 0, 0, 1, 1, 3, 0, 0, 0, 0, 0, 0,
-        ],
-        FrameFault::BadBody,
-        54,
-    ),
-    // a node that there was none of in the version before
-    (
-        &[0, 0, 0, 11, 1, 1, 0, 0, 0, 1, 5, 0, 0, 0, 0],
-        FrameFault::BadBody,
-        54,
-    ),
-    // no round, no node, no slot, and no last byte
-    (
-        &[0, 0, 0, 11, 2, 1, 0, 0, 0, 0, 0, 0, 0, 0, 0],
-        FrameFault::BadBody,
-        54,
-    ),
-    (
-        &[0, 0, 0, 11, 2, 1, 0, 0, 0, 1, 7, 0, 0, 0, 0],
-        FrameFault::BadBody,
-        54,
-    ),
-    (
-        &[0, 0, 0, 11, 2, 1, 0, 0, 0, 1, 0, 0, 0x3d, 9, 0],
-        FrameFault::BadBody,
-        54,
-    ),
-    (
-        &[0, 0, 0, 11, 2, 1, 0, 0, 0, 1, 0, 0, 0, 0],
-        FrameFault::BadBody,
-        54,
-    ),
-    // who is away in hand 10000, at index 256, with a byte more; and a fourth kind of command
-    (
-        &[0, 0, 0, 9, 2, 8, 3, 0, 0, 0x27, 0x10, 0, 0],
-        FrameFault::BadBody,
-        54,
-    ),
-    (
-        &[0, 0, 0, 9, 2, 8, 3, 0, 0, 0, 0, 1, 0],
-        FrameFault::BadBody,
-        54,
-    ),
-    (
-        &[0, 0, 0, 10, 2, 8, 3, 0, 0, 0, 0, 0, 0, 0],
-        FrameFault::BadBody,
-        54,
-    ),
-    (
-        &[0, 0, 0, 9, 2, 8, 4, 0, 0, 0, 0, 0, 0],
-        FrameFault::BadBody,
-        54,
-    ),
-    (&[0, 0, 0], FrameFault::TooShort, 50),
-    (&[0, 0, 0, 1, 1], FrameFault::TooShort, 50),
-    (&[0, 0, 0x10, 1], FrameFault::TooLong, 51),
-];
-
 #[test]
 fn frames_at_fault(rt: HostRuntime) {
     for &(bytes, fault, code) in &NO_FRAMES {
@@ -175,63 +101,28 @@ fn frames_at_fault(rt: HostRuntime) {
 
 #[test]
 fn a_frame_that_is_cut_is_none(rt: HostRuntime) {
-    for cut in 0..ACCEPT_AWAY.len() {
+    cut_is_none(&rt, &ACCEPT_AWAY);
+    cut_is_none(&rt, &ACCEPT_OF_TWO);
+}
+
+/// Sees that no beginning of a frame is a frame.
+fn cut_is_none(rt: &impl Abort, frame: &[u8]) {
+    for cut in 0..frame.len() {
         let fault = if cut < 4 {
             FrameFault::TooShort
         } else {
             FrameFault::BadBody
         };
-        same!(&rt; fault_of(&ACCEPT_AWAY[..cut]), Some(fault));
+        same!(rt; fault_of(&frame[..cut]), Some(fault));
     }
 }
 
-/// The version, the kind and the ballot of an Accept in (1, 0).
-const ACCEPT_FRONT: [u8; 7] = [2, 4, 0, 0, 0, 1, 0];
-
-/// The same of an Accepted.
-const ACCEPTED_FRONT: [u8; 7] = [2, 5, 0, 0, 0, 1, 0];
-
-/// Commands at fault: the first slot's bytes, how many are said to follow, and how many calls do.
-static WRONG_RUNS: [([u8; 4], u8, usize); 8] = [
-    ([0, 0, 0, 0], 0, 0),
-    ([0, 0, 0, 0], 65, 65),
-    ([0, 0, 0, 0], 2, 1),
-    ([0, 0, 0, 0], 1, 2),
-    // the last slot is 3999999
-    ([0, 0x3d, 8, 0xff], 2, 2),
-    ([0, 0x3d, 8, 0xc1], 64, 64),
-    ([0, 0x3d, 9, 0], 1, 1),
-    ([0xff, 0xff, 0xff, 0xff], 2, 2),
-];
-
-/// A frame that begins so, with a count and so many calls from a slot on.
-fn frame_of_calls(
-    alloc: Global,
-    front: &[u8],
-    slot: &[u8],
-    said: u8,
-    calls: usize,
-) -> Result<Vec<u8>, AllocError> {
-    let mut body = Vec::from_slice(alloc, front)?;
-    body.extend_from_slice(slot)?;
-    body.push(said)?;
-    for _ in 0..calls {
-        body.extend_from_slice(&[2, 0, 0, 0, 0, 0, 0, 1, 0, 0, 0, 0])?;
-    }
-    framed(alloc, &body)
-}
-
-/// The bytes behind their length, which is below 65536.
-fn framed(alloc: Global, body: &[u8]) -> Result<Vec<u8>, AllocError> {
-    let length = [
-        0,
-        0,
-        (body.len() / 256 % 256) as u8,
-        (body.len() % 256) as u8,
-    ];
-    let mut frame = Vec::from_slice(alloc, &length)?;
-    frame.extend_from_slice(body)?;
-    Ok(frame)
+#[test]
+fn a_byte_behind_a_frame_is_a_fault(rt: HostRuntime) -> Result<(), Fail> {
+    let mut bytes = Vec::from_slice(rt.alloc(), &ACCEPT_OF_TWO)?;
+    bytes.push(0)?;
+    same!(&rt; fault_of(&bytes), Some(FrameFault::BadBody));
+    Ok(())
 }
 
 /// Sees that so many calls from a slot on are at fault behind each front: with a version or a kind that there is none of
@@ -261,9 +152,60 @@ fn commands_for_slots_that_there_are_none_of(rt: HostRuntime) -> Result<(), Fail
     for &(slot, said, calls) in &WRONG_RUNS {
         are_at_fault(&rt, rt.alloc(), &slot, said, calls)?;
     }
-    // One at the last slot is right.
-    let frame = frame_of_calls(rt.alloc(), &ACCEPT_FRONT, &[0, 0x3d, 8, 0xff], 1, 1)?;
-    holds!(&rt; message_of(&frame).is_some());
+    Ok(())
+}
+
+/// The first slot's bytes, and how many calls are right from there on.
+static RIGHT_RUNS: [([u8; 4], u8); 5] = [
+    ([0, 0, 0, 0], 1),
+    ([0, 0, 0, 0], 2),
+    ([0, 0, 0, 0], 64),
+    // the last slot, and the last 64
+    ([0, 0x3d, 8, 0xff], 1),
+    ([0, 0x3d, 8, 0xc0], 64),
+];
+
+/// Sees that so many calls from a slot on are read behind the front of an Accept and of an Accepted, and written alike.
+fn are_right(rt: &impl Abort, alloc: Global, slot: &[u8], calls: u8) -> Result<(), AllocError> {
+    for front in [ACCEPT_FRONT, ACCEPTED_FRONT] {
+        let frame = frame_of_calls(alloc, &front, slot, calls, calls as usize)?;
+        reads_as_new(rt, alloc, &frame, &frame)?;
+    }
+    Ok(())
+}
+
+#[test]
+fn commands_for_all_slots_that_there_are(rt: HostRuntime) -> Result<(), Fail> {
+    for &(slot, calls) in &RIGHT_RUNS {
+        are_right(&rt, rt.alloc(), &slot, calls)?;
+    }
+    Ok(())
+}
+
+/// Puts the deal of hand 0 for ten players behind other bytes.
+fn put_deal(bytes: &mut Vec<u8>) -> Result<(), AllocError> {
+    bytes.extend_from_slice(&[1, 0, 0, 0, 0, 25])?;
+    for card in 0..25u8 {
+        bytes.push(card)?;
+    }
+    Ok(())
+}
+
+/// An Accepted of (2, 2) from slot 0 with a deal for ten players at each of 64 slots: no Accept and no Accepted is longer.
+fn longest_run(alloc: Global) -> Result<Vec<u8>, AllocError> {
+    let front = [0, 0, 0x07, 0xcc, 2, 5, 0, 0, 0, 2, 2, 0, 0, 0, 0, 64];
+    let mut bytes = Vec::from_slice(alloc, &front)?;
+    for _ in 0..64u8 {
+        put_deal(&mut bytes)?;
+    }
+    Ok(bytes)
+}
+
+#[test]
+fn the_longest_run_reads_and_writes_alike(rt: HostRuntime) -> Result<(), Fail> {
+    let bytes = longest_run(rt.alloc())?;
+    same!(&rt; bytes.len(), 2000);
+    reads_as_new(&rt, rt.alloc(), &bytes, &bytes)?;
     Ok(())
 }
 

@@ -2,7 +2,7 @@ ghost use Rattle.std.specs.Prelude.{◌<◌};
 ghost use Rattle.paxos_wire.specs.Fits.{Fits};
 
 use deck_draw::draw;
-use paxos_wire::{Ballot, Message, decode, encode};
+use paxos_wire::{Ballot, CommandList, Message, decode, encode};
 use slot_log::Command;
 use std::alloc::{AllocError, Global};
 use std::io;
@@ -18,10 +18,10 @@ fn proposal(hand: u32) -> Message
     Message::Accept {
         ballot: Ballot { round: 1, node: 0 },
         slot: hand,
-        command: Command::Deal {
+        commands: CommandList::from_slice(&[Command::Deal {
             hand,
             deal: draw(1, hand, 2),
-        },
+        }]),
     }
 }
 

@@ -8,4 +8,4 @@ use Rattle.dealer_node.proofs.learning.hear_chosen.Goals as goal
 pub returns-clause-goes_on : goal.returns-clause-goes_on
 returns-clause-goes_on c =
     let goes = believed_goes c.fronts_go_on.ensures c.commands_are_kept.ensures c.one_more_is_known.ensures c.args.learner.now.learned c.args.slot c.args.command (subst (λ (l : Log). IsLog l) c.log.ensures c.limits.ensures) c.requires.command c.requires.commands in
-    subst (λ (l : Learned). GoesOn c.args.learner.now.learned.log l.log) (sym c.on_chosen_reserved.ensures.learned) goes.on
+    subst (λ (l : Learned). GoesOn c.args.learner.now.learned.log l.log 1) (sym c.on_chosen_reserved.ensures.learned) goes.on

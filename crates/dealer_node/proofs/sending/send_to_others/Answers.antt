@@ -1,4 +1,6 @@
-use Rattle.std.proofs.Common.{◌≡◌, ◌++◌, length, ℕ, arith, subst, sym, ◌∙◌, ap}
+use Rattle.std.proofs.Common.{◌≡◌, ◌≤◌, ◌+◌, ◌*◌, ◌++◌, length, ℕ, arith, subst, sym, ◌∙◌, ap}
+use Rattle.std.proofs.lemmas.Nat.{mul-le}
+use Rattle.paxos_wire.specs.Fits.{most_bytes}
 use Rattle.std.proofs.lemmas.List.{append-nil}
 use Rattle.dealer_node.specs.Texts.{Written, byte_total}
 use Rattle.node_rules.specs.Sending.{to_first}
@@ -18,30 +20,36 @@ loop-to-init c = record {
   size = omega arith;
 }
 
+-- one frame more is as much more
+more : (most to : ℕ) → most * (to + 1) ≡ most * to + most
+more most to = omega arith
+
 pub send-requires-clause-bytes : goal.send-requires-clause-bytes
 send-requires-clause-bytes c =
-    let short = c.frame_len-len.ensures.single c.requires.single in
-    omega (arith, short, c.frame_len-len.ensures.value, c.requires.bytes)
+    let short = c.frame_len-len.ensures.kind in
+    let all : most_bytes c.args.message.now * (c.loop-to.to + 1) ≤ most_bytes c.args.message.now * c.args.nodes = mul-le (most_bytes c.args.message.now) (c.loop-to.to + 1) (most_bytes c.args.message.now) c.args.nodes (omega arith) (omega arith) in
+    omega (arith, short, all, more (most_bytes c.args.message.now) c.loop-to.to, c.frame_len-len.ensures.value, c.requires.bytes, c.loop-to.invariant.byte_room)
 
 pub loop-to-preserved : goal.loop-to-preserved
 loop-to-preserved c =
-    let short = c.frame_len-len.ensures.single c.requires.single in
+    let short = c.frame_len-len.ensures.kind in
+    let step = more (most_bytes c.args.message.now) c.loop-to.to in
     elim c.if-to-number.branch [
       | then-to-number w ↦ record {
         texts = sent_on c.args.frames.now.texts c.loop-to.frames.texts c.if-to-number.frames.texts c.loop-to.to c.args.number c.args.message.now c.loop-to.invariant.texts (ap (λ (f : Written ℕ). f.texts) w.frames-is ∙ w.send.ensures.texts) w.if-to-number.true;
         fits = to_one_more c.loop-to.to c.args.number c.args.message.now c.loop-to.invariant.fits w.send.ensures.message w.if-to-number.true;
         text_room = omega (arith, ap (λ (f : Written ℕ). f.text_room) w.frames-is);
-        byte_room = omega (arith, short, c.frame_len-len.ensures.value, ap (λ (f : Written ℕ). f.byte_room) w.frames-is);
+        byte_room = omega (arith, short, step, c.frame_len-len.ensures.value, ap (λ (f : Written ℕ). f.byte_room) w.frames-is);
         len = omega (arith, ap (λ (f : Written ℕ). length f.texts) w.frames-is);
-        size = omega (arith, short, c.frame_len-len.ensures.value, ap (λ (f : Written ℕ). byte_total f.texts) w.frames-is);
+        size = omega (arith, short, step, c.frame_len-len.ensures.value, ap (λ (f : Written ℕ). byte_total f.texts) w.frames-is);
       }
       | else-to-number w ↦ record {
         texts = kept_on c.args.frames.now.texts c.loop-to.frames.texts c.if-to-number.frames.texts c.loop-to.to c.args.number c.args.message.now c.loop-to.invariant.texts (ap (λ (f : Written ℕ). f.texts) w.frames-is) w.if-to-number.false;
         fits = to_same c.loop-to.to c.args.number c.args.message.now c.loop-to.invariant.fits w.if-to-number.false;
         text_room = omega (arith, ap (λ (f : Written ℕ). f.text_room) w.frames-is);
-        byte_room = omega (arith, ap (λ (f : Written ℕ). f.byte_room) w.frames-is);
+        byte_room = omega (arith, step, ap (λ (f : Written ℕ). f.byte_room) w.frames-is);
         len = omega (arith, ap (λ (f : Written ℕ). length f.texts) w.frames-is);
-        size = omega (arith, ap (λ (f : Written ℕ). byte_total f.texts) w.frames-is);
+        size = omega (arith, step, ap (λ (f : Written ℕ). byte_total f.texts) w.frames-is);
       }
     ]
 

@@ -25,6 +25,7 @@ returns-in_ok-node-in-Ok-clause-over g c =
       bytes = c.begin.ensures.bytes ∙ (ap (seen_by g.D.Disk) made.disk ∙ sync.seen);
       begun = c.begin.ensures.begun ∙ (ap (seen_by g.D.Disk) made.disk ∙ sync.seen);
       counts = omega (arith, c.begin.ensures.failures, ap (count_by g.D.Disk) made.disk, sync.failed);
+      settled = λ image is. sync.durable image (subst (λ disk. images_by g.D.Disk disk image) made.disk (c.begin.ensures.images image is));
       images = λ image is. sync.crash image (subst (λ disk. images_by g.D.Disk disk image) made.disk (c.begin.ensures.images image is));
       during = λ t image is. elim (c.begin.ensures.moments t image is) [
         | inl before ↦ elim (sync.time.nothing_else t image (subst (λ disk. since_by g.D.Disk disk t image) made.disk before)) [ inl was ↦ inl was | inr now ↦ inr (sync.crash image now) ]

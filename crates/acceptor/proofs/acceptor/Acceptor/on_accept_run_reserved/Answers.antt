@@ -1,6 +1,8 @@
-use Rattle.std.proofs.Common.{ℕ, ◌+◌, ◌<◌, ◌≤◌, sym, ◌∙◌, ap, subst, Err, length, take, refl}
+use Rattle.std.proofs.Common.{ℕ, ◌≡◌, ◌+◌, ◌<◌, ◌≤◌, List, sym, ◌∙◌, ap, subst, Err, length, take, refl, arith}
 use Rattle.std.specs.Prelude.{IsSome}
+use Rattle.std.proofs.lemmas.List.{length-take-le}
 use Rattle.std.proofs.lemmas.Result.{err_from_is_err_and}
+use Rattle.slot_log.specs.declared.command.Command.{Command}
 use Rattle.paxos_wire.specs.Fits.{IsCommandRun}
 use Rattle.promise_store.specs.declared.held.Held.{Held}
 use Rattle.promise_store.specs.Room.{placed_in}
@@ -62,8 +64,12 @@ returns-then-voted-clause-fits g c =
     let index = c.held-held.result.now in
     let count = c.beginning_of-count.result in
     let some = begins (λ k. is_placed_in b (placed_in index k)) c.args.slot count (length c.args.commands.now) c.is_voted-voted.result c.is_voted-voted.ensures c.requires.run.least c.beginning_of-count.ensures.ends in
-    let each : (k : ℕ) → c.args.slot ≤ k → k < c.args.slot + count → IsSome (placed_in (held_of c.args.self.now.store) k) = λ k from to. subst (λ (h : Held). IsSome (placed_in h k)) c.held-held.ensures.value (placed_some b (placed_in index k) (c.beginning_of-count.ensures.alike k from to ∙ c.if-voted.true)) in
-    (refl, refl, run_fits c.args.slot count c.args.commands.now c.in_ok-stored.stored c.requires.run c.beginning_of-count.ensures.most some (c.in_ok-stored.ensures.all each) c.in_ok-stored.ensures.range)
+    let each : (k : ℕ) → c.args.slot ≤ k → k < c.args.slot + count → IsSome (placed_in (held_of c.args.self.now.store) k) = λ k from to. subst (λ (h : Held). IsSome (placed_in h k)) c.held-held.ensures.value (placed_some b (placed_in index k) (c.beginning_of-count.ensures.alike k from to ∙ c.if-voted.true)) in (
+      refl,
+      refl,
+      run_fits c.args.slot count c.args.commands.now c.in_ok-stored.stored c.requires.run c.beginning_of-count.ensures.most some (c.in_ok-stored.ensures.all each) c.in_ok-stored.ensures.range,
+      (let long = c.in_ok-stored.ensures.most in let few = c.beginning_of-count.ensures.most in omega (arith, long, few)),
+    )
 
 pub accept_run_reserved-requires-clause-run : goal.accept_run_reserved-requires-clause-run
 accept_run_reserved-requires-clause-run g c =
@@ -78,8 +84,13 @@ returns-clause-fits g c =
     let b = c.args.ballot in
     let count = c.beginning_of-count.result in
     let cs = c.args.commands.now in
-    let some = begins (λ k. is_placed_in b (placed_in c.held-held.result.now k)) c.args.slot count (length cs) c.is_voted-voted.result c.is_voted-voted.ensures c.requires.run.least c.beginning_of-count.ensures.ends in
-    (refl, refl, subst (IsCommandRun c.args.slot) (sym c.new.ensures) (taken_fits c.args.slot count cs c.requires.run c.beginning_of-count.ensures.most some))
+    let some = begins (λ k. is_placed_in b (placed_in c.held-held.result.now k)) c.args.slot count (length cs) c.is_voted-voted.result c.is_voted-voted.ensures c.requires.run.least c.beginning_of-count.ensures.ends in (
+      refl,
+      refl,
+      subst (IsCommandRun c.args.slot) (sym c.new.ensures) (taken_fits c.args.slot count cs c.requires.run c.beginning_of-count.ensures.most some),
+      (let same : length c.new.result ≡ length (take count cs) = ap (λ (l : List Command). length l) c.new.ensures in
+          let long = length-take-le count cs c.beginning_of-count.ensures.most in let few = c.beginning_of-count.ensures.most in omega (arith, same, long, few)),
+    )
 
 pub returns-in_err-stored-clause-stored : goal.returns-in_err-stored-clause-stored
 returns-in_err-stored-clause-stored g c head held keeps honest is = c.in_err-stored.ensures.read.reads

@@ -1,13 +1,16 @@
-use Rattle.std.proofs.Common.{sym, subst, refl}
+use Rattle.std.proofs.Common.{◌≡◌, List, sym, subst, refl}
 use Rattle.std.proofs.lemmas.Result.{on_ok_weaker}
 use Rattle.paxos_wire.specs.declared.message.Message.{Message}
-use Rattle.learner.specs.Learning.{answer_to, hearing, answer_to_chosen, believing}
+use Rattle.slot_log.specs.declared.command.Command.{Command}
+use Rattle.learner.specs.Learning.{answer_to_chosen, believing}
+use Rattle.learner.specs.CommandRuns.{answer_to_run, hearing_run}
 use Rattle.node_rules.specs.Rules.{taking}
-use Rattle.node_rules.specs.Learning.{telling}
+use Rattle.node_rules.specs.Learning.{counting_votes, telling}
 use Rattle.node_rules.specs.Proposing.{counting_promise, hearing_refusal}
 use Rattle.node_rules.specs.Seats.{taking_over}
 use Rattle.dealer_node.specs.Posts.{place_at}
 use Rattle.dealer_node.specs.Outs.{told_by}
+use Rattle.dealer_node.specs.Running.{TakesTurn}
 use Rattle.dealer_node.specs.Memory.{TakesInMemory}
 use Rattle.dealer_node.proofs.Remembered.{counted_keeps, refused_keeps, learned_keeps, believed_keeps, still_taken}
 use Rattle.dealer_node.proofs.running.Running.take.Goals as goal
@@ -31,14 +34,15 @@ returns-in-Refuse-clause-at c = c.hear_refusal.ensures.at c.args.post.now c.requ
 pub returns-in-Accepted-clause-ok : goal.returns-in-Accepted-clause-ok
 returns-in-Accepted-clause-ok c =
     let place = place_at c.args.post.now in
-    on_ok_weaker c.count_vote.result
+    let same : c.as_slice.result.now ≡ c.in-Accepted.commands = c.as_slice.ensures.value in
+    on_ok_weaker c.count_votes.result
     (λ takes s is.
-    subst (λ (m : Message). TakesInMemory c.args.post.now c.count_vote.new.self (told_by c.args.made.now) (told_by c.count_vote.new.made) s (taking place c.args.from m s)) (sym c.in-Accepted.is)
-    (let turn = takes s is in record {
+    subst (λ (m : Message). TakesInMemory c.args.post.now c.count_votes.new.self (told_by c.args.made.now) (told_by c.count_votes.new.made) s (taking place c.args.from m s)) (sym c.in-Accepted.is)
+    (let turn = subst (λ (cs : List Command). TakesTurn c.args.post.now c.count_votes.new.self (told_by c.args.made.now) (told_by c.count_votes.new.made) (counting_votes place c.args.from c.in-Accepted.ballot c.in-Accepted.slot cs s)) same (takes s is) in record {
       takes = turn;
-      keeps = learned_keeps place (answer_to s.learned c.args.from c.in-Accepted.ballot c.in-Accepted.slot c.in-Accepted.command) (hearing s.learned c.args.from c.in-Accepted.ballot c.in-Accepted.slot c.in-Accepted.command) s turn.turn turn.rule;
+      keeps = learned_keeps place (answer_to_run s.learned c.args.from c.in-Accepted.ballot c.in-Accepted.slot c.in-Accepted.commands) (hearing_run s.learned c.args.from c.in-Accepted.ballot c.in-Accepted.slot c.in-Accepted.commands) s turn.turn turn.rule;
     }))
-    c.count_vote.ensures.ok
+    c.count_votes.ensures.ok
 
 pub returns-in-Chosen-clause-ok : goal.returns-in-Chosen-clause-ok
 returns-in-Chosen-clause-ok c =

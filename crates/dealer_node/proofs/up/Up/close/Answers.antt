@@ -6,8 +6,8 @@ use Rattle.dealer_node.proofs.Stored.{close_works, close_rests}
 use Rattle.dealer_node.proofs.up.Up.close.Goals as goal
 
 pub returns-in-Some-clause-left : goal.returns-in-Some-clause-left
-returns-in-Some-clause-left g c need votes frames left =
-    c.propose.ensures.left need votes frames (fewer_left c.args.self.now.running c.proposal.new.self c.args.made.now need (votes + 1) (frames + FRAMES_OF_A_CLOSE) (frames + FRAMES_OF_A_CLOSE) (omega arith) c.proposal.ensures.rest left)
+returns-in-Some-clause-left g c need answers commands frames left =
+    c.propose.ensures.left need answers commands frames (fewer_left c.args.self.now.running c.proposal.new.self c.args.made.now need (answers + 1) (commands + 1) (frames + FRAMES_OF_A_CLOSE) (frames + FRAMES_OF_A_CLOSE) (omega arith) c.proposal.ensures.rest left)
 
 pub returns-in-Some-clause-works : goal.returns-in-Some-clause-works
 returns-in-Some-clause-works g c s honest is =

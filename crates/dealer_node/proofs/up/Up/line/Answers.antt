@@ -13,5 +13,5 @@ returns-clause-works g c = λ s honest is.
 pub returns-clause-within : goal.returns-clause-within
 returns-clause-within g c = λ nothing.
     left_within c.close.new.self.running c.close.new.made (line_need c.args.self.now.running c.args.limit)
-    (c.close.ensures.left (line_need c.args.self.now.running c.args.limit) 0 0
+    (c.close.ensures.left (line_need c.args.self.now.running c.args.limit) 0 0 0
     (line_left c.args.self.now c.hear.new.self c.args.made.now c.hear.new.made c.args.limit nothing c.requires.room c.hear.ensures.frames c.hear.ensures.shown c.hear.ensures.faults c.hear.ensures.rest))

@@ -1,4 +1,4 @@
-use Rattle.std.proofs.Common.{◌≡◌, ◌∙◌, ap, sym, subst, refl, inr, Result, Ok, Err, arith}
+use Rattle.std.proofs.Common.{◌≡◌, ℕ, ◌∙◌, ap, sym, subst, refl, inr, Result, Ok, Err, arith}
 use Rattle.paxos_wire.specs.declared.message.Message.{Message}
 use Rattle.paxos_wire.specs.declared.fault.FrameFault.{FrameFault}
 use Rattle.node_rules.specs.Rules.{on_message, on_read}
@@ -11,6 +11,7 @@ use Rattle.dealer_node.proofs.Heard.{err_is, works_over}
 use Rattle.dealer_node.specs.Most.{most_after}
 use Rattle.dealer_node.specs.Running.{ahead_of}
 use Rattle.dealer_node.specs.Calling.{frame_need}
+use Rattle.dealer_node.specs.Handling.{IsWithin}
 use Rattle.dealer_node.proofs.Most.{none_shown, made_shown}
 use Rattle.dealer_node.proofs.up.Up.on_frame.Goals as goal
 
@@ -58,5 +59,6 @@ returns-in_err-message-in-Ok-clause-shows g c = none_shown (most_after (ahead_of
 
 pub returns-in_ok-message-in-Ok-clause-shows : goal.returns-in_ok-message-in-Ok-clause-shows
 returns-in_ok-message-in-Ok-clause-shows g c =
-    made_shown (most_after (ahead_of c.args.self.now.running)) (frame_need c.ready.new.self.running) c.message.new.made (told_by c.args.out.now) (told_by c.ready.new.out) (told_by c.append.new.self)
-    c.append.ensures c.in_ok-made-in-Ok.ensures.same (c.in_ok-message-in-Ok.ensures.within c.in_ok-made-in-Ok.ensures.nothing) (omega (arith, c.in_ok-made-in-Ok.ensures.ahead)) (omega (arith, c.in_ok-made-in-Ok.ensures.ahead))
+    made_shown (most_after (ahead_of c.args.self.now.running)) (frame_need c.ready.new.self.running c.commands_in-commands.result) c.message.new.made (told_by c.args.out.now) (told_by c.ready.new.out) (told_by c.append.new.self)
+    c.append.ensures c.in_ok-made-in-Ok.ensures.same (subst (λ (k : ℕ). IsWithin c.message.new.made (frame_need c.ready.new.self.running k)) (sym c.commands_in-commands.ensures.value) (c.in_ok-message-in-Ok.ensures.within c.in_ok-made-in-Ok.ensures.nothing))
+    (omega (arith, c.in_ok-made-in-Ok.ensures.ahead, c.commands_in-commands.ensures.most)) (omega (arith, c.in_ok-made-in-Ok.ensures.ahead, c.commands_in-commands.ensures.most))

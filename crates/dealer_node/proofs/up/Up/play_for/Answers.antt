@@ -18,6 +18,6 @@ returns-clause-works g c = λ s honest is meant.
 pub returns-clause-within : goal.returns-clause-within
 returns-clause-within g c = λ nothing.
     left_within c.close.new.self.running c.close.new.made (away_need c.args.self.now.running)
-    (c.close.ensures.left (away_need c.args.self.now.running) 0 0
+    (c.close.ensures.left (away_need c.args.self.now.running) 0 0 0
     (away_left c.args.self.now _ c.args.made.now c.play_for.new.made nothing c.requires.room c.play_for.ensures.frames c.play_for.ensures.rest
     (ap (λ (r : Running). record c.args.self.now { running = r }) c.play_for.ensures.same)))

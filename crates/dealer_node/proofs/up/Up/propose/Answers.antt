@@ -18,9 +18,9 @@ pub vote-requires-clause-bytes : goal.vote-requires-clause-bytes
 vote-requires-clause-bytes g c = omega (arith, c.requires.bytes, c.nodes-nodes.ensures.most, c.nodes-nodes.ensures.value, c.send_proposal.ensures.grows.byte_room)
 
 pub returns-clause-left : goal.returns-clause-left
-returns-clause-left g c need votes frames left =
-    c.vote.ensures.left need votes frames
-    (sent_left c.args.self.now.running c.args.made.now c.send_proposal.new.frames need (votes + 1) (frames + FRAMES_TO_ALL) (frames + FRAMES_OF_A_CLOSE) c.args.post.now.nodes (omega (arith, c.nodes-nodes.ensures.most, c.nodes-nodes.ensures.value)) c.send_proposal.ensures.grows left)
+returns-clause-left g c need answers commands frames left =
+    c.vote.ensures.left need answers commands frames
+    (sent_left c.args.self.now.running c.args.made.now c.send_proposal.new.frames need (answers + 1) (commands + 1) (frames + FRAMES_TO_ALL) (frames + FRAMES_OF_A_CLOSE) c.args.post.now.nodes (omega (arith, c.nodes-nodes.ensures.most, c.nodes-nodes.ensures.value)) c.send_proposal.ensures.grows left)
 
 pub returns-clause-works : goal.returns-clause-works
 returns-clause-works g c s honest is own =

@@ -8,12 +8,12 @@ use Rattle.dealer_node.proofs.up.Up.tick.Goals as goal
 pub returns-then-over-clause-within : goal.returns-then-over-clause-within
 returns-then-over-clause-within g c = λ nothing.
     left_within c.close.new.self.running c.close.new.made (close_need c.args.self.now.running)
-    (c.close.ensures.left (close_need c.args.self.now.running) 0 0 (close_left c.args.self.now c.args.made.now nothing c.requires.room))
+    (c.close.ensures.left (close_need c.args.self.now.running) 0 0 0 (close_left c.args.self.now c.args.made.now nothing c.requires.room))
 
 pub returns-else-over-clause-within : goal.returns-else-over-clause-within
 returns-else-over-clause-within g c = λ nothing.
     left_within c.begin.new.self.running c.begin.new.made (close_need c.args.self.now.running)
-    (c.begin.ensures.left (close_need c.args.self.now.running) 0 0 (close_left c.args.self.now c.args.made.now nothing c.requires.room))
+    (c.begin.ensures.left (close_need c.args.self.now.running) 0 0 0 (close_left c.args.self.now c.args.made.now nothing c.requires.room))
 
 pub returns-then-over-clause-works : goal.returns-then-over-clause-works
 returns-then-over-clause-works g c s honest is same over =

@@ -1,17 +1,21 @@
 use Rattle.dealer_world.specs.Viewing.{view_of}
 use Rattle.dealer_world.proofs.Founding.{reopened_posted, reopened_behind}
 use Rattle.dealer_world.proofs.Started.{all_started, reopened_wait}
-use Rattle.dealer_world.proofs.Opened.{AreDown, IsRefusedStart, opened_over, begun_are, begun_since, found_settles, found_within, found_resumes, files_have, unopened}
+use Rattle.dealer_world.proofs.Opened.{AreDown, IsRefusedStart, opened_over, begun_are, begun_since, found_keeps, found_again, found_within, found_resumes, files_have, unopened}
+use Rattle.dealer_world.proofs.Again.{goes_on_again}
 use Rattle.dealer_world.proofs.Wanting.{on_fault}
 use Rattle.dealer_world.proofs.Promising.{promised}
 use Rattle.dealer_world.proofs.Reached.{reached_keeps}
 use Rattle.dealer_world.proofs.Leaving.{goes_on, goes_on_fresh}
+use Rattle.dealer_kind.specs.Plans.{Plan}
+use Rattle.dealer_node.specs.Seeing.{begun_of}
 use Rattle.dealer_node.specs.declared.fault.NodeFault.{NodeFault}
+use Rattle.dealer_world.specs.Ruling.{GoesOn}
 use Rattle.dealer_world.specs.Beginning.{AreImages, AreImagesDuring, HasStore, AreEach, IsUnopened}
 use Rattle.dealer_world.specs.Events.{node_of}
 use Rattle.dealer_world.proofs.Stopping.{goes_on_inside}
 use Rattle.std.specs.Prelude.{map}
-use Rattle.std.proofs.Common.{◌≡◌, ◌∙◌, length, true, Err, IsTrue, sym, subst, rules}
+use Rattle.std.proofs.Common.{◌≡◌, ◌∙◌, ℕ, Bool, List, length, true, Err, IsTrue, sym, subst, rules}
 use Rattle.std.proofs.lemmas.List.{length-map}
 use Rattle.dealer_world.proofs.cluster.Cluster.open.Goals as goal
 
@@ -73,12 +77,29 @@ returns-clause-over g c =
     opened_over g.D.Disk c.args.config c.args.disks.items c.in_ok-nodes.nodes.items (view_of c.down-cluster.result).nodes (view_of c.start_all.new.self).nodes c.requires c.in_ok-nodes.ensures.count
     c.in_ok-nodes.ensures.each c.in_ok-nodes.ensures.over c.down-cluster.ensures.nodes c.start_all.ensures.opens c.in_ok-start_all.ensures.marks
 
-pub returns-clause-settles : goal.returns-clause-settles
-returns-clause-settles g c = λ stores begun files honest leave found.
+pub returns-clause-keeps : goal.returns-clause-keeps
+returns-clause-keeps g c = λ stores files honest have found.
     let now = (view_of c.start_all.new.self).nodes in
     let over = opened_over g.D.Disk c.args.config c.args.disks.items c.in_ok-nodes.nodes.items (view_of c.down-cluster.result).nodes now c.requires c.in_ok-nodes.ensures.count
     c.in_ok-nodes.ensures.each c.in_ok-nodes.ensures.over c.down-cluster.ensures.nodes c.start_all.ensures.opens c.in_ok-start_all.ensures.marks in
-    found_settles g.D.Disk (length c.args.config.sources) c.args.disks.items now files stores begun g.met.D.Disk.only_now over honest leave found
+    found_keeps g.D.Disk (length c.args.config.sources) c.args.disks.items now files stores g.met.D.Disk.only_now over honest have found
+
+pub returns-clause-again : goal.returns-clause-again
+returns-clause-again g c = λ eras files honest rest found goes.
+    let made = view_of c.start_all.new.self in
+    let given = c.args.disks.items in
+    let n = length c.args.config.sources in
+    let over = opened_over g.D.Disk c.args.config given c.in_ok-nodes.nodes.items (view_of c.down-cluster.result).nodes made.nodes c.requires c.in_ok-nodes.ensures.count
+    c.in_ok-nodes.ensures.each c.in_ok-nodes.ensures.over c.down-cluster.ensures.nodes c.start_all.ensures.opens c.in_ok-start_all.ensures.marks in
+    let begun = begun_since g.D.Disk given c.in_ok-nodes.nodes.items (view_of c.down-cluster.result).nodes made.nodes c.in_ok-nodes.ensures.over c.down-cluster.ensures.nodes c.start_all.ensures.opens in
+    let is_open : made.opened ≡ true = search rules in
+    let same : made.config ≡ c.args.config = search rules in
+    let from : GoesOn true made.config.setting n eras (map g.D.Disk.seen given) =
+    subst (λ (plan : Plan). GoesOn true made.config.setting (length plan.sources) eras (map g.D.Disk.seen given)) same
+    (subst (λ (files : List (List ℕ)). GoesOn true made.config.setting (length made.config.sources) eras files) begun
+    (subst (λ (o : Bool). GoesOn o made.config.setting (length made.config.sources) eras (map (begun_of g.D.Disk) made.nodes)) is_open goes)) in
+    goes_on_again made.config.setting n eras (map g.D.Disk.seen given) files (found.count ∙ (sym over.count ∙ sym (length-map given g.D.Disk.seen)))
+    (found_again g.D.Disk n given made.nodes files g.met.D.Disk.only_now over honest rest found) from
 
 pub returns-clause-within : goal.returns-clause-within
 returns-clause-within g c = λ files honest goes_on found.
