@@ -3,7 +3,11 @@
 
 Build it first (./check, or `rt run` in crates/workload). Each task runs RUNS times (5 by default) and the
 fastest run counts; what it prints is checked to be the same each time.
+
+At last nodes that all began anew, one of which knows nothing and leads, catch up with what two of them accepted: how many
+ticks, deliveries and bytes of frames that takes. More than five deliveries for each 64 commands are a failure.
 """
+import re
 import subprocess
 import sys
 import time
@@ -26,19 +30,39 @@ TASKS = [
     ("answers", "answers counted by a learner", 5_000_000, None),
     ("refusals", "proposals refused by an acceptor", 5_000_000, None),
     ("nodes", "whole commands on three nodes in memory", 90_000, None),
+    ("nodes-five", "whole commands on five nodes in memory", 90_000, None),
+    ("nodes-seven", "whole commands on seven nodes in memory", 90_000, None),
 ]
+# How many commands nodes catch up with: as many as one frame has, one more, and many. They are deals and folds in turn; behind
+# a deal, or 64 commands, the leader has no command of its own to propose.
+ACCEPTED = (64, 65, 1_003, 10_001)
+TO_CATCH_UP = re.compile(r"(\d+) commands: (\d+) ticks, (\d+) deliveries, (\d+) bytes")
 
 
 def fastest(task, runs):
     outputs, times = set(), []
     for _ in range(runs):
         started = time.perf_counter()
-        ran = subprocess.run([PROGRAM, task], capture_output=True, check=True, stdin=subprocess.DEVNULL)
+        ran = subprocess.run([PROGRAM, *task.split()], capture_output=True, check=True, stdin=subprocess.DEVNULL)
         times.append(time.perf_counter() - started)
         outputs.add(ran.stdout)
     if len(outputs) != 1:
         sys.exit(f"{task}: its output differs from run to run")
-    return min(times), outputs.pop().decode().strip()
+    output = outputs.pop().decode().strip()
+    if output.startswith("unknown: "):
+        sys.exit(f"{task}: the program has no such task; build it anew")
+    return min(times), output
+
+
+def catch_up(count):
+    """Tells what nodes take that catch up with so many commands."""
+    _, output = fastest(f"catching-up {count}", 1)
+    found, most = TO_CATCH_UP.search(output), 5 * (count // 64 + 1)
+    print(f"catching-up: {output}")
+    if not found or int(found[1]) != count:
+        sys.exit(f"catching up with {count} commands: the program printed something else")
+    if int(found[3]) > most:
+        sys.exit(f"catching up with {count} commands takes {found[3]} deliveries, and {most} are the most")
 
 
 def main(words):
@@ -59,6 +83,8 @@ def main(words):
     print(f"by counts a seven takes {ratio:.0f} times less than by all fives")
     ratio = times["long-hands"] / times["short-hands"]
     print(f"an action of a long hand takes {ratio:.2f} times as long as one of a short hand")
+    for count in ACCEPTED:
+        catch_up(count)
 
 
 if __name__ == "__main__":

@@ -27,7 +27,7 @@ use Rattle.proposer.specs.declared.fault.ProposeFault.{ProposeFault}
 use Rattle.paxos_wire.specs.declared.limits.TheConstants.{SLOTS}
 use Rattle.node_rules.specs.Rules.{seeing, taking, asking, on_message}
 use Rattle.paxos_wire.specs.declared.limits.TheConstants.{MOST_SINGLE_FRAME}
-use Rattle.dealer_node.specs.declared.limits.TheConstants.{FRAMES_TO_ALL, FRAMES_OF_A_CLOSE, ANSWERS_OF_A_CALL, FRAMES_OF_AN_ANSWER, FRAMES_OF_A_MESSAGE}
+use Rattle.dealer_node.specs.declared.limits.TheConstants.{FRAMES_TO_ALL, FRAMES_OF_A_CLOSE, ANSWERS_OF_A_CALL, FRAMES_OF_AN_ANSWER}
 use Rattle.dealer_node.specs.declared.up.Up.{Up}
 use Rattle.dealer_node.specs.declared.running.Running.{Running}
 use Rattle.dealer_node.specs.declared.made.Made.{Made}
@@ -40,9 +40,10 @@ use Rattle.dealer_node.specs.Rooms.{Grows}
 use Rattle.dealer_node.specs.Outs.{Told}
 use Rattle.dealer_node.specs.Posts.{Post, place_at}
 use Rattle.dealer_node.specs.Running.{IsRunning, IsTaken, CanLearn, ahead_of}
+use Rattle.dealer_node.specs.Calling.{frames_behind}
 use Rattle.dealer_node.specs.Working.{disk_under, ComesTo, IsDone, IsUp, Took, Failed, Works, HasLeft}
 use Rattle.node_rules.proofs.Asked.{asked_on, asked_same}
-use Rattle.dealer_node.proofs.Left.{left_beside, sent_left}
+use Rattle.dealer_node.proofs.Left.{left_beside, less_left, sent_left}
 use Rattle.dealer_node.proofs.Worked.{OneAppends, same_turn, done_behind, then_works, first_failed, works_from}
 use Rattle.dealer_node.proofs.Stored.{telling_keeps, telling_done}
 
@@ -258,18 +259,16 @@ seen_left old new made need answers commands frames rest left =
     subst (λ (r : Running). HasLeft r made need answers commands frames) (sym rest) (left_beside old new old made need answers commands frames left)
 
 -- a message whose ballots were seen has room for its answer, for each of its commands, and behind it for the close and a question
-pub message_left : (old new : Running) (made : Made) (need : Need) (k : ℕ) → new ≡ record old { seen = new.seen } → HasLeft old made need ANSWERS_OF_A_CALL (k + 1) (FRAMES_OF_A_MESSAGE + FRAMES_TO_ALL * k)
-    → HasLeft new made need (1 + 1) (1 + k) ((FRAMES_OF_A_CLOSE + 1) + (FRAMES_OF_AN_ANSWER + FRAMES_TO_ALL * k))
-message_left old new made need k rest left =
-    let commands : k + 1 ≡ 1 + k = omega arith in
-    let frames : FRAMES_OF_A_MESSAGE + FRAMES_TO_ALL * k ≡ (FRAMES_OF_A_CLOSE + 1) + (FRAMES_OF_AN_ANSWER + FRAMES_TO_ALL * k) = omega arith in
-    subst (λ (n : ℕ). HasLeft new made need ANSWERS_OF_A_CALL (1 + k) n) frames
-    (subst (λ (n : ℕ). HasLeft new made need ANSWERS_OF_A_CALL n (FRAMES_OF_A_MESSAGE + FRAMES_TO_ALL * k)) commands
-    (seen_left old new made need ANSWERS_OF_A_CALL (k + 1) (FRAMES_OF_A_MESSAGE + FRAMES_TO_ALL * k) rest left))
+pub message_left : (old new : Running) (made : Made) (need : Need) (k most : ℕ) → new ≡ record old { seen = new.seen } → HasLeft old made need ANSWERS_OF_A_CALL (k + most) (frames_behind k most)
+    → HasLeft new made need (1 + 1) (0 + most + k) (1 + FRAMES_OF_A_CLOSE * most + (FRAMES_OF_AN_ANSWER + FRAMES_TO_ALL * k))
+message_left old new made need k most rest left =
+    seen_left old new made need (1 + 1) (0 + most + k) (1 + FRAMES_OF_A_CLOSE * most + (FRAMES_OF_AN_ANSWER + FRAMES_TO_ALL * k)) rest
+    (less_left old made need (1 + 1) (0 + most + k) (1 + FRAMES_OF_A_CLOSE * most + (FRAMES_OF_AN_ANSWER + FRAMES_TO_ALL * k)) ANSWERS_OF_A_CALL (k + most) (frames_behind k most)
+    (omega arith) (omega arith) (omega arith) left)
 
 -- a question was asked
 pub asked_left : (running : Running) (earlier later : Made) (need : Need) (answers commands frames : ℕ) → later ≡ record earlier { frames = later.frames } → Grows earlier.frames later.frames 1 MOST_SINGLE_FRAME
     → HasLeft running earlier need answers commands (frames + 1) → HasLeft running later need answers commands frames
 asked_left running earlier later need answers commands frames rest grows left =
     subst (λ (m : Made). HasLeft running m need answers commands frames) (sym rest)
-    (sent_left running earlier later.frames need answers commands frames (frames + 1) 1 (omega arith) grows left)
+    (sent_left running earlier later.frames need answers commands frames (frames + 1) 1 1 (omega arith) (omega arith) grows left)

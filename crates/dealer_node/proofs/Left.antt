@@ -56,30 +56,41 @@ left_beside old seeing leading made need answers commands frames left = record {
   faults_told = left.faults_told;
 }
 
--- fewer frames, and another ballot
-pub fewer_left : (old new : Running) (made : Made) (need : Need) (answers commands more frames : ℕ) → frames ≤ more → new ≡ record old { proposer = new.proposer } → HasLeft old made need answers commands more
-    → HasLeft new made need answers commands frames
-fewer_left old new made need answers commands more frames fewer rest left =
-    let same : HasLeft old made need answers commands frames = record {
-      learn = left.learn;
-      texts = omega (arith, left.texts, fewer);
-      bytes = omega (arith, left.bytes, fewer);
-      frames_made = omega (arith, left.frames_made, fewer);
-      bytes_made = omega (arith, left.bytes_made, fewer);
-      texts_shown = left.texts_shown;
-      bytes_shown = left.bytes_shown;
-      faults_told = left.faults_told;
-    } in
-    subst (λ (r : Running). HasLeft r made need answers commands frames) (sym rest) (left_beside old old new made need answers commands frames same)
+-- less was asked for
+pub less_left : (running : Running) (made : Made) (need : Need) (answers commands frames counted known more : ℕ) → answers ≤ counted → commands ≤ known → frames ≤ more
+    → HasLeft running made need counted known more → HasLeft running made need answers commands frames
+less_left running made need answers commands frames counted known more less few fewer left = record {
+  learn = record {
+    counted = omega (arith, left.learn.counted, less);
+    known = omega (arith, left.learn.known, few);
+    table = omega (arith, left.learn.table, few);
+    texts = omega (arith, left.learn.texts, few);
+    bytes = omega (arith, left.learn.bytes, few);
+  };
+  texts = omega (arith, left.texts, fewer);
+  bytes = omega (arith, left.bytes, fewer);
+  frames_made = omega (arith, left.frames_made, fewer);
+  bytes_made = omega (arith, left.bytes_made, fewer);
+  texts_shown = omega (arith, left.texts_shown, few);
+  bytes_shown = omega (arith, left.bytes_shown, few);
+  faults_told = left.faults_told;
+}
 
--- frames to the others were sent
-pub sent_left : (running : Running) (earlier : Made) (new : Written ℕ) (need : Need) (answers commands frames more nodes : ℕ) → nodes + frames ≤ more → Grows earlier.frames new nodes (MOST_SINGLE_FRAME * nodes)
-    → HasLeft running earlier need answers commands more → HasLeft running (record earlier { frames = new }) need answers commands frames
-sent_left running earlier new need answers commands frames more nodes few grows left = record {
+-- fewer commands and frames, and another ballot
+pub fewer_left : (old new : Running) (made : Made) (need : Need) (answers commands known frames more : ℕ) → commands ≤ known → frames ≤ more → new ≡ record old { proposer = new.proposer }
+    → HasLeft old made need answers known more → HasLeft new made need answers commands frames
+fewer_left old new made need answers commands known frames more few fewer rest left =
+    subst (λ (r : Running). HasLeft r made need answers commands frames) (sym rest)
+    (left_beside old old new made need answers commands frames (less_left old made need answers commands frames answers known more (omega arith) few fewer left))
+
+-- frames to others were sent, no more than they count as
+pub sent_left : (running : Running) (earlier : Made) (new : Written ℕ) (need : Need) (answers commands frames more texts many : ℕ) → texts ≤ many → many + frames ≤ more
+    → Grows earlier.frames new texts (MOST_SINGLE_FRAME * many) → HasLeft running earlier need answers commands more → HasLeft running (record earlier { frames = new }) need answers commands frames
+sent_left running earlier new need answers commands frames more texts many less few grows left = record {
   learn = record { counted = left.learn.counted; known = left.learn.known; table = left.learn.table; texts = left.learn.texts; bytes = left.learn.bytes };
-  texts = omega (arith, left.texts, grows.text_room, few);
+  texts = omega (arith, left.texts, grows.text_room, few, less);
   bytes = omega (arith, left.bytes, grows.byte_room, few);
-  frames_made = omega (arith, left.frames_made, grows.len, few);
+  frames_made = omega (arith, left.frames_made, grows.len, few, less);
   bytes_made = omega (arith, left.bytes_made, grows.size, few);
   texts_shown = left.texts_shown;
   bytes_shown = left.bytes_shown;

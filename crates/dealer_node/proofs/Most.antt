@@ -1,5 +1,5 @@
 -- No more is shown than was needed.
-use Rattle.std.proofs.Common.{◌≡◌, ◌+◌, ◌≤◌, arith, sym, ap, subst, ◌∙◌}
+use Rattle.std.proofs.Common.{◌≡◌, ℕ, ◌+◌, ◌≤◌, arith, sym, ap, subst, ◌∙◌}
 use Rattle.std.proofs.lemmas.List.{append-nil}
 use Rattle.std.specs.Prelude.{[], ◌++◌, length, Option, Some}
 use Rattle.dealer_node.specs.declared.made.Made.{Made}
@@ -11,9 +11,8 @@ use Rattle.dealer_node.specs.Nodes.{Node}
 use Rattle.dealer_node.specs.NodeInside.{node_of}
 use Rattle.dealer_node.specs.Texts.{byte_total}
 use Rattle.dealer_node.specs.Outs.{Told, told_by, both_told, nothing_told}
-use Rattle.dealer_node.specs.Running.{ahead_of}
 use Rattle.dealer_node.specs.Handling.{IsWithin}
-use Rattle.dealer_node.specs.Most.{most_after, ahead_by, most_shown_of, ShowsWithin}
+use Rattle.dealer_node.specs.Most.{most_after, ShowsWithin}
 
 -- nothing was shown
 pub none_shown : (most : MostShown) (earlier later : Told) → later ≡ earlier → ShowsWithin most earlier later
@@ -49,8 +48,8 @@ start_shown most first made earlier between later nothing behind same texts byte
     }
 
 -- from what runs at a node to the node
-pub shows_at : {D : Type 0} (now : Node D) (i : Inside D) (up : Up D) (earlier old later : Told) → node_of i ≡ now → i.up ≡ Some up → earlier ≡ old
-    → ShowsWithin (most_after (ahead_of up.running)) earlier later → ShowsWithin (most_shown_of now) old later
-shows_at {D} now i up earlier old later view is same shows =
-    let most : most_after (ahead_of up.running) ≡ most_shown_of now = ap (λ (u : Option (Up D)). most_after (ahead_by u)) (sym is) ∙ ap (λ (n : Node D). most_shown_of n) view in
-    subst (λ (m : MostShown). ShowsWithin m old later) most (subst (λ (t : Told). ShowsWithin (most_after (ahead_of up.running)) t later) same shows)
+pub shows_at : {D : Type 0} (now : Node D) (i : Inside D) (up : Up D) (applied : Option (Up D) → ℕ) (earlier old later : Told) → node_of i ≡ now → i.up ≡ Some up → earlier ≡ old
+    → ShowsWithin (most_after (applied (Some up))) earlier later → ShowsWithin (most_after (applied now.up)) old later
+shows_at {D} now i up applied earlier old later view is same shows =
+    let most : most_after (applied (Some up)) ≡ most_after (applied now.up) = ap (λ (u : Option (Up D)). most_after (applied u)) (sym is) ∙ ap (λ (n : Node D). most_after (applied n.up)) view in
+    subst (λ (m : MostShown). ShowsWithin m old later) most (subst (λ (t : Told). ShowsWithin (most_after (applied (Some up))) t later) same shows)

@@ -1,27 +1,26 @@
 -- What a node proposes.
 use borrow.Author.Tests.{le-leb, lt-leb}
-use Rattle.std.proofs.Common.{◌≡◌, ℕ, zero, suc, ◌<◌, ◌≤◌, Bool, true, false, true≢false, List, [], ◌∷◌, ◌++◌, refl, ap, sym, ◌∙◌, subst}
+use Rattle.std.proofs.Common.{◌≡◌, ℕ, zero, suc, ◌+◌, ◌-◌, ◌<◌, ◌≤◌, Bool, true, false, true≢false, List, [], ◌∷◌, ◌++◌, length, refl, ap, sym, ◌∙◌, subst, arith}
 use Rattle.std.specs.Prelude.{map, replicate, slice_index_or, slice_set, ◌==◌, ◌&&◌, nat_le, not, if◌then◌else◌, Option, Some, None, IfSome, Result, Ok, Err}
 use Rattle.std.specs.List.{AllByRecursion}
-use Rattle.paxos_wire.specs.declared.limits.TheConstants.{NODES, SLOTS}
+use Rattle.paxos_wire.specs.declared.limits.TheConstants.{NODES, SLOTS, WINDOW}
 use Rattle.paxos_wire.specs.declared.ballot.Ballot.{Ballot}
 use Rattle.paxos_wire.specs.declared.entry.Entry.{Entry}
 use Rattle.paxos_wire.specs.declared.message.Message.TheVariants.{Prepare}
-use Rattle.paxos_wire.specs.Fits.{IsBallot, IsEntry, IsInRange}
+use Rattle.paxos_wire.specs.Fits.{IsBallot, IsEntry, IsInRange, IsCommandRun}
 use Rattle.slot_log.specs.Slots.{front}
 use Rattle.slot_log.specs.declared.command.Command.{Command}
 use Rattle.protocol_model.proofs.Sets.{all_same}
-use Rattle.proposer.specs.declared.accept.Accept.{Accept}
 use Rattle.proposer.specs.declared.campaign.Campaign.{Campaign}
 use Rattle.proposer.specs.declared.fault.ProposeFault.{ProposeFault}
 use Rattle.proposer.specs.declared.fault.ProposeFault.TheVariants.{OutOfWindow}
 use Rattle.proposer.specs.Told.{better, best_in, best_after}
 use Rattle.paxos_wire.specs.Order.{is_below}
-use Rattle.proposer.specs.Campaigns.{Proposing, next_ballot, new_campaign, is_counted, with_promise, counting, counting_from, has_quorum, leads, is_covered, is_proposed, promise_by, greatest_told, value_of, accept_of, proposal_from, marked_from}
+use Rattle.proposer.specs.Campaigns.{Proposing, next_ballot, new_campaign, is_outbid, refused, is_counted, with_promise, counting, counting_from, has_quorum, leads, is_covered, is_proposed, promise_by, greatest_told}
 use Rattle.proposer.specs.declared.accept_run.AcceptRun.{AcceptRun}
-use Rattle.proposer.specs.CommandRuns.{run_of_one, marked_run_from}
+use Rattle.proposer.specs.CommandRuns.{may_follow, in_front, told_commands, commands_of, commands_at, accept_run_of, run_from_campaign, run_of, marked_run_from, IsBounded}
+use Rattle.proposer.proofs.ToldCommands.{follows}
 use Rattle.learner.specs.Learning.{Learned}
-use Rattle.node_rules.proofs.Ones.{marks_one}
 use Rattle.node_rules.specs.Standings.{Standing, applied, front_of, idle}
 use Rattle.node_rules.specs.Sending.{Frame, to_first}
 use Rattle.node_rules.specs.Turns.{still}
@@ -64,81 +63,148 @@ told_entry : (campaign : Campaign) (slot n : ℕ) → IsCampaign campaign → If
 told_entry campaign slot zero is = tt
 told_entry campaign slot (suc n) is = after_of (greatest_told campaign slot n) slot (promise_by campaign n) (told_entry campaign slot n is) (is.told n)
 
-value_within : (told : Option Entry) (own : Option Command) → IfSome told (λ e. IsEntry e) → IfSome own (λ c. IsInRange c) → IfSome (value_of told own) (λ c. IsInRange c)
-value_within None own is within = within
-value_within (Some entry) own is within = is.command
+abbrev Fitting : Option AcceptRun → Type 0
+Fitting made = IfSome made (λ m. IsBallot m.ballot × IsCommandRun m.slot m.commands)
 
-abbrev Fitting : Option Accept → Type 0
-Fitting made = IfSome made (λ m. IsBallot m.ballot × (m.slot < SLOTS) × IsInRange m.command)
+-- the numbers of told commands are within their ranges
+front_within : (b : Bool) (told : Option Entry) (behind : List Command) → IfSome told (λ e. IsEntry e) → AllByRecursion IsInRange behind → AllByRecursion IsInRange (if b then in_front told behind else [])
+front_within false told behind is all = tt
+front_within true None behind is all = tt
+front_within true (Some entry) behind is all = (is.command, all)
 
-accept_fits : (campaign : Campaign) (slot : ℕ) (value : Option Command) → IsBallot campaign.ballot → slot < SLOTS → IfSome value (λ c. IsInRange c) → Fitting (accept_of campaign slot value)
-accept_fits campaign slot None ballot here within = tt
-accept_fits campaign slot (Some command) ballot here within = (ballot, here, within)
+told_within : (n : ℕ) (campaign : Campaign) (more slot : ℕ) → IsCampaign campaign → AllByRecursion IsInRange (told_commands n campaign more slot)
+unfolding told_commands
+told_within n campaign zero slot is = tt
+told_within n campaign (suc more) slot is =
+    front_within (may_follow campaign slot) (greatest_told campaign slot n) (told_commands n campaign more (slot + 1)) (told_entry campaign slot n is) (told_within n campaign more (slot + 1) is)
 
-ok_fits : (made other : Option Accept) → (let left : Result (Option Accept) ProposeFault = Ok made in left) ≡ Ok other → Fitting other → Fitting made
-ok_fits made other e fits = let same : other ≡ made = cc in subst (λ (m : Option Accept). Fitting m) same fits
+-- they are no more than were asked for
+front_short : (b : Bool) (told : Option Entry) (behind : List Command) (more : ℕ) → length behind ≤ more → length (if b then in_front told behind else []) ≤ suc more
+front_short false told behind more short = omega arith
+front_short true None behind more short = omega arith
+front_short true (Some entry) behind more short = omega (arith, short)
 
-by_tests : (campaign : Campaign) (slot : ℕ) (value : Option Command) (made : Option Accept) (quorum covered proposed : Bool)
-    → Ok made ≡ (let outcome : Result (Option Accept) ProposeFault = if not quorum then Ok None else if not covered then Err OutOfWindow else if proposed then Ok None else Ok (accept_of campaign slot value) in outcome)
-    → IsBallot campaign.ballot → (quorum ≡ true → slot < SLOTS) → IfSome value (λ c. IsInRange c) → Fitting made
-by_tests campaign slot value made false covered proposed e ballot here within = ok_fits made None e tt
-by_tests campaign slot value made true false proposed e ballot here within = absurd (cc)
-by_tests campaign slot value made true true true e ballot here within = ok_fits made None e tt
-by_tests campaign slot value made true true false e ballot here within = ok_fits made (accept_of campaign slot value) e (accept_fits campaign slot value ballot (here refl) within)
+told_short : (n : ℕ) (campaign : Campaign) (more slot : ℕ) → length (told_commands n campaign more slot) ≤ more
+unfolding told_commands
+told_short n campaign zero slot = omega arith
+told_short n campaign (suc more) slot = front_short (may_follow campaign slot) (greatest_told campaign slot n) (told_commands n campaign more (slot + 1)) more (told_short n campaign more (slot + 1))
 
-pub made_fits : (nodes slot : ℕ) (campaign : Option Campaign) (own : Option Command) (made : Option Accept) → Ok made ≡ proposal_from nodes campaign slot own
-    → IfSome campaign (λ c. IsCampaign c) → (leads nodes campaign ≡ true → slot < SLOTS) → IfSome own (λ c. IsInRange c) → Fitting made
+-- and stand at slots that there are
+front_slots : (campaign : Campaign) (slot : ℕ) (b : Bool) (told : Option Entry) (behind : List Command) → may_follow campaign slot ≡ b → slot ≤ SLOTS
+    → (slot + 1 ≤ SLOTS → slot + 1 + length behind ≤ SLOTS) → slot + length (if b then in_front told behind else []) ≤ SLOTS
+front_slots campaign slot false told behind e most rest = omega (arith, most)
+front_slots campaign slot true None behind e most rest = omega (arith, most)
+front_slots campaign slot true (Some entry) behind e most rest =
+    let one = follows campaign slot e in
+    let low = one.is_slot in
+    let all = rest (omega (arith, low)) in omega (arith, all)
+
+told_slots : (n : ℕ) (campaign : Campaign) (more slot : ℕ) → slot ≤ SLOTS → slot + length (told_commands n campaign more slot) ≤ SLOTS
+unfolding told_commands
+told_slots n campaign zero slot most = omega (arith, most)
+told_slots n campaign (suc more) slot most =
+    front_slots campaign slot (may_follow campaign slot) (greatest_told campaign slot n) (told_commands n campaign more (slot + 1)) refl most (λ behind. told_slots n campaign more (slot + 1) behind)
+
+run_within : (n : ℕ) (campaign : Campaign) (slot : ℕ) (own : Option Command) (told : Option Entry) → IsCampaign campaign → slot < SLOTS → IfSome told (λ e. IsEntry e) → IfSome own (λ c. IsInRange c)
+    → 1 ≤ length (commands_of told (told_commands n campaign (WINDOW - 1) (slot + 1)) own) → IsCommandRun slot (commands_of told (told_commands n campaign (WINDOW - 1) (slot + 1)) own)
+run_within n campaign slot None None is here entry within some = absurd (omega (arith, some))
+run_within n campaign slot (Some command) None is here entry within some = record { least = some; most = omega arith; slots = omega (arith, here); each = (within, tt) }
+run_within n campaign slot own (Some first) is here entry within some =
+    let short = told_short n campaign (WINDOW - 1) (slot + 1) in
+    let slots = told_slots n campaign (WINDOW - 1) (slot + 1) (omega (arith, here)) in
+    record { least = some; most = omega (arith, short); slots = omega (arith, slots); each = (entry.command, told_within n campaign (WINDOW - 1) (slot + 1) is) }
+
+run_fits : (campaign : Campaign) (slot : ℕ) (commands : List Command) → IsBallot campaign.ballot → (1 ≤ length commands → IsCommandRun slot commands) → Fitting (accept_run_of campaign slot commands)
+run_fits campaign slot [] ballot within = tt
+run_fits campaign slot (command ∷ more) ballot within = (ballot, within (omega arith))
+
+ok_fits : (made other : Option AcceptRun) → (let left : Result (Option AcceptRun) ProposeFault = Ok made in left) ≡ Ok other → Fitting other → Fitting made
+ok_fits made other e fits = let same : other ≡ made = cc in subst (λ (m : Option AcceptRun). Fitting m) same fits
+
+by_tests : (campaign : Campaign) (slot : ℕ) (commands : List Command) (made : Option AcceptRun) (quorum covered proposed : Bool)
+    → Ok made ≡ (let outcome : Result (Option AcceptRun) ProposeFault = if not quorum then Ok None else if not covered then Err OutOfWindow else if proposed then Ok None else Ok (accept_run_of campaign slot commands) in outcome)
+    → IsBallot campaign.ballot → (1 ≤ length commands → IsCommandRun slot commands) → Fitting made
+by_tests campaign slot commands made false covered proposed e ballot within = ok_fits made None e tt
+by_tests campaign slot commands made true false proposed e ballot within = absurd (cc)
+by_tests campaign slot commands made true true true e ballot within = ok_fits made None e tt
+by_tests campaign slot commands made true true false e ballot within = ok_fits made (accept_run_of campaign slot commands) e (run_fits campaign slot commands ballot within)
+
+pub made_fits : (nodes slot : ℕ) (campaign : Option Campaign) (own : Option Command) (made : Option AcceptRun) → Ok made ≡ run_from_campaign nodes campaign slot own
+    → IfSome campaign (λ c. IsCampaign c) → slot < SLOTS → IfSome own (λ c. IsInRange c) → Fitting made
 made_fits nodes slot None own made e is here within = ok_fits made None e tt
 made_fits nodes slot (Some campaign) own made e is here within =
-    by_tests campaign slot (value_of (greatest_told campaign slot nodes) own) made (has_quorum nodes campaign) (is_covered campaign.first slot) (is_proposed campaign slot) e is.ballot here
-    (value_within (greatest_told campaign slot nodes) own (told_entry campaign slot nodes is) within)
-
--- ---- what is proposed is of the ballot that is led
-
-abbrev IsOf : Ballot → Option Accept → Type 0
-IsOf ballot made = IfSome made (λ m. m.ballot ≡ ballot)
-
-ok_of : (ballot : Ballot) (made other : Option Accept) → (let left : Result (Option Accept) ProposeFault = Ok made in left) ≡ Ok other → IsOf ballot other → IsOf ballot made
-ok_of ballot made other e is = let same : other ≡ made = cc in subst (λ (m : Option Accept). IsOf ballot m) same is
-
-accept_is_of : (campaign : Campaign) (slot : ℕ) (value : Option Command) (ballot : Ballot) → campaign.ballot ≡ ballot → IsOf ballot (accept_of campaign slot value)
-accept_is_of campaign slot None ballot e = tt
-accept_is_of campaign slot (Some command) ballot e = e
-
-of_by_tests : (campaign : Campaign) (slot : ℕ) (value : Option Command) (made : Option Accept) (ballot : Ballot) (quorum covered proposed : Bool)
-    → Ok made ≡ (let outcome : Result (Option Accept) ProposeFault = if not quorum then Ok None else if not covered then Err OutOfWindow else if proposed then Ok None else Ok (accept_of campaign slot value) in outcome)
-    → campaign.ballot ≡ ballot → IsOf ballot made
-of_by_tests campaign slot value made ballot false covered proposed e is = ok_of ballot made None e tt
-of_by_tests campaign slot value made ballot true false proposed e is = absurd (cc)
-of_by_tests campaign slot value made ballot true true true e is = ok_of ballot made None e tt
-of_by_tests campaign slot value made ballot true true false e is = ok_of ballot made (accept_of campaign slot value) e (accept_is_of campaign slot value ballot is)
-
-made_is_of : (nodes slot : ℕ) (campaign : Option Campaign) (own : Option Command) (made : Option Accept) → Ok made ≡ proposal_from nodes campaign slot own
-    → (ballot : Ballot) → IfSome campaign (λ c. c.ballot ≡ ballot) → IsOf ballot made
-made_is_of nodes slot None own made e ballot is = ok_of ballot made None e tt
-made_is_of nodes slot (Some campaign) own made e ballot is =
-    of_by_tests campaign slot (value_of (greatest_told campaign slot nodes) own) made ballot (has_quorum nodes campaign) (is_covered campaign.first slot) (is_proposed campaign slot) e is
-
-marked_stands : (campaign : Option Campaign) (made : Option Accept) (ballot : Ballot) → IfSome campaign (λ c. c.ballot ≡ ballot) → IfSome (marked_from campaign (Ok made)) (λ c. c.ballot ≡ ballot)
-marked_stands None made ballot is = tt
-marked_stands (Some campaign) None ballot is = is
-marked_stands (Some campaign) (Some accept) ballot is = is
+    by_tests campaign slot (commands_at nodes campaign slot own) made (has_quorum nodes campaign) (is_covered campaign.first slot) (is_proposed campaign slot) e is.ballot
+    (run_within nodes campaign slot own (greatest_told campaign slot nodes) is here (told_entry campaign slot nodes is) within)
 
 -- ---- without a quorum nothing is proposed
 
-none_by : (campaign : Campaign) (slot : ℕ) (value : Option Command) (quorum covered proposed : Bool) → quorum ≡ false
-    → (let outcome : Result (Option Accept) ProposeFault = if not quorum then Ok None else if not covered then Err OutOfWindow else if proposed then Ok None else Ok (accept_of campaign slot value) in Ok None ≡ outcome)
-none_by campaign slot value true covered proposed e = absurd (true≢false e)
-none_by campaign slot value false covered proposed e = refl
+none_by : (campaign : Campaign) (slot : ℕ) (commands : List Command) (quorum covered proposed : Bool) → quorum ≡ false
+    → (let outcome : Result (Option AcceptRun) ProposeFault = if not quorum then Ok None else if not covered then Err OutOfWindow else if proposed then Ok None else Ok (accept_run_of campaign slot commands) in Ok None ≡ outcome)
+none_by campaign slot commands true covered proposed e = absurd (true≢false e)
+none_by campaign slot commands false covered proposed e = refl
 
-no_proposal : (nodes slot : ℕ) (campaign : Option Campaign) (own : Option Command) → leads nodes campaign ≡ false → Ok None ≡ proposal_from nodes campaign slot own
+no_proposal : (nodes slot : ℕ) (campaign : Option Campaign) (own : Option Command) → leads nodes campaign ≡ false → Ok None ≡ run_from_campaign nodes campaign slot own
 no_proposal nodes slot None own unled = refl
 no_proposal nodes slot (Some campaign) own unled =
-    none_by campaign slot (value_of (greatest_told campaign slot nodes) own) (has_quorum nodes campaign) (is_covered campaign.first slot) (is_proposed campaign slot) unled
+    none_by campaign slot (commands_at nodes campaign slot own) (has_quorum nodes campaign) (is_covered campaign.first slot) (is_proposed campaign slot) unled
 
-unmarked : (campaign : Option Campaign) → campaign ≡ marked_from campaign (Ok None)
+unmarked : (campaign : Option Campaign) → campaign ≡ marked_run_from campaign (Ok None)
 unmarked None = refl
 unmarked (Some campaign) = refl
+
+-- ---- nor has it more commands than are bounded
+
+pub within_bound : (p : Proposing) (most slot : ℕ) (own : Option Command) (made : Option AcceptRun) → Ok made ≡ run_of p slot own → IsBounded p most → IfSome made (λ m. length m.commands ≤ most)
+within_bound p most slot own None e bounded = tt
+within_bound p most slot own (Some run) e bounded = bounded slot own run (sym e)
+
+-- where there is no ballot nothing is proposed
+pub idle_bounded : (p : Proposing) (most : ℕ) → p.campaign ≡ None → IsBounded p most
+idle_bounded p most none slot own run e =
+    let nothing : Ok None ≡ Ok (Some run) = ap (λ (c : Option Campaign). run_from_campaign p.nodes c slot own) (sym none) ∙ e in absurd (cc)
+
+-- nor where no quorum has promised
+pub unled_bounded : (p : Proposing) → leads p.nodes p.campaign ≡ false → IsBounded p 1
+unled_bounded p unled slot own run e =
+    let nothing : Ok None ≡ Ok (Some run) = no_proposal p.nodes slot p.campaign own unled ∙ e in absurd (cc)
+
+refused_by : (b : Bool) (p : Proposing) (most : ℕ) → IsBounded p most → IsBounded (record p { campaign = if b then None else p.campaign }) most
+refused_by true p most bounded = idle_bounded (record p { campaign = None }) most refl
+refused_by false p most bounded = bounded
+
+pub refused_bounded : (old new : Proposing) (promised : Ballot) → new ≡ refused old promised → (most : ℕ) → IsBounded old most → IsBounded new most
+refused_bounded old new promised e most bounded = subst (λ (p : Proposing). IsBounded p most) (sym e) (refused_by (is_outbid old.campaign promised) old most bounded)
+
+-- ---- what is proposed is of the ballot that is led
+
+abbrev IsOf : Ballot → Option AcceptRun → Type 0
+IsOf ballot made = IfSome made (λ m. m.ballot ≡ ballot)
+
+ok_of : (ballot : Ballot) (made other : Option AcceptRun) → (let left : Result (Option AcceptRun) ProposeFault = Ok made in left) ≡ Ok other → IsOf ballot other → IsOf ballot made
+ok_of ballot made other e is = let same : other ≡ made = cc in subst (λ (m : Option AcceptRun). IsOf ballot m) same is
+
+run_is_of : (campaign : Campaign) (slot : ℕ) (commands : List Command) (ballot : Ballot) → campaign.ballot ≡ ballot → IsOf ballot (accept_run_of campaign slot commands)
+run_is_of campaign slot [] ballot e = tt
+run_is_of campaign slot (command ∷ more) ballot e = e
+
+of_by_tests : (campaign : Campaign) (slot : ℕ) (commands : List Command) (made : Option AcceptRun) (ballot : Ballot) (quorum covered proposed : Bool)
+    → Ok made ≡ (let outcome : Result (Option AcceptRun) ProposeFault = if not quorum then Ok None else if not covered then Err OutOfWindow else if proposed then Ok None else Ok (accept_run_of campaign slot commands) in outcome)
+    → campaign.ballot ≡ ballot → IsOf ballot made
+of_by_tests campaign slot commands made ballot false covered proposed e is = ok_of ballot made None e tt
+of_by_tests campaign slot commands made ballot true false proposed e is = absurd (cc)
+of_by_tests campaign slot commands made ballot true true true e is = ok_of ballot made None e tt
+of_by_tests campaign slot commands made ballot true true false e is = ok_of ballot made (accept_run_of campaign slot commands) e (run_is_of campaign slot commands ballot is)
+
+made_is_of : (nodes slot : ℕ) (campaign : Option Campaign) (own : Option Command) (made : Option AcceptRun) → Ok made ≡ run_from_campaign nodes campaign slot own
+    → (ballot : Ballot) → IfSome campaign (λ c. c.ballot ≡ ballot) → IsOf ballot made
+made_is_of nodes slot None own made e ballot is = ok_of ballot made None e tt
+made_is_of nodes slot (Some campaign) own made e ballot is =
+    of_by_tests campaign slot (commands_at nodes campaign slot own) made ballot (has_quorum nodes campaign) (is_covered campaign.first slot) (is_proposed campaign slot) e is
+
+marked_stands : (campaign : Option Campaign) (made : Option AcceptRun) (ballot : Ballot) → IfSome campaign (λ c. c.ballot ≡ ballot) → IfSome (marked_run_from campaign (Ok made)) (λ c. c.ballot ≡ ballot)
+marked_stands None made ballot is = tt
+marked_stands (Some campaign) None ballot is = is
+marked_stands (Some campaign) (Some run) ballot is = is
 
 -- ---- the close
 
@@ -172,38 +238,37 @@ module _ (post : Post) (old : Running) (s : Standing) (at : IsAt post old) (is :
   same_front : front old.learner.learned.log ≡ front_of s
   same_front = ap (λ (l : Learned). front l.log) is.learned
 
-  same_proposal : (own : Option Command) (slot : ℕ) (outcome : Result (Option Accept) ProposeFault) → outcome ≡ proposal_from old.proposer.nodes old.proposer.campaign slot own → slot ≡ front old.learner.learned.log → own ≡ own_value (place_at post) s
-      → proposal_at (place_at post) s ≡ run_of_one outcome
+  same_proposal : (own : Option Command) (slot : ℕ) (outcome : Result (Option AcceptRun) ProposeFault) → outcome ≡ run_of old.proposer slot own → slot ≡ front old.learner.learned.log → own ≡ own_value (place_at post) s
+      → proposal_at (place_at post) s ≡ outcome
   same_proposal own slot outcome e here value =
-      ap run_of_one (sym (e ∙ (ap (λ n. proposal_from n old.proposer.campaign slot own) at.nodes
-      ∙ (ap (λ (c : Option Campaign). proposal_from post.nodes c slot own) is.campaign
-      ∙ (ap (λ k. proposal_from post.nodes s.campaign k own) (here ∙ same_front)
-      ∙ ap (λ (v : Option Command). proposal_from post.nodes s.campaign (front_of s) v) value)))))
+      sym (e ∙ (ap (λ n. run_from_campaign n old.proposer.campaign slot own) at.nodes
+      ∙ (ap (λ (c : Option Campaign). run_from_campaign post.nodes c slot own) is.campaign
+      ∙ (ap (λ k. run_from_campaign post.nodes s.campaign k own) (here ∙ same_front)
+      ∙ ap (λ (v : Option Command). run_from_campaign post.nodes s.campaign (front_of s) v) value))))
 
   goes_on : (leads post.nodes old.proposer.campaign ≡ true → front old.learner.learned.log < SLOTS) → is_spent_leader post s ≡ false
   goes_on left = open_by (leads post.nodes s.campaign) (front_of s) (λ e. subst (λ k. k < SLOTS) same_front (left (ap (λ (c : Option Campaign). leads post.nodes c) is.campaign ∙ e)))
 
-  close_by : (outcome : Result (Option Accept) ProposeFault) → proposal_at (place_at post) s ≡ run_of_one outcome
+  close_by : (outcome : Result (Option AcceptRun) ProposeFault) → proposal_at (place_at post) s ≡ outcome
       → (leads post.nodes old.proposer.campaign ≡ true → front old.learner.learned.log < SLOTS)
-      → closing (place_at post) s ≡ closing_by (place_at post) (run_of_one outcome) (record s { campaign = marked_from s.campaign outcome })
+      → closing (place_at post) s ≡ closing_by (place_at post) outcome (record s { campaign = marked_run_from s.campaign outcome })
   close_by outcome e left =
       ap (λ (b : Bool). if b then Ok (still (idle s)) else closing_by (place_at post) (proposal_at (place_at post) s) (record s { campaign = marked_run_from s.campaign (proposal_at (place_at post) s) })) (goes_on left)
-      ∙ (ap (λ (p : Result (Option AcceptRun) ProposeFault). closing_by (place_at post) p (record s { campaign = marked_run_from s.campaign p })) e
-      ∙ ap (λ (c : Option Campaign). closing_by (place_at post) (run_of_one outcome) (record s { campaign = c })) (marks_one s.campaign outcome))
+      ∙ ap (λ (p : Result (Option AcceptRun) ProposeFault). closing_by (place_at post) p (record s { campaign = marked_run_from s.campaign p })) e
 
-  closed : (made : Option Accept) (after : Standing) → closing_by (place_at post) (run_of_one (Ok made)) after ≡ proposed_by (place_at post) made after
+  closed : (made : Option AcceptRun) (after : Standing) → closing_by (place_at post) (Ok made) after ≡ proposed_by (place_at post) made after
   closed None after = refl
   closed (Some made) after = refl
 
-  pub close_proposed : (new : Running) (own : Option Command) (slot : ℕ) (made : Option Accept)
-      → Ok made ≡ proposal_from old.proposer.nodes old.proposer.campaign slot own → slot ≡ front old.learner.learned.log → own ≡ own_value (place_at post) s
+  pub close_proposed : (new : Running) (own : Option Command) (slot : ℕ) (made : Option AcceptRun)
+      → Ok made ≡ run_of old.proposer slot own → slot ≡ front old.learner.learned.log → own ≡ own_value (place_at post) s
       → (leads post.nodes old.proposer.campaign ≡ true → front old.learner.learned.log < SLOTS)
-      → new.proposer.campaign ≡ marked_from old.proposer.campaign (Ok made) → new ≡ record old { proposer = new.proposer } → Closes post new s made
+      → new.proposer.campaign ≡ marked_run_from old.proposer.campaign (Ok made) → new ≡ record old { proposer = new.proposer } → Closes post new s made
   close_proposed new own slot made e here value left marks rest =
-      let campaign : Option Campaign = marked_from s.campaign (Ok made) in
+      let campaign : Option Campaign = marked_run_from s.campaign (Ok made) in
       record {
         marked = record s { campaign = campaign };
-        runs = runs_with post old new s campaign is (marks ∙ ap (λ (c : Option Campaign). marked_from c (Ok made)) is.campaign) rest;
+        runs = runs_with post old new s campaign is (marks ∙ ap (λ (c : Option Campaign). marked_run_from c (Ok made)) is.campaign) rest;
         rule = close_by (Ok made) (same_proposal own slot (Ok made) e here value) left ∙ closed made (record s { campaign = campaign });
         rest = refl;
         stands = marked_stands s.campaign made;
@@ -211,16 +276,14 @@ module _ (post : Post) (old : Running) (s : Standing) (at : IsAt post old) (is :
       }
 
   -- a node that doesn't lead proposes nothing, whatever it would of its own
-  pub close_unled : leads old.proposer.nodes old.proposer.campaign ≡ false → Closes post old s None
+  pub close_unled : leads post.nodes old.proposer.campaign ≡ false → Closes post old s None
   close_unled unled =
-      close_proposed old (own_value (place_at post) s) (front old.learner.learned.log) None (no_proposal old.proposer.nodes (front old.learner.learned.log) old.proposer.campaign (own_value (place_at post) s) unled) refl refl
-      (λ leading. absurd (true≢false (sym leading ∙ leads_here))) (unmarked old.proposer.campaign) refl
-    where
-      leads_here : leads post.nodes old.proposer.campaign ≡ false
-      leads_here = ap (λ n. leads n old.proposer.campaign) (sym at.nodes) ∙ unled
+      close_proposed old (own_value (place_at post) s) (front old.learner.learned.log) None
+      (no_proposal old.proposer.nodes (front old.learner.learned.log) old.proposer.campaign (own_value (place_at post) s) (ap (λ n. leads n old.proposer.campaign) at.nodes ∙ unled)) refl refl
+      (λ leading. absurd (true≢false (sym leading ∙ unled))) (unmarked old.proposer.campaign) refl
 
   pub close_outside : (new : Running) (own : Option Command) (slot : ℕ) (fault : ProposeFault)
-      → Err fault ≡ proposal_from old.proposer.nodes old.proposer.campaign slot own → slot ≡ front old.learner.learned.log → own ≡ own_value (place_at post) s
+      → Err fault ≡ run_of old.proposer slot own → slot ≡ front old.learner.learned.log → own ≡ own_value (place_at post) s
       → (leads post.nodes old.proposer.campaign ≡ true → front old.learner.learned.log < SLOTS)
       → new.proposer.campaign ≡ None → new ≡ record old { proposer = new.proposer } → Closes post new s None
   close_outside new own slot fault e here value left gone rest = record {
@@ -232,11 +295,10 @@ module _ (post : Post) (old : Running) (s : Standing) (at : IsAt post old) (is :
     own = λ ballot led. tt;
   }
 
-  pub close_spent : (new : Running) → leads old.proposer.nodes old.proposer.campaign ≡ true → SLOTS ≤ front old.learner.learned.log
+  pub close_spent : (new : Running) → leads post.nodes old.proposer.campaign ≡ true → SLOTS ≤ front old.learner.learned.log
       → new.proposer.campaign ≡ None → new ≡ record old { proposer = new.proposer } → Closes post new s None
   close_spent new leading most gone rest =
-      let leads_too : leads post.nodes s.campaign ≡ true =
-      ap (λ (c : Option Campaign). leads post.nodes c) (sym is.campaign) ∙ (ap (λ n. leads n old.proposer.campaign) (sym at.nodes) ∙ leading) in
+      let leads_too : leads post.nodes s.campaign ≡ true = ap (λ (c : Option Campaign). leads post.nodes c) (sym is.campaign) ∙ leading in
       let spent : is_spent_leader post s ≡ true = spent_by (leads post.nodes s.campaign) (front_of s) leads_too (subst (λ k. SLOTS ≤ k) same_front most) in
       record {
         marked = idle s;

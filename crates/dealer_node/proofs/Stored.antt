@@ -1,5 +1,5 @@
 -- What a node stores: promises and votes, as the rules have them.
-use Rattle.std.proofs.Common.{◌≡◌, ℕ, ◌+◌, ◌≤◌, inl, inr, Bool, true, false, List, [], ◌∷◌, ◌++◌, Result, Ok, Err, refl, ap, sym, subst, ◌∙◌, arith, true≢false}
+use Rattle.std.proofs.Common.{◌≡◌, ℕ, ◌≤◌, inl, inr, Bool, true, false, List, ◌++◌, Result, Ok, Err, refl, ap, sym, subst, ◌∙◌, arith, true≢false}
 use Rattle.std.proofs.lemmas.Option.{same_Some}
 use Rattle.std.specs.Prelude.{◌⊎◌, Option, Some, None, IfSome, MatchResult, map, if◌then◌else◌, nat_lt, ◌==◌}
 use Rattle.std.proofs.lemmas.Bool.{le-ltb, eq-eqb}
@@ -18,7 +18,7 @@ use Rattle.protocol_model.specs.Sets.{In}
 use Rattle.protocol_model.specs.Stores.{Store, promised}
 use Rattle.protocol_model.specs.Votes.{told_by, command_run_at, taking_command_run}
 use Rattle.paxos_wire.specs.Order.{is_below}
-use Rattle.proposer.specs.declared.accept.Accept.{Accept}
+use Rattle.proposer.specs.declared.accept_run.AcceptRun.{AcceptRun}
 use Rattle.proposer.specs.declared.campaign.Campaign.{Campaign}
 use Rattle.learner.specs.Learning.{Learned}
 use Rattle.learner.specs.CommandRuns.{answer_to_run as learner_answer, hearing_run}
@@ -368,14 +368,14 @@ pub not_below : (ballot promise : Ballot) → ballot ≡ promise → is_below ba
 not_below ballot promise e = ap (λ (b : Ballot). is_below b promise) e ∙ below_itself promise.round promise.node
 
 module _ {D : Type 0} (g : Ghosts D) where
-  pub propose_works : (post : Post) (s : Standing) (made : Accept) (old new : Up D) (told later : Told) (texts : List (Marked ℕ)) (answer : Result (Unit {0}) NodeFault)
-      → IsUp g post old s → made.ballot ≡ s.store.promise
-      → texts ≡ told.frames ++ map posted (to_others (place_at post) (frame.Accept made.ballot made.slot (made.command ∷ []))) → AreMessages (to_others (place_at post) (frame.Accept made.ballot made.slot (made.command ∷ [])))
+  pub propose_works : (post : Post) (s : Standing) (made : AcceptRun) (commands : List Command) (old new : Up D) (told later : Told) (texts : List (Marked ℕ)) (answer : Result (Unit {0}) NodeFault)
+      → commands ≡ made.commands → IsUp g post old s → made.ballot ≡ s.store.promise
+      → texts ≡ told.frames ++ map posted (to_others (place_at post) (frame.Accept made.ballot made.slot commands)) → AreMessages (to_others (place_at post) (frame.Accept made.ballot made.slot commands))
       → (is_below made.ballot s.store.promise ≡ false → IfSome s.campaign (λ c. c.ballot ≡ made.ballot)
-      → Works g post s (voting (place_at post) made.ballot made.slot (made.command ∷ []) s) old new (told_with texts told.shown told.faults) later answer)
+      → Works g post s (voting (place_at post) made.ballot made.slot commands s) old new (told_with texts told.shown told.faults) later answer)
       → Works g post s (proposed_by (place_at post) (Some made) s) old new told later answer
-  propose_works post s made old new told later texts answer is own sent fits votes =
-      let frames : List Frame = to_others (place_at post) (frame.Accept made.ballot made.slot (made.command ∷ [])) in
+  propose_works post s made commands old new told later texts answer same is own sent fits votes =
+      let frames : List Frame = to_others (place_at post) (frame.Accept made.ballot made.slot commands) in
       let turn : Turn = sending frames s in
       let first : Took g post s (Ok turn) old old told (told_with texts told.shown told.faults) = record {
         turn = turn;
@@ -386,8 +386,9 @@ module _ {D : Type 0} (g : Ghosts D) where
         moments = λ t image was. inl was;
         untouched = λ still. refl;
       } in
-      then_works g post s (voting (place_at post) made.ballot made.slot (made.command ∷ [])) (Ok turn) old old new told (told_with texts told.shown told.faults) later answer first (inl refl)
-      (votes (not_below made.ballot s.store.promise own) (subst (λ (b : Ballot). IfSome s.campaign (λ c. c.ballot ≡ b)) (sym own) is.stands))
+      subst (λ (cs : List Command). Works g post s (proposed_by (place_at post) (Some (record made { commands = cs })) s) old new told later answer) same
+      (then_works g post s (voting (place_at post) made.ballot made.slot commands) (Ok turn) old old new told (told_with texts told.shown told.faults) later answer first (inl refl)
+      (votes (not_below made.ballot s.store.promise own) (subst (λ (b : Ballot). IfSome s.campaign (λ c. c.ballot ≡ b)) (sym own) is.stands)))
 
   marked_up : (post : Post) (s marked : Standing) (old : Up D) (running : Running) → IsUp g post old s → IsRunning post running marked → marked ≡ record s { campaign = marked.campaign }
       → IfSome marked.campaign (λ c. c.ballot ≡ s.store.promise) → IsUp g post (record old { running = running }) marked
@@ -400,7 +401,7 @@ module _ {D : Type 0} (g : Ghosts D) where
         stands = subst (λ (st : Store). IfSome marked.campaign (λ c. c.ballot ≡ st.promise)) store stands;
       }
 
-  pub close_works : (post : Post) (s : Standing) (made : Accept) (old new : Up D) (running : Running) (told later : Told) (answer : Result (Unit {0}) NodeFault)
+  pub close_works : (post : Post) (s : Standing) (made : AcceptRun) (old new : Up D) (running : Running) (told later : Told) (answer : Result (Unit {0}) NodeFault)
       → IsUp g post old s → (closes : Closes post running s (Some made))
       → (IsUp g post (record old { running = running }) closes.marked → made.ballot ≡ closes.marked.store.promise
       → Works g post closes.marked (proposed_by (place_at post) (Some made) closes.marked) (record old { running = running }) new told later answer)

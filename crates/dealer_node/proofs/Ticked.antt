@@ -10,12 +10,12 @@ use Rattle.learner.specs.Learning.{Learned}
 use Rattle.promise_store.specs.declared.disk.Disk.{Ghosts}
 use Rattle.promise_store.specs.Keeping.{Keeps, Leaves, LeavesDuring}
 use Rattle.protocol_model.specs.Stores.{Store, promised}
-use Rattle.proposer.specs.declared.accept.Accept.{Accept}
+use Rattle.proposer.specs.declared.accept_run.AcceptRun.{AcceptRun}
 use Rattle.proposer.specs.declared.campaign.Campaign.{Campaign}
 use Rattle.proposer.specs.declared.fault.ProposeFault.{ProposeFault}
 use Rattle.paxos_wire.specs.Order.{is_below}
-use Rattle.proposer.specs.Campaigns.{next_ballot, new_campaign, is_counted, has_quorum, is_covered, is_proposed, accept_of, value_of, greatest_told}
-use Rattle.proposer.specs.CommandRuns.{run_of_one, with_marks}
+use Rattle.proposer.specs.Campaigns.{next_ballot, new_campaign, is_counted, has_quorum, is_covered, is_proposed}
+use Rattle.proposer.specs.CommandRuns.{commands_at, accept_run_of, with_marks}
 use Rattle.proposer.specs.declared.fault.ProposeFault.TheVariants.{OutOfWindow}
 use Rattle.proposer.proofs.Alone.{one_promise_leads_not}
 use Rattle.acceptor.specs.declared.answers.PrepareAnswer.{PrepareAnswer}
@@ -41,9 +41,9 @@ use Rattle.dealer_node.proofs.Stored.{answered_prepare, prepared_by}
 
 -- ---- one promise is no quorum, so the close of a call that began a ballot does nothing
 
-unled_by : (place : Place) (s : Standing) (campaign : Campaign) (quorum full : Bool) (rest : Result (Option Accept) ProposeFault) → s.campaign ≡ Some campaign → quorum ≡ false
-    → (let after : Standing = record s { campaign = Some (with_marks campaign (run_of_one (if not quorum then Ok None else rest))) } in
-    if quorum && full then Ok (still (idle s)) else closing_by place (run_of_one (if not quorum then Ok None else rest)) after) ≡ Ok (still s)
+unled_by : (place : Place) (s : Standing) (campaign : Campaign) (quorum full : Bool) (rest : Result (Option AcceptRun) ProposeFault) → s.campaign ≡ Some campaign → quorum ≡ false
+    → (let after : Standing = record s { campaign = Some (with_marks campaign (if not quorum then Ok None else rest)) } in
+    if quorum && full then Ok (still (idle s)) else closing_by place (if not quorum then Ok None else rest) after) ≡ Ok (still s)
 unled_by place s campaign true full rest is e = absurd (true≢false e)
 unled_by place s campaign false full rest is e = ap (λ (c : Option Campaign). Ok (still (record s { campaign = c }))) (sym is)
 
@@ -55,7 +55,7 @@ unled post ballot s is =
     one_promise_leads_not post.nodes post.node ballot ballot (front_of s) (front_of s) (told_by s.store (front_of s)) (three_nodes post.nodes is.nodes) in
     unled_by (place_at post) after campaign (has_quorum post.nodes campaign) (nat_le SLOTS (front_of after))
     (if not (is_covered campaign.first (front_of after)) then Err OutOfWindow else if is_proposed campaign (front_of after) then Ok None
-    else Ok (accept_of campaign (front_of after) (value_of (greatest_told campaign (front_of after) post.nodes) (own_value (place_at post) after)))) refl none
+    else Ok (accept_run_of campaign (front_of after) (commands_at post.nodes campaign (front_of after) (own_value (place_at post) after)))) refl none
 
 -- ---- the ballot is above what was promised
 

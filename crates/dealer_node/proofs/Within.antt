@@ -1,7 +1,7 @@
 -- No more is made than was needed.
 use Rattle.std.proofs.Common.{◌≡◌, ℕ, ◌+◌, ◌*◌, arith, ap, length, vec_len}
 use Rattle.paxos_wire.specs.declared.limits.TheConstants.{MOST_SINGLE_FRAME}
-use Rattle.dealer_node.specs.declared.limits.TheConstants.{FRAMES_TO_ALL, FRAMES_OF_A_CLOSE, ANSWERS_OF_A_CALL, FRAMES_OF_A_MESSAGE}
+use Rattle.dealer_node.specs.declared.limits.TheConstants.{FRAMES_OF_A_CLOSE, ANSWERS_OF_A_CALL}
 use Rattle.dealer_node.specs.declared.running.Running.{Running}
 use Rattle.dealer_node.specs.declared.made.Made.{Made}
 use Rattle.dealer_node.specs.declared.made.Need.{Need}
@@ -12,7 +12,7 @@ use Rattle.dealer_node.specs.Rooms.{Grows, Tells}
 use Rattle.dealer_node.specs.Running.{ahead_of}
 use Rattle.dealer_node.specs.Working.{HasLeft}
 use Rattle.dealer_node.specs.Handling.{IsWithin}
-use Rattle.dealer_node.specs.Calling.{need_of, close_need, away_need, line_need, frame_need, HasCallRoom}
+use Rattle.dealer_node.specs.Calling.{need_of, close_need, away_need, line_need, frames_behind, frame_need, HasCallRoom}
 
 -- what is left was needed
 pub left_within : (running : Running) (made : Made) (need : Need) → HasLeft running made need 0 0 0 → IsWithin made need
@@ -60,19 +60,20 @@ module _ {D : Type 0} where
     faults_told = omega (arith, no_faults made nothing);
   }
 
-  pub close_left : (up : Up D) (made : Made) → told_by made ≡ nothing_told → HasCallRoom up made (close_need up.running) 1 1 → HasLeft up.running made (close_need up.running) 1 1 FRAMES_OF_A_CLOSE
-  close_left up made nothing room = call_left up made 1 1 FRAMES_OF_A_CLOSE nothing room
+  pub close_left : (up : Up D) (made : Made) (most : ℕ) → told_by made ≡ nothing_told → HasCallRoom up made (close_need up.running most) 1 most
+      → HasLeft up.running made (close_need up.running most) 1 most (FRAMES_OF_A_CLOSE * most)
+  close_left up made most nothing room = call_left up made 1 most (FRAMES_OF_A_CLOSE * most) nothing room
 
-  pub frame_left : (up : Up D) (made : Made) (commands : ℕ) → told_by made ≡ nothing_told → HasCallRoom up made (frame_need up.running commands) ANSWERS_OF_A_CALL (commands + 1)
-      → HasLeft up.running made (frame_need up.running commands) ANSWERS_OF_A_CALL (commands + 1) (FRAMES_OF_A_MESSAGE + FRAMES_TO_ALL * commands)
-  frame_left up made commands nothing room = call_left up made ANSWERS_OF_A_CALL (commands + 1) (FRAMES_OF_A_MESSAGE + FRAMES_TO_ALL * commands) nothing room
+  pub frame_left : (up : Up D) (made : Made) (commands most : ℕ) → told_by made ≡ nothing_told → HasCallRoom up made (frame_need up.running commands most) ANSWERS_OF_A_CALL (commands + most)
+      → HasLeft up.running made (frame_need up.running commands most) ANSWERS_OF_A_CALL (commands + most) (frames_behind commands most)
+  frame_left up made commands most nothing room = call_left up made ANSWERS_OF_A_CALL (commands + most) (frames_behind commands most) nothing room
 
   -- once what was ordered goes on
-  pub away_left : (up after : Up D) (earlier later : Made) → told_by earlier ≡ nothing_told → HasCallRoom up earlier (away_need up.running) 1 1
+  pub away_left : (up after : Up D) (earlier later : Made) (most : ℕ) → told_by earlier ≡ nothing_told → HasCallRoom up earlier (away_need up.running most) 1 most
       → Grows earlier.frames later.frames 1 MOST_SINGLE_FRAME → later ≡ record earlier { frames = later.frames }
       → after ≡ record up { running = record up.running { pending = after.running.pending } }
-      → HasLeft after.running later (away_need up.running) 1 1 FRAMES_OF_A_CLOSE
-  away_left up after earlier later nothing room frames others rest =
+      → HasLeft after.running later (away_need up.running most) 1 most (FRAMES_OF_A_CLOSE * most)
+  away_left up after earlier later most nothing room frames others rest =
       let answers : after.running.learner.answers ≡ up.running.learner.answers = ap (λ (u : Up D). u.running.learner.answers) rest in
       let commands : after.running.learner.commands ≡ up.running.learner.commands = ap (λ (u : Up D). u.running.learner.commands) rest in
       let table : after.running.table.room ≡ up.running.table.room = ap (λ (u : Up D). u.running.table.room) rest in
@@ -100,11 +101,11 @@ module _ {D : Type 0} where
       }
 
   -- once the piece was heard
-  pub line_left : (up after : Up D) (earlier later : Made) (limit : ℕ) → told_by earlier ≡ nothing_told → HasCallRoom up earlier (line_need up.running limit) 1 1
+  pub line_left : (up after : Up D) (earlier later : Made) (limit most : ℕ) → told_by earlier ≡ nothing_told → HasCallRoom up earlier (line_need up.running limit most) 1 most
       → Grows earlier.frames later.frames limit (MOST_SINGLE_FRAME * limit) → Grows earlier.shown later.shown 1 4096 → Tells earlier later limit
       → after ≡ record up { running = record up.running { pending = after.running.pending; seats = after.running.seats } }
-      → HasLeft after.running later (line_need up.running limit) 1 1 FRAMES_OF_A_CLOSE
-  line_left up after earlier later limit nothing room frames shown faults rest =
+      → HasLeft after.running later (line_need up.running limit most) 1 most (FRAMES_OF_A_CLOSE * most)
+  line_left up after earlier later limit most nothing room frames shown faults rest =
       let answers : after.running.learner.answers ≡ up.running.learner.answers = ap (λ (u : Up D). u.running.learner.answers) rest in
       let commands : after.running.learner.commands ≡ up.running.learner.commands = ap (λ (u : Up D). u.running.learner.commands) rest in
       let table : after.running.table.room ≡ up.running.table.room = ap (λ (u : Up D). u.running.table.room) rest in

@@ -8,7 +8,7 @@ use Rattle.node_rules.specs.Standings.{Standing}
 use Rattle.node_rules.specs.Turns.{Turn, Refusal}
 use Rattle.node_rules.specs.Calls.{Call}
 use Rattle.node_rules.specs.Rules.{IsTurnUp}
-use Rattle.dealer_node.specs.declared.limits.TheConstants.{FRAMES_TO_ALL, FRAMES_OF_A_CLOSE, FRAMES_OF_A_MESSAGE}
+use Rattle.dealer_node.specs.declared.limits.TheConstants.{FRAMES_TO_ALL, FRAMES_OF_A_CLOSE, FRAMES_OF_AN_ANSWER}
 use Rattle.dealer_node.specs.declared.up.Up.{Up}
 use Rattle.dealer_node.specs.declared.running.Running.{Running}
 use Rattle.dealer_node.specs.declared.made.Made.{Made}
@@ -31,21 +31,21 @@ need_of running commands frames = record {
   faults = 0;
 }
 
--- what the close of a call makes at most
-abbrev pub close_need : Running → Need
-close_need running = need_of running 1 FRAMES_OF_A_CLOSE
+-- what the close of a call makes at most that proposes so many commands
+abbrev pub close_need : Running → ℕ → Need
+close_need running most = need_of running most (FRAMES_OF_A_CLOSE * most)
 
 -- what an order makes at most: a frame with which it goes on, and the close
-abbrev pub away_need : Running → Need
-away_need running = need_of running 1 (FRAMES_OF_A_CLOSE + 1)
+abbrev pub away_need : Running → ℕ → Need
+away_need running most = need_of running most (FRAMES_OF_A_CLOSE * most + 1)
 
--- and with a piece of a seat's bytes that is given fewer answers than these: a frame and a fault for each, and the seat's line
-abbrev pub line_need : Running → ℕ → Need
-line_need running limit = record {
-  frames = limit + FRAMES_OF_A_CLOSE;
-  frame_bytes = MOST_SINGLE_FRAME * (limit + FRAMES_OF_A_CLOSE);
-  texts = 1 + 11 * (ahead_of running + 1);
-  text_bytes = 4096 + 45716 * (ahead_of running + 1);
+-- and with a piece of a seat's bytes that is given fewer answers than these: a frame and a fault for each, the seat's line, and the close
+abbrev pub line_need : Running → ℕ → ℕ → Need
+line_need running limit most = record {
+  frames = limit + FRAMES_OF_A_CLOSE * most;
+  frame_bytes = MOST_SINGLE_FRAME * (limit + FRAMES_OF_A_CLOSE * most);
+  texts = 1 + 11 * (ahead_of running + most);
+  text_bytes = 4096 + 45716 * (ahead_of running + most);
   faults = limit;
 }
 
@@ -60,10 +60,13 @@ commands_in (message.Chosen slot command) = 1
 commands_in (message.Ask slot) = 1
 commands_in (message.Forward command) = 1
 
--- what a message of another node makes at most that has so many: what it is answered with, a vote for each of them, what the close makes, and a
--- question
-abbrev pub frame_need : Running → ℕ → Need
-frame_need running commands = need_of running (commands + 1) (FRAMES_OF_A_MESSAGE + FRAMES_TO_ALL * commands)
+-- what a message of another node makes at most that has so many commands and behind which so many are proposed: what it is answered with, a vote
+-- for each of its commands, what the close makes, and a question
+abbrev pub frames_behind : ℕ → ℕ → ℕ
+frames_behind commands most = FRAMES_OF_AN_ANSWER + FRAMES_TO_ALL * commands + FRAMES_OF_A_CLOSE * most + 1
+
+abbrev pub frame_need : Running → ℕ → ℕ → Need
+frame_need running commands most = need_of running (commands + most) (frames_behind commands most)
 
 module _ {D : Type 0} where
   -- there is room for so much, to count so many answers with so many commands in all, and to store as many votes

@@ -1,14 +1,17 @@
 -- What runs at a node, as the rules see it.
-use Rattle.std.specs.Prelude.{◌≡◌, ℕ, ◌+◌, ◌-◌, ◌*◌, ◌^◌, ◌≤◌, ◌==◌, ◌||◌, Bool, true, nat_le, length, List, [], ◌∷◌, ◌++◌, Option, Some, None, IfSome, Result, Ok}
+use Rattle.std.specs.Prelude.{◌≡◌, ℕ, ◌+◌, ◌-◌, ◌*◌, ◌^◌, ◌≤◌, ◌==◌, ◌||◌, Bool, true, nat_le, if◌then◌else◌, length, List, ◌++◌, Option, Some, None, IfSome, Result, Ok}
 use Rattle.std.specs.List.{AllByRecursion}
 use Rattle.paxos_wire.specs.declared.limits.TheConstants.{SLOTS}
 use Rattle.paxos_wire.specs.declared.ballot.Ballot.{Ballot}
+use Rattle.paxos_wire.specs.declared.message.Message.{Message}
+use Rattle.paxos_wire.specs.declared.message.Message.TheVariants.{Prepare, Promise, Refuse, Accept, Accepted, Chosen, Ask, Forward}
 use Rattle.paxos_wire.specs.Fits.{IsBallot, IsEntry, IsInRange}
 use Rattle.slot_log.specs.Slots.{Log, front, known_at}
 use Rattle.slot_log.specs.declared.command.Command.{Command}
-use Rattle.proposer.specs.declared.accept.Accept.{Accept}
+use Rattle.proposer.specs.declared.accept_run.AcceptRun.{AcceptRun}
 use Rattle.proposer.specs.declared.campaign.Campaign.{Campaign}
-use Rattle.proposer.specs.Campaigns.{promise_by}
+use Rattle.proposer.specs.Campaigns.{Proposing, leads, promise_by, counting}
+use Rattle.proposer.specs.CommandRuns.{most_commands, IsBounded}
 use Rattle.node_rules.specs.Standings.{Place, Standing, applied}
 use Rattle.node_rules.specs.Turns.{Turn, Refusal, still}
 use Rattle.node_rules.specs.Proposing.{higher, proposing, closing}
@@ -56,20 +59,46 @@ pub record TakesPiece (post : Post) (running : Running) (earlier later : Told) (
 
 -- ---- the close
 
--- what is left of the close of a call, once this was proposed, as a command run of one, or nothing
-abbrev pub proposed_by : Place → Option Accept → Standing → Result Turn Refusal
+-- what is left of the close of a call, once this was proposed, or nothing
+abbrev pub proposed_by : Place → Option AcceptRun → Standing → Result Turn Refusal
 proposed_by place None s = Ok (still s)
-proposed_by place (Some made) s = proposing place (record { ballot = made.ballot; slot = made.slot; commands = made.command ∷ [] }) s
+proposed_by place (Some made) s = proposing place made s
 
 -- the close comes to proposing this; its campaign alone may have changed
-pub record Closes (post : Post) (running : Running) (s : Standing) (made : Option Accept) : Type 0 where
+pub record Closes (post : Post) (running : Running) (s : Standing) (made : Option AcceptRun) : Type 0 where
   pub marked : Standing
   pub runs : IsRunning post running marked
   pub rule : closing (place_at post) s ≡ proposed_by (place_at post) made marked
   pub rest : marked ≡ record s { campaign = marked.campaign }
   -- and it proposes in no other ballot than the one that it leads
   pub stands : (ballot : Ballot) → IfSome s.campaign (λ campaign. campaign.ballot ≡ ballot) → IfSome marked.campaign (λ campaign. campaign.ballot ≡ ballot)
-  pub own : (ballot : Ballot) → IfSome s.campaign (λ campaign. campaign.ballot ≡ ballot) → IfSome made (λ accept. accept.ballot ≡ ballot)
+  pub own : (ballot : Ballot) → IfSome s.campaign (λ campaign. campaign.ballot ≡ ballot) → IfSome made (λ run. run.ballot ≡ ballot)
+
+-- how many commands the close of a call proposes at most: one, but where a quorum has promised and commands are told that weren't proposed yet
+abbrev pub most_proposed : Proposing → ℕ
+most_proposed p = if leads p.nodes p.campaign then most_commands p 0 else 1
+
+-- and behind a message: a promise may make a quorum, and tells of its entries
+abbrev pub most_proposed_behind : Proposing → Message → ℕ
+most_proposed_behind p (Prepare ballot slot) = most_proposed p
+most_proposed_behind p (Promise ballot slot entries) = most_commands p (length entries)
+most_proposed_behind p (Refuse ballot slot promised) = most_proposed p
+most_proposed_behind p (Accept ballot slot commands) = most_proposed p
+most_proposed_behind p (Accepted ballot slot commands) = most_proposed p
+most_proposed_behind p (Chosen slot command) = most_proposed p
+most_proposed_behind p (Ask slot) = most_proposed p
+most_proposed_behind p (Forward command) = most_proposed p
+
+-- it proposes no more than so many behind a message, of a promise once that was counted, or passed over
+abbrev pub IsBoundedBehind : Proposing → Message → ℕ → Type 0
+IsBoundedBehind p (Prepare ballot slot) most = IsBounded p most
+IsBoundedBehind p (Promise ballot slot entries) most = (from : ℕ) → IsBounded (counting p from ballot slot entries) most
+IsBoundedBehind p (Refuse ballot slot promised) most = IsBounded p most
+IsBoundedBehind p (Accept ballot slot commands) most = IsBounded p most
+IsBoundedBehind p (Accepted ballot slot commands) most = IsBounded p most
+IsBoundedBehind p (Chosen slot command) most = IsBounded p most
+IsBoundedBehind p (Ask slot) most = IsBounded p most
+IsBoundedBehind p (Forward command) most = IsBounded p most
 
 -- no round is above those seen, or no slot is left
 abbrev pub is_spent_at : Running → Ballot → Bool

@@ -1,15 +1,16 @@
 //! What a node that runs stores: promises and votes.
 
 ghost use Rattle.std.specs.Prelude.{◌≡◌, ℕ, ◌+◌, ◌*◌, ◌≤◌, false, length, IsTrue, IfSome, Some, Ok};
-ghost use Rattle.paxos_wire.specs.Fits.{IsBallot, IsSlot, IsInRange, IsCommandRun};
+ghost use Rattle.paxos_wire.specs.Fits.{IsBallot, IsSlot, IsCommandRun};
 ghost use Rattle.paxos_wire.specs.declared.limits.TheConstants.{MOST_SINGLE_FRAME};
 ghost use Rattle.paxos_wire.specs.Order.{is_below};
+ghost use Rattle.proposer.specs.CommandRuns.{IsBounded};
 ghost use Rattle.node_rules.specs.Standings.{Standing};
 ghost use Rattle.node_rules.specs.Accepting.{preparing, accepting, voting};
 ghost use Rattle.node_rules.specs.Proposing.{closing};
 ghost use Rattle.dealer_node.specs.Posts.{place_at};
 ghost use Rattle.dealer_node.specs.Outs.{told_by};
-ghost use Rattle.dealer_node.specs.declared.limits.TheConstants.{FRAMES_TO_ALL, FRAMES_OF_A_CLOSE, FRAME_BYTES_OF_A_CLOSE, FRAMES_OF_AN_ANSWER, FRAME_BYTES_OF_AN_ANSWER};
+ghost use Rattle.dealer_node.specs.declared.limits.TheConstants.{FRAMES_TO_ALL, FRAMES_OF_A_CLOSE, FRAMES_OF_AN_ANSWER, FRAME_BYTES_OF_AN_ANSWER};
 ghost use Rattle.dealer_node.specs.declared.made.Need.{Need as Needs};
 ghost use Rattle.dealer_node.specs.Running.{IsAt, CanLearn, Learns, proposed_by};
 ghost use Rattle.dealer_node.specs.Rooms.{Grows};
@@ -23,7 +24,7 @@ use crate::up::Up;
 use crate::voting::send_proposal;
 use paxos_wire::{Ballot, CommandList};
 use promise_store::Disk;
-use proposer::Accept;
+use proposer::AcceptRun;
 use protocol_model::laws::command_runs_are_moves;
 use slot_log::Command;
 
@@ -50,6 +51,7 @@ impl<D: Disk + Drop> Up<D> {
         ensures goes_on { GoesOn D.Disk self.old self.new result }
         ensures only { IsOfPart result }
         ensures at { IsAt post.now self.new.running }
+        ensures bounded { (most : ℕ) → IsBounded self.old.running.proposer most → IsBounded self.new.running.proposer most }
         ensures room { store_room self.old ≤ store_room self.new + 1 }
         ensures left { (need : Needs) (answers commands frames : ℕ) → HasLeft self.old.running made.old need (answers + 1) (commands + 1) (frames + (FRAMES_OF_AN_ANSWER + FRAMES_TO_ALL)) → HasLeft self.new.running made.new need answers commands frames }
     {
@@ -89,16 +91,17 @@ impl<D: Disk + Drop> Up<D> {
         ensures goes_on { GoesOn D.Disk self.old self.new result }
         ensures only { IsOfPart result }
         ensures at { IsAt post.now self.new.running }
+        ensures proposer { self.new.running.proposer ≡ self.old.running.proposer }
         ensures room { store_room self.old ≤ store_room self.new + length commands.now }
         ensures left { (need : Needs) (answers more frames : ℕ) → HasLeft self.old.running made.old need (answers + 1) (more + length commands.now) (frames + FRAMES_TO_ALL * length commands.now)
             → HasLeft self.new.running made.new need answers more frames }
     {
         let _nodes = post.nodes();
         command_runs_are_moves();
-        let mut room = CommandList::new();
+        let mut told = CommandList::new();
         match self
             .acceptor
-            .on_accept_run_reserved(ballot, slot, commands, &mut room)
+            .on_accept_run_reserved(ballot, slot, commands, &mut told)
         {
             Ok(answer) => match accepted_commands(&answer) {
                 Some(stored) => {
@@ -136,6 +139,7 @@ impl<D: Disk + Drop> Up<D> {
         ensures goes_on { GoesOn D.Disk self.old self.new result }
         ensures only { IsOfPart result }
         ensures at { IsAt post.now self.new.running }
+        ensures bounded { (most : ℕ) → IsBounded self.old.running.proposer most → IsBounded self.new.running.proposer most }
         ensures room { store_room self.old ≤ store_room self.new + length commands.now }
         ensures left { (need : Needs) (answers more frames : ℕ)
             → HasLeft self.old.running made.old need (answers + 1) (more + length commands.now) (frames + (FRAMES_OF_AN_ANSWER + FRAMES_TO_ALL * length commands.now))
@@ -150,44 +154,69 @@ impl<D: Disk + Drop> Up<D> {
         self.vote(post, ballot, slot, commands, made)
     }
 
-    /// Sends a proposal to the others, and votes for it.
-    fn propose(&mut self, post: &Post, proposal: &Accept, made: &mut Made) -> Result<(), NodeFault>
+    /// Sends a proposal to the others, and votes for it: its votes are stored at once.
+    fn propose(
+        &mut self,
+        post: &Post,
+        proposal: &AcceptRun<'_>,
+        made: &mut Made,
+    ) -> Result<(), NodeFault>
         requires at { IsAt post.now self.old.running }
         requires ballot { IsBallot proposal.now.ballot }
-        requires slot { IsSlot proposal.now.slot }
-        requires command { IsInRange proposal.now.command }
-        requires store { 1 ≤ store_room self.old }
-        requires learn { CanLearn self.old.running made.old 1 1 }
+        requires run { IsCommandRun proposal.now.slot proposal.now.commands }
+        requires store { length proposal.now.commands ≤ store_room self.old }
+        requires learn { CanLearn self.old.running made.old 1 (length proposal.now.commands) }
         requires texts { FRAMES_OF_A_CLOSE ≤ made.old.frames.text_room }
-        requires bytes { FRAME_BYTES_OF_A_CLOSE ≤ made.old.frames.byte_room }
+        requires bytes { MOST_SINGLE_FRAME * (FRAMES_OF_A_CLOSE * length proposal.now.commands) ≤ made.old.frames.byte_room }
         ensures works { (s : Standing) → IsTrue D.is_honest → IsUp D.Disk post.now self.old s → proposal.now.ballot ≡ s.store.promise
             → Works D.Disk post.now s (proposed_by (place_at post.now) (Some proposal.now) s) self.old self.new (told_by made.old) (told_by made.new) result }
         ensures goes_on { GoesOn D.Disk self.old self.new result }
         ensures only { IsOfPart result }
         ensures at { IsAt post.now self.new.running }
-        ensures left { (need : Needs) (answers commands frames : ℕ) → HasLeft self.old.running made.old need (answers + 1) (commands + 1) (frames + FRAMES_OF_A_CLOSE) → HasLeft self.new.running made.new need answers commands frames }
+        ensures left { (need : Needs) (answers more frames : ℕ)
+            → HasLeft self.old.running made.old need (answers + 1) (more + length proposal.now.commands) (frames + FRAMES_OF_A_CLOSE * length proposal.now.commands)
+            → HasLeft self.new.running made.new need answers more frames }
     {
-        let _nodes = post.nodes();
-        send_proposal(&mut made.frames, post, proposal);
-        let commands = [proposal.command];
-        self.vote(post, proposal.ballot, proposal.slot, &commands, made)
+        let commands = proposal.commands.as_slice();
+        send_proposal(
+            &mut made.frames,
+            post,
+            proposal.ballot,
+            proposal.slot,
+            commands,
+        );
+        self.vote(post, proposal.ballot, proposal.slot, commands, made)
     }
 
-    /// The end of each call: a node that leads proposes at its front, once in a ballot.
-    pub(crate) fn close(&mut self, post: &Post, made: &mut Made) -> Result<(), NodeFault>
+    /// The end of each call: a node that leads proposes from its front on, once in a ballot. There is room for so many
+    /// commands as it proposes at most.
+    pub(crate) fn close(
+        &mut self,
+        post: &Post,
+        most: usize,
+        made: &mut Made,
+    ) -> Result<(), NodeFault>
         requires at { IsAt post.now self.old.running }
-        requires store { 1 ≤ store_room self.old }
-        requires learn { CanLearn self.old.running made.old 1 1 }
-        requires texts { FRAMES_OF_A_CLOSE ≤ made.old.frames.text_room }
-        requires bytes { FRAME_BYTES_OF_A_CLOSE ≤ made.old.frames.byte_room }
+        requires bounded { IsBounded self.old.running.proposer most }
+        requires store { most ≤ store_room self.old }
+        requires learn { CanLearn self.old.running made.old 1 most }
+        requires texts { FRAMES_OF_A_CLOSE * most ≤ made.old.frames.text_room }
+        requires bytes { MOST_SINGLE_FRAME * (FRAMES_OF_A_CLOSE * most) ≤ made.old.frames.byte_room }
         ensures works { (s : Standing) → IsTrue D.is_honest → IsUp D.Disk post.now self.old s
             → Works D.Disk post.now s (closing (place_at post.now) s) self.old self.new (told_by made.old) (told_by made.new) result }
         ensures goes_on { GoesOn D.Disk self.old self.new result }
         ensures only { IsOfPart result }
         ensures at { IsAt post.now self.new.running }
-        ensures left { (need : Needs) (answers commands frames : ℕ) → HasLeft self.old.running made.old need (answers + 1) (commands + 1) (frames + FRAMES_OF_A_CLOSE) → HasLeft self.new.running made.new need answers commands frames }
+        ensures left { (need : Needs) (answers more frames : ℕ) → HasLeft self.old.running made.old need (answers + 1) (more + most) (frames + FRAMES_OF_A_CLOSE * most)
+            → HasLeft self.new.running made.new need answers more frames }
     {
-        match self.running.proposal(post) {
+        let _ = most;
+        // The own deal is drawn, and a list made, only where something may be proposed.
+        if !self.running.is_leading(post) {
+            return Ok(());
+        }
+        let mut room = CommandList::new();
+        match self.running.proposal(post, &mut room) {
             Some(proposal) => self.propose(post, &proposal, made),
             None => Ok(()),
         }

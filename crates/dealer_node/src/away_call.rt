@@ -1,6 +1,8 @@
 //! The call of an order that the player to act is played for: what a node that runs does then.
 
-ghost use Rattle.std.specs.Prelude.{◌≡◌, Ok, Some, IsTrue, IsErr};
+ghost use Rattle.std.specs.Prelude.{◌≡◌, ◌≤◌, Ok, Some, IsTrue, IsErr};
+ghost use Rattle.paxos_wire.specs.declared.limits.TheConstants.{WINDOW};
+ghost use Rattle.proposer.specs.CommandRuns.{IsBounded};
 ghost use Rattle.seat_session.specs.declared.said.Said.TheVariants.{Act as SaidAct};
 ghost use Rattle.node_rules.specs.Standings.{Standing};
 ghost use Rattle.node_rules.specs.Turns.{and_then};
@@ -10,11 +12,11 @@ ghost use Rattle.node_rules.specs.Proposing.{closing};
 ghost use Rattle.dealer_node.specs.Outs.{told_by, nothing_told};
 ghost use Rattle.dealer_node.specs.Posts.{place_at};
 ghost use Rattle.dealer_node.specs.Hearing.{IsForwardable};
-ghost use Rattle.dealer_node.specs.Running.{IsAt, ahead_of};
+ghost use Rattle.dealer_node.specs.Running.{IsAt};
 ghost use Rattle.dealer_node.specs.Working.{IsOfPart};
 ghost use Rattle.dealer_node.specs.Handling.{IsWithin, AnswersUp};
 ghost use Rattle.dealer_node.specs.Calling.{away_need};
-ghost use Rattle.dealer_node.specs.Most.{most_after, ShowsWithin};
+ghost use Rattle.dealer_node.specs.Most.{most_after, most_applied, ShowsWithin};
 
 use crate::fault::NodeFault;
 use crate::limits::FRAMES_OF_A_CLOSE;
@@ -27,11 +29,13 @@ use slot_log::Command;
 use slot_log::laws::away_is_legal;
 use std::alloc::Global;
 
-/// What an order makes at most: the frame with which it goes on, and what the close of the call makes.
-fn away_need(running: &Running) -> Need
-    ensures { result ≡ away_need running.now }
+/// What an order makes at most: the frame with which it goes on, and what the close of the call makes, which proposes no more
+/// commands than so many.
+fn away_need(running: &Running, most: usize) -> Need
+    requires { most ≤ WINDOW }
+    ensures { result ≡ away_need running.now most }
 {
-    running.need(1, FRAMES_OF_A_CLOSE + 1)
+    running.need(most, FRAMES_OF_A_CLOSE * most + 1)
 }
 
 impl<D: Disk + Drop> Up<D> {
@@ -39,20 +43,27 @@ impl<D: Disk + Drop> Up<D> {
     ghost use Rattle.dealer_node.specs.Calling.{HasCallRoom, HandlesCall};
 
     /// Takes an order that means this, into room that was made, and closes the call.
-    fn play_for(&mut self, post: &Post, act: &Command, made: &mut Made) -> Result<(), NodeFault>
+    fn play_for(
+        &mut self,
+        post: &Post,
+        act: &Command,
+        most: usize,
+        made: &mut Made,
+    ) -> Result<(), NodeFault>
         requires at { IsAt post.now self.old.running }
         requires act { IsForwardable (Ok (SaidAct act.now)) }
-        requires room { HasCallRoom self.old made.old (away_need self.old.running) 1 1 }
+        requires bounded { IsBounded self.old.running.proposer most }
+        requires room { HasCallRoom self.old made.old (away_need self.old.running most) 1 most }
         ensures works { (s : Standing) → IsTrue D.is_honest → IsUp D.Disk post.now self.old s → away_at (place_at post.now) s ≡ Some act.now
             → Works D.Disk post.now s (and_then (ordering (place_at post.now) s) (closing (place_at post.now))) self.old self.new (told_by made.old) (told_by made.new) result }
         ensures goes_on { GoesOn D.Disk self.old self.new result }
         ensures only { IsOfPart result }
         ensures at { IsAt post.now self.new.running }
-        ensures within { told_by made.old ≡ nothing_told → IsWithin made.new (away_need self.old.running) }
+        ensures within { told_by made.old ≡ nothing_told → IsWithin made.new (away_need self.old.running most) }
     {
         let promised = self.acceptor.promised();
         self.running.play_for(post, promised, act, made);
-        self.close(post, made)
+        self.close(post, most, made)
     }
 
     /// Lets the command that plays for the player to act wait where nothing does, hands it on, and closes the call; 96
@@ -70,16 +81,17 @@ impl<D: Disk + Drop> Up<D> {
         ensures answers { AnswersUp self.old self.new result }
         ensures at { IsAt post.now self.new.running }
         ensures unmade { IsErr result → told_by out.new ≡ told_by out.old }
-        ensures shows { ShowsWithin (most_after (ahead_of self.old.running)) (told_by out.old) (told_by out.new) }
+        ensures shows { ShowsWithin (most_after (most_applied self.old.running)) (told_by out.old) (told_by out.new) }
     {
         away_is_legal();
         self.running.table.limits();
         let Some(act) = self.running.table.away() else {
             return Err(NodeFault::NothingToAct);
         };
-        let need = away_need(&self.running);
-        let mut made = self.ready(alloc, 1, 1, &need, out)?;
-        self.play_for(post, &act, &mut made)?;
+        let most = self.running.most_proposed();
+        let need = away_need(&self.running, most);
+        let mut made = self.ready(alloc, 1, most, &need, out)?;
+        self.play_for(post, &act, most, &mut made)?;
         out.append(made);
         Ok(())
     }

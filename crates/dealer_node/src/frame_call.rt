@@ -8,17 +8,18 @@ ghost use Rattle.node_rules.specs.Calls.{Frame as Letter};
 ghost use Rattle.node_rules.specs.Rules.{on_message};
 ghost use Rattle.dealer_node.specs.Outs.{told_by, nothing_told};
 ghost use Rattle.dealer_node.specs.Posts.{place_at};
-ghost use Rattle.dealer_node.specs.Running.{IsAt, ahead_of};
+ghost use Rattle.dealer_node.specs.Running.{IsAt, IsBoundedBehind};
 ghost use Rattle.dealer_node.specs.Working.{IsOfPart};
 ghost use Rattle.dealer_node.specs.Handling.{IsWithin, AnswersUp};
 ghost use Rattle.dealer_node.specs.Calling.{commands_in, frame_need};
 ghost use Rattle.dealer_node.specs.declared.limits.TheConstants.{ANSWERS_OF_A_CALL};
 ghost use Rattle.paxos_wire.specs.declared.limits.TheConstants.{WINDOW};
-ghost use Rattle.dealer_node.specs.Most.{most_after, ShowsWithin};
+ghost use Rattle.dealer_node.specs.Most.{most_after, most_applied_behind, most_applied_by, ShowsWithin};
 
 use crate::fault::NodeFault;
-use crate::limits::{ANSWERS_OF_A_CALL, FRAMES_OF_A_MESSAGE, FRAMES_TO_ALL};
+use crate::limits::{ANSWERS_OF_A_CALL, FRAMES_OF_A_CLOSE, FRAMES_OF_AN_ANSWER, FRAMES_TO_ALL};
 use crate::made::{Made, Need};
+use crate::most_shown::{MostShown, most_after};
 use crate::post::Post;
 use crate::running::Running;
 use crate::up::Up;
@@ -51,17 +52,37 @@ fn commands_in(message: &Message) -> usize
     }
 }
 
-/// What a message of another node makes at most that has so many commands.
-fn frame_need(running: &Running, commands: usize) -> Need
-    requires { commands ≤ WINDOW }
-    ensures { result ≡ frame_need running.now commands }
+/// How much the call of a message shows at most.
+fn most_shown_behind(running: &Running, message: &Message) -> MostShown
+    ensures { result ≡ most_after (most_applied_behind running.now message.now) }
 {
-    running.need(commands + 1, FRAMES_OF_A_MESSAGE + FRAMES_TO_ALL * commands)
+    let commands = commands_in(message) + running.most_proposed_behind(message);
+    most_after(running.most_applied(commands))
+}
+
+/// What a message of another node makes at most that has so many commands, where the close proposes no more than so many.
+fn frame_need(running: &Running, commands: usize, most: usize) -> Need
+    requires commands { commands ≤ WINDOW }
+    requires most { most ≤ WINDOW }
+    ensures { result ≡ frame_need running.now commands most }
+{
+    let frames = FRAMES_OF_AN_ANSWER + FRAMES_TO_ALL * commands + FRAMES_OF_A_CLOSE * most + 1;
+    running.need(commands + most, frames)
 }
 
 impl<D: Disk + Drop> Up<D> {
     ghost use Rattle.dealer_node.specs.Working.{IsUp, Works, GoesOn};
     ghost use Rattle.dealer_node.specs.Calling.{HasCallRoom, HandlesCall};
+
+    /// How much the call of a frame of these bytes shows at most.
+    pub(crate) fn most_shown_by(&self, bytes: &[u8]) -> MostShown
+        ensures { result ≡ most_after (most_applied_by self.now.running (reading bytes.now)) }
+    {
+        match read(bytes) {
+            Ok(message) => most_shown_behind(&self.running, &message),
+            Err(_) => self.running.most_shown(),
+        }
+    }
 
     /// Takes a message of another node, into room that was made.
     fn message(
@@ -69,20 +90,22 @@ impl<D: Disk + Drop> Up<D> {
         post: &Post,
         from: u8,
         message: &Message,
+        most: usize,
         made: &mut Made,
     ) -> Result<(), NodeFault>
         requires at { IsAt post.now self.old.running }
         requires from { from < post.now.nodes }
         requires message { IsMessage message.now }
-        requires room { HasCallRoom self.old made.old (frame_need self.old.running (commands_in message.now)) ANSWERS_OF_A_CALL (commands_in message.now + 1) }
+        requires bounded { IsBoundedBehind self.old.running.proposer message.now most }
+        requires room { HasCallRoom self.old made.old (frame_need self.old.running (commands_in message.now) most) ANSWERS_OF_A_CALL (commands_in message.now + most) }
         ensures works { (s : Standing) → IsTrue D.is_honest → IsUp D.Disk post.now self.old s
             → Works D.Disk post.now s (on_message (place_at post.now) from message.now s) self.old self.new (told_by made.old) (told_by made.new) result }
         ensures goes_on { GoesOn D.Disk self.old self.new result }
         ensures only { IsOfPart result }
         ensures at { IsAt post.now self.new.running }
-        ensures within { told_by made.old ≡ nothing_told → OnOk result (IsWithin made.new (frame_need self.old.running (commands_in message.now))) }
+        ensures within { told_by made.old ≡ nothing_told → OnOk result (IsWithin made.new (frame_need self.old.running (commands_in message.now) most)) }
     {
-        self.on_message(post, from, message, made)
+        self.on_message(post, from, message, most, made)
     }
 
     /// Takes the bytes of a frame of another node, and closes the call. What it makes goes to `out` at the end, where it
@@ -103,15 +126,16 @@ impl<D: Disk + Drop> Up<D> {
         ensures answers { AnswersUp self.old self.new result }
         ensures at { IsAt post.now self.new.running }
         ensures unmade { IsErr result → told_by out.new ≡ told_by out.old }
-        ensures shows { ShowsWithin (most_after (ahead_of self.old.running)) (told_by out.old) (told_by out.new) }
+        ensures shows { ShowsWithin (most_after (most_applied_by self.old.running (reading bytes.now))) (told_by out.old) (told_by out.new) }
     {
         match read(bytes) {
             Err(fault) => Err(NodeFault::BadFrame(fault)),
             Ok(message) => {
                 let commands = commands_in(&message);
-                let need = frame_need(&self.running, commands);
-                let mut made = self.ready(alloc, ANSWERS_OF_A_CALL, commands + 1, &need, out)?;
-                self.message(post, from, &message, &mut made)?;
+                let most = self.running.most_proposed_behind(&message);
+                let need = frame_need(&self.running, commands, most);
+                let mut made = self.ready(alloc, ANSWERS_OF_A_CALL, commands + most, &need, out)?;
+                self.message(post, from, &message, most, &mut made)?;
                 out.append(made);
                 Ok(())
             }

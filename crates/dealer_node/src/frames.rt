@@ -5,13 +5,14 @@ ghost use Rattle.paxos_wire.specs.Fits.{IsMessage};
 ghost use Rattle.paxos_wire.specs.declared.limits.TheConstants.{MOST_SINGLE_FRAME};
 ghost use Rattle.node_rules.specs.Standings.{Standing};
 ghost use Rattle.node_rules.specs.Rules.{taking, asking, on_message};
+ghost use Rattle.proposer.specs.CommandRuns.{IsBounded};
 ghost use Rattle.dealer_node.specs.Posts.{place_at};
 ghost use Rattle.dealer_node.specs.Outs.{told_by};
-ghost use Rattle.dealer_node.specs.declared.limits.TheConstants.{FRAMES_TO_ALL, ANSWERS_OF_A_CALL, FRAMES_OF_AN_ANSWER, FRAMES_OF_A_MESSAGE};
+ghost use Rattle.dealer_node.specs.declared.limits.TheConstants.{FRAMES_TO_ALL, ANSWERS_OF_A_CALL, FRAMES_OF_AN_ANSWER};
 ghost use Rattle.dealer_node.specs.Rooms.{Grows};
 ghost use Rattle.dealer_node.specs.declared.made.Need.{Need as Needs};
-ghost use Rattle.dealer_node.specs.Running.{IsRunning, IsTaken, IsAt, CanLearn};
-ghost use Rattle.dealer_node.specs.Calling.{commands_in};
+ghost use Rattle.dealer_node.specs.Running.{IsRunning, IsTaken, IsBoundedBehind, IsAt, CanLearn};
+ghost use Rattle.dealer_node.specs.Calling.{commands_in, frames_behind};
 ghost use Rattle.dealer_node.specs.Working.{HasLeft, IsOfPart};
 
 use crate::fault::NodeFault;
@@ -66,6 +67,7 @@ impl<D: Disk + Drop> Up<D> {
         ensures goes_on { GoesOn D.Disk self.old self.new result }
         ensures only { IsOfPart result }
         ensures at { IsAt post.now self.new.running }
+        ensures bounded { (most : ℕ) → IsBoundedBehind self.old.running.proposer message.now most → IsBounded self.new.running.proposer most }
         ensures room { store_room self.old ≤ store_room self.new + commands_in message.now }
         ensures left { (need : Needs) (answers more frames : ℕ)
             → HasLeft self.old.running made.old need (answers + 1) (more + commands_in message.now) (frames + (FRAMES_OF_AN_ANSWER + FRAMES_TO_ALL * commands_in message.now))
@@ -87,33 +89,36 @@ impl<D: Disk + Drop> Up<D> {
         }
     }
 
-    /// Takes a message of another node, and closes the call; last it asks for what it doesn't know.
+    /// Takes a message of another node, and closes the call; last it asks for what it doesn't know. There is room for so
+    /// many commands as the close proposes at most.
     pub(crate) fn on_message(
         &mut self,
         post: &Post,
         from: u8,
         message: &Message,
+        most: usize,
         made: &mut Made,
     ) -> Result<(), NodeFault>
         requires at { IsAt post.now self.old.running }
         requires from { from < post.now.nodes }
         requires message { IsMessage message.now }
-        requires store { commands_in message.now + 1 ≤ store_room self.old }
-        requires learn { CanLearn self.old.running made.old ANSWERS_OF_A_CALL (commands_in message.now + 1) }
-        requires texts { FRAMES_OF_A_MESSAGE + FRAMES_TO_ALL * commands_in message.now ≤ made.old.frames.text_room }
-        requires bytes { MOST_SINGLE_FRAME * (FRAMES_OF_A_MESSAGE + FRAMES_TO_ALL * commands_in message.now) ≤ made.old.frames.byte_room }
+        requires bounded { IsBoundedBehind self.old.running.proposer message.now most }
+        requires store { commands_in message.now + most ≤ store_room self.old }
+        requires learn { CanLearn self.old.running made.old ANSWERS_OF_A_CALL (commands_in message.now + most) }
+        requires texts { frames_behind (commands_in message.now) most ≤ made.old.frames.text_room }
+        requires bytes { MOST_SINGLE_FRAME * frames_behind (commands_in message.now) most ≤ made.old.frames.byte_room }
         ensures works { (s : Standing) → IsTrue D.is_honest → IsUp D.Disk post.now self.old s
             → Works D.Disk post.now s (on_message (place_at post.now) from message.now s) self.old self.new (told_by made.old) (told_by made.new) result }
         ensures goes_on { GoesOn D.Disk self.old self.new result }
         ensures only { IsOfPart result }
         ensures at { IsAt post.now self.new.running }
-        ensures left { (need : Needs) → HasLeft self.old.running made.old need ANSWERS_OF_A_CALL (commands_in message.now + 1) (FRAMES_OF_A_MESSAGE + FRAMES_TO_ALL * commands_in message.now)
+        ensures left { (need : Needs) → HasLeft self.old.running made.old need ANSWERS_OF_A_CALL (commands_in message.now + most) (frames_behind (commands_in message.now) most)
             → OnOk result (HasLeft self.new.running made.new need 0 0 0) }
     {
         self.running.see(message);
         match self.take(post, from, message, made) {
             Err(fault) => Err(fault),
-            Ok(()) => match self.close(post, made) {
+            Ok(()) => match self.close(post, most, made) {
                 Err(fault) => Err(fault),
                 Ok(()) => {
                     ask(&self.running, post, from, message, made);

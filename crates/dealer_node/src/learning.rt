@@ -143,6 +143,7 @@ impl Running {
         ensures err { OnErr result ((s : Standing) → IsRunning post.now self.old s
             → counting_votes (place_at post.now) from ballot slot commands.now s ≡ Err (Conflicting s.store)) }
         ensures at { IsAt post.now self.new }
+        ensures proposer { self.new.proposer ≡ self.old.proposer }
         ensures learns { Learns (length commands.now) self.old self.new made.old made.new }
         ensures rest { made.new ≡ record made.old { shown = made.new.shown } }
     {
@@ -169,6 +170,7 @@ impl Running {
         ensures err { OnErr result ((s : Standing) → IsRunning post.now self.old s
             → learning (place_at post.now) (answer_to_chosen s.learned.log slot command) (with_chosen s.learned slot command) s ≡ Err (Conflicting s.store)) }
         ensures at { IsAt post.now self.new }
+        ensures proposer { self.new.proposer ≡ self.old.proposer }
         ensures learns { Learns 1 self.old self.new made.old made.new }
         ensures rest { made.new ≡ record made.old { shown = made.new.shown } }
     {
@@ -213,6 +215,7 @@ impl Running {
         ensures err { OnErr result ((s : Standing) → IsRunning post.now self.old s
             → believing (place_at post.now) from slot command s ≡ Err (Conflicting s.store)) }
         ensures at { IsAt post.now self.new }
+        ensures proposer { self.new.proposer ≡ self.old.proposer }
         ensures learns { Learns 1 self.old self.new made.old made.new }
         ensures frames { Grows made.old.frames made.new.frames 1 MOST_SINGLE_FRAME }
         ensures rest { made.new ≡ record made.old { frames = made.new.frames; shown = made.new.shown } }

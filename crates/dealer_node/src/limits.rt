@@ -16,11 +16,9 @@ pub(crate) const FRAMES_TO_ALL: usize = NODES as usize;
 /// The most bytes of these frames.
 pub(crate) const FRAME_BYTES_TO_ALL: usize = FRAMES_TO_ALL * MOST_SINGLE_FRAME;
 
-/// The most frames that the close of a call makes: two messages to all nodes, a proposal and the node's own vote for it.
+/// The most frames that the close of a call makes for each command that it proposes: two messages to all nodes, a proposal
+/// and the node's own vote for it.
 pub(crate) const FRAMES_OF_A_CLOSE: usize = 2 * FRAMES_TO_ALL;
-
-/// The most bytes of these frames.
-pub(crate) const FRAME_BYTES_OF_A_CLOSE: usize = FRAMES_OF_A_CLOSE * MOST_SINGLE_FRAME;
 
 /// The most frames that a message of another node is answered with, but for the votes for the commands that it asks to
 /// accept: one for each slot that an Ask is told of. What other messages are answered with has room in it: a Promise, which
@@ -30,20 +28,20 @@ pub(crate) const FRAMES_OF_AN_ANSWER: usize = WINDOW;
 /// The most bytes of these frames.
 pub(crate) const FRAME_BYTES_OF_AN_ANSWER: usize = FRAMES_OF_AN_ANSWER * MOST_SINGLE_FRAME;
 
-/// The most frames that a call makes by a message of another node, but for the votes for the commands that it asks to
-/// accept: what it is answered with, those of the close, and a question.
-pub(crate) const FRAMES_OF_A_MESSAGE: usize = FRAMES_OF_AN_ANSWER + FRAMES_OF_A_CLOSE + 1;
-
-/// The most answers that a call counts: one that came, or that the node gives itself, and the one for what the close
+/// The most answers that a call counts: one that came, or that the node gives itself, and the one for all that the close
 /// proposes.
 pub(crate) const ANSWERS_OF_A_CALL: usize = 2;
 
-/// The most commands that a call learns: those that a message tells, or that it completes a quorum for, 64 at most, and one
-/// that the close proposes.
-pub(crate) const COMMANDS_OF_A_CALL: usize = WINDOW + 1;
+/// The most commands that a call learns: those that a message tells, or that it completes a quorum for, and those that the
+/// close proposes, 64 at most of each.
+pub(crate) const COMMANDS_OF_A_CALL: usize = 2 * WINDOW;
 
-/// The most frames of any call by a message, each command that it asks to accept as one to all nodes.
-pub(crate) const MOST_FRAMES_OF_A_MESSAGE: usize = FRAMES_OF_A_MESSAGE + FRAMES_TO_ALL * WINDOW;
+/// The most frames of any call by a message: what it is answered with, each command that it asks to accept as one to all
+/// nodes, those of the close, and a question.
+pub(crate) const MOST_FRAMES_OF_A_MESSAGE: usize = FRAMES_OF_AN_ANSWER
+    + FRAMES_TO_ALL * WINDOW
+    + FRAMES_OF_A_CLOSE * WINDOW
+    + 1;
 
 /// The most texts that a command shows: a line to each seat, and what the log has further.
 pub(crate) const TEXTS_OF_A_COMMAND: usize = PLAYERS + 1;

@@ -9,10 +9,12 @@ ghost use Rattle.dealer_node.specs.Posts.{Post as Station};
 ghost use Rattle.dealer_node.specs.Rooms.{Grows, Tells};
 ghost use Rattle.dealer_node.specs.Seated.{feeds_with, HasRoomAt};
 ghost use Rattle.dealer_node.specs.Running.{IsAt, ahead_of};
+ghost use Rattle.paxos_wire.specs.declared.limits.TheConstants.{WINDOW};
+ghost use Rattle.proposer.specs.CommandRuns.{IsBounded};
 ghost use Rattle.dealer_node.specs.Working.{IsOfPart};
 ghost use Rattle.dealer_node.specs.Handling.{IsWithin, AnswersUp};
 ghost use Rattle.dealer_node.specs.Calling.{line_need};
-ghost use Rattle.dealer_node.specs.Most.{most_after, ShowsWithin};
+ghost use Rattle.dealer_node.specs.Most.{most_after, most_applied, ShowsWithin};
 
 use crate::fault::NodeFault;
 use crate::limits::{FRAMES_OF_A_CLOSE, TEXT_BYTES_OF_A_COMMAND, TEXTS_OF_A_COMMAND};
@@ -25,12 +27,14 @@ use paxos_wire::limits::MOST_SINGLE_FRAME;
 use promise_store::Disk;
 use std::alloc::Global;
 
-/// What a piece makes at most, with fewer answers than these: none where no number is so great.
-fn line_need(running: &Running, limit: usize) -> Option<Need>
-    ensures { IfSome result (λ need. need ≡ line_need running.now limit) }
+/// What a piece makes at most, with fewer answers than these, where the close proposes no more commands than so many: none
+/// where no number is so great.
+fn line_need(running: &Running, limit: usize, most: usize) -> Option<Need>
+    requires { most ≤ WINDOW }
+    ensures { IfSome result (λ need. need ≡ line_need running.now limit most) }
 {
-    let applied = running.most_applied(1);
-    let frames = limit.checked_add(FRAMES_OF_A_CLOSE)?;
+    let applied = running.most_applied(most);
+    let frames = limit.checked_add(FRAMES_OF_A_CLOSE * most)?;
     let frame_bytes = frames.checked_mul(MOST_SINGLE_FRAME)?;
     Some(Need {
         frames,
@@ -47,12 +51,20 @@ impl<D: Disk + Drop> Up<D> {
     ghost use Rattle.dealer_node.specs.Lines.{HearsLine, WorksLine};
 
     /// Takes a piece of a seat's bytes, as for fewer answers than these.
-    fn hear(&mut self, post: &Post, seat: usize, piece: &[u8], limit: usize, made: &mut Made)
+    fn hear(
+        &mut self,
+        post: &Post,
+        seat: usize,
+        piece: &[u8],
+        limit: usize,
+        most: usize,
+        made: &mut Made,
+    )
         requires at { IsAt post.now self.old.running }
         requires seat { seat < post.now.setting.game.players }
         requires bytes { HasRoomAt self.old.running.seats seat (length piece.now) }
         requires limit { feeds_with (session_at self.old.running.seats.talks seat) piece.now < limit }
-        requires room { HasCallRoom self.old made.old (line_need self.old.running limit) 1 1 }
+        requires room { HasCallRoom self.old made.old (line_need self.old.running limit most) 1 most }
         ensures heard { (s : Standing) → IsTrue D.is_honest → IsUp D.Disk post.now self.old s
             → HearsLine D.Disk post.now s seat piece.now self.old self.new (told_by made.old) (told_by made.new) }
         ensures at { IsAt post.now self.new.running }
@@ -61,6 +73,7 @@ impl<D: Disk + Drop> Up<D> {
         ensures faults { Tells made.old made.new limit }
         ensures rest { self.new ≡ record self.old { running = record self.old.running { pending = self.new.running.pending; seats = self.new.running.seats } } }
     {
+        let _ = most;
         let promised = self.acceptor.promised();
         self.running.hear(post, promised, seat, piece, limit, made);
     }
@@ -72,52 +85,57 @@ impl<D: Disk + Drop> Up<D> {
         seat: usize,
         piece: &[u8],
         limit: usize,
+        most: usize,
         made: &mut Made,
     ) -> Result<(), NodeFault>
         requires at { IsAt post.now self.old.running }
         requires seat { seat < post.now.setting.game.players }
         requires bytes { HasRoomAt self.old.running.seats seat (length piece.now) }
         requires limit { feeds_with (session_at self.old.running.seats.talks seat) piece.now < limit }
-        requires room { HasCallRoom self.old made.old (line_need self.old.running limit) 1 1 }
+        requires bounded { IsBounded self.old.running.proposer most }
+        requires room { HasCallRoom self.old made.old (line_need self.old.running limit most) 1 most }
         ensures works { (s : Standing) → IsTrue D.is_honest → IsUp D.Disk post.now self.old s
             → WorksLine D.Disk post.now s seat piece.now self.old self.new (told_by made.old) (told_by made.new) result }
         ensures goes_on { GoesOn D.Disk self.old self.new result }
         ensures only { IsOfPart result }
         ensures at { IsAt post.now self.new.running }
-        ensures within { told_by made.old ≡ nothing_told → IsWithin made.new (line_need self.old.running limit) }
+        ensures within { told_by made.old ≡ nothing_told → IsWithin made.new (line_need self.old.running limit most) }
     {
-        self.hear(post, seat, piece, limit, made);
-        self.close(post, made)
+        self.hear(post, seat, piece, limit, most, made);
+        self.close(post, most, made)
     }
 
-    /// Makes all room that a piece of a seat's bytes may need, and gives it with one more than there may be answers. An
-    /// `Err`, which is of memory, changes room alone.
+    /// Makes all room that a piece of a seat's bytes may need, where the close proposes no more commands than so many, and
+    /// gives it with one more than there may be answers. An `Err`, which is of memory, changes room alone.
     fn ready_line(
         &mut self,
         alloc: Global,
         seat: usize,
         bytes: &[u8],
+        most: usize,
         out: &mut Made,
     ) -> Result<(Made, usize), NodeFault>
-        requires { seat < length self.old.running.seats.talks }
+        requires seat { seat < length self.old.running.seats.talks }
+        requires most { most ≤ WINDOW }
         ensures unmoved { Unmoved D.Disk self.old self.new }
         ensures at { (post : Station) → IsAt post self.old.running → IsAt post self.new.running }
         ensures ahead { ahead_of self.new.running ≡ ahead_of self.old.running }
+        ensures proposer { self.new.running.proposer ≡ self.old.running.proposer }
         ensures same { told_by out.new ≡ told_by out.old }
         ensures memory { IfErr result (λ fault. fault ≡ NodeFault.OutOfMemory) }
         ensures limit { IfOk result (λ ready. feeds_with (session_at self.new.running.seats.talks seat) bytes.now < ready.1) }
         ensures nothing { IfOk result (λ ready. told_by ready.0 ≡ nothing_told) }
-        ensures room { IfOk result (λ ready. HasCallRoom self.new ready.0 (line_need self.new.running ready.1) 1 1) }
-        ensures room_out { IfOk result (λ ready. HasRoom out.new (line_need self.new.running ready.1)) }
+        ensures room { IfOk result (λ ready. HasCallRoom self.new ready.0 (line_need self.new.running ready.1 most) 1 most) }
+        ensures room_out { IfOk result (λ ready. HasRoom out.new (line_need self.new.running ready.1 most)) }
         ensures bytes { OnOk result (HasRoomAt self.new.running.seats seat (length bytes.now)) }
     {
         let Some(limit) = self.running.most_answers(seat, bytes) else {
             return Err(NodeFault::OutOfMemory);
         };
-        let Some(need) = line_need(&self.running, limit) else {
+        let Some(need) = line_need(&self.running, limit, most) else {
             return Err(NodeFault::OutOfMemory);
         };
-        let made = self.ready(alloc, 1, 1, &need, out)?;
+        let made = self.ready(alloc, 1, most, &need, out)?;
         self.running.reserve_bytes(seat, bytes.len())?;
         Ok((made, limit))
     }
@@ -139,10 +157,11 @@ impl<D: Disk + Drop> Up<D> {
         ensures answers { AnswersUp self.old self.new result }
         ensures at { IsAt post.now self.new.running }
         ensures unmade { IsErr result → told_by out.new ≡ told_by out.old }
-        ensures shows { ShowsWithin (most_after (ahead_of self.old.running)) (told_by out.old) (told_by out.new) }
+        ensures shows { ShowsWithin (most_after (most_applied self.old.running)) (told_by out.old) (told_by out.new) }
     {
-        let (mut made, limit) = self.ready_line(alloc, seat, bytes, out)?;
-        self.line(post, seat, bytes, limit, &mut made)?;
+        let most = self.running.most_proposed();
+        let (mut made, limit) = self.ready_line(alloc, seat, bytes, most, out)?;
+        self.line(post, seat, bytes, limit, most, &mut made)?;
         out.append(made);
         Ok(())
     }

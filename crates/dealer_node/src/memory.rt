@@ -8,7 +8,8 @@ ghost use Rattle.dealer_node.specs.Posts.{place_at};
 ghost use Rattle.dealer_node.specs.Outs.{told_by};
 ghost use Rattle.dealer_node.specs.declared.limits.TheConstants.{FRAMES_TO_ALL, FRAMES_OF_AN_ANSWER, FRAME_BYTES_OF_AN_ANSWER};
 ghost use Rattle.dealer_node.specs.Rooms.{Grows};
-ghost use Rattle.dealer_node.specs.Running.{IsRunning, IsAt, CanLearn, Learns};
+ghost use Rattle.proposer.specs.CommandRuns.{IsBounded};
+ghost use Rattle.dealer_node.specs.Running.{IsRunning, IsBoundedBehind, IsAt, CanLearn, Learns};
 ghost use Rattle.dealer_node.specs.Memory.{IsOfMemory, TakesInMemory};
 ghost use Rattle.dealer_node.specs.Calling.{commands_in};
 ghost use Rattle.dealer_node.specs.Working.{HasLeft, IsOfPart};
@@ -44,6 +45,7 @@ impl Running {
         ensures err { OnErr result ((s : Standing) → IsRunning post.now self.old s
             → taking (place_at post.now) from message.now s ≡ Err (Conflicting s.store)) }
         ensures at { IsAt post.now self.new }
+        ensures bounded { (most : ℕ) → IsBoundedBehind self.old.proposer message.now most → IsBounded self.new.proposer most }
         ensures learns { Learns (commands_in message.now) self.old self.new made.old made.new }
         ensures frames { Grows made.old.frames made.new.frames FRAMES_OF_AN_ANSWER FRAME_BYTES_OF_AN_ANSWER }
         ensures faults { made.new.faults ≡ made.old.faults }
@@ -104,6 +106,7 @@ impl<D: Disk + Drop> Up<D> {
         ensures only { IsOfPart result }
         ensures same { self.new.acceptor ≡ self.old.acceptor }
         ensures at { IsAt post.now self.new.running }
+        ensures bounded { (most : ℕ) → IsBoundedBehind self.old.running.proposer message.now most → IsBounded self.new.running.proposer most }
         ensures left { (need : Needs) (answers more frames : ℕ) → HasLeft self.old.running made.old need (answers + 1) (more + commands_in message.now) (frames + (FRAMES_OF_AN_ANSWER + FRAMES_TO_ALL * commands_in message.now)) → HasLeft self.new.running made.new need answers more frames }
     {
         match self.running.take(post, from, message, made) {

@@ -1,8 +1,9 @@
-ghost use Rattle.std.specs.Prelude.{◌≡◌, ◌≤◌};
+ghost use Rattle.std.specs.Prelude.{◌≡◌, ◌+◌, ◌≤◌};
 ghost use Rattle.paxos_wire.specs.declared.limits.TheConstants.{SLOTS};
+ghost use Rattle.dealer_node.specs.declared.limits.TheConstants.{COMMANDS_OF_A_CALL};
 ghost use Rattle.dealer_node.specs.Most.{most_after};
 
-use crate::limits::{COMMANDS_OF_A_CALL, TEXT_BYTES_OF_A_COMMAND, TEXTS_OF_A_COMMAND};
+use crate::limits::{TEXT_BYTES_OF_A_COMMAND, TEXTS_OF_A_COMMAND};
 use matchstate::MOST_LINE;
 
 /// How much a node's next call shows at most.
@@ -14,13 +15,12 @@ pub struct MostShown {
     pub bytes: usize,
 }
 
-/// What is shown at most by a node that knows so many commands beyond its front: a line of a seat that gets ready, and
-/// what these commands show, and those that the call learns.
-pub(crate) fn most_after(ahead: usize) -> MostShown
-    requires { ahead ≤ SLOTS }
-    ensures { result ≡ most_after ahead }
+/// What a call shows at most that applies so many commands: a line of a seat that gets ready, or a log's header, and what
+/// these commands show.
+pub(crate) fn most_after(applied: usize) -> MostShown
+    requires { applied ≤ SLOTS + COMMANDS_OF_A_CALL }
+    ensures { result ≡ most_after applied }
 {
-    let applied = ahead + COMMANDS_OF_A_CALL;
     MostShown {
         pieces: 1 + TEXTS_OF_A_COMMAND * applied,
         bytes: MOST_LINE + TEXT_BYTES_OF_A_COMMAND * applied,

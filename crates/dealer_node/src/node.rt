@@ -81,7 +81,7 @@ impl<D: Disk + Drop> Node<D> {
     ghost use Rattle.dealer_node.specs.Seeing.{post_in, runs, front_in, disk_in, IsSeen, begun_of, bytes_of, failures_of, images_of, since_of, downed, settled};
     ghost use Rattle.promise_store.specs.Refusals.{Refuses};
     ghost use Rattle.dealer_node.specs.Working.{head_of};
-    ghost use Rattle.dealer_node.specs.Most.{most_shown_of};
+    ghost use Rattle.dealer_node.specs.Most.{most_shown_of, most_shown_by};
     ghost use Rattle.dealer_node.specs.Taking.{Takes, StaysItself, AnswersRightly, LeavesDisk, IsOfStart, FindsStore, OpensDisk, StopsBy};
 
     /// The node of this number, counted from 0, of a match, over this disk. It is down. An `Err` comes only where
@@ -180,7 +180,7 @@ impl<D: Disk + Drop> Node<D> {
         ensures taken { (s : Standing) → IsTrue D.is_honest → IsSeen D.Disk self.old s
             → Takes D.Disk (Frame from bytes.now) s self.old self.new out.old out.new result }
         ensures stays { StaysItself D.Disk self.old self.new out.old out.new result }
-        ensures shows { ShowsWithin (most_shown_of self.old) out.old out.new }
+        ensures shows { ShowsWithin (most_shown_by self.old bytes.now) out.old out.new }
         ensures answers { AnswersRightly self.old self.new result }
         ensures untouched { (s : Standing) → IsTrue D.is_honest → IsSeen D.Disk self.old s → OnOk result (LeavesDisk (Frame from bytes.now) s self.old self.new) }
     {
@@ -368,14 +368,26 @@ impl<D: Disk + Drop> Node<D> {
         }
     }
 
-    /// How many pieces the node's next call shows at most, and how many bytes they have in all: beside what the call
-    /// learns it may apply all commands that the node knows beyond its front. The clause `shows` of each call says so.
+    /// How many pieces the node's next call shows at most, where it brings no frame, and how many bytes they have in all:
+    /// beside what the call proposes it may apply all commands that the node knows beyond its front. The clause `shows` of
+    /// each call says so.
     pub fn most_shown(&self) -> MostShown
         ensures { result ≡ most_shown_of self.now }
     {
         match &self.up {
             None => most_after(0),
             Some(up) => up.running.most_shown(),
+        }
+    }
+
+    /// How many pieces the call of a frame of these bytes shows at most, and how many bytes they have in all: also the
+    /// commands that it has may be applied then, and those proposed that it tells.
+    pub fn most_shown_by(&self, bytes: &[u8]) -> MostShown
+        ensures { result ≡ most_shown_by self.now bytes.now }
+    {
+        match &self.up {
+            None => most_after(0),
+            Some(up) => up.most_shown_by(bytes),
         }
     }
 

@@ -1,16 +1,17 @@
-ghost use Rattle.std.specs.Prelude.{◌≡◌, ◌*◌, ◌≤◌, ◌<◌, true, false, IfSome};
+ghost use Rattle.std.specs.Prelude.{◌≡◌, ℕ, ◌*◌, ◌≤◌, ◌<◌, true, false, length, None, IfSome};
 ghost use Rattle.std.specs.List.{AllByRecursion};
-ghost use Rattle.paxos_wire.specs.Fits.{IsBallot, IsEntry, IsInRange};
+ghost use Rattle.paxos_wire.specs.Fits.{IsBallot, IsCommandRun, IsEntry};
 ghost use Rattle.paxos_wire.specs.declared.limits.TheConstants.{SLOTS, MOST_SINGLE_FRAME};
 ghost use Rattle.slot_log.specs.Slots.{front};
-ghost use Rattle.proposer.specs.Campaigns.{next_ballot, leads};
+ghost use Rattle.proposer.specs.Campaigns.{next_ballot, counting, leads};
+ghost use Rattle.proposer.specs.CommandRuns.{IsBounded};
 ghost use Rattle.node_rules.specs.Standings.{Standing, idle, front_of};
 ghost use Rattle.protocol_model.specs.Votes.{told_by as told_by_store};
 ghost use Rattle.node_rules.specs.Proposing.{higher, is_over, beginning, counting_promise, hearing_refusal};
 ghost use Rattle.dealer_node.specs.Posts.{Post as Station, place_at};
 ghost use Rattle.dealer_node.specs.Outs.{told_by};
 ghost use Rattle.dealer_node.specs.Rooms.{Grows};
-ghost use Rattle.dealer_node.specs.Running.{IsRunning, IsTaken, Closes, IsAt, is_spent_at};
+ghost use Rattle.dealer_node.specs.Running.{IsRunning, IsTaken, Closes, most_proposed, most_proposed_behind, IsBoundedBehind, IsAt, is_spent_at};
 
 use crate::made::Made;
 use crate::post::Post;
@@ -18,9 +19,10 @@ use crate::running::Running;
 use crate::seen_ballot::higher;
 use crate::sending::send_to_others;
 use crate::values::{is_over, own_value};
-use paxos_wire::limits::SLOTS;
-use paxos_wire::{Ballot, Entries, Message};
-use proposer::Accept;
+use paxos_wire::limits::{SLOTS, WINDOW};
+use paxos_wire::{Ballot, CommandList, Entries, Message};
+use proposer::AcceptRun;
+use proposer::laws::command_runs_are_bounded;
 
 impl Running {
     /// Whether the match is over.
@@ -88,6 +90,7 @@ impl Running {
         requires told { AllByRecursion IsEntry told.now }
         ensures runs { (s : Standing) → IsRunning post.now self.old s → IsRunning post.now self.new (counting_promise (place_at post.now) from ballot slot told.now s).after }
         ensures at { IsAt post.now self.new }
+        ensures counts { self.new.proposer ≡ counting self.old.proposer from ballot slot told.now }
         ensures rest { self.new ≡ record self.old { proposer = self.new.proposer } }
     {
         let _ = post;
@@ -98,6 +101,7 @@ impl Running {
     pub(crate) fn hear_refusal(&mut self, promised: Ballot)
         ensures runs { (post : Station) (s : Standing) → IsRunning post self.old s → IsRunning post self.new (hearing_refusal promised s).after }
         ensures at { (post : Station) → IsAt post self.old → IsAt post self.new }
+        ensures bounded { (most : ℕ) → IsBounded self.old.proposer most → IsBounded self.new.proposer most }
         ensures rest { self.new ≡ record self.old { proposer = self.new.proposer } }
     {
         self.proposer.on_refuse(promised);
@@ -107,29 +111,71 @@ impl Running {
     pub(crate) fn turn_idle(&mut self)
         ensures runs { (post : Station) (s : Standing) → IsRunning post self.old s → IsRunning post self.new (idle s) }
         ensures at { (post : Station) → IsAt post self.old → IsAt post self.new }
+        ensures bounded { (most : ℕ) → IsBounded self.new.proposer most }
         ensures rest { self.new ≡ record self.old { proposer = self.new.proposer } }
     {
         self.proposer.turn_idle();
     }
 
-    /// What the node proposes at its front, once in a ballot, where a slot is left; it is marked as proposed. Outside of
-    /// the slots that its ballot covers the node leads no longer.
-    fn propose(&mut self, post: &Post) -> Option<Accept>
+    /// How many commands the close of a call proposes at most, from 1 to 64: 1, but where a quorum has promised and commands
+    /// are told that weren't proposed yet.
+    pub(crate) fn most_proposed(&self) -> usize
+        ensures value { result ≡ most_proposed self.now.proposer }
+        ensures least { 1 ≤ result }
+        ensures most { result ≤ WINDOW }
+        ensures bounded { IsBounded self.now.proposer result }
+    {
+        command_runs_are_bounded();
+        if self.proposer.is_leading() {
+            self.proposer.most_commands(0)
+        } else {
+            1
+        }
+    }
+
+    /// The same behind a message: a promise may make a quorum, and tells of its entries.
+    pub(crate) fn most_proposed_behind(&self, message: &Message) -> usize
+        ensures value { result ≡ most_proposed_behind self.now.proposer message.now }
+        ensures least { 1 ≤ result }
+        ensures most { result ≤ WINDOW }
+        ensures bounded { IsBoundedBehind self.now.proposer message.now result }
+    {
+        command_runs_are_bounded();
+        match message {
+            Message::Promise { entries, .. } => self.proposer.most_commands(entries.len()),
+            Message::Prepare { .. }
+            | Message::Refuse { .. }
+            | Message::Accept { .. }
+            | Message::Accepted { .. }
+            | Message::Chosen { .. }
+            | Message::Ask { .. }
+            | Message::Forward { .. } => self.most_proposed(),
+        }
+    }
+
+    /// Whether a quorum promised the ballot that the node began.
+    pub(crate) fn is_leading(&self, post: &Post) -> bool
+        requires { IsAt post.now self.now }
+        ensures { result ≡ leads post.now.nodes self.now.proposer.campaign }
+    {
+        let _ = post;
+        self.proposer.is_leading()
+    }
+
+    /// What a node that leads proposes from its front on, once in a ballot, where a slot is left; it is marked as proposed.
+    /// Outside of the slots that its ballot covers the node leads no longer.
+    fn propose<'a>(&mut self, post: &Post, room: &'a mut CommandList) -> Option<AcceptRun<'a>>
         requires at { IsAt post.now self.old }
-        requires left { leads post.now.nodes self.old.proposer.campaign ≡ true → front self.old.learner.learned.log < SLOTS }
+        requires left { front self.old.learner.learned.log < SLOTS }
         ensures closes { (s : Standing) → IsRunning post.now self.old s → Closes post.now self.new s result }
-        ensures fits { IfSome result (λ made. IsBallot made.ballot × (made.slot < SLOTS) × IsInRange made.command) }
+        ensures fits { IfSome result (λ made. IsBallot made.ballot × IsCommandRun made.slot made.commands) }
+        ensures bounded { (most : ℕ) → IsBounded self.old.proposer most → IfSome result (λ made. length made.commands ≤ most) }
         ensures at { IsAt post.now self.new }
         ensures rest { self.new ≡ record self.old { proposer = self.new.proposer } }
     {
-        // The own deal is drawn only where it may be proposed.
-        let leading = self.proposer.is_leading();
-        if !leading {
-            return None;
-        }
         let front = self.front();
         let own = own_value(post, &self.table, &self.pending);
-        match self.proposer.propose(front, own) {
+        match self.proposer.propose_run(front, own, room) {
             Ok(proposal) => proposal,
             Err(_) => {
                 self.proposer.turn_idle();
@@ -138,19 +184,26 @@ impl Running {
         }
     }
 
-    /// What the node proposes at the end of a call, at its front, once in a ballot; it is marked as proposed. Outside of
-    /// the slots that its ballot covers the node leads no longer, nor where no slot is left.
-    pub(crate) fn proposal(&mut self, post: &Post) -> Option<Accept>
-        requires { IsAt post.now self.old }
+    /// What a node that leads proposes at the end of a call: all that is told from its front on, slot by slot, or its own
+    /// value at the front, once in a ballot; it is marked as proposed. Outside of the slots that its ballot covers the node
+    /// leads no longer, nor where no slot is left. The commands stand in the room that is handed in.
+    pub(crate) fn proposal<'a>(
+        &mut self,
+        post: &Post,
+        room: &'a mut CommandList,
+    ) -> Option<AcceptRun<'a>>
+        requires at { IsAt post.now self.old }
+        requires leading { leads post.now.nodes self.old.proposer.campaign ≡ true }
         ensures closes { (s : Standing) → IsRunning post.now self.old s → Closes post.now self.new s result }
-        ensures fits { IfSome result (λ made. IsBallot made.ballot × (made.slot < SLOTS) × IsInRange made.command) }
+        ensures fits { IfSome result (λ made. IsBallot made.ballot × IsCommandRun made.slot made.commands) }
+        ensures bounded { (most : ℕ) → IsBounded self.old.proposer most → IfSome result (λ made. length made.commands ≤ most) }
         ensures at { IsAt post.now self.new }
         ensures rest { self.new ≡ record self.old { proposer = self.new.proposer } }
     {
-        if self.proposer.is_leading() && SLOTS <= self.front() {
+        if SLOTS <= self.front() {
             self.proposer.turn_idle();
             return None;
         }
-        self.propose(post)
+        self.propose(post, room)
     }
 }

@@ -25,6 +25,7 @@ impl<D: Disk + Drop> Up<D> {
         ensures ahead { ahead_of self.new.running ≡ ahead_of self.old.running }
         ensures learned { self.new.running.learner.learned ≡ self.old.running.learner.learned }
         ensures seen { self.new.running.seen ≡ self.old.running.seen }
+        ensures proposer { self.new.running.proposer ≡ self.old.running.proposer }
         ensures answers { OnOk result (answers ≤ self.new.running.learner.answers) }
         ensures commands { OnOk result (commands ≤ self.new.running.learner.commands) }
         ensures table { OnOk result (ahead_of self.new.running + commands ≤ self.new.running.table.room) }
@@ -51,6 +52,7 @@ impl<D: Disk + Drop> Up<D> {
         ensures ahead { ahead_of self.new.running ≡ ahead_of self.old.running }
         ensures learned { self.new.running.learner.learned ≡ self.old.running.learner.learned }
         ensures seen { self.new.running.seen ≡ self.old.running.seen }
+        ensures proposer { self.new.running.proposer ≡ self.old.running.proposer }
         ensures same { told_by out.new ≡ told_by out.old }
         ensures nothing { IfOk result (λ made. told_by made ≡ nothing_told) }
         ensures room { IfOk result (λ made. HasCallRoom self.new made need.now answers commands) }

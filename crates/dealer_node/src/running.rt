@@ -16,7 +16,7 @@ ghost use Rattle.seat_session.specs.declared.said.Said.TheVariants.{Act as SaidA
 ghost use Rattle.dealer_node.specs.Hearing.{IsForwardable};
 ghost use Rattle.dealer_node.specs.Running.{IsRunning, IsTaken, TakesPiece, IsAt, ahead_of};
 ghost use Rattle.dealer_node.specs.Calling.{need_of};
-ghost use Rattle.dealer_node.specs.Most.{most_after};
+ghost use Rattle.dealer_node.specs.Most.{most_after, most_applied};
 
 use crate::hearing::{take_act, wait};
 use crate::limits::{TEXT_BYTES_OF_A_COMMAND, TEXTS_OF_A_COMMAND};
@@ -117,11 +117,11 @@ impl Running {
         ahead(self.learner.log()) + commands
     }
 
-    /// How much the next call shows at most.
+    /// How much the next call shows at most, where it brings no frame.
     pub(crate) fn most_shown(&self) -> MostShown
-        ensures { result ≡ most_after (ahead_of self.now) }
+        ensures { result ≡ most_after (most_applied self.now) }
     {
-        most_after(ahead(self.learner.log()))
+        most_after(self.most_applied(self.most_proposed()))
     }
 
     /// What a call makes at most that learns so many commands and sends so many frames.

@@ -1,17 +1,19 @@
 //! The call of a tick: what a node that runs does then.
 
-ghost use Rattle.std.specs.Prelude.{◌≡◌, false, IsTrue, IsErr};
+ghost use Rattle.std.specs.Prelude.{◌≡◌, ◌≤◌, false, IsTrue, IsErr};
+ghost use Rattle.paxos_wire.specs.declared.limits.TheConstants.{WINDOW};
+ghost use Rattle.proposer.specs.CommandRuns.{IsBounded};
 ghost use Rattle.node_rules.specs.Standings.{Standing};
 ghost use Rattle.node_rules.specs.Turns.{and_then};
 ghost use Rattle.node_rules.specs.Calls.{Tick};
 ghost use Rattle.node_rules.specs.Proposing.{is_over, ticking, closing};
 ghost use Rattle.dealer_node.specs.Outs.{told_by, nothing_told};
 ghost use Rattle.dealer_node.specs.Posts.{place_at};
-ghost use Rattle.dealer_node.specs.Running.{IsAt, ahead_of, is_spent_at};
+ghost use Rattle.dealer_node.specs.Running.{IsAt, is_spent_at};
 ghost use Rattle.dealer_node.specs.Working.{IsOfPart};
 ghost use Rattle.dealer_node.specs.Handling.{IsWithin, AnswersUp};
 ghost use Rattle.dealer_node.specs.Calling.{close_need};
-ghost use Rattle.dealer_node.specs.Most.{most_after, ShowsWithin};
+ghost use Rattle.dealer_node.specs.Most.{most_after, most_applied, ShowsWithin};
 
 use crate::fault::NodeFault;
 use crate::limits::FRAMES_OF_A_CLOSE;
@@ -23,11 +25,12 @@ use paxos_wire::Ballot;
 use promise_store::Disk;
 use std::alloc::Global;
 
-/// What the close of a call makes at most, and as much what a tick does.
-fn close_need(running: &Running) -> Need
-    ensures { result ≡ close_need running.now }
+/// What the close of a call makes at most that proposes no more commands than so many, and as much what a tick does.
+fn close_need(running: &Running, most: usize) -> Need
+    requires { most ≤ WINDOW }
+    ensures { result ≡ close_need running.now most }
 {
-    running.need(1, FRAMES_OF_A_CLOSE)
+    running.need(most, FRAMES_OF_A_CLOSE * most)
 }
 
 impl<D: Disk + Drop> Up<D> {
@@ -40,20 +43,23 @@ impl<D: Disk + Drop> Up<D> {
         post: &Post,
         promised: Ballot,
         over: bool,
+        most: usize,
         made: &mut Made,
     ) -> Result<(), NodeFault>
         requires at { IsAt post.now self.old.running }
         requires unspent { over ≡ false → is_spent_at self.old.running promised ≡ false }
-        requires room { HasCallRoom self.old made.old (close_need self.old.running) 1 1 }
+        requires some { 1 ≤ most }
+        requires bounded { IsBounded self.old.running.proposer most }
+        requires room { HasCallRoom self.old made.old (close_need self.old.running most) 1 most }
         ensures works { (s : Standing) → IsTrue D.is_honest → IsUp D.Disk post.now self.old s → promised ≡ s.store.promise → over ≡ is_over (place_at post.now) s
             → Works D.Disk post.now s (and_then (ticking (place_at post.now) s) (closing (place_at post.now))) self.old self.new (told_by made.old) (told_by made.new) result }
         ensures goes_on { GoesOn D.Disk self.old self.new result }
         ensures only { IsOfPart result }
         ensures at { IsAt post.now self.new.running }
-        ensures within { told_by made.old ≡ nothing_told → IsWithin made.new (close_need self.old.running) }
+        ensures within { told_by made.old ≡ nothing_told → IsWithin made.new (close_need self.old.running most) }
     {
         if over {
-            self.close(post, made)
+            self.close(post, most, made)
         } else {
             self.begin(post, promised, made)
         }
@@ -74,16 +80,17 @@ impl<D: Disk + Drop> Up<D> {
         ensures answers { AnswersUp self.old self.new result }
         ensures at { IsAt post.now self.new.running }
         ensures unmade { IsErr result → told_by out.new ≡ told_by out.old }
-        ensures shows { ShowsWithin (most_after (ahead_of self.old.running)) (told_by out.old) (told_by out.new) }
+        ensures shows { ShowsWithin (most_after (most_applied self.old.running)) (told_by out.old) (told_by out.new) }
     {
         let promised = self.acceptor.promised();
         let over = self.running.is_over(post);
         if !over && self.running.is_spent(promised) {
             return Err(NodeFault::Spent);
         }
-        let need = close_need(&self.running);
-        let mut made = self.ready(alloc, 1, 1, &need, out)?;
-        self.tick(post, promised, over, &mut made)?;
+        let most = self.running.most_proposed();
+        let need = close_need(&self.running, most);
+        let mut made = self.ready(alloc, 1, most, &need, out)?;
+        self.tick(post, promised, over, most, &mut made)?;
         out.append(made);
         Ok(())
     }

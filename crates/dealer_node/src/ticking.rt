@@ -12,7 +12,7 @@ ghost use Rattle.protocol_model.specs.Votes.{told_by as told_by_store};
 ghost use Rattle.node_rules.specs.Proposing.{higher, is_over, beginning, ticking, closing};
 ghost use Rattle.dealer_node.specs.Posts.{place_at};
 ghost use Rattle.dealer_node.specs.Outs.{told_by};
-ghost use Rattle.dealer_node.specs.declared.limits.TheConstants.{FRAMES_OF_A_CLOSE, FRAME_BYTES_OF_A_CLOSE};
+ghost use Rattle.dealer_node.specs.declared.limits.TheConstants.{FRAMES_TO_ALL};
 ghost use Rattle.dealer_node.specs.Rooms.{Grows};
 ghost use Rattle.dealer_node.specs.Answering.{message_of};
 ghost use Rattle.dealer_node.specs.Running.{IsRunning, IsTaken, IsAt, is_spent_at};
@@ -83,14 +83,14 @@ impl<D: Disk + Drop> Up<D> {
     ) -> Result<(), NodeFault>
         requires at { IsAt post.now self.old.running }
         requires unspent { is_spent_at self.old.running promised ≡ false }
-        requires texts { FRAMES_OF_A_CLOSE ≤ made.old.frames.text_room }
-        requires bytes { FRAME_BYTES_OF_A_CLOSE ≤ made.old.frames.byte_room }
+        requires texts { FRAMES_TO_ALL ≤ made.old.frames.text_room }
+        requires bytes { MOST_SINGLE_FRAME * FRAMES_TO_ALL ≤ made.old.frames.byte_room }
         ensures works { (s : Standing) → IsTrue D.is_honest → IsUp D.Disk post.now self.old s → promised ≡ s.store.promise → is_over (place_at post.now) s ≡ false
             → Works D.Disk post.now s (and_then (ticking (place_at post.now) s) (closing (place_at post.now))) self.old self.new (told_by made.old) (told_by made.new) result }
         ensures goes_on { GoesOn D.Disk self.old self.new result }
         ensures only { IsOfPart result }
         ensures at { IsAt post.now self.new.running }
-        ensures left { (need : Needs) (answers commands frames : ℕ) → HasLeft self.old.running made.old need (answers + 1) (commands + 1) (frames + FRAMES_OF_A_CLOSE) → HasLeft self.new.running made.new need answers commands frames }
+        ensures left { (need : Needs) (answers commands frames : ℕ) → HasLeft self.old.running made.old need answers commands (frames + FRAMES_TO_ALL) → HasLeft self.new.running made.new need answers commands frames }
     {
         post.limits();
         let _nodes = post.nodes();

@@ -1,9 +1,9 @@
-ghost use Rattle.std.specs.Prelude.{◌≡◌, ◌+◌, ◌*◌, ◌≤◌, ◌++◌, ◌∷◌, [], length, map, OnOk, OnErr, Err};
+ghost use Rattle.std.specs.Prelude.{◌≡◌, ◌+◌, ◌*◌, ◌≤◌, ◌++◌, length, map, OnOk, OnErr, Err};
 ghost use Rattle.paxos_wire.specs.declared.message.Message.TheVariants.{Accept as Proposing, Accepted as Accepting};
 ghost use Rattle.node_rules.specs.Sending.{to_others};
 ghost use Rattle.dealer_node.specs.Turned.{posted};
 ghost use Rattle.dealer_node.specs.Fitting.{AreMessages};
-ghost use Rattle.paxos_wire.specs.Fits.{IsBallot, IsSlot, IsInRange, IsCommandRun};
+ghost use Rattle.paxos_wire.specs.Fits.{IsBallot, IsCommandRun};
 ghost use Rattle.paxos_wire.specs.declared.limits.TheConstants.{MOST_SINGLE_FRAME};
 ghost use Rattle.node_rules.specs.Standings.{Standing};
 ghost use Rattle.node_rules.specs.Turns.{Conflict as Conflicting};
@@ -20,7 +20,6 @@ use crate::running::Running;
 use crate::sending::send_to_others;
 use crate::texts::Texts;
 use paxos_wire::{Ballot, CommandList, Message};
-use proposer::Accept;
 use slot_log::{Command, SlotFault};
 
 /// Sends the others that this node accepted commands in a ballot, the first at the slot and each further one at the slot
@@ -49,23 +48,30 @@ fn send_accepted(
     send_to_others(frames, nodes, post.node(), &message);
 }
 
-/// Sends the others a proposal.
-pub(crate) fn send_proposal(frames: &mut Texts<u8>, post: &Post, proposal: &Accept)
-    requires ballot { IsBallot proposal.now.ballot }
-    requires slot { IsSlot proposal.now.slot }
-    requires command { IsInRange proposal.now.command }
-    requires texts { post.now.nodes ≤ frames.old.text_room }
-    requires bytes { MOST_SINGLE_FRAME * post.now.nodes ≤ frames.old.byte_room }
-    ensures texts { frames.new.texts ≡ frames.old.texts ++ map posted (to_others (place_at post.now) (Proposing proposal.now.ballot proposal.now.slot (proposal.now.command ∷ []))) }
-    ensures fits { AreMessages (to_others (place_at post.now) (Proposing proposal.now.ballot proposal.now.slot (proposal.now.command ∷ []))) }
-    ensures grows { Grows frames.old frames.new post.now.nodes (MOST_SINGLE_FRAME * post.now.nodes) }
+/// Sends the others a proposal of commands in a ballot, the first at the slot and each further one at the slot behind. The
+/// frame of each counts as one for each of its commands.
+pub(crate) fn send_proposal(
+    frames: &mut Texts<u8>,
+    post: &Post,
+    ballot: Ballot,
+    slot: u32,
+    commands: &[Command],
+)
+    requires ballot { IsBallot ballot }
+    requires run { IsCommandRun slot commands.now }
+    requires texts { FRAMES_TO_ALL ≤ frames.old.text_room }
+    requires bytes { MOST_SINGLE_FRAME * (FRAMES_TO_ALL * length commands.now) ≤ frames.old.byte_room }
+    ensures texts { frames.new.texts ≡ frames.old.texts ++ map posted (to_others (place_at post.now) (Proposing ballot slot commands.now)) }
+    ensures fits { AreMessages (to_others (place_at post.now) (Proposing ballot slot commands.now)) }
+    ensures grows { Grows frames.old frames.new FRAMES_TO_ALL (MOST_SINGLE_FRAME * (FRAMES_TO_ALL * length commands.now)) }
 {
+    let nodes = post.nodes();
     let message = Message::Accept {
-        ballot: proposal.ballot,
-        slot: proposal.slot,
-        commands: CommandList::from_slice(&[proposal.command]),
+        ballot,
+        slot,
+        commands: CommandList::from_slice(commands),
     };
-    send_to_others(frames, post.nodes(), post.node(), &message);
+    send_to_others(frames, nodes, post.node(), &message);
 }
 
 impl Running {
@@ -90,6 +96,7 @@ impl Running {
         ensures err { OnErr result ((s : Standing) → IsRunning post.now self.old s
             → telling_votes (place_at post.now) ballot slot commands.now s ≡ Err (Conflicting s.store)) }
         ensures at { IsAt post.now self.new }
+        ensures proposer { self.new.proposer ≡ self.old.proposer }
         ensures learns { Learns (length commands.now) self.old self.new made.old made.new }
         ensures frames { Grows made.old.frames made.new.frames FRAMES_TO_ALL (MOST_SINGLE_FRAME * (FRAMES_TO_ALL * length commands.now)) }
         ensures rest { made.new ≡ record made.old { frames = made.new.frames; shown = made.new.shown } }

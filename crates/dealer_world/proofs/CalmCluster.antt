@@ -23,8 +23,8 @@ use Rattle.node_rules.specs.Calls as call
 use Rattle.node_rules.specs.Called.{Ends, took, refused, failed, unchanged}
 use Rattle.protocol_model.specs.Votes.{told_by}
 use Rattle.node_rules.specs.Proposing.{is_over, own_value}
-use Rattle.paxos_wire.specs.declared.limits.TheConstants.{SLOTS}
-use Rattle.node_rules.specs.Calm.{without, IsHeld, IsGreatestHeld, AreGreatestHeld, IsToldRun, Calm, Ticks, Delivers, delivers, ballot_after, round}
+use Rattle.paxos_wire.specs.declared.limits.TheConstants.{SLOTS, WINDOW}
+use Rattle.node_rules.specs.Calm.{without, IsHeld, IsGreatestHeld, AreGreatestHeld, IsUnheld, IsToldCommandRun, Calm, Ticks, Delivers, delivers, ballot_after, round}
 use Rattle.node_rules.specs.Calm as calm
 use Rattle.node_rules.specs.CalmRound as of_round
 use Rattle.node_rules.specs.CalmRound.{AreKnown}
@@ -204,6 +204,25 @@ all_greatest_same : (a b : ℕ → Standing) (members : List ℕ) (slot : ℕ) (
 all_greatest_same a b members slot [] same held = tt
 all_greatest_same a b members slot (command ∷ later) same (first, rest) = (greatest_same a b members slot command same first, all_greatest_same a b members (slot + 1) later same rest)
 
+unheld_same : (a b : ℕ → Standing) (members : List ℕ) (slot : ℕ) → ((k : ℕ) → In k members → a k ≡ b k) → IsUnheld a members slot → IsUnheld b members slot
+unheld_same a b members slot same unheld = λ v h. unheld v (held_same b a members slot v (λ k m. sym (same k m)) h)
+
+ends_same : (a b : ℕ → Standing) (members : List ℕ) (slot count : ℕ) → ((k : ℕ) → In k members → a k ≡ b k) → (count ≡ WINDOW) ⊎ ((slot ≡ SLOTS) ⊎ IsUnheld a members slot)
+    → (count ≡ WINDOW) ⊎ ((slot ≡ SLOTS) ⊎ IsUnheld b members slot)
+ends_same a b members slot count same (inl window) = inl window
+ends_same a b members slot count same (inr (inl last)) = inr (inl last)
+ends_same a b members slot count same (inr (inr unheld)) = inr (inr (unheld_same a b members slot same unheld))
+
+told_same : (a b : ℕ → Standing) (members : List ℕ) (slot : ℕ) (commands : List Command) → ((k : ℕ) → In k members → a k ≡ b k) → IsToldCommandRun a members slot commands
+    → IsToldCommandRun b members slot commands
+told_same a b members slot commands same told = record {
+  least = told.least;
+  most = told.most;
+  slots = told.slots;
+  held = all_greatest_same a b members slot commands same told.held;
+  ends = ends_same a b members (slot + length commands) (length commands) same told.ends;
+}
+
 calm_same : (place : Place) (a b : ℕ → Standing) (i : ℕ) (members : List ℕ) (commands : List Command) → ((k : ℕ) → In k members → a k ≡ b k) → Calm place a i members commands → Calm place b i members commands
 calm_same place a b i members commands same calm = record {
   of_node = calm.of_node;
@@ -216,26 +235,23 @@ calm_same place a b i members commands same calm = record {
       (subst (λ (s : Standing). Below (a k).store.promise (ballot_after i s)) (same i calm.member) (calm.unpromised k h));
   goes_on = ap (is_over place) (sym (same i calm.member)) ∙ calm.goes_on;
   value = elim calm.value [
-    | inl told ↦ inl (subst (λ (s : Standing). IsToldRun b members (front_of s) commands) (same i calm.member) (record {
-      held = all_greatest_same a b members (front_of (a i)) commands same told.held;
-      one = told.one;
-    }))
+    | inl told ↦ inl (subst (λ (s : Standing). IsToldCommandRun b members (front_of s) commands) (same i calm.member) (told_same a b members (front_of (a i)) commands same told))
     | inr own ↦ inr (
       own.0,
       own.1,
       (
-        (λ v h. own.2.0 v (held_same b a members (front_of (a i)) v (λ k m. sym (same k m)) (subst (λ (s : Standing). IsHeld b members (front_of s) v) (sym (same i calm.member)) h))),
+        subst (λ (s : Standing). IsUnheld b members (front_of s)) (same i calm.member) (unheld_same a b members (front_of (a i)) same own.2.0),
         ap (own_value place) (sym (same i calm.member)) ∙ own.2.1,
       ),
     )
   ];
 }
 
--- as yet a round has one command
-one_command : (place : Place) (standings : ℕ → Standing) (i : ℕ) (members : List ℕ) (commands : List Command) → Calm place standings i members commands → length commands ≡ 1
-one_command place standings i members commands calm = elim calm.value [
-  | inl told ↦ told.one
-  | inr own ↦ ap (λ (l : List Command). length l) own.1
+-- a round has a command
+some_command : (place : Place) (standings : ℕ → Standing) (i : ℕ) (members : List ℕ) (commands : List Command) → Calm place standings i members commands → 1 ≤ length commands
+some_command place standings i members commands calm = elim calm.value [
+  | inl told ↦ told.least
+  | inr own ↦ let one : length commands ≡ 1 = ap (λ (l : List Command). length l) own.1 in omega (arith, one)
 ]
 
 -- ---- small facts
@@ -445,8 +461,8 @@ module _ {D : Type 0} (g : Ghosts D) where
             let is = seen_at g new.nodes m.after i d (stopped (place_of plan i) empty_store empty_store) within m.seen in
             let passed = moved.2 all in
             let further = subst (λ (f : ℕ). (f + length commands ≤ front_of s) × AreKnown s.learned.log f commands) front_is passed in
-            let one_only = one_command (place_of plan i) standings i members commands calm_now in
+            let some = some_command (place_of plan i) standings i members commands calm_now in
             let up_to = further.0 in
-            let above : front_of (standings i) < front_of s = omega (arith, one_only, up_to) in
+            let above : front_of (standings i) < front_of s = omega (arith, some, up_to) in
             (s, is, up_above (post_in (get_or new.nodes i d)) (get_or new.nodes i d).up (get_or new.nodes i d).disk s (front_of (standings i)) is.by above, further.0, further.1),
       )))

@@ -41,4 +41,5 @@ mod ListExamples
 mod OrderExamples
 mod LeftExamples
 mod DiskExamples
+mod RoundExamples
 mod OpeningExamples

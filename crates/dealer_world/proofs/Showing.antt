@@ -2,18 +2,18 @@
 use Rattle.std.proofs.Common.{◌≡◌, ℕ, ◌+◌, ◌<◌, Bool, List, [], ◌∷◌, ◌++◌, map, length, get_or, Some, refl, ap, sym, ◌∙◌, subst, arith}
 use Rattle.std.proofs.lemmas.List.{append-nil, length-map}
 use Rattle.std.proofs.lemmas.Option.{slice_get-get_or}
-use Rattle.std.specs.Prelude.{Option}
+use Rattle.std.specs.Prelude.{Option, slice_get}
 use Rattle.dealer_node.specs.declared.most_shown.MostShown.{MostShown}
 use Rattle.dealer_node.specs.declared.reader.Reader.{Reader}
 use Rattle.dealer_node.specs.Nodes.{Node}
 use Rattle.dealer_node.specs.Texts.{Marked, byte_total}
 use Rattle.dealer_node.specs.Outs.{Told, nothing_told}
-use Rattle.dealer_node.specs.Most.{most_shown_of, ShowsWithin}
+use Rattle.dealer_node.specs.Most.{ShowsWithin}
 use Rattle.dealer_world.specs.Records.{Record, Arrived, last_start}
 use Rattle.dealer_world.specs.Recordings.{text_by, made_by}
 use Rattle.dealer_world.specs.Views.{piece_of, starts_after, grown}
 use Rattle.dealer_world.specs.Stepping.{View}
-use Rattle.dealer_world.specs.Shows.{text_total, GrowsWithin, most_by, most_shown_at}
+use Rattle.dealer_world.specs.Shows.{text_total, GrowsWithin, most_of}
 
 -- nothing was made
 pub none_shown : (most : MostShown) (told : Told) → told ≡ nothing_told → ShowsWithin most nothing_told told
@@ -59,5 +59,5 @@ more_shown most old between new i arrived told began grew same shows =
     }
 
 -- by the node of this number
-pub most_at : {D : Type 0} (view : View (Node D)) (i : ℕ) (node : Node D) → i < length view.nodes → get_or view.nodes i node ≡ node → most_shown_of node ≡ most_shown_at view i
-most_at {D} view i node within is = ap (λ (o : Option (Node D)). most_by o) (sym (slice_get-get_or view.nodes i node within ∙ ap Some is))
+pub most_at : {D : Type 0} (most : Node D → MostShown) (view : View (Node D)) (i : ℕ) (node : Node D) → i < length view.nodes → get_or view.nodes i node ≡ node → most node ≡ most_of most (slice_get view.nodes i)
+most_at {D} most view i node within is = ap (λ (o : Option (Node D)). most_of most o) (sym (slice_get-get_or view.nodes i node within ∙ ap Some is))

@@ -4,7 +4,7 @@ ghost use Rattle.dealer_world.specs.KeptArrivals.{arrival_of};
 ghost use Rattle.dealer_world.specs.Recordings.{start_by};
 ghost use Rattle.std.specs.List.{All, AllZip};
 ghost use Rattle.dealer_node.specs.Outs.{nothing_told};
-ghost use Rattle.dealer_node.specs.Most.{most_shown_of, ShowsWithin};
+ghost use Rattle.dealer_node.specs.Most.{ShowsWithin};
 ghost use Rattle.dealer_node.specs.Seeing.{post_in, runs, front_in, IsSeen, begun_of};
 ghost use Rattle.node_rules.specs.Standings.{Standing};
 ghost use Rattle.dealer_world.specs.Records.{no_record, log_of};
@@ -12,7 +12,7 @@ ghost use Rattle.dealer_world.specs.Headline.{Era};
 ghost use Rattle.dealer_world.specs.Beginning.{AreImages, AreImagesDuring, AreStarted, StartsAll, HaveStores, HasStore, AreEach, IsWant, GoOnNew, IsOpenedSince, MarkFirst, AreOpenedOver, MayBeFound, AreImagesOf, KeepStores, AreAtRest, LeaveNoMore, IsFirstRefused, IsUnopened};
 ghost use Rattle.protocol_model.specs.Stores.{Store, empty_store};
 ghost use Rattle.dealer_world.specs.Stepping.{View, IsFor, IsGiven, begins_by_event, Stepped, Ran};
-ghost use Rattle.dealer_world.specs.Shows.{GrowsWithin, most_shown_at};
+ghost use Rattle.dealer_world.specs.Shows.{GrowsWithin, most_by, most_shown_at, most_shown_with, most_shown_for};
 ghost use Rattle.dealer_world.specs.CalmCluster.{MovesOn};
 ghost use Rattle.dealer_world.specs.Events.{node_of};
 ghost use Rattle.dealer_world.specs.declared.event.Event.{Event as Call};
@@ -45,7 +45,7 @@ fn give<D: Disk + Drop>(node: &mut Node<D>, event: &Event, made: &mut Out) -> Re
     requires nothing { made.old ≡ nothing_told }
     ensures given { IsGiven D.Disk event.now node.old node.new made.new result }
     ensures up { (s : Standing) → IsSeen D.Disk node.old s → runs node.old ≡ s.up }
-    ensures shows { ShowsWithin (most_shown_of node.old) nothing_told made.new }
+    ensures shows { ShowsWithin (most_by event.now node.old) nothing_told made.new }
 {
     let _up = node.running();
     match event {
@@ -105,7 +105,7 @@ impl<D: Disk + Drop> Cluster<D> {
         requires { IsForMatch self.old.config event.now }
         ensures stepped { Stepped D.Disk (view_of self.old) event.now result (view_of self.new) }
         ensures begun { map (begun_of D.Disk) self.new.nodes.items ≡ map (begun_of D.Disk) self.old.nodes.items }
-        ensures shows { GrowsWithin (most_shown_at (view_of self.old) (node_of event.now)) (view_of self.old).all (view_of self.new).all }
+        ensures shows { GrowsWithin (most_shown_for (view_of self.old) event.now) (view_of self.old).all (view_of self.new).all }
     {
         let number = event.node() as usize;
         let is_up = self.nodes[number].running();
@@ -136,7 +136,7 @@ impl<D: Disk + Drop> Cluster<D> {
         ensures backed { IsBackedBy D.Disk (view_of self.new) }
         ensures addressed { AreAddressed D.Disk (view_of self.new) }
         ensures conflict { NeverConflicts D.Disk (view_of self.old) result (view_of self.new) }
-        ensures shows { GrowsWithin (most_shown_at (view_of self.old) (node_of event.now)) (view_of self.old).all (view_of self.new).all }
+        ensures shows { GrowsWithin (most_shown_for (view_of self.old) event.now) (view_of self.old).all (view_of self.new).all }
     {
         runs_show_one_list();
         runs_are_backed();
@@ -324,12 +324,20 @@ impl<D: Disk + Drop> Cluster<D> {
     }
 
     /// How many pieces the next call of the node of this number, counted from 0, shows at most, and how many bytes they
-    /// have in all: what the record gains of them by `step`.
+    /// have in all, where it brings no frame: what the record gains of them by `step`.
     pub fn most_shown(&self, number: usize) -> MostShown
         requires { number < length (view_of self.now).config.sources }
         ensures { result ≡ most_shown_at (view_of self.now) number }
     {
         self.nodes[number].most_shown()
+    }
+
+    /// The same where it brings a frame of these bytes.
+    pub fn most_shown_by(&self, number: usize, bytes: &[u8]) -> MostShown
+        requires { number < length (view_of self.now).config.sources }
+        ensures { result ≡ most_shown_with (view_of self.now) number bytes.now }
+    {
+        self.nodes[number].most_shown_by(bytes)
     }
 
     /// What the last call made; empty where it was answered by a fault. A call that found no memory isn't counted.

@@ -7,11 +7,13 @@
 //! - `peer` and `node_tests`: one node of three, what it sends and shows, and which seats are connected to it.
 //! - `rounds`, `record_tests` and `choice_tests`: all nodes of a match, step by step, and the record of them; `run_tests`:
 //!   events that are given at once, and the rest of them again where memory was wanting.
+//! - `together_tests`: commands that are proposed together.
 //! - `opening_tests`: a cluster that is opened over stores of version 1.
 //! - `course` and `server_tests`: a match that is served over links in memory, whose calls fail in turn, and over disks
 //!   whose calls do; `slow_tests`: the same, each call of a link being slow in turn; `want_tests`: each wait for a seat
 //!   finding no memory in turn; `tcp_tests`: over sockets and files.
 //!   `lost_leader` looks at what one node passes on to another that is down.
+//! - `resumed_tests`: a match that is served over stores which tell of many commands at once.
 //! - `absent_tests`: the match where seats were dropped, and are played for or waited for; `absent_fault_tests`: the same
 //!   where a call of a link or of a disk fails.
 //! - `links_tests`: who is seated at a port and who isn't, and how long that is waited for.
@@ -41,6 +43,8 @@ mod peer;
 #[cfg(test)]
 mod record_tests;
 #[cfg(test)]
+mod resumed_tests;
+#[cfg(test)]
 mod rounds;
 #[cfg(test)]
 mod run_tests;
@@ -52,5 +56,7 @@ mod server_tests;
 mod slow_tests;
 #[cfg(test)]
 mod tcp_tests;
+#[cfg(test)]
+mod together_tests;
 #[cfg(test)]
 mod want_tests;

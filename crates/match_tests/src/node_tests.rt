@@ -1,7 +1,7 @@
 use crate::peer::{Peer, assert_sent, assert_shown};
-use crate::samples::{PREPARE, assert_same};
-use dealer_node::{NodeFault, Out, Reader};
-use std::alloc::Global;
+use crate::samples::{PREPARE, PROMISE, assert_same};
+use dealer_node::{MostShown, NodeFault, Out, Reader};
+use std::alloc::{AllocError, Global};
 use std::process::Abort;
 use std::test::Fail;
 
@@ -112,5 +112,51 @@ fn an_order_where_no_hand_runs_wants_no_memory(rt: HostRuntime) -> Result<(), Fa
     let mut out = Out::new(alloc);
     peer.start(&mut out)?;
     assert!(rt; peer.away(&mut out) == Err(NodeFault::NothingToAct));
+    Ok(())
+}
+
+/// An Accepted in (1, 0) of calls at so many slots from slot 0 on.
+fn accepted_calls(alloc: Global, count: u8) -> Result<Vec<u8>, AllocError> {
+    let behind = 12 + 12 * usize::from(count);
+    let length = [0, 0, (behind / 256) as u8, (behind % 256) as u8];
+    let mut frame = Vec::from_slice(alloc, &length)?;
+    frame.extend_from_slice(&[2, 5, 0, 0, 0, 1, 0, 0, 0, 0, 0, count])?;
+    for _ in 0..count {
+        frame.extend_from_slice(&[2, 0, 0, 0, 0, 0, 0, 1, 0, 0, 0, 0])?;
+    }
+    Ok(frame)
+}
+
+/// Asserts how many pieces a call shows at most, of how many bytes in all.
+fn assert_most(rt: &impl Abort, most: MostShown, pieces: usize, bytes: usize) {
+    assert_same(rt, most, MostShown { pieces, bytes });
+}
+
+/// Asserts how much a node's next call shows at most that knows nothing beyond its front and was told nothing to propose: a
+/// line or a header of 4096 bytes, and of each command that it may apply ten lines and 4756 bytes of the log. That is one
+/// command without a frame, and with one those that the frame has besides.
+fn assert_most_of_calls(rt: &impl Abort, alloc: Global, peer: &Peer) -> Result<(), AllocError> {
+    let one = accepted_calls(alloc, 1)?;
+    let many = accepted_calls(alloc, 64)?;
+    assert_most(rt, peer.node.most_shown(), 12, 49_812);
+    assert_most(rt, peer.node.most_shown_by(&[0, 0, 0]), 12, 49_812);
+    assert_most(rt, peer.node.most_shown_by(&one), 23, 95_528);
+    assert_most(rt, peer.node.most_shown_by(&many), 716, 2_975_636);
+    Ok(())
+}
+
+/// A node that is down shows a header; one that runs makes no more room than its next call may want, also where it leads and
+/// has proposed.
+#[test]
+fn how_much_a_call_shows_at_most(rt: HostRuntime) -> Result<(), Fail> {
+    let alloc = rt.alloc();
+    let mut peer = Peer::created(&rt, alloc)?;
+    let mut out = Out::new(alloc);
+    assert_most(&rt, peer.node.most_shown(), 1, 4_096);
+    assert_starts(&rt, &mut peer, &mut out);
+    assert_most_of_calls(&rt, alloc, &peer)?;
+    peer.tick(&mut out)?;
+    assert_hears_1(&rt, &mut peer, PROMISE, &mut out);
+    assert_most_of_calls(&rt, alloc, &peer)?;
     Ok(())
 }

@@ -22,37 +22,38 @@ const SHUT: &[u8] = &[0];
 /// The record that opens a store for version 2, behind its gate.
 const OPENED: &[u8] = &[1, 0, 1, 3, 0];
 
-/// Behind it the promise of (1, 2), and both commands accepted in it.
-static ACCEPTED_AGAIN: [u8; 69] = [
-    1, 0, 1, 3, 1, 0, 6, 1, 0, 0, 0, 1, 2, 1, 0, 26, 4, 0, 0, 0, 1, 2, 0, 0, 0, 0, 1, 1, 0, 0, 0,
-    0, 9, 0x21, 0x33, 0x1a, 0x20, 0x00, 0x18, 0x06, 0x1c, 0x2e, 1, 0, 23, 4, 0, 0, 0, 1, 2, 0, 0,
-    0, 1, 1, 2, 0, 0, 0, 0, 0, 0, 1, 0, 0, 0, 0, 0,
+/// Behind it the promise of (1, 2), and both commands accepted in it by one record.
+static ACCEPTED_TOGETHER: [u8; 55] = [
+    1, 0, 1, 3, 1, 0, 6, 1, 0, 0, 0, 1, 2, 1, 0, 38, 4, 0, 0, 0, 1, 2, 0, 0, 0, 0, 2, 1, 0, 0, 0,
+    0, 9, 0x21, 0x33, 0x1a, 0x20, 0x00, 0x18, 0x06, 0x1c, 0x2e, 2, 0, 0, 0, 0, 0, 0, 1, 0, 0, 0, 0,
+    0,
 ];
 
 /// Node 0 or 1 asks for what was chosen.
 const ASK: &[u8] = b"\x00\x00\x00\x06\x02\x07\x00\x00\x00\x00";
 
 /// Node 2 proposes the deal of node 0 in (1, 2), and behind it the call.
-const ACCEPT_DEAL: &[u8] =
-    b"\x00\x00\x00\x1b\x02\x04\x00\x00\x00\x01\x02\x00\x00\x00\x00\x01\x01\x00\x00\x00\x00\x09\x21\x33\x1a\x20\x00\x18\x06\x1c\x2e";
+const ACCEPT_BOTH: &[u8] =
+    b"\x00\x00\x00\x27\x02\x04\x00\x00\x00\x01\x02\x00\x00\x00\x00\x02\x01\x00\x00\x00\x00\x09\x21\x33\x1a\x20\x00\x18\x06\x1c\x2e\x02\x00\x00\x00\x00\x00\x00\x01\x00\x00\x00\x00";
 
-const ACCEPT_CALL: &[u8] =
-    b"\x00\x00\x00\x18\x02\x04\x00\x00\x00\x01\x02\x00\x00\x00\x01\x01\x02\x00\x00\x00\x00\x00\x00\x01\x00\x00\x00\x00";
+/// Both are accepted.
+const ACCEPTED_BOTH: &[u8] =
+    b"\x00\x00\x00\x27\x02\x05\x00\x00\x00\x01\x02\x00\x00\x00\x00\x02\x01\x00\x00\x00\x00\x09\x21\x33\x1a\x20\x00\x18\x06\x1c\x2e\x02\x00\x00\x00\x00\x00\x00\x01\x00\x00\x00\x00";
 
 /// Nodes 0 and 1 ask, and node 2, which has stored nothing, leads: node 1 tells it both commands, and they are chosen.
 static TOLD: Course<'_> = Course {
     nodes: 3,
-    steps: &[Step::Round(2, &[1]), Step::Deliver(14), Step::Deliver(18)],
+    steps: &[Step::Round(2, &[1])],
     sent: &[
         (0, (0, 1), ASK, 0),
         (1, (0, 2), ASK, 0),
         (2, (1, 0), ASK, 0),
         (3, (1, 2), ASK, 0),
-        (8, (2, 1), ACCEPT_DEAL, 0),
-        (14, (2, 1), ACCEPT_CALL, 0),
+        (8, (2, 1), ACCEPT_BOTH, 0),
+        (12, (1, 2), ACCEPTED_BOTH, 0),
     ],
     arrived: &[],
-    arrivals: 6,
+    arrivals: 4,
     fronts: &[(0, 0, None), (1, 0, None), (2, 2, Some(0))],
 };
 
@@ -117,7 +118,8 @@ fn assert_goes_on(rt: &impl Abort, alloc: Global, disk: MemoryDisk) -> Result<()
     let mut cluster = opened(rt, alloc, disk)?;
     assert_opened(rt, alloc, &cluster)?;
     run(rt, alloc, &mut cluster, &TOLD)?;
-    assert_journal(rt, alloc, &cluster, 1, &ACCEPTED_AGAIN)?;
+    assert_journal(rt, alloc, &cluster, 1, &ACCEPTED_TOGETHER)?;
+    assert_journal(rt, alloc, &cluster, 2, &ACCEPTED_TOGETHER)?;
     Ok(())
 }
 

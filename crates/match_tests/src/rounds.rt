@@ -24,6 +24,10 @@ pub(crate) enum Step<'a> {
     FirstRound,
     /// The node stops.
     Stop(u8),
+    /// A new session of a seat begins at the node.
+    Connect(u8, u8),
+    /// The seat sends these bytes to the node.
+    Say(u8, u8, &'a [u8]),
 }
 
 /// A frame that is due: its number, which way it goes, its bytes, and how many had been sent before it came.
@@ -38,7 +42,7 @@ pub(crate) struct Course<'a> {
     pub(crate) sent: &'a [Due<'a>],
     /// Frames, by their numbers among all that reached a running node.
     pub(crate) arrived: &'a [Due<'a>],
-    /// How many frames reached a running node.
+    /// How many frames, new sessions and pieces of seats reached a running node.
     pub(crate) arrivals: usize,
     /// Nodes, each with its front, and whose deal it has on its table for the hand.
     pub(crate) fronts: &'a [(usize, u32, Option<usize>)],
@@ -81,6 +85,33 @@ fn start<D: Disk + Drop>(
 ) -> Result<(), NodeFault> {
     assert!(rt; (node as usize) < cluster.node_count());
     cluster.step(&Event::Start { node })
+}
+
+/// Begins a session of a seat at a node.
+fn connect<D: Disk + Drop>(
+    rt: &impl Abort,
+    cluster: &mut Cluster<D>,
+    node: u8,
+    seat: u8,
+) -> Result<(), NodeFault> {
+    assert!(rt; (node as usize) < cluster.node_count());
+    assert!(rt; (seat as usize) < cluster.config().game().players());
+    cluster.step(&Event::Connect { node, seat })
+}
+
+/// Brings a node bytes of a seat.
+fn say<D: Disk + Drop>(
+    rt: &impl Abort,
+    alloc: Global,
+    cluster: &mut Cluster<D>,
+    node: u8,
+    seat: u8,
+    bytes: &[u8],
+) -> Result<(), NodeFault> {
+    let bytes = bytes.to_vec(alloc)?;
+    assert!(rt; (node as usize) < cluster.node_count());
+    assert!(rt; (seat as usize) < cluster.config().game().players());
+    cluster.step(&Event::Line { node, seat, bytes })
 }
 
 /// Stops a node and starts it.
@@ -220,6 +251,8 @@ fn take<D: Disk + Drop>(
         Step::Round(leader, others) => round(rt, alloc, cluster, leader, others),
         Step::FirstRound => run_first_round(rt, alloc, cluster),
         Step::Stop(node) => stop(rt, cluster, node),
+        Step::Connect(node, seat) => connect(rt, cluster, node, seat),
+        Step::Say(node, seat, bytes) => say(rt, alloc, cluster, node, seat, bytes),
     }
 }
 

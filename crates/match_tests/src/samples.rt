@@ -83,6 +83,19 @@ pub(crate) fn one_hand(rt: &impl Abort, alloc: Global, nodes: usize) -> Result<C
     config(rt, alloc, 1, sources)
 }
 
+/// A match of so many hands by three nodes, all of which have the first deal for each hand.
+pub(crate) fn same_deals(rt: &impl Abort, alloc: Global, hands: u32) -> Result<Config, AllocError> {
+    let mut sources = Vec::new(alloc);
+    for _ in 0..3 {
+        let mut deals = Vec::new(alloc);
+        for _ in 0..hands {
+            deals.push(deal(rt, 0))?;
+        }
+        sources.push(Source::Listed(deals))?;
+    }
+    config(rt, alloc, hands, sources)
+}
+
 /// A match of two hands by three nodes, all of which have the same two deals.
 pub(crate) fn two_hands(rt: &impl Abort, alloc: Global) -> Result<Config, AllocError> {
     let mut sources = Vec::new(alloc);

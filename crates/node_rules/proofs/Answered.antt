@@ -1,9 +1,11 @@
 -- The frames of each call.
-use Rattle.std.proofs.Common.{◌≡◌, ℕ, zero, suc, ◌<◌, ◌≤◌, ◌+◌, ◌-◌, inl, inr, Bool, true, false, if◌then◌else◌, List, [], ◌∷◌, ◌++◌, Option, Some, None, Result, Ok, Err, refl, sym, ap, subst, ◌∙◌, arith, length, reverse, append_assoc}
+use Rattle.std.proofs.Common.{◌≡◌, ℕ, zero, suc, ◌<◌, ◌≤◌, ◌+◌, ◌-◌, inl, inr, Bool, true, false, if◌then◌else◌, List, [], ◌∷◌, ◌++◌, Option, Some, None, Result, Ok, Err, refl, sym, ap, subst, ◌∙◌, arith, reverse, append_assoc}
 use Rattle.std.specs.Prelude.{nat_lt, min, slice_get}
 use Rattle.std.proofs.lemmas.List.{append-nil, length-reverse}
 use Rattle.paxos_wire.specs.declared.ballot.Ballot.{Ballot}
+use Rattle.paxos_wire.specs.declared.fault.FrameFault.{FrameFault}
 use Rattle.paxos_wire.specs.declared.message.Message.{Message as Wire}
+use Rattle.paxos_wire.specs.Faults.{reading}
 use Rattle.paxos_wire.specs.declared.message.Message.TheVariants as frame
 use Rattle.slot_log.specs.Slots.{Log, front, known_at}
 use Rattle.slot_log.specs.declared.command.Command.{Command}
@@ -26,17 +28,17 @@ use Rattle.node_rules.specs.Applying.{applying}
 use Rattle.node_rules.specs.Learning.{learning, comes_to_window, asking_on, told_of, telling_from, next_window, telling, asking_above}
 use Rattle.protocol_model.specs.Votes.{told_by, command_run_at, taking_command_run}
 use Rattle.node_rules.specs.Accepting.{refusing, promising, preparing, voting}
-use Rattle.node_rules.specs.Proposing.{greatest_seen, is_over, is_spent, beginning}
+use Rattle.node_rules.specs.Proposing.{greatest_seen, is_over, is_spent, beginning, closing}
 use Rattle.proposer.specs.Campaigns.{next_ballot}
 use Rattle.node_rules.specs.Seats.{session_at, with_session, connecting, dropping, left, forwarding, answering, answering_all, HearsPiece}
 use Rattle.node_rules.specs.Calls.{Call, Start, Tick, Away, Line, Connect, Drop, Stop}
 use Rattle.node_rules.specs.Calls as call
-use Rattle.node_rules.specs.Rules.{seeing, taking, asking, starting, stopping, IsTurnUp, IsTurnDown, IsTurnBy}
+use Rattle.node_rules.specs.Rules.{seeing, taking, asking, on_read, starting, stopping, IsTurnUp, IsTurnDown, IsTurnBy}
 use Rattle.node_rules.specs.Being.{IsSession}
 use Rattle.node_rules.specs.Called.{Comes}
 use Rattle.node_rules.specs.Given.{Given}
 use Rattle.node_rules.specs.Sound.{Stands}
-use Rattle.node_rules.specs.LawsAnswers.{IsOfClose, Sends, asks_if, AnswersPrepare, promises, AnswersAccept, accepts, AreChosenFrames, IsAnswered, acts_in, forwards, IsHeard, SendsUp, SendsDown, SendsBy, FramesAnswer}
+use Rattle.node_rules.specs.LawsAnswers.{IsOfClose, Sends, asks_if, AnswersPrepare, promises, AnswersAccept, accepts, AreChosenFrames, IsAnswered, acts_in, forwards, IsHeard, SendsUp, SendsDown, SendsBy, FramesAnswer, AcceptsAreAnswered}
 use Rattle.node_rules.specs.LawsAnswers as answers
 use Rattle.protocol_model.proofs.Ballots.{below_if, at_most_if_not}
 use Rattle.protocol_model.proofs.Votes.{tells}
@@ -53,15 +55,17 @@ use Rattle.node_rules.proofs.Asked.{asked_same}
 -- the close sends nothing or a proposal, and the front stays
 pub close_sends : (place : Place) (s : Standing) (c : Turn) → Closed place s c → IsOfClose place (front_of c.after) c.frames × (front_of c.after ≡ front_of s)
 close_sends place s c (rests campaign e) = (inl (ap (λ (t : Turn). t.frames) e), ap (λ (t : Turn). front_of t.after) e)
-close_sends place s c (proposes made campaign learned led mine at promise none left_over counts log e) =
-    let same : front_of c.after ≡ front_of s = ap (λ (t : Turn). front_of t.after) e ∙ ap front log in (
+close_sends place s c (proposes o) =
+    let made = o.made in
+    let f = o.fresh in
+    let same : front_of c.after ≡ front_of s = ap (λ (t : Turn). front_of t.after) o.turn_is ∙ ap front f.over.log in (
       inr (
         made.ballot,
-        made.command ∷ [],
-        omega arith,
-        mine,
-        ap (λ (t : Turn). t.frames) e
-            ∙ ap (λ k. to_others place (frame.Accept made.ballot k (made.command ∷ [])) ++ to_others place (frame.Accepted made.ballot k (made.command ∷ []))) (at ∙ sym same),
+        made.commands,
+        o.least,
+        o.mine,
+        ap (λ (t : Turn). t.frames) o.turn_is
+            ∙ ap (λ k. to_others place (frame.Accept made.ballot k made.commands) ++ to_others place (frame.Accepted made.ballot k made.commands)) (o.slot ∙ sym same),
       ),
       same,
     )
@@ -310,3 +314,28 @@ sends_by g own place world s called turn false st down comes h = sends_down plac
 pub frames_answer : Given → FramesAnswer
 frames_answer g own place world s called turn st comes h =
     subst (λ b. SendsBy b place s (world.nodes place.node) called turn) (sym st.of.up) (sends_by g own place world s called turn s.up st refl comes h)
+
+-- ---- an Accept, in any standing
+
+-- what is sent first, and what behind it
+behind_frames : (t : Turn) (r : Result Turn Refusal) (c : Turn) → behind t r ≡ Ok c → (later : List Frame) × (c.frames ≡ t.frames ++ later)
+behind_frames t (Ok u) c e = (u.frames, ap (λ (y : Turn). y.frames) (sym (ok_is (joined t u) c e)))
+behind_frames t (Err refusal) c e = absurd (cc)
+
+and_then_frames : (r : Result Turn Refusal) (next : Standing → Result Turn Refusal) (c : Turn) → and_then r next ≡ Ok c
+    → (first : Turn) × (r ≡ Ok first) × (later : List Frame) × (c.frames ≡ first.frames ++ later)
+and_then_frames (Ok t) next c e = let b = behind_frames t (next t.after) c e in (t, refl, b.0, b.1)
+and_then_frames (Err refusal) next c e = absurd (cc)
+
+pub accepts_are_answered : AcceptsAreAnswered
+accepts_are_answered place s from bytes turn ballot slot commands up is read =
+    let w : Wire = frame.Accept ballot slot commands in
+    let h : Ok turn ≡ on_read place from (reading bytes) s = subst (λ (b : Bool). IsTurnBy b place s (call.Frame from bytes) (Ok turn)) up is in
+    let closed = and_then_frames (and_then (taking place from w (seeing w s)) (closing place)) (λ after. Ok (asking from w after)) turn
+    (sym (h ∙ ap (λ (x : Result Wire FrameFault). on_read place from x s) read)) in
+    let first = and_then_frames (taking place from w (seeing w s)) (closing place) closed.0 closed.1 in (
+      first.0.frames,
+      first.2 ++ closed.2,
+      accept_answer place from ballot slot commands (seeing w s) first.0 (is_below ballot s.store.promise) refl first.1,
+      closed.3 ∙ (ap (λ (l : List Frame). l ++ closed.2) first.3 ∙ append_assoc first.0.frames first.2 closed.2),
+    )

@@ -112,14 +112,14 @@ Keeps old new = (message : Message) → Backs old message → Backs new message
 
 closed_keeps : (b : Backing) (place : Place) (s : Standing) (c : Turn) → IsWithinPromise s.store → Closed place s c → Keeps s.store c.after.store
 closed_keeps b place s c within (rests campaign e) m h = subst (λ (st : Store). Backs st m) (sym (ap (λ (t : Turn). t.after.store) e)) h
-closed_keeps b place s c within (proposes made campaign learned led mine at promise none left_over counts log e) m h =
-    let vote : Vote = record { ballot = made.ballot; command = made.command } in
-    subst (λ (st : Store). Backs st m) (sym (ap (λ (t : Turn). t.after.store) e))
-    (b.vote s.store made.slot vote m within (subst (AtMost s.store.promise) promise (at_most_self s.store.promise)) (λ found ef same. absurd (none found ef same)) h)
+closed_keeps b place s c within (proposes o) m h =
+    let made = o.made in
+    subst (λ (st : Store). Backs st m) (sym (ap (λ (t : Turn). t.after.store) o.turn_is))
+    (b.command_run s.store made.ballot made.slot made.commands m within (subst (AtMost s.store.promise) o.promised (at_most_self s.store.promise)) h)
 
 closed_begun : (place : Place) (s : Standing) (c : Turn) → s.begun ≡ s.store → Closed place s c → c.after.begun ≡ c.after.store
 closed_begun place s c same (rests campaign e) = ap (λ (t : Turn). t.after.begun) e ∙ (same ∙ sym (ap (λ (t : Turn). t.after.store) e))
-closed_begun place s c same (proposes made campaign learned led mine at promise none left_over counts log e) = ap (λ (t : Turn). t.after.begun) e ∙ sym (ap (λ (t : Turn). t.after.store) e)
+closed_begun place s c same (proposes o) = ap (λ (t : Turn). t.after.begun) o.turn_is ∙ sym (ap (λ (t : Turn). t.after.store) o.turn_is)
 
 learned_store : {A : Type 0} (place : Place) (answer : Result A SlotFault) (learned : Learned) (s : Standing) (first : Turn) → learning place answer learned s ≡ Ok first → first.after.store ≡ s.store
 learned_store place (Ok answer) learned s first e = ap (λ (t : Turn). t.after.store) (sym (ok_is (applying place learned s) first e))

@@ -1,13 +1,15 @@
 -- Clusters at rest, and their rounds, worked out.
 use Rattle.std.proofs.Common.{◌≡◌, ℕ, zero, suc, inl, inr, true, [], ◌∷◌, Option, Some, None, refl, ap, subst, ◌∙◌, arith, length}
 use Rattle.paxos_wire.specs.declared.message.Message.TheVariants.{Prepare, Promise, Accept, Accepted}
+use Rattle.betting.specs.declared.action.Action.TheVariants.{Fold}
 use Rattle.slot_log.specs.declared.command.Command.{Command}
+use Rattle.slot_log.specs.declared.command.Command.TheVariants.{Act}
 use Rattle.protocol_model.specs.Ballots.{Below, AtMost}
 use Rattle.protocol_model.specs.Messages.{Vote}
-use Rattle.protocol_model.specs.Stores.{empty_store, promised}
+use Rattle.protocol_model.specs.Stores.{empty_store, promised, voted}
 use Rattle.node_rules.specs.Standings.{Standing}
 use Rattle.node_rules.specs.Calm.{IsLeastQuorum, Calm, Ticks, delivers, round}
-use Rattle.node_rules.proofs.Examples.{opened, place, ballot, dealt, two, first, voted_1}
+use Rattle.node_rules.proofs.Examples.{opened, place, ballot, dealt, two, first, voted_1, told}
 
 -- ---- quorums
 
@@ -116,6 +118,9 @@ told_vote_is_the_value = record {
   unpromised = λ node h. above_at node;
   goes_on = refl;
   value = inl (record {
+    least = omega arith;
+    most = omega arith;
+    slots = omega arith;
     held = (
       record {
         greatest = record { ballot = ballot 1 0; command = dealt 0 };
@@ -125,10 +130,15 @@ told_vote_is_the_value = record {
       },
       tt,
     );
-    one = refl;
+    ends = inr (inr (λ vote h. none_at h.0 vote h.2));
   });
 }
   where
+    none_at : (node : ℕ) (vote : Vote) → (left_over node).store.votes 1 ≡ Some vote → ⊥
+    none_at zero vote e = cc
+    none_at (suc zero) vote e = cc
+    none_at (suc (suc node)) vote e = cc
+
     up_at : (node : ℕ) → (left_over node).up ≡ true
     up_at zero = refl
     up_at (suc zero) = refl
@@ -156,6 +166,96 @@ own_over_told_is_refuted calm = elim calm.value [
     only_vote zero vote e same = cc
     only_vote (suc zero) vote e same = let is : record { ballot = ballot 1 0; command = dealt 0 } ≡ vote = cc in let clash : dealt 0 ≡ dealt 2 = ap (λ (v : Vote). v.command) is ∙ same in cc
     only_vote (suc (suc node)) vote e same = cc
+
+-- ---- node 1 voted for that deal and for an act behind it
+
+abbrev fold_vote : Vote
+fold_vote = record { ballot = ballot 1 0; command = Act 0 0 Fold }
+
+abbrev left_two : ℕ → Standing
+left_two zero = first 0
+left_two (suc zero) = record voted_1 { store = voted voted_1.store 1 fold_vote; begun = voted voted_1.store 1 fold_vote }
+left_two (suc (suc node)) = left_over (suc (suc node))
+
+-- both are told
+two_votes_are_the_value : Calm (place 2) left_two 2 (1 ∷ 2 ∷ []) two
+unfolding opened
+two_votes_are_the_value = record {
+  of_node = refl;
+  quorum = last_two;
+  member = inr (inl refl);
+  up = λ node h. up_at node;
+  round_left = omega arith;
+  slot_left = omega arith;
+  unpromised = λ node h. above_at node;
+  goes_on = refl;
+  value = inl (record {
+    least = omega arith;
+    most = omega arith;
+    slots = omega arith;
+    held = (
+      record { greatest = record { ballot = ballot 1 0; command = dealt 0 }; held = (1, inl refl, refl); same = refl; above = λ vote h. first_at h.0 vote h.2 },
+      (record { greatest = fold_vote; held = (1, inl refl, refl); same = refl; above = λ vote h. second_at h.0 vote h.2 }, tt),
+    );
+    ends = inr (inr (λ vote h. none_at h.0 vote h.2));
+  });
+}
+  where
+    up_at : (node : ℕ) → (left_two node).up ≡ true
+    up_at zero = refl
+    up_at (suc zero) = refl
+    up_at (suc (suc node)) = refl
+
+    above_at : (node : ℕ) → Below (left_two node).store.promise (ballot 2 2)
+    above_at zero = inl (omega arith)
+    above_at (suc zero) = inl (omega arith)
+    above_at (suc (suc node)) = inl (omega arith)
+
+    first_at : (node : ℕ) (vote : Vote) → (left_two node).store.votes 0 ≡ Some vote → AtMost vote.ballot (ballot 1 0)
+    first_at zero vote e = absurd (cc)
+    first_at (suc zero) vote e = let same : record { ballot = ballot 1 0; command = dealt 0 } ≡ vote = cc in subst (λ (v : Vote). AtMost v.ballot (ballot 1 0)) same (inr (refl, omega arith))
+    first_at (suc (suc node)) vote e = absurd (cc)
+
+    second_at : (node : ℕ) (vote : Vote) → (left_two node).store.votes 1 ≡ Some vote → AtMost vote.ballot (ballot 1 0)
+    second_at zero vote e = absurd (cc)
+    second_at (suc zero) vote e = let same : fold_vote ≡ vote = cc in subst (λ (v : Vote). AtMost v.ballot (ballot 1 0)) same (inr (refl, omega arith))
+    second_at (suc (suc node)) vote e = absurd (cc)
+
+    none_at : (node : ℕ) (vote : Vote) → (left_two node).store.votes 2 ≡ Some vote → ⊥
+    none_at zero vote e = cc
+    none_at (suc zero) vote e = cc
+    none_at (suc (suc node)) vote e = cc
+
+-- its tick and four deliveries, of both commands at once
+round_of_two : round left_two 2 (1 ∷ 2 ∷ []) two
+    ≡ Ticks 2 ∷ delivers 2 1 (Prepare (ballot 2 2) 0) ∷ delivers 1 2 (Promise (ballot 2 2) 0 (told ∷ record told { slot = 1; command = Act 0 0 Fold } ∷ []))
+    ∷ delivers 2 1 (Accept (ballot 2 2) 0 two) ∷ delivers 1 2 (Accepted (ballot 2 2) 0 two) ∷ []
+unfolding opened
+round_of_two = refl
+
+-- so the first alone isn't
+first_of_two_is_refuted : Calm (place 2) left_two 2 (1 ∷ 2 ∷ []) (dealt 0 ∷ []) → ⊥
+unfolding opened
+first_of_two_is_refuted calm = elim calm.value [
+  | inl held_run ↦ elim held_run.ends [
+    | inl full ↦ absurd (omega (arith, full))
+    | inr other ↦ elim other [ inl last ↦ absurd (omega (arith, last)) | inr none ↦ none fold_vote (1, inl refl, refl) ]
+  ]
+  | inr own ↦ own.2.0 (record { ballot = ballot 1 0; command = dealt 0 }) (1, inl refl, refl)
+]
+
+-- nor are more than they voted for
+three_are_refuted : (command : Command) → Calm (place 2) left_two 2 (1 ∷ 2 ∷ []) (dealt 0 ∷ Act 0 0 Fold ∷ command ∷ []) → ⊥
+unfolding opened
+three_are_refuted command calm = elim calm.value [
+  | inl held_run ↦ (let third = held_run.held.1.1.0 in none_at third.held.0 third.greatest third.held.2)
+  | inr own ↦ (let few : 3 ≡ 1 = ap length own.1 in absurd (omega (arith, few)))
+]
+  where
+    none_at : (node : ℕ) (vote : Vote) → (left_two node).store.votes 2 ≡ Some vote → ⊥
+    none_at zero vote e = cc
+    none_at (suc zero) vote e = cc
+    none_at (suc (suc node)) vote e = cc
 
 -- node 1 promised a ballot above that which node 2 would begin
 abbrev further_on : ℕ → Standing

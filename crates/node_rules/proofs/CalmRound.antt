@@ -1,38 +1,43 @@
 -- The calm round goes on to its end.
-use Rattle.std.proofs.Common.{◌≡◌, ◌≢◌, ℕ, suc, ◌<◌, ◌≤◌, ◌+◌, ◌*◌, ◌⊎◌, inl, inr, Bool, true, false, ◌==◌, List, [], ◌∷◌, ◌++◌, map, Option, Some, Result, Ok, refl, sym, ap, subst, ◌∙◌, arith, length, length-set}
+use Rattle.std.proofs.Common.{◌≡◌, ◌≢◌, ℕ, suc, ◌<◌, ◌≤◌, ◌+◌, ◌*◌, ◌⊎◌, inl, inr, Bool, true, false, ◌==◌, List, [], ◌∷◌, ◌++◌, map, Option, Some, Result, Ok, refl, sym, ap, subst, ◌∙◌, arith, length}
 use Rattle.std.proofs.lemmas.Bool.Decides.{eqb_tells}
 use Rattle.paxos_wire.specs.declared.fault.FrameFault.{FrameFault}
 use Rattle.paxos_wire.specs.declared.message.Message.{Message as Wire}
 use Rattle.paxos_wire.specs.Spelling.{frame as bytes_of}
 use Rattle.paxos_wire.specs.Faults.{reading}
-use Rattle.slot_log.specs.Slots.{IsLog, known_at}
+use Rattle.slot_log.specs.Slots.{IsLog}
 use Rattle.slot_log.specs.declared.command.Command.{Command}
 use Rattle.protocol_model.specs.Sets.{In, put}
 use Rattle.protocol_model.specs.Messages.{Accepted}
+use Rattle.protocol_model.specs.Frames.{answers}
+use Rattle.protocol_model.specs.CommandRuns.{proposed}
 use Rattle.protocol_model.specs.Stores.{Store}
+use Rattle.protocol_model.specs.Votes.{is_of_ballot, command_run_at}
 use Rattle.proposer.specs.declared.campaign.Campaign.{Campaign}
-use Rattle.proposer.specs.Campaigns.{is_covered, with_mark, with_promise}
-use Rattle.learner.specs.Learning.{Learned, answer_to}
-use Rattle.learner.specs.declared.chosen.Chosen.{Chosen as Learnt}
+use Rattle.proposer.specs.Campaigns.{with_promise}
+use Rattle.proposer.specs.CommandRuns.{run_by, with_marks}
+use Rattle.proposer.proofs.SafeRuns.{PassedRun, passed_run}
+use Rattle.learner.specs.Learning.{Learned}
+use Rattle.learner.specs.CommandRuns.{hearing_run}
 use Rattle.node_rules.proofs.CalmPromises.{IsCounted}
 use Rattle.node_rules.specs.Standings.{Place, Standing, front_of}
 use Rattle.node_rules.specs.Sending.{Frame, one, to_others}
 use Rattle.node_rules.specs.Turns.{Turn, Refusal, still, joined, and_then}
-use Rattle.node_rules.specs.Proposing.{prepared, ticking, closing}
+use Rattle.node_rules.specs.Proposing.{prepared, ticking, own_value, closing}
 use Rattle.node_rules.specs.Calls.{Tick}
 use Rattle.node_rules.specs.Calls as call
 use Rattle.node_rules.specs.Rules.{asking, on_message, on_read, IsTurnBy, IsTurn}
 use Rattle.node_rules.specs.Calm.{Rise, without, Event, Ticks, delivers, round}
-use Rattle.node_rules.specs.CalmRound.{place_in, node_of, call_of, Sent, sent_by, IsOnItsWay, AreReadBack, GoOn, HasMovedOn}
-use Rattle.protocol_model.proofs.Sets.{in_first, in_later, put_same, put_other}
-use Rattle.node_rules.proofs.Voting.{voted_is}
+use Rattle.node_rules.specs.CalmRound.{place_in, node_of, call_of, Sent, sent_by, IsOnItsWay, AreReadBack, GoOn, AreKnown, HasMovedOn}
+use Rattle.protocol_model.proofs.Sets.{Within, in_first, in_later, put_same, put_other}
+use Rattle.node_rules.proofs.OwnRuns.{votes_outside}
 use Rattle.node_rules.proofs.Asked.{asked_same}
 use Rattle.node_rules.proofs.Carrying.{has_to}
 use Rattle.node_rules.proofs.Settled.{marked_at}
 use Rattle.node_rules.proofs.Electing.{covered}
-use Rattle.node_rules.proofs.Counting.{Counts, counts_vote}
+use Rattle.node_rules.proofs.Counting.{Counts, GrowsByEach, votes_grow, answers_had}
 use Rattle.node_rules.proofs.Members.{AreDistinct, above_all, rise_distinct, without_in, in_without, without_rise, without_length}
-use Rattle.node_rules.proofs.CalmTurns.{Round, place_at, ballot_in, slot_in, told_in, stores_in, IsRest, no_vote, begun_counted, begun_turn, tick_turn, prepare_in, promise_in, promised_turn, prepare_turn, IsPreparing, with_counted, preparing_more, promise_turn, made_in, completed_turn, completing_turn, accept_in, accepted_in, HasPromised, accepted_turn, accept_turn, IsLeading, with_heard_vote, accepted_goes, leading_more, LastTurn, last_turn, more_counted, not_refused, is_ahead, unknown, ok_if, new_over}
+use Rattle.node_rules.proofs.CalmTurns.{Round, place_at, ballot_in, slot_in, told_in, stores_in, IsRest, no_vote, unvoted_slot, begun_counted, begun_turn, tick_turn, prepare_in, promise_in, promised_turn, prepare_turn, IsPreparing, with_counted, preparing_more, promise_turn, made_in, none_marked, completed_turn, completed_run, completing_turn, accept_in, accepted_in, HasPromised, accepted_turn, accept_turn, IsLeading, with_heard_vote, accepted_goes, leading_more, LastTurn, last_turn, more_counted, are_ahead, are_taken, new_over}
 
 -- ---- frames on their way
 
@@ -246,46 +251,70 @@ half : (r : Round) → IsRest r → (k more : ℕ) → k + suc more ≡ length r
 half r rest k more e = let q = rest.quorum.least in omega (arith, e, q)
 
 -- node i proposes
-leads_then : (r : Round) → IsRest r → (counted : List ℕ) (s : Standing) (p : IsPreparing r counted s) (j : ℕ) → AreDistinct r.n (j ∷ counted) → 2 * length counted ≤ r.n → IsLeading r (r.i ∷ []) (completed_turn r counted s p j).after
-leads_then r rest counted s p j distinct less = record {
+leads_then : (r : Round) → IsRest r → (counted : List ℕ) (s : Standing) (p : IsPreparing r counted s) (j : ℕ) → AreDistinct r.n (j ∷ counted) → 2 * length counted ≤ r.n
+    → ((m : ℕ) → In m (j ∷ counted) → In m r.members) → ((m : ℕ) → In m r.members → In m (j ∷ counted)) → r.n < 2 * length (j ∷ counted)
+    → IsLeading r (r.i ∷ []) (completed_turn r counted s p j).after
+leads_then r rest counted s p j distinct less inside all enough = record {
   up = p.up;
-  campaign = with_mark k (Ok (Some (made_in r)));
+  campaign = with_marks k (Ok (Some (made_in r)));
   has = refl;
   ballot = c.ballot_is;
-  covers = covers;
-  marked = marked_at k (slot_in r) (made_in r) (ap (λ (l : List Bool). length l) c.unproposed) covers refl;
-  places = length-set k.proposed _ true ∙ ap (λ (l : List Bool). length l) c.unproposed;
-  votes = λ slot v e other same. elim (voted_is s.store (slot_in r) (record { ballot = ballot_in r; command = r.command }) v slot e) [
-    | inl new ↦ other new.0
-    | inr old ↦ no_vote r rest r.i rest.member slot v (ap (λ (st : Store). st.votes slot) (sym p.store) ∙ old) same
-  ];
+  covers = covered k.first (slot_in r) (let e = c.first_is in omega (arith, e)) (let e = c.first_is in omega (arith, e));
+  marked = marked_at r.given r.n [] k (front_of u) own (made_in r) (none_marked k c.unproposed) made_so tests.ballot (slot_in r) (omega arith) (let some = rest.least in omega (arith, some));
+  sent = proposed (ballot_in r) (slot_in r) r.commands ++ [];
+  marks = r.given.proposal_marks r.n [] k (front_of u) own (made_in r) made_so (none_marked k c.unproposed);
+  votes = λ m v e out same. no_vote r rest r.i rest.member m v
+      (ap (λ (st : Store). st.votes m) (sym p.store) ∙ (sym (votes_outside r.given s.store (ballot_in r) (slot_in r) r.commands whole m out) ∙ e)) same;
   log = (new_over r rest s p.learned).log ∙ ap (λ (l : Learned). l.log) p.learned;
-  nodes = (r.given.nodes_stay s.learned r.i (ballot_in r) (slot_in r) r.command).0 ∙ (ap (λ (l : Learned). l.nodes) p.learned ∙ rest.nodes r.i rest.member);
-  more = Accepted r.i (ballot_in r) (slot_in r) r.command ∷ rest.came r.i rest.member;
-  counts = counts_vote r.given (rest.came r.i rest.member) s.learned r.i (ballot_in r) (slot_in r) r.command (subst (λ (l : Learned). IsLog l.log) (sym p.learned) (rest.log r.i rest.member))
-      (subst (λ (m : ℕ). r.i < m) (sym (ap (λ (l : Learned). l.nodes) p.learned ∙ rest.nodes r.i rest.member)) (rest.low r.i rest.member))
-      (is_ahead r rest s.learned (ap (λ (l : Learned). l.log) p.learned))
-      (ok_if a.0 (answer_to s.learned r.i (ballot_in r) (slot_in r) r.command) a.1)
-      (subst (Counts (rest.came r.i rest.member)) (sym p.learned) (rest.counts r.i rest.member));
-  voted_in = λ m h. elim h [ inl e ↦ inl (ap (λ (x : ℕ). Accepted x (ballot_in r) (slot_in r) r.command) e) | inr none ↦ absurd none ];
-  only = λ voter slot d h. only_own voter slot d h;
+  nodes = r.given.run_nodes s.learned r.i (ballot_in r) (slot_in r) r.commands ∙ nodes;
+  more = grows.grows.more;
+  counts = grows.grows.counts;
+  voted_in = λ m h. elim h [
+    | inl e ↦ subst (λ (x : ℕ). Within (answers x (ballot_in r) (slot_in r) r.commands) grows.grows.more) (sym e)
+        (answers_had r.given (rest.came r.i rest.member) s.learned (hearing_run s.learned r.i (ballot_in r) (slot_in r) r.commands) r.i (ballot_in r) (slot_in r) r.commands grows (are_ahead r rest s.learned same_log))
+    | inr none ↦ absurd none
+  ];
+  only = λ voter m d h. only_own voter m d h;
 }
   where
+    u : Standing
+    u = with_counted r counted s p j
+
+    own : Option Command
+    own = own_value (place_at r r.i) (with_counted r counted s p j)
+
     k : Campaign
     k = with_promise r.n p.campaign j (ballot_in r) (slot_in r) (told_in r j)
 
     c : IsCounted (ballot_in r) (slot_in r) (stores_in r) (j ∷ counted) (with_promise r.n p.campaign j (ballot_in r) (slot_in r) (told_in r j))
     c = more_counted r rest counted s p j distinct.2 less distinct.1 distinct.0
 
-    covers : is_covered (with_promise r.n p.campaign j (ballot_in r) (slot_in r) (told_in r j)).first (slot_in r) ≡ true
-    covers = covered k.first (slot_in r) (let e = c.first_is in omega (arith, e)) (let e = c.first_is in omega (arith, e))
+    made_so : run_by r.n (with_promise r.n p.campaign j (ballot_in r) (slot_in r) (told_in r j)) (front_of (with_counted r counted s p j)) (own_value (place_at r r.i) (with_counted r counted s p j)) ≡ Ok (Some (made_in r))
+    made_so = completed_run r rest counted s p j distinct less inside all enough
 
-    a : (x : Option Learnt) × (answer_to s.learned r.i (ballot_in r) (slot_in r) r.command ≡ Ok x)
-    a = not_refused s.learned r.i (ballot_in r) (slot_in r) r.command (unknown r rest s.learned (ap (λ (l : Learned). l.log) p.learned))
+    tests : PassedRun r.n k (front_of u) own (made_in r)
+    tests = passed_run r.n k (front_of u) own (made_in r) made_so
 
-    only_own : (voter slot : ℕ) (d : Command) → In (Accepted voter (ballot_in r) slot d) (Accepted r.i (ballot_in r) (slot_in r) r.command ∷ rest.came r.i rest.member) → (slot ≡ slot_in r) × In voter (r.i ∷ [])
-    only_own voter slot d (inl e) = ((let y : slot ≡ slot_in r = cc in y), inl (let y : voter ≡ r.i = cc in y))
-    only_own voter slot d (inr h) = absurd (rest.unvoted r.i rest.member voter slot d h)
+    same_log : s.learned.log ≡ (r.standings r.i).learned.log
+    same_log = ap (λ (l : Learned). l.log) p.learned
+
+    nodes : s.learned.nodes ≡ r.n
+    nodes = ap (λ (l : Learned). l.nodes) p.learned ∙ rest.nodes r.i rest.member
+
+    whole : command_run_at s.store (ballot_in r) (slot_in r) r.commands ≡ r.commands
+    whole = r.given.command_run_whole s.store (ballot_in r) (slot_in r) r.commands
+        (λ m low high. ap (λ (st : Store). is_of_ballot (st.votes m) (ballot_in r)) p.store ∙ unvoted_slot r rest r.i rest.member m)
+
+    grows : GrowsByEach (rest.came r.i rest.member) s.learned (hearing_run s.learned r.i (ballot_in r) (slot_in r) r.commands) r.i (ballot_in r) (slot_in r) r.commands
+    grows = votes_grow r.given (rest.came r.i rest.member) s.learned r.i (ballot_in r) (slot_in r) r.commands (subst IsLog (sym same_log) (rest.log r.i rest.member))
+        (subst (λ (m : ℕ). r.i < m) (sym nodes) (rest.low r.i rest.member)) rest.most (are_taken r rest s.learned same_log r.i)
+        (subst (Counts (rest.came r.i rest.member)) (sym p.learned) (rest.counts r.i rest.member))
+
+    only_own : (voter m : ℕ) (d : Command) → In (Accepted voter (ballot_in r) m d) grows.grows.more → (slot_in r ≤ m) × (m < slot_in r + length r.commands) × In voter (r.i ∷ [])
+    only_own voter m d h = elim (grows.only (Accepted voter (ballot_in r) m d) h) [
+      | inl one ↦ (let at = (r.given.in_answers r.i voter (ballot_in r) (ballot_in r) (slot_in r) m d r.commands).0 one in (at.2, at.3, inl at.0))
+      | inr old ↦ absurd (rest.unvoted r.i rest.member voter m d old)
+    ]
 
 abbrev counted_turn : (r : Round) (counted : List ℕ) (s : Standing) → IsPreparing r counted s → ℕ → Turn
 counted_turn r counted s p j = joined (joined (still (with_counted r counted s p j)) (still (with_counted r counted s p j))) (asking j (promise_in r j) (with_counted r counted s p j))
@@ -307,7 +336,8 @@ all_promises r rest others o [] j from counted c size IsSo st sent p events late
     (completing_turn r rest counted (st r.i) p.preparing j distinct (half r rest (length counted) 0 size) (inside_more r others o counted from j [] c p.inside) (all_in r others o counted from j c p.done p.own)
     (let q = rest.quorum.most in omega (arith, q, size)))
     (λ back. later (put st r.i t.after) (sent_by r.i t.frames ++ sent) (record {
-      leading = subst (IsLeading r (r.i ∷ [])) (sym (put_same st r.i t.after)) (leads_then r rest counted (st r.i) p.preparing j distinct (half r rest (length counted) 0 size));
+      leading = subst (IsLeading r (r.i ∷ [])) (sym (put_same st r.i t.after)) (leads_then r rest counted (st r.i) p.preparing j distinct (half r rest (length counted) 0 size)
+          (inside_more r others o counted from j [] c p.inside) (all_in r others o counted from j c p.done p.own) (let q = rest.quorum.most in omega (arith, q, size)));
       waits = λ k h l. subst (HasPromised r k) (sym (put_other st r.i t.after k (o.other k h))) (p.promised_so k h);
       way = λ k h. in_first (sent_by r.i t.frames) sent (record { from = r.i; to = k; message = accept_in r }) (sent_in r.i t.frames k (accept_in r) (framed k h));
       reads = λ k h. back (record { to = k; message = accept_in r }) (framed k h);
@@ -403,12 +433,12 @@ heard_turn r s j = joined (joined (still (with_heard_vote r s j)) (still (with_h
 
 all_votes : (r : Round) → IsRest r → (others : List ℕ) → Others r others → (todo : List ℕ) (j from : ℕ) (voters : List ℕ) → ToCome r others from (j ∷ todo) → length voters + suc (length todo) ≡ length r.members
     → (st : ℕ → Standing) (sent : List Sent) → Votes r others voters from st sent
-    → GoOn (place_in r.setting r.n r.deals) (HasMovedOn r.i (slot_in r) (r.command ∷ [])) st sent (map (λ k. delivers k r.i (accepted_in r)) (j ∷ todo))
+    → GoOn (place_in r.setting r.n r.deals) (HasMovedOn r.i (slot_in r) r.commands) st sent (map (λ k. delivers k r.i (accepted_in r)) (j ∷ todo))
 all_votes r rest others o [] j from voters c size st sent p =
-    deliver r (HasMovedOn r.i (slot_in r) (r.command ∷ [])) st sent j r.i (accepted_in r) [] l.turn p.leading.up (p.voted_so j jin).reads (p.voted_so j jin).way l.goes
-    (λ back. ended (place_in r.setting r.n r.deals) (HasMovedOn r.i (slot_in r) (r.command ∷ [])) (put st r.i l.turn.after) (sent_by r.i l.turn.frames ++ sent)
-    (subst (λ (s : Standing). (slot_in r + 1 ≤ front_of s) × ((known_at s.learned.log (slot_in r) ≡ Some r.command) × Unit {0})) (sym (put_same st r.i l.turn.after))
-    ((let passed = l.learned.passed in omega (arith, passed)), (l.learned.known, tt))))
+    deliver r (HasMovedOn r.i (slot_in r) r.commands) st sent j r.i (accepted_in r) [] l.turn p.leading.up (p.voted_so j jin).reads (p.voted_so j jin).way l.goes
+    (λ back. ended (place_in r.setting r.n r.deals) (HasMovedOn r.i (slot_in r) r.commands) (put st r.i l.turn.after) (sent_by r.i l.turn.frames ++ sent)
+    (subst (λ (s : Standing). (slot_in r + length r.commands ≤ front_of s) × AreKnown s.learned.log (slot_in r) r.commands) (sym (put_same st r.i l.turn.after))
+    (l.learned.passed, l.learned.known)))
   where
     jin : In j others
     jin = c.inside j (inl refl)
@@ -416,7 +446,7 @@ all_votes r rest others o [] j from voters c size st sent p =
     l : LastTurn r (st r.i) j
     l = last_turn r rest voters (st r.i) p.leading j (rest.low j (o.member j (c.inside j (inl refl)))) (all_in r others o voters from j c p.done p.own)
 all_votes r rest others o (next ∷ todo) j from voters c size st sent p =
-    deliver r (HasMovedOn r.i (slot_in r) (r.command ∷ [])) st sent j r.i (accepted_in r) (map (λ k. delivers k r.i (accepted_in r)) (next ∷ todo)) (heard_turn r (st r.i) j)
+    deliver r (HasMovedOn r.i (slot_in r) r.commands) st sent j r.i (accepted_in r) (map (λ k. delivers k r.i (accepted_in r)) (next ∷ todo)) (heard_turn r (st r.i) j)
     p.leading.up (p.voted_so j (c.inside j (inl refl))).reads (p.voted_so j (c.inside j (inl refl))).way
     (accepted_goes r rest voters (st r.i) p.leading j (distinct_more r rest others o voters from j (next ∷ todo) c p.only p.distinct) (half r rest (suc (length voters)) (length todo) (omega (arith, size))))
     (λ back. all_votes r rest others o todo next (j + 1) (j ∷ voters) (next_come r others from j (next ∷ todo) c) (omega (arith, size)) (put st r.i (heard_turn r (st r.i) j).after)
@@ -453,7 +483,7 @@ prepare_framed : (r : Round) (k : ℕ) → k < r.n → (k ≡ r.i → ⊥) → I
 prepare_framed r k low other = in_first (to_others (place_at r r.i) (prepare_in r)) [] (record { to = k; message = prepare_in r }) (has_to r.n r.i k (prepare_in r) low other)
 
 by_others : (r : Round) → IsRest r → (others : List ℕ) → Others r others
-    → GoOn (place_in r.setting r.n r.deals) (HasMovedOn r.i (slot_in r) (r.command ∷ [])) r.standings []
+    → GoOn (place_in r.setting r.n r.deals) (HasMovedOn r.i (slot_in r) r.commands) r.standings []
     (Ticks r.i ∷ (map (λ j. delivers r.i j (prepare_in r)) others ++ (map (λ j. delivers j r.i (promise_in r j)) others
     ++ (map (λ j. delivers r.i j (accept_in r)) others ++ map (λ j. delivers j r.i (accepted_in r)) others))))
 by_others r rest [] o = absurd (let q = rest.quorum.most in let m = r.given.least_nodes r.n rest.few in let s = o.size in omega (arith, q, m, s))
@@ -500,8 +530,8 @@ by_others r rest (j ∷ todo) o =
     come = first_come r (j ∷ todo) o
 
     Moved : (ℕ → Standing) → Type 0
-    Moved = HasMovedOn r.i (slot_in r) (r.command ∷ [])
+    Moved = HasMovedOn r.i (slot_in r) r.commands
 
 -- the round of members at rest
-pub rounds_go_on : (r : Round) → IsRest r → GoOn (place_in r.setting r.n r.deals) (HasMovedOn r.i (slot_in r) (r.command ∷ [])) r.standings [] (round r.standings r.i r.members (r.command ∷ []))
+pub rounds_go_on : (r : Round) → IsRest r → GoOn (place_in r.setting r.n r.deals) (HasMovedOn r.i (slot_in r) r.commands) r.standings [] (round r.standings r.i r.members r.commands)
 rounds_go_on r rest = by_others r rest (without r.i r.members) (others_of r rest)

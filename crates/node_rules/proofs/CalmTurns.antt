@@ -1,59 +1,60 @@
 -- The turns of a calm round.
-use Rattle.std.proofs.Common.{◌≡◌, ℕ, ◌<◌, ◌≤◌, ◌+◌, ◌*◌, ◌-◌, ◌⊎◌, inl, inr, Bool, true, false, not, ◌&&◌, if◌then◌else◌, List, [], ◌∷◌, ◌++◌, Option, Some, None, Result, Ok, Err, refl, sym, ap, subst, ◌∙◌, arith, length, replicate, get_or}
-use Rattle.std.specs.Prelude.{nat_lt, nat_le, is_none, IsOk}
-use Rattle.std.proofs.lemmas.Bool.{lt-ltb, le-ltb, ltb-true, ltb-false, leb-true}
-use Rattle.std.proofs.lemmas.List.{length-append}
+use Rattle.std.proofs.Common.{◌≡◌, ℕ, ◌<◌, ◌≤◌, ◌+◌, ◌*◌, ◌-◌, ◌⊎◌, inl, inr, Bool, true, false, true≢false, not, ◌&&◌, if◌then◌else◌, List, [], ◌∷◌, Option, Some, None, Result, Ok, Err, refl, sym, ap, subst, ◌∙◌, arith, length, replicate, get_or}
+use Rattle.std.specs.Prelude.{nat_le, IsOk}
+use Rattle.std.proofs.lemmas.Bool.{lt-ltb, le-ltb, leb-true}
 use Rattle.paxos_wire.specs.declared.limits.TheConstants.{SLOTS, WINDOW}
 use Rattle.paxos_wire.specs.declared.ballot.Ballot.{Ballot}
 use Rattle.paxos_wire.specs.declared.entry.Entry.{Entry}
 use Rattle.paxos_wire.specs.declared.message.Message.{Message as Wire}
 use Rattle.paxos_wire.specs.declared.message.Message.TheVariants as frame
-use Rattle.slot_log.specs.Slots.{Log, IsLog, front, known_at, with_command}
+use Rattle.slot_log.specs.Slots.{Log, IsLog, front}
 use Rattle.slot_log.specs.declared.command.Command.{Command}
-use Rattle.slot_log.specs.declared.slot_fault.SlotFault.{SlotFault}
-use Rattle.slot_log.specs.declared.slot_fault.SlotFault.TheVariants.{Conflict as KnownOther}
 use Rattle.protocol_model.specs.Sets.{In}
 use Rattle.protocol_model.specs.Ballots.{Below, AtMost}
 use Rattle.protocol_model.specs.Messages.{Vote, Message, Accepted}
+use Rattle.protocol_model.specs.Frames.{answers}
 use Rattle.protocol_model.specs.Quorums.{IsChosenIn}
-use Rattle.protocol_model.specs.Stores.{Store, promised, voted}
+use Rattle.protocol_model.specs.Stores.{Store, promised}
 use Rattle.protocol_model.specs.Backing.{IsWithinPromise}
-use Rattle.proposer.specs.declared.accept.Accept.{Accept as Made}
+use Rattle.proposer.specs.declared.accept_run.AcceptRun.{AcceptRun}
 use Rattle.proposer.specs.declared.campaign.Campaign.{Campaign}
 use Rattle.proposer.specs.declared.fault.ProposeFault.{ProposeFault}
 use Rattle.proposer.specs.declared.fault.ProposeFault.TheVariants.{OutOfWindow}
 use Rattle.paxos_wire.specs.Order.{is_below}
-use Rattle.proposer.specs.Campaigns.{has_quorum, leads, is_covered, is_proposed, accept_of, value_of, greatest_told, proposal_by, proposal_from, new_campaign, with_promise, counting_from, marked_from}
-use Rattle.learner.specs.declared.chosen.Chosen.{Chosen as Learnt}
-use Rattle.learner.specs.Learning.{Learned, is_open, is_other, completes, answer_to, hearing, counting, knowing}
+use Rattle.proposer.specs.Campaigns.{has_quorum, leads, is_covered, is_proposed, new_campaign, with_promise, counting_from}
+use Rattle.proposer.specs.CommandRuns.{alone, told_commands, commands_of, commands_at, accept_run_of, run_by, run_from_campaign, marked_run_from}
+use Rattle.proposer.specs.Counted.{MarksSent}
+use Rattle.proposer.proofs.SafeRuns.{PassedRun, passed_run}
+use Rattle.proposer.proofs.ToldCommands.{some_made}
+use Rattle.learner.specs.Learning.{Learned}
+use Rattle.learner.specs.CommandRuns.{answer_to_run, hearing_run}
 use Rattle.learner.specs.Counted.{IsOpen}
 use Rattle.dealer_kind.specs.Kind.{Setting}
 use Rattle.dealer_kind.specs.Plans.{HasNodes}
 use Rattle.node_rules.specs.Standings.{Place, Standing, front_of, with_stored, idle}
 use Rattle.node_rules.specs.Sending.{to_others}
 use Rattle.node_rules.specs.Turns.{Turn, Refusal, Spent, still, sending, joined, behind, and_then}
-use Rattle.protocol_model.specs.Votes.{told_by, is_of_ballot, storing}
+use Rattle.protocol_model.specs.Votes.{told_by, is_of_ballot, taking_command_run}
 use Rattle.node_rules.specs.Accepting.{promising, refusing, voting}
-use Rattle.node_rules.specs.Learning.{learning}
 use Rattle.node_rules.specs.Applying.{applying}
-use Rattle.node_rules.specs.Proposing.{is_over, is_spent, prepared, beginning, ticking, own_value, closing}
+use Rattle.node_rules.specs.Proposing.{is_over, is_spent, prepared, beginning, ticking, own_value, closing_by, proposal_at, closing}
 use Rattle.node_rules.specs.Rules.{seeing, taking, asking, on_message}
-use Rattle.node_rules.specs.Calm.{IsLeastQuorum, ballot_after, IsGreatestHeld, IsOwn}
-use Rattle.node_rules.specs.CalmRound.{place_in}
+use Rattle.node_rules.specs.Calm.{IsLeastQuorum, ballot_after, IsUnheld, IsToldCommandRun, IsOwn}
+use Rattle.node_rules.specs.CalmRound.{place_in, AreKnown}
 use Rattle.node_rules.specs.Given.{Given}
 use Rattle.protocol_model.proofs.Ballots.{at_most_self, not_below, below_if, is_below_if}
-use Rattle.node_rules.proofs.Closing.{none_of_ballot, stored_new, unmarked}
+use Rattle.node_rules.proofs.OwnRuns.{unmarked}
+use Rattle.node_rules.proofs.Closing.{none_of_ballot}
 use Rattle.node_rules.proofs.Halting.{unled_by}
-use Rattle.node_rules.proofs.Ones.{counting_one, counts_one, votes_one, one_at, closing_by_one, closing_one, closes_one}
 use Rattle.node_rules.proofs.Asked.{asked_same}
-use Rattle.node_rules.proofs.Settled.{PassesOver, passes_over, counted_is, proposal_is, turn_made, Fresh, made_turn, marked_none}
-use Rattle.learner.proofs.Kept.{open_means}
+use Rattle.node_rules.proofs.Settled.{PassesOver, passes_over, run_ok_if, learning_ok, counted_is, voting_is, turn_made, Fresh, made_turn, marked_none, marked_at}
 use Rattle.node_rules.proofs.Electing.{covered}
-use Rattle.node_rules.proofs.Counting.{Counts, counts_vote}
-use Rattle.node_rules.proofs.CalmPromises.{IsCounted, new_counted, quorum_is, counts_more, Agree, greatest_value, own_is_value}
-use Rattle.node_rules.proofs.Members.{is_in, in_is, is_in_in, not_in, count_list, AreDistinct, rise_distinct}
+use Rattle.node_rules.proofs.Counting.{Counts, GrowsByEach, votes_grow, heard_run, answers_had}
+use Rattle.node_rules.proofs.RunHeard.{KnowsOnly, all_taken, all_heard}
+use Rattle.node_rules.proofs.CalmPromises.{IsCounted, new_counted, quorum_is, counts_more, Agree, IsTold, greatest_value, none_held, told_are}
+use Rattle.node_rules.proofs.Members.{is_in, in_is, not_in, count_list, AreDistinct}
 use Rattle.protocol_model.proofs.Quorums.{count_within}
-use Rattle.protocol_model.proofs.Sets.{all_same}
+use Rattle.protocol_model.proofs.Sets.{Within, all_same}
 
 -- ---- tests
 
@@ -77,57 +78,49 @@ alone_yet g n i ballot slot command messages few only (quorum, most, answers) =
     own_only k (inl e) = cc
     own_only k (inr h) = only k h
 
-pub new_vote_passes : (g : Given) (n i : ℕ) (l : Learned) (came : List Message) (ballot : Ballot) (slot : ℕ) (command : Command) → HasNodes n → l.nodes ≡ n → Counts came l
-    → ((voter : ℕ) → In (Accepted voter ballot slot command) came → voter ≡ i) → PassesOver l i ballot slot command
-new_vote_passes g n i l came ballot slot command few nodes counts only = passes_over l i ballot slot command not_done
-  where
-    not_done : is_open l.log slot ≡ true → completes l i ballot slot command ≡ true → ⊥
-    not_done ahead done =
-        let m : Message = Accepted i ballot slot command in
-        alone_yet g n i ballot slot command came few only
-        (subst (λ (k : ℕ). IsChosenIn k (m ∷ came) ballot slot command) nodes
-        (g.completed (m ∷ came) l i ballot slot command (g.more came l m counts.counts_from) (inl refl) (open_means l.log slot ahead) done))
+-- no vote of the ballot for these slots is another node's: the votes complete nothing
+pub new_votes_pass : (g : Given) (n i : ℕ) (l : Learned) (came : List Message) (ballot : Ballot) (slot : ℕ) (commands : List Command) → HasNodes n → l.nodes ≡ n → Counts came l
+    → ((voter k : ℕ) (command : Command) → slot ≤ k → k < slot + length commands → In (Accepted voter ballot k command) came → voter ≡ i) → PassesOver l i ballot slot commands
+new_votes_pass g n i l came ballot slot commands few nodes counts only =
+    passes_over g l came i ballot slot commands counts.counts_from (λ k command low high chosen.
+    alone_yet g n i ballot k command came few (λ voter h. only voter k command low high h) (subst (λ (m : ℕ). IsChosenIn m (Accepted i ballot k command ∷ came) ballot k command) nodes chosen))
 
 -- ---- closes
 
 -- a node that doesn't lead rests
-unled_one : (place : Place) (s : Standing) → leads place.nodes s.campaign ≡ false → closing_one place s ≡ Ok (still s)
-unled_one place s e =
-    ap (λ (b : Bool). if b && nat_le SLOTS (front_of s) then Ok (still (idle s)) else closing_by_one place (one_at place s) (record s { campaign = marked_from s.campaign (one_at place s) })) e
-    ∙ rest_close place s (unled_by place.nodes s.campaign (front_of s) (own_value place s) e)
+pub unled_close : (place : Place) (s : Standing) → leads place.nodes s.campaign ≡ false → closing place s ≡ Ok (still s)
+unled_close place s e =
+    ap (λ (b : Bool). if b && nat_le SLOTS (front_of s) then Ok (still (idle s)) else closing_by place (proposal_at place s) (record s { campaign = marked_run_from s.campaign (proposal_at place s) })) e
+    ∙ rest_close (unled_by place.nodes s.campaign (front_of s) (own_value place s) e)
   where
-    rest_close : (place : Place) (s : Standing) → one_at place s ≡ Ok None
-        → closing_by_one place (one_at place s) (record s { campaign = marked_from s.campaign (one_at place s) }) ≡ Ok (still s)
-    rest_close place s e =
-        ap (λ (r : Result (Option Made) ProposeFault). closing_by_one place r (record s { campaign = marked_from s.campaign r })) e
+    rest_close : proposal_at place s ≡ Ok None
+        → closing_by place (proposal_at place s) (record s { campaign = marked_run_from s.campaign (proposal_at place s) }) ≡ Ok (still s)
+    rest_close none =
+        ap (λ (r : Result (Option AcceptRun) ProposeFault). closing_by place r (record s { campaign = marked_run_from s.campaign r })) none
         ∙ ap (λ (y : Option Campaign). let t : Result Turn Refusal = Ok (still (record s { campaign = y })) in t) (unmarked s.campaign)
 
-pub unled_close : (g : Given) (place : Place) (s : Standing) → leads place.nodes s.campaign ≡ false → closing place s ≡ Ok (still s)
-unled_close g place s e = closes_one g place s ∙ unled_one place s e
-
-room_close : (g : Given) (place : Place) (s : Standing) (r : Result (Option Made) ProposeFault) → nat_le SLOTS (front_of s) ≡ false → one_at place s ≡ r
-    → closing place s ≡ closing_by_one place r (record s { campaign = marked_from s.campaign r })
-room_close g place s r room e =
-    closes_one g place s
-    ∙ (ap (λ (b : Bool). if leads place.nodes s.campaign && b then Ok (still (idle s)) else closing_by_one place (one_at place s) (record s { campaign = marked_from s.campaign (one_at place s) })) room
+room_close : (place : Place) (s : Standing) (r : Result (Option AcceptRun) ProposeFault) → nat_le SLOTS (front_of s) ≡ false → proposal_at place s ≡ r
+    → closing place s ≡ closing_by place r (record s { campaign = marked_run_from s.campaign r })
+room_close place s r room e =
+    ap (λ (b : Bool). if leads place.nodes s.campaign && b then Ok (still (idle s)) else closing_by place (proposal_at place s) (record s { campaign = marked_run_from s.campaign (proposal_at place s) })) room
     ∙ (by_lead (leads place.nodes s.campaign)
-    ∙ ap (λ (y : Result (Option Made) ProposeFault). closing_by_one place y (record s { campaign = marked_from s.campaign y })) e))
+    ∙ ap (λ (y : Result (Option AcceptRun) ProposeFault). closing_by place y (record s { campaign = marked_run_from s.campaign y })) e)
   where
-    by_lead : (b : Bool) → (if b && false then Ok (still (idle s)) else closing_by_one place (one_at place s) (record s { campaign = marked_from s.campaign (one_at place s) }))
-        ≡ closing_by_one place (one_at place s) (record s { campaign = marked_from s.campaign (one_at place s) })
+    by_lead : (b : Bool) → (if b && false then Ok (still (idle s)) else closing_by place (proposal_at place s) (record s { campaign = marked_run_from s.campaign (proposal_at place s) }))
+        ≡ closing_by place (proposal_at place s) (record s { campaign = marked_run_from s.campaign (proposal_at place s) })
     by_lead true = refl
     by_lead false = refl
 
 -- nothing to propose: it rests
-pub quiet_close : (g : Given) (place : Place) (s : Standing) → nat_le SLOTS (front_of s) ≡ false → one_at place s ≡ Ok None → closing place s ≡ Ok (still s)
-quiet_close g place s room e =
-    room_close g place s (Ok None) room e
+pub quiet_close : (place : Place) (s : Standing) → nat_le SLOTS (front_of s) ≡ false → proposal_at place s ≡ Ok None → closing place s ≡ Ok (still s)
+quiet_close place s room e =
+    room_close place s (Ok None) room e
     ∙ ap (λ (y : Option Campaign). let t : Result Turn Refusal = Ok (still (record s { campaign = y })) in t) (unmarked s.campaign)
 
 -- a proposal
-pub made_close : (g : Given) (place : Place) (s : Standing) (k : Campaign) (made : Made) → nat_le SLOTS (front_of s) ≡ false → s.campaign ≡ Some k → one_at place s ≡ Ok (Some made) → Fresh place s k made
+pub made_close : (place : Place) (s : Standing) (k : Campaign) (made : AcceptRun) → nat_le SLOTS (front_of s) ≡ false → s.campaign ≡ Some k → proposal_at place s ≡ Ok (Some made) → Fresh place s k made
     → closing place s ≡ Ok (turn_made place s k made)
-made_close g place s k made room has e f = room_close g place s (Ok (Some made)) room e ∙ made_turn place s k made has f
+made_close place s k made room has e f = room_close place s (Ok (Some made)) room e ∙ made_turn place s k made has f
 
 -- however it is, it comes to a turn that learns nothing
 pub record ClosesSo (place : Place) (s : Standing) : Type 0 where
@@ -135,29 +128,28 @@ pub record ClosesSo (place : Place) (s : Standing) : Type 0 where
   pub closes_so : closing place s ≡ Ok turn
   pub same_log : turn.after.learned.log ≡ s.learned.log
 
-pub total_close : (g : Given) (place : Place) (s : Standing) (k : Campaign) → s.campaign ≡ Some k
-    → ((made : Made) → proposal_by place.nodes k (front_of s) (own_value place s) ≡ Ok (Some made) → Fresh place s k made) → ClosesSo place s
-total_close g place s k has fresh_if = by_room (nat_le SLOTS (front_of s)) refl
+pub total_close : (place : Place) (s : Standing) (k : Campaign) → s.campaign ≡ Some k
+    → ((made : AcceptRun) → run_by place.nodes k (front_of s) (own_value place s) ≡ Ok (Some made) → Fresh place s k made) → ClosesSo place s
+total_close place s k has fresh_if = by_room (nat_le SLOTS (front_of s)) refl
   where
-    by_proposal : (r : Result (Option Made) ProposeFault) → nat_le SLOTS (front_of s) ≡ false → one_at place s ≡ r → ClosesSo place s
-    by_proposal (Ok None) room e = record { turn = still s; closes_so = quiet_close g place s room e; same_log = refl }
-    by_proposal (Err fault) room e = record { turn = still (idle s); closes_so = room_close g place s (Err fault) room e; same_log = refl }
+    by_proposal : (r : Result (Option AcceptRun) ProposeFault) → nat_le SLOTS (front_of s) ≡ false → proposal_at place s ≡ r → ClosesSo place s
+    by_proposal (Ok None) room e = record { turn = still s; closes_so = quiet_close place s room e; same_log = refl }
+    by_proposal (Err fault) room e = record { turn = still (idle s); closes_so = room_close place s (Err fault) room e; same_log = refl }
     by_proposal (Ok (Some made)) room e =
-        let f = fresh_if made (ap (λ (y : Option Campaign). proposal_from place.nodes y (front_of s) (own_value place s)) (sym has) ∙ e) in
-        record { turn = turn_made place s k made; closes_so = made_close g place s k made room has e f; same_log = f.over.log }
+        let f = fresh_if made (ap (λ (y : Option Campaign). run_from_campaign place.nodes y (front_of s) (own_value place s)) (sym has) ∙ e) in
+        record { turn = turn_made place s k made; closes_so = made_close place s k made room has e f; same_log = f.over.log }
 
     by_lead : (b : Bool) → leads place.nodes s.campaign ≡ b → nat_le SLOTS (front_of s) ≡ true → ClosesSo place s
     by_lead true led room = record {
       turn = still (idle s);
-      closes_so = closes_one g place s
-          ∙ (λ j. if led j && room j then Ok (still (idle s)) else closing_by_one place (one_at place s) (record s { campaign = marked_from s.campaign (one_at place s) }));
+      closes_so = λ j. if led j && room j then Ok (still (idle s)) else closing_by place (proposal_at place s) (record s { campaign = marked_run_from s.campaign (proposal_at place s) });
       same_log = refl;
     }
-    by_lead false led room = record { turn = still s; closes_so = unled_close g place s led; same_log = refl }
+    by_lead false led room = record { turn = still s; closes_so = unled_close place s led; same_log = refl }
 
     by_room : (b : Bool) → nat_le SLOTS (front_of s) ≡ b → ClosesSo place s
     by_room true room = by_lead (leads place.nodes s.campaign) refl room
-    by_room false room = by_proposal (one_at place s) room refl
+    by_room false room = by_proposal (proposal_at place s) room refl
 
 -- ---- whole messages
 
@@ -177,7 +169,7 @@ pub record Round : Type 0 where
   pub standings : ℕ → Standing
   pub i : ℕ
   pub members : List ℕ
-  pub command : Command
+  pub commands : List Command
 
 abbrev pub place_at : Round → ℕ → Place
 place_at r k = place_in r.setting r.n r.deals k
@@ -206,8 +198,14 @@ pub record IsRest (r : Round) : Type 0 where
   pub not_over : is_over (place_at r r.i) (r.standings r.i) ≡ false
   pub not_spent : is_spent (r.standings r.i) ≡ false
   pub within : (k : ℕ) → In k r.members → IsWithinPromise (r.standings k).store
-  pub agree : Agree r.standings r.members (slot_in r)
-  pub value : IsGreatestHeld r.standings r.members (slot_in r) r.command ⊎ IsOwn (place_at r r.i) (r.standings r.i) r.standings r.members (slot_in r) r.command
+  pub agree : (slot : ℕ) → Agree r.standings r.members slot
+  pub least : 1 ≤ length r.commands
+  pub most : length r.commands ≤ WINDOW
+  pub slots : slot_in r + length r.commands ≤ SLOTS
+  pub value : IsToldCommandRun r.standings r.members (slot_in r) r.commands
+      ⊎ ((command : Command) × (r.commands ≡ command ∷ []) × IsOwn (place_at r r.i) (r.standings r.i) r.standings r.members (slot_in r) command)
+  -- where the node knows a command at one of their slots already, it is theirs
+  pub known_so : KnowsOnly (r.standings r.i).learned.log (slot_in r) r.commands
   pub came : (k : ℕ) → In k r.members → List Message
   pub nodes : (k : ℕ) → In k r.members → (r.standings k).learned.nodes ≡ r.n
   pub log : (k : ℕ) → In k r.members → IsLog (r.standings k).learned.log
@@ -219,7 +217,7 @@ pub no_vote : (r : Round) → IsRest r → (k : ℕ) → In k r.members → (slo
 no_vote r rest k h slot v e same =
     not_below (ballot_in r) (r.standings k).store.promise (subst (λ (b : Ballot). AtMost b (r.standings k).store.promise) same (rest.within k h slot v e)) (rest.above k h)
 
-unvoted_slot : (r : Round) → IsRest r → (k : ℕ) → In k r.members → (slot : ℕ) → is_of_ballot ((r.standings k).store.votes slot) (ballot_in r) ≡ false
+pub unvoted_slot : (r : Round) → IsRest r → (k : ℕ) → In k r.members → (slot : ℕ) → is_of_ballot ((r.standings k).store.votes slot) (ballot_in r) ≡ false
 unvoted_slot r rest k h slot = none_of_ballot ((r.standings k).store.votes slot) (ballot_in r) (λ v e same. no_vote r rest k h slot v e same)
 
 -- ---- the tick
@@ -237,7 +235,7 @@ pub tick_turn : (r : Round) → IsRest r
     → and_then (ticking (place_at r r.i) (r.standings r.i)) (closing (place_at r r.i)) ≡ Ok (joined (begun_turn r) (still (begun_turn r).after))
 tick_turn r rest =
     ap (λ (x : Result Turn Refusal). and_then x (closing (place_at r r.i))) begins_so
-    ∙ ap (behind (begun_turn r)) (unled_close r.given (place_at r r.i) (begun_turn r).after unled)
+    ∙ ap (behind (begun_turn r)) (unled_close (place_at r r.i) (begun_turn r).after unled)
   where
     begins_so : ticking (place_at r r.i) (r.standings r.i) ≡ Ok (begun_turn r)
     begins_so = λ j. if rest.not_over j then Ok (still (r.standings r.i)) else if rest.not_spent j then Err Spent else Ok (begun_turn r)
@@ -263,7 +261,7 @@ prepare_turn r rest j h =
     message_turn (place_at r j) r.i (prepare_in r) (r.standings j) (promised_turn r j) (still (promised_turn r j).after)
     (ap (λ (b : Bool). let x : Result Turn Refusal = Ok (if b then promised_turn r j else refusing r.i (ballot_in r) (slot_in r) (seeing (prepare_in r) (r.standings j))) in x)
     (is_below_if (r.standings j).store.promise (ballot_in r) (rest.above j h)))
-    (unled_close r.given (place_at r j) (promised_turn r j).after refl)
+    (unled_close (place_at r j) (promised_turn r j).after refl)
 
 -- ---- a Promise
 
@@ -311,25 +309,64 @@ pub promise_turn : (r : Round) → IsRest r → (counted : List ℕ) (s : Standi
     ≡ Ok (joined (joined (still (with_counted r counted s p j)) (still (with_counted r counted s p j))) (asking j (promise_in r j) (with_counted r counted s p j)))
 promise_turn r rest counted s p j distinct less still_less =
     message_turn (place_at r r.i) j (promise_in r j) s (still (with_counted r counted s p j)) (still (with_counted r counted s p j)) (promise_taken r counted s p j)
-    (unled_close r.given (place_at r r.i) (with_counted r counted s p j)
+    (unled_close (place_at r r.i) (with_counted r counted s p j)
     (quorum_is r.n (ballot_in r) (slot_in r) (stores_in r) (j ∷ counted) (with_promise r.n p.campaign j (ballot_in r) (slot_in r) (told_in r j)) distinct
     (more_counted r rest counted s p j distinct.2 less distinct.1 distinct.0) ∙ le-ltb r.n (2 * length (j ∷ counted)) still_less))
 
 -- ---- the one that completes
 
-abbrev pub made_in : Round → Made
-made_in r = record { ballot = ballot_in r; slot = slot_in r; command = r.command }
+abbrev pub made_in : Round → AcceptRun
+made_in r = record { ballot = ballot_in r; slot = slot_in r; commands = r.commands }
+
+-- what a campaign that has all members' promises has for the slots from the front on
+commands_are : (r : Round) → IsRest r → (counted : List ℕ) (k : Campaign) (own : Option Command) → IsCounted (ballot_in r) (slot_in r) (stores_in r) counted k
+    → ((m : ℕ) → In m counted → In m r.members) → ((m : ℕ) → In m r.members → In m counted) → own ≡ own_value (place_at r r.i) (r.standings r.i)
+    → (commands : List Command) → r.commands ≡ commands → commands_at r.n k (slot_in r) own ≡ commands
+commands_are r rest counted k own c inside all own_is [] e = absurd (let some = rest.least in let none : length r.commands ≡ 0 = ap (λ (cs : List Command). length cs) e in omega (arith, some, none))
+commands_are r rest counted k own c inside all own_is (command ∷ later) e = elim rest.value [
+  | inl told ↦ by_told (subst (λ (cs : List Command). IsToldCommandRun r.standings r.members (slot_in r) cs) e told)
+  | inr mine ↦ by_own mine.0 mine.1 mine.2
+]
+  where
+    behind : List Command
+    behind = told_commands r.n k (WINDOW - 1) (slot_in r + 1)
+
+    by_told : IsToldCommandRun r.standings r.members (slot_in r) (command ∷ later) → commands_at r.n k (slot_in r) own ≡ command ∷ later
+    by_told run =
+        ap (λ (o : Option Entry). commands_of o behind own) told.told
+        ∙ (ap (λ (d : Command). d ∷ behind) told.same
+        ∙ ap (λ (l : List Command). command ∷ l) (told_are r.given r.n (ballot_in r) (slot_in r) r.standings r.members counted k c inside all rest.low rest.agree (WINDOW - 1) (slot_in r + 1) later
+        (omega arith) (omega arith) (let end = run.slots in omega (arith, end)) (let most = run.most in omega (arith, most)) ends_later (let held = run.held in held.1)))
+      where
+        told : IsTold k (slot_in r) r.n command
+        told = greatest_value r.given r.n (ballot_in r) (slot_in r) (slot_in r) r.standings r.members counted k command c inside all rest.low (omega arith) (omega arith) (rest.agree (slot_in r))
+            (let held = run.held in held.0)
+
+        ends_later : (length later ≡ WINDOW - 1) ⊎ ((slot_in r + 1 + length later ≡ SLOTS) ⊎ IsUnheld r.standings r.members (slot_in r + 1 + length later))
+        ends_later = elim run.ends [
+          | inl full ↦ inl (omega (arith, full))
+          | inr other ↦ elim other [
+            | inl last ↦ inr (inl (omega (arith, last)))
+            | inr none ↦ inr (inr (let same : slot_in r + length (command ∷ later) ≡ slot_in r + 1 + length later = omega arith in subst (IsUnheld r.standings r.members) same none))
+          ]
+        ]
+
+    by_own : (d : Command) → r.commands ≡ d ∷ [] → IsOwn (place_at r r.i) (r.standings r.i) r.standings r.members (slot_in r) d → commands_at r.n k (slot_in r) own ≡ command ∷ later
+    by_own d is mine =
+        ap (λ (o : Option Entry). commands_of o behind own) (none_held r.given r.n (ballot_in r) (slot_in r) (slot_in r) r.standings r.members counted k c inside mine.0)
+        ∙ (ap alone (own_is ∙ mine.1) ∙ (sym is ∙ e))
 
 -- what a campaign that has all members' promises proposes
 pub proposes_it : (r : Round) → IsRest r → (counted : List ℕ) (k : Campaign) (own : Option Command) → AreDistinct r.n counted → IsCounted (ballot_in r) (slot_in r) (stores_in r) counted k
     → ((m : ℕ) → In m counted → In m r.members) → ((m : ℕ) → In m r.members → In m counted) → r.n < 2 * length counted → own ≡ own_value (place_at r r.i) (r.standings r.i)
-    → proposal_by r.n k (slot_in r) own ≡ Ok (Some (made_in r))
+    → run_by r.n k (slot_in r) own ≡ Ok (Some (made_in r))
 proposes_it r rest counted k own distinct c inside all enough own_is =
     (λ j. if not (quorum j) then Ok None
     else if not (covers j) then Err OutOfWindow
     else if unmarked_slot j then Ok None
-    else Ok (accept_of k (slot_in r) (value j)))
-    ∙ ap (λ (b : Ballot). let x : Result (Option Made) ProposeFault = Ok (Some (record { ballot = b; slot = slot_in r; command = r.command })) in x) c.ballot_is
+    else Ok (accept_run_of k (slot_in r) (commands_are r rest counted k own c inside all own_is r.commands refl j)))
+    ∙ (ap (λ (o : Option AcceptRun). let x : Result (Option AcceptRun) ProposeFault = Ok o in x) (some_made k (slot_in r) r.commands (let some = rest.least in omega (arith, some)))
+    ∙ ap (λ (b : Ballot). let x : Result (Option AcceptRun) ProposeFault = Ok (Some (record { ballot = b; slot = slot_in r; commands = r.commands })) in x) c.ballot_is)
   where
     quorum : has_quorum r.n k ≡ true
     quorum = quorum_is r.n (ballot_in r) (slot_in r) (stores_in r) counted k distinct c ∙ lt-ltb r.n (2 * length counted) enough
@@ -339,12 +376,6 @@ proposes_it r rest counted k own distinct c inside all enough own_is =
 
     unmarked_slot : is_proposed k (slot_in r) ≡ false
     unmarked_slot = ap (λ (l : List Bool). get_or l (slot_in r - k.first) false) c.unproposed ∙ all_same false WINDOW (slot_in r - k.first)
-
-    value : value_of (greatest_told k (slot_in r) r.n) own ≡ Some r.command
-    value = elim rest.value [
-      | inl held ↦ greatest_value r.given r.n (ballot_in r) (slot_in r) r.standings r.members counted k own r.command c inside all rest.low rest.agree held
-      | inr mine ↦ own_is_value r.given r.n (ballot_in r) (slot_in r) r.standings r.members counted k own r.command c inside mine.0 (own_is ∙ mine.1)
-    ]
 
 -- the standing's own value is that at rest
 own_same : (r : Round) (place : Place) (s : Standing) → s.learned ≡ (r.standings r.i).learned → s.pending ≡ (r.standings r.i).pending → own_value place s ≡ own_value place (r.standings r.i)
@@ -357,35 +388,47 @@ room_left r rest = by_test (nat_le SLOTS (slot_in r)) refl
     by_test true e = absurd (let l = leb-true SLOTS (slot_in r) e in let k = rest.slot_left in omega arith)
     by_test false e = e
 
-proposal_fresh : (r : Round) → IsRest r → (s : Standing) (k : Campaign) → s.store ≡ promised (r.standings r.i).store (ballot_in r) → s.learned ≡ (r.standings r.i).learned → k.proposed ≡ replicate WINDOW false
-    → proposal_by r.n k (front_of s) (own_value (place_at r r.i) s) ≡ Ok (Some (made_in r)) → Fresh (place_at r r.i) s k (made_in r)
-proposal_fresh r rest s k store learned unmarked_all e = record {
-  proposal = proposal_is r.n k (front_of s) (own_value (place_at r r.i) s) (made_in r) e;
-  unvoted = ap (λ (st : Store). is_of_ballot (st.votes (slot_in r)) (ballot_in r)) store ∙ unvoted_slot r rest r.i rest.member (slot_in r);
-  places = ap (λ (l : List Bool). length l) unmarked_all;
-  over = subst (λ (l : Learned). PassesOver l r.i (ballot_in r) (slot_in r) r.command) (sym learned)
-      (new_vote_passes r.given r.n r.i (r.standings r.i).learned (rest.came r.i rest.member) (ballot_in r) (slot_in r) r.command rest.few (rest.nodes r.i rest.member) (rest.counts r.i rest.member)
-      (λ voter h. absurd (rest.unvoted r.i rest.member voter (slot_in r) r.command h)));
+-- its own votes complete nothing
+pub new_over : (r : Round) → IsRest r → (s : Standing) → s.learned ≡ (r.standings r.i).learned → PassesOver s.learned r.i (ballot_in r) (slot_in r) r.commands
+new_over r rest s learned =
+    subst (λ (l : Learned). PassesOver l r.i (ballot_in r) (slot_in r) r.commands) (sym learned)
+    (new_votes_pass r.given r.n r.i (r.standings r.i).learned (rest.came r.i rest.member) (ballot_in r) (slot_in r) r.commands rest.few (rest.nodes r.i rest.member) (rest.counts r.i rest.member)
+    (λ voter k c low high h. absurd (rest.unvoted r.i rest.member voter k c h)))
+
+-- nothing is marked yet
+pub none_marked : (k : Campaign) → k.proposed ≡ replicate WINDOW false → MarksSent [] k
+none_marked k unproposed = record {
+  places = ap (λ (l : List Bool). length l) unproposed;
+  all = λ slot command h. absurd h;
+  only = λ slot covers marked. absurd (true≢false (sym marked ∙ (ap (λ (l : List Bool). get_or l (slot - k.first) false) unproposed ∙ all_same false WINDOW (slot - k.first))));
 }
 
--- its own vote completes nothing
-pub new_over : (r : Round) → IsRest r → (s : Standing) → s.learned ≡ (r.standings r.i).learned → PassesOver s.learned r.i (ballot_in r) (slot_in r) r.command
-new_over r rest s learned =
-    subst (λ (l : Learned). PassesOver l r.i (ballot_in r) (slot_in r) r.command) (sym learned)
-    (new_vote_passes r.given r.n r.i (r.standings r.i).learned (rest.came r.i rest.member) (ballot_in r) (slot_in r) r.command rest.few (rest.nodes r.i rest.member) (rest.counts r.i rest.member)
-    (λ voter h. absurd (rest.unvoted r.i rest.member voter (slot_in r) r.command h)))
+proposal_fresh : (r : Round) → IsRest r → (s : Standing) (k : Campaign) → s.store ≡ promised (r.standings r.i).store (ballot_in r) → s.learned ≡ (r.standings r.i).learned → k.proposed ≡ replicate WINDOW false
+    → run_by r.n k (front_of s) (own_value (place_at r r.i) s) ≡ Ok (Some (made_in r)) → Fresh (place_at r r.i) s k (made_in r)
+proposal_fresh r rest s k store learned unmarked_all e = record {
+  quorum = tests.leads;
+  covered = covered k.first (front_of s) tests.low tests.high;
+  marked = marked_at r.given r.n [] k (front_of s) (own_value (place_at r r.i) s) (made_in r) (none_marked k unmarked_all) e tests.ballot (front_of s)
+      (let at = tests.begins in omega (arith, at)) (let at = tests.begins in let some = rest.least in omega (arith, at, some));
+  whole = r.given.command_run_whole s.store (ballot_in r) (slot_in r) r.commands
+      (λ m low high. ap (λ (st : Store). is_of_ballot (st.votes m) (ballot_in r)) store ∙ unvoted_slot r rest r.i rest.member m);
+  over = new_over r rest s learned;
+}
+  where
+    tests : PassedRun r.n k (front_of s) (own_value (place_at r r.i) s) (made_in r)
+    tests = passed_run r.n k (front_of s) (own_value (place_at r r.i) s) (made_in r) e
 
 abbrev pub completed_turn : (r : Round) (counted : List ℕ) (s : Standing) → IsPreparing r counted s → ℕ → Turn
 completed_turn r counted s p j = turn_made (place_at r r.i) (with_counted r counted s p j) (with_promise r.n p.campaign j (ballot_in r) (slot_in r) (told_in r j)) (made_in r)
 
-pub completing_turn : (r : Round) → IsRest r → (counted : List ℕ) (s : Standing) (p : IsPreparing r counted s) (j : ℕ) → AreDistinct r.n (j ∷ counted) → 2 * length counted ≤ r.n
+-- what node i proposes then, and how its turn looks
+pub completed_run : (r : Round) → IsRest r → (counted : List ℕ) (s : Standing) (p : IsPreparing r counted s) (j : ℕ) → AreDistinct r.n (j ∷ counted) → 2 * length counted ≤ r.n
     → ((m : ℕ) → In m (j ∷ counted) → In m r.members) → ((m : ℕ) → In m r.members → In m (j ∷ counted)) → r.n < 2 * length (j ∷ counted)
-    → on_message (place_at r r.i) j (promise_in r j) s
-    ≡ Ok (joined (joined (still (with_counted r counted s p j)) (completed_turn r counted s p j)) (asking j (promise_in r j) (completed_turn r counted s p j).after))
-completing_turn r rest counted s p j distinct less inside all enough =
-    message_turn (place_at r r.i) j (promise_in r j) s (still u) (completed_turn r counted s p j) (promise_taken r counted s p j)
-    (made_close r.given (place_at r r.i) u k (made_in r) (ap (λ (l : Learned). nat_le SLOTS (front l.log)) p.learned ∙ room_left r rest) refl proposal
-    (proposal_fresh r rest u k p.store p.learned c.unproposed proposal))
+    → run_by r.n (with_promise r.n p.campaign j (ballot_in r) (slot_in r) (told_in r j)) (front_of (with_counted r counted s p j)) (own_value (place_at r r.i) (with_counted r counted s p j)) ≡ Ok (Some (made_in r))
+completed_run r rest counted s p j distinct less inside all enough =
+    ap (λ (l : Learned). run_by r.n k (front l.log) (own_value (place_at r r.i) u)) p.learned
+    ∙ proposes_it r rest (j ∷ counted) k (own_value (place_at r r.i) u) distinct (more_counted r rest counted s p j distinct.2 less distinct.1 distinct.0) inside all enough
+    (own_same r (place_at r r.i) u p.learned p.pending)
   where
     u : Standing
     u = with_counted r counted s p j
@@ -393,21 +436,31 @@ completing_turn r rest counted s p j distinct less inside all enough =
     k : Campaign
     k = with_promise r.n p.campaign j (ballot_in r) (slot_in r) (told_in r j)
 
-    c : IsCounted (ballot_in r) (slot_in r) (stores_in r) (j ∷ counted) (with_promise r.n p.campaign j (ballot_in r) (slot_in r) (told_in r j))
-    c = more_counted r rest counted s p j distinct.2 less distinct.1 distinct.0
+pub completing_turn : (r : Round) → IsRest r → (counted : List ℕ) (s : Standing) (p : IsPreparing r counted s) (j : ℕ) → AreDistinct r.n (j ∷ counted) → 2 * length counted ≤ r.n
+    → ((m : ℕ) → In m (j ∷ counted) → In m r.members) → ((m : ℕ) → In m r.members → In m (j ∷ counted)) → r.n < 2 * length (j ∷ counted)
+    → on_message (place_at r r.i) j (promise_in r j) s
+    ≡ Ok (joined (joined (still (with_counted r counted s p j)) (completed_turn r counted s p j)) (asking j (promise_in r j) (completed_turn r counted s p j).after))
+completing_turn r rest counted s p j distinct less inside all enough =
+    message_turn (place_at r r.i) j (promise_in r j) s (still u) (completed_turn r counted s p j) (promise_taken r counted s p j)
+    (made_close (place_at r r.i) u k (made_in r) (ap (λ (l : Learned). nat_le SLOTS (front l.log)) p.learned ∙ room_left r rest) refl proposal
+    (proposal_fresh r rest u k p.store p.learned (let c = more_counted r rest counted s p j distinct.2 less distinct.1 distinct.0 in c.unproposed) proposal))
+  where
+    u : Standing
+    u = with_counted r counted s p j
 
-    proposal : proposal_by r.n (with_promise r.n p.campaign j (ballot_in r) (slot_in r) (told_in r j)) (front_of (with_counted r counted s p j)) (own_value (place_at r r.i) (with_counted r counted s p j)) ≡ Ok (Some (made_in r))
-    proposal =
-        ap (λ (l : Learned). proposal_by r.n k (front l.log) (own_value (place_at r r.i) u)) p.learned
-        ∙ proposes_it r rest (j ∷ counted) k (own_value (place_at r r.i) u) distinct c inside all enough (own_same r (place_at r r.i) u p.learned p.pending)
+    k : Campaign
+    k = with_promise r.n p.campaign j (ballot_in r) (slot_in r) (told_in r j)
+
+    proposal : run_by r.n (with_promise r.n p.campaign j (ballot_in r) (slot_in r) (told_in r j)) (front_of (with_counted r counted s p j)) (own_value (place_at r r.i) (with_counted r counted s p j)) ≡ Ok (Some (made_in r))
+    proposal = completed_run r rest counted s p j distinct less inside all enough
 
 -- ---- an Accept
 
 abbrev pub accept_in : Round → Wire
-accept_in r = frame.Accept (ballot_in r) (slot_in r) (r.command ∷ [])
+accept_in r = frame.Accept (ballot_in r) (slot_in r) r.commands
 
 abbrev pub accepted_in : Round → Wire
-accepted_in r = frame.Accepted (ballot_in r) (slot_in r) (r.command ∷ [])
+accepted_in r = frame.Accepted (ballot_in r) (slot_in r) r.commands
 
 -- what another member is once it promised
 pub record HasPromised (r : Round) (j : ℕ) (s : Standing) : Type 0 where
@@ -415,42 +468,25 @@ pub record HasPromised (r : Round) (j : ℕ) (s : Standing) : Type 0 where
   pub store : s.store ≡ promised (r.standings j).store (ballot_in r)
   pub learned : s.learned ≡ (r.standings j).learned
 
--- a vote where none of the ballot was, which completes nothing
-voting_is : (g : Given) (place : Place) (ballot : Ballot) (slot : ℕ) (command : Command) (s : Standing) → is_of_ballot (s.store.votes slot) ballot ≡ false → PassesOver s.learned place.node ballot slot command
-    → voting place ballot slot (command ∷ []) s
-    ≡ Ok (joined (sending (to_others place (frame.Accepted ballot slot (command ∷ []))) (with_stored s (voted s.store slot (record { ballot = ballot; command = command }))))
-    (still (record (with_stored s (voted s.store slot (record { ballot = ballot; command = command }))) { learned = hearing s.learned place.node ballot slot command })))
-voting_is g place ballot slot command s fresh over =
-    votes_one g place ballot slot command s
-    ∙ (ap (λ (k : Command). by_stored k (storing s.store ballot slot command)) (stored_new (s.store.votes slot) ballot command fresh)
-    ∙ (ap (λ (b : Bool). by_stored command (if b then s.store else voted s.store slot (record { ballot = ballot; command = command }))) fresh
-    ∙ ap (behind (sending (to_others place (frame.Accepted ballot slot (command ∷ []))) (with_stored s store))) (counted_is place place.node ballot slot command (with_stored s store) over)))
-  where
-    store : Store
-    store = voted s.store slot (record { ballot = ballot; command = command })
-
-    by_stored : Command → Store → Result Turn Refusal
-    by_stored k st = behind (sending (to_others place (frame.Accepted ballot slot (k ∷ []))) (with_stored s st)) (counting_one place place.node ballot slot k (with_stored s st))
-
 abbrev pub accepted_turn : Round → ℕ → Standing → Turn
 accepted_turn r j s =
-    let x : Standing = idle (seeing (accept_in r) s) in
-    joined (sending (to_others (place_at r j) (accepted_in r)) (with_stored x (voted s.store (slot_in r) (record { ballot = ballot_in r; command = r.command }))))
-    (still (record (with_stored x (voted s.store (slot_in r) (record { ballot = ballot_in r; command = r.command }))) { learned = hearing s.learned j (ballot_in r) (slot_in r) r.command }))
+    let x : Standing = with_stored (idle (seeing (accept_in r) s)) (taking_command_run s.store (ballot_in r) (slot_in r) r.commands) in
+    joined (sending (to_others (place_at r j) (accepted_in r)) x) (still (record x { learned = hearing_run s.learned j (ballot_in r) (slot_in r) r.commands }))
 
+-- it takes all of the commands
 pub accept_turn : (r : Round) → IsRest r → (j : ℕ) (h : In j r.members) (s : Standing) → HasPromised r j s
     → on_message (place_at r j) r.i (accept_in r) s
     ≡ Ok (joined (joined (accepted_turn r j s) (still (accepted_turn r j s).after)) (asking r.i (accept_in r) (accepted_turn r j s).after))
 accept_turn r rest j h s p =
     message_turn (place_at r j) r.i (accept_in r) s (accepted_turn r j s) (still (accepted_turn r j s).after)
-    (ap (λ (b : Bool). if b then Ok (refusing r.i (ballot_in r) (slot_in r) (seeing (accept_in r) s)) else voting (place_at r j) (ballot_in r) (slot_in r) (r.command ∷ []) (idle (seeing (accept_in r) s)))
+    (ap (λ (b : Bool). if b then Ok (refusing r.i (ballot_in r) (slot_in r) (seeing (accept_in r) s)) else voting (place_at r j) (ballot_in r) (slot_in r) r.commands (idle (seeing (accept_in r) s)))
     (ap (λ (st : Store). is_below (ballot_in r) st.promise) p.store ∙ not_below_self (ballot_in r))
-    ∙ voting_is r.given (place_at r j) (ballot_in r) (slot_in r) r.command (idle (seeing (accept_in r) s))
-    (ap (λ (st : Store). is_of_ballot (st.votes (slot_in r)) (ballot_in r)) p.store ∙ unvoted_slot r rest j h (slot_in r))
-    (subst (λ (l : Learned). PassesOver l j (ballot_in r) (slot_in r) r.command) (sym p.learned)
-    (new_vote_passes r.given r.n j (r.standings j).learned (rest.came j h) (ballot_in r) (slot_in r) r.command rest.few (rest.nodes j h) (rest.counts j h)
-    (λ voter v. absurd (rest.unvoted j h voter (slot_in r) r.command v)))))
-    (unled_close r.given (place_at r j) (accepted_turn r j s).after refl)
+    ∙ voting_is (place_at r j) (ballot_in r) (slot_in r) r.commands (idle (seeing (accept_in r) s))
+    (r.given.command_run_whole s.store (ballot_in r) (slot_in r) r.commands (λ m low high. ap (λ (st : Store). is_of_ballot (st.votes m) (ballot_in r)) p.store ∙ unvoted_slot r rest j h m))
+    (subst (λ (l : Learned). PassesOver l j (ballot_in r) (slot_in r) r.commands) (sym p.learned)
+    (new_votes_pass r.given r.n j (r.standings j).learned (rest.came j h) (ballot_in r) (slot_in r) r.commands rest.few (rest.nodes j h) (rest.counts j h)
+    (λ voter k c low high v. absurd (rest.unvoted j h voter k c v)))))
+    (unled_close (place_at r j) (accepted_turn r j s).after refl)
 
 -- ---- an Accepted
 
@@ -462,89 +498,76 @@ pub record IsLeading (r : Round) (voters : List ℕ) (s : Standing) : Type 0 whe
   pub ballot : campaign.ballot ≡ ballot_in r
   pub covers : is_covered campaign.first (slot_in r) ≡ true
   pub marked : is_proposed campaign (slot_in r) ≡ true
-  pub places : length campaign.proposed ≡ WINDOW
-  pub votes : (slot : ℕ) (v : Vote) → s.store.votes slot ≡ Some v → (slot ≡ slot_in r → ⊥) → v.ballot ≡ ballot_in r → ⊥
+  pub sent : List Message
+  pub marks : MarksSent sent campaign
+  pub votes : (k : ℕ) (v : Vote) → s.store.votes k ≡ Some v → (k < slot_in r) ⊎ (slot_in r + length r.commands ≤ k) → v.ballot ≡ ballot_in r → ⊥
   pub log : s.learned.log ≡ (r.standings r.i).learned.log
   pub nodes : s.learned.nodes ≡ r.n
   pub more : List Message
   pub counts : Counts more s.learned
-  pub voted_in : (m : ℕ) → In m voters → In (Accepted m (ballot_in r) (slot_in r) r.command) more
-  pub only : (voter slot : ℕ) (c : Command) → In (Accepted voter (ballot_in r) slot c) more → (slot ≡ slot_in r) × In voter voters
+  pub voted_in : (m : ℕ) → In m voters → Within (answers m (ballot_in r) (slot_in r) r.commands) more
+  pub only : (voter k : ℕ) (c : Command) → In (Accepted voter (ballot_in r) k c) more → (slot_in r ≤ k) × (k < slot_in r + length r.commands) × In voter voters
 
-pub is_ahead : (r : Round) → IsRest r → (l : Learned) → l.log ≡ (r.standings r.i).learned.log → IsOpen l.log (slot_in r)
-is_ahead r rest l e = subst (λ (y : Log). IsOpen y (slot_in r)) (sym e) (record { reached = omega arith; within = omega arith; is_slot = rest.slot_left })
+pub are_ahead : (r : Round) → IsRest r → (l : Learned) → l.log ≡ (r.standings r.i).learned.log → (k : ℕ) → slot_in r ≤ k → k < slot_in r + length r.commands → IsOpen l.log k
+are_ahead r rest l e k low high =
+    subst (λ (y : Log). IsOpen y k) (sym e)
+    (record { reached = low; within = (let most = rest.most in omega (arith, high, most)); is_slot = (let end = rest.slots in omega (arith, high, end)) })
 
-pub unknown : (r : Round) → IsRest r → (l : Learned) → l.log ≡ (r.standings r.i).learned.log → known_at l.log (slot_in r) ≡ None
-unknown r rest l e = ap (λ (y : Log). known_at y (slot_in r)) e ∙ (r.given.hole (r.standings r.i).learned.log (rest.log r.i rest.member)).1
+-- none of the votes is refused, since nothing else is known at their slots
+pub are_taken : (r : Round) → IsRest r → (l : Learned) → l.log ≡ (r.standings r.i).learned.log → (voter : ℕ) → IsOk (answer_to_run l voter (ballot_in r) (slot_in r) r.commands)
+are_taken r rest l e voter =
+    run_ok_if l voter (ballot_in r) (slot_in r) r.commands
+    (all_taken r.given l voter (ballot_in r) (slot_in r) r.commands (subst (λ (y : Log). KnowsOnly y (slot_in r) r.commands) (sym e) rest.known_so))
 
--- the vote isn't refused
-pub not_refused : (l : Learned) (voter : ℕ) (ballot : Ballot) (slot : ℕ) (command : Command) → known_at l.log slot ≡ None → (a : Option Learnt) × (answer_to l voter ballot slot command ≡ Ok a)
-not_refused l voter ballot slot command none = by_tests (is_open l.log slot) (completes l voter ballot slot command) refl refl
-  where
-    open_as : (a b : Bool) → is_open l.log slot ≡ a → completes l voter ballot slot command ≡ b → answer_to l voter ballot slot command
-        ≡ (if not a then Ok None else if not b then Ok None else Ok (Some (record { slot = slot; command = command })))
-    open_as a b ea eb = λ j. if not (ea j) then Ok None else if not (eb j) then Ok None
-        else if is_other (none j) command then Err KnownOther else Ok (Some (record { slot = slot; command = command }))
+-- the votes with those of one node more
+pub more_votes : (r : Round) → IsRest r → (voters : List ℕ) (s : Standing) (p : IsLeading r voters s) (j : ℕ) → j < r.n
+    → GrowsByEach p.more s.learned (hearing_run s.learned j (ballot_in r) (slot_in r) r.commands) j (ballot_in r) (slot_in r) r.commands
+more_votes r rest voters s p j low =
+    votes_grow r.given p.more s.learned j (ballot_in r) (slot_in r) r.commands (subst IsLog (sym p.log) (rest.log r.i rest.member)) (subst (λ (k : ℕ). j < k) (sym p.nodes) low)
+    rest.most (are_taken r rest s.learned p.log j) p.counts
 
-    by_tests : (a b : Bool) → is_open l.log slot ≡ a → completes l voter ballot slot command ≡ b → (x : Option Learnt) × (answer_to l voter ballot slot command ≡ Ok x)
-    by_tests false b ea eb = (None, open_as false b ea eb)
-    by_tests true false ea eb = (None, open_as true false ea eb)
-    by_tests true true ea eb = (Some (record { slot = slot; command = command }), open_as true true ea eb)
-
-pub ok_if : (a : Option Learnt) (x : Result (Option Learnt) SlotFault) → x ≡ Ok a → IsOk x
-ok_if a x e = subst IsOk (sym e) refl
-
--- the votes with one more
-pub more_counts : (r : Round) → IsRest r → (voters : List ℕ) (s : Standing) (p : IsLeading r voters s) (j : ℕ) → j < r.n
-    → Counts (Accepted j (ballot_in r) (slot_in r) r.command ∷ p.more) (hearing s.learned j (ballot_in r) (slot_in r) r.command)
-more_counts r rest voters s p j low =
-    let a = not_refused s.learned j (ballot_in r) (slot_in r) r.command (unknown r rest s.learned p.log) in
-    counts_vote r.given p.more s.learned j (ballot_in r) (slot_in r) r.command (subst IsLog (sym p.log) (rest.log r.i rest.member)) (subst (λ (k : ℕ). j < k) (sym p.nodes) low)
-    (is_ahead r rest s.learned p.log) (ok_if a.0 (answer_to s.learned j (ballot_in r) (slot_in r) r.command) a.1) p.counts
-
-more_only : (r : Round) (voters : List ℕ) (s : Standing) (p : IsLeading r voters s) (j voter slot : ℕ) (c : Command)
-    → In (Accepted voter (ballot_in r) slot c) (Accepted j (ballot_in r) (slot_in r) r.command ∷ p.more) → (slot ≡ slot_in r) × In voter (j ∷ voters)
-more_only r voters s p j voter slot c (inl e) =
-    ((let y : slot ≡ slot_in r = cc in y), inl (let y : voter ≡ j = cc in y))
-more_only r voters s p j voter slot c (inr h) = let o = p.only voter slot c h in (o.0, inr o.1)
+-- a vote of the ballot is of one of these nodes, at one of the slots
+more_only : (r : Round) (came more : List Message) (l new : Learned) (j : ℕ) (grows : GrowsByEach came l new j (ballot_in r) (slot_in r) r.commands) (voters : List ℕ)
+    → ((voter k : ℕ) (c : Command) → In (Accepted voter (ballot_in r) k c) came → (slot_in r ≤ k) × (k < slot_in r + length r.commands) × In voter voters)
+    → (voter k : ℕ) (c : Command) → In (Accepted voter (ballot_in r) k c) grows.grows.more → (slot_in r ≤ k) × (k < slot_in r + length r.commands) × In voter (j ∷ voters)
+more_only r came more l new j grows voters only voter k c h = elim (grows.only (Accepted voter (ballot_in r) k c) h) [
+  | inl one ↦ (let at = (r.given.in_answers j voter (ballot_in r) (ballot_in r) (slot_in r) k c r.commands).0 one in (at.2, at.3, inl at.0))
+  | inr old ↦ (let o = only voter k c old in (o.0, o.1, inr o.2))
+]
 
 abbrev pub with_heard_vote : (r : Round) (s : Standing) → ℕ → Standing
-with_heard_vote r s j = record (seeing (accepted_in r) s) { learned = hearing s.learned j (ballot_in r) (slot_in r) r.command }
+with_heard_vote r s j = record (seeing (accepted_in r) s) { learned = hearing_run s.learned j (ballot_in r) (slot_in r) r.commands }
 
 -- too few votes complete nothing
 too_few : (r : Round) → IsRest r → (voters : List ℕ) (s : Standing) (p : IsLeading r voters s) (j : ℕ) → AreDistinct r.n (j ∷ voters) → 2 * length (j ∷ voters) ≤ r.n
-    → PassesOver s.learned j (ballot_in r) (slot_in r) r.command
-too_few r rest voters s p j distinct less = passes_over s.learned j (ballot_in r) (slot_in r) r.command not_done
+    → PassesOver s.learned j (ballot_in r) (slot_in r) r.commands
+too_few r rest voters s p j distinct less =
+    passes_over r.given s.learned p.more j (ballot_in r) (slot_in r) r.commands (let counts = p.counts in counts.counts_from) (λ k c low high chosen. few_chosen k c (subst (λ (n : ℕ). IsChosenIn n (Accepted j (ballot_in r) k c ∷ p.more) (ballot_in r) k c) p.nodes chosen))
   where
-    m : Message
-    m = Accepted j (ballot_in r) (slot_in r) r.command
+    among : (k : ℕ) (c : Command) (voter : ℕ) → In (Accepted voter (ballot_in r) k c) (Accepted j (ballot_in r) k c ∷ p.more) → In voter (j ∷ voters)
+    among k c voter (inl e) = inl (let same : voter ≡ j = cc in same)
+    among k c voter (inr h) = inr (p.only voter k c h).2
 
-    not_done : is_open s.learned.log (slot_in r) ≡ true → completes s.learned j (ballot_in r) (slot_in r) r.command ≡ true → ⊥
-    not_done ahead done =
-        let chosen : IsChosenIn s.learned.nodes (Accepted j (ballot_in r) (slot_in r) r.command ∷ p.more) (ballot_in r) (slot_in r) r.command =
-        r.given.completed (m ∷ p.more) s.learned j (ballot_in r) (slot_in r) r.command (r.given.more p.more s.learned m p.counts.counts_from) (inl refl) (open_means s.learned.log (slot_in r) ahead) done in
-        let chosen_n : IsChosenIn r.n (Accepted j (ballot_in r) (slot_in r) r.command ∷ p.more) (ballot_in r) (slot_in r) r.command =
-        subst (λ (k : ℕ). IsChosenIn k (Accepted j (ballot_in r) (slot_in r) r.command ∷ p.more) (ballot_in r) (slot_in r) r.command) p.nodes chosen in
-        let l = count_within chosen_n.0 (is_in (j ∷ voters)) r.n (λ k below is. in_is (j ∷ voters) k (more_only r voters s p j k (slot_in r) r.command (chosen_n.2 k below is)).1) in
-        let e = count_list r.n (j ∷ voters) distinct in
-        let q = chosen_n.1 in omega (arith, l, e, q)
+    few_chosen : (k : ℕ) (c : Command) → IsChosenIn r.n (Accepted j (ballot_in r) k c ∷ p.more) (ballot_in r) k c → ⊥
+    few_chosen k c (quorum, most, votes) =
+        let l = count_within quorum (is_in (j ∷ voters)) r.n (λ m below is. in_is (j ∷ voters) m (among k c m (votes m below is))) in
+        let e = count_list r.n (j ∷ voters) distinct in omega (arith, l, e, most)
 
 pub accepted_goes : (r : Round) → IsRest r → (voters : List ℕ) (s : Standing) (p : IsLeading r voters s) (j : ℕ) → AreDistinct r.n (j ∷ voters) → 2 * length (j ∷ voters) ≤ r.n
     → on_message (place_at r r.i) j (accepted_in r) s
     ≡ Ok (joined (joined (still (with_heard_vote r s j)) (still (with_heard_vote r s j))) (asking j (accepted_in r) (with_heard_vote r s j)))
 accepted_goes r rest voters s p j distinct less =
     message_turn (place_at r r.i) j (accepted_in r) s (still (with_heard_vote r s j)) (still (with_heard_vote r s j))
-    (counts_one r.given (place_at r r.i) j (ballot_in r) (slot_in r) r.command (seeing (accepted_in r) s)
-    ∙ counted_is (place_at r r.i) j (ballot_in r) (slot_in r) r.command (seeing (accepted_in r) s) over)
-    (quiet_close r.given (place_at r r.i) (with_heard_vote r s j) (ap (λ (l : Log). nat_le SLOTS (front l)) same ∙ room_left r rest)
-    (ap (λ (y : Option Campaign). proposal_from r.n y (front_of (with_heard_vote r s j)) (own_value (place_at r r.i) (with_heard_vote r s j))) p.has
-    ∙ (ap (λ (l : Log). proposal_by r.n p.campaign (front l) (own_value (place_at r r.i) (with_heard_vote r s j))) same
+    (counted_is (place_at r r.i) j (ballot_in r) (slot_in r) r.commands (seeing (accepted_in r) s) over)
+    (quiet_close (place_at r r.i) (with_heard_vote r s j) (ap (λ (l : Log). nat_le SLOTS (front l)) same ∙ room_left r rest)
+    (ap (λ (y : Option Campaign). run_from_campaign r.n y (front_of (with_heard_vote r s j)) (own_value (place_at r r.i) (with_heard_vote r s j))) p.has
+    ∙ (ap (λ (l : Log). run_by r.n p.campaign (front l) (own_value (place_at r r.i) (with_heard_vote r s j))) same
     ∙ marked_none r.n p.campaign (slot_in r) (own_value (place_at r r.i) (with_heard_vote r s j)) p.covers p.marked)))
   where
-    over : PassesOver s.learned j (ballot_in r) (slot_in r) r.command
+    over : PassesOver s.learned j (ballot_in r) (slot_in r) r.commands
     over = too_few r rest voters s p j distinct less
 
-    same : (hearing s.learned j (ballot_in r) (slot_in r) r.command).log ≡ (r.standings r.i).learned.log
+    same : (hearing_run s.learned j (ballot_in r) (slot_in r) r.commands).log ≡ (r.standings r.i).learned.log
     same = over.log ∙ p.log
 
 pub leading_more : (r : Round) → IsRest r → (voters : List ℕ) (s : Standing) (p : IsLeading r voters s) (j : ℕ) → AreDistinct r.n (j ∷ voters) → 2 * length (j ∷ voters) ≤ r.n
@@ -556,96 +579,44 @@ leading_more r rest voters s p j distinct less = record {
   ballot = p.ballot;
   covers = p.covers;
   marked = p.marked;
-  places = p.places;
+  sent = p.sent;
+  marks = p.marks;
   votes = p.votes;
   log = (too_few r rest voters s p j distinct less).log ∙ p.log;
-  nodes = (r.given.nodes_stay s.learned j (ballot_in r) (slot_in r) r.command).0 ∙ p.nodes;
-  more = Accepted j (ballot_in r) (slot_in r) r.command ∷ p.more;
-  counts = more_counts r rest voters s p j distinct.0;
-  voted_in = λ m h. elim h [
-    | inl e ↦ inl (ap (λ (k : ℕ). Accepted k (ballot_in r) (slot_in r) r.command) e)
-    | inr before ↦ inr (p.voted_in m before)
-  ];
-  only = λ voter slot c h. more_only r voters s p j voter slot c h;
+  nodes = r.given.run_nodes s.learned j (ballot_in r) (slot_in r) r.commands ∙ p.nodes;
+  more = grows.grows.more;
+  counts = grows.grows.counts;
+  voted_in = λ m h o inside. voted m h o inside;
+  only = more_only r p.more grows.grows.more s.learned (hearing_run s.learned j (ballot_in r) (slot_in r) r.commands) j grows voters p.only;
 }
+  where
+    grows : GrowsByEach p.more s.learned (hearing_run s.learned j (ballot_in r) (slot_in r) r.commands) j (ballot_in r) (slot_in r) r.commands
+    grows = more_votes r rest voters s p j distinct.0
+
+    voted : (m : ℕ) → In m (j ∷ voters) → Within (answers m (ballot_in r) (slot_in r) r.commands) grows.grows.more
+    voted m (inl e) = subst (λ (k : ℕ). Within (answers k (ballot_in r) (slot_in r) r.commands) grows.grows.more) (sym e)
+        (answers_had r.given p.more s.learned (hearing_run s.learned j (ballot_in r) (slot_in r) r.commands) j (ballot_in r) (slot_in r) r.commands grows (are_ahead r rest s.learned p.log))
+    voted m (inr before) = λ o inside. grows.grows.kept o (p.voted_in m before o inside)
 
 -- ---- the vote that completes
 
-gt_if : (a b : ℕ) → a ≤ b → (b ≡ a → ⊥) → a < b
-gt_if a b l ne = by_test (nat_lt a b) refl
-  where
-    by_test : (t : Bool) → nat_lt a b ≡ t → a < b
-    by_test true e = ltb-true a b e
-    by_test false e = let k = ltb-false a b e in absurd (ne (omega arith))
-
 -- what is known once it is heard
 pub record HasLearned (r : Round) (l : Learned) : Type 0 where
-  pub known : known_at l.log (slot_in r) ≡ Some r.command
-  pub passed : slot_in r < front l.log
-
-heard_log : (g : Given) (l : Learned) (voter : ℕ) (ballot : Ballot) (slot : ℕ) (command : Command) → is_open l.log slot ≡ true → known_at l.log slot ≡ None
-    → ((hearing l voter ballot slot command).log ≡ l.log) ⊎ ((hearing l voter ballot slot command).log ≡ with_command l.log slot command)
-heard_log g l voter ballot slot command ahead none = by_test (completes l voter ballot slot command) refl
-  where
-    by_test : (b : Bool) → completes l voter ballot slot command ≡ b
-        → ((hearing l voter ballot slot command).log ≡ l.log) ⊎ ((hearing l voter ballot slot command).log ≡ with_command l.log slot command)
-    by_test false e = inl (λ j. (let k : Learned = if not (ahead j) then l else if not (e j) then counting l voter ballot slot command
-        else if is_other (known_at l.log slot) command then l else knowing (counting l voter ballot slot command) slot command in k.log))
-    by_test true e = inr (
-        (λ j. (let k : Learned = if not (ahead j) then l else if not (e j) then counting l voter ballot slot command
-        else if is_other (none j) command then l else knowing (counting l voter ballot slot command) slot command in k.log))
-        ∙ (λ j. if is_none (none j) then with_command l.log slot command else l.log)
-        )
+  pub passed : slot_in r + length r.commands ≤ front l.log
+  pub known : AreKnown l.log (slot_in r) r.commands
 
 pub has_learned : (r : Round) → IsRest r → (voters : List ℕ) (s : Standing) (p : IsLeading r voters s) (j : ℕ) → j < r.n → ((m : ℕ) → In m r.members → In m (j ∷ voters))
-    → HasLearned r (hearing s.learned j (ballot_in r) (slot_in r) r.command)
-has_learned r rest voters s p j low all = by_log (heard_log r.given s.learned j (ballot_in r) (slot_in r) r.command opened (unknown r rest s.learned p.log))
-  where
-    new : Learned
-    new = hearing s.learned j (ballot_in r) (slot_in r) r.command
-
-    opened : is_open s.learned.log (slot_in r) ≡ true
-    opened = let o = is_ahead r rest s.learned p.log in
-        (λ k. if le-ltb (slot_in r) (front s.learned.log) o.reached k then false
-        else if lt-ltb (slot_in r) (front s.learned.log + WINDOW) o.within k then lt-ltb (slot_in r) SLOTS o.is_slot k
-        else false)
-
-    vote_of : (m : ℕ) → In m (j ∷ voters) → In (Accepted m (ballot_in r) (slot_in r) r.command) (Accepted j (ballot_in r) (slot_in r) r.command ∷ p.more)
-    vote_of m (inl e) = inl (ap (λ (k : ℕ). Accepted k (ballot_in r) (slot_in r) r.command) e)
-    vote_of m (inr h) = inr (p.voted_in m h)
-
-    known : known_at (hearing s.learned j (ballot_in r) (slot_in r) r.command).log (slot_in r) ≡ Some r.command
-    known = (more_counts r rest voters s p j low).knows_chosen (ballot_in r) (slot_in r) r.command
-        (subst (λ (k : ℕ). IsChosenIn k (Accepted j (ballot_in r) (slot_in r) r.command ∷ p.more) (ballot_in r) (slot_in r) r.command)
-        (sym ((r.given.nodes_stay s.learned j (ballot_in r) (slot_in r) r.command).0 ∙ p.nodes)) (
-          is_in r.members,
-          (let e = count_list r.n r.members (rise_distinct 0 r.n r.members rest.quorum.rise) in let q = rest.quorum.most in omega (arith, e, q)),
-          λ m below is. vote_of m (all m (is_in_in r.members m is)),
-        ))
-
-    by_log : ((hearing s.learned j (ballot_in r) (slot_in r) r.command).log ≡ s.learned.log) ⊎ ((hearing s.learned j (ballot_in r) (slot_in r) r.command).log ≡ with_command s.learned.log (slot_in r) r.command)
-        → HasLearned r (hearing s.learned j (ballot_in r) (slot_in r) r.command)
-    by_log (inl same) = let clash : ◌≡◌ {A = Option Command} None (Some r.command) = sym (unknown r rest s.learned p.log) ∙ (ap (λ (y : Log). known_at y (slot_in r)) (sym same) ∙ known) in absurd (cc)
-    by_log (inr more_known) = record {
-      known = known;
-      passed = gt_if (slot_in r) (front new.log) at_least (λ e. clash_at e);
-    }
-      where
-        is_log : IsLog (hearing s.learned j (ballot_in r) (slot_in r) r.command).log
-        is_log = subst IsLog (sym more_known) (r.given.one_more s.learned.log (slot_in r) r.command (subst IsLog (sym p.log) (rest.log r.i rest.member)) rest.slot_left (unknown r rest s.learned p.log)).0
-
-        on : (later : List Command) × ((with_command s.learned.log (slot_in r) r.command).below ≡ later ++ s.learned.log.below)
-        on = r.given.goes_on s.learned.log (slot_in r) r.command
-
-        at_least : slot_in r ≤ front (hearing s.learned j (ballot_in r) (slot_in r) r.command).log
-        at_least =
-            let a = ap (λ (y : Log). front y) more_known in
-            let b = ap (λ (y : List Command). length y) on.1 ∙ length-append on.0 s.learned.log.below in
-            let c = ap (λ (y : Log). front y) p.log in omega (arith, a, b, c)
-
-        clash_at : front (hearing s.learned j (ballot_in r) (slot_in r) r.command).log ≡ slot_in r → ⊥
-        clash_at e =
-            let clash : ◌≡◌ {A = Option Command} None (Some r.command) = sym (r.given.hole new.log is_log).1 ∙ (ap (known_at new.log) e ∙ known) in cc
+    → HasLearned r (hearing_run s.learned j (ballot_in r) (slot_in r) r.commands)
+has_learned r rest voters s p j low all =
+    subst (HasLearned r) (sym (heard_run s.learned j (ballot_in r) (slot_in r) r.commands (are_taken r rest s.learned p.log j)))
+    (let heard = all_heard r.given r.n r.members rest.quorum j (ballot_in r) (slot_in r) r.commands s.learned p.more low rest.slots (record {
+      log = subst IsLog (sym p.log) (rest.log r.i rest.member);
+      nodes = p.nodes;
+      counts = p.counts;
+      only = subst (λ (y : Log). KnowsOnly y (slot_in r) r.commands) (sym p.log) rest.known_so;
+      passed = (let same = ap (λ (y : Log). front y) p.log in omega (arith, same));
+    }) (λ m h. elim (all m h) [ inl e ↦ inl e | inr before ↦ inr (p.voted_in m before) ]) in
+    record { passed = heard.0; known = heard.1 })
 
 -- the turn, which may propose further on
 pub record LastTurn (r : Round) (s : Standing) (j : ℕ) : Type 0 where
@@ -657,40 +628,50 @@ pub last_turn : (r : Round) → IsRest r → (voters : List ℕ) (s : Standing) 
 last_turn r rest voters s p j low all = record {
   turn = joined (joined t c.turn) (asking j (accepted_in r) c.turn.after);
   goes = message_turn (place_at r r.i) j (accepted_in r) s t c.turn
-      (counts_one r.given (place_at r r.i) j (ballot_in r) (slot_in r) r.command (seeing (accepted_in r) s)
-      ∙ ap (λ (x : Result (Option Learnt) SlotFault). learning (place_at r r.i) x new (seeing (accepted_in r) s)) (not_refused s.learned j (ballot_in r) (slot_in r) r.command (unknown r rest s.learned p.log)).1)
+      (learning_ok (place_at r r.i) (answer_to_run s.learned j (ballot_in r) (slot_in r) r.commands) new (seeing (accepted_in r) s) (are_taken r rest s.learned p.log j))
       c.closes_so;
   learned = subst (λ (y : Standing). HasLearned r y.learned) (sym (asked_same j (accepted_in r) c.turn.after)) (record {
-    known = ap (λ (y : Log). known_at y (slot_in r)) c.same_log ∙ l.known;
-    passed = subst (λ (y : Log). slot_in r < front y) (sym c.same_log) l.passed;
+    passed = subst (λ (y : Log). slot_in r + length r.commands ≤ front y) (sym c.same_log) l.passed;
+    known = subst (λ (y : Log). AreKnown y (slot_in r) r.commands) (sym c.same_log) l.known;
   });
 }
   where
     new : Learned
-    new = hearing s.learned j (ballot_in r) (slot_in r) r.command
+    new = hearing_run s.learned j (ballot_in r) (slot_in r) r.commands
 
     t : Turn
-    t = applying (place_at r r.i) (hearing s.learned j (ballot_in r) (slot_in r) r.command) (seeing (accepted_in r) s)
+    t = applying (place_at r r.i) (hearing_run s.learned j (ballot_in r) (slot_in r) r.commands) (seeing (accepted_in r) s)
 
-    l : HasLearned r (hearing s.learned j (ballot_in r) (slot_in r) r.command)
+    l : HasLearned r (hearing_run s.learned j (ballot_in r) (slot_in r) r.commands)
     l = has_learned r rest voters s p j low all
 
-    v : Standing
-    v = t.after
+    grows : GrowsByEach p.more s.learned (hearing_run s.learned j (ballot_in r) (slot_in r) r.commands) j (ballot_in r) (slot_in r) r.commands
+    grows = more_votes r rest voters s p j low
 
-    fresh_if : (made : Made) → proposal_by r.n p.campaign (front new.log) (own_value (place_at r r.i) t.after) ≡ Ok (Some made) → Fresh (place_at r r.i) t.after p.campaign made
-    fresh_if made e =
-        let is = proposal_is r.n p.campaign (front new.log) (own_value (place_at r r.i) t.after) made e in
-        let other : made.slot ≡ slot_in r → ⊥ = λ same. let k = l.passed in let a = is.slot in absurd (omega (arith, k, a, same)) in
-        record {
-          proposal = is;
-          unvoted = none_of_ballot (s.store.votes made.slot) made.ballot (λ w ew same. p.votes made.slot w ew other (same ∙ (is.ballot ∙ p.ballot)));
-          places = p.places;
-          over = new_vote_passes r.given r.n r.i new (Accepted j (ballot_in r) (slot_in r) r.command ∷ p.more) made.ballot made.slot made.command rest.few
-              ((r.given.nodes_stay s.learned j (ballot_in r) (slot_in r) r.command).0 ∙ p.nodes) (more_counts r rest voters s p j low)
-              (λ voter h. absurd (other (more_only r voters s p j voter made.slot made.command
-              (subst (λ (b : Ballot). In (Accepted voter b made.slot made.command) (Accepted j (ballot_in r) (slot_in r) r.command ∷ p.more)) (is.ballot ∙ p.ballot) h)).0));
-        }
+    fresh_if : (made : AcceptRun) → run_by r.n p.campaign (front new.log) (own_value (place_at r r.i) t.after) ≡ Ok (Some made) → Fresh (place_at r r.i) t.after p.campaign made
+    fresh_if made e = record {
+      quorum = tests.leads;
+      covered = covered p.campaign.first (front new.log) tests.low tests.high;
+      marked = marked_at r.given r.n p.sent p.campaign (front new.log) (own_value (place_at r r.i) t.after) made p.marks e tests.ballot (front new.log)
+          (let at = tests.begins in omega (arith, at)) (let at = tests.begins in let some = tests.least in omega (arith, at, some));
+      whole = r.given.command_run_whole s.store made.ballot made.slot made.commands
+          (λ k low high. none_of_ballot (s.store.votes k) made.ballot (λ w ew same. p.votes k w ew (inr (beyond k low)) (same ∙ (tests.ballot ∙ p.ballot))));
+      over = new_votes_pass r.given r.n r.i new grows.grows.more made.ballot made.slot made.commands rest.few (r.given.run_nodes s.learned j (ballot_in r) (slot_in r) r.commands ∙ p.nodes) grows.grows.counts
+          (λ voter k d low high h. absurd (inside voter k d low
+          (subst (λ (b : Ballot). In (Accepted voter b k d) grows.grows.more) (tests.ballot ∙ p.ballot) h)));
+    }
+      where
+        tests : PassedRun r.n p.campaign (front new.log) (own_value (place_at r r.i) t.after) made
+        tests = passed_run r.n p.campaign (front new.log) (own_value (place_at r r.i) t.after) made e
+
+        beyond : (k : ℕ) → made.slot ≤ k → slot_in r + length r.commands ≤ k
+        beyond k low = let at = tests.begins in let passed = l.passed in omega (arith, at, passed, low)
+
+        inside : (voter k : ℕ) (d : Command) → made.slot ≤ k → In (Accepted voter (ballot_in r) k d) grows.grows.more → ⊥
+        inside voter k d low h =
+            let o = more_only r p.more grows.grows.more s.learned (hearing_run s.learned j (ballot_in r) (slot_in r) r.commands) j grows voters p.only voter k d h in
+            let far = beyond k low in
+            let near = o.1 in omega (arith, far, near)
 
     c : ClosesSo (place_at r r.i) t.after
-    c = total_close r.given (place_at r r.i) t.after p.campaign p.has fresh_if
+    c = total_close (place_at r r.i) t.after p.campaign p.has fresh_if

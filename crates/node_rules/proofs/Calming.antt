@@ -1,10 +1,11 @@
 -- A cluster at rest in the world: what its members' standings are.
-use Rattle.std.proofs.Common.{◌≡◌, ℕ, ◌<◌, ◌-◌, ◌^◌, ◌||◌, ◌==◌, inl, inr, Bool, true, false, List, [], ◌∷◌, Option, refl, sym, ap, subst, ◌∙◌, arith, length}
+use Rattle.std.proofs.Common.{◌≡◌, ℕ, ◌+◌, ◌<◌, ◌≤◌, ◌-◌, ◌^◌, ◌||◌, ◌==◌, inl, inr, Bool, true, false, List, [], ◌∷◌, Option, Some, None, refl, sym, ap, subst, ◌∙◌, arith, length}
 use Rattle.std.specs.Prelude.{nat_le}
 use Rattle.std.proofs.lemmas.Bool.{eqb-true, leb-true}
-use Rattle.paxos_wire.specs.declared.limits.TheConstants.{SLOTS}
+use Rattle.paxos_wire.specs.declared.limits.TheConstants.{SLOTS, WINDOW}
 use Rattle.paxos_wire.specs.declared.ballot.Ballot.{Ballot}
 use Rattle.paxos_wire.specs.declared.entry.Entry.{Entry}
+use Rattle.slot_log.specs.Slots.{known_at}
 use Rattle.slot_log.specs.declared.command.Command.{Command}
 use Rattle.protocol_model.specs.Sets.{In}
 use Rattle.protocol_model.specs.Ballots.{Below}
@@ -20,8 +21,8 @@ use Rattle.node_rules.specs.Standings.{Standing, applied, front_of}
 use Rattle.protocol_model.specs.Votes.{told_by}
 use Rattle.node_rules.specs.Proposing.{greatest_seen, is_spent}
 use Rattle.node_rules.specs.Being.{Knows}
-use Rattle.node_rules.specs.Calm.{Calm, IsOwn, ballot_after, round}
-use Rattle.node_rules.specs.CalmRound.{place_in, GoOn, HasMovedOn, AreOf, CalmRoundMoves}
+use Rattle.node_rules.specs.Calm.{IsLeastQuorum, AreGreatestHeld, Calm, ballot_after}
+use Rattle.node_rules.specs.CalmRound.{place_in, AreOf, CalmRoundMoves}
 use Rattle.node_rules.specs.Given.{Given}
 use Rattle.protocol_model.proofs.Sets.{in_later}
 use Rattle.node_rules.proofs.Sourcing.{had_was_sent}
@@ -29,6 +30,8 @@ use Rattle.protocol_model.proofs.Ballots.{not_below}
 use Rattle.protocol_model.proofs.Votes.{tells}
 use Rattle.node_rules.proofs.Agreeing.{votes_agree}
 use Rattle.node_rules.proofs.Members.{above_all}
+use Rattle.node_rules.proofs.HeldKnown.{held_is_known}
+use Rattle.node_rules.proofs.RunHeard.{KnowsOnly}
 use Rattle.node_rules.proofs.CalmTurns.{IsRest}
 use Rattle.node_rules.proofs.CalmRound.{rounds_go_on}
 
@@ -87,13 +90,36 @@ unspent i s round_left slot_left =
     (λ e. let k = eqb-true (greatest_seen s).round (2 ^ 32 - 1) e in omega (arith, k))
     (λ e. let k = leb-true SLOTS (front_of s) e in omega arith)
 
-first_is : (a b : Command) → a ∷ [] ≡ b ∷ [] → a ≡ b
-first_is a b e = cc
+-- how many commands a round has
+record HasMany (standings : ℕ → Standing) (i : ℕ) (commands : List Command) : Type 0 where
+  pub least : 1 ≤ length commands
+  pub most : length commands ≤ WINDOW
+  pub slots : front_of (standings i) + length commands ≤ SLOTS
 
-pub rest_of : (g : Given) (own : ℕ → Command → Bool) (setting : Setting) (n : ℕ) (deals : ℕ → ℕ → Option (List ℕ)) (world : World) (standings : ℕ → Standing) (i : ℕ) (members : List ℕ) (command : Command)
-    → AreOf own setting n deals world standings members → Calm (place_in setting n deals i) standings i members (command ∷ [])
-    → IsRest (record { given = g; setting = setting; n = n; deals = deals; standings = standings; i = i; members = members; command = command })
-rest_of g own setting n deals world standings i members command are calm = record {
+many_of : (setting : Setting) (n : ℕ) (deals : ℕ → ℕ → Option (List ℕ)) (standings : ℕ → Standing) (i : ℕ) (members : List ℕ) (commands : List Command)
+    → Calm (place_in setting n deals i) standings i members commands → HasMany standings i commands
+many_of setting n deals standings i members commands calm = elim calm.value [
+  | inl told ↦ record { least = told.least; most = told.most; slots = told.slots }
+  | inr mine ↦ (
+      let one : length commands ≡ 1 = ap (λ (cs : List Command). length cs) mine.1 in
+      let left = calm.slot_left in
+      record { least = omega (arith, one); most = omega (arith, one); slots = omega (arith, one, left) })
+]
+
+-- where the node knows a command at a slot, it is what a quorum holds highest there
+known_held : (g : Given) (own : ℕ → Command → Bool) (setting : Setting) (n : ℕ) (deals : ℕ → ℕ → Option (List ℕ)) (world : World) (standings : ℕ → Standing) (i : ℕ) (members : List ℕ)
+    → AreOf own setting n deals world standings members → IsLeastQuorum n members → ((slot : ℕ) (known : Command) → known_at (standings i).learned.log slot ≡ Some known → In (slot, known) (world.nodes i).known)
+    → (slot : ℕ) (commands : List Command) → AreGreatestHeld standings members slot commands → KnowsOnly (standings i).learned.log slot commands
+known_held g own setting n deals world standings i members are quorum knows slot [] held = tt
+known_held g own setting n deals world standings i members are quorum knows slot (command ∷ later) held = (
+  (λ known e. sym (held_is_known g own setting n deals world standings members slot i command known are quorum held.0 (knows slot known e))),
+  known_held g own setting n deals world standings i members are quorum knows (slot + 1) later held.1,
+)
+
+pub rest_of : (g : Given) (own : ℕ → Command → Bool) (setting : Setting) (n : ℕ) (deals : ℕ → ℕ → Option (List ℕ)) (world : World) (standings : ℕ → Standing) (i : ℕ) (members : List ℕ) (commands : List Command)
+    → AreOf own setting n deals world standings members → Calm (place_in setting n deals i) standings i members commands
+    → IsRest (record { given = g; setting = setting; n = n; deals = deals; standings = standings; i = i; members = members; commands = commands })
+rest_of g own setting n deals world standings i members commands are calm = record {
   few = (are.is_place i calm.member).few;
   low = λ k h. (above_all 0 n members k calm.quorum.rise h).1;
   quorum = calm.quorum;
@@ -104,11 +130,16 @@ rest_of g own setting n deals world standings i members command are calm = recor
   not_over = calm.goes_on;
   not_spent = unspent i (standings i) calm.round_left calm.slot_left;
   within = λ k h. subst IsWithinPromise (are.of k h).store (knows k h).within;
-  agree = λ m k hm hk v w ev ew same. votes_agree g dealer n world m k (front_of (standings i)) v w are.reached
-      (ap (λ (st : Store). st.votes (front_of (standings i))) (are.of m hm).store ∙ ev) (ap (λ (st : Store). st.votes (front_of (standings i))) (are.of k hk).store ∙ ew) same;
-  value = elim calm.value [
-    | inl told ↦ inl told.held.0
-    | inr own_one ↦ inr (subst (IsOwn (place_in setting n deals i) (standings i) standings members (front_of (standings i))) (sym (first_is command own_one.0 own_one.1)) own_one.2)
+  agree = λ slot m k hm hk v w ev ew same. votes_agree g dealer n world m k slot v w are.reached
+      (ap (λ (st : Store). st.votes slot) (are.of m hm).store ∙ ev) (ap (λ (st : Store). st.votes slot) (are.of k hk).store ∙ ew) same;
+  least = many.least;
+  most = many.most;
+  slots = many.slots;
+  value = calm.value;
+  known_so = elim calm.value [
+    | inl told ↦ known_held g own setting n deals world standings i members are calm.quorum (λ slot known e. let l = (knows i calm.member).learner in l.knows slot known e) (front_of (standings i)) commands told.held
+    | inr mine ↦ subst (λ (cs : List Command). KnowsOnly (standings i).learned.log (front_of (standings i)) cs) (sym mine.1)
+        ((λ known e. absurd (let clash : ◌≡◌ {A = Option Command} None (Some known) = sym (g.hole (standings i).learned.log (let l = (knows i calm.member).learner in l.log)).1 ∙ e in cc)), tt)
   ];
   came = λ k h. (knows k h).learner.in_time;
   nodes = λ k h. (knows k h).learner.nodes;
@@ -125,21 +156,14 @@ rest_of g own setting n deals world standings i members command are calm = recor
     dealer : Dealer
     dealer = dealer_of setting own
 
+    many : HasMany standings i commands
+    many = many_of setting n deals standings i members commands calm
+
     knows : (k : ℕ) (h : In k members) → Knows (dealer_of setting own) (place_in setting n deals k) (applied (standings k)) (standings k) (world.nodes k)
     knows k h = ((are.of k h).runs (calm.up k h)).knows
-
--- as yet one command is told, as the own one is one
-one_of : (commands : List Command) → length commands ≡ 1 → (command : Command) × (commands ≡ command ∷ [])
-one_of [] e = absurd (omega (arith, e))
-one_of (command ∷ []) e = (command, refl)
-one_of (command ∷ (next ∷ later)) e = absurd (omega (arith, e))
 
 -- a cluster at rest moves
 pub calm_round_moves : Given → CalmRoundMoves
 calm_round_moves g own setting n deals world standings i members commands are calm =
-    subst (λ (cs : List Command). GoOn (place_in setting n deals) (HasMovedOn i (front_of (standings i)) cs) standings [] (round standings i members cs)) (sym one.1)
-    (rounds_go_on (record { given = g; setting = setting; n = n; deals = deals; standings = standings; i = i; members = members; command = one.0 })
-    (rest_of g own setting n deals world standings i members one.0 are (subst (Calm (place_in setting n deals i) standings i members) one.1 calm)))
-  where
-    one : (command : Command) × (commands ≡ command ∷ [])
-    one = elim calm.value [ inl told ↦ one_of commands told.one | inr own_one ↦ (own_one.0, own_one.1) ]
+    rounds_go_on (record { given = g; setting = setting; n = n; deals = deals; standings = standings; i = i; members = members; commands = commands })
+    (rest_of g own setting n deals world standings i members commands are calm)

@@ -1,9 +1,7 @@
 -- Frames carry what is sent.
 use Rattle.std.proofs.Common.{◌≡◌, ◌≢◌, ℕ, zero, suc, ◌<◌, ◌≤◌, ◌⊎◌, inl, inr, Bool, true, false, ◌==◌, if◌then◌else◌, List, [], ◌∷◌, ◌++◌, refl, sym, ap, subst, ◌∙◌, arith}
 use Rattle.std.proofs.lemmas.Bool.{eqb-true, eqb-false}
-use Rattle.paxos_wire.specs.declared.ballot.Ballot.{Ballot}
 use Rattle.paxos_wire.specs.declared.message.Message.{Message as Wire}
-use Rattle.slot_log.specs.declared.command.Command.{Command}
 use Rattle.protocol_model.specs.Sets.{In}
 use Rattle.protocol_model.specs.Messages.{Message, Prepare, Promise, Refuse, Accept, Accepted, Chosen, Ask, Forward, Said, sender_of}
 use Rattle.protocol_model.specs.Frames.{carried}
@@ -37,7 +35,7 @@ said_to_first i fs gs to m h = (h.0, in_first fs gs h.0 h.1, h.2, h.3)
 said_to_later : (i : ℕ) (fs gs : List Frame) (to : ℕ) (m : Message) → IsSaidTo i gs to m → IsSaidTo i (fs ++ gs) to m
 said_to_later i fs gs to m h = (h.0, in_later fs gs h.0 h.1, h.2, h.3)
 
-said_split : (i : ℕ) (fs gs : List Frame) (m : Message) → IsSaid i (fs ++ gs) m → IsSaid i fs m ⊎ IsSaid i gs m
+pub said_split : (i : ℕ) (fs gs : List Frame) (m : Message) → IsSaid i (fs ++ gs) m → IsSaid i fs m ⊎ IsSaid i gs m
 said_split i fs gs m h = elim (in_split fs gs h.1.0 h.1.1) [ inl a ↦ inl (h.0, (h.1.0, a, h.1.2, h.1.3)) | inr b ↦ inr (h.0, (h.1.0, b, h.1.2, h.1.3)) ]
 
 -- ---- frames behind others, and what was sent after it
@@ -192,52 +190,3 @@ others_all n i w m three e = record {
   covers = λ o h. inr (subst (λ (x : Message). IsSaid i (to_first n i w) x) (sym (only_in o m h)) (said_by_others n i w m three e));
   to_all = λ o h all to below other. subst (λ (x : Message). IsSaidTo i (to_first n i w) to x) (sym (only_in o m h)) (says_to n i to w m e below other);
 }
-
--- ---- a proposal and the vote for it
-
-pub proposal_carry : (n i : ℕ) (u v : Wire) (ballot : Ballot) (slot : ℕ) (command : Command) → 3 ≤ n → carried i u ≡ Accept ballot slot command ∷ []
-    → carried i v ≡ Accepted i ballot slot command ∷ [] → ballot.node ≡ i
-    → Carry n i (to_first n i u ++ to_first n i v) (Accepted i ballot slot command ∷ Accept ballot slot command ∷ [])
-proposal_carry n i u v ballot slot command three eu ev own = record {
-  others = λ f h. elim (in_split (to_first n i u) (to_first n i v) f h) [
-    | inl x ↦ (let t = in_to n n i u f (omega arith) x in (t.0, t.1))
-    | inr x ↦ (let t = in_to n n i v f (omega arith) x in (t.0, t.1))
-  ];
-  said = λ o h. elim (said_split i (to_first n i u) (to_first n i v) o h) [
-    | inl x ↦ inr (inl (others_said n i u (Accept ballot slot command) o eu x))
-    | inr x ↦ inl (others_said n i v (Accepted i ballot slot command) o ev x)
-  ];
-  own = λ o h. own_of o h;
-  accepted = λ s b k c h. accepted_of s b k c h;
-  accepts = λ b k c h. accepts_of b k c h;
-}
-  where
-    vote : IsSaid i (to_first n i u ++ to_first n i v) (Accepted i ballot slot command)
-    vote = said_later i (to_first n i u) (to_first n i v) (Accepted i ballot slot command) (said_by_others n i v (Accepted i ballot slot command) three ev)
-
-    own_of : (o : Message) → In o (Accepted i ballot slot command ∷ Accept ballot slot command ∷ []) → sender_of o ≡ i
-    own_of o (inl e) = ap sender_of e
-    own_of o (inr (inl e)) = ap sender_of e ∙ own
-    own_of o (inr (inr h)) = absurd h
-
-    accepted_of : (s : ℕ) (b : Ballot) (k : ℕ) (c : Command) → In (Accepted s b k c) (Accepted i ballot slot command ∷ Accept ballot slot command ∷ [])
-        → IsSaid i (to_first n i u ++ to_first n i v) (Accepted s b k c)
-    accepted_of s b k c (inl e) = subst (λ (x : Message). IsSaid i (to_first n i u ++ to_first n i v) x) (sym e) vote
-    accepted_of s b k c (inr (inl e)) = absurd (cc)
-    accepted_of s b k c (inr (inr h)) = absurd h
-
-    parts : (b : Ballot) (k : ℕ) (c : Command) → Accept b k c ≡ Accept ballot slot command → Accepted i b k c ≡ Accepted i ballot slot command
-    parts b k c e = cc
-
-    accepts_of : (b : Ballot) (k : ℕ) (c : Command) → IsSaid i (to_first n i u ++ to_first n i v) (Accept b k c) → IsSaid i (to_first n i u ++ to_first n i v) (Accepted i b k c)
-    accepts_of b k c h = elim (said_split i (to_first n i u) (to_first n i v) (Accept b k c) h) [
-      | inl x ↦ subst (λ (y : Message). IsSaid i (to_first n i u ++ to_first n i v) y) (sym (parts b k c (others_said n i u (Accept ballot slot command) (Accept b k c) eu x))) vote
-      | inr x ↦ (let e : Accept b k c ≡ Accepted i ballot slot command = others_said n i v (Accepted i ballot slot command) (Accept b k c) ev x in absurd (cc))
-    ]
-
-pub proposal_all : (n i : ℕ) (u v : Wire) (ballot : Ballot) (slot : ℕ) (command : Command) → 3 ≤ n → carried i u ≡ Accept ballot slot command ∷ []
-    → carried i v ≡ Accepted i ballot slot command ∷ []
-    → CarryAll n i (to_first n i u ++ to_first n i v) (Accepted i ballot slot command ∷ Accept ballot slot command ∷ [])
-proposal_all n i u v ballot slot command three eu ev =
-    joined_all n i (to_first n i u) (to_first n i v) (Accept ballot slot command ∷ []) (Accepted i ballot slot command ∷ [])
-    (others_all n i u (Accept ballot slot command) three eu) (others_all n i v (Accepted i ballot slot command) three ev)

@@ -1,5 +1,5 @@
 -- The close of a call, on its path.
-use Rattle.std.proofs.Common.{◌≡◌, ℕ, ◌<◌, ◌≤◌, ◌+◌, ◌⊎◌, inl, inr, Bool, true, false, true≢false, not, if◌then◌else◌, ◌&&◌, List, [], ◌∷◌, ◌++◌, Option, Some, None, Result, Ok, Err, refl, sym, ap, subst, ◌∙◌, arith}
+use Rattle.std.proofs.Common.{◌≡◌, ℕ, ◌<◌, ◌≤◌, ◌+◌, ◌⊎◌, inl, inr, Bool, true, false, true≢false, not, if◌then◌else◌, ◌&&◌, List, ◌++◌, Option, Some, None, Result, Ok, Err, refl, sym, ap, subst, ◌∙◌, arith, length, append_assoc}
 use Rattle.std.specs.Prelude.{nat_lt, nat_le}
 use Rattle.std.specs.Option.{option_map}
 use Rattle.std.proofs.lemmas.Bool.{ltb-true, ltb-false, leb-true, and_parts}
@@ -14,44 +14,48 @@ use Rattle.slot_log.specs.declared.command.Command.{Command}
 use Rattle.slot_log.specs.declared.command.Command.TheVariants.{Deal}
 use Rattle.protocol_model.specs.Sets.{In}
 use Rattle.protocol_model.specs.Ballots.{AtMost}
-use Rattle.protocol_model.specs.Messages.{Vote, Message, Prepare, Refuse, Accept, Accepted}
-use Rattle.protocol_model.specs.Quorums.{IsFree, IsGreatestTold}
-use Rattle.protocol_model.specs.Stores.{Store, voted}
+use Rattle.protocol_model.specs.Messages.{Vote, Message, Prepare, Accept}
+use Rattle.protocol_model.specs.Quorums.{IsFree}
+use Rattle.protocol_model.specs.Frames.{proposals, answers}
+use Rattle.protocol_model.specs.CommandRuns.{proposed, answered, sending_all}
+use Rattle.protocol_model.specs.Stores.{Store}
 use Rattle.protocol_model.specs.Dealers.{Dealer}
 use Rattle.protocol_model.specs.Nodes.{Node}
 use Rattle.protocol_model.specs.Arrivals.{Arrival}
-use Rattle.protocol_model.specs.Moves.{nothing, sending as sends, with_store, with_sent, more, gets, proposes, accepts, IsAtHand, MayPropose}
-use Rattle.proposer.specs.declared.accept.Accept.{Accept as Made}
+use Rattle.protocol_model.specs.Moves.{Chain, none as no_move, more, nothing, sending as sends, with_store, with_sent, proposes, IsAtHand, MayPropose}
+use Rattle.proposer.specs.declared.accept_run.AcceptRun.{AcceptRun}
 use Rattle.proposer.specs.declared.campaign.Campaign.{Campaign}
 use Rattle.proposer.specs.declared.fault.ProposeFault.{ProposeFault}
 use Rattle.proposer.specs.declared.fault.ProposeFault.TheVariants.{OutOfWindow}
-use Rattle.proposer.specs.Campaigns.{has_quorum, leads, is_covered, is_proposed, accept_of, value_of, greatest_told, proposal_by, proposal_from, with_mark, marked_from}
+use Rattle.proposer.specs.Campaigns.{has_quorum, leads, is_covered, is_proposed}
+use Rattle.proposer.specs.CommandRuns.{commands_at, accept_run_of, run_by, run_from_campaign, with_marks, marked_run_from}
+use Rattle.proposer.specs.CommandRunLaws.{IsSafeCommandRun}
 use Rattle.paxos_wire.specs.Order.{is_same_ballot}
-use Rattle.proposer.specs.Counted.{CountsFrom, CountsAll, MarksSent}
-use Rattle.proposer.specs.Laws.{IsSafe}
+use Rattle.proposer.specs.Counted.{CountsFrom, CountsAll}
 use Rattle.dealer_kind.specs.Kind.{fits}
 use Rattle.node_rules.specs.Standings.{Place, Standing, applied, front_of, hands_at, with_stored, idle}
-use Rattle.node_rules.specs.Sending.{to_others}
+use Rattle.node_rules.specs.Sending.{Frame, to_others}
 use Rattle.node_rules.specs.Showing.{Piece}
 use Rattle.node_rules.specs.Turns.{Turn, Refusal, still, sending, joined, behind}
-use Rattle.protocol_model.specs.Votes.{is_of_ballot, stored_in, storing}
-use Rattle.node_rules.specs.Proposing.{own_deal, fitting, own_value, closing}
-use Rattle.node_rules.specs.Being.{Campaigns, IsCampaign, Stands, IsProposer, IsPending}
-use Rattle.node_rules.specs.Called.{AreShown, log_after}
-use Rattle.node_rules.proofs.Carrying.{joined_carry, joined_all, proposal_carry, proposal_all}
+use Rattle.protocol_model.specs.Votes.{is_of_ballot, is_voted, command_run_at, taking_command_run}
+use Rattle.node_rules.specs.Learning.{counting_votes}
+use Rattle.node_rules.specs.Seen.{ballots_in, Sees}
+use Rattle.node_rules.specs.Proposing.{own_deal, fitting, own_value, proposing, closing_by, proposal_at, closing}
+use Rattle.node_rules.specs.Being.{Campaigns, IsCampaign, Stands, IsProposer, IsPending, Knows}
+use Rattle.node_rules.specs.Called.{Carry, CarryAll, AreShown, log_after}
+use Rattle.protocol_model.proofs.Sets.{in_first, in_later, in_split}
+use Rattle.node_rules.proofs.Carrying.{joined_carry, joined_all}
 use Rattle.protocol_model.proofs.Ballots.{at_most_self, same_if}
-use Rattle.node_rules.proofs.Ordering.{sees_own, sees_up}
-use Rattle.node_rules.proofs.Keeping.{with_got, got_learner, got_pending, sent_pending, stored_pending}
+use Rattle.node_rules.proofs.Keeping.{IsNoAnswer, IsQuiet, sent_all_knows, pending_all, stored_pending}
 use Rattle.node_rules.specs.Given.{Given}
-use Rattle.node_rules.proofs.Paths.{Hearing, Scope, dealer_in, Path, Goes, regroup, three_in}
-use Rattle.node_rules.proofs.Steps.{Leads, get_own, go_on}
-use Rattle.protocol_model.proofs.Backing.{vote_within}
-use Rattle.node_rules.proofs.Voting.{voted_is}
+use Rattle.node_rules.proofs.Paths.{Hearing, Scope, dealer_in, first_in, Path, Goes, regroup, three_in}
+use Rattle.node_rules.proofs.Steps.{go_on}
+use Rattle.node_rules.proofs.Together.{with_got_each, LeadsAll, AreLow, own_knows, own_chain, get_own_all, in_answered, answered_is, proposal_carry, proposal_all}
+use Rattle.node_rules.proofs.Voting.{low_votes}
+use Rattle.node_rules.proofs.OwnRuns.{unmarked, proposal_is, proposed_is, in_proposed, at_slot, in_or_out, IsSource, source_once, promise_is, votes_at, votes_outside, run_proposed}
 use Rattle.node_rules.proofs.Learning.{count}
-use Rattle.node_rules.proofs.Ones.{counting_one, counts_one, proposing_one, one_at, closing_by_one, closes_one}
 use Rattle.node_rules.proofs.Asking.{joined_assoc, with_campaign}
-use Rattle.node_rules.specs.Proposed.{IsValue}
-use Rattle.node_rules.proofs.Proposed.{made_proposed}
+use Rattle.node_rules.proofs.Proposed.{accept_is}
 
 -- ---- what the node has of its own
 
@@ -109,11 +113,11 @@ rest x came heard t p none =
 -- ---- a proposal
 
 -- the campaign that made it
-pub record IsMade (place : Place) (s : Standing) (c : Campaign) (made : Made) : Type 0 where
+pub record IsMade (place : Place) (s : Standing) (c : Campaign) (made : AcceptRun) : Type 0 where
   pub has : s.campaign ≡ Some c
-  pub made_so : proposal_by place.nodes c (front_of s) (own_value place s) ≡ Ok (Some made)
+  pub made_so : run_by place.nodes c (front_of s) (own_value place s) ≡ Ok (Some made)
 
-pub made_by : (place : Place) (s : Standing) (made : Made) (c : Option Campaign) → s.campaign ≡ c → proposal_from place.nodes c (front_of s) (own_value place s) ≡ Ok (Some made)
+pub made_by : (place : Place) (s : Standing) (made : AcceptRun) (c : Option Campaign) → s.campaign ≡ c → run_from_campaign place.nodes c (front_of s) (own_value place s) ≡ Ok (Some made)
     → (found : Campaign) × IsMade place s found made
 made_by place s made None e h = absurd (cc)
 made_by place s made (Some c) e h = (c, record { has = e; made_so = h })
@@ -122,21 +126,86 @@ pub campaigns_of : (n i : ℕ) (node : Node) (c : Option Campaign) (found : Camp
 campaigns_of n i node None found e h = absurd (cc)
 campaigns_of n i node (Some c) found e h = subst (Campaigns n i node) (same_Some c found e) h
 
-pub may : (x : Scope) (came : List Arrival) (heard : Hearing) (t : Turn) (p : Path x came heard (applied t.after) t) (c : Campaign) (made : Made)
-    → IsSafe x.place.nodes p.node.has c (front_of t.after) (own_value x.place t.after) made
-    → MayPropose (dealer_in x) x.place.nodes x.place.node p.node made.ballot made.slot made.command
-may x came heard t p c made safe =
-    subst (λ (b : Ballot). MayPropose (dealer_in x) x.place.nodes x.place.node p.node b made.slot made.command) (sym safe.ballot)
-    (subst (λ (k : ℕ). MayPropose (dealer_in x) x.place.nodes x.place.node p.node c.ballot k made.command) (sym safe.slot) (by_source safe.command))
+pub none_of_ballot : (held : Option Vote) (ballot : Ballot) → ((v : Vote) → held ≡ Some v → v.ballot ≡ ballot → ⊥) → is_of_ballot held ballot ≡ false
+none_of_ballot None ballot none = refl
+none_of_ballot (Some v) ballot none = by_test (is_same_ballot v.ballot ballot) refl
   where
-    by_source : IsGreatestTold x.place.nodes p.node.has c.ballot (front_of t.after) made.command
-        ⊎ (IsFree x.place.nodes p.node.has c.ballot (front_of t.after) × (own_value x.place t.after ≡ Some made.command))
-        → MayPropose (dealer_in x) x.place.nodes x.place.node p.node c.ballot (front_of t.after) made.command
-    by_source (inl told) = inl told
-    by_source (inr free) =
-        let own = value_is x t.after p.node made.command free.1 p.knows.pending in
+    by_test : (b : Bool) → is_same_ballot v.ballot ballot ≡ b → is_same_ballot v.ballot ballot ≡ false
+    by_test true e = absurd (none v refl (same_if v.ballot ballot e))
+    by_test false e = e
+
+-- it is of the node's own ballot, which is promised, and begins at its front; its commands are told ones, or one of the node's own; at its slots nothing
+-- was proposed or stored in the ballot, so that it is taken whole
+pub record IsOwnRun (place : Place) (s : Standing) (node : Node) (c : Campaign) (made : AcceptRun) : Type 0 where
+  pub camp : Campaigns place.nodes place.node node c
+  pub ballot : made.ballot ≡ c.ballot
+  pub slot : made.slot ≡ front_of s
+  pub least : 1 ≤ length made.commands
+  pub most : length made.commands ≤ WINDOW
+  pub slots : front_of s < SLOTS → made.slot + length made.commands ≤ SLOTS
+  pub source : IsSource place.nodes node.has node.sent (own_value place s) made.ballot made.slot made.commands
+  pub mine : made.ballot.node ≡ place.node
+  pub promised : node.store.promise ≡ made.ballot
+  pub unvoted : (k : ℕ) → made.slot ≤ k → k < made.slot + length made.commands → is_voted s.store made.ballot k ≡ false
+  pub whole : command_run_at s.store made.ballot made.slot made.commands ≡ made.commands
+
+pub own_run : (x : Scope) (came : List Arrival) (heard : Hearing) (t : Turn) (p : Path x came heard (applied t.after) t) (c : Campaign) (made : AcceptRun)
+    → IsMade x.place t.after c made → IsOwnRun x.place t.after p.node c made
+own_run x came heard t p c made is = record {
+  camp = camp;
+  ballot = safe.ballot;
+  slot = safe.begins;
+  least = safe.least;
+  most = (let low = safe.low in let high = safe.high in omega (arith, low, high));
+  slots = λ left. (let at = safe.begins in let end = safe.slots left in omega (arith, at, end));
+  source = source;
+  mine = ap (λ (b : Ballot). b.node) safe.ballot ∙ camp.own;
+  promised = camp.promised ∙ sym safe.ballot;
+  unvoted = unvoted;
+  whole = x.given.command_run_whole t.after.store made.ballot made.slot made.commands unvoted;
+}
+  where
+    own : Option Command
+    own = own_value x.place t.after
+
+    camp : Campaigns x.place.nodes x.place.node p.node c
+    camp = campaigns_of x.place.nodes x.place.node p.node t.after.campaign c is.has p.knows.proposer.is_campaign
+
+    safe : IsSafeCommandRun x.place.nodes p.node.has p.node.sent c (front_of t.after) (own_value x.place t.after) made
+    safe = x.given.safe x.place.nodes p.node.has p.node.sent c (front_of t.after) own made camp.counts camp.marks is.made_so
+
+    source : IsSource x.place.nodes p.node.has p.node.sent (own_value x.place t.after) made.ballot made.slot made.commands
+    source = subst (λ (b : Ballot). IsSource x.place.nodes p.node.has p.node.sent own b made.slot made.commands) (sym safe.ballot)
+        (subst (λ (k : ℕ). IsSource x.place.nodes p.node.has p.node.sent own c.ballot k made.commands) (sym safe.begins) safe.commands)
+
+    none_stored : (k : ℕ) → made.slot ≤ k → k < made.slot + length made.commands → (w : Vote) → t.after.store.votes k ≡ Some w → w.ballot ≡ made.ballot → ⊥
+    none_stored k low high w has same =
+        source_once x.place.nodes p.node.has p.node.sent own made.ballot made.slot made.commands source k low high w.command
+        (subst (λ (y : Ballot). In (Accept y k w.command) p.node.sent) (sym safe.ballot)
+        (camp.votes k w (ap (λ (st : Store). st.votes k) p.knows.store ∙ has) (same ∙ safe.ballot)))
+
+    unvoted : (k : ℕ) → made.slot ≤ k → k < made.slot + length made.commands → is_voted t.after.store made.ballot k ≡ false
+    unvoted k low high = none_of_ballot (t.after.store.votes k) made.ballot (λ w has same. none_stored k low high w has same)
+
+-- its commands are proposed one after another
+pub proposes_run : (x : Scope) (came : List Arrival) (heard : Hearing) (t : Turn) (p : Path x came heard (applied t.after) t) (c : Campaign) (made : AcceptRun)
+    → IsOwnRun x.place t.after p.node c made
+    → Chain (dealer_in x) x.place.nodes x.place.node (p.sent ++ x.world.ever) p.node (sending_all (proposed made.ballot made.slot made.commands))
+    (with_sent p.node (proposed made.ballot made.slot made.commands))
+proposes_run x came heard t p c made o = by_source o.source
+  where
+    ever : List Message
+    ever = p.sent ++ x.world.ever
+
+    prepared : In (Prepare made.ballot c.first) p.node.sent
+    prepared = subst (λ (b : Ballot). In (Prepare b c.first) p.node.sent) (sym o.ballot) (let k = o.camp in k.prepared)
+
+    may : (d : Command) → own_value x.place t.after ≡ Some d → IsFree x.place.nodes p.node.has made.ballot (front_of t.after)
+        → MayPropose (dealer_in x) x.place.nodes x.place.node p.node made.ballot (front_of t.after) d
+    may d is free =
+        let own = value_is x t.after p.node d is p.knows.pending in
         inr (
-          free.0,
+          free,
           own.0,
           (
             applied t.after,
@@ -147,52 +216,69 @@ may x came heard t p c made safe =
           ),
         )
 
--- what a campaign that proposes knows
-proposed_campaign : (g : Given) (n i : ℕ) (node new : Node) (c : Campaign) (at : ℕ) (own : Option Command) (made : Made)
-    → Campaigns n i node c → proposal_by n c at own ≡ Ok (Some made) → made.ballot ≡ c.ballot
-    → new.store.promise ≡ c.ballot → new.has ≡ Accept made.ballot made.slot made.command ∷ node.has
-    → new.sent ≡ Accepted i made.ballot made.slot made.command ∷ Accept made.ballot made.slot made.command ∷ node.sent
-    → ((slot : ℕ) (vote : Vote) → new.store.votes slot ≡ Some vote → ((slot ≡ made.slot) × (vote ≡ record { ballot = made.ballot; command = made.command })) ⊎ (node.store.votes slot ≡ Some vote))
-    → Campaigns n i new (with_mark c (Ok (Some made)))
-proposed_campaign g n i node new c at own made h so ballot promised has sent votes = record {
-  own = h.own;
-  promised = promised;
-  prepared = subst (λ (l : List Message). In (Prepare c.ballot c.first) l) (sym sent) (inr (inr h.prepared));
-  counts = subst (λ (l : List Message). CountsFrom l (with_mark c (Ok (Some made)))) (sym has) (g.others node.has (with_mark c (Ok (Some made))) accept counts);
-  counts_all = subst (λ (l : List Message). CountsAll n l (with_mark c (Ok (Some made)))) (sym has)
-      (g.others_all n node.has (with_mark c (Ok (Some made))) accept (λ k told e. absurd (cc)) counts_all);
-  marks = subst (λ (l : List Message). MarksSent l (with_mark c (Ok (Some made)))) (sym sent)
-      (g.others_marks (accept ∷ node.sent) (with_mark c (Ok (Some made))) (Accepted i made.ballot made.slot made.command) (λ s k e. absurd (cc))
-      (g.proposal_marks n node.sent c at own made so h.marks));
-  votes = λ s v e b. subst (λ (l : List Message). In (Accept c.ballot s v.command) l) (sym sent) (vote_of s v e b (votes s v e));
-  unrefused = λ k r s up had low. elim (subst (λ (l : List Message). In (Refuse k r s up) l) has had) [ inl e ↦ absurd (cc) | inr old ↦ h.unrefused k r s up old low ];
+    by_source : IsSource x.place.nodes p.node.has p.node.sent (own_value x.place t.after) made.ballot made.slot made.commands
+        → Chain (dealer_in x) x.place.nodes x.place.node (p.sent ++ x.world.ever) p.node (sending_all (proposed made.ballot made.slot made.commands))
+        (with_sent p.node (proposed made.ballot made.slot made.commands))
+    by_source (inl told) = x.given.command_run_proposes (dealer_in x) x.place.nodes x.place.node ever p.node made.ballot c.first made.slot made.commands p.knows.up prepared o.mine told
+    by_source (inr (d, is, own, free, once)) =
+        subst (λ (cs : List Command). Chain (dealer_in x) x.place.nodes x.place.node (p.sent ++ x.world.ever) p.node (sending_all (proposed made.ballot made.slot cs)) (with_sent p.node (proposed made.ballot made.slot cs))) (sym is)
+        (more nothing p.node (sends (Accept made.ballot made.slot d)) _ _ (no_move nothing p.node refl refl)
+        (proposes made.ballot c.first made.slot d p.knows.up prepared once o.mine
+        (subst (λ (k : ℕ). MayPropose (dealer_in x) x.place.nodes x.place.node p.node made.ballot k d) (sym o.slot) (may d own (subst (IsFree x.place.nodes p.node.has made.ballot) o.slot free))) refl refl) refl)
+
+-- what the node leads once its campaign proposed
+marked_campaign : (g : Given) (place : Place) (s : Standing) (node : Node) (c : Campaign) (made : AcceptRun) → node.store ≡ s.store → IsMade place s c made → IsOwnRun place s node c made
+    → Campaigns place.nodes place.node (record node {
+      store = taking_command_run node.store made.ballot made.slot made.commands;
+      begun = taking_command_run node.store made.ballot made.slot made.commands;
+      sent = proposed made.ballot made.slot made.commands ++ node.sent;
+    }) (with_marks c (Ok (Some made)))
+marked_campaign g place s node c made store is o = record {
+  own = camp.own;
+  promised = promise_is g node.store made.ballot made.slot made.commands o.promised ∙ o.ballot;
+  prepared = in_later new node.sent (Prepare c.ballot c.first) camp.prepared;
+  counts = subst (λ (r : Result (Option AcceptRun) ProposeFault). CountsFrom node.has (with_marks c r)) is.made_so (g.proposal place.nodes node.has c (front_of s) (own_value place s) camp.counts);
+  counts_all = subst (λ (r : Result (Option AcceptRun) ProposeFault). CountsAll place.nodes node.has (with_marks c r)) is.made_so
+      (g.proposal_all place.nodes node.has c (front_of s) (own_value place s) camp.counts_all);
+  marks = g.proposal_marks place.nodes node.sent c (front_of s) (own_value place s) made is.made_so camp.marks;
+  votes = λ k v e same. votes_of k v e same (in_or_out made.slot (length made.commands) k);
+  unrefused = camp.unrefused;
 }
   where
-    accept : Message
-    accept = Accept made.ballot made.slot made.command
+    camp : Campaigns place.nodes place.node node c
+    camp = o.camp
 
-    counts : CountsFrom node.has (with_mark c (Ok (Some made)))
-    counts = subst (λ (r : Result (Option Made) ProposeFault). CountsFrom node.has (with_mark c r)) so (g.proposal n node.has c at own h.counts)
+    new : List Message
+    new = proposed made.ballot made.slot made.commands
 
-    counts_all : CountsAll n node.has (with_mark c (Ok (Some made)))
-    counts_all = subst (λ (r : Result (Option Made) ProposeFault). CountsAll n node.has (with_mark c r)) so (g.proposal_all n node.has c at own h.counts_all)
+    whole : command_run_at node.store made.ballot made.slot made.commands ≡ made.commands
+    whole = ap (λ (st : Store). command_run_at st made.ballot made.slot made.commands) store ∙ o.whole
 
-    vote_of : (s : ℕ) (v : Vote) → new.store.votes s ≡ Some v → v.ballot ≡ c.ballot
-        → ((s ≡ made.slot) × (v ≡ record { ballot = made.ballot; command = made.command })) ⊎ (node.store.votes s ≡ Some v)
-        → In (Accept c.ballot s v.command) (Accepted i made.ballot made.slot made.command ∷ accept ∷ node.sent)
-    vote_of s v e b (inl new_one) = inr (inl (λ j. Accept (sym ballot j) (new_one.0 j) ((new_one.1 j).command)))
-    vote_of s v e b (inr old) = inr (inr (h.votes s v old b))
+    votes_of : (k : ℕ) (v : Vote) → (taking_command_run node.store made.ballot made.slot made.commands).votes k ≡ Some v → v.ballot ≡ c.ballot
+        → ((k < made.slot) ⊎ (made.slot + length made.commands ≤ k)) ⊎ ((made.slot ≤ k) × (k < made.slot + length made.commands))
+        → In (Accept c.ballot k v.command) (proposed made.ballot made.slot made.commands ++ node.sent)
+    votes_of k v e same (inl out) =
+        in_later new node.sent (Accept c.ballot k v.command) (camp.votes k v (sym (votes_outside g node.store made.ballot made.slot made.commands whole k out) ∙ e) same)
+    votes_of k v e same (inr (low, high)) =
+        let at = at_slot made.ballot made.slot made.commands k low high in
+        let is_new : v ≡ record { ballot = made.ballot; command = at.0 } =
+        same_Some v (record { ballot = made.ballot; command = at.0 }) (sym e ∙ votes_at g node.store made.ballot made.slot made.commands whole k at.0 at.1) in
+        in_first new node.sent (Accept c.ballot k v.command)
+        (subst (λ (m : Message). In m new) (λ j. Accept (o.ballot j) k ((sym is_new j).command)) (in_proposed made.ballot made.slot made.commands (Accept made.ballot k at.0) at.1))
 
--- the proposal is sent and voted for: where nothing of the ballot was stored there
-pub propose : (x : Scope) (came : List Arrival) (heard : Hearing) (t : Turn) (ends : x.ends ≡ true) (p : Path x came heard (applied t.after) t) (c : Campaign) (made : Made)
-    → IsMade x.place t.after c made
-    → Leads x came heard (applied t.after)
-    (joined t (sending (to_others x.place (frame.Accept made.ballot made.slot (made.command ∷ [])) ++ to_others x.place (frame.Accepted made.ballot made.slot (made.command ∷ [])))
-    (with_stored (record t.after { campaign = Some (with_mark c (Ok (Some made))) }) (voted t.after.store made.slot (record { ballot = made.ballot; command = made.command })))))
-    (Accepted x.place.node made.ballot made.slot made.command)
-propose x came heard t ends p c made is =
-    get_own x came heard (applied t.after) _ vote path tt (inl refl)
-    (λ b h. elim h [ inl e ↦ subst (λ (y : Ballot). AtMost y made.ballot) (sym e) (at_most_self made.ballot) | inr none ↦ absurd none ])
+-- the proposal is sent and voted for
+abbrev pub made_frames : Place → AcceptRun → List Frame
+made_frames place made = to_others place (frame.Accept made.ballot made.slot made.commands) ++ to_others place (frame.Accepted made.ballot made.slot made.commands)
+
+abbrev pub standing_voted : Standing → Campaign → AcceptRun → Standing
+standing_voted s c made = with_stored (record s { campaign = Some (with_marks c (Ok (Some made))) }) (taking_command_run s.store made.ballot made.slot made.commands)
+
+pub propose : (x : Scope) (came : List Arrival) (heard : Hearing) (t : Turn) (ends : x.ends ≡ true) (p : Path x came heard (applied t.after) t) (c : Campaign) (made : AcceptRun)
+    → IsMade x.place t.after c made → IsOwnRun x.place t.after p.node c made
+    → LeadsAll x came heard (applied t.after) (joined t (sending (made_frames x.place made) (standing_voted t.after c made))) (answers x.place.node made.ballot made.slot made.commands)
+propose x came heard t ends p c made is o =
+    get_own_all x came heard (applied t.after) _ (answers i made.ballot made.slot made.commands) path
+    (λ m h. in_first votes (new ++ p.sent) m (in_answered i made.ballot made.slot made.commands m h)) (low_votes i made.ballot stored.promise made.slot made.commands now)
   where
     i : ℕ
     i = x.place.node
@@ -203,85 +289,136 @@ propose x came heard t ends p c made is =
     own : Option Command
     own = own_value x.place t.after
 
-    accept : Message
-    accept = Accept made.ballot made.slot made.command
+    -- the proposals, as moves send them and as they are got, and the votes
+    new : List Message
+    new = proposed made.ballot made.slot made.commands
 
-    vote : Message
-    vote = Accepted x.place.node made.ballot made.slot made.command
+    asked : List Message
+    asked = proposals made.ballot made.slot made.commands
 
-    stored : Vote
-    stored = record { ballot = made.ballot; command = made.command }
+    votes : List Message
+    votes = answered x.place.node made.ballot made.slot made.commands
 
-    camp : Campaigns x.place.nodes x.place.node p.node c
-    camp = campaigns_of n i p.node t.after.campaign c is.has p.knows.proposer.is_campaign
+    stored : Store
+    stored = taking_command_run p.node.store made.ballot made.slot made.commands
 
-    safe : IsSafe x.place.nodes p.node.has c (front_of t.after) (own_value x.place t.after) made
-    safe = x.given.safe n p.node.has c (front_of t.after) own made camp.counts is.made_so
+    whole : command_run_at p.node.store made.ballot made.slot made.commands ≡ made.commands
+    whole = ap (λ (st : Store). command_run_at st made.ballot made.slot made.commands) p.knows.store ∙ o.whole
 
-    promised : p.node.store.promise ≡ made.ballot
-    promised = camp.promised ∙ sym safe.ballot
+    now : (taking_command_run p.node.store made.ballot made.slot made.commands).promise ≡ made.ballot
+    now = promise_is x.given p.node.store made.ballot made.slot made.commands o.promised
 
     up : AtMost p.node.store.promise made.ballot
-    up = subst (AtMost p.node.store.promise) promised (at_most_self p.node.store.promise)
+    up = subst (AtMost p.node.store.promise) o.promised (at_most_self p.node.store.promise)
 
     sent : Node
-    sent = with_sent p.node (accept ∷ [])
+    sent = with_sent p.node (proposed made.ballot made.slot made.commands)
 
     got : Node
-    got = with_got sent accept
+    got = with_got_each (with_sent p.node (proposed made.ballot made.slot made.commands)) (proposals made.ballot made.slot made.commands)
 
-    kept : Node
-    kept = with_store got (voted got.store made.slot stored)
+    made_node : Node
+    made_node = record p.node {
+      store = taking_command_run p.node.store made.ballot made.slot made.commands;
+      begun = taking_command_run p.node.store made.ballot made.slot made.commands;
+      sent = proposed made.ballot made.slot made.commands ++ p.node.sent;
+    }
 
     last : Node
-    last = with_sent kept (vote ∷ [])
+    last = with_got_each (with_sent made_node (answered x.place.node made.ballot made.slot made.commands)) (proposals made.ballot made.slot made.commands)
 
-    mine : made.ballot.node ≡ x.place.node
-    mine = ap (λ (b : Ballot). b.node) safe.ballot ∙ camp.own
+    after : Standing
+    after = standing_voted t.after c made
 
-    path : Path x came heard (applied t.after)
-        (joined t (sending (to_others x.place (frame.Accept made.ballot made.slot (made.command ∷ [])) ++ to_others x.place (frame.Accepted made.ballot made.slot (made.command ∷ [])))
-        (with_stored (record t.after { campaign = Some (with_mark c (Ok (Some made))) }) (voted t.after.store made.slot stored))))
-    path = record {
-      sent = vote ∷ accept ∷ p.sent;
-      shown = p.shown;
-      got = accept ∷ p.got;
-      node = last;
-      chain = more _ got (sends vote) _ _
-          (more _ sent nothing _ _
-          (more _ p.node (sends accept) _ _ p.chain
-          (proposes made.ballot c.first made.slot made.command p.knows.up
-          (subst (λ (b : Ballot). In (Prepare b c.first) p.node.sent) (sym safe.ballot) camp.prepared)
-          (λ other h. x.given.once n p.node.sent c (front_of t.after) own made other camp.marks is.made_so h)
-          mine (may x came heard t p c made safe) refl refl) refl)
-          (gets accept p.knows.up (inl refl) refl refl) refl)
-          (accepts made.ballot made.slot made.command p.knows.up (inl refl) up refl refl) refl;
-      knows = record {
-        up = p.knows.up;
-        store = ap (λ (st : Store). voted st made.slot stored) p.knows.store;
-        within = vote_within p.node.store made.slot stored p.knows.within up;
-        proposer = record {
-          is_campaign = proposed_campaign x.given n i p.node last c (front_of t.after) own made camp is.made_so safe.ballot safe.ballot refl refl
-              (λ s v e. voted_is p.node.store made.slot stored v s e);
-          began = λ b f h. began_before b f h;
-          proposed = λ b s k h. proposed_now b s k h;
-          stands = λ b f st near left. stands_on b f st near left;
-        };
-        learner = got_learner n p.node.has p.node.known accept t.after p.knows.learner;
-        pending = sent_pending (dealer_in x) i kept vote (applied t.after) t.after.pending
-            (stored_pending (dealer_in x) i got (voted got.store made.slot stored) (applied t.after) t.after.pending
-            (got_pending (dealer_in x) i sent accept (applied t.after) t.after.pending
-            (sent_pending (dealer_in x) i p.node accept (applied t.after) t.after.pending p.knows.pending)));
-        places = p.knows.places;
-        shown = p.knows.shown;
-        seen = sees_own p.node.has accept made.ballot t.after.seen
-            (λ b h. elim h [ inl e ↦ subst (λ (y : Ballot). AtMost y made.ballot) (sym e) (at_most_self made.ballot) | inr none ↦ absurd none ])
-            (sees_up p.node.has p.node.store.promise made.ballot t.after.seen up p.knows.seen);
-        proposals = made_proposed n i (applied t.after) own p.node.store p.node.has p.node.sent made.ballot made.slot made.command promised safe.slot mine
-            (λ other h. x.given.once n p.node.sent c (front_of t.after) own made other camp.marks is.made_so h)
-            (subst (λ (b : Ballot). IsValue n p.node.has b made.slot own made.command) (sym safe.ballot)
-            (subst (λ (k : ℕ). IsValue n p.node.has c.ballot k own made.command) (sym safe.slot) safe.command)) p.knows.proposals;
+    -- the moves
+    sends_them : Chain (dealer_in x) x.place.nodes x.place.node x.world.ever (first_in x) (record { sent = proposed made.ballot made.slot made.commands ++ p.sent; shown = p.shown; came = came }) sent
+    sends_them = x.given.join (dealer_in x) n i x.world.ever (first_in x) (record { sent = p.sent; shown = p.shown; came = came }) p.node (sending_all new) sent p.chain (proposes_run x came heard t p c made o)
+
+    gets_them : Chain (dealer_in x) x.place.nodes x.place.node x.world.ever (first_in x) (record { sent = proposed made.ballot made.slot made.commands ++ p.sent; shown = p.shown; came = came }) got
+    gets_them = own_chain (dealer_in x) n i x.world.ever (first_in x) (record { sent = new ++ p.sent; shown = p.shown; came = came }) sent asked p.knows.up
+        (λ m h. in_first new p.sent m (in_proposed made.ballot made.slot made.commands m h)) sends_them
+
+    votes_for_them : Chain (dealer_in x) x.place.nodes x.place.node ((proposed made.ballot made.slot made.commands ++ p.sent) ++ x.world.ever) got
+        (sending_all (answered x.place.node made.ballot made.slot made.commands)) last
+    votes_for_them =
+        subst (λ (cs : List Command). Chain (dealer_in x) n i ((new ++ p.sent) ++ x.world.ever) got (sending_all (answered i made.ballot made.slot cs))
+        (with_sent (with_store got (taking_command_run got.store made.ballot made.slot made.commands)) (answered i made.ballot made.slot cs))) whole
+        (x.given.command_run_votes (dealer_in x) n i ((new ++ p.sent) ++ x.world.ever) got made.ballot made.slot made.commands p.knows.up p.begun up (λ m h. in_first asked p.node.has m h))
+
+    -- what the node then is
+    prepared_then : (b : Ballot) (f : ℕ) → In (Prepare b f) (proposed made.ballot made.slot made.commands ++ p.node.sent) → In (Prepare b f) p.node.sent
+    prepared_then b f h = elim (in_split new p.node.sent (Prepare b f) h) [
+      | inl one ↦ absurd (let e = (proposed_is made.ballot made.slot made.commands (Prepare b f) one).2 in cc)
+      | inr old ↦ old
+    ]
+
+    began_before : (b : Ballot) (f : ℕ) → In (Prepare b f) (proposed made.ballot made.slot made.commands ++ p.node.sent)
+        → AtMost b (taking_command_run p.node.store made.ballot made.slot made.commands).promise × (b.node ≡ x.place.node) × (f ≤ front_of t.after)
+    began_before b f h = let old = p.knows.proposer.began b f (prepared_then b f h) in (subst (AtMost b) (o.promised ∙ sym now) old.0, old.1, old.2)
+
+    proposed_now : (b : Ballot) (s : ℕ) (d : Command) → In (Accept b s d) (proposed made.ballot made.slot made.commands ++ p.node.sent)
+        → AtMost b (taking_command_run p.node.store made.ballot made.slot made.commands).promise
+    proposed_now b s d h = elim (in_split new p.node.sent (Accept b s d) h) [
+      | inl one ↦ (let e = proposed_is made.ballot made.slot made.commands (Accept b s d) one in
+          let same = (accept_is b made.ballot s e.0 d e.1 e.2).0 in
+          subst (AtMost b) (same ∙ sym now) (at_most_self b))
+      | inr old ↦ subst (AtMost b) (o.promised ∙ sym now) (p.knows.proposer.proposed b s d old)
+    ]
+
+    stands_on : (b : Ballot) (f : ℕ) → Stands made_node b f → front_of t.after < f + WINDOW → front_of t.after < SLOTS
+        → (found : Campaign) × (◌≡◌ {A = Option Campaign} (Some (with_marks c (Ok (Some made)))) (Some found)) × (found.ballot ≡ b) × (found.first ≡ f)
+    stands_on b f st near left =
+        let old : Stands p.node b f = record {
+          began = prepared_then b f st.began;
+          promised = o.promised ∙ (sym now ∙ st.promised);
+          unrefused = st.unrefused;
+        } in
+        let found = p.knows.proposer.stands b f old near left in
+        let same : c ≡ found.0 = same_Some c found.0 (sym is.has ∙ found.1) in
+        (with_marks c (Ok (Some made)), refl, ap (λ (y : Campaign). y.ballot) same ∙ found.2, ap (λ (y : Campaign). y.first) same ∙ found.3)
+
+    knows_made : Knows (dealer_in x) x.place (applied t.after) (standing_voted t.after c made) made_node
+    knows_made = record {
+      up = p.knows.up;
+      store = ap (λ (st : Store). taking_command_run st made.ballot made.slot made.commands) p.knows.store;
+      within = x.given.command_run_within p.node.store made.ballot made.slot made.commands p.knows.within up;
+      proposer = record {
+        is_campaign = marked_campaign x.given x.place t.after p.node c made p.knows.store is o;
+        began = λ b f h. began_before b f h;
+        proposed = λ b s k h. proposed_now b s k h;
+        stands = λ b f st near left. stands_on b f st near left;
       };
+      learner = p.knows.learner;
+      pending = pending_all (dealer_in x) i (with_store p.node stored) new (applied t.after) t.after.pending
+          (stored_pending (dealer_in x) i p.node stored (applied t.after) t.after.pending p.knows.pending);
+      places = p.knows.places;
+      shown = p.knows.shown;
+      seen = subst (λ (b : Ballot). Sees p.node.has b t.after.seen) (o.promised ∙ sym now) p.knows.seen;
+      proposals = run_proposed x.given n i (applied t.after) own p.node.store p.node.has p.node.sent made.ballot made.slot made.commands o.promised o.slot o.mine o.source whole p.knows.proposals;
+    }
+
+    quiet : (m : Message) → In m (answered x.place.node made.ballot made.slot made.commands) → IsQuiet m
+    quiet m h = let e = (answered_is i made.ballot made.slot made.commands m h).2 in subst IsQuiet (sym e) tt
+
+    low : AreLow (taking_command_run p.node.store made.ballot made.slot made.commands).promise (proposals made.ballot made.slot made.commands)
+    low m h =
+        let e = (proposal_is made.ballot made.slot made.commands m h).2 in (
+          subst IsNoAnswer (sym e) tt,
+          λ b inside. elim (subst (λ (y : Message). In b (ballots_in y)) e inside) [
+            | inl one ↦ subst (λ (y : Ballot). AtMost y stored.promise) (sym one) (subst (AtMost made.ballot) (sym now) (at_most_self made.ballot))
+            | inr none ↦ absurd none
+          ],
+        )
+
+    path : Path x came heard (applied t.after) (joined t (sending (made_frames x.place made) (standing_voted t.after c made)))
+    path = record {
+      sent = votes ++ (new ++ p.sent);
+      shown = p.shown;
+      got = asked ++ p.got;
+      node = last;
+      chain = x.given.join (dealer_in x) n i x.world.ever (first_in x) (record { sent = new ++ p.sent; shown = p.shown; came = came }) got (sending_all votes) last gets_them votes_for_them;
+      knows = own_knows x.given (dealer_in x) x.place (applied t.after) after (with_sent made_node votes) asked low
+          (sent_all_knows x.given (dealer_in x) x.place (applied t.after) after made_node votes quiet knows_made);
       commands = p.commands;
       hears = p.hears;
       talks = p.talks;
@@ -289,80 +426,38 @@ propose x came heard t ends p c made is =
       begun = refl;
       unbegun = refl;
       starts = p.starts;
-      has = ap (λ (l : List Message). accept ∷ l) p.has;
-      carry = joined_carry n i t.frames (to_others x.place (frame.Accept made.ballot made.slot (made.command ∷ [])) ++ to_others x.place (frame.Accepted made.ballot made.slot (made.command ∷ []))) p.sent (vote ∷ accept ∷ []) p.carry
-          (proposal_carry n i (frame.Accept made.ballot made.slot (made.command ∷ [])) (frame.Accepted made.ballot made.slot (made.command ∷ [])) made.ballot made.slot made.command (three_in x) refl refl mine);
-      all = joined_all n i t.frames (to_others x.place (frame.Accept made.ballot made.slot (made.command ∷ [])) ++ to_others x.place (frame.Accepted made.ballot made.slot (made.command ∷ []))) p.sent (vote ∷ accept ∷ []) p.all
-          (proposal_all n i (frame.Accept made.ballot made.slot (made.command ∷ [])) (frame.Accepted made.ballot made.slot (made.command ∷ [])) made.ballot made.slot made.command (three_in x) refl refl);
+      has = ap (λ (l : List Message). asked ++ l) p.has ∙ sym (append_assoc asked p.got x.had);
+      carry = subst (Carry n i (t.frames ++ made_frames x.place made)) (append_assoc votes new p.sent)
+          (joined_carry n i t.frames (made_frames x.place made) p.sent (votes ++ new) p.carry
+          (proposal_carry n i (frame.Accept made.ballot made.slot made.commands) (frame.Accepted made.ballot made.slot made.commands) made.ballot made.slot made.commands (three_in x) refl refl o.mine));
+      all = subst (CarryAll n i (t.frames ++ made_frames x.place made)) (append_assoc votes new p.sent)
+          (joined_all n i t.frames (made_frames x.place made) p.sent (votes ++ new) p.all
+          (proposal_all n i (frame.Accept made.ballot made.slot made.commands) (frame.Accepted made.ballot made.slot made.commands) made.ballot made.slot made.commands (three_in x) refl refl));
       pieces = λ ends. subst (λ (l : List Piece). AreShown i x.start x.log l p.shown) (sym (append-nil t.shown)) (p.pieces ends);
       logged = λ ends. ap (log_after x.log) (append-nil t.shown) ∙ p.logged ends;
       unshown = p.unshown;
       unvoted = λ q. absurd (true≢false (sym ends ∙ q));
       unstored = λ q. absurd (true≢false (sym ends ∙ q));
-      got_only = λ o h. elim h [ inl e ↦ inr (inr (inl e)) | inr old ↦ elim (p.got_only o old) [ inl a ↦ inl a | inr b ↦ inr (inr (inr b)) ] ];
-      got_all = λ o h. inr (p.got_all o h);
+      got_only = λ m h. elim (in_split asked p.got m h) [
+        | inl one ↦ inr (in_later votes (new ++ p.sent) m (in_first new p.sent m (in_proposed made.ballot made.slot made.commands m one)))
+        | inr old ↦ elim (p.got_only m old) [ inl a ↦ inl a | inr b ↦ inr (in_later votes (new ++ p.sent) m (in_later new p.sent m b)) ]
+      ];
+      got_all = λ m h. in_later asked p.got m (p.got_all m h);
     }
-      where
-        prepared_then : (b : Ballot) (f : ℕ) → In (Prepare b f) (vote ∷ accept ∷ p.node.sent) → In (Prepare b f) p.node.sent
-        prepared_then b f (inl e) = absurd (cc)
-        prepared_then b f (inr (inl e)) = absurd (cc)
-        prepared_then b f (inr (inr h)) = h
-
-        began_before : (b : Ballot) (f : ℕ) → In (Prepare b f) (vote ∷ accept ∷ p.node.sent) → AtMost b made.ballot × (b.node ≡ x.place.node) × (f ≤ front_of t.after)
-        began_before b f h = let old = p.knows.proposer.began b f (prepared_then b f h) in (subst (AtMost b) promised old.0, old.1, old.2)
-
-        proposed_now : (b : Ballot) (s : ℕ) (k : Command) → In (Accept b s k) (vote ∷ accept ∷ p.node.sent) → AtMost b made.ballot
-        proposed_now b s k (inl e) = absurd (cc)
-        proposed_now b s k (inr (inl e)) = let same : b ≡ made.ballot = cc in subst (λ (y : Ballot). AtMost y made.ballot) (sym same) (at_most_self made.ballot)
-        proposed_now b s k (inr (inr h)) = subst (AtMost b) promised (p.knows.proposer.proposed b s k h)
-
-        stands_on : (b : Ballot) (f : ℕ) → Stands last b f → front_of t.after < f + WINDOW → front_of t.after < SLOTS
-            → (found : Campaign) × (◌≡◌ {A = Option Campaign} (Some (with_mark c (Ok (Some made)))) (Some found)) × (found.ballot ≡ b) × (found.first ≡ f)
-        stands_on b f st near left =
-            let old : Stands p.node b f = record {
-              began = prepared_then b f st.began;
-              promised = promised ∙ st.promised;
-              unrefused = λ k r s g h. st.unrefused k r s g (inr h);
-            } in
-            let found = p.knows.proposer.stands b f old near left in
-            let same : c ≡ found.0 = same_Some c found.0 (sym is.has ∙ found.1) in
-            (with_mark c (Ok (Some made)), refl, ap (λ (y : Campaign). y.ballot) same ∙ found.2, ap (λ (y : Campaign). y.first) same ∙ found.3)
-
--- ---- its own vote is counted
-
-count_one : (x : Scope) (came : List Arrival) (heard : Hearing) (t : Turn) (from : ℕ) (ballot : Ballot) (slot : ℕ) (command : Command)
-    (p : Path x came heard (applied t.after) t) → In (Accepted from ballot slot command) p.node.has → from < x.place.nodes
-    → Goes x came heard (behind t (counting_one x.place from ballot slot command t.after))
-count_one x came heard t from ballot slot command p had below =
-    subst (λ (r : Result Turn Refusal). Goes x came heard (behind t r)) (counts_one x.given x.place from ballot slot command t.after)
-    (count x came heard t from ballot slot (command ∷ []) p (λ m h. elim h [
-      | inl e ↦ subst (λ (y : Message). In y p.node.has) (sym e) had
-      | inr none ↦ absurd none
-    ]) below)
-
--- ---- the vote that is stored is the proposal
-
-pub none_of_ballot : (held : Option Vote) (ballot : Ballot) → ((v : Vote) → held ≡ Some v → v.ballot ≡ ballot → ⊥) → is_of_ballot held ballot ≡ false
-none_of_ballot None ballot none = refl
-none_of_ballot (Some v) ballot none = by_test (is_same_ballot v.ballot ballot) refl
-  where
-    by_test : (b : Bool) → is_same_ballot v.ballot ballot ≡ b → is_same_ballot v.ballot ballot ≡ false
-    by_test true e = absurd (none v refl (same_if v.ballot ballot e))
-    by_test false e = e
-
-pub stored_new : (held : Option Vote) (ballot : Ballot) (command : Command) → is_of_ballot held ballot ≡ false → stored_in held ballot command ≡ command
-stored_new None ballot command e = refl
-stored_new (Some v) ballot command e = ap (λ (b : Bool). if b then v.command else command) e
 
 -- ---- the close
 
-pub unmarked : (c : Option Campaign) → marked_from c (Ok None) ≡ c
-unmarked None = refl
-unmarked (Some c) = refl
+-- a campaign that proposes in vain has no slot there
+run_fault : (quorum covered done : Bool) (c : Campaign) (value : Option AcceptRun) (fault : ProposeFault)
+    → ◌≡◌ {A = Result (Option AcceptRun) ProposeFault} (if not quorum then Ok None else if not covered then Err OutOfWindow else if done then Ok None else Ok value) (Err fault) → covered ≡ false
+run_fault false covered done c value fault h = absurd (cc)
+run_fault true false done c value fault h = refl
+run_fault true true false c value fault h = absurd (cc)
+run_fault true true true c value fault h = absurd (cc)
 
-closes_by : (x : Scope) (came : List Arrival) (heard : Hearing) (t : Turn) (ends : x.ends ≡ true) (p : Path x came heard (applied t.after) t) (r : Result (Option Made) ProposeFault)
-    → one_at x.place t.after ≡ r
-    → Goes x came heard (behind t (closing_by_one x.place r (record t.after { campaign = marked_from t.after.campaign r })))
+closes_by : (x : Scope) (came : List Arrival) (heard : Hearing) (t : Turn) (ends : x.ends ≡ true) (p : Path x came heard (applied t.after) t) (r : Result (Option AcceptRun) ProposeFault)
+    → proposal_at x.place t.after ≡ r
+    → Goes x came heard (behind t (closing_by x.place r (record t.after { campaign = marked_run_from t.after.campaign r })))
 closes_by x came heard t ends p (Ok None) e =
     subst (λ (c : Option Campaign). Path x came heard (applied t.after) (joined t (still (record t.after { campaign = c })))) (sym (unmarked t.after.campaign))
     (go_on x came heard (applied t.after) t p)
@@ -373,104 +468,65 @@ closes_by x came heard t ends p (Err fault) e = rest x came heard t p (λ b f st
     covered_by true high c el eh h low near = let l = ltb-true (front_of t.after) c.first el in omega arith
     covered_by false high c el eh h low near = let l = ltb-false (front_of t.after) (c.first + WINDOW) (eh ∙ h) in omega arith
 
-    fault_by : (quorum covered done : Bool) (c : Campaign) (value : Option Made)
-        → ◌≡◌ {A = Result (Option Made) ProposeFault} (if not quorum then Ok None else if not covered then Err OutOfWindow else if done then Ok None else Ok value) (Err fault) → covered ≡ false
-    fault_by false covered done c value h = absurd (cc)
-    fault_by true false done c value h = refl
-    fault_by true true false c value h = absurd (cc)
-    fault_by true true true c value h = absurd (cc)
-
     outside : (b : Ballot) (f : ℕ) → Stands p.node b f → front_of t.after < f + WINDOW → front_of t.after < SLOTS → (c : Option Campaign) → t.after.campaign ≡ c
-        → proposal_from x.place.nodes t.after.campaign (front_of t.after) (own_value x.place t.after) ≡ Err fault → ⊥
+        → run_from_campaign x.place.nodes t.after.campaign (front_of t.after) (own_value x.place t.after) ≡ Err fault → ⊥
     outside b f st near left None ec h =
-        let clash : ◌≡◌ {A = Result (Option Made) ProposeFault} (Ok None) (Err fault) =
-        ap (λ (c : Option Campaign). proposal_from x.place.nodes c (front_of t.after) (own_value x.place t.after)) (sym ec) ∙ h in absurd (cc)
+        let clash : ◌≡◌ {A = Result (Option AcceptRun) ProposeFault} (Ok None) (Err fault) =
+        ap (λ (c : Option Campaign). run_from_campaign x.place.nodes c (front_of t.after) (own_value x.place t.after)) (sym ec) ∙ h in absurd (cc)
     outside b f st near left (Some c) ec h =
         let found = p.knows.proposer.stands b f st near left in
         let same : c ≡ found.0 = same_Some c found.0 (sym ec ∙ found.1) in
         let first : c.first ≡ f = ap (λ (y : Campaign). y.first) same ∙ found.3 in
-        let by : proposal_by x.place.nodes c (front_of t.after) (own_value x.place t.after) ≡ Err fault =
-        ap (λ (y : Option Campaign). proposal_from x.place.nodes y (front_of t.after) (own_value x.place t.after)) (sym ec) ∙ h in
+        let by : run_by x.place.nodes c (front_of t.after) (own_value x.place t.after) ≡ Err fault =
+        ap (λ (y : Option Campaign). run_from_campaign x.place.nodes y (front_of t.after) (own_value x.place t.after)) (sym ec) ∙ h in
         let uncovered : is_covered c.first (front_of t.after) ≡ false =
-        fault_by (has_quorum x.place.nodes c) (is_covered c.first (front_of t.after)) (is_proposed c (front_of t.after)) c
-        (accept_of c (front_of t.after) (value_of (greatest_told c (front_of t.after) x.place.nodes) (own_value x.place t.after))) by in
+        run_fault (has_quorum x.place.nodes c) (is_covered c.first (front_of t.after)) (is_proposed c (front_of t.after)) c
+        (accept_run_of c (front_of t.after) (commands_at x.place.nodes c (front_of t.after) (own_value x.place t.after))) fault by in
         covered_by _ _ c refl refl uncovered
         (subst (λ (k : ℕ). k ≤ front_of t.after) (sym first) (p.knows.proposer.began b f st.began).2)
         (subst (λ (k : ℕ). front_of t.after < k + WINDOW) (sym first) near)
 closes_by x came heard t ends p (Ok (Some made)) e = by_campaign (made_by x.place t.after made t.after.campaign refl e)
   where
     by_campaign : (found : (f : Campaign) × IsMade x.place t.after f made)
-        → Goes x came heard (behind t (proposing_one x.place made (record t.after { campaign = marked_from t.after.campaign (Ok (Some made)) })))
+        → Goes x came heard (behind t (proposing x.place made (record t.after { campaign = marked_run_from t.after.campaign (Ok (Some made)) })))
     by_campaign (c, is) =
-        subst (λ (y : Option Campaign). Goes x came heard (behind t (proposing_one x.place made (record t.after { campaign = y })))) (sym marked)
-        (subst (Goes x came heard) (regroup t u (behind v rest_of))
-        (subst (Goes x came heard) (regroup (joined t u) v rest_of)
-        (subst (λ (o : Turn). Goes x came heard (behind o rest_of)) (sym (joined_assoc t u v)) by_vote)))
+        subst (λ (y : Option Campaign). Goes x came heard (behind t (proposing x.place made (record t.after { campaign = y })))) (sym marked)
+        (subst (λ (cs : List Command). Goes x came heard (behind t (behind u (behind (v cs) (rest_of cs))))) (sym o.whole)
+        (subst (Goes x came heard) (regroup t u (behind (v made.commands) (rest_of made.commands)))
+        (subst (Goes x came heard) (regroup (joined t u) (v made.commands) (rest_of made.commands))
+        (subst (λ (k : Turn). Goes x came heard (behind k (rest_of made.commands))) (sym (joined_assoc t u (v made.commands))) by_vote))))
       where
-        marked : marked_from t.after.campaign (Ok (Some made)) ≡ Some (with_mark c (Ok (Some made)))
-        marked = ap (λ (y : Option Campaign). marked_from y (Ok (Some made))) is.has
+        marked : marked_run_from t.after.campaign (Ok (Some made)) ≡ Some (with_marks c (Ok (Some made)))
+        marked = ap (λ (y : Option Campaign). marked_run_from y (Ok (Some made))) is.has
+
+        o : IsOwnRun x.place t.after p.node c made
+        o = own_run x came heard t p c made is
 
         s : Standing
-        s = record t.after { campaign = Some (with_mark c (Ok (Some made))) }
+        s = record t.after { campaign = Some (with_marks c (Ok (Some made))) }
 
         u : Turn
-        u = sending (to_others x.place (frame.Accept made.ballot made.slot (made.command ∷ []))) s
+        u = sending (to_others x.place (frame.Accept made.ballot made.slot made.commands)) s
 
-        v : Turn
-        v = sending (to_others x.place (frame.Accepted made.ballot made.slot (stored_in (s.store.votes made.slot) made.ballot made.command ∷ [])))
-            (with_stored s (storing s.store made.ballot made.slot made.command))
+        v : List Command → Turn
+        v cs = sending (to_others x.place (frame.Accepted made.ballot made.slot cs)) (standing_voted t.after c made)
 
-        rest_of : Result Turn Refusal
-        rest_of = counting_one x.place x.place.node made.ballot made.slot (stored_in (s.store.votes made.slot) made.ballot made.command) v.after
+        rest_of : List Command → Result Turn Refusal
+        rest_of cs = counting_votes x.place x.place.node made.ballot made.slot cs (standing_voted t.after c made)
 
-        held : Option Vote
-        held = t.after.store.votes made.slot
-
-        camp : Campaigns x.place.nodes x.place.node p.node c
-        camp = campaigns_of x.place.nodes x.place.node p.node t.after.campaign c is.has p.knows.proposer.is_campaign
-
-        safe : IsSafe x.place.nodes p.node.has c (front_of t.after) (own_value x.place t.after) made
-        safe = x.given.safe x.place.nodes p.node.has c (front_of t.after) (own_value x.place t.after) made camp.counts is.made_so
-
-        none_stored : (w : Vote) → held ≡ Some w → w.ballot ≡ made.ballot → ⊥
-        none_stored w ew same =
-            x.given.once x.place.nodes p.node.sent c (front_of t.after) (own_value x.place t.after) made w.command camp.marks is.made_so
-            (subst (λ (y : Ballot). In (Accept y made.slot w.command) p.node.sent) (sym safe.ballot)
-            (camp.votes made.slot w (ap (λ (st : Store). st.votes made.slot) p.knows.store ∙ ew) (same ∙ safe.ballot)))
-
-        fresh : is_of_ballot held made.ballot ≡ false
-        fresh = none_of_ballot held made.ballot none_stored
-
-        told : Leads x came heard (applied t.after)
-            (joined t (sending (to_others x.place (frame.Accept made.ballot made.slot (made.command ∷ [])) ++ to_others x.place (frame.Accepted made.ballot made.slot (made.command ∷ [])))
-            (with_stored s (voted t.after.store made.slot (record { ballot = made.ballot; command = made.command })))))
-            (Accepted x.place.node made.ballot made.slot made.command)
-        told = propose x came heard t ends p c made is
-
-        counted : Goes x came heard (behind (joined t (joined u (sending (to_others x.place (frame.Accepted made.ballot made.slot (made.command ∷ [])))
-            (with_stored s (voted t.after.store made.slot (record { ballot = made.ballot; command = made.command }))))))
-            (counting_one x.place x.place.node made.ballot made.slot made.command (with_stored s (voted t.after.store made.slot (record { ballot = made.ballot; command = made.command })))))
-        counted = count_one x came heard _ x.place.node made.ballot made.slot made.command told.path told.had x.is_place.node
-
-        by_vote : Goes x came heard (behind (joined t (joined u v)) rest_of)
+        by_vote : Goes x came heard (behind (joined t (joined u (v made.commands))) (rest_of made.commands))
         by_vote =
-            subst (λ (k : Command). Goes x came heard (behind (joined t (joined u (sending (to_others x.place (frame.Accepted made.ballot made.slot (k ∷ [])))
-            (with_stored s (storing s.store made.ballot made.slot made.command)))))
-            (counting_one x.place x.place.node made.ballot made.slot k (with_stored s (storing s.store made.ballot made.slot made.command)))))
-            (sym (stored_new held made.ballot made.command fresh))
-            (subst (λ (st : Store). Goes x came heard (behind (joined t (joined u (sending (to_others x.place (frame.Accepted made.ballot made.slot (made.command ∷ []))) (with_stored s st))))
-            (counting_one x.place x.place.node made.ballot made.slot made.command (with_stored s st))))
-            (ap (λ (b : Bool). if b then t.after.store else voted t.after.store made.slot (record { ballot = made.ballot; command = made.command })) (sym fresh)) counted)
+            let told = propose x came heard t ends p c made is o in
+            count x came heard (joined t (joined u (v made.commands))) x.place.node made.ballot made.slot made.commands told.path told.had x.is_place.node
 
 close_by : (x : Scope) (came : List Arrival) (heard : Hearing) (t : Turn) (ends : x.ends ≡ true) (p : Path x came heard (applied t.after) t) (b : Bool)
     → (leads x.place.nodes t.after.campaign && nat_le SLOTS (front_of t.after)) ≡ b
     → Goes x came heard (behind t (if b then Ok (still (idle t.after))
-    else closing_by_one x.place (one_at x.place t.after) (record t.after { campaign = marked_from t.after.campaign (one_at x.place t.after) })))
+    else closing_by x.place (proposal_at x.place t.after) (record t.after { campaign = marked_run_from t.after.campaign (proposal_at x.place t.after) })))
 close_by x came heard t ends p true e = rest x came heard t p (λ b f st near left.
     let l = leb-true SLOTS (front_of t.after) (and_parts (leads x.place.nodes t.after.campaign) (nat_le SLOTS (front_of t.after)) e).1 in omega arith)
-close_by x came heard t ends p false e = closes_by x came heard t ends p (one_at x.place t.after) refl
+close_by x came heard t ends p false e = closes_by x came heard t ends p (proposal_at x.place t.after) refl
 
--- at the end of a call a node that leads proposes at its front
+-- at the end of a call a node that leads proposes from its front on
 pub close : (x : Scope) (came : List Arrival) (heard : Hearing) (t : Turn) (ends : x.ends ≡ true) → Path x came heard (applied t.after) t → Goes x came heard (behind t (closing x.place t.after))
-close x came heard t ends p =
-    subst (λ (r : Result Turn Refusal). Goes x came heard (behind t r)) (sym (closes_one x.given x.place t.after)) (close_by x came heard t ends p _ refl)
+close x came heard t ends p = close_by x came heard t ends p _ refl

@@ -20,10 +20,11 @@ use Rattle.node_rules.specs.Learning.{learning}
 use Rattle.node_rules.specs.Given.{Given}
 use Rattle.node_rules.specs.Being.{IsLearner}
 use Rattle.learner.proofs.Counting.{counted_came}
-use Rattle.learner.proofs.Kept.{open_means, open_is}
+use Rattle.learner.proofs.Kept.{open_is}
 use Rattle.learner.proofs.RunSteps.{is_log_heard, front_heard, known_elsewhere}
 use Rattle.learner.proofs.KeptRuns.{run_ok}
-use Rattle.protocol_model.proofs.Sets.{in_first, in_later, in_split}
+use Rattle.protocol_model.proofs.Sets.{Within, in_first, in_later, in_split}
+use Rattle.node_rules.proofs.Together.{answer_is}
 use Rattle.node_rules.proofs.Results.{ok_is}
 
 -- ---- what is counted grows
@@ -41,14 +42,6 @@ pub record Grows (came : List Message) (new : Learned) : Type 0 where
 pub same_grows : (came : List Message) (l new : Learned) → new ≡ l → Counts came l → Grows came new
 same_grows came l new e c = record { more = came; counts = subst (Counts came) (sym e) c; kept = λ m h. h }
 
--- a vote is counted where its slot is ahead
-pub record GrowsBy (came : List Message) (l new : Learned) (voter : ℕ) (ballot : Ballot) (slot : ℕ) (command : Command) : Type 0 where
-  pub grows : Grows came new
-  pub has_vote : IsOpen l.log slot → In (Accepted voter ballot slot command) grows.more
-
-not_open : (l : Learned) (slot : ℕ) → is_open l.log slot ≡ false → IsOpen l.log slot → ⊥
-not_open l slot e o = true≢false (sym (open_is l.log slot o) ∙ e)
-
 -- a vote for an open slot is counted
 pub counts_vote : (g : Given) (came : List Message) (l : Learned) (voter : ℕ) (ballot : Ballot) (slot : ℕ) (command : Command) → IsLog l.log → voter < l.nodes → IsOpen l.log slot
     → IsOk (answer_to l voter ballot slot command) → Counts came l → Counts (Accepted voter ballot slot command ∷ came) (hearing l voter ballot slot command)
@@ -57,34 +50,6 @@ counts_vote g came l voter ballot slot command log low ahead ok c = record {
   counts_all = g.answer_counts_all came l voter ballot slot command low ahead ok c.counts_all;
   knows_chosen = g.answers_known came l voter ballot slot command log ahead low ok c.counts_from c.counts_all c.knows_chosen;
 }
-
-pub vote_grows : (g : Given) (came : List Message) (l : Learned) (voter : ℕ) (ballot : Ballot) (slot : ℕ) (command : Command) → IsLog l.log → voter < l.nodes
-    → IsOk (answer_to l voter ballot slot command) → Counts came l → GrowsBy came l (hearing l voter ballot slot command) voter ballot slot command
-vote_grows g came l voter ballot slot command log low ok c = by_test (is_open l.log slot) refl
-  where
-    vote : Message
-    vote = Accepted voter ballot slot command
-
-    by_test : (b : Bool) → is_open l.log slot ≡ b → GrowsBy came l (hearing l voter ballot slot command) voter ballot slot command
-    by_test true e =
-        let ahead : IsOpen l.log slot = open_means l.log slot e in
-        record {
-          grows = record {
-            more = vote ∷ came;
-            counts = record {
-              counts_from = g.answer_counts (vote ∷ came) l voter ballot slot command (inl refl) (g.more came l vote c.counts_from);
-              counts_all = g.answer_counts_all came l voter ballot slot command low ahead ok c.counts_all;
-              knows_chosen = g.answers_known came l voter ballot slot command log ahead low ok c.counts_from c.counts_all c.knows_chosen;
-            };
-            kept = λ m h. inr h;
-          };
-          has_vote = λ o. inl refl;
-        }
-    by_test false e = record {
-      grows = same_grows came l (hearing l voter ballot slot command)
-          (g.passed_over l voter ballot slot command (λ o. absurd (not_open l slot e o))) c;
-      has_vote = λ o. absurd (not_open l slot e o);
-    }
 
 -- ---- votes for commands at slots that follow one another
 
@@ -158,6 +123,18 @@ in_open_answers log from ballot slot (command ∷ more) v b k c opens (inr h) = 
     by_test true inside = inr inside
     by_test false inside = inside
 
+open_in_answers : (log : Log) (from : ℕ) (ballot : Ballot) (slot : ℕ) (commands : List Command) (m : Message) → In m (open_answers log from ballot slot commands)
+    → In m (answers from ballot slot commands)
+open_in_answers log from ballot slot [] m h = h
+open_in_answers log from ballot slot (command ∷ more) m h = by_test (is_open log slot) h (λ inside. open_in_answers log from ballot (slot + 1) more m inside)
+  where
+    by_test : (x : Bool) → In m (if x then Accepted from ballot slot command ∷ open_answers log from ballot (slot + 1) more else open_answers log from ballot (slot + 1) more)
+        → (In m (open_answers log from ballot (slot + 1) more) → In m (answers from ballot (slot + 1) more))
+        → In m (Accepted from ballot slot command ∷ answers from ballot (slot + 1) more)
+    by_test true (inl e) later = inl e
+    by_test true (inr inside) later = inr (later inside)
+    by_test false inside later = inr (later inside)
+
 -- what isn't refused is heard
 pub heard_run : (l : Learned) (from : ℕ) (ballot : Ballot) (slot : ℕ) (commands : List Command) → IsOk (answer_to_run l from ballot slot commands)
     → hearing_run l from ballot slot commands ≡ hearing_each l from ballot slot commands
@@ -167,6 +144,7 @@ heard_run l from ballot slot commands ok = ap (λ (b : Bool). if b then l else h
 pub record GrowsByEach (came : List Message) (l new : Learned) (voter : ℕ) (ballot : Ballot) (slot : ℕ) (commands : List Command) : Type 0 where
   pub grows : Grows came new
   pub has_votes : (v : ℕ) (b : Ballot) (k : ℕ) (c : Command) → In (Accepted v b k c) (answers voter ballot slot commands) → IsOpen l.log k → In (Accepted v b k c) grows.more
+  pub only : (m : Message) → In m grows.more → In m (answers voter ballot slot commands) ⊎ In m came
 
 pub votes_grow : (g : Given) (came : List Message) (l : Learned) (voter : ℕ) (ballot : Ballot) (slot : ℕ) (commands : List Command) → IsLog l.log → voter < l.nodes → length commands ≤ WINDOW
     → IsOk (answer_to_run l voter ballot slot commands) → Counts came l → GrowsByEach came l (hearing_run l voter ballot slot commands) voter ballot slot commands
@@ -181,6 +159,7 @@ votes_grow g came l voter ballot slot commands log low most ok c = record {
     kept = λ m h. in_later (open_answers l.log voter ballot slot commands) came m h;
   };
   has_votes = λ v b k d h opens. in_first (open_answers l.log voter ballot slot commands) came (Accepted v b k d) (in_open_answers l.log voter ballot slot commands v b k d (open_is l.log k opens) h);
+  only = λ m h. elim (in_split (open_answers l.log voter ballot slot commands) came m h) [ inl new ↦ inl (open_in_answers l.log voter ballot slot commands m new) | inr old ↦ inr old ];
 }
   where
     more : List Message
@@ -202,6 +181,15 @@ votes_grow g came l voter ballot slot commands log low most ok c = record {
           (in_open_answers l.log voter ballot slot commands node tally.ballot k tally.command (was_open g l voter ballot slot commands k log most at.2 at.3 opens) own))
       | inr old ↦ in_later (open_answers l.log voter ballot slot commands) came (Accepted node tally.ballot k tally.command) old
     ]
+
+-- where all of their slots are open, all of the votes are had
+pub answers_had : (g : Given) (came : List Message) (l new : Learned) (voter : ℕ) (ballot : Ballot) (slot : ℕ) (commands : List Command) (grows : GrowsByEach came l new voter ballot slot commands)
+    → ((k : ℕ) → slot ≤ k → k < slot + length commands → IsOpen l.log k) → Within (answers voter ballot slot commands) grows.grows.more
+answers_had g came l new voter ballot slot commands grows opens m inside =
+    let e = answer_is voter ballot slot commands m inside in
+    let v : In (Accepted voter ballot e.0 e.1) (answers voter ballot slot commands) = subst (λ (y : Message). In y (answers voter ballot slot commands)) e.2 inside in
+    let at = (g.in_answers voter voter ballot ballot slot e.0 e.1 commands).0 v in
+    subst (λ (y : Message). In y grows.grows.more) (sym e.2) (grows.has_votes voter ballot e.0 e.1 v (opens e.0 at.2 at.3))
 
 pub belief_grows : (g : Given) (came : List Message) (l : Learned) (slot : ℕ) (command : Command) → IsLog l.log → Counts came l → Grows came (with_chosen l slot command)
 belief_grows g came l slot command log c = record {

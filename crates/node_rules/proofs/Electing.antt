@@ -1,5 +1,5 @@
 -- A quorum's promises make a proposal.
-use Rattle.std.proofs.Common.{◌≡◌, ℕ, ◌<◌, ◌≤◌, ◌+◌, ◌*◌, ◌⊎◌, inl, inr, Bool, true, false, not, if◌then◌else◌, Option, Some, None, Result, Ok, Err, refl, sym, ap, subst, ◌∙◌, arith}
+use Rattle.std.proofs.Common.{◌≡◌, ℕ, ◌<◌, ◌≤◌, ◌+◌, ◌-◌, ◌*◌, ◌⊎◌, inl, inr, Bool, true, false, not, if◌then◌else◌, List, Option, Some, None, Result, Ok, Err, refl, sym, ap, subst, ◌∙◌, arith}
 use Rattle.std.specs.Prelude.{is_some}
 use Rattle.std.proofs.lemmas.Bool.{lt-ltb, le-ltb, ltb-true}
 use Rattle.paxos_wire.specs.declared.limits.TheConstants.{WINDOW}
@@ -10,11 +10,12 @@ use Rattle.protocol_model.specs.Sets.{In}
 use Rattle.protocol_model.specs.Messages.{Accept}
 use Rattle.protocol_model.specs.Quorums.{count, IsFree}
 use Rattle.protocol_model.specs.Nodes.{Node}
-use Rattle.proposer.specs.declared.accept.Accept.{Accept as Made}
+use Rattle.proposer.specs.declared.accept_run.AcceptRun.{AcceptRun}
 use Rattle.proposer.specs.declared.campaign.Campaign.{Campaign}
 use Rattle.proposer.specs.declared.fault.ProposeFault.{ProposeFault}
 use Rattle.proposer.specs.declared.fault.ProposeFault.TheVariants.{OutOfWindow}
-use Rattle.proposer.specs.Campaigns.{promise_by, has_promised, has_quorum, leads, is_covered, is_proposed, accept_of, value_of, greatest_told, proposal_by, proposal_from}
+use Rattle.proposer.specs.Campaigns.{promise_by, has_promised, has_quorum, leads, is_covered, is_proposed, greatest_told}
+use Rattle.proposer.specs.CommandRuns.{told_commands, commands_of, commands_at, accept_run_of, run_by, run_from_campaign}
 use Rattle.proposer.specs.Counted.{HasQuorum, IsGreatest}
 use Rattle.dealer_kind.specs.Kind.{dealer_of}
 use Rattle.node_rules.specs.Standings.{Place, Standing, applied, front_of}
@@ -23,7 +24,6 @@ use Rattle.node_rules.specs.Given.{Given}
 use Rattle.node_rules.specs.Being.{Campaigns, Knows, IsOf}
 use Rattle.node_rules.specs.Proposed.{IsValue}
 use Rattle.node_rules.specs.Outcomes.{IsElected, HasValue, PromisesMakeProposals}
-use Rattle.node_rules.proofs.Ones.{one_at, none_of_one}
 use Rattle.node_rules.proofs.Closing.{campaigns_of}
 use Rattle.node_rules.proofs.Sent.{sent_by_chain}
 
@@ -37,11 +37,11 @@ is_there None e = absurd (cc)
 is_there (Some a) e = (a, refl)
 
 -- a promise that isn't there tells of nothing, and no own value: nothing to propose
-no_value : (told : Option Entry) (own : Option Command) (c : Campaign) (at : ℕ) → ◌≡◌ {A = Result (Option Made) ProposeFault} (Ok (accept_of c at (value_of told own))) (Ok None)
-    → (told ≡ None) × (own ≡ None)
-no_value None None c at e = (refl, refl)
-no_value None (Some command) c at e = absurd (cc)
-no_value (Some entry) own c at e = absurd (cc)
+no_value : (told : Option Entry) (behind : List Command) (own : Option Command) (c : Campaign) (at : ℕ)
+    → ◌≡◌ {A = Result (Option AcceptRun) ProposeFault} (Ok (accept_run_of c at (commands_of told behind own))) (Ok None) → (told ≡ None) × (own ≡ None)
+no_value None behind None c at e = (refl, refl)
+no_value None behind (Some command) c at e = absurd (cc)
+no_value (Some entry) behind own c at e = absurd (cc)
 
 -- ---- promises that tell of nothing
 
@@ -67,21 +67,21 @@ pub record IsMarked (node : Node) (c : Campaign) (at : ℕ) : Type 0 where
   pub sent : In (Accept c.ballot at command) node.sent
 
 marked_by : (g : Given) (n i : ℕ) (node : Node) (c : Campaign) (at : ℕ) (own : Option Command) → Campaigns n i node c → has_quorum n c ≡ true → c.first ≤ at → at < c.first + WINDOW
-    → (IsFree n node.has c.ballot at → ⊥) ⊎ ((command : Command) × (own ≡ Some command)) → proposal_by n c at own ≡ Ok None → IsMarked node c at
+    → (IsFree n node.has c.ballot at → ⊥) ⊎ ((command : Command) × (own ≡ Some command)) → run_by n c at own ≡ Ok None → IsMarked node c at
 marked_by g n i node c at own h quorum low high value e = by_mark (is_proposed c at) refl (sym opened ∙ e)
   where
-    opened : proposal_by n c at own ≡ (if is_proposed c at then Ok None else Ok (accept_of c at (value_of (greatest_told c at n) own)))
+    opened : run_by n c at own ≡ (if is_proposed c at then Ok None else Ok (accept_run_of c at (commands_at n c at own)))
     opened = λ j. if not (quorum j) then Ok None
         else if not (covered c.first at low high j) then Err OutOfWindow
         else if is_proposed c at then Ok None
-        else Ok (accept_of c at (value_of (greatest_told c at n) own))
+        else Ok (accept_run_of c at (commands_at n c at own))
 
     by_mark : (b : Bool) → is_proposed c at ≡ b
-        → ◌≡◌ {A = Result (Option Made) ProposeFault} (if is_proposed c at then Ok None else Ok (accept_of c at (value_of (greatest_told c at n) own))) (Ok None) → IsMarked node c at
+        → ◌≡◌ {A = Result (Option AcceptRun) ProposeFault} (if is_proposed c at then Ok None else Ok (accept_run_of c at (commands_at n c at own))) (Ok None) → IsMarked node c at
     by_mark true eb k = let m = h.marks.only at (low, omega arith) eb in record { command = m.0; sent = m.1 }
     by_mark false eb k =
-        let none = no_value (greatest_told c at n) own c at
-        (sym (ap (λ (b : Bool). let r : Result (Option Made) ProposeFault = if b then Ok None else Ok (accept_of c at (value_of (greatest_told c at n) own)) in r) eb) ∙ k) in
+        let none = no_value (greatest_told c at n) (told_commands n c (WINDOW - 1) (at + 1)) own c at
+        (sym (ap (λ (b : Bool). let r : Result (Option AcceptRun) ProposeFault = if b then Ok None else Ok (accept_run_of c at (commands_at n c at own)) in r) eb) ∙ k) in
         absurd (elim value [
           | inl told ↦ told (silent g n i node c at h quorum low high none.0)
           | inr held ↦ (let clash : ◌≡◌ {A = Option Command} None (Some held.0) = sym none.1 ∙ held.1 in let bad : ⊥ = cc in bad)
@@ -115,9 +115,9 @@ proposed_of g own place s node ballot first of up e value = (
     quorum = (g.quorum place.nodes node.has found.0 camp.counts camp.counts_all).1
         (subst (λ (b : Ballot). HasQuorum place.nodes node.has b found.0.first) (sym found.2) (subst (HasQuorum place.nodes node.has ballot) (sym found.3) e.quorum))
 
-    none : proposal_by place.nodes found.0 (front_of s) (own_value place s) ≡ Ok None
-    none = ap (λ (y : Option Campaign). proposal_from place.nodes y (front_of s) (own_value place s)) (sym found.1)
-        ∙ none_of_one (one_at place s) ((of.runs up).settled (ap (leads place.nodes) found.1 ∙ quorum)).1
+    none : run_by place.nodes found.0 (front_of s) (own_value place s) ≡ Ok None
+    none = ap (λ (y : Option Campaign). run_from_campaign place.nodes y (front_of s) (own_value place s)) (sym found.1)
+        ∙ ((of.runs up).settled (ap (leads place.nodes) found.1 ∙ quorum)).1
 
     marked : IsMarked node found.0 (front_of s)
     marked = marked_by g place.nodes place.node node found.0 (front_of s) (own_value place s) camp quorum

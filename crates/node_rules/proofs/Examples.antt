@@ -18,6 +18,7 @@ use Rattle.protocol_model.specs.Dealers.{Seat, Log}
 use Rattle.protocol_model.specs.Stores.{Store, empty_store, promised, voted}
 use Rattle.proposer.specs.declared.campaign.Campaign.{Campaign}
 use Rattle.proposer.specs.Campaigns.{leads}
+use Rattle.proposer.specs.CommandRuns.{told_commands}
 use Rattle.seat_session.specs.Session.{Standing as Talk, fresh, closed_by}
 use Rattle.seat_session.specs.declared.phase.Phase.TheVariants.{Ready as InPlay}
 use Rattle.seat_session.specs.declared.said.Said.TheVariants.{Ready, Act as Acts}
@@ -37,7 +38,7 @@ use Rattle.node_rules.specs.Rules.{on_message, starting, stopping, IsTurn, highe
 
 -- opens the definitions
 unfoldable pub opened : ℕ
-unfolding log_opened is_same is_of to_first taking_all telling_from told_from answering_all hearing_each chosen_each is_refused
+unfolding log_opened is_same is_of to_first taking_all telling_from told_from told_commands answering_all hearing_each chosen_each is_refused
 opened = 0
 
 abbrev pub setting : Setting
@@ -370,6 +371,46 @@ second_is_counted : voting_for_two.after.learned.cells
     ≡ (record own_vote { nodes = false ∷ true ∷ false ∷ false ∷ false ∷ false ∷ false ∷ [] } ∷ []) ∷ (record own_fold { nodes = false ∷ true ∷ false ∷ false ∷ false ∷ false ∷ false ∷ [] } ∷ []) ∷ replicate 62 []
 unfolding opened
 second_is_counted = refl
+
+-- a node to which both are told proposes both at once, and nothing of its own behind them
+abbrev taken_over_two : Turn
+taken_over_two = done (on_message (place 2) 1 (Promise (ballot 2 2) 0 (told ∷ record told { slot = 1; command = Act 0 0 Fold } ∷ [])) ticked_2.after)
+
+both_are_proposed : taken_over_two.frames
+    ≡ to 0 (Accept (ballot 2 2) 0 two) ∷ to 1 (Accept (ballot 2 2) 0 two) ∷ to 0 (Accepted (ballot 2 2) 0 two) ∷ to 1 (Accepted (ballot 2 2) 0 two) ∷ []
+unfolding opened
+both_are_proposed = refl
+
+both_are_voted_for : (taken_over_two.after.store.votes 0 ≡ Some (record { ballot = ballot 2 2; command = dealt 0 }))
+    × (taken_over_two.after.store.votes 1 ≡ Some (record { ballot = ballot 2 2; command = Act 0 0 Fold }))
+unfolding opened
+both_are_voted_for = (refl, refl)
+
+-- where the front then passes the first of them, nothing is proposed twice
+nothing_twice : (done (on_message (place 2) 0 (Chosen 0 (dealt 0)) taken_over_two.after)).frames ≡ []
+unfolding opened
+nothing_twice = refl
+
+-- where the second alone is told, its own deal goes alone
+own_before_a_told_one : (done (on_message (place 2) 1 (Promise (ballot 2 2) 0 (record told { slot = 1; command = Act 0 0 Fold } ∷ [])) ticked_2.after)).frames
+    ≡ to 0 (Accept (ballot 2 2) 0 (dealt 2 ∷ [])) ∷ to 1 (Accept (ballot 2 2) 0 (dealt 2 ∷ []))
+    ∷ to 0 (Accepted (ballot 2 2) 0 (dealt 2 ∷ [])) ∷ to 1 (Accepted (ballot 2 2) 0 (dealt 2 ∷ [])) ∷ []
+unfolding opened
+own_before_a_told_one = refl
+
+-- of a slot behind one of which none is told nothing is proposed yet
+gap_stays : (done (on_message (place 2) 1 (Promise (ballot 2 2) 0 (told ∷ record told { slot = 2; command = Act 0 0 Fold } ∷ [])) ticked_2.after)).frames ≡ taken_over.frames
+unfolding opened
+gap_stays = refl
+
+-- where the second alone is stored, the first is taken alone
+abbrev second_voted : Store
+second_voted = voted (promised empty_store (ballot 1 0)) 1 (record { ballot = ballot 1 0; command = Act 0 0 Fold })
+
+first_is_taken_alone : (done (on_message (place 1) 0 (Accept (ballot 1 0) 0 two) (record promised_1 { store = second_voted; begun = second_voted }))).frames
+    ≡ to 0 (Accepted (ballot 1 0) 0 (dealt 0 ∷ [])) ∷ to 2 (Accepted (ballot 1 0) 0 (dealt 0 ∷ [])) ∷ []
+unfolding opened
+first_is_taken_alone = refl
 
 -- where the first is stored already, it is told alone
 first_is_told_alone : (done (on_message (place 1) 0 (Accept (ballot 1 0) 0 two) voted_1)).frames

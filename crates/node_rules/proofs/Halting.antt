@@ -1,5 +1,5 @@
 -- Calls that stop in their append: the chain as far as the append, with nothing shown.
-use Rattle.std.proofs.Common.{◌≡◌, ◌≢◌, ℕ, ◌+◌, ◌<◌, ◌≤◌, ◌⊎◌, inl, inr, Bool, true, false, true≢false, not, if◌then◌else◌, ◌&&◌, List, [], ◌∷◌, Option, Some, None, Result, Ok, Err, refl, sym, ap, subst, ◌∙◌, arith, length}
+use Rattle.std.proofs.Common.{◌≡◌, ◌≢◌, ℕ, ◌+◌, ◌<◌, ◌≤◌, ◌⊎◌, inl, inr, Bool, true, false, true≢false, not, if◌then◌else◌, ◌&&◌, List, [], ◌∷◌, ◌++◌, Option, Some, None, Result, Ok, Err, refl, sym, ap, subst, arith, length}
 use Rattle.std.specs.Prelude.{nat_le}
 use Rattle.paxos_wire.specs.declared.limits.TheConstants.{SLOTS}
 use Rattle.paxos_wire.specs.declared.ballot.Ballot.{Ballot}
@@ -12,40 +12,40 @@ use Rattle.protocol_model.specs.Sets.{In}
 use Rattle.protocol_model.specs.Ballots.{Below, AtMost}
 use Rattle.protocol_model.specs.Messages.{Message, Prepare, Promise, Refuse, Accept, Accepted, Ask, Forward, sender_of}
 use Rattle.protocol_model.specs.Frames.{carried, proposals}
-use Rattle.protocol_model.specs.Stores.{Store, promised, voted, Append, unchanged, moved, own_promise, promise, vote}
+use Rattle.protocol_model.specs.CommandRuns.{proposed, sending_all}
+use Rattle.protocol_model.specs.Stores.{Store, promised, Append, unchanged, moved, own_promise, promise}
 use Rattle.protocol_model.specs.Calls.{HasGotAtMost}
 use Rattle.protocol_model.specs.Nodes.{Node}
 use Rattle.protocol_model.specs.Arrivals.{Arrival}
-use Rattle.protocol_model.specs.Moves.{Shown, Chain, nothing, sending as sends, with_sent, more, gets, proposes}
-use Rattle.proposer.specs.declared.accept.Accept.{Accept as Made}
+use Rattle.protocol_model.specs.Moves.{Shown, Chain, with_sent}
+use Rattle.proposer.specs.declared.accept_run.AcceptRun.{AcceptRun}
 use Rattle.proposer.specs.declared.campaign.Campaign.{Campaign}
 use Rattle.proposer.specs.declared.fault.ProposeFault.{ProposeFault}
 use Rattle.paxos_wire.specs.Order.{is_below}
 use Rattle.proposer.specs.declared.fault.ProposeFault.TheVariants.{OutOfWindow}
-use Rattle.proposer.specs.Laws.{IsSafe}
-use Rattle.proposer.specs.Campaigns.{next_ballot, leads, is_covered, is_proposed, accept_of, value_of, greatest_told, proposal_from, marked_from}
-use Rattle.learner.specs.Learning.{Learned, answer_to, hearing}
+use Rattle.proposer.specs.Campaigns.{next_ballot, leads, is_covered, is_proposed}
+use Rattle.proposer.specs.CommandRuns.{commands_at, accept_run_of, run_from_campaign, marked_run_from}
+use Rattle.learner.specs.Learning.{Learned}
 use Rattle.learner.specs.CommandRuns.{answer_to_run, hearing_run}
 use Rattle.node_rules.specs.Standings.{Standing, applied, front_of, with_stored, idle}
 use Rattle.node_rules.specs.Sending.{one, to_others}
 use Rattle.node_rules.specs.Turns.{Turn, Refusal, Spent, still, sending, joined, behind, and_then}
 use Rattle.node_rules.specs.Learning.{learning, counting_votes, telling}
-use Rattle.protocol_model.specs.Votes.{told_by, is_of_ballot, stored_in, storing, command_run_at, taking_command_run}
+use Rattle.protocol_model.specs.Votes.{told_by, command_run_at, taking_command_run}
 use Rattle.node_rules.specs.Accepting.{promising, refusing, preparing, voting, accepting}
-use Rattle.node_rules.specs.Proposing.{higher, greatest_seen, is_over, is_spent, beginning, ticking, own_value, closing}
+use Rattle.node_rules.specs.Proposing.{higher, greatest_seen, is_over, is_spent, beginning, ticking, own_value, closing_by, proposing, proposal_at, closing}
 use Rattle.node_rules.specs.Rules.{ballots_of, highest, seeing, taking, asking, on_read}
-use Rattle.node_rules.specs.Being.{Campaigns}
 use Rattle.node_rules.specs.Called.{said_in, IsSent}
-use Rattle.protocol_model.proofs.Sets.{Within, in_split}
+use Rattle.protocol_model.proofs.Sets.{Within, in_first, in_later, in_split}
 use Rattle.protocol_model.proofs.Ballots.{at_most_self, below_if, at_most_if_not}
 use Rattle.node_rules.proofs.Ordering.{higher_is}
-use Rattle.node_rules.proofs.Keeping.{with_got}
 use Rattle.node_rules.proofs.Paths.{Hearing, Scope, dealer_in, first_in, Path, Goes, has_in, regroup, three_in}
 use Rattle.node_rules.proofs.Promising.{refuse}
-use Rattle.node_rules.proofs.Ones.{counting_one, voting_one, proposing_one, one_at, closing_by_one, closes_one}
+use Rattle.node_rules.proofs.Together.{with_got_each, own_chain, no_answer, proposals_own}
+use Rattle.node_rules.proofs.OwnRuns.{in_proposed, in_proposals}
 use Rattle.paxos_wire.specs.Fits.{HasCommands}
 use Rattle.node_rules.proofs.Asked.{asked_same}
-use Rattle.node_rules.proofs.Closing.{IsMade, made_by, campaigns_of, may}
+use Rattle.node_rules.proofs.Closing.{IsMade, made_by, IsOwnRun, own_run, proposes_run}
 use Rattle.node_rules.proofs.Asking.{tell_known, behind_still}
 use Rattle.node_rules.proofs.Framing.{hand_on, chosen_goes, accepted_goes}
 use Rattle.node_rules.proofs.Ticking.{above}
@@ -113,14 +113,14 @@ leaves_behind x came u (Err e) h = tt
 -- ---- the close
 
 -- a node that doesn't lead proposes nothing
-pub unled_by : (n : ℕ) (c : Option Campaign) (front : ℕ) (own : Option Command) → leads n c ≡ false → proposal_from n c front own ≡ Ok None
+pub unled_by : (n : ℕ) (c : Option Campaign) (front : ℕ) (own : Option Command) → leads n c ≡ false → run_from_campaign n c front own ≡ Ok None
 unled_by n None front own e = refl
 unled_by n (Some c) front own e = ap (λ (b : Bool). if not b then Ok None else if not (is_covered c.first front) then Err OutOfWindow
     else if is_proposed c front then Ok None
-    else Ok (accept_of c front (value_of (greatest_told c front n) own))) e
+    else Ok (accept_run_of c front (commands_at n c front own))) e
 
-close_unled_by : (x : Scope) (came : List Arrival) (s : Standing) (store : Store) (a b : Bool) (r : Result (Option Made) ProposeFault) → a ≡ false → r ≡ Ok None → s.store ≡ store → Halted x came store
-    → Leaves x came (if a && b then Ok (still (idle s)) else closing_by_one x.place r (record s { campaign = marked_from s.campaign r }))
+close_unled_by : (x : Scope) (came : List Arrival) (s : Standing) (store : Store) (a b : Bool) (r : Result (Option AcceptRun) ProposeFault) → a ≡ false → r ≡ Ok None → s.store ≡ store → Halted x came store
+    → Leaves x came (if a && b then Ok (still (idle s)) else closing_by x.place r (record s { campaign = marked_run_from s.campaign r }))
 close_unled_by x came s store true b r e er es h = absurd (true≢false e)
 close_unled_by x came s store false b (Err f) e er es h = absurd (cc)
 close_unled_by x came s store false b (Ok (Some made)) e er es h = absurd (cc)
@@ -128,95 +128,87 @@ close_unled_by x came s store false b (Ok None) e er es h = subst (Halted x came
 
 close_unled : (x : Scope) (came : List Arrival) (s : Standing) → leads x.place.nodes s.campaign ≡ false → Halted x came s.store → Leaves x came (closing x.place s)
 close_unled x came s e h =
-    subst (Leaves x came) (sym (closes_one x.given x.place s))
-    (close_unled_by x came s s.store (leads x.place.nodes s.campaign) (nat_le SLOTS (front_of s)) (one_at x.place s) e (unled_by x.place.nodes s.campaign (front_of s) (own_value x.place s) e) refl h)
+    close_unled_by x came s s.store (leads x.place.nodes s.campaign) (nat_le SLOTS (front_of s)) (proposal_at x.place s) e (unled_by x.place.nodes s.campaign (front_of s) (own_value x.place s) e) refl h
 
--- what is left where a vote is counted: the store stays
+-- what is left where votes are counted: the store stays
 counted_leaves : (x : Scope) (came : List Arrival) (s : Standing) {A : Type 0} (answer : Result A SlotFault) (new : Learned) → Halted x came s.store → Leaves x came (learning x.place answer new s)
 counted_leaves x came s (Ok a) new h = h
 counted_leaves x came s (Err e) new h = tt
 
-vote_append : (i : ℕ) (has : List Message) (old : Store) (ballot : Ballot) (slot : ℕ) (command : Command) (b : Bool) → In (Accept ballot slot command) has → AtMost old.promise ballot
-    → Append i has old (if b then old else voted old slot (record { ballot = ballot; command = command }))
-vote_append i has old ballot slot command true had up = unchanged _ refl
-vote_append i has old ballot slot command false had up = moved _ _ (unchanged _ refl) (vote ballot slot command had up refl)
-
 -- the node proposes, and stops as it votes for that
-halt_proposed : (x : Scope) (came : List Arrival) (heard : Hearing) (t : Turn) (c : Campaign) (made : Made) → x.ends ≡ false → x.had ≡ (first_in x).has
-    → (p : Path x came heard (applied t.after) t) → IsMade x.place t.after c made → Halted x came (storing t.after.store made.ballot made.slot made.command)
+halt_proposed : (x : Scope) (came : List Arrival) (heard : Hearing) (t : Turn) (c : Campaign) (made : AcceptRun) → x.ends ≡ false → x.had ≡ (first_in x).has
+    → (p : Path x came heard (applied t.after) t) → IsMade x.place t.after c made → Halted x came (taking_command_run t.after.store made.ballot made.slot made.commands)
 halt_proposed x came heard t c made q same p is = record {
-  sent = accept ∷ p.sent;
-  last = with_got (with_sent p.node (accept ∷ [])) accept;
-  chain = subst (λ (l : List Shown). Chain (dealer_in x) x.place.nodes x.place.node x.world.ever (first_in x) (record { sent = accept ∷ p.sent; shown = l; came = came }) (with_got (with_sent p.node (accept ∷ [])) accept)) (p.unshown q)
-      (more _ (with_sent p.node (accept ∷ [])) nothing _ _
-      (more _ p.node (sends accept) _ _ p.chain
-      (proposes made.ballot c.first made.slot made.command p.knows.up
-      (subst (λ (b : Ballot). In (Prepare b c.first) p.node.sent) (sym safe.ballot) camp.prepared)
-      (λ other h. x.given.once x.place.nodes p.node.sent c (front_of t.after) (own_value x.place t.after) made other camp.marks is.made_so h)
-      (ap (λ (b : Ballot). b.node) safe.ballot ∙ camp.own) (may x came heard t p c made safe) refl refl) refl)
-      (gets accept p.knows.up (inl refl) refl refl) refl);
+  sent = new ++ p.sent;
+  last = with_got_each (with_sent p.node new) asked;
+  chain = subst (λ (l : List Shown). Chain (dealer_in x) x.place.nodes x.place.node x.world.ever (first_in x) (record { sent = new ++ p.sent; shown = l; came = came }) (with_got_each (with_sent p.node new) asked)) (p.unshown q)
+      (own_chain (dealer_in x) x.place.nodes x.place.node x.world.ever (first_in x) (record { sent = new ++ p.sent; shown = p.shown; came = came }) (with_sent p.node new) asked p.knows.up
+      (λ m h. in_first new p.sent m (in_proposed made.ballot made.slot made.commands m h))
+      (x.given.join (dealer_in x) x.place.nodes x.place.node x.world.ever (first_in x) (record { sent = p.sent; shown = p.shown; came = came }) p.node (sending_all new) (with_sent p.node new) p.chain
+      (proposes_run x came heard t p c made o)));
   up = p.knows.up;
   same_store = p.unstored q;
-  append = subst (λ (st : Store). Append x.place.node (accept ∷ p.node.has) p.node.store (storing st made.ballot made.slot made.command)) p.knows.store
-      (vote_append x.place.node (accept ∷ p.node.has) p.node.store made.ballot made.slot made.command (is_of_ballot (p.node.store.votes made.slot) made.ballot) (inl refl)
-      (subst (AtMost p.node.store.promise) (camp.promised ∙ sym safe.ballot) (at_most_self p.node.store.promise)));
-  own = λ m h. elim h [ inl e ↦ ap sender_of e ∙ (ap (λ (b : Ballot). b.node) safe.ballot ∙ camp.own) | inr old ↦ p.carry.own m old ];
-  unvoted = λ k b l d h. unvoted_now k b l d h;
+  append = subst (λ (st : Store). Append x.place.node (asked ++ p.node.has) p.node.store (taking_command_run st made.ballot made.slot made.commands)) p.knows.store
+      (x.given.command_run_append x.place.node (asked ++ p.node.has) p.node.store made.ballot made.slot made.commands
+      (subst (AtMost p.node.store.promise) o.promised (at_most_self p.node.store.promise)) (λ m h. in_first asked p.node.has m h));
+  own = λ m h. elim (in_split new p.sent m h) [ inl one ↦ proposals_own x.place.node made.ballot made.slot made.commands o.mine m one | inr old ↦ p.carry.own m old ];
+  unvoted = λ k b l d h. elim (in_split new p.sent (Accepted k b l d) h) [
+    | inl one ↦ no_answer made.ballot made.slot made.commands k b l d (in_proposals made.ballot made.slot made.commands (Accepted k b l d) one)
+    | inr old ↦ p.unvoted q k b l d old
+  ];
   got = λ m h. got_now m h;
 }
   where
-    accept : Message
-    accept = Accept made.ballot made.slot made.command
+    o : IsOwnRun x.place t.after p.node c made
+    o = own_run x came heard t p c made is
 
-    camp : Campaigns x.place.nodes x.place.node p.node c
-    camp = campaigns_of x.place.nodes x.place.node p.node t.after.campaign c is.has p.knows.proposer.is_campaign
+    new : List Message
+    new = proposed made.ballot made.slot made.commands
 
-    safe : IsSafe x.place.nodes p.node.has c (front_of t.after) (own_value x.place t.after) made
-    safe = x.given.safe x.place.nodes p.node.has c (front_of t.after) (own_value x.place t.after) made camp.counts is.made_so
+    asked : List Message
+    asked = proposals made.ballot made.slot made.commands
 
-    unvoted_now : (k : ℕ) (b : Ballot) (l : ℕ) (d : Command) → In (Accepted k b l d) (accept ∷ p.sent) → ⊥
-    unvoted_now k b l d (inl e) = cc
-    unvoted_now k b l d (inr old) = p.unvoted q k b l d old
-
-    got_now : (m : Message) → In m (accept ∷ p.node.has) → In m (first_in x).has ⊎ (In m x.messages ⊎ In m (accept ∷ p.sent))
-    got_now m (inl e) = inr (inr (inl e))
-    got_now m (inr old) = elim (got_at_most x came heard (applied t.after) t same p m old) [
-      | inl had ↦ inl had
-      | inr new ↦ elim new [ inl a ↦ inr (inl a) | inr b ↦ inr (inr (inr b)) ]
+    got_now : (m : Message) → In m (proposals made.ballot made.slot made.commands ++ p.node.has)
+        → In m (first_in x).has ⊎ (In m x.messages ⊎ In m (proposed made.ballot made.slot made.commands ++ p.sent))
+    got_now m h = elim (in_split asked p.node.has m h) [
+      | inl one ↦ inr (inr (in_first new p.sent m (in_proposed made.ballot made.slot made.commands m one)))
+      | inr old ↦ elim (got_at_most x came heard (applied t.after) t same p m old) [
+        | inl had ↦ inl had
+        | inr other ↦ elim other [ inl a ↦ inr (inl a) | inr b ↦ inr (inr (in_later new p.sent m b)) ]
+      ]
     ]
 
-proposal_leaves : (x : Scope) (came : List Arrival) (heard : Hearing) (t : Turn) (made : Made) → x.ends ≡ false → x.had ≡ (first_in x).has
+proposal_leaves : (x : Scope) (came : List Arrival) (heard : Hearing) (t : Turn) (made : AcceptRun) → x.ends ≡ false → x.had ≡ (first_in x).has
     → (p : Path x came heard (applied t.after) t) → (found : (f : Campaign) × IsMade x.place t.after f made) → (c : Option Campaign)
-    → Leaves x came (proposing_one x.place made (record t.after { campaign = c }))
+    → Leaves x came (proposing x.place made (record t.after { campaign = c }))
 proposal_leaves x came heard t made q same p found c =
-    leaves_behind x came (sending (to_others x.place (frame.Accept made.ballot made.slot (made.command ∷ []))) s) (voting_one x.place made.ballot made.slot made.command s)
-    (leaves_behind x came (sending (to_others x.place (frame.Accepted made.ballot made.slot (stored ∷ []))) after) (counting_one x.place x.place.node made.ballot made.slot stored after)
-    (counted_leaves x came after (answer_to after.learned x.place.node made.ballot made.slot stored) (hearing after.learned x.place.node made.ballot made.slot stored)
+    leaves_behind x came (sending (to_others x.place (frame.Accept made.ballot made.slot made.commands)) s) (voting x.place made.ballot made.slot made.commands s)
+    (leaves_behind x came (sending (to_others x.place (frame.Accepted made.ballot made.slot told)) after) (counting_votes x.place x.place.node made.ballot made.slot told after)
+    (counted_leaves x came after (answer_to_run after.learned x.place.node made.ballot made.slot told) (hearing_run after.learned x.place.node made.ballot made.slot told)
     (halt_proposed x came heard t found.0 made q same p found.1)))
   where
     s : Standing
     s = record t.after { campaign = c }
 
-    stored : Command
-    stored = stored_in (t.after.store.votes made.slot) made.ballot made.command
+    told : List Command
+    told = command_run_at t.after.store made.ballot made.slot made.commands
 
     after : Standing
-    after = with_stored s (storing t.after.store made.ballot made.slot made.command)
+    after = with_stored s (taking_command_run t.after.store made.ballot made.slot made.commands)
 
-closing_leaves : (x : Scope) (came : List Arrival) (heard : Hearing) (t : Turn) (b : Bool) (r : Result (Option Made) ProposeFault) → x.ends ≡ false → x.had ≡ (first_in x).has
-    → (p : Path x came heard (applied t.after) t) → one_at x.place t.after ≡ r
-    → Leaves x came (if b then Ok (still (idle t.after)) else closing_by_one x.place r (record t.after { campaign = marked_from t.after.campaign r }))
+closing_leaves : (x : Scope) (came : List Arrival) (heard : Hearing) (t : Turn) (b : Bool) (r : Result (Option AcceptRun) ProposeFault) → x.ends ≡ false → x.had ≡ (first_in x).has
+    → (p : Path x came heard (applied t.after) t) → proposal_at x.place t.after ≡ r
+    → Leaves x came (if b then Ok (still (idle t.after)) else closing_by x.place r (record t.after { campaign = marked_run_from t.after.campaign r }))
 closing_leaves x came heard t true r q same p e = halt_same x came heard (applied t.after) t q same p
 closing_leaves x came heard t false (Ok None) q same p e = halt_same x came heard (applied t.after) t q same p
 closing_leaves x came heard t false (Err f) q same p e = halt_same x came heard (applied t.after) t q same p
 closing_leaves x came heard t false (Ok (Some made)) q same p e =
-    proposal_leaves x came heard t made q same p (made_by x.place t.after made t.after.campaign refl e) (marked_from t.after.campaign (Ok (Some made)))
+    proposal_leaves x came heard t made q same p (made_by x.place t.after made t.after.campaign refl e) (marked_run_from t.after.campaign (Ok (Some made)))
 
 close_leaves : (x : Scope) (came : List Arrival) (heard : Hearing) (t : Turn) → x.ends ≡ false → x.had ≡ (first_in x).has → Path x came heard (applied t.after) t
     → Leaves x came (closing x.place t.after)
 close_leaves x came heard t q same p =
-    subst (Leaves x came) (sym (closes_one x.given x.place t.after))
-    (closing_leaves x came heard t (leads x.place.nodes t.after.campaign && nat_le SLOTS (front_of t.after)) (one_at x.place t.after) q same p refl)
+    closing_leaves x came heard t (leads x.place.nodes t.after.campaign && nat_le SLOTS (front_of t.after)) (proposal_at x.place t.after) q same p refl
 
 -- a stage, and then the close
 pub then_closes : (x : Scope) (came : List Arrival) (heard : Hearing) (r : Result Turn Refusal) → x.ends ≡ false → x.had ≡ (first_in x).has → Rests x came heard r

@@ -1,5 +1,5 @@
 -- What a standing says of its node stays so, as the node gets and sends messages.
-use Rattle.std.proofs.Common.{ℕ, ◌≤◌, inl, inr, List, [], ◌∷◌, Option, Some, None, sym, subst, arith}
+use Rattle.std.proofs.Common.{ℕ, ◌≤◌, inl, inr, List, [], ◌∷◌, Option, Some, None, refl, sym, subst, arith}
 use Rattle.paxos_wire.specs.declared.ballot.Ballot.{Ballot}
 use Rattle.slot_log.specs.declared.command.Command.{Command}
 use Rattle.protocol_model.specs.Sets.{In}
@@ -199,6 +199,18 @@ sent_knows g d place upto s node m quiet k = record {
   proposals = sent_proposed place.nodes place.node upto (front_of s) (own_value place s) node.store node.has node.sent (m ∷ node.sent)
       (λ b l c h. proposed_before node m b l c quiet h) k.proposals;
 }
+
+-- and so are several
+pub sent_all_knows : (g : Given) (d : Dealer) (place : Place) (upto : List Command) (s : Standing) (node : Node) (messages : List Message) → ((m : Message) → In m messages → IsQuiet m)
+    → Knows d place upto s node → Knows d place upto s (with_sent node messages)
+sent_all_knows g d place upto s node [] quiet k = k
+sent_all_knows g d place upto s node (m ∷ messages) quiet k =
+    sent_knows g d place upto s (with_sent node messages) m (quiet m (inl refl)) (sent_all_knows g d place upto s node messages (λ o h. quiet o (inr h)) k)
+
+pub pending_all : (d : Dealer) (i : ℕ) (node : Node) (messages : List Message) (upto : List Command) (c : Option Command) → IsPending d i node upto c
+    → IsPending d i (with_sent node messages) upto c
+pending_all d i node [] upto c h = h
+pending_all d i node (m ∷ messages) upto c h = sent_pending d i (with_sent node messages) m upto c (pending_all d i node messages upto c h)
 
 -- more is known
 pub commands_more : (known : List (ℕ × Command)) (k : ℕ × Command) (commands : List Command) → KnowsCommands known commands → KnowsCommands (k ∷ known) commands

@@ -50,7 +50,7 @@ world_now x came heard upto t p =
 same_if : (g : Given) (a b : Command) → a ≡ b → not (is_same a b) ≡ false
 same_if g a b e = ap not ((g.same a b).1 e)
 
-not_other : (g : Given) (known : Option Command) (command : Command) → ((other : Command) → known ≡ Some other → other ≡ command) → is_other known command ≡ false
+pub not_other : (g : Given) (known : Option Command) (command : Command) → ((other : Command) → known ≡ Some other → other ≡ command) → is_other known command ≡ false
 not_other g None command h = refl
 not_other g (Some other) command h = same_if g other command (h other refl)
 

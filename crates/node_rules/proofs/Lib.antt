@@ -3,6 +3,7 @@ pub mod Results
 mod Telling
 mod Ordering
 mod Proposed
+mod OwnRuns
 mod Sourcing
 mod Sent
 mod Keeping
@@ -15,7 +16,6 @@ pub mod Passing
 mod Settling
 mod Learning
 mod Voting
-pub mod Ones
 mod Asking
 pub mod Asked
 mod Closing
@@ -34,6 +34,8 @@ mod Chaining
 mod Sounding
 mod Agreeing
 pub mod Members
+mod HeldKnown
+mod RunHeard
 mod CalmPromises
 mod Electing
 mod Counting

@@ -1,5 +1,5 @@
 -- An order that the player to act is played for, on the path of a call.
-use Rattle.std.proofs.Common.{◌≡◌, ℕ, inl, inr, true, true≢false, List, [], ◌∷◌, ◌++◌, Option, Some, None, Result, Ok, Err, refl, sym, ap, subst, ◌∙◌, length}
+use Rattle.std.proofs.Common.{◌≡◌, ℕ, inl, inr, true, true≢false, List, [], ◌∷◌, ◌++◌, Option, Some, None, refl, sym, ap, subst, ◌∙◌, length}
 use Rattle.std.specs.Prelude.{is_none}
 use Rattle.std.proofs.lemmas.List.{append-nil}
 use Rattle.slot_log.specs.declared.command.Command.{Command}
@@ -14,7 +14,6 @@ use Rattle.node_rules.specs.Showing.{Piece}
 use Rattle.node_rules.specs.Turns.{Turn, still, sending, joined}
 use Rattle.node_rules.specs.Seats.{waiting, pending_act, is_others, forwarding, away_at}
 use Rattle.node_rules.specs.Called.{AreShown, log_after}
-use Rattle.node_rules.specs.Given.{Given}
 use Rattle.node_rules.proofs.Carrying.{joined_carry, joined_all, note_carry, note_all}
 use Rattle.node_rules.proofs.Paths.{Hearing, Scope, first_in, dealer_in, Path}
 use Rattle.node_rules.proofs.Proposed.{waiting_value}

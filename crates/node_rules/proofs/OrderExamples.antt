@@ -1,14 +1,13 @@
 -- Orders that the player to act is played for, worked out, and near misses of their laws.
-use Rattle.std.proofs.Common.{◌≡◌, ℕ, inl, inr, true, false, List, [], ◌∷◌, Option, Some, None, Ok, Err, Result, refl, ap, sym, ◌∙◌, subst, arith}
-use Rattle.betting.specs.declared.action.Action.TheVariants.{Fold, Call}
+use Rattle.std.proofs.Common.{◌≡◌, ℕ, true, false, [], ◌∷◌, Option, Some, None, Ok, Err, Result, refl, ap, sym, ◌∙◌, arith}
+use Rattle.betting.specs.declared.action.Action.TheVariants.{Call}
 use Rattle.paxos_wire.specs.declared.message.Message.TheVariants.{Accept, Accepted, Forward}
 use Rattle.slot_log.specs.declared.command.Command.{Command}
 use Rattle.slot_log.specs.declared.command.Command.TheVariants.{Act, Away}
-use Rattle.protocol_model.specs.Arrivals.{Event, Ordered}
+use Rattle.protocol_model.specs.Arrivals.{Ordered}
 use Rattle.protocol_model.specs.Stores.{empty_store}
 use Rattle.dealer_kind.specs.Kind.{hands_after}
 use Rattle.node_rules.specs.Standings.{Standing}
-use Rattle.node_rules.specs.Sending.{Frame}
 use Rattle.node_rules.specs.Turns.{Turn, Refusal, Down, NothingToAct, still, sending, and_then}
 use Rattle.node_rules.specs.Proposing.{closing}
 use Rattle.node_rules.specs.Seats.{ordering}

@@ -1,5 +1,5 @@
 -- An order is taken wherever a hand runs.
-use Rattle.std.proofs.Common.{◌≡◌, ℕ, ◌⊎◌, inl, inr, Bool, true, false, true≢false, not, if◌then◌else◌, List, [], ◌∷◌, Option, Some, None, Result, Ok, Err, refl, sym, ap, subst, ◌∙◌, length}
+use Rattle.std.proofs.Common.{◌≡◌, ℕ, ◌⊎◌, inl, inr, Bool, true, false, true≢false, not, if◌then◌else◌, List, [], ◌∷◌, Option, Some, None, Ok, Err, refl, sym, ap, subst, ◌∙◌, length}
 use Rattle.std.proofs.lemmas.List.{append-nil}
 use Rattle.game_def.specs.Game.{Game}
 use Rattle.slot_log.specs.Hand.{Hand}
@@ -7,14 +7,13 @@ use Rattle.slot_log.specs.Dealer.{is_finished, is_running, next_away}
 use Rattle.slot_log.specs.declared.command.Command.{Command}
 use Rattle.slot_log.specs.declared.command.Command.TheVariants as command
 use Rattle.protocol_model.specs.Stores.{Store}
-use Rattle.protocol_model.specs.Nodes.{Node, Knows}
 use Rattle.protocol_model.specs.Worlds.{World}
 use Rattle.dealer_kind.specs.Kind.{hands_after}
-use Rattle.node_rules.specs.Standings.{Place, Standing, applied, front_of, hands_at}
-use Rattle.node_rules.specs.Turns.{Turn, Refusal, NothingToAct}
+use Rattle.node_rules.specs.Standings.{Place, Standing, hands_at}
+use Rattle.node_rules.specs.Turns.{Turn, NothingToAct}
 use Rattle.node_rules.specs.Seats.{forwarding, away_at}
 use Rattle.node_rules.specs.Calls.{Away}
-use Rattle.node_rules.specs.Rules.{IsTurn, IsTurnUp, IsTurnBy, standing_after}
+use Rattle.node_rules.specs.Rules.{IsTurnUp, IsTurnBy, standing_after}
 use Rattle.node_rules.specs.Given.{Given}
 use Rattle.node_rules.specs.Sound.{Stands}
 use Rattle.node_rules.specs.LawsAnswers.{forwards}

@@ -21,7 +21,7 @@ use Rattle.node_rules.specs.Turns.{still}
 use Rattle.node_rules.specs.Proposed.{IsValue, IsProposed, IsSettled}
 use Rattle.node_rules.specs.Being.{Campaigns, Stands}
 use Rattle.node_rules.specs.Outcomes.{IsElected, HasValue, HasProposed, IsAhead, Brings, came, own_vote}
-use Rattle.node_rules.specs.LawsRuns.{AreTold, EndsAt, IsProposal}
+use Rattle.node_rules.specs.LawsRuns.{AreGreatestTold, EndsAt, IsProposal}
 use Rattle.node_rules.specs.LawsValue.{IsOwnValue}
 use Rattle.node_rules.specs.Calls.{Tick}
 use Rattle.protocol_model.proofs.Quorums.{one_is_no_quorum}
@@ -59,10 +59,17 @@ told_is_the_value = inl told_here
 -- ---- what a proposal has in it
 
 told_is_proposed : IsProposal 3 had (Some (dealt 2)) [] (ballot 2 2) 0 0 (dealt 0 ∷ [])
-told_is_proposed = inl (omega arith, (told_here, tt), inl refl)
+told_is_proposed = inl (omega arith, (told_here, tt), inr (inr (inl (both_of, omega arith, λ node below is. promise_of node below is))))
+  where
+    promise_of : (node : ℕ) → node < 3 → both_of node ≡ true
+        → (f : ℕ) × (entries : List Entry) × In (Promise node (ballot 2 2) f entries) had × ((f ≤ 1) × (1 ≤ f + 63)) × ((entry : Entry) → In entry entries → entry.slot ≡ 1 → ⊥)
+    promise_of zero below is = absurd (cc)
+    promise_of (suc zero) below is = (0, told ∷ [], inl refl, (omega arith, omega arith), λ entry h same. elim h [ inl e ↦ (let slot : entry.slot ≡ 0 = ap (λ (k : Entry). k.slot) e in omega (arith, slot, same)) | inr none ↦ none ])
+    promise_of (suc (suc zero)) below is = (0, [], inr (inl refl), (omega arith, omega arith), λ entry h same. h)
+    promise_of (suc (suc (suc node))) below is = absurd (omega arith)
 
 -- of the slot behind none is told
-hole_is_refuted : AreTold 3 had (ballot 2 2) 0 two → ⊥
+hole_is_refuted : AreGreatestTold 3 had (ballot 2 2) 0 two → ⊥
 hole_is_refuted told_all = of_message told_all.1.0.1
   where
     of_message : IsTold had (ballot 2 2) 1 (record { ballot = told_all.1.0.0; command = Act 0 0 Fold }) → ⊥
@@ -76,10 +83,29 @@ hole_is_refuted told_all = of_message told_all.1.0.1
         let same : entries ≡ [] = cc in absurd (subst (λ (l : List Entry). In (entry_of 1 (record { ballot = told_all.1.0.0; command = Act 0 0 Fold })) l) same inside)
     of_message (node, f, entries, inr (inr none), inside) = absurd none
 
--- a node's own deal with an act behind it is none, where nothing is told
-own_with_more_is_refuted : IsProposal 3 [] (Some (dealt 0)) [] (ballot 2 2) 0 0 two → ⊥
-own_with_more_is_refuted (inl told_all) = told_all.1.0.1.3
-own_with_more_is_refuted (inr alone) = let few : 2 ≡ 1 = ap length alone.1 in absurd (omega (arith, few))
+-- so an act of its own doesn't go behind the told deal
+own_behind_told_is_refuted : IsProposal 3 had (Some (Act 0 0 Fold)) [] (ballot 2 2) 0 0 two → ⊥
+own_behind_told_is_refuted (inl told_all) = hole_is_refuted told_all.1
+own_behind_told_is_refuted (inr alone) = let few : 2 ≡ 1 = ap length alone.1 in absurd (omega (arith, few))
+
+-- of slot 1 alone something is told
+abbrev had_beyond : List Message
+had_beyond = Promise 1 (ballot 2 2) 0 (record told { slot = 1 } ∷ []) ∷ Promise 2 (ballot 2 2) 0 [] ∷ []
+
+untold_at_the_front : (vote : Vote) → IsTold had_beyond (ballot 2 2) 0 vote → ⊥
+untold_at_the_front vote (node, f, entries, inl e, inside) =
+    let same : entries ≡ record told { slot = 1 } ∷ [] = cc in
+    elim (subst (λ (l : List Entry). In (entry_of 0 vote) l) same inside) [
+      | inl one ↦ (let slot : 0 ≡ 1 = ap (λ (k : Entry). k.slot) one in absurd (omega (arith, slot)))
+      | inr none ↦ absurd none
+    ]
+untold_at_the_front vote (node, f, entries, inr (inl e), inside) = let same : entries ≡ [] = cc in absurd (subst (λ (l : List Entry). In (entry_of 0 vote) l) same inside)
+untold_at_the_front vote (node, f, entries, inr (inr none), inside) = absurd none
+
+-- the own deal goes alone, though of the slot behind it one is told
+told_behind_own_is_refuted : IsProposal 3 had_beyond (Some (dealt 2)) [] (ballot 2 2) 0 0 (dealt 2 ∷ dealt 0 ∷ []) → ⊥
+told_behind_own_is_refuted (inl told_all) = untold_at_the_front (record { ballot = told_all.1.0.0; command = dealt 2 }) told_all.1.0.1
+told_behind_own_is_refuted (inr alone) = let few : 2 ≡ 1 = ap length alone.1 in absurd (omega (arith, few))
 
 -- node 1 tells of both
 abbrev both_told : List Entry
@@ -115,12 +141,96 @@ second_is_not_free (quorum, most, promises) = by_nodes (quorum 0) refl (quorum 1
     by_nodes false e true f = of_node_1 (promises 1 (omega arith) f)
     by_nodes false e false f = one_is_no_quorum 3 2 quorum (omega arith) (only_node_2 e f) most
 
+-- what node 1 tells of a slot is of (1, 0)
+told_so : (slot : ℕ) (command : Command) → slot < 64 → In (record { slot = slot; ballot = ballot 1 0; command = command }) both_told → IsGreatestTold 3 had_both (ballot 2 2) slot command
+told_so slot command low inside = (ballot 1 0, (1, 0, both_told, inl refl, inside), (both_of, omega arith, λ node below is. promise_of node below is))
+  where
+    of_first : (entry : Entry) → In entry both_told → AtMost entry.ballot (ballot 1 0)
+    of_first entry (inl e) = subst (λ (k : Entry). AtMost k.ballot (ballot 1 0)) (sym e) (inr (refl, omega arith))
+    of_first entry (inr (inl e)) = subst (λ (k : Entry). AtMost k.ballot (ballot 1 0)) (sym e) (inr (refl, omega arith))
+    of_first entry (inr (inr none)) = absurd none
+
+    promise_of : (node : ℕ) → node < 3 → both_of node ≡ true
+        → (f : ℕ) × (entries : List Entry) × In (Promise node (ballot 2 2) f entries) had_both × ((f ≤ slot) × (slot ≤ f + 63)) × ((entry : Entry) → In entry entries → entry.slot ≡ slot → AtMost entry.ballot (ballot 1 0))
+    promise_of zero below is = absurd (cc)
+    promise_of (suc zero) below is = (0, both_told, inl refl, (omega arith, omega (arith, low)), λ entry h same. of_first entry h)
+    promise_of (suc (suc zero)) below is = (0, [], inr (inl refl), (omega arith, omega (arith, low)), λ entry h same. absurd h)
+    promise_of (suc (suc (suc node))) below is = absurd (omega arith)
+
+-- both together are what a node proposes, whatever it has of its own
+both_are_proposed : IsProposal 3 had_both (Some (dealt 2)) [] (ballot 2 2) 0 0 two
+both_are_proposed = inl (
+  omega arith,
+  (told_so 0 (dealt 0) (omega arith) (inl refl), (told_so 1 (Act 0 0 Fold) (omega arith) (inr (inl refl)), tt)),
+  inr (inr (inl (both_of, omega arith, λ node below is. promise_of node below is))),
+)
+  where
+    none_behind : (entry : Entry) → In entry both_told → entry.slot ≡ 2 → ⊥
+    none_behind entry (inl e) same = let slot : entry.slot ≡ 0 = ap (λ (k : Entry). k.slot) e in omega (arith, slot, same)
+    none_behind entry (inr (inl e)) same = let slot : entry.slot ≡ 1 = ap (λ (k : Entry). k.slot) e in omega (arith, slot, same)
+    none_behind entry (inr (inr none)) same = none
+
+    promise_of : (node : ℕ) → node < 3 → both_of node ≡ true
+        → (f : ℕ) × (entries : List Entry) × In (Promise node (ballot 2 2) f entries) had_both × ((f ≤ 2) × (2 ≤ f + 63)) × ((entry : Entry) → In entry entries → entry.slot ≡ 2 → ⊥)
+    promise_of zero below is = absurd (cc)
+    promise_of (suc zero) below is = (0, both_told, inl refl, (omega arith, omega arith), λ entry h same. none_behind entry h same)
+    promise_of (suc (suc zero)) below is = (0, [], inr (inl refl), (omega arith, omega arith), λ entry h same. h)
+    promise_of (suc (suc (suc node))) below is = absurd (omega arith)
+
 -- so told commands don't end before it
 cut_short_is_refuted : EndsAt 3 had_both [] (ballot 2 2) 0 1 → ⊥
 cut_short_is_refuted (inl window) = absurd (omega (arith, window))
 cut_short_is_refuted (inr (inl last)) = absurd (omega (arith, last))
 cut_short_is_refuted (inr (inr (inl free))) = second_is_not_free free
 cut_short_is_refuted (inr (inr (inr made))) = absurd made.1
+
+first_alone_is_refuted : IsProposal 3 had_both (Some (dealt 2)) [] (ballot 2 2) 0 0 (dealt 0 ∷ []) → ⊥
+unfolding opened
+first_alone_is_refuted (inl cut) = cut_short_is_refuted cut.2
+first_alone_is_refuted (inr (command, is, free, own)) = let one : dealt 0 ≡ command = cc in let mine : dealt 2 ≡ command = cc in let clash : dealt 2 ≡ dealt 0 = mine ∙ sym one in cc
+
+-- where one is told at the front, the own one is none
+front_is_not_free : IsFree 3 had_both (ballot 2 2) 0 → ⊥
+front_is_not_free (quorum, most, promises) = by_nodes (quorum 0) refl (quorum 1) refl
+  where
+    of_node_0 : HasPromise had_both 0 (ballot 2 2) 0 (λ entry. ⊥) → ⊥
+    of_node_0 (f, entries, inl e, covers, none) = cc
+    of_node_0 (f, entries, inr (inl e), covers, none) = cc
+    of_node_0 (f, entries, inr (inr h), covers, none) = absurd h
+
+    of_node_1 : HasPromise had_both 1 (ballot 2 2) 0 (λ entry. ⊥) → ⊥
+    of_node_1 (f, entries, inl e, covers, none) = let same : entries ≡ both_told = cc in none told (subst (λ (l : List Entry). In told l) (sym same) (inl refl)) refl
+    of_node_1 (f, entries, inr (inl e), covers, none) = cc
+    of_node_1 (f, entries, inr (inr h), covers, none) = absurd h
+
+    only_node_2 : quorum 0 ≡ false → quorum 1 ≡ false → (node : ℕ) → node < 3 → quorum node ≡ true → node ≡ 2
+    only_node_2 e f zero below is = absurd (true≢false (sym is ∙ e))
+    only_node_2 e f (suc zero) below is = absurd (true≢false (sym is ∙ f))
+    only_node_2 e f (suc (suc zero)) below is = refl
+    only_node_2 e f (suc (suc (suc node))) below is = absurd (omega arith)
+
+    by_nodes : (a : Bool) → quorum 0 ≡ a → (b : Bool) → quorum 1 ≡ b → ⊥
+    by_nodes true e b f = of_node_0 (promises 0 (omega arith) e)
+    by_nodes false e true f = of_node_1 (promises 1 (omega arith) f)
+    by_nodes false e false f = one_is_no_quorum 3 2 quorum (omega arith) (only_node_2 e f) most
+
+own_over_told_is_refuted : IsProposal 3 had_both (Some (dealt 2)) [] (ballot 2 2) 0 0 (dealt 2 ∷ []) → ⊥
+own_over_told_is_refuted (inl told_all) = of_message told_all.1.0.1
+  where
+    of_message : IsTold had_both (ballot 2 2) 0 (record { ballot = told_all.1.0.0; command = dealt 2 }) → ⊥
+    of_message (node, f, entries, inl e, inside) =
+        let same : entries ≡ both_told = cc in
+        elim (subst (λ (l : List Entry). In (entry_of 0 (record { ballot = told_all.1.0.0; command = dealt 2 })) l) same inside) [
+          | inl one ↦ (let clash : dealt 2 ≡ dealt 0 = ap (λ (k : Entry). k.command) one in let bad : ⊥ = cc in bad)
+          | inr later ↦ elim later [
+            | inl one ↦ (let slot : 0 ≡ 1 = ap (λ (k : Entry). k.slot) one in absurd (omega (arith, slot)))
+            | inr none ↦ absurd none
+          ]
+        ]
+    of_message (node, f, entries, inr (inl e), inside) =
+        let same : entries ≡ [] = cc in absurd (subst (λ (l : List Entry). In (entry_of 0 (record { ballot = told_all.1.0.0; command = dealt 2 })) l) same inside)
+    of_message (node, f, entries, inr (inr none), inside) = absurd none
+own_over_told_is_refuted (inr alone) = front_is_not_free alone.2
 
 -- and end where something was proposed
 ends_at_a_proposal : EndsAt 3 had_both (Accept (ballot 2 2) 1 (Act 0 0 Fold) ∷ []) (ballot 2 2) 0 1
@@ -202,9 +312,6 @@ invented_is_refuted h = elim (h.by_rule (dealt 0) (inl refl)) [
 ]
 
 -- beyond its front it proposes what was told: here node 2, which knows nothing yet, the deal that node 1 tells of at slot 1
-abbrev had_beyond : List Message
-had_beyond = Promise 1 (ballot 2 2) 0 (record told { slot = 1 } ∷ []) ∷ Promise 2 (ballot 2 2) 0 [] ∷ []
-
 abbrev voted_beyond : Store
 voted_beyond = voted empty_store 1 (record { ballot = ballot 2 2; command = dealt 0 })
 

@@ -17,6 +17,7 @@ use Rattle.protocol_model.specs.Sets.{In}
 use Rattle.protocol_model.specs.Ballots.{Below}
 use Rattle.protocol_model.specs.Messages.{Message, Accepted}
 use Rattle.protocol_model.specs.Frames.{carried, proposals, answers}
+use Rattle.protocol_model.specs.Nodes.{Node}
 use Rattle.protocol_model.specs.Worlds.{World}
 use Rattle.protocol_model.specs.Arrivals.{Arrival}
 use Rattle.paxos_wire.specs.Order.{is_below}
@@ -55,7 +56,7 @@ use Rattle.node_rules.proofs.Asked.{asked_on, asked_same}
 use Rattle.node_rules.proofs.Settled.{Closes, gives_up, rests, makes, closes, behind_ok}
 use Rattle.node_rules.proofs.Results.{ok_is}
 use Rattle.node_rules.proofs.Chaining.{scope_of, runs_in}
-use Rattle.node_rules.proofs.Counting.{Counts, Grows, same_grows, vote_grows, GrowsByEach, votes_grow, belief_grows, then_grows, learning_is, had_in_time, known_by_quorum}
+use Rattle.node_rules.proofs.Counting.{Counts, Grows, same_grows, GrowsByEach, votes_grow, belief_grows, then_grows, learning_is, had_in_time, known_by_quorum}
 use Rattle.paxos_wire.specs.Fits.{HasCommands}
 
 -- ---- the front
@@ -106,14 +107,14 @@ further place s called old mid new stage later = record {
 
 -- ---- the close
 
-closing_grows : (x : Scope) (came : List Arrival) (heard : Hearing) (t : Turn) (p : Path x came heard (applied t.after) t) (c : Turn) (old : List Message) → Closes x.place t.after c → Counts old t.after.learned
+closing_grows : (x : Scope) (came : List Arrival) (heard : Hearing) (t : Turn) (p : Path x came heard (applied t.after) t) (c : Turn) (old : List Message) → Closes x.place t.after p.node c → Counts old t.after.learned
     → Grows old c.after.learned
 closing_grows x came heard t p c old (gives_up e) counts = same_grows old t.after.learned c.after.learned (ap (λ (y : Turn). y.after.learned) e) counts
 closing_grows x came heard t p c old (rests e) counts = same_grows old t.after.learned c.after.learned (ap (λ (y : Turn). y.after.learned) e) counts
-closing_grows x came heard t p c old (makes k made is fresh e) counts =
+closing_grows x came heard t p c old (makes k made is o fresh e) counts =
     subst (Grows old) (ap (λ (y : Turn). y.after.learned) (sym e))
-    (vote_grows x.given old t.after.learned x.place.node made.ballot made.slot made.command p.knows.learner.log
-    (subst (λ (n : ℕ). x.place.node < n) (sym p.knows.learner.nodes) x.is_place.node) (subst IsOk (sym fresh.over.answer) refl) counts).grows
+    (votes_grow x.given old t.after.learned x.place.node made.ballot made.slot made.commands p.knows.learner.log
+    (subst (λ (n : ℕ). x.place.node < n) (sym p.knows.learner.nodes) x.is_place.node) o.most fresh.over.ok counts).grows
 
 stage_closed : (x : Scope) (came : List Arrival) (heard : Hearing) (s : Standing) (called : Call) (old : List Message) (r : Result Turn Refusal) (turn : Turn) → Goes x came heard r
     → ((u : Turn) → r ≡ Ok u → Stage x.place s called old u.after.learned)
@@ -460,10 +461,10 @@ believed_known g s slot command log ahead ok = by_other (is_other (known_at s.le
         ∙ known_so g s.learned slot command (known_at s.learned.log slot) log ahead.is_slot refl e
 
 -- the close learns nothing
-close_log : (place : Place) (s : Standing) (c : Turn) → Closes place s c → c.after.learned.log ≡ s.learned.log
-close_log place s c (gives_up e) = ap (λ (t : Turn). t.after.learned.log) e
-close_log place s c (rests e) = ap (λ (t : Turn). t.after.learned.log) e
-close_log place s c (makes k made is fresh e) = ap (λ (t : Turn). t.after.learned.log) e ∙ fresh.over.log
+close_log : (place : Place) (s : Standing) (node : Node) (c : Turn) → Closes place s node c → c.after.learned.log ≡ s.learned.log
+close_log place s node c (gives_up e) = ap (λ (t : Turn). t.after.learned.log) e
+close_log place s node c (rests e) = ap (λ (t : Turn). t.after.learned.log) e
+close_log place s node c (makes k made is o fresh e) = ap (λ (t : Turn). t.after.learned.log) e ∙ fresh.over.log
 
 told_log : (x : Scope) (s : Standing) (from slot : ℕ) (command : Command) (turn : Turn) → Goes x [] (hearing_of s (first_in x)) (taking x.place from (frame.Chosen slot command) s)
     → on_message x.place from (frame.Chosen slot command) s ≡ Ok turn
@@ -481,7 +482,7 @@ told_log x s from slot command turn goes e = by_taken (taking x.place from (fram
         let b = behind_ok u (closing x.place u.after) a.0 (ap (λ (r : Result Turn Refusal). and_then r (closing x.place)) (sym er) ∙ a.1) in (
           is.0,
           ap (λ (y : Standing). y.learned.log) a.2 ∙ (ap (λ (y : Standing). y.learned.log) b.2
-              ∙ (close_log x.place u.after b.0 (closes x [] (hearing_of s (first_in x)) u p b.0 b.1) ∙ ap (λ (l : Learned). l.log) is.1)),
+              ∙ (close_log x.place u.after p.node b.0 (closes x [] (hearing_of s (first_in x)) u p b.0 b.1) ∙ ap (λ (l : Learned). l.log) is.1)),
         )
 
 pub told_is_known : Given → ToldIsKnown

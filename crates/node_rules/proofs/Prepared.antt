@@ -9,11 +9,11 @@ use Rattle.slot_log.specs.Slots.{IsLog}
 use Rattle.protocol_model.specs.Ballots.{AtMost}
 use Rattle.protocol_model.specs.Nodes.{Node}
 use Rattle.protocol_model.specs.Stores.{Store, promised}
-use Rattle.proposer.specs.declared.accept.Accept.{Accept as Made}
+use Rattle.proposer.specs.declared.accept_run.AcceptRun.{AcceptRun}
 use Rattle.proposer.specs.declared.fault.ProposeFault.{ProposeFault}
 use Rattle.proposer.specs.declared.fault.ProposeFault.TheVariants.{OutOfWindow}
-use Rattle.proposer.specs.Campaigns.{leads, next_ballot, has_quorum, is_covered, is_proposed, accept_of, value_of, greatest_told}
-use Rattle.proposer.specs.CommandRuns.{run_of_one}
+use Rattle.proposer.specs.Campaigns.{leads, next_ballot, has_quorum, is_covered, is_proposed}
+use Rattle.proposer.specs.CommandRuns.{commands_at, accept_run_of}
 use Rattle.dealer_kind.specs.Plans.{HasNodes}
 use Rattle.node_rules.specs.Standings.{Place, Standing, front_of}
 use Rattle.node_rules.specs.Turns.{Turn, Refusal, Spent, still, joined, behind, and_then}
@@ -100,8 +100,8 @@ spent_if s round same (inr e) = or_by ((greatest_seen s).round == 2 ^ 32 - 1) (n
 no_quorum : (g : Given) (place : Place) (ballot : Ballot) (s : Standing) → HasNodes place.nodes → has_quorum place.nodes (prepared place ballot s) ≡ false
 no_quorum g place ballot s few = g.alone place.nodes place.node ballot ballot (front_of s) (front_of s) (told_by s.store (front_of s)) (g.least_nodes place.nodes few)
 
-waits_by : (quorum covered done : Bool) (value : Option Made) → quorum ≡ false
-    → ◌≡◌ {A = Result (Option Made) ProposeFault} (if not quorum then Ok None else if not covered then Err OutOfWindow else if done then Ok None else Ok value) (Ok None)
+waits_by : (quorum covered done : Bool) (value : Option AcceptRun) → quorum ≡ false
+    → ◌≡◌ {A = Result (Option AcceptRun) ProposeFault} (if not quorum then Ok None else if not covered then Err OutOfWindow else if done then Ok None else Ok value) (Ok None)
 waits_by false covered done value e = refl
 waits_by true covered done value e = absurd (true≢false e)
 
@@ -111,7 +111,7 @@ settled_rests place s settled = by_lead (leads place.nodes s.campaign) refl
   where
     by_lead : (b : Bool) → leads place.nodes s.campaign ≡ b → IsRest place s
     by_lead true e = record { in_range = ap (λ b. b && nat_le SLOTS (front_of s)) e ∙ (settled e).0; nothing = (settled e).1 }
-    by_lead false e = record { in_range = ap (λ b. b && nat_le SLOTS (front_of s)) e; nothing = ap run_of_one (unled_by place.nodes s.campaign (front_of s) (own_value place s) e) }
+    by_lead false e = record { in_range = ap (λ b. b && nat_le SLOTS (front_of s)) e; nothing = unled_by place.nodes s.campaign (front_of s) (own_value place s) e }
 
 -- a ballot that was just begun has nothing to propose
 begun_rests : (g : Given) (place : Place) (ballot : Ballot) (s : Standing) → HasNodes place.nodes → IsRest place (beginning place ballot s).after
@@ -120,8 +120,8 @@ begun_rests g place ballot s few =
     let after : Standing = (beginning place ballot s).after in
     record {
       in_range = ap (λ b. b && nat_le SLOTS (front_of s)) (no_quorum g place ballot s few);
-      nothing = ap run_of_one (waits_by (has_quorum place.nodes c) (is_covered c.first (front_of s)) (is_proposed c (front_of s))
-          (accept_of c (front_of s) (value_of (greatest_told c (front_of s) place.nodes) (own_value place after))) (no_quorum g place ballot s few));
+      nothing = waits_by (has_quorum place.nodes c) (is_covered c.first (front_of s)) (is_proposed c (front_of s))
+          (accept_run_of c (front_of s) (commands_at place.nodes c (front_of s) (own_value place after))) (no_quorum g place ballot s few);
     }
 
 -- ---- the turn

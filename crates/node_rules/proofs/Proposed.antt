@@ -4,11 +4,11 @@ use Rattle.std.specs.Prelude.{is_none}
 use Rattle.std.proofs.lemmas.List.{length-append}
 use Rattle.paxos_wire.specs.declared.ballot.Ballot.{Ballot}
 use Rattle.slot_log.specs.declared.command.Command.{Command}
-use Rattle.protocol_model.specs.Sets.{In, put}
+use Rattle.protocol_model.specs.Sets.{In}
 use Rattle.protocol_model.specs.Ballots.{Below, AtMost}
-use Rattle.protocol_model.specs.Messages.{Vote, Message, Accept, Accepted}
+use Rattle.protocol_model.specs.Messages.{Message, Accept}
 use Rattle.protocol_model.specs.Quorums.{IsGreatestTold}
-use Rattle.protocol_model.specs.Stores.{Store, promised, voted}
+use Rattle.protocol_model.specs.Stores.{Store, promised}
 use Rattle.learner.specs.Learning.{Learned}
 use Rattle.dealer_kind.specs.Kind.{fits}
 use Rattle.node_rules.specs.Standings.{Place, Standing, applied}
@@ -17,7 +17,6 @@ use Rattle.node_rules.specs.Seats.{waiting}
 use Rattle.node_rules.specs.Proposed.{IsValue, IsProposed}
 use Rattle.protocol_model.proofs.Ballots.{not_below}
 use Rattle.protocol_model.proofs.Quorums.{promises_stay, greatest_stays}
-use Rattle.protocol_model.proofs.Sets.{put_same, put_other}
 
 -- ---- more messages are had
 
@@ -84,54 +83,6 @@ promised_proposed n i upto at own store ballot has more sent others up low befor
 
 pub accept_is : (a b : Ballot) (s t : ℕ) (c d : Command) → ◌≡◌ {A = Message} (Accept a s c) (Accept b t d) → (a ≡ b) × (s ≡ t) × (c ≡ d)
 accept_is a b s t c d e = ((let k : a ≡ b = cc in k), (let k : s ≡ t = cc in k), (let k : c ≡ d = cc in k))
-
--- the node proposes the value at its front and votes for it
-pub made_proposed : (n i : ℕ) (upto : List Command) (own : Option Command) (store : Store) (has sent : List Message) (ballot : Ballot) (slot : ℕ) (command : Command)
-    → store.promise ≡ ballot → slot ≡ length upto → ballot.node ≡ i → ((other : Command) → In (Accept ballot slot other) sent → ⊥)
-    → IsValue n has ballot slot own command → IsProposed n i upto (length upto) own store has sent
-    → IsProposed n i upto (length upto) own (voted store slot (record { ballot = ballot; command = command }))
-    (Accept ballot slot command ∷ has) (Accepted i ballot slot command ∷ Accept ballot slot command ∷ sent)
-made_proposed n i upto own store has sent ballot slot command promised_is at mine once value p = record {
-  ballots = λ b s c h. ballots_of b s c h;
-  voted = λ s c h. voted_of s c (split s c h);
-  told = λ s c h. told_of s c (split s c h);
-  by_rule = λ c h. by_rule_of c (split (length upto) c h);
-}
-  where
-    ballots_of : (b : Ballot) (s : ℕ) (c : Command) → In (Accept b s c) (Accepted i ballot slot command ∷ Accept ballot slot command ∷ sent) → b.node ≡ i
-    ballots_of b s c (inl e) = absurd (cc)
-    ballots_of b s c (inr (inl e)) = ap (λ (x : Ballot). x.node) (accept_is b ballot s slot c command e).0 ∙ mine
-    ballots_of b s c (inr (inr h)) = p.ballots b s c h
-
-    split : (s : ℕ) (c : Command) → In (Accept ballot s c) (Accepted i ballot slot command ∷ Accept ballot slot command ∷ sent)
-        → ((s ≡ slot) × (c ≡ command)) ⊎ (In (Accept ballot s c) sent × (s ≡ slot → ⊥))
-    split s c (inl e) = absurd (cc)
-    split s c (inr (inl e)) = let a = accept_is ballot ballot s slot c command e in inl (a.1, a.2)
-    split s c (inr (inr h)) = inr (h, λ same. once c (subst (λ (k : ℕ). In (Accept ballot k c) sent) same h))
-
-    voted_of : (s : ℕ) (c : Command) → ((s ≡ slot) × (c ≡ command)) ⊎ (In (Accept ballot s c) sent × (s ≡ slot → ⊥))
-        → (voted store slot (record { ballot = ballot; command = command })).votes s ≡ Some (record { ballot = ballot; command = c })
-    voted_of s c (inl new) =
-        ap (put store.votes slot (Some (record { ballot = ballot; command = command }))) new.0 ∙ put_same store.votes slot (Some (record { ballot = ballot; command = command }))
-        ∙ ap (λ (d : Command). let v : Vote = record { ballot = ballot; command = d } in Some v) (sym new.1)
-    voted_of s c (inr old) =
-        put_other store.votes slot (Some (record { ballot = ballot; command = command })) s old.1
-        ∙ subst (λ (b : Ballot). store.votes s ≡ Some (record { ballot = b; command = c })) promised_is
-        (p.voted s c (subst (λ (b : Ballot). In (Accept b s c) sent) (sym promised_is) old.0))
-
-    told_of : (s : ℕ) (c : Command) → ((s ≡ slot) × (c ≡ command)) ⊎ (In (Accept ballot s c) sent × (s ≡ slot → ⊥))
-        → (s ≤ length upto) ⊎ IsGreatestTold n (Accept ballot slot command ∷ has) ballot s c
-    told_of s c (inl new) = inl (let a = new.0 in omega (arith, a, at))
-    told_of s c (inr old) = told_more n has (Accept ballot slot command ∷ has) ballot s c upto (λ o k. inr k)
-        (subst (λ (b : Ballot). (s ≤ length upto) ⊎ IsGreatestTold n has b s c) promised_is
-        (p.told s c (subst (λ (b : Ballot). In (Accept b s c) sent) (sym promised_is) old.0)))
-
-    by_rule_of : (c : Command) → ((length upto ≡ slot) × (c ≡ command)) ⊎ (In (Accept ballot (length upto) c) sent × (length upto ≡ slot → ⊥))
-        → IsValue n (Accept ballot slot command ∷ has) ballot (length upto) own c
-    by_rule_of c (inl new) =
-        value_more n has (Accept ballot slot command ∷ has) ballot (length upto) own own c (λ o k. inr k) (λ e. e)
-        (subst (λ (k : ℕ). IsValue n has ballot k own c) at (subst (IsValue n has ballot slot own) (sym new.1) value))
-    by_rule_of c (inr old) = absurd (old.1 (sym at))
 
 -- ---- more is known, applied, and waits
 

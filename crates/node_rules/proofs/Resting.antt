@@ -1,31 +1,23 @@
 -- How a close ends: it proposes at most once, and then nothing is left to propose.
-use Rattle.std.proofs.Common.{◌≡◌, ◌<◌, ◌⊎◌, inl, inr, Bool, true, false, true≢false, if◌then◌else◌, ◌&&◌, List, [], ◌∷◌, ◌++◌, Option, Some, None, Result, Ok, Err, refl, sym, ap, subst, ◌∙◌, arith}
-use Rattle.std.specs.Prelude.{nat_le, IsOk}
+use Rattle.std.proofs.Common.{◌≡◌, ◌<◌, ◌≤◌, ◌⊎◌, inl, inr, Bool, true, false, true≢false, if◌then◌else◌, ◌&&◌, List, Option, Some, None, Result, Ok, Err, refl, sym, ap, subst, ◌∙◌, arith, length}
+use Rattle.std.specs.Prelude.{nat_le}
 use Rattle.std.proofs.lemmas.Bool.{leb-false}
 use Rattle.paxos_wire.specs.declared.limits.TheConstants.{SLOTS}
-use Rattle.paxos_wire.specs.declared.ballot.Ballot.{Ballot}
-use Rattle.paxos_wire.specs.declared.message.Message.TheVariants as frame
 use Rattle.slot_log.specs.Slots.{Log, front}
-use Rattle.protocol_model.specs.Messages.{Vote}
-use Rattle.protocol_model.specs.Stores.{Store, voted}
+use Rattle.protocol_model.specs.Stores.{Store}
 use Rattle.protocol_model.specs.Arrivals.{Arrival}
-use Rattle.proposer.specs.declared.accept.Accept.{Accept as Made}
 use Rattle.proposer.specs.declared.campaign.Campaign.{Campaign}
 use Rattle.proposer.specs.declared.fault.ProposeFault.{ProposeFault}
-use Rattle.proposer.specs.Campaigns.{has_quorum, leads, proposal_by, proposal_from, with_mark, marked_from}
-use Rattle.proposer.specs.Laws.{IsSafe}
-use Rattle.learner.specs.Learning.{Learned, answer_to, hearing}
-use Rattle.node_rules.specs.Standings.{Place, Standing, applied, front_of, with_stored, idle}
-use Rattle.node_rules.specs.Sending.{to_others}
+use Rattle.proposer.specs.Campaigns.{has_quorum, leads}
+use Rattle.node_rules.specs.Standings.{Place, Standing, applied, front_of, idle}
 use Rattle.node_rules.specs.Turns.{Turn, Refusal, still, joined, behind, and_then}
-use Rattle.node_rules.specs.Proposing.{own_value, closing_by, proposal_at, closing}
+use Rattle.node_rules.specs.Proposing.{own_value, proposing, closing_by, proposal_at, closing}
 use Rattle.proposer.specs.declared.accept_run.AcceptRun.{AcceptRun}
-use Rattle.proposer.specs.CommandRuns.{run_of_one, marked_run_from}
-use Rattle.node_rules.proofs.Ones.{proposing_one, one_at, closing_by_one, closes_one, unmarked_run}
-use Rattle.node_rules.specs.Being.{Campaigns}
+use Rattle.proposer.specs.CommandRuns.{run_from_campaign, marked_run_from}
 use Rattle.node_rules.proofs.Paths.{Hearing, Scope, Path, Goes}
-use Rattle.node_rules.proofs.Closing.{IsMade, made_by, campaigns_of, unmarked}
-use Rattle.node_rules.proofs.Settled.{and_left, marked_none, marked_at, standing_made, turn_made, Fresh, none_stored, fresh, made_turn}
+use Rattle.node_rules.proofs.OwnRuns.{unmarked}
+use Rattle.node_rules.proofs.Closing.{IsMade, made_by, IsOwnRun, own_run}
+use Rattle.node_rules.proofs.Settled.{and_left, turn_made, Fresh, fresh, made_turn, made_rests}
 
 -- ---- nothing is left to propose
 
@@ -39,7 +31,7 @@ rest_by : (place : Place) (s : Standing) (b : Bool) (r : Result (Option AcceptRu
 rest_by place s true r eb er = absurd (true≢false eb)
 rest_by place s false (Ok (Some made)) eb er = absurd (let e = er in cc)
 rest_by place s false (Err fault) eb er = absurd (let e = er in cc)
-rest_by place s false (Ok None) eb er = ap (λ (c : Option Campaign). let r : Result Turn Refusal = Ok (still (record s { campaign = c })) in r) (unmarked_run s.campaign)
+rest_by place s false (Ok None) eb er = ap (λ (c : Option Campaign). let r : Result Turn Refusal = Ok (still (record s { campaign = c })) in r) (unmarked s.campaign)
 
 pub rest_closes : (place : Place) (s : Standing) → IsRest place s → closing place s ≡ Ok (still s)
 rest_closes place s r = rest_by place s (leads place.nodes s.campaign && nat_le SLOTS (front_of s)) (proposal_at place s) r.in_range r.nothing
@@ -48,33 +40,28 @@ rest_closes place s r = rest_by place s (leads place.nodes s.campaign && nat_le 
 pub idle_rests : (place : Place) (s : Standing) → s.campaign ≡ None → IsRest place s
 idle_rests place s e = record {
   in_range = ap (λ (c : Option Campaign). leads place.nodes c && nat_le SLOTS (front_of s)) e;
-  nothing = ap (λ (c : Option Campaign). run_of_one (proposal_from place.nodes c (front_of s) (own_value place s))) e;
+  nothing = ap (λ (c : Option Campaign). run_from_campaign place.nodes c (front_of s) (own_value place s)) e;
 }
 
 -- ---- how a close ends
 
--- the vote of a proposal
-abbrev pub vote_of_made : Made → Vote
-vote_of_made made = record { ballot = made.ballot; command = made.command }
+-- the node proposes from its front on, in a ballot of its own that its store has promised, and votes for that itself
+pub record Proposes (place : Place) (s : Standing) (turn : Turn) : Type 0 where
+  pub campaign : Campaign
+  pub made : AcceptRun
+  pub is : IsMade place s campaign made
+  pub fresh : Fresh place s campaign made
+  pub mine : made.ballot.node ≡ place.node
+  pub slot : made.slot ≡ front_of s
+  pub least : 1 ≤ length made.commands
+  pub left : front_of s < SLOTS
+  pub promised : s.store.promise ≡ made.ballot
+  pub turn_is : turn ≡ turn_made place s campaign made
 
--- the node's own vote for it is counted, and refused by nothing that is known
-pub record CountsOwn (place : Place) (s : Standing) (made : Made) (learned : Learned) : Type 0 where
-  pub heard : learned ≡ hearing s.learned place.node made.ballot made.slot made.command
-  pub ok : IsOk (answer_to s.learned place.node made.ballot made.slot made.command)
-
--- it leads on, or no longer, and proposes nothing; or it proposes at its front, in a ballot of its own that its store has promised and of which it has
--- no vote there, and votes for that itself
+-- it leads on, or no longer, and proposes nothing; or it proposes
 pub data Closed (place : Place) (s : Standing) (turn : Turn) : Type 0 where
   rests : (campaign : Option Campaign) → turn ≡ still (record s { campaign = campaign }) → Closed place s turn
-  proposes : (made : Made) (campaign : Campaign) (learned : Learned) → campaign.ballot ≡ made.ballot → made.ballot.node ≡ place.node → made.slot ≡ front_of s
-      → s.store.promise ≡ made.ballot → ((vote : Vote) → s.store.votes made.slot ≡ Some vote → vote.ballot ≡ made.ballot → ⊥) → front_of s < SLOTS
-      → CountsOwn place s made learned → learned.log ≡ s.learned.log
-      → turn ≡ record {
-        after = record (with_stored s (voted s.store made.slot (vote_of_made made))) { campaign = Some campaign; learned = learned };
-        frames = to_others place (frame.Accept made.ballot made.slot (made.command ∷ [])) ++ to_others place (frame.Accepted made.ballot made.slot (made.command ∷ []));
-        shown = [];
-        faults = [];
-      } → Closed place s turn
+  proposes : Proposes place s turn → Closed place s turn
 
 pub record Closes (place : Place) (s : Standing) (outcome : Result Turn Refusal) : Type 0 where
   pub turn : Turn
@@ -84,51 +71,50 @@ pub record Closes (place : Place) (s : Standing) (outcome : Result Turn Refusal)
 
 pub close_is : (x : Scope) (came : List Arrival) (heard : Hearing) (t : Turn) (p : Path x came heard (applied t.after) t)
     → Closes x.place t.after (closing x.place t.after)
-close_is x came heard t p = subst (Closes x.place t.after) (sym (closes_one x.given x.place t.after)) (close_by (leads x.place.nodes t.after.campaign && nat_le SLOTS (front_of t.after)) refl)
+close_is x came heard t p = close_by (leads x.place.nodes t.after.campaign && nat_le SLOTS (front_of t.after)) refl
   where
-    by_campaign : (made : Made) → (leads x.place.nodes t.after.campaign && nat_le SLOTS (front_of t.after)) ≡ false
+    by_campaign : (made : AcceptRun) → (leads x.place.nodes t.after.campaign && nat_le SLOTS (front_of t.after)) ≡ false
         → (found : (f : Campaign) × IsMade x.place t.after f made)
-        → Closes x.place t.after (proposing_one x.place made (record t.after { campaign = marked_from t.after.campaign (Ok (Some made)) }))
+        → Closes x.place t.after (proposing x.place made (record t.after { campaign = marked_run_from t.after.campaign (Ok (Some made)) }))
     by_campaign made in_range (c, is) = record {
       turn = turn_made x.place t.after c made;
       is = made_turn x.place t.after c made is.has shows;
-      closed = proposes made (with_mark c (Ok (Some made))) (hearing t.after.learned x.place.node made.ballot made.slot made.command) (sym safe.ballot) mine safe.slot promised
-          (none_stored x came heard t p c made is) left (record { heard = refl; ok = subst IsOk (sym shows.over.answer) refl }) shows.over.log refl;
+      closed = proposes (record {
+        campaign = c;
+        made = made;
+        is = is;
+        fresh = shows;
+        mine = o.mine;
+        slot = o.slot;
+        least = o.least;
+        left = left;
+        promised = ap (λ (st : Store). st.promise) (sym p.knows.store) ∙ o.promised;
+        turn_is = refl;
+      });
       rest = record {
         in_range = ap (λ (l : Log). has_quorum x.place.nodes c && nat_le SLOTS (front l)) shows.over.log
             ∙ (ap (λ (y : Option Campaign). leads x.place.nodes y && nat_le SLOTS (front_of t.after)) (sym is.has) ∙ in_range);
-        nothing = ap run_of_one (ap (λ (l : Log). proposal_by x.place.nodes (with_mark c (Ok (Some made))) (front l) (own_value x.place (standing_made x.place t.after c made))) shows.over.log
-            ∙ marked_none x.place.nodes (with_mark c (Ok (Some made))) (front_of t.after) (own_value x.place (standing_made x.place t.after c made)) shows.proposal.covered
-            (marked_at c (front_of t.after) made shows.places shows.proposal.covered shows.proposal.slot));
+        nothing = made_rests x.place t.after c made shows;
       };
     }
       where
-        camp : Campaigns x.place.nodes x.place.node p.node c
-        camp = campaigns_of x.place.nodes x.place.node p.node t.after.campaign c is.has p.knows.proposer.is_campaign
-
-        safe : IsSafe x.place.nodes p.node.has c (front_of t.after) (own_value x.place t.after) made
-        safe = x.given.safe x.place.nodes p.node.has c (front_of t.after) (own_value x.place t.after) made camp.counts is.made_so
-
-        mine : made.ballot.node ≡ x.place.node
-        mine = ap (λ (b : Ballot). b.node) safe.ballot ∙ camp.own
-
-        promised : t.after.store.promise ≡ made.ballot
-        promised = ap (λ (st : Store). st.promise) (sym p.knows.store) ∙ (camp.promised ∙ sym safe.ballot)
+        o : IsOwnRun x.place t.after p.node c made
+        o = own_run x came heard t p c made is
 
         shows : Fresh x.place t.after c made
-        shows = fresh x came heard t p c made is
+        shows = fresh x came heard t p c made is o
 
         left : front_of t.after < SLOTS
-        left = let l = leb-false SLOTS (front_of t.after) (and_left (has_quorum x.place.nodes c) (nat_le SLOTS (front_of t.after)) shows.proposal.quorum
+        left = let l = leb-false SLOTS (front_of t.after) (and_left (has_quorum x.place.nodes c) (nat_le SLOTS (front_of t.after)) shows.quorum
             (ap (λ (y : Option Campaign). leads x.place.nodes y && nat_le SLOTS (front_of t.after)) (sym is.has) ∙ in_range)) in omega (arith, l)
 
-    closes_by : (leads x.place.nodes t.after.campaign && nat_le SLOTS (front_of t.after)) ≡ false → (r : Result (Option Made) ProposeFault) → one_at x.place t.after ≡ r
-        → Closes x.place t.after (closing_by_one x.place r (record t.after { campaign = marked_from t.after.campaign r }))
+    closes_by : (leads x.place.nodes t.after.campaign && nat_le SLOTS (front_of t.after)) ≡ false → (r : Result (Option AcceptRun) ProposeFault) → proposal_at x.place t.after ≡ r
+        → Closes x.place t.after (closing_by x.place r (record t.after { campaign = marked_run_from t.after.campaign r }))
     closes_by in_range (Ok None) e = record {
-      turn = still (record t.after { campaign = marked_from t.after.campaign (Ok None) });
+      turn = still (record t.after { campaign = marked_run_from t.after.campaign (Ok None) });
       is = refl;
-      closed = rests (marked_from t.after.campaign (Ok None)) refl;
-      rest = subst (λ (c : Option Campaign). IsRest x.place (record t.after { campaign = c })) (sym (unmarked t.after.campaign)) (record { in_range = in_range; nothing = ap run_of_one e });
+      closed = rests (marked_run_from t.after.campaign (Ok None)) refl;
+      rest = subst (λ (c : Option Campaign). IsRest x.place (record t.after { campaign = c })) (sym (unmarked t.after.campaign)) (record { in_range = in_range; nothing = e });
     }
     closes_by in_range (Err fault) e = record {
       turn = still (idle t.after);
@@ -140,9 +126,9 @@ close_is x came heard t p = subst (Closes x.place t.after) (sym (closes_one x.gi
 
     close_by : (b : Bool) → (leads x.place.nodes t.after.campaign && nat_le SLOTS (front_of t.after)) ≡ b
         → Closes x.place t.after (if b then Ok (still (idle t.after))
-        else closing_by_one x.place (one_at x.place t.after) (record t.after { campaign = marked_from t.after.campaign (one_at x.place t.after) }))
+        else closing_by x.place (proposal_at x.place t.after) (record t.after { campaign = marked_run_from t.after.campaign (proposal_at x.place t.after) }))
     close_by true e = record { turn = still (idle t.after); is = refl; closed = rests None refl; rest = idle_rests x.place (idle t.after) refl }
-    close_by false e = closes_by e (one_at x.place t.after) refl
+    close_by false e = closes_by e (proposal_at x.place t.after) refl
 
 -- ---- a rule and then the close
 

@@ -1,7 +1,6 @@
 -- After its close a call leaves nothing to propose.
-use Rattle.std.proofs.Common.{◌≡◌, ℕ, ◌<◌, ◌≤◌, ◌+◌, ◌-◌, inl, inr, Bool, true, false, not, if◌then◌else◌, ◌&&◌, List, [], ◌∷◌, ◌++◌, Option, Some, None, Result, Ok, Err, refl, sym, ap, subst, ◌∙◌, arith, length, get_or, set, get_or-set_same, drop, reverse}
-use Rattle.std.specs.Prelude.{nat_lt, nat_le}
-use Rattle.std.proofs.lemmas.Bool.{ltb-true, ltb-false}
+use Rattle.std.proofs.Common.{◌≡◌, ℕ, ◌<◌, ◌≤◌, ◌+◌, ◌-◌, inl, inr, Bool, true, false, not, if◌then◌else◌, ◌&&◌, List, [], ◌∷◌, ◌++◌, Option, Some, None, Result, Ok, Err, refl, sym, ap, subst, ◌∙◌, arith, length, replicate, drop, reverse}
+use Rattle.std.specs.Prelude.{nat_le, is_err, IsOk}
 use Rattle.std.proofs.lemmas.List.{append-nil, length-reverse, drop_all}
 use Rattle.paxos_wire.specs.declared.limits.TheConstants.{SLOTS, WINDOW}
 use Rattle.paxos_wire.specs.declared.ballot.Ballot.{Ballot}
@@ -12,29 +11,34 @@ use Rattle.slot_log.specs.declared.command.Command.{Command}
 use Rattle.slot_log.specs.declared.slot_fault.SlotFault.{SlotFault}
 use Rattle.slot_log.specs.declared.slot_fault.SlotFault.TheVariants.{Conflict as KnownOther}
 use Rattle.protocol_model.specs.Sets.{In}
-use Rattle.protocol_model.specs.Messages.{Vote, Message, Prepare, Accept, Accepted}
-use Rattle.protocol_model.specs.Stores.{Store, voted}
+use Rattle.protocol_model.specs.Messages.{Message, Prepare, Accept, Accepted}
+use Rattle.protocol_model.specs.CommandRuns.{proposed}
 use Rattle.protocol_model.specs.Quorums.{IsChosenIn}
 use Rattle.protocol_model.specs.Nodes.{Node}
 use Rattle.protocol_model.specs.Arrivals.{Arrival}
 use Rattle.protocol_model.specs.Worlds.{World, Reached, IsAfter}
-use Rattle.proposer.specs.declared.accept.Accept.{Accept as Made}
+use Rattle.proposer.specs.declared.accept_run.AcceptRun.{AcceptRun}
 use Rattle.proposer.specs.declared.campaign.Campaign.{Campaign}
 use Rattle.proposer.specs.declared.fault.ProposeFault.{ProposeFault}
 use Rattle.proposer.specs.declared.fault.ProposeFault.TheVariants.{OutOfWindow}
-use Rattle.proposer.specs.Campaigns.{has_quorum, leads, is_covered, is_proposed, accept_of, value_of, greatest_told, proposal_by, with_mark, marked_from}
-use Rattle.proposer.specs.Laws.{IsSafe}
+use Rattle.proposer.specs.Campaigns.{has_quorum, leads, is_covered, is_proposed}
+use Rattle.proposer.specs.CommandRuns.{commands_at, accept_run_of, run_by, with_marks, marked_run_from}
+use Rattle.proposer.specs.Counted.{MarksSent}
+use Rattle.proposer.proofs.SafeRuns.{PassedRun, passed_run}
 use Rattle.learner.specs.declared.chosen.Chosen.{Chosen as Learnt}
 use Rattle.learner.specs.Learning.{Learned, is_open, is_other, completes, answer_to, hearing, counting, knowing}
+use Rattle.learner.specs.CommandRuns.{hearing_each, chosen_each, is_refused, answer_to_run, hearing_run}
+use Rattle.learner.specs.Counted.{CountsFrom}
 use Rattle.node_rules.specs.Standings.{Place, Standing, applied, front_of, with_stored, idle}
 use Rattle.node_rules.specs.Sending.{Frame, to_others}
 use Rattle.node_rules.specs.Turns.{Turn, Refusal, still, sending, joined, behind, and_then}
 use Rattle.node_rules.specs.Applying.{passed, taking_all, scene_of, applying}
-use Rattle.node_rules.specs.Learning.{learning}
-use Rattle.protocol_model.specs.Votes.{is_of_ballot, storing}
-use Rattle.node_rules.specs.Proposing.{own_value, closing}
-use Rattle.proposer.specs.CommandRuns.{run_of_one}
-use Rattle.node_rules.specs.Being.{Campaigns}
+use Rattle.node_rules.specs.Learning.{learning, counting_votes}
+use Rattle.protocol_model.specs.Votes.{command_run_at, taking_command_run}
+use Rattle.node_rules.specs.Accepting.{voting}
+use Rattle.node_rules.specs.Proposing.{own_value, proposing, closing_by, proposal_at, closing}
+use Rattle.node_rules.specs.Given.{Given}
+use Rattle.node_rules.specs.Being.{Campaigns, IsLearner}
 use Rattle.node_rules.specs.Proposed.{IsSettled}
 use Rattle.node_rules.specs.Rules.{asking}
 use Rattle.node_rules.proofs.Results.{ok_is}
@@ -42,9 +46,11 @@ use Rattle.node_rules.proofs.Paths.{Hearing, Scope, dealer_in, Path, Goes, three
 use Rattle.learner.proofs.Kept.{open_means}
 use Rattle.node_rules.proofs.Learning.{world_now}
 use Rattle.node_rules.proofs.Asked.{asked_same}
-use Rattle.node_rules.proofs.Closing.{IsMade, made_by, campaigns_of, none_of_ballot, stored_new, unmarked}
+use Rattle.protocol_model.proofs.Sets.{in_first}
+use Rattle.node_rules.proofs.OwnRuns.{unmarked, in_proposed, at_slot, source_once}
+use Rattle.node_rules.proofs.Electing.{covered}
+use Rattle.node_rules.proofs.Closing.{IsMade, made_by, IsOwnRun, own_run, made_frames, standing_voted}
 use Rattle.node_rules.proofs.Sourcing.{had_was_sent}
-use Rattle.node_rules.proofs.Ones.{counting_one, proposing_one, one_at, closing_by_one, closes_one}
 
 -- ---- a node's own vote is no quorum
 
@@ -71,24 +77,18 @@ alone x came heard upto t p ballot first slot command messages began once inside
         (x.given.proposed (dealer_in x) x.place.nodes k now.0 ballot slot command now.1 ever))))
 
 -- where a vote completes nothing it is counted or passed over, and nothing more is known
-pub record PassesOver (l : Learned) (from : ℕ) (ballot : Ballot) (slot : ℕ) (command : Command) : Type 0 where
+record PassesOne (l : Learned) (from : ℕ) (ballot : Ballot) (slot : ℕ) (command : Command) : Type 0 where
   pub answer : answer_to l from ballot slot command ≡ Ok None
   pub log : (hearing l from ballot slot command).log ≡ l.log
 
-pub passes_over : (l : Learned) (from : ℕ) (ballot : Ballot) (slot : ℕ) (command : Command) → (is_open l.log slot ≡ true → completes l from ballot slot command ≡ true → ⊥)
-    → PassesOver l from ballot slot command
-passes_over l from ballot slot command not_done = by_test (is_open l.log slot) (completes l from ballot slot command) refl refl
+passes_one : (l : Learned) (from : ℕ) (ballot : Ballot) (slot : ℕ) (command : Command) → (is_open l.log slot ≡ true → completes l from ballot slot command ≡ true → ⊥)
+    → PassesOne l from ballot slot command
+passes_one l from ballot slot command not_done = by_test (is_open l.log slot) (completes l from ballot slot command) refl refl
   where
     other : Bool
     other = is_other (known_at l.log slot) command
 
-    answer_by : Bool → Bool → Result (Option Learnt) SlotFault
-    answer_by a b = if not a then Ok None else if not b then Ok None else if other then Err KnownOther else Ok (Some (record { slot = slot; command = command }))
-
-    log_by : Bool → Bool → Learned
-    log_by a b = if not a then l else if not b then counting l from ballot slot command else if other then l else knowing (counting l from ballot slot command) slot command
-
-    by_test : (a b : Bool) → is_open l.log slot ≡ a → completes l from ballot slot command ≡ b → PassesOver l from ballot slot command
+    by_test : (a b : Bool) → is_open l.log slot ≡ a → completes l from ballot slot command ≡ b → PassesOne l from ballot slot command
     by_test false b ea eb = record {
       answer = ap (λ (y : Bool). if not y then Ok None else if not (completes l from ballot slot command) then Ok None else if other then Err KnownOther else Ok (Some (record { slot = slot; command = command }))) ea;
       log = ap (λ (y : Bool). (let k : Learned = if not y then l else if not (completes l from ballot slot command) then counting l from ballot slot command else if other then l else knowing (counting l from ballot slot command) slot command in k.log)) ea;
@@ -99,67 +99,91 @@ passes_over l from ballot slot command not_done = by_test (is_open l.log slot) (
     }
     by_test true true ea eb = absurd (not_done ea eb)
 
+-- with a vote of the node more the messages choose nothing at these slots
+abbrev pub ChooseNothing : ℕ → List Message → ℕ → Ballot → ℕ → ℕ → Type 0
+ChooseNothing n messages from ballot slot count =
+    (k : ℕ) (command : Command) → slot ≤ k → k < slot + count → IsChosenIn n (Accepted from ballot k command ∷ messages) ballot k command → ⊥
+
+one_over : (g : Given) (l : Learned) (messages : List Message) (from : ℕ) (ballot : Ballot) (slot : ℕ) (command : Command) → CountsFrom messages l
+    → (IsChosenIn l.nodes (Accepted from ballot slot command ∷ messages) ballot slot command → ⊥) → PassesOne l from ballot slot command
+one_over g l messages from ballot slot command counts nothing_chosen =
+    passes_one l from ballot slot command (λ ahead done.
+    let m : Message = Accepted from ballot slot command in
+    nothing_chosen (g.completed (m ∷ messages) l from ballot slot command (g.more messages l m counts) (inl refl) (open_means l.log slot ahead) done))
+
+-- nor with one for a slot below them
+chooses_still : (n : ℕ) (messages : List Message) (from : ℕ) (ballot : Ballot) (slot : ℕ) (command : Command) (count : ℕ) → ChooseNothing n messages from ballot (slot + 1) count
+    → ChooseNothing n (Accepted from ballot slot command ∷ messages) from ballot (slot + 1) count
+chooses_still n messages from ballot slot command count before k c low high (quorum, most, votes) = before k c low high (quorum, most, λ voter below is. vote_of voter (votes voter below is))
+  where
+    vote_of : (voter : ℕ) → In (Accepted voter ballot k c) (Accepted from ballot k c ∷ Accepted from ballot slot command ∷ messages) → In (Accepted voter ballot k c) (Accepted from ballot k c ∷ messages)
+    vote_of voter (inl e) = inl e
+    vote_of voter (inr (inl e)) = absurd (let same : k ≡ slot = cc in omega (arith, same, low))
+    vote_of voter (inr (inr h)) = inr h
+
+each_over : (g : Given) (l : Learned) (messages : List Message) (from : ℕ) (ballot : Ballot) (slot : ℕ) (commands : List Command) → CountsFrom messages l
+    → ChooseNothing l.nodes messages from ballot slot (length commands) → (hearing_each l from ballot slot commands).log ≡ l.log
+unfolding hearing_each
+each_over g l messages from ballot slot [] counts nothing_chosen = refl
+each_over g l messages from ballot slot (command ∷ later) counts nothing_chosen =
+    let m : Message = Accepted from ballot slot command in
+    let stays : (hearing l from ballot slot command).nodes ≡ l.nodes = (g.nodes_stay l from ballot slot command).0 in
+    each_over g (hearing l from ballot slot command) (m ∷ messages) from ballot (slot + 1) later (g.answer_counts (m ∷ messages) l from ballot slot command (inl refl) (g.more messages l m counts))
+    (subst (λ (n : ℕ). ChooseNothing n (m ∷ messages) from ballot (slot + 1) (length later)) (sym stays)
+    (chooses_still l.nodes messages from ballot slot command (length later) (λ k c low high. nothing_chosen k c (omega (arith, low)) (omega (arith, high)))))
+    ∙ (let one = one_over g l messages from ballot slot command counts (nothing_chosen slot command (omega arith) (omega arith)) in one.log)
+
+none_refused : (g : Given) (l : Learned) (messages : List Message) (from : ℕ) (ballot : Ballot) (slot : ℕ) (commands : List Command) → CountsFrom messages l
+    → ChooseNothing l.nodes messages from ballot slot (length commands) → is_refused l from ballot slot commands ≡ false
+unfolding is_refused
+none_refused g l messages from ballot slot [] counts nothing_chosen = refl
+none_refused g l messages from ballot slot (command ∷ later) counts nothing_chosen =
+    let one = one_over g l messages from ballot slot command counts (nothing_chosen slot command (omega arith) (omega arith)) in
+    ap (λ (r : Result (Option Learnt) SlotFault). if is_err r then true else is_refused l from ballot (slot + 1) later) one.answer
+    ∙ none_refused g l messages from ballot (slot + 1) later counts (λ k c low high. nothing_chosen k c (omega (arith, low)) (omega (arith, high)))
+
+-- votes for commands at slots that follow one another, which complete nothing
+pub record PassesOver (l : Learned) (from : ℕ) (ballot : Ballot) (slot : ℕ) (commands : List Command) : Type 0 where
+  pub ok : IsOk (answer_to_run l from ballot slot commands)
+  pub log : (hearing_run l from ballot slot commands).log ≡ l.log
+
+pub run_ok_if : (l : Learned) (from : ℕ) (ballot : Ballot) (slot : ℕ) (commands : List Command) → is_refused l from ballot slot commands ≡ false → IsOk (answer_to_run l from ballot slot commands)
+run_ok_if l from ballot slot commands taken =
+    subst (λ (b : Bool). let r : Result (List Bool) SlotFault = if b then Err KnownOther else Ok (chosen_each l from ballot slot commands ++ replicate (WINDOW - length commands) false) in IsOk r) (sym taken) refl
+
+pub passes_over : (g : Given) (l : Learned) (messages : List Message) (from : ℕ) (ballot : Ballot) (slot : ℕ) (commands : List Command) → CountsFrom messages l
+    → ChooseNothing l.nodes messages from ballot slot (length commands) → PassesOver l from ballot slot commands
+passes_over g l messages from ballot slot commands counts nothing_chosen =
+    let taken = none_refused g l messages from ballot slot commands counts nothing_chosen in
+    record {
+      ok = run_ok_if l from ballot slot commands taken;
+      log = ap (λ (b : Bool). (let k : Learned = if b then l else hearing_each l from ballot slot commands in k.log)) taken
+          ∙ each_over g l messages from ballot slot commands counts nothing_chosen;
+    }
+
 -- ---- nothing is left to propose
 
 -- what is marked isn't proposed again
-pub marked_none : (n : ℕ) (c : Campaign) (at : ℕ) (own : Option Command) → is_covered c.first at ≡ true → is_proposed c at ≡ true → proposal_by n c at own ≡ Ok None
+pub marked_none : (n : ℕ) (c : Campaign) (at : ℕ) (own : Option Command) → is_covered c.first at ≡ true → is_proposed c at ≡ true → run_by n c at own ≡ Ok None
 marked_none n c at own covered marked = by_quorum (has_quorum n c)
   where
     by_quorum : (q : Bool) → (if not q then Ok None
         else if not (is_covered c.first at) then Err OutOfWindow
         else if is_proposed c at then Ok None
-        else Ok (accept_of c at (value_of (greatest_told c at n) own))) ≡ Ok None
+        else Ok (accept_run_of c at (commands_at n c at own))) ≡ Ok None
     by_quorum false = refl
     by_quorum true = λ j. if not (covered j) then Err OutOfWindow
         else if marked j then Ok None
-        else Ok (accept_of c at (value_of (greatest_told c at n) own))
+        else Ok (accept_run_of c at (commands_at n c at own))
 
--- what a proposal tells of its campaign
-pub record Proposal (n : ℕ) (c : Campaign) (at : ℕ) (own : Option Command) (made : Made) : Type 0 where
-  pub quorum : has_quorum n c ≡ true
-  pub covered : is_covered c.first at ≡ true
-  pub unproposed : is_proposed c at ≡ false
-  pub command : value_of (greatest_told c at n) own ≡ Some made.command
-  pub ballot : made.ballot ≡ c.ballot
-  pub slot : made.slot ≡ at
-
-accepted_is : (c : Campaign) (at : ℕ) (value : Option Command) (made : Made) → accept_of c at value ≡ Some made → (value ≡ Some made.command) × (made.ballot ≡ c.ballot) × (made.slot ≡ at)
-accepted_is c at None made e = absurd (cc)
-accepted_is c at (Some command) made e =
-    let same : made ≡ record { ballot = c.ballot; slot = at; command = command } = cc in
-    (ap (λ (m : Made). Some m.command) (sym same), ap (λ (m : Made). m.ballot) same, ap (λ (m : Made). m.slot) same)
-
-pub proposal_is : (n : ℕ) (c : Campaign) (at : ℕ) (own : Option Command) (made : Made) → proposal_by n c at own ≡ Ok (Some made) → Proposal n c at own made
-proposal_is n c at own made e = by_tests (has_quorum n c) (is_covered c.first at) (is_proposed c at) refl refl refl e
-  where
-    value : Option Command
-    value = value_of (greatest_told c at n) own
-
-    found_is : (a b : Option Made) → ◌≡◌ {A = Result (Option Made) ProposeFault} (Ok a) (Ok b) → a ≡ b
-    found_is a b h = cc
-
-    by_tests : (q covered done : Bool) → has_quorum n c ≡ q → is_covered c.first at ≡ covered → is_proposed c at ≡ done
-        → (if not q then Ok None else if not covered then Err OutOfWindow else if done then Ok None else Ok (accept_of c at (value_of (greatest_told c at n) own))) ≡ Ok (Some made)
-        → Proposal n c at own made
-    by_tests false covered done eq ec ed h = absurd (cc)
-    by_tests true false done eq ec ed h = absurd (cc)
-    by_tests true true true eq ec ed h = absurd (cc)
-    by_tests true true false eq ec ed h =
-        let k = accepted_is c at (value_of (greatest_told c at n) own) made (found_is (accept_of c at (value_of (greatest_told c at n) own)) (Some made) h) in
-        record { quorum = eq; covered = ec; unproposed = ed; command = k.0; ballot = k.1; slot = k.2 }
-
-covered_is : (first at : ℕ) → is_covered first at ≡ true → (first ≤ at) × (at < first + WINDOW)
-covered_is first at e = by_tests (nat_lt at first) (nat_lt at (first + WINDOW)) refl refl e
-  where
-    by_tests : (low high : Bool) → nat_lt at first ≡ low → nat_lt at (first + WINDOW) ≡ high → (if low then false else high) ≡ true → (first ≤ at) × (at < first + WINDOW)
-    by_tests true high el eh h = absurd (cc)
-    by_tests false high el eh h = (ltb-false at first el, ltb-true at (first + WINDOW) (eh ∙ h))
-
--- the mark of a proposal stands at its slot
-pub marked_at : (c : Campaign) (at : ℕ) (made : Made) → length c.proposed ≡ WINDOW → is_covered c.first at ≡ true → made.slot ≡ at → is_proposed (with_mark c (Ok (Some made))) at ≡ true
-marked_at c at made places covered same =
-    subst (λ (k : ℕ). get_or (set c.proposed (k - c.first) true) (at - c.first) false ≡ true) (sym same)
-    (let l = covered_is c.first at covered in get_or-set_same c.proposed (at - c.first) true false (omega (arith, places)))
+-- the marks stand at the slots of what is proposed
+pub marked_at : (g : Given) (n : ℕ) (sent : List Message) (c : Campaign) (at : ℕ) (own : Option Command) (made : AcceptRun) → MarksSent sent c → run_by n c at own ≡ Ok (Some made)
+    → made.ballot ≡ c.ballot → (k : ℕ) → made.slot ≤ k → k < made.slot + length made.commands → is_proposed (with_marks c (Ok (Some made))) k ≡ true
+marked_at g n sent c at own made marks so ballot k low high =
+    let new = g.proposal_marks n sent c at own made so marks in
+    let here = at_slot made.ballot made.slot made.commands k low high in
+    (new.all k here.0 (in_first (proposed made.ballot made.slot made.commands) sent (Accept c.ballot k here.0)
+    (subst (λ (b : Ballot). In (Accept b k here.0) (proposed made.ballot made.slot made.commands)) ballot (in_proposed made.ballot made.slot made.commands (Accept made.ballot k here.0) here.1)))).1
 
 -- ---- what is applied where no more is known
 
@@ -177,119 +201,98 @@ applying_same place new s e = λ j. record {
   faults = [];
 }
 
--- a vote that completes nothing shows nothing
-pub counted_is : (place : Place) (from : ℕ) (ballot : Ballot) (slot : ℕ) (command : Command) (s : Standing) → PassesOver s.learned from ballot slot command
-    → counting_one place from ballot slot command s ≡ Ok (still (record s { learned = hearing s.learned from ballot slot command }))
-counted_is place from ballot slot command s p =
-    ap (λ (a : Result (Option Learnt) SlotFault). learning place a (hearing s.learned from ballot slot command) s) p.answer
-    ∙ ap (λ (t : Turn). let r : Result Turn Refusal = Ok t in r) (applying_same place (hearing s.learned from ballot slot command) s p.log)
+-- where it isn't refused, what was learned is applied
+pub learning_ok : {A : Type 0} (place : Place) (answer : Result A SlotFault) (new : Learned) (s : Standing) → IsOk answer → learning place answer new s ≡ Ok (applying place new s)
+learning_ok place (Ok a) new s ok = refl
+learning_ok place (Err fault) new s ok = absurd (cc)
+
+-- votes that complete nothing show nothing
+pub counted_is : (place : Place) (from : ℕ) (ballot : Ballot) (slot : ℕ) (commands : List Command) (s : Standing) → PassesOver s.learned from ballot slot commands
+    → counting_votes place from ballot slot commands s ≡ Ok (still (record s { learned = hearing_run s.learned from ballot slot commands }))
+counted_is place from ballot slot commands s p =
+    learning_ok place (answer_to_run s.learned from ballot slot commands) (hearing_run s.learned from ballot slot commands) s p.ok
+    ∙ ap (λ (t : Turn). let r : Result Turn Refusal = Ok t in r) (applying_same place (hearing_run s.learned from ballot slot commands) s p.log)
 
 -- ---- a proposal, as one turn
 
--- the standing once the proposal is voted for: marked, stored, and the own vote counted
-abbrev pub standing_made : Place → Standing → Campaign → Made → Standing
-standing_made place s c made = record s {
-  store = voted s.store made.slot (record { ballot = made.ballot; command = made.command });
-  begun = voted s.store made.slot (record { ballot = made.ballot; command = made.command });
-  campaign = Some (with_mark c (Ok (Some made)));
-  learned = hearing s.learned place.node made.ballot made.slot made.command;
-}
+-- the standing once the proposal is voted for: marked, stored, and the own votes counted
+abbrev pub standing_made : Place → Standing → Campaign → AcceptRun → Standing
+standing_made place s c made = record (standing_voted s c made) { learned = hearing_run s.learned place.node made.ballot made.slot made.commands }
 
--- it goes to the others, and then the vote
-abbrev pub turn_made : Place → Standing → Campaign → Made → Turn
-turn_made place s c made = record {
-  after = standing_made place s c made;
-  frames = to_others place (frame.Accept made.ballot made.slot (made.command ∷ [])) ++ to_others place (frame.Accepted made.ballot made.slot (made.command ∷ []));
-  shown = [];
-  faults = [];
-}
+-- it goes to the others, and then the votes
+abbrev pub turn_made : Place → Standing → Campaign → AcceptRun → Turn
+turn_made place s c made = record { after = standing_made place s c made; frames = made_frames place made; shown = []; faults = [] }
 
-proposing_is : (place : Place) (made : Made) (s : Standing) → is_of_ballot (s.store.votes made.slot) made.ballot ≡ false
-    → PassesOver s.learned place.node made.ballot made.slot made.command
-    → proposing_one place made s ≡ Ok (record {
-      after = record s {
-        store = voted s.store made.slot (record { ballot = made.ballot; command = made.command });
-        begun = voted s.store made.slot (record { ballot = made.ballot; command = made.command });
-        learned = hearing s.learned place.node made.ballot made.slot made.command;
-      };
-      frames = to_others place (frame.Accept made.ballot made.slot (made.command ∷ [])) ++ to_others place (frame.Accepted made.ballot made.slot (made.command ∷ []));
+-- commands that are taken whole are voted for, in one turn
+pub voting_is : (place : Place) (ballot : Ballot) (slot : ℕ) (commands : List Command) (s : Standing) → command_run_at s.store ballot slot commands ≡ commands
+    → PassesOver s.learned place.node ballot slot commands
+    → voting place ballot slot commands s
+    ≡ Ok (joined (sending (to_others place (frame.Accepted ballot slot commands)) (with_stored s (taking_command_run s.store ballot slot commands)))
+    (still (record (with_stored s (taking_command_run s.store ballot slot commands)) { learned = hearing_run s.learned place.node ballot slot commands })))
+voting_is place ballot slot commands s whole over =
+    ap (λ (cs : List Command). behind (sending (to_others place (frame.Accepted ballot slot cs)) after) (counting_votes place place.node ballot slot cs after)) whole
+    ∙ ap (λ (r : Result Turn Refusal). behind (sending (to_others place (frame.Accepted ballot slot commands)) after) r) (counted_is place place.node ballot slot commands after over)
+  where
+    after : Standing
+    after = with_stored s (taking_command_run s.store ballot slot commands)
+
+proposing_is : (place : Place) (made : AcceptRun) (s : Standing) → command_run_at s.store made.ballot made.slot made.commands ≡ made.commands
+    → PassesOver s.learned place.node made.ballot made.slot made.commands
+    → proposing place made s ≡ Ok (record {
+      after = record (with_stored s (taking_command_run s.store made.ballot made.slot made.commands)) { learned = hearing_run s.learned place.node made.ballot made.slot made.commands };
+      frames = made_frames place made;
       shown = [];
       faults = [];
     })
-proposing_is place made s fresh over =
-    ap (λ (k : Command). by_stored k (storing s.store made.ballot made.slot made.command)) (stored_new (s.store.votes made.slot) made.ballot made.command fresh)
-    ∙ (ap (λ (b : Bool). by_stored made.command (if b then s.store else voted s.store made.slot (record { ballot = made.ballot; command = made.command }))) fresh
-    ∙ (ap (λ (r : Result Turn Refusal). behind u (behind (v made.command store) r)) (counted_is place place.node made.ballot made.slot made.command (with_stored s store) over)
+proposing_is place made s whole over =
+    ap (λ (r : Result Turn Refusal). behind (sending (to_others place (frame.Accept made.ballot made.slot made.commands)) s) r) (voting_is place made.ballot made.slot made.commands s whole over)
     ∙ ap (λ (l : List Frame). let r : Result Turn Refusal = Ok (record {
-      after = record (with_stored s store) { learned = hearing s.learned place.node made.ballot made.slot made.command };
-      frames = to_others place (frame.Accept made.ballot made.slot (made.command ∷ [])) ++ l;
+      after = record (with_stored s (taking_command_run s.store made.ballot made.slot made.commands)) { learned = hearing_run s.learned place.node made.ballot made.slot made.commands };
+      frames = to_others place (frame.Accept made.ballot made.slot made.commands) ++ l;
       shown = [];
       faults = [];
-    }) in r) (append-nil (to_others place (frame.Accepted made.ballot made.slot (made.command ∷ []))))))
-  where
-    u : Turn
-    u = sending (to_others place (frame.Accept made.ballot made.slot (made.command ∷ []))) s
-
-    v : Command → Store → Turn
-    v k st = sending (to_others place (frame.Accepted made.ballot made.slot (k ∷ []))) (with_stored s st)
-
-    store : Store
-    store = voted s.store made.slot (record { ballot = made.ballot; command = made.command })
-
-    by_stored : Command → Store → Result Turn Refusal
-    by_stored k st = behind u (behind (v k st) (counting_one place place.node made.ballot made.slot k (with_stored s st)))
+    }) in r) (append-nil (to_others place (frame.Accepted made.ballot made.slot made.commands)))
 
 -- what the path of a proposal shows
-pub record Fresh (place : Place) (s : Standing) (c : Campaign) (made : Made) : Type 0 where
-  pub proposal : Proposal place.nodes c (front_of s) (own_value place s) made
-  pub unvoted : is_of_ballot (s.store.votes made.slot) made.ballot ≡ false
-  pub places : length c.proposed ≡ WINDOW
-  pub over : PassesOver s.learned place.node made.ballot made.slot made.command
+pub record Fresh (place : Place) (s : Standing) (c : Campaign) (made : AcceptRun) : Type 0 where
+  pub quorum : has_quorum place.nodes c ≡ true
+  pub covered : is_covered c.first (front_of s) ≡ true
+  pub marked : is_proposed (with_marks c (Ok (Some made))) (front_of s) ≡ true
+  pub whole : command_run_at s.store made.ballot made.slot made.commands ≡ made.commands
+  pub over : PassesOver s.learned place.node made.ballot made.slot made.commands
 
--- the store has no vote at the slot in the ballot of the proposal
-pub none_stored : (x : Scope) (came : List Arrival) (heard : Hearing) (t : Turn) (p : Path x came heard (applied t.after) t) (c : Campaign) (made : Made) → IsMade x.place t.after c made
-    → (vote : Vote) → t.after.store.votes made.slot ≡ Some vote → vote.ballot ≡ made.ballot → ⊥
-none_stored x came heard t p c made is vote has same =
-    let camp : Campaigns x.place.nodes x.place.node p.node c = campaigns_of x.place.nodes x.place.node p.node t.after.campaign c is.has p.knows.proposer.is_campaign in
-    let safe : IsSafe x.place.nodes p.node.has c (front_of t.after) (own_value x.place t.after) made =
-    x.given.safe x.place.nodes p.node.has c (front_of t.after) (own_value x.place t.after) made camp.counts is.made_so in
-    x.given.once x.place.nodes p.node.sent c (front_of t.after) (own_value x.place t.after) made vote.command camp.marks is.made_so
-    (subst (λ (y : Ballot). In (Accept y made.slot vote.command) p.node.sent) (sym safe.ballot)
-    (camp.votes made.slot vote (ap (λ (st : Store). st.votes made.slot) p.knows.store ∙ has) (same ∙ safe.ballot)))
-
-pub fresh : (x : Scope) (came : List Arrival) (heard : Hearing) (t : Turn) (p : Path x came heard (applied t.after) t) (c : Campaign) (made : Made) → IsMade x.place t.after c made
-    → Fresh x.place t.after c made
-fresh x came heard t p c made is = record {
-  proposal = proposal_is x.place.nodes c (front_of t.after) (own_value x.place t.after) made is.made_so;
-  unvoted = none_of_ballot (t.after.store.votes made.slot) made.ballot (none_stored x came heard t p c made is);
-  places = camp.marks.places;
-  over = passes_over t.after.learned x.place.node made.ballot made.slot made.command not_done;
+pub fresh : (x : Scope) (came : List Arrival) (heard : Hearing) (t : Turn) (p : Path x came heard (applied t.after) t) (c : Campaign) (made : AcceptRun) → IsMade x.place t.after c made
+    → IsOwnRun x.place t.after p.node c made → Fresh x.place t.after c made
+fresh x came heard t p c made is o = record {
+  quorum = passed_tests.leads;
+  covered = covered c.first (front_of t.after) passed_tests.low passed_tests.high;
+  marked = marked_at x.given x.place.nodes p.node.sent c (front_of t.after) (own_value x.place t.after) made camp.marks is.made_so o.ballot (front_of t.after)
+      (let at = o.slot in omega (arith, at)) (let at = o.slot in let some = o.least in omega (arith, at, some));
+  whole = o.whole;
+  over = passes_over x.given t.after.learned l.in_time x.place.node made.ballot made.slot made.commands l.counts nothing_chosen;
 }
   where
     camp : Campaigns x.place.nodes x.place.node p.node c
-    camp = campaigns_of x.place.nodes x.place.node p.node t.after.campaign c is.has p.knows.proposer.is_campaign
+    camp = o.camp
 
-    safe : IsSafe x.place.nodes p.node.has c (front_of t.after) (own_value x.place t.after) made
-    safe = x.given.safe x.place.nodes p.node.has c (front_of t.after) (own_value x.place t.after) made camp.counts is.made_so
+    l : IsLearner x.place.nodes p.node.has p.node.known t.after.learned
+    l = p.knows.learner
 
-    once : (other : Command) → In (Accept made.ballot made.slot other) p.node.sent → ⊥
-    once other h = x.given.once x.place.nodes p.node.sent c (front_of t.after) (own_value x.place t.after) made other camp.marks is.made_so h
+    passed_tests : PassedRun x.place.nodes c (front_of t.after) (own_value x.place t.after) made
+    passed_tests = passed_run x.place.nodes c (front_of t.after) (own_value x.place t.after) made is.made_so
 
-    not_done : is_open t.after.learned.log made.slot ≡ true → completes t.after.learned x.place.node made.ballot made.slot made.command ≡ true → ⊥
-    not_done ahead done =
-        let l = p.knows.learner in
-        let m : Message = Accepted x.place.node made.ballot made.slot made.command in
-        alone x came heard (applied t.after) t p made.ballot c.first made.slot made.command l.in_time
-        (subst (λ (b : Ballot). In (Prepare b c.first) p.node.sent) (sym safe.ballot) camp.prepared) once l.came
-        (subst (λ (k : ℕ). IsChosenIn k (m ∷ l.in_time) made.ballot made.slot made.command) l.nodes
-        (x.given.completed (m ∷ l.in_time) t.after.learned x.place.node made.ballot made.slot made.command (x.given.more l.in_time t.after.learned m l.counts) (inl refl)
-        (open_means t.after.learned.log made.slot ahead) done))
+    nothing_chosen : ChooseNothing t.after.learned.nodes p.knows.learner.in_time x.place.node made.ballot made.slot (length made.commands)
+    nothing_chosen k command low high chosen =
+        alone x came heard (applied t.after) t p made.ballot c.first k command p.knows.learner.in_time
+        (subst (λ (b : Ballot). In (Prepare b c.first) p.node.sent) (sym o.ballot) camp.prepared)
+        (source_once x.place.nodes p.node.has p.node.sent (own_value x.place t.after) made.ballot made.slot made.commands o.source k low high) p.knows.learner.came
+        (subst (λ (n : ℕ). IsChosenIn n (Accepted x.place.node made.ballot k command ∷ p.knows.learner.in_time) made.ballot k command) p.knows.learner.nodes chosen)
 
-pub made_turn : (place : Place) (s : Standing) (c : Campaign) (made : Made) → s.campaign ≡ Some c → Fresh place s c made
-    → proposing_one place made (record s { campaign = marked_from s.campaign (Ok (Some made)) }) ≡ Ok (turn_made place s c made)
+pub made_turn : (place : Place) (s : Standing) (c : Campaign) (made : AcceptRun) → s.campaign ≡ Some c → Fresh place s c made
+    → proposing place made (record s { campaign = marked_run_from s.campaign (Ok (Some made)) }) ≡ Ok (turn_made place s c made)
 made_turn place s c made has f =
-    ap (λ (y : Option Campaign). proposing_one place made (record s { campaign = marked_from y (Ok (Some made)) })) has
-    ∙ proposing_is place made (record s { campaign = Some (with_mark c (Ok (Some made))) }) f.unvoted f.over
+    ap (λ (y : Option Campaign). proposing place made (record s { campaign = marked_run_from y (Ok (Some made)) })) has
+    ∙ proposing_is place made (record s { campaign = Some (with_marks c (Ok (Some made))) }) f.whole f.over
 
 -- ---- nothing is left to propose
 
@@ -300,44 +303,41 @@ pub and_left : (a b : Bool) → a ≡ true → (a && b) ≡ false → b ≡ fals
 and_left true b e h = h
 and_left false b e h = absurd (cc)
 
-made_settled : (place : Place) (s : Standing) (c : Campaign) (made : Made) → s.campaign ≡ Some c → (leads place.nodes s.campaign && nat_le SLOTS (front_of s)) ≡ false → Fresh place s c made
+pub made_rests : (place : Place) (s : Standing) (c : Campaign) (made : AcceptRun) → Fresh place s c made → proposal_at place (standing_made place s c made) ≡ Ok None
+made_rests place s c made f =
+    ap (λ (l : Log). run_by place.nodes (with_marks c (Ok (Some made))) (front l) (own_value place (standing_made place s c made))) f.over.log
+    ∙ marked_none place.nodes (with_marks c (Ok (Some made))) (front_of s) (own_value place (standing_made place s c made)) f.covered f.marked
+
+made_settled : (place : Place) (s : Standing) (c : Campaign) (made : AcceptRun) → s.campaign ≡ Some c → (leads place.nodes s.campaign && nat_le SLOTS (front_of s)) ≡ false → Fresh place s c made
     → IsSettled place (standing_made place s c made)
 made_settled place s c made has room f leads_on = (
-  ap (λ (l : Log). nat_le SLOTS (front l)) f_log ∙ and_left (leads place.nodes s.campaign) (nat_le SLOTS (front_of s)) (ap (leads place.nodes) has ∙ f.proposal.quorum) room,
-  ap run_of_one (ap (λ (l : Log). proposal_by place.nodes marked (front l) (own_value place (standing_made place s c made))) f_log
-      ∙ marked_none place.nodes marked (front_of s) (own_value place (standing_made place s c made)) f.proposal.covered
-      (marked_at c (front_of s) made f.places f.proposal.covered f.proposal.slot)),
+  ap (λ (l : Log). nat_le SLOTS (front l)) f.over.log ∙ and_left (leads place.nodes s.campaign) (nat_le SLOTS (front_of s)) (ap (leads place.nodes) has ∙ f.quorum) room,
+  made_rests place s c made f,
 )
-  where
-    marked : Campaign
-    marked = with_mark c (Ok (Some made))
 
-    f_log : (hearing s.learned place.node made.ballot made.slot made.command).log ≡ s.learned.log
-    f_log = ap (λ (l : Log). l) f.over.log
-
-closed_by : (x : Scope) (came : List Arrival) (heard : Hearing) (t : Turn) (p : Path x came heard (applied t.after) t) (b : Bool) (r : Result (Option Made) ProposeFault) (c : Turn)
-    → (leads x.place.nodes t.after.campaign && nat_le SLOTS (front_of t.after)) ≡ b → one_at x.place t.after ≡ r
-    → (if b then Ok (still (idle t.after)) else closing_by_one x.place r (record t.after { campaign = marked_from t.after.campaign r })) ≡ Ok c → IsSettled x.place c.after
+closed_by : (x : Scope) (came : List Arrival) (heard : Hearing) (t : Turn) (p : Path x came heard (applied t.after) t) (b : Bool) (r : Result (Option AcceptRun) ProposeFault) (c : Turn)
+    → (leads x.place.nodes t.after.campaign && nat_le SLOTS (front_of t.after)) ≡ b → proposal_at x.place t.after ≡ r
+    → (if b then Ok (still (idle t.after)) else closing_by x.place r (record t.after { campaign = marked_run_from t.after.campaign r })) ≡ Ok c → IsSettled x.place c.after
 closed_by x came heard t p true r c eb er e = subst (λ (y : Turn). IsSettled x.place y.after) (ok_is (still (idle t.after)) c e) (unled x.place t.after)
 closed_by x came heard t p false (Err fault) c eb er e =
-    subst (λ (y : Turn). IsSettled x.place y.after) (ok_is (still (idle (record t.after { campaign = marked_from t.after.campaign (Err fault) }))) c e)
-    (unled x.place (record t.after { campaign = marked_from t.after.campaign (Err fault) }))
+    subst (λ (y : Turn). IsSettled x.place y.after) (ok_is (still (idle (record t.after { campaign = marked_run_from t.after.campaign (Err fault) }))) c e)
+    (unled x.place (record t.after { campaign = marked_run_from t.after.campaign (Err fault) }))
 closed_by x came heard t p false (Ok None) c eb er e =
-    subst (λ (y : Turn). IsSettled x.place y.after) (ok_is (still (record t.after { campaign = marked_from t.after.campaign (Ok None) })) c e)
+    subst (λ (y : Turn). IsSettled x.place y.after) (ok_is (still (record t.after { campaign = marked_run_from t.after.campaign (Ok None) })) c e)
     (subst (λ (y : Option Campaign). IsSettled x.place (record t.after { campaign = y })) (sym (unmarked t.after.campaign))
-    (λ leads_on. (and_left (leads x.place.nodes t.after.campaign) (nat_le SLOTS (front_of t.after)) leads_on eb, ap run_of_one er)))
+    (λ leads_on. (and_left (leads x.place.nodes t.after.campaign) (nat_le SLOTS (front_of t.after)) leads_on eb, er)))
 closed_by x came heard t p false (Ok (Some made)) c eb er e = by_campaign (made_by x.place t.after made t.after.campaign refl er)
   where
     by_campaign : (found : (f : Campaign) × IsMade x.place t.after f made) → IsSettled x.place c.after
     by_campaign (k, is) =
-        let f = fresh x came heard t p k made is in
+        let f = fresh x came heard t p k made is (own_run x came heard t p k made is) in
         subst (λ (y : Turn). IsSettled x.place y.after) (ok_is (turn_made x.place t.after k made) c (sym (made_turn x.place t.after k made is.has f) ∙ e))
         (made_settled x.place t.after k made is.has eb f)
 
 -- after the close of a call nothing is left to propose
 pub closed : (x : Scope) (came : List Arrival) (heard : Hearing) (t : Turn) (p : Path x came heard (applied t.after) t) (c : Turn) → closing x.place t.after ≡ Ok c → IsSettled x.place c.after
 closed x came heard t p c e =
-    closed_by x came heard t p (leads x.place.nodes t.after.campaign && nat_le SLOTS (front_of t.after)) (one_at x.place t.after) c refl refl (sym (closes_one x.given x.place t.after) ∙ e)
+    closed_by x came heard t p (leads x.place.nodes t.after.campaign && nat_le SLOTS (front_of t.after)) (proposal_at x.place t.after) c refl refl e
 
 -- ---- whole calls
 
@@ -367,25 +367,25 @@ asked_closed x came heard from w r turn goes h = by_close (and_then r (closing x
 -- ---- what a close comes to
 
 -- the node gives its ballot up, or rests, or proposes
-pub data Closes (place : Place) (s : Standing) (c : Turn) : Type 0 where
-  gives_up : c ≡ still (idle s) → Closes place s c
-  rests : c ≡ still s → Closes place s c
-  makes : (k : Campaign) (made : Made) → s.campaign ≡ Some k → Fresh place s k made → c ≡ turn_made place s k made → Closes place s c
+pub data Closes (place : Place) (s : Standing) (node : Node) (c : Turn) : Type 0 where
+  gives_up : c ≡ still (idle s) → Closes place s node c
+  rests : c ≡ still s → Closes place s node c
+  makes : (k : Campaign) (made : AcceptRun) → IsMade place s k made → IsOwnRun place s node k made → Fresh place s k made → c ≡ turn_made place s k made → Closes place s node c
 
-closes_by : (x : Scope) (came : List Arrival) (heard : Hearing) (t : Turn) (p : Path x came heard (applied t.after) t) (b : Bool) (r : Result (Option Made) ProposeFault) (c : Turn)
-    → one_at x.place t.after ≡ r
-    → (if b then Ok (still (idle t.after)) else closing_by_one x.place r (record t.after { campaign = marked_from t.after.campaign r })) ≡ Ok c → Closes x.place t.after c
+closes_by : (x : Scope) (came : List Arrival) (heard : Hearing) (t : Turn) (p : Path x came heard (applied t.after) t) (b : Bool) (r : Result (Option AcceptRun) ProposeFault) (c : Turn)
+    → proposal_at x.place t.after ≡ r
+    → (if b then Ok (still (idle t.after)) else closing_by x.place r (record t.after { campaign = marked_run_from t.after.campaign r })) ≡ Ok c → Closes x.place t.after p.node c
 closes_by x came heard t p true r c er e = gives_up (sym (ok_is (still (idle t.after)) c e))
 closes_by x came heard t p false (Err fault) c er e = gives_up (sym (ok_is (still (idle t.after)) c e))
 closes_by x came heard t p false (Ok None) c er e =
-    rests (sym (ok_is (still (record t.after { campaign = marked_from t.after.campaign (Ok None) })) c e) ∙ ap (λ (y : Option Campaign). still (record t.after { campaign = y })) (unmarked t.after.campaign))
+    rests (sym (ok_is (still (record t.after { campaign = marked_run_from t.after.campaign (Ok None) })) c e) ∙ ap (λ (y : Option Campaign). still (record t.after { campaign = y })) (unmarked t.after.campaign))
 closes_by x came heard t p false (Ok (Some made)) c er e = by_campaign (made_by x.place t.after made t.after.campaign refl er)
   where
-    by_campaign : (found : (f : Campaign) × IsMade x.place t.after f made) → Closes x.place t.after c
+    by_campaign : (found : (f : Campaign) × IsMade x.place t.after f made) → Closes x.place t.after p.node c
     by_campaign (k, is) =
-        let f = fresh x came heard t p k made is in
-        makes k made is.has f (sym (ok_is (turn_made x.place t.after k made) c (sym (made_turn x.place t.after k made is.has f) ∙ e)))
+        let o = own_run x came heard t p k made is in
+        let f = fresh x came heard t p k made is o in
+        makes k made is o f (sym (ok_is (turn_made x.place t.after k made) c (sym (made_turn x.place t.after k made is.has f) ∙ e)))
 
-pub closes : (x : Scope) (came : List Arrival) (heard : Hearing) (t : Turn) (p : Path x came heard (applied t.after) t) (c : Turn) → closing x.place t.after ≡ Ok c → Closes x.place t.after c
-closes x came heard t p c e =
-    closes_by x came heard t p (leads x.place.nodes t.after.campaign && nat_le SLOTS (front_of t.after)) (one_at x.place t.after) c refl (sym (closes_one x.given x.place t.after) ∙ e)
+pub closes : (x : Scope) (came : List Arrival) (heard : Hearing) (t : Turn) (p : Path x came heard (applied t.after) t) (c : Turn) → closing x.place t.after ≡ Ok c → Closes x.place t.after p.node c
+closes x came heard t p c e = closes_by x came heard t p (leads x.place.nodes t.after.campaign && nat_le SLOTS (front_of t.after)) (proposal_at x.place t.after) c refl e

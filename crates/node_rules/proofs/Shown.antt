@@ -54,27 +54,27 @@ use Rattle.node_rules.proofs.Applied.{seat_line_is, takes_all, keeps_all, scene_
 
 pub closed_shown : (place : Place) (s : Standing) (c : Turn) → Closed place s c → c.shown ≡ []
 closed_shown place s c (rests campaign e) = ap (λ (t : Turn). t.shown) e
-closed_shown place s c (proposes made campaign learned led mine at promise none left_over counts log e) = ap (λ (t : Turn). t.shown) e
+closed_shown place s c (proposes o) = ap (λ (t : Turn). t.shown) o.turn_is
 
 pub closed_faults : (place : Place) (s : Standing) (c : Turn) → Closed place s c → c.faults ≡ []
 closed_faults place s c (rests campaign e) = ap (λ (t : Turn). t.faults) e
-closed_faults place s c (proposes made campaign learned led mine at promise none left_over counts log e) = ap (λ (t : Turn). t.faults) e
+closed_faults place s c (proposes o) = ap (λ (t : Turn). t.faults) o.turn_is
 
 closed_applied : (place : Place) (s : Standing) (c : Turn) → Closed place s c → applied c.after ≡ applied s
 closed_applied place s c (rests campaign e) = ap (λ (t : Turn). applied t.after) e
-closed_applied place s c (proposes made campaign learned led mine at promise none left_over counts log e) = ap (λ (t : Turn). applied t.after) e ∙ ap (λ (l : Log). l.below) log
+closed_applied place s c (proposes o) = ap (λ (t : Turn). applied t.after) o.turn_is ∙ (let f = o.fresh in ap (λ (l : Log). l.below) f.over.log)
 
 pub closed_pending : (place : Place) (s : Standing) (c : Turn) → Closed place s c → c.after.pending ≡ s.pending
 closed_pending place s c (rests campaign e) = ap (λ (t : Turn). t.after.pending) e
-closed_pending place s c (proposes made campaign learned led mine at promise none left_over counts log e) = ap (λ (t : Turn). t.after.pending) e
+closed_pending place s c (proposes o) = ap (λ (t : Turn). t.after.pending) o.turn_is
 
 pub closed_sessions : (place : Place) (s : Standing) (c : Turn) → Closed place s c → c.after.sessions ≡ s.sessions
 closed_sessions place s c (rests campaign e) = ap (λ (t : Turn). t.after.sessions) e
-closed_sessions place s c (proposes made campaign learned led mine at promise none left_over counts log e) = ap (λ (t : Turn). t.after.sessions) e
+closed_sessions place s c (proposes o) = ap (λ (t : Turn). t.after.sessions) o.turn_is
 
 closed_up : (place : Place) (s : Standing) (c : Turn) → Closed place s c → c.after.up ≡ s.up
 closed_up place s c (rests campaign e) = ap (λ (t : Turn). t.after.up) e
-closed_up place s c (proposes made campaign learned led mine at promise none left_over counts log e) = ap (λ (t : Turn). t.after.up) e
+closed_up place s c (proposes o) = ap (λ (t : Turn). t.after.up) o.turn_is
 
 pub two_shown : (place : Place) (turn first c : Turn) (pieces : List Piece) → turn ≡ joined first c → Closed place first.after c → first.shown ≡ pieces → turn.shown ≡ pieces
 two_shown place turn first c pieces whole closed e =

@@ -1,5 +1,5 @@
 -- One step further on the path of a call: several messages sent at once, by a chain of moves, in frames that carry them all; or several got.
-use Rattle.std.proofs.Common.{◌≡◌, ◌≢◌, ℕ, ◌+◌, ◌<◌, ◌≤◌, inl, inr, false, List, [], ◌∷◌, ◌++◌, refl, sym, ap, subst, ◌∙◌, arith, append_assoc}
+use Rattle.std.proofs.Common.{◌≡◌, ◌≢◌, ℕ, ◌+◌, ◌<◌, ◌≤◌, inl, inr, true, false, List, [], ◌∷◌, ◌++◌, refl, sym, ap, subst, ◌∙◌, arith, append_assoc}
 use Rattle.std.proofs.lemmas.List.{append-nil}
 use Rattle.paxos_wire.specs.declared.ballot.Ballot.{Ballot}
 use Rattle.paxos_wire.specs.declared.message.Message.{Message as Wire}
@@ -7,13 +7,13 @@ use Rattle.slot_log.specs.declared.command.Command.{Command}
 use Rattle.protocol_model.specs.Sets.{In}
 use Rattle.protocol_model.specs.Ballots.{AtMost}
 use Rattle.protocol_model.specs.Messages.{Message, Accept, Accepted, sender_of}
-use Rattle.protocol_model.specs.Frames.{carried, answers}
-use Rattle.protocol_model.specs.CommandRuns.{answered, sending_all}
+use Rattle.protocol_model.specs.Frames.{carried, proposals, answers}
+use Rattle.protocol_model.specs.CommandRuns.{proposed, answered, sending_all}
 use Rattle.protocol_model.specs.Stores.{Store}
 use Rattle.protocol_model.specs.Dealers.{Dealer}
 use Rattle.protocol_model.specs.Nodes.{Node}
 use Rattle.protocol_model.specs.Arrivals.{Arrival}
-use Rattle.protocol_model.specs.Moves.{Chain, nothing, more, gets}
+use Rattle.protocol_model.specs.Moves.{Output, Chain, nothing, more, gets}
 use Rattle.node_rules.specs.Standings.{Place, Standing}
 use Rattle.node_rules.specs.Sending.{Frame, to_first}
 use Rattle.node_rules.specs.Showing.{Piece}
@@ -23,7 +23,8 @@ use Rattle.node_rules.specs.Being.{Knows}
 use Rattle.node_rules.specs.Called.{IsSaid, IsSaidTo, Carry, CarryAll, AreShown, log_after}
 use Rattle.node_rules.specs.Given.{Given}
 use Rattle.protocol_model.proofs.Sets.{Within, in_first, in_later, in_split, only_in}
-use Rattle.node_rules.proofs.Carrying.{joined_carry, joined_all, in_to, has_to, another, IsNoProposal}
+use Rattle.node_rules.proofs.Carrying.{joined_carry, joined_all, in_to, has_to, another, said_later, said_split, IsNoProposal}
+use Rattle.node_rules.proofs.OwnRuns.{proposal_is, in_proposed, in_proposals, answer_of}
 use Rattle.node_rules.proofs.Ordering.{sees_own}
 use Rattle.node_rules.proofs.Keeping.{IsNoAnswer, got_knows}
 use Rattle.node_rules.proofs.Paths.{Hearing, Scope, dealer_in, first_in, Path}
@@ -97,7 +98,7 @@ pub record LeadsAll (x : Scope) (came : List Arrival) (heard : Hearing) (upto : 
 abbrev pub AreLow : Ballot → List Message → Type 0
 AreLow promise messages = (m : Message) → In m messages → IsNoAnswer m × ((b : Ballot) → In b (ballots_in m) → AtMost b promise)
 
-own_knows : (g : Given) (d : Dealer) (place : Place) (upto : List Command) (s : Standing) (node : Node) (messages : List Message) → AreLow node.store.promise messages
+pub own_knows : (g : Given) (d : Dealer) (place : Place) (upto : List Command) (s : Standing) (node : Node) (messages : List Message) → AreLow node.store.promise messages
     → Knows d place upto s node → Knows d place upto s (with_got_each node messages)
 own_knows g d place upto s node [] low k = k
 own_knows g d place upto s node (m ∷ messages) low k =
@@ -105,12 +106,13 @@ own_knows g d place upto s node (m ∷ messages) low k =
     got_knows g d place upto s (with_got_each node messages) m s.seen (low m (inl refl)).0
     (sees_own (messages ++ node.has) m node.store.promise s.seen (low m (inl refl)).1 rest.seen) rest
 
-own_chain : (x : Scope) (came : List Arrival) (heard : Hearing) (upto : List Command) (t : Turn) (p : Path x came heard upto t) (messages : List Message) → Within messages p.sent
-    → Chain (dealer_in x) x.place.nodes x.place.node x.world.ever (first_in x) (record { sent = p.sent; shown = p.shown; came = came }) (with_got_each p.node messages)
-own_chain x came heard upto t p [] sent = p.chain
-own_chain x came heard upto t p (m ∷ messages) sent =
-    more _ (with_got_each p.node messages) nothing _ _ (own_chain x came heard upto t p messages (λ o h. sent o (inr h)))
-    (gets m p.knows.up (in_first p.sent x.world.ever m (sent m (inl refl))) refl refl) refl
+-- what a node sent on its way it gets
+pub own_chain : (d : Dealer) (n i : ℕ) (ever : List Message) (first : Node) (out : Output) (node : Node) (messages : List Message) → node.up ≡ true → Within messages out.sent
+    → Chain d n i ever first out node → Chain d n i ever first out (with_got_each node messages)
+own_chain d n i ever first out node [] up sent chain = chain
+own_chain d n i ever first out node (m ∷ messages) up sent chain =
+    more _ (with_got_each node messages) nothing _ _ (own_chain d n i ever first out node messages up (λ o h. sent o (inr h)) chain)
+    (gets m up (in_first out.sent ever m (sent m (inl refl))) refl refl) refl
 
 -- the node gets messages of its own
 pub get_own_all : (x : Scope) (came : List Arrival) (heard : Hearing) (upto : List Command) (t : Turn) (messages : List Message) (p : Path x came heard upto t)
@@ -121,7 +123,7 @@ get_own_all x came heard upto t messages p sent low = record {
     shown = p.shown;
     got = messages ++ p.got;
     node = with_got_each p.node messages;
-    chain = own_chain x came heard upto t p messages sent;
+    chain = own_chain (dealer_in x) x.place.nodes x.place.node x.world.ever (first_in x) _ p.node messages p.knows.up sent p.chain;
     knows = own_knows x.given (dealer_in x) x.place upto t.after p.node messages low p.knows;
     commands = p.commands;
     hears = p.hears;
@@ -195,3 +197,57 @@ in_answers i ballot slot (command ∷ more_commands) m h = elim (in_split (answe
 
 pub answered_is : (i : ℕ) (ballot : Ballot) (slot : ℕ) (commands : List Command) (m : Message) → In m (answered i ballot slot commands) → (k : ℕ) × (c : Command) × (m ≡ Accepted i ballot k c)
 answered_is i ballot slot commands m h = answer_is i ballot slot commands m (in_answers i ballot slot commands m h)
+
+-- ---- proposals to all, and then the votes for them
+
+vote_is : (i : ℕ) (ballot : Ballot) (slot : ℕ) (commands : List Command) (b : Ballot) (k : ℕ) (c : Command) → In (Accept b k c) (answers i ballot slot commands) → ⊥
+vote_is i ballot slot commands b k c h = let e = (answer_is i ballot slot commands (Accept b k c) h).2 in cc
+
+pub no_answer : (ballot : Ballot) (slot : ℕ) (commands : List Command) (s : ℕ) (b : Ballot) (k : ℕ) (c : Command) → In (Accepted s b k c) (proposals ballot slot commands) → ⊥
+no_answer ballot slot commands s b k c h = let e = (proposal_is ballot slot commands (Accepted s b k c) h).2 in cc
+
+pub proposals_own : (i : ℕ) (ballot : Ballot) (slot : ℕ) (commands : List Command) → ballot.node ≡ i → (m : Message) → In m (proposed ballot slot commands) → sender_of m ≡ i
+proposals_own i ballot slot commands mine m h = ap sender_of (proposal_is ballot slot commands m (in_proposals ballot slot commands m h)).2 ∙ mine
+
+pub proposal_carry : (n i : ℕ) (u v : Wire) (ballot : Ballot) (slot : ℕ) (commands : List Command) → 3 ≤ n → carried i u ≡ proposals ballot slot commands
+    → carried i v ≡ answers i ballot slot commands → ballot.node ≡ i
+    → Carry n i (to_first n i u ++ to_first n i v) (answered i ballot slot commands ++ proposed ballot slot commands)
+proposal_carry n i u v ballot slot commands three eu ev mine = record {
+  others = λ f h. elim (in_split (to_first n i u) (to_first n i v) f h) [
+    | inl x ↦ (let t = in_to n n i u f (omega arith) x in (t.0, t.1))
+    | inr x ↦ (let t = in_to n n i v f (omega arith) x in (t.0, t.1))
+  ];
+  said = λ o h. elim (said_split i (to_first n i u) (to_first n i v) o h) [
+    | inl x ↦ in_later (answered i ballot slot commands) (proposed ballot slot commands) o (in_proposed ballot slot commands o (of_proposals o x))
+    | inr x ↦ in_first (answered i ballot slot commands) (proposed ballot slot commands) o (in_answered i ballot slot commands o (of_answers o x))
+  ];
+  own = λ o h. elim (in_split (answered i ballot slot commands) (proposed ballot slot commands) o h) [
+    | inl x ↦ ap sender_of (answered_is i ballot slot commands o x).2
+    | inr x ↦ proposals_own i ballot slot commands mine o x
+  ];
+  accepted = λ s b k c h. elim (in_split (answered i ballot slot commands) (proposed ballot slot commands) (Accepted s b k c) h) [
+    | inl x ↦ voted (Accepted s b k c) (in_answers i ballot slot commands (Accepted s b k c) x)
+    | inr x ↦ absurd (no_answer ballot slot commands s b k c (in_proposals ballot slot commands (Accepted s b k c) x))
+  ];
+  accepts = λ b k c h. elim (said_split i (to_first n i u) (to_first n i v) (Accept b k c) h) [
+    | inl x ↦ voted (Accepted i b k c) (answer_of i ballot slot commands b k c (of_proposals (Accept b k c) x))
+    | inr x ↦ absurd (vote_is i ballot slot commands b k c (of_answers (Accept b k c) x))
+  ];
+}
+  where
+    of_proposals : (o : Message) → IsSaid i (to_first n i u) o → In o (proposals ballot slot commands)
+    of_proposals o h = subst (λ (l : List Message). In o l) eu (all_said n i u o h)
+
+    of_answers : (o : Message) → IsSaid i (to_first n i v) o → In o (answers i ballot slot commands)
+    of_answers o h = subst (λ (l : List Message). In o l) ev (all_said n i v o h)
+
+    voted : (o : Message) → In o (answers i ballot slot commands) → IsSaid i (to_first n i u ++ to_first n i v) o
+    voted o h = said_later i (to_first n i u) (to_first n i v) o (said_all n i v o three (subst (λ (l : List Message). In o l) (sym ev) h))
+
+pub proposal_all : (n i : ℕ) (u v : Wire) (ballot : Ballot) (slot : ℕ) (commands : List Command) → 3 ≤ n → carried i u ≡ proposals ballot slot commands
+    → carried i v ≡ answers i ballot slot commands
+    → CarryAll n i (to_first n i u ++ to_first n i v) (answered i ballot slot commands ++ proposed ballot slot commands)
+proposal_all n i u v ballot slot commands three eu ev =
+    joined_all n i (to_first n i u) (to_first n i v) (proposed ballot slot commands) (answered i ballot slot commands)
+    (others_lose_nothing n i u (proposed ballot slot commands) three (λ m h. subst (λ (l : List Message). In m l) (sym eu) (in_proposals ballot slot commands m h)))
+    (others_lose_nothing n i v (answered i ballot slot commands) three (λ m h. subst (λ (l : List Message). In m l) (sym ev) (in_answers i ballot slot commands m h)))

@@ -150,6 +150,24 @@ answer_beyond_what_is_taken (answers.accepts above e) =
     let few : 2 ≡ 1 = ap told_first clash in absurd (omega (arith, few))
 answer_beyond_what_is_taken (answers.AnswersAccept.refuses low e) = let few : 2 ≡ 1 = ap length e in absurd (omega (arith, few))
 
+abbrev told_commands_in : Wire → List Command
+told_commands_in (frame.Accepted ballot slot commands) = commands
+told_commands_in other = []
+
+abbrev told_commands_first : List Frame → List Command
+told_commands_first [] = []
+told_commands_first (f ∷ others) = told_commands_in f.message
+
+-- what came where the store has another command of the ballot
+answer_with_what_came : AnswersAccept (place 1) store_0 0 (ballot 1 0) 0 (dealt 2 ∷ [])
+    (to 0 (frame.Accepted (ballot 1 0) 0 (dealt 2 ∷ [])) ∷ to 2 (frame.Accepted (ballot 1 0) 0 (dealt 2 ∷ [])) ∷ []) → ⊥
+unfolding opened
+answer_with_what_came (answers.accepts high e) =
+    let same : to 0 (frame.Accepted (ballot 1 0) 0 (dealt 2 ∷ [])) ∷ to 2 (frame.Accepted (ballot 1 0) 0 (dealt 2 ∷ [])) ∷ []
+    ≡ to 0 (frame.Accepted (ballot 1 0) 0 (dealt 0 ∷ [])) ∷ to 2 (frame.Accepted (ballot 1 0) 0 (dealt 0 ∷ [])) ∷ [] = e in
+    let clash : dealt 2 ∷ [] ≡ dealt 0 ∷ [] = ap told_commands_first same in cc
+answer_with_what_came (answers.AnswersAccept.refuses low e) = let few : 2 ≡ 1 = ap length e in absurd (omega (arith, few))
+
 -- ---- backing
 
 -- a promise that was sent and isn't stored

@@ -1,5 +1,5 @@
 -- Votes for other nodes' proposals on the path of a call.
-use Rattle.std.proofs.Common.{◌≡◌, ◌≢◌, ℕ, ◌<◌, ◌⊎◌, inl, inr, Bool, true, false, true≢false, if◌then◌else◌, List, [], ◌∷◌, ◌++◌, Option, Some, None, Ok, refl, sym, ap, subst, ◌∙◌}
+use Rattle.std.proofs.Common.{◌≡◌, ◌≢◌, ℕ, ◌<◌, ◌⊎◌, inl, inr, Bool, true, false, true≢false, if◌then◌else◌, List, ◌∷◌, ◌++◌, Option, Some, None, Ok, refl, sym, ap, subst, ◌∙◌}
 use Rattle.std.proofs.lemmas.Option.{same_Some}
 use Rattle.paxos_wire.specs.declared.ballot.Ballot.{Ballot}
 use Rattle.paxos_wire.specs.declared.message.Message.{Message as Wire}
@@ -12,10 +12,9 @@ use Rattle.protocol_model.specs.Frames.{proposals, answers}
 use Rattle.protocol_model.specs.CommandRuns.{answered}
 use Rattle.protocol_model.specs.Votes.{command_run_at, taking_command_run}
 use Rattle.protocol_model.specs.Stores.{Store, voted}
-use Rattle.protocol_model.specs.Dealers.{Dealer}
 use Rattle.protocol_model.specs.Nodes.{Node}
 use Rattle.protocol_model.specs.Arrivals.{Arrival}
-use Rattle.protocol_model.specs.Moves.{with_store, with_sent}
+use Rattle.protocol_model.specs.Moves.{with_store}
 use Rattle.proposer.specs.declared.campaign.Campaign.{Campaign}
 use Rattle.paxos_wire.specs.Order.{is_below}
 use Rattle.node_rules.specs.Standings.{Place, Standing, applied, front_of, with_stored, idle}
@@ -25,12 +24,12 @@ use Rattle.node_rules.specs.Accepting.{refusing, voting, accepting}
 use Rattle.node_rules.specs.Learning.{counting_votes}
 use Rattle.node_rules.specs.Proposing.{own_value}
 use Rattle.node_rules.specs.Seen.{ballots_in}
-use Rattle.node_rules.specs.Being.{IsProposer, IsPending}
+use Rattle.node_rules.specs.Being.{IsProposer}
 use Rattle.protocol_model.proofs.Sets.{Within, in_first, in_split, put_cases}
 use Rattle.protocol_model.proofs.Ballots.{at_most_trans, at_most_self, at_most_if_not}
 use Rattle.node_rules.proofs.Carrying.{IsNoProposal}
 use Rattle.node_rules.proofs.Ordering.{sees_up}
-use Rattle.node_rules.proofs.Keeping.{IsNoAnswer, sent_pending, stored_pending}
+use Rattle.node_rules.proofs.Keeping.{IsNoAnswer, pending_all, stored_pending}
 use Rattle.node_rules.proofs.Proposed.{none_proposed}
 use Rattle.node_rules.proofs.Paths.{Hearing, Scope, dealer_in, Path, Goes, regroup, three_in}
 use Rattle.node_rules.proofs.Together.{with_said_all, say_all, LeadsAll, AreLow, get_own_all, others_carry_all, others_lose_nothing, answer_is, in_answered, in_answers, answered_is}
@@ -88,11 +87,6 @@ low_votes i ballot promise slot commands same m h =
         | inr none ↦ absurd none
       ],
     )
-
-pending_all : (d : Dealer) (i : ℕ) (node : Node) (messages : List Message) (upto : List Command) (c : Option Command) → IsPending d i node upto c
-    → IsPending d i (with_sent node messages) upto c
-pending_all d i node [] upto c h = h
-pending_all d i node (m ∷ messages) upto c h = sent_pending d i (with_sent node messages) m upto c (pending_all d i node messages upto c h)
 
 -- ---- votes for another node's proposals
 

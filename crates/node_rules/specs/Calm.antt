@@ -1,6 +1,6 @@
 -- A cluster at rest, and the round that moves it on.
 use Rattle.std.specs.Prelude.{◌≡◌, ℕ, ◌+◌, ◌*◌, ◌^◌, ◌<◌, ◌≤◌, ◌⊎◌, ◌==◌, true, false, if◌then◌else◌, List, [], ◌∷◌, ◌++◌, length, map, Some}
-use Rattle.paxos_wire.specs.declared.limits.TheConstants.{SLOTS}
+use Rattle.paxos_wire.specs.declared.limits.TheConstants.{SLOTS, WINDOW}
 use Rattle.paxos_wire.specs.declared.ballot.Ballot.{Ballot}
 use Rattle.paxos_wire.specs.declared.message.Message.{Message}
 use Rattle.paxos_wire.specs.declared.message.Message.TheVariants.{Prepare, Promise, Accept, Accepted}
@@ -57,10 +57,14 @@ AreGreatestHeld standings members slot (command ∷ more) = IsGreatestHeld stand
 abbrev pub IsUnheld : (ℕ → Standing) → List ℕ → ℕ → Type 0
 IsUnheld standings members slot = (vote : Vote) → IsHeld standings members slot vote → ⊥
 
--- where members have votes at the slot and at those behind it, the commands of these, as far as they go; as yet the first of them alone
-pub record IsToldRun (standings : ℕ → Standing) (members : List ℕ) (slot : ℕ) (commands : List Command) : Type 0 where
+-- where members have votes at the slot, the commands of these and of those behind it, as far as they go: up to the first slot where no member has a
+-- vote, up to 64 commands, or to the last slot that there is
+pub record IsToldCommandRun (standings : ℕ → Standing) (members : List ℕ) (slot : ℕ) (commands : List Command) : Type 0 where
+  pub least : 1 ≤ length commands
+  pub most : length commands ≤ WINDOW
+  pub slots : slot + length commands ≤ SLOTS
   pub held : AreGreatestHeld standings members slot commands
-  pub one : length commands ≡ 1
+  pub ends : (length commands ≡ WINDOW) ⊎ ((slot + length commands ≡ SLOTS) ⊎ IsUnheld standings members (slot + length commands))
 
 -- where no member has a vote at the slot, what the node has of its own: its deal where that fits, else the act that waits there
 abbrev pub IsOwn : Place → Standing → (ℕ → Standing) → List ℕ → ℕ → Command → Type 0
@@ -78,7 +82,7 @@ pub record Calm (place : Place) (standings : ℕ → Standing) (i : ℕ) (member
   pub slot_left : front_of (standings i) < SLOTS
   pub unpromised : (node : ℕ) → In node members → Below (standings node).store.promise (ballot_after i (standings i))
   pub goes_on : is_over place (standings i) ≡ false
-  pub value : IsToldRun standings members (front_of (standings i)) commands
+  pub value : IsToldCommandRun standings members (front_of (standings i)) commands
       ⊎ ((command : Command) × (commands ≡ command ∷ []) × IsOwn place (standings i) standings members (front_of (standings i)) command)
 
 -- ---- the round

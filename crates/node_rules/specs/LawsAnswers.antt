@@ -171,3 +171,10 @@ FramesAnswer =
     (own : ℕ → Command → Bool) (place : Place) (world : World) (s : Standing) (called : Call) (turn : Turn)
     → Stands own place world s → Comes place world.ever called → IsTurn place s called (Ok turn)
     → SendsBy (world.nodes place.node).up place s (world.nodes place.node) called turn
+
+-- an Accept's answer is what the store has, whatever the standing is and whoever sent it
+abbrev pub AcceptsAreAnswered : Type 0
+AcceptsAreAnswered =
+    (place : Place) (s : Standing) (from : ℕ) (bytes : List ℕ) (turn : Turn) (ballot : Ballot) (slot : ℕ) (commands : List Command)
+    → s.up ≡ true → IsTurn place s (call.Frame from bytes) (Ok turn) → reading bytes ≡ Ok (frame.Accept ballot slot commands)
+    → (answers : List Frame) × (later : List Frame) × AnswersAccept place s.store from ballot slot commands answers × (turn.frames ≡ answers ++ later)

@@ -16,9 +16,9 @@ use Rattle.node_rules.specs.Proposing.{own_value}
 use Rattle.node_rules.specs.Outcomes.{IsTaken, IsAnswered}
 
 -- each command is the told one of the greatest ballot at its slot: the first at this slot, each further one at the slot behind
-abbrev pub AreTold : ℕ → List Message → Ballot → ℕ → List Command → Type 0
-AreTold n has ballot slot [] = Unit {0}
-AreTold n has ballot slot (command ∷ more) = IsGreatestTold n has ballot slot command × AreTold n has ballot (slot + 1) more
+abbrev pub AreGreatestTold : ℕ → List Message → Ballot → ℕ → List Command → Type 0
+AreGreatestTold n has ballot slot [] = Unit {0}
+AreGreatestTold n has ballot slot (command ∷ more) = IsGreatestTold n has ballot slot command × AreGreatestTold n has ballot (slot + 1) more
 
 -- no told command may follow at the slot: it is behind the 64 slots from the first one on, or there is no such slot, or none is told of it, or one
 -- was proposed there
@@ -26,22 +26,20 @@ abbrev pub EndsAt : ℕ → List Message → List Message → Ballot → ℕ →
 EndsAt n has sent ballot first slot =
     (slot ≡ first + WINDOW) ⊎ ((slot ≡ SLOTS) ⊎ (IsFree n has ballot slot ⊎ ((command : Command) × In (Accept ballot slot command) sent)))
 
--- told commands as far as they may follow one another; as yet the first of them alone
-abbrev pub IsFull : ℕ → List Message → List Message → Ballot → ℕ → ℕ → List Command → Type 0
-IsFull n has sent ballot first slot commands = (length commands ≡ 1) ⊎ EndsAt n has sent ballot first (slot + length commands)
-
--- what a node with these messages, which had sent those, proposes in a ballot that covers the 64 slots from the first one on: told commands, or
--- where none is told at the slot what it has of its own, alone
+-- what a node with these messages, which had sent those, proposes in a ballot that covers the 64 slots from the first one on: told commands, as
+-- far as they may follow one another, or where none is told at the slot what it has of its own, alone
 abbrev pub IsProposal : ℕ → List Message → Option Command → List Message → Ballot → ℕ → ℕ → List Command → Type 0
 IsProposal n has own sent ballot first slot commands =
-    ((1 ≤ length commands) × AreTold n has ballot slot commands × IsFull n has sent ballot first slot commands)
+    ((1 ≤ length commands) × AreGreatestTold n has ballot slot commands × EndsAt n has sent ballot first (slot + length commands))
     ⊎ ((command : Command) × (commands ≡ command ∷ []) × IsFree n has ballot slot × (own ≡ Some command))
 
--- the node began the ballot since its start; the proposal begins at the front, and is one by what the node of the world has got
+-- the node began the ballot since its start; the proposal begins at the front, is of slots that there are, and is one by what the node of the world
+-- has got
 pub record IsMade (place : Place) (turn : Turn) (sent has began : List Message) (ballot : Ballot) (slot : ℕ) (commands : List Command) : Type 0 where
   pub first : ℕ
   pub prepared : In (Prepare ballot first) began
   pub at_front : slot ≡ front_of turn.after
+  pub slots : slot + length commands ≤ SLOTS
   pub proposal : IsProposal place.nodes has (own_value place turn.after) sent ballot first slot commands
 
 -- each proposal that a call sends

@@ -13,8 +13,8 @@ use Rattle.proposer.specs.declared.accept_run.AcceptRun.{AcceptRun}
 use Rattle.proposer.specs.declared.campaign.Campaign.{Campaign}
 use Rattle.proposer.specs.declared.fault.ProposeFault.{ProposeFault}
 use Rattle.paxos_wire.specs.Order.{is_below}
-use Rattle.proposer.specs.Campaigns.{next_ballot, new_campaign, with_promise, counting_from, refused_from, leads, proposal_from}
-use Rattle.proposer.specs.CommandRuns.{run_of_one, marked_run_from}
+use Rattle.proposer.specs.Campaigns.{next_ballot, new_campaign, with_promise, counting_from, refused_from, leads}
+use Rattle.proposer.specs.CommandRuns.{run_from_campaign, marked_run_from}
 use Rattle.dealer_kind.specs.Kind.{fits}
 use Rattle.node_rules.specs.Standings.{Place, Standing, applied, front_of, hands_at, with_stored, idle}
 use Rattle.node_rules.specs.Sending.{to_others}
@@ -92,11 +92,11 @@ closing_by place (Ok (Some made)) s = proposing place made s
 closing_by place (Ok None) s = Ok (still s)
 closing_by place (Err fault) s = Ok (still (idle s))
 
--- as yet one command at once
+-- what there is to propose at the front: the told command there with those told at the slots behind it, or where none is told there the own one, alone
 abbrev pub proposal_at : Place → Standing → Result (Option AcceptRun) ProposeFault
-proposal_at place s = run_of_one (proposal_from place.nodes s.campaign (front_of s) (own_value place s))
+proposal_at place s = run_from_campaign place.nodes s.campaign (front_of s) (own_value place s)
 
--- at the end of a call a node that leads proposes at its front, once in a ballot
+-- at the end of a call a node that leads proposes from its front on, once at a slot in a ballot
 abbrev pub closing : Place → Standing → Result Turn Refusal
 closing place s =
     if leads place.nodes s.campaign && nat_le SLOTS (front_of s) then Ok (still (idle s))

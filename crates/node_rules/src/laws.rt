@@ -4,7 +4,7 @@ ghost use Rattle.node_rules.specs.CalmRound.{CalmRoundMoves, FreshIsCalm};
 ghost use Rattle.node_rules.specs.Given.{Given};
 ghost use Rattle.node_rules.specs.Outcomes.{PromisesMakeProposals, FrontIsUnknown, ToldIsKnown, VotesStayInTime, QuorumIsKnown};
 ghost use Rattle.node_rules.specs.Sound.{TurnsAreChains, AppendsAreBegun, CallsAreSound, LinesAreRefusedDown};
-ghost use Rattle.node_rules.specs.LawsAnswers.{FramesAnswer};
+ghost use Rattle.node_rules.specs.LawsAnswers.{FramesAnswer, AcceptsAreAnswered};
 ghost use Rattle.node_rules.specs.LawsBacking.{SentIsBacked, BackedStaysSo};
 ghost use Rattle.node_rules.specs.LawsCreated.{CreatedIsNew};
 ghost use Rattle.node_rules.specs.LawsOrder.{OrdersAreTaken};
@@ -19,12 +19,15 @@ ghost use Rattle.node_rules.specs.LawsVotes.{OwnVotesAreInTime, RefusedBallotsEn
 
 use dealer_kind::laws::{answers_are_heard, nodes_are_few_and_odd, orders_play_for_the_next};
 use learner::laws::{
-    answers_of_runs_count, chosen_is_known, command_runs_are_known, command_runs_are_refused_whole,
-    completed_is_chosen, counts_are_kept as votes_are_kept, same_is_equal,
+    answers_of_runs_count, chosen_is_known, command_runs_are_known, completed_is_chosen,
+    counts_are_kept as votes_are_kept, same_is_equal,
 };
 use match_log::laws::{commands_add_to_the_log, logs_begin_with_their_header};
 use paxos_wire::readings_have_commands;
-use proposer::laws::{counts_are_kept, leaders_propose, proposals_are_safe};
+use proposer::laws::{
+    command_runs_are_marked, command_runs_are_safe, command_runs_end, counts_are_kept,
+    leaders_propose, proposals_are_safe,
+};
 use protocol_model::laws::{
     answers_have_proposals, backing_lasts, chains_reach, command_runs_are_carried,
     command_runs_are_moves, known_is_chosen, one_choice, one_node_is_no_quorum,
@@ -47,8 +50,10 @@ fn layers_below()
     chosen_is_known();
     command_runs_are_carried();
     command_runs_are_known();
+    command_runs_are_marked();
     command_runs_are_moves();
-    command_runs_are_refused_whole();
+    command_runs_are_safe();
+    command_runs_end();
     commands_add_to_the_log();
     commands_make_hands();
     completed_is_chosen();
@@ -122,8 +127,12 @@ pub fn ticks_prepare()
 }
 
 /// The frames of each call are exactly the answers to what came, what its close proposes, and its questions.
+///
+/// What answers an Accept goes by the store alone, whatever else the node knows and whoever sent it: where votes of the
+/// ballot stand there, they are told and not what came.
 pub fn frames_answer()
-    ensures { FramesAnswer }
+    ensures frames { FramesAnswer }
+    ensures accepts { AcceptsAreAnswered }
 {
     layers_below();
 }
@@ -139,7 +148,7 @@ pub fn sent_is_backed()
 
 /// A cluster at rest moves: where the members of a least quorum are calm for one of them, its round goes on to its end,
 /// whatever each call of it leaves, and then that node's front has passed the slots of the round's commands, each of which
-/// it knows. As yet the round has one.
+/// it knows: all that the members have votes for from its front on, as far as such votes follow one another, up to 64.
 ///
 /// The round is a tick of the node, and four times a frame with each other member in order. Each frame of it has been
 /// sent, to that node and with these bytes, by a turn of the round before, so no frame of it is forged; and by the rules
@@ -219,8 +228,8 @@ pub fn refused_ballots_end()
     layers_below();
 }
 
-/// A proposal has told commands in it, each the one of the greatest ballot at its slot, from the front on; or where none was
-/// told at the front, what the node has of its own, alone. As yet it is one command.
+/// A proposal has told commands in it, each the one of the greatest ballot at its slot, from the front on and as far as they
+/// may follow one another; or where none was told at the front, what the node has of its own, alone.
 pub fn command_runs_are_told()
     ensures { CommandRunsAreTold }
 {

@@ -1,7 +1,9 @@
 ghost use Rattle.std.specs.Prelude.{◌≡◌, ◌≤◌, ◌<◌, ◌+◌, ◌-◌, ◌^◌, min, replicate, set, slice_get, Some, IsTrue, ◌↔◌};
+ghost use Rattle.std.specs.Option.{option_map};
 ghost use Rattle.dealer_world.specs.Viewing.{view_of};
 ghost use Rattle.dealer_world.specs.declared.event.Event.TheVariants.{Stop as Stopping, Drop as Dropping};
 ghost use Rattle.serving.specs.Lowest.{IsCounted};
+ghost use Rattle.serving.specs.Most.{frame_by};
 ghost use Rattle.serving.specs.Outing.{outages_in};
 ghost use Rattle.serving.specs.Repairs.{stopped, started, greeted_after};
 ghost use Rattle.serving.specs.declared.place.Place.TheVariants.{Awaited, Seated, Leaving};
@@ -12,7 +14,7 @@ use crate::outages::Outages;
 use crate::place::Place;
 use crate::places::Places;
 use crate::seeing::{lowest_front, sights};
-use dealer_world::Cluster;
+use dealer_world::{Cluster, Frame};
 use match_file::Absent;
 use match_links::limits::NODES;
 use promise_store::Disk;
@@ -118,6 +120,13 @@ impl Progress {
             frame: self.next_frame(cluster),
             repair: self.repair,
         })
+    }
+
+    /// The next frame, where one is left to deliver.
+    pub(crate) fn frame<'a, D: Disk + Drop>(&self, cluster: &'a Cluster<D>) -> Option<Frame<'a>>
+        ensures { option_map (λ frame. frame_by frame.from frame.to frame.bytes.now) result ≡ slice_get (view_of cluster.now).all.sent self.now.delivered }
+    {
+        cluster.frame(self.delivered)
     }
 
     /// The number of the next frame, where one is left to deliver.

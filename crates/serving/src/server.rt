@@ -1,5 +1,5 @@
 ghost use Rattle.std.specs.Prelude.{◌≡◌, ◌≤◌, ◌++◌, [], length, map, replicate, slice_get, None, IfOk, IfErr, OnOk, OnErr};
-ghost use Rattle.std.specs.Option.{ForSome};
+ghost use Rattle.std.specs.Option.{ForSome, option_map};
 ghost use Rattle.dealer_world.specs.Viewing.{view_of};
 ghost use Rattle.dealer_world.specs.Promise.{IsPromised, HasNoForged};
 ghost use Rattle.dealer_node.specs.Seeing.{begun_of};
@@ -7,6 +7,7 @@ ghost use Rattle.dealer_world.specs.Events.{node_of};
 ghost use Rattle.serving.specs.Dues.{TakesNext, IsAwaited};
 ghost use Rattle.serving.specs.Giving.{taken, to_give};
 ghost use Rattle.serving.specs.Going.{piece_after};
+ghost use Rattle.serving.specs.Most.{frame_by, frame_of_turn, CoversTurn};
 ghost use Rattle.serving.specs.Outing.{outages_in};
 ghost use Rattle.serving.specs.Placed.{places_in};
 ghost use Rattle.serving.specs.Turned.{Turned, Gave, FailsAt, Ends, Mends, Passes, HasGivenAll, Opens};
@@ -24,8 +25,8 @@ use crate::serve_fault::ServeFault;
 use crate::taking::{close_all, empty_logs, take};
 use crate::turn::Turn;
 use crate::waiting::{Taking, Waiting};
-use dealer_node::{NodeFault, is_out_of_memory};
-use dealer_world::{Cluster, Event};
+use dealer_node::{MostShown, NodeFault, is_out_of_memory};
+use dealer_world::{Cluster, Event, Frame};
 use match_file::Absent;
 use match_links::Links;
 use promise_store::Disk;
@@ -146,20 +147,32 @@ impl<D: Disk + Drop, L: Links + Drop> Server<D, L> {
         ensures begun { map (begun_of D.Disk) (view_of self.new.cluster).nodes ≡ map (begun_of D.Disk) (view_of self.old.cluster).nodes }
     {
         // Before anything is taken or given: what the turn then carries and shows finds its room.
-        let most = most_shown(&self.cluster);
+        let most = most_shown(&self.cluster, self.next_frame());
         if self.desk.links.reserve(most.pieces, most.bytes).is_err() {
             return Err(ServeFault::Node(NodeFault::OutOfMemory));
         }
-        self.take_turn()
+        self.take_turn(most)
     }
 
-    /// The same where the links have made their room.
-    fn take_turn(&mut self) -> Result<Turn, ServeFault>
+    /// The frame that the next turn may bring to a node.
+    fn next_frame(&self) -> Option<Frame<'_>>
+        ensures { option_map (λ frame. frame_by frame.from frame.to frame.bytes.now) result ≡ frame_of_turn (view_of self.now.cluster) self.now.desk.progress self.now.waiting }
+    {
+        match &self.waiting {
+            Some(waiting) => waiting.frame(),
+            None => self.desk.progress.frame(&self.cluster),
+        }
+    }
+
+    /// The same where the links have made room for so much.
+    fn take_turn(&mut self, most: MostShown) -> Result<Turn, ServeFault>
+        requires { CoversTurn (view_of self.old.cluster) self.old.desk.progress self.old.waiting most }
         ensures turned { Turned D.Disk (served_of self.old) result (served_of self.new) }
         ensures promised { IsPromised D.Disk (view_of self.new.cluster) }
         ensures unforged { HasNoForged (view_of self.old.cluster) → HasNoForged (view_of self.new.cluster) }
         ensures begun { map (begun_of D.Disk) (view_of self.new.cluster).nodes ≡ map (begun_of D.Disk) (view_of self.old.cluster).nodes }
     {
+        let _ = most;
         match self.take_waiting()? {
             Taking::Gives(waiting) => self.give(waiting),
             Taking::Waits { seat, node } => Ok(Turn::Waits { seat, node }),

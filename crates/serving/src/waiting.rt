@@ -1,8 +1,10 @@
 ghost use Rattle.std.specs.Prelude.{◌≡◌};
+ghost use Rattle.std.specs.Option.{option_map};
+ghost use Rattle.serving.specs.Most.{frame_by, frame_in};
 ghost use Rattle.serving.specs.Turning.{turn_of};
 
 use crate::turn::Turn;
-use dealer_world::Event;
+use dealer_world::{Event, Frame};
 
 /// An event that is to be given to the cluster; of a frame its number too, counted from 0 in the order of sending, and of
 /// an order the seat that is played for.
@@ -33,6 +35,20 @@ impl Waiting {
             event,
             number,
             seat: 0,
+        }
+    }
+
+    /// The frame that it brings; none where it brings none.
+    pub(crate) fn frame(&self) -> Option<Frame<'_>>
+        ensures { option_map (λ frame. frame_by frame.from frame.to frame.bytes.now) result ≡ frame_in self.now.event }
+    {
+        match &self.event {
+            Event::Frame { from, to, bytes } => Some(Frame {
+                from: *from,
+                to: *to,
+                bytes,
+            }),
+            _ => None,
         }
     }
 

@@ -42,7 +42,7 @@ fn print_answers_at(rt: &(impl Print + AllocGlobal), config: &Config, call: u64)
 /// Lets each call of a disk that the making of a store takes fail in turn, and prints how it was answered, how it was
 /// when it was made again, and how the node's start.
 pub fn print_created(rt: &(impl Print + AllocGlobal)) -> io::Result<()> {
-    let Some(config) = config(rt.alloc(), 1)? else {
+    let Some(config) = config(rt.alloc(), 3, 1)? else {
         return rt.println("the match was refused");
     };
     for call in 1..CALLS {

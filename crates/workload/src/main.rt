@@ -2,8 +2,9 @@
 //!
 //! Each argument names what to run, and prints counts and checksums: `five-card-hands`, `best-of-seven`, `draws`,
 //! `sevens-by-counts`, `sevens-by-fives`, `sevens`, `short-hands`, `long-hands`, `encode`, `decode`, `promises`,
-//! `answers`, `refusals`, `nodes`, `nodes-short`, `creations`; `decks`, which reads lines `seed hand players deal`; and
-//! `frames`, which reads lines of a frame in hexadecimal and the frame as which its message is written, or its fault.
+//! `answers`, `refusals`, `nodes`, `nodes-five`, `nodes-seven`, `nodes-short`, `creations`; `catching-up`, behind which a
+//! further argument says of how many commands; `decks`, which reads lines `seed hand players deal`; and `frames`, which
+//! reads lines of a frame in hexadecimal and the frame as which its message is written, or its fault.
 //! The tasks of the store work on the file `workload.journal`: `store-append`, `store-appends`, `store-short`,
 //! `store-long`, `store-open-short`, `store-open-long`.
 //!
@@ -11,12 +12,14 @@
 //! over disks of that kind (`clusters`), and print all that comes of each.
 #![tactic(auto)]
 
+mod catching_up;
 mod clusters;
 mod creations;
 mod decks;
 mod driving;
 mod frame_speed;
 mod frames;
+mod group;
 mod hand_play;
 mod hands;
 mod nodes;
@@ -27,35 +30,48 @@ mod stores;
 mod taking;
 mod task;
 mod telling;
-mod trio;
 mod verdicts;
 
 use clusters::Disks;
+use group::Course;
 use hand_play::Policy;
 use sevens::Body;
 use std::fs::File;
 use std::rt::Files;
 use std::{env, io};
 use task::Task;
-use trio::Course;
+
+/// The name of the task behind which a word says of how many commands.
+const CATCHING_UP: &str = "catching-up";
 
 fn main(rt: HostRuntime) -> io::Result<()> {
     let words = env::args(&rt)?;
+    let mut says_how_many = false;
     for word in words.skip(1) {
-        run_named(&rt, word.as_str())?;
+        says_how_many = run_word(&rt, says_how_many, word.as_str())?;
     }
     Ok(())
 }
 
-/// Runs the task of a name.
-fn run_named(
+/// Runs the task that a word names, or where the word before it named the one that is told how many commands, that one.
+/// An `Ok` of true: the next word says how many.
+fn run_word(
     rt: &(impl Input + Print + AllocGlobal + Files<File = File>),
-    name: &str,
-) -> io::Result<()> {
-    match Task::named(name) {
-        Some(task) => run(rt, task),
-        None => println!(rt; "unknown: {name}"),
+    says_how_many: bool,
+    word: &str,
+) -> io::Result<bool> {
+    if says_how_many {
+        catching_up::print_caught_up(rt, word.parse().unwrap_or(0))?;
+        return Ok(false);
     }
+    if word == CATCHING_UP {
+        return Ok(true);
+    }
+    match Task::named(word) {
+        Some(task) => run(rt, task)?,
+        None => println!(rt; "unknown: {word}")?,
+    }
+    Ok(false)
 }
 
 /// Runs one task and prints what it found.
@@ -76,8 +92,10 @@ fn run(rt: &(impl Input + Print + AllocGlobal + Files<File = File>), task: Task)
         Task::Promises => parts::print_promises(rt),
         Task::Answers => parts::print_answers(rt),
         Task::Refusals => parts::print_refusals(rt),
-        Task::Nodes => nodes::print_played(rt, 1000, 10, Course::Plain),
-        Task::NodesShort => nodes::print_played(rt, 1, 10, Course::Varied),
+        Task::Nodes => nodes::print_played(rt, 3, 1000, Course::Plain),
+        Task::NodesFive => nodes::print_played(rt, 5, 1000, Course::Plain),
+        Task::NodesSeven => nodes::print_played(rt, 7, 1000, Course::Plain),
+        Task::NodesShort => nodes::print_played(rt, 3, 1, Course::Varied),
         Task::Creations => creations::print_created(rt),
         Task::FusedCluster => clusters::print_driven(rt, Disks::Fused),
         Task::FailingCluster => clusters::print_driven(rt, Disks::FailingOnce),

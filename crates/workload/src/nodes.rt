@@ -1,39 +1,44 @@
-//! Matches that three nodes play over disks in memory, one after another.
+//! Matches that nodes play over disks in memory, one after another.
 
+use crate::group::{Course, Group};
 use crate::peer::config;
 use crate::taking::Counts;
-use crate::trio::{Course, Trio};
 use dealer_kind::Config;
 use std::alloc::{AllocError, Global};
 use std::io;
 
-/// Plays matches of so many hands, one after another, and prints how many commands each node knew at their ends, and
+/// How many hands a match has.
+const HANDS: u32 = 10;
+
+/// Plays matches of so many nodes, one after another, and prints how many commands each node knew at their ends, and
 /// what was counted.
 pub fn print_played(
     rt: &(impl Print + AllocGlobal),
+    nodes: u8,
     matches: u32,
-    hands: u32,
     course: Course,
 ) -> io::Result<()> {
-    let Some(config) = config(rt.alloc(), hands)? else {
+    let Some(config) = config(rt.alloc(), nodes, HANDS)? else {
         return rt.println("the match was refused");
     };
     match played(rt.alloc(), &config, matches, course)? {
-        Some(counts) => print_counts(rt, &counts),
+        Some(counts) => print_counts(rt, usize::from(nodes), &counts),
         None => rt.println("a node wasn't made"),
     }
 }
 
-/// Prints what was counted.
-fn print_counts(rt: &impl Print, counts: &Counts) -> io::Result<()> {
+/// Prints what was counted in matches of so many nodes.
+fn print_counts(rt: &impl Print, nodes: usize, counts: &Counts) -> io::Result<()> {
     let Counts {
         commands,
         frames,
+        bytes: _,
         sum,
         refused,
         failed,
         wrong,
     } = counts;
+    let commands = commands.get(..nodes).unwrap_or(commands.as_slice());
     println!(rt; "nodes: {commands:?} commands, {frames} frames, sum {sum:x}")?;
     println!(rt; "refused {refused}, failed {failed}, wrong {wrong}")
 }
@@ -45,14 +50,7 @@ fn played(
     matches: u32,
     course: Course,
 ) -> Result<Option<Counts>, AllocError> {
-    let mut counts = Counts {
-        commands: [0; 3],
-        frames: 0,
-        sum: 0,
-        refused: 0,
-        failed: 0,
-        wrong: 0,
-    };
+    let mut counts = Counts::none();
     for _ in 0..matches {
         if !play_one(alloc, config, course, &mut counts)? {
             return Ok(None);
@@ -68,8 +66,8 @@ fn play_one(
     course: Course,
     counts: &mut Counts,
 ) -> Result<bool, AllocError> {
-    let mut trio = Trio::new(alloc, course, *counts);
-    let played = trio.play_match(config);
-    *counts = trio.counts;
+    let mut group = Group::new(alloc, course, *counts);
+    let played = group.play_match(config);
+    *counts = group.counts;
     played
 }

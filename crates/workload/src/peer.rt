@@ -1,6 +1,6 @@
-//! A node of three in a match of two players, over a disk in memory, and what comes to it.
+//! A node of a match of two players, over a disk in memory, and what comes to it.
 
-ghost use Rattle.std.specs.Prelude.{◌≡◌};
+ghost use Rattle.std.specs.Prelude.{◌≡◌, ◌<◌};
 ghost use Rattle.dealer_node.specs.Seeing.{post_in};
 
 use dealer_kind::{Config, Source};
@@ -29,11 +29,11 @@ END GAMEDEF
 /// What a seat names the version by.
 pub const VERSION: &[u8] = b"VERSION:2.0.0\r\n";
 
-/// A match of so many hands, whose nodes draw their deals from seeds of their own.
-pub fn config(alloc: Global, hands: u32) -> Result<Option<Config>, AllocError> {
+/// A match of so many hands, whose nodes, so many, draw their deals from seeds of their own.
+pub fn config(alloc: Global, nodes: u8, hands: u32) -> Result<Option<Config>, AllocError> {
     let mut sources = Vec::new(alloc);
-    for seed in 1..4 {
-        sources.push(Source::Seed(seed))?;
+    for node in 0..nodes {
+        sources.push(Source::Seed(u64::from(node) + 1))?;
     }
     let word = Vec::from_slice(alloc, b"l2.game")?;
     Ok(configured(word, hands, sources))
@@ -52,7 +52,7 @@ fn configured(word: Vec<u8>, hands: u32, sources: Vec<Source>) -> Option<Config>
 pub enum Event<'a> {
     Start,
     Tick,
-    /// The bytes of a frame, and the node that it is from, 0 to 2.
+    /// The bytes of a frame, and the node that it is from.
     Frame(u8, &'a [u8]),
     /// A piece of the bytes of seat 0 or 1.
     Line(u8, &'a [u8]),
@@ -60,23 +60,29 @@ pub enum Event<'a> {
     Connect(u8),
 }
 
-/// A node of three in a match of two players.
+/// A node of a match of two players.
 #[derive(Drop)]
 pub struct Peer {
     pub node: Node<MemoryDisk>,
-    ghost nodes: { (post_in node).nodes ≡ 3 },
+    /// The number of the match's last node.
+    last: usize,
+    ghost nodes: { last < (post_in node).nodes },
     ghost players: { (post_in node).setting.game.players ≡ 2 },
 }
 
 impl Peer {
-    /// The node of this number, down, over an empty disk; none where the match isn't one of three nodes and two players.
+    /// The node of this number, down, over an empty disk; none where the match has no such node, or not two players.
     pub fn new(alloc: Global, config: &Config, number: usize) -> Result<Option<Peer>, AllocError> {
-        if config.nodes() != 3 || config.game().players() != 2 || number >= 3 {
+        let nodes = config.nodes();
+        if number >= nodes || config.game().players() != 2 {
             return Ok(None);
         }
         let disk = MemoryDisk::new(alloc, &[])?;
         let node = Node::new(alloc, config, number, disk)?;
-        Ok(Some(Peer { node }))
+        Ok(Some(Peer {
+            node,
+            last: nodes - 1,
+        }))
     }
 
     /// Makes the node's store, and once more where that fails.
@@ -92,7 +98,9 @@ impl Peer {
         match event {
             Event::Start => self.node.start(out),
             Event::Tick => self.node.on_tick(out),
-            Event::Frame(from, bytes) => self.node.on_frame(usize::from(from.min(2)), bytes, out),
+            Event::Frame(from, bytes) => self
+                .node
+                .on_frame(usize::from(from).min(self.last), bytes, out),
             Event::Line(seat, bytes) => self.node.on_line(usize::from(seat.min(1)), bytes, out),
             Event::Connect(seat) => self.node.connect(usize::from(seat.min(1))),
         }

@@ -2,15 +2,21 @@
 
 use crate::peer::{Event, Peer};
 use dealer_node::{NodeFault, Out};
+use paxos_wire::limits::NODES;
 use promise_store::StoreFault;
 use slot_log::Command;
+
+/// How many nodes a match has at most.
+const MOST: usize = NODES as usize;
 
 /// What was counted over all matches.
 #[derive(Clone, Copy)]
 pub struct Counts {
-    /// How many commands each node knew at the end of its match.
-    pub commands: [u64; 3],
+    /// How many commands each node knew at the end of its match; 0 where there is no such node.
+    pub commands: [u64; MOST],
+    /// How many frames were delivered, and how many bytes they had.
     pub frames: u64,
+    pub bytes: u64,
     /// A sum over all bytes of frames, in their order.
     pub sum: u64,
     /// How many calls found no memory, and were then made again.
@@ -19,6 +25,28 @@ pub struct Counts {
     pub failed: u64,
     /// How many calls failed again, or changed something where they found no memory.
     pub wrong: u64,
+}
+
+impl Counts {
+    /// Nothing yet.
+    pub fn none() -> Counts {
+        Counts {
+            commands: [0; MOST],
+            frames: 0,
+            bytes: 0,
+            sum: 0,
+            refused: 0,
+            failed: 0,
+            wrong: 0,
+        }
+    }
+
+    /// Counts a frame of these bytes that was delivered.
+    pub fn count_frame(&mut self, bytes: &[u8]) {
+        self.frames = self.frames.wrapping_add(1);
+        self.bytes = self.bytes.wrapping_add(bytes.len() as u64);
+        self.sum = summed(self.sum, bytes);
+    }
 }
 
 /// Lets a node take an event. A call that finds no memory changes nothing, and is made again; where its disk fails the
@@ -69,7 +97,7 @@ fn take_again(
 }
 
 /// A sum of bytes in their order, behind that of earlier ones.
-pub fn summed(sum: u64, bytes: &[u8]) -> u64 {
+fn summed(sum: u64, bytes: &[u8]) -> u64 {
     let mut sum = sum;
     for byte in bytes {
         sum = sum.wrapping_mul(31).wrapping_add(u64::from(*byte));

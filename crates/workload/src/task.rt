@@ -33,6 +33,10 @@ pub enum Task {
     Refusals,
     /// Plays 1000 matches of 10 hands on three nodes.
     Nodes,
+    /// Plays as many on five nodes.
+    NodesFive,
+    /// Plays as many on seven nodes.
+    NodesSeven,
     /// Plays a match of 10 hands on three nodes, one of which is down for a while.
     NodesShort,
     /// Makes nodes' stores over disks that fail.
@@ -60,7 +64,7 @@ pub enum Task {
 }
 
 /// The names of all that can be run.
-static NAMES: [(&str, Task); 28] = [
+static NAMES: [(&str, Task); 30] = [
     ("five-card-hands", Task::FiveCardHands),
     ("best-of-seven", Task::BestOfSeven),
     ("sevens-by-counts", Task::SevensByCounts),
@@ -77,6 +81,8 @@ static NAMES: [(&str, Task); 28] = [
     ("answers", Task::Answers),
     ("refusals", Task::Refusals),
     ("nodes", Task::Nodes),
+    ("nodes-five", Task::NodesFive),
+    ("nodes-seven", Task::NodesSeven),
     ("nodes-short", Task::NodesShort),
     ("creations", Task::Creations),
     ("fused-cluster", Task::FusedCluster),

@@ -1,10 +1,10 @@
-use Rattle.std.proofs.Common.{◌∙◌, ap, sym, refl, inr, Ok}
+use Rattle.std.proofs.Common.{ℕ, List, ◌∙◌, ap, sym, subst, refl, inr, Ok}
 use Rattle.protocol_model.specs.Stores.{empty_store}
 use Rattle.node_rules.specs.Calls as call
 use Rattle.dealer_node.specs.Outs.{nothing_told}
 use Rattle.dealer_world.specs.Events.{call_of}
 use Rattle.dealer_world.proofs.Giving.{given, started}
-use Rattle.dealer_node.specs.Most.{most_shown_of}
+use Rattle.dealer_node.specs.Most.{most_shown_of, most_shown_by, ShowsWithin}
 use Rattle.dealer_world.proofs.Showing.{none_shown, shown_first}
 use Rattle.dealer_world.proofs.cluster.give.Goals as goal
 
@@ -42,25 +42,26 @@ returns-in-Start-clause-given g c = started g.D.Disk c.args.event.now c.args.nod
     (rw c.in-Start.is record { faults = c.start.ensures.faults; opens = inr c.start.ensures.disk; found = c.start.ensures.found; refused = c.start.ensures.refused })
 
 pub returns-in-Frame-clause-shows : goal.returns-in-Frame-clause-shows
-returns-in-Frame-clause-shows g c = shown_first (most_shown_of c.args.node.now) c.args.made.now c.on_frame.new.out c.requires.nothing c.on_frame.ensures.shows
+returns-in-Frame-clause-shows g c = rw c.in-Frame.is (subst (λ (bytes : List ℕ). ShowsWithin (most_shown_by c.args.node.now bytes) nothing_told c.on_frame.new.out) c.deref.ensures.value
+    (shown_first (most_shown_by c.args.node.now c.deref.result.now) c.args.made.now c.on_frame.new.out c.requires.nothing c.on_frame.ensures.shows))
 
 pub returns-in-Line-clause-shows : goal.returns-in-Line-clause-shows
-returns-in-Line-clause-shows g c = shown_first (most_shown_of c.args.node.now) c.args.made.now c.on_line.new.out c.requires.nothing c.on_line.ensures.shows
+returns-in-Line-clause-shows g c = rw c.in-Line.is (shown_first (most_shown_of c.args.node.now) c.args.made.now c.on_line.new.out c.requires.nothing c.on_line.ensures.shows)
 
 pub returns-in-Tick-clause-shows : goal.returns-in-Tick-clause-shows
-returns-in-Tick-clause-shows g c = shown_first (most_shown_of c.args.node.now) c.args.made.now c.on_tick.new.out c.requires.nothing c.on_tick.ensures.shows
+returns-in-Tick-clause-shows g c = rw c.in-Tick.is (shown_first (most_shown_of c.args.node.now) c.args.made.now c.on_tick.new.out c.requires.nothing c.on_tick.ensures.shows)
 
 pub returns-in-Away-clause-shows : goal.returns-in-Away-clause-shows
-returns-in-Away-clause-shows g c = shown_first (most_shown_of c.args.node.now) c.args.made.now c.on_away.new.out c.requires.nothing c.on_away.ensures.shows
+returns-in-Away-clause-shows g c = rw c.in-Away.is (shown_first (most_shown_of c.args.node.now) c.args.made.now c.on_away.new.out c.requires.nothing c.on_away.ensures.shows)
 
 pub returns-in-Start-clause-shows : goal.returns-in-Start-clause-shows
-returns-in-Start-clause-shows g c = shown_first (most_shown_of c.args.node.now) c.args.made.now c.start.new.out c.requires.nothing c.start.ensures.shows
+returns-in-Start-clause-shows g c = rw c.in-Start.is (shown_first (most_shown_of c.args.node.now) c.args.made.now c.start.new.out c.requires.nothing c.start.ensures.shows)
 
 pub returns-in-Connect-clause-shows : goal.returns-in-Connect-clause-shows
-returns-in-Connect-clause-shows g c = none_shown (most_shown_of c.args.node.now) c.args.made.now c.requires.nothing
+returns-in-Connect-clause-shows g c = rw c.in-Connect.is (none_shown (most_shown_of c.args.node.now) c.args.made.now c.requires.nothing)
 
 pub returns-in-Drop-clause-shows : goal.returns-in-Drop-clause-shows
-returns-in-Drop-clause-shows g c = none_shown (most_shown_of c.args.node.now) c.args.made.now c.requires.nothing
+returns-in-Drop-clause-shows g c = rw c.in-Drop.is (none_shown (most_shown_of c.args.node.now) c.args.made.now c.requires.nothing)
 
 pub returns-in-Stop-clause-shows : goal.returns-in-Stop-clause-shows
-returns-in-Stop-clause-shows g c = none_shown (most_shown_of c.args.node.now) c.args.made.now c.requires.nothing
+returns-in-Stop-clause-shows g c = rw c.in-Stop.is (none_shown (most_shown_of c.args.node.now) c.args.made.now c.requires.nothing)

@@ -5,7 +5,7 @@ use Rattle.dealer_node.specs.Outs.{Told, told_by}
 use Rattle.dealer_node.specs.Taking.{Takes}
 use Rattle.dealer_node.proofs.Settled.{seen_at, refuses_at}
 use Rattle.dealer_node.proofs.Handled.{handled, settled_at, handled_reads, reads_at}
-use Rattle.dealer_node.specs.Most.{most_shown_of}
+use Rattle.dealer_node.specs.Most.{applied_by, most_shown_by}
 use Rattle.dealer_node.proofs.Most.{none_shown, shows_at}
 use Rattle.dealer_node.proofs.node.Node.on_frame.Goals as goal
 
@@ -32,8 +32,8 @@ returns-in-Some-clause-untouched g c s honest seen =
     (handled_reads d c.self.inside.post c.self.inside.blank c.self.inside.disk c.in-Some.up call.new.self s (Frame c.args.from c.args.bytes.now) (told_by c.out.inside.made) (told_by call.new.out) call.result there (call.ensures.handles s honest there.by))
 
 pub returns-in-None-clause-shows : goal.returns-in-None-clause-shows
-returns-in-None-clause-shows g c = none_shown (most_shown_of c.args.self.now) c.args.out.now _ refl
+returns-in-None-clause-shows g c = none_shown (most_shown_by c.args.self.now c.args.bytes.now) c.args.out.now _ refl
 
 pub returns-in-Some-clause-shows : goal.returns-in-Some-clause-shows
 returns-in-Some-clause-shows g c =
-    shows_at c.args.self.now c.self.inside c.in-Some.up (told_by c.out.inside.made) c.args.out.now (told_by c.on_frame-answer.new.out) c.self.view_is c.in-Some.is c.out.view_is c.on_frame-answer.ensures.shows
+    shows_at c.args.self.now c.self.inside c.in-Some.up (λ u. applied_by u c.args.bytes.now) (told_by c.out.inside.made) c.args.out.now (told_by c.on_frame-answer.new.out) c.self.view_is c.in-Some.is c.out.view_is c.on_frame-answer.ensures.shows

@@ -5,7 +5,7 @@ use Rattle.dealer_node.specs.Outs.{Told, told_by}
 use Rattle.dealer_node.specs.Taking.{Takes}
 use Rattle.dealer_node.proofs.Settled.{seen_at, refuses_at}
 use Rattle.dealer_node.proofs.Handled.{handled, settled_at, handled_reads, reads_at}
-use Rattle.dealer_node.specs.Most.{most_shown_of}
+use Rattle.dealer_node.specs.Most.{applied_next, most_shown_of}
 use Rattle.dealer_node.proofs.Most.{none_shown, shows_at}
 use Rattle.dealer_node.proofs.node.Node.on_line.Goals as goal
 
@@ -36,4 +36,4 @@ returns-in-None-clause-shows g c = none_shown (most_shown_of c.args.self.now) c.
 
 pub returns-in-Some-clause-shows : goal.returns-in-Some-clause-shows
 returns-in-Some-clause-shows g c =
-    shows_at c.args.self.now c.self.inside c.in-Some.up (told_by c.out.inside.made) c.args.out.now (told_by c.on_line-answer.new.out) c.self.view_is c.in-Some.is c.out.view_is c.on_line-answer.ensures.shows
+    shows_at c.args.self.now c.self.inside c.in-Some.up applied_next (told_by c.out.inside.made) c.args.out.now (told_by c.on_line-answer.new.out) c.self.view_is c.in-Some.is c.out.view_is c.on_line-answer.ensures.shows

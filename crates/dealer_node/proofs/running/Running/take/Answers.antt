@@ -4,13 +4,16 @@ use Rattle.paxos_wire.specs.declared.message.Message.{Message}
 use Rattle.slot_log.specs.declared.command.Command.{Command}
 use Rattle.learner.specs.Learning.{answer_to_chosen, believing}
 use Rattle.learner.specs.CommandRuns.{answer_to_run, hearing_run}
+use Rattle.proposer.specs.Campaigns.{Proposing}
+use Rattle.proposer.specs.CommandRuns.{IsBounded}
 use Rattle.node_rules.specs.Rules.{taking}
 use Rattle.node_rules.specs.Learning.{counting_votes, telling}
 use Rattle.node_rules.specs.Proposing.{counting_promise, hearing_refusal}
 use Rattle.node_rules.specs.Seats.{taking_over}
 use Rattle.dealer_node.specs.Posts.{place_at}
 use Rattle.dealer_node.specs.Outs.{told_by}
-use Rattle.dealer_node.specs.Running.{TakesTurn}
+use Rattle.dealer_node.specs.declared.running.Running.{Running}
+use Rattle.dealer_node.specs.Running.{TakesTurn, IsBoundedBehind}
 use Rattle.dealer_node.specs.Memory.{TakesInMemory}
 use Rattle.dealer_node.proofs.Remembered.{counted_keeps, refused_keeps, learned_keeps, believed_keeps, still_taken}
 use Rattle.dealer_node.proofs.running.Running.take.Goals as goal
@@ -70,3 +73,28 @@ returns-in-Forward-clause-ok c = λ s is.
     subst (λ (m : Message). TakesInMemory c.args.post.now c.take_over.new.self (told_by c.args.made.now) (told_by c.args.made.now) s (taking place c.args.from m s)) (sym c.in-Forward.is)
     (still_taken c.args.post.now c.take_over.new.self s (taking_over place c.in-Forward.command s).after (told_by c.args.made.now)
     (c.take_over.ensures.runs s is) (record { store = refl; begun = refl; stands = λ stands. stands }))
+
+-- a promise is counted, or rightly passed over
+pub returns-in-Promise-clause-bounded : goal.returns-in-Promise-clause-bounded
+returns-in-Promise-clause-bounded c = λ most bounded.
+    subst (λ (p : Proposing). IsBounded p most) (sym c.count_promise.ensures.counts)
+    (subst (λ (m : Message). IsBoundedBehind c.args.self.now.proposer m most) c.in-Promise.is bounded c.args.from)
+
+pub returns-in-Refuse-clause-bounded : goal.returns-in-Refuse-clause-bounded
+returns-in-Refuse-clause-bounded c = λ most bounded.
+    c.hear_refusal.ensures.bounded most (subst (λ (m : Message). IsBoundedBehind c.args.self.now.proposer m most) c.in-Refuse.is bounded)
+
+pub returns-in-Accepted-clause-bounded : goal.returns-in-Accepted-clause-bounded
+returns-in-Accepted-clause-bounded c = λ most bounded.
+    subst (λ (p : Proposing). IsBounded p most) (sym c.count_votes.ensures.proposer) (subst (λ (m : Message). IsBoundedBehind c.args.self.now.proposer m most) c.in-Accepted.is bounded)
+
+pub returns-in-Chosen-clause-bounded : goal.returns-in-Chosen-clause-bounded
+returns-in-Chosen-clause-bounded c = λ most bounded.
+    subst (λ (p : Proposing). IsBounded p most) (sym c.believe.ensures.proposer) (subst (λ (m : Message). IsBoundedBehind c.args.self.now.proposer m most) c.in-Chosen.is bounded)
+
+pub returns-in-Ask-clause-bounded : goal.returns-in-Ask-clause-bounded
+returns-in-Ask-clause-bounded c = λ most bounded. subst (λ (m : Message). IsBoundedBehind c.args.self.now.proposer m most) c.in-Ask.is bounded
+
+pub returns-in-Forward-clause-bounded : goal.returns-in-Forward-clause-bounded
+returns-in-Forward-clause-bounded c = λ most bounded.
+    subst (λ (r : Running). IsBounded r.proposer most) (sym c.take_over.ensures.rest) (subst (λ (m : Message). IsBoundedBehind c.args.self.now.proposer m most) c.in-Forward.is bounded)

@@ -1,4 +1,10 @@
+use Rattle.std.proofs.Common.{◌+◌, ◌*◌, ap, sym, subst, arith}
+use Rattle.proposer.specs.Campaigns.{Proposing}
+use Rattle.proposer.specs.CommandRuns.{IsBounded}
+use Rattle.dealer_node.specs.declared.limits.TheConstants.{FRAMES_OF_A_CLOSE}
+use Rattle.dealer_node.specs.declared.up.Up.{Up}
 use Rattle.dealer_node.specs.Outs.{told_by}
+use Rattle.dealer_node.proofs.Left.{less_left}
 use Rattle.dealer_node.proofs.Heard.{line_works}
 use Rattle.dealer_node.proofs.Within.{left_within, line_left}
 use Rattle.dealer_node.specs.Calling.{line_need}
@@ -12,6 +18,14 @@ returns-clause-works g c = λ s honest is.
 
 pub returns-clause-within : goal.returns-clause-within
 returns-clause-within g c = λ nothing.
-    left_within c.close.new.self.running c.close.new.made (line_need c.args.self.now.running c.args.limit)
-    (c.close.ensures.left (line_need c.args.self.now.running c.args.limit) 0 0 0
-    (line_left c.args.self.now c.hear.new.self c.args.made.now c.hear.new.made c.args.limit nothing c.requires.room c.hear.ensures.frames c.hear.ensures.shown c.hear.ensures.faults c.hear.ensures.rest))
+    let m = c.args.most in
+    let need = line_need c.args.self.now.running c.args.limit m in
+    left_within c.close.new.self.running c.close.new.made need
+    (c.close.ensures.left need 0 0 0
+    (less_left c.hear.new.self.running c.hear.new.made need 1 (0 + m) (0 + FRAMES_OF_A_CLOSE * m) 1 m (FRAMES_OF_A_CLOSE * m) (omega arith) (omega arith) (omega arith)
+    (line_left c.args.self.now c.hear.new.self c.args.made.now c.hear.new.made c.args.limit m nothing c.requires.room c.hear.ensures.frames c.hear.ensures.shown c.hear.ensures.faults c.hear.ensures.rest)))
+
+-- what was heard changes no ballot
+pub close-requires-clause-bounded : goal.close-requires-clause-bounded
+close-requires-clause-bounded g c =
+    subst (λ (p : Proposing). IsBounded p c.args.most) (sym (ap (λ (u : Up _). u.running.proposer) c.hear.ensures.rest)) c.requires.bounded

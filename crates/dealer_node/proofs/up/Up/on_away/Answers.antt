@@ -6,9 +6,10 @@ use Rattle.node_rules.specs.Calls.{Away}
 use Rattle.dealer_node.specs.declared.fault.NodeFault.{NodeFault}
 use Rattle.dealer_node.specs.Posts.{place_at}
 use Rattle.dealer_node.specs.Outs.{Told, told_by, both_told}
-use Rattle.dealer_node.specs.Running.{ahead_of}
 use Rattle.dealer_node.specs.Calling.{HandlesCall, away_need}
-use Rattle.dealer_node.specs.Most.{most_after}
+use Rattle.proposer.specs.Campaigns.{Proposing}
+use Rattle.proposer.specs.CommandRuns.{IsBounded}
+use Rattle.dealer_node.specs.Most.{most_after, most_applied}
 use Rattle.dealer_node.proofs.Heard.{err_is, works_over}
 use Rattle.dealer_node.proofs.Ordered.{meant_by_table, meant_goes_on, order_refused}
 use Rattle.dealer_node.proofs.Most.{none_shown, made_shown}
@@ -65,15 +66,19 @@ returns-clause-handles g c = λ s honest is.
     )
 
 pub returns-in_default-clause-shows : goal.returns-in_default-clause-shows
-returns-in_default-clause-shows g c = none_shown (most_after (ahead_of c.args.self.now.running)) (told_by c.args.out.now) (told_by c.args.out.now) refl
+returns-in_default-clause-shows g c = none_shown (most_after (most_applied c.args.self.now.running)) (told_by c.args.out.now) (told_by c.args.out.now) refl
 
 pub returns-in_err-made-clause-shows : goal.returns-in_err-made-clause-shows
-returns-in_err-made-clause-shows g c = none_shown (most_after (ahead_of c.args.self.now.running)) (told_by c.args.out.now) (told_by c.ready.new.out) c.ready.ensures.same
+returns-in_err-made-clause-shows g c = none_shown (most_after (most_applied c.args.self.now.running)) (told_by c.args.out.now) (told_by c.ready.new.out) c.ready.ensures.same
 
 pub returns-in_err-play_for-clause-shows : goal.returns-in_err-play_for-clause-shows
-returns-in_err-play_for-clause-shows g c = none_shown (most_after (ahead_of c.args.self.now.running)) (told_by c.args.out.now) (told_by c.ready.new.out) c.in_ok-made.ensures.same
+returns-in_err-play_for-clause-shows g c = none_shown (most_after (most_applied c.args.self.now.running)) (told_by c.args.out.now) (told_by c.ready.new.out) c.in_ok-made.ensures.same
 
 pub returns-clause-shows : goal.returns-clause-shows
 returns-clause-shows g c =
-    made_shown (most_after (ahead_of c.args.self.now.running)) (away_need c.ready.new.self.running) c.play_for.new.made (told_by c.args.out.now) (told_by c.ready.new.out) (told_by c.append.new.self)
-    c.append.ensures c.in_ok-made.ensures.same (c.in_ok-play_for.ensures.within c.in_ok-made.ensures.nothing) (omega (arith, c.in_ok-made.ensures.ahead)) (omega (arith, c.in_ok-made.ensures.ahead))
+    made_shown (most_after (most_applied c.args.self.now.running)) (away_need c.ready.new.self.running c.most_proposed-most.result) c.play_for.new.made (told_by c.args.out.now) (told_by c.ready.new.out) (told_by c.append.new.self)
+    c.append.ensures c.in_ok-made.ensures.same (c.in_ok-play_for.ensures.within c.in_ok-made.ensures.nothing) (omega (arith, c.in_ok-made.ensures.ahead, c.most_proposed-most.ensures.value)) (omega (arith, c.in_ok-made.ensures.ahead, c.most_proposed-most.ensures.value))
+
+pub play_for-requires-clause-bounded : goal.play_for-requires-clause-bounded
+play_for-requires-clause-bounded g c =
+    subst (λ (p : Proposing). IsBounded p c.most_proposed-most.result) (sym c.in_ok-made.ensures.proposer) c.most_proposed-most.ensures.bounded

@@ -1,4 +1,4 @@
-use Rattle.std.proofs.Common.{◌≡◌, ℕ, ◌∙◌, ap, sym, subst, refl, inr, Result, Ok, Err, arith}
+use Rattle.std.proofs.Common.{◌≡◌, ℕ, ◌+◌, ◌∙◌, ap, sym, subst, refl, inr, Result, Ok, Err, arith}
 use Rattle.paxos_wire.specs.declared.message.Message.{Message}
 use Rattle.paxos_wire.specs.declared.fault.FrameFault.{FrameFault}
 use Rattle.node_rules.specs.Rules.{on_message, on_read}
@@ -8,9 +8,13 @@ use Rattle.dealer_node.specs.Posts.{place_at}
 use Rattle.dealer_node.specs.Outs.{Told, told_by, both_told}
 use Rattle.dealer_node.specs.Calling.{HandlesCall}
 use Rattle.dealer_node.proofs.Heard.{err_is, works_over}
-use Rattle.dealer_node.specs.Most.{most_after}
-use Rattle.dealer_node.specs.Running.{ahead_of}
-use Rattle.dealer_node.specs.Calling.{frame_need}
+use Rattle.paxos_wire.specs.Faults.{reading}
+use Rattle.proposer.specs.Campaigns.{Proposing}
+use Rattle.dealer_node.specs.declared.most_shown.MostShown.{MostShown}
+use Rattle.dealer_node.specs.declared.running.Running.{Running}
+use Rattle.dealer_node.specs.Most.{most_after, most_applied_by, ShowsWithin}
+use Rattle.dealer_node.specs.Running.{most_proposed_behind, IsBoundedBehind}
+use Rattle.dealer_node.specs.Calling.{commands_in, frame_need}
 use Rattle.dealer_node.specs.Handling.{IsWithin}
 use Rattle.dealer_node.proofs.Most.{none_shown, made_shown}
 use Rattle.dealer_node.proofs.up.Up.on_frame.Goals as goal
@@ -48,17 +52,30 @@ returns-in_ok-message-in-Ok-clause-handles g c = λ s honest is.
           c.in_ok-made-in-Ok.ensures.unmoved.disk c.in_ok-made-in-Ok.ensures.nothing (λ e. c.append.ensures ∙ ap (λ (t : Told). both_told t (told_by c.message.new.made)) c.in_ok-made-in-Ok.ensures.same) worked,
     )
 
+pub message-requires-clause-bounded : goal.message-requires-clause-bounded
+message-requires-clause-bounded g c =
+    subst (λ (p : Proposing). IsBoundedBehind p c.in-Ok.message c.most_proposed_behind-most.result) (sym c.in_ok-made-in-Ok.ensures.proposer) c.most_proposed_behind-most.ensures.bounded
+
+-- what a frame that reads so shows at most
+abbrev most_shown : Running → Result Message FrameFault → MostShown
+most_shown running outcome = most_after (most_applied_by running outcome)
+
 pub returns-in-Err-clause-shows : goal.returns-in-Err-clause-shows
-returns-in-Err-clause-shows g c = none_shown (most_after (ahead_of c.args.self.now.running)) (told_by c.args.out.now) (told_by c.args.out.now) refl
+returns-in-Err-clause-shows g c = none_shown (most_shown c.args.self.now.running (reading c.args.bytes.now)) (told_by c.args.out.now) (told_by c.args.out.now) refl
 
 pub returns-in_err-made-in-Ok-clause-shows : goal.returns-in_err-made-in-Ok-clause-shows
-returns-in_err-made-in-Ok-clause-shows g c = none_shown (most_after (ahead_of c.args.self.now.running)) (told_by c.args.out.now) (told_by c.ready.new.out) c.ready.ensures.same
+returns-in_err-made-in-Ok-clause-shows g c = none_shown (most_shown c.args.self.now.running (reading c.args.bytes.now)) (told_by c.args.out.now) (told_by c.ready.new.out) c.ready.ensures.same
 
 pub returns-in_err-message-in-Ok-clause-shows : goal.returns-in_err-message-in-Ok-clause-shows
-returns-in_err-message-in-Ok-clause-shows g c = none_shown (most_after (ahead_of c.args.self.now.running)) (told_by c.args.out.now) (told_by c.ready.new.out) c.in_ok-made-in-Ok.ensures.same
+returns-in_err-message-in-Ok-clause-shows g c = none_shown (most_shown c.args.self.now.running (reading c.args.bytes.now)) (told_by c.args.out.now) (told_by c.ready.new.out) c.in_ok-made-in-Ok.ensures.same
 
 pub returns-in_ok-message-in-Ok-clause-shows : goal.returns-in_ok-message-in-Ok-clause-shows
 returns-in_ok-message-in-Ok-clause-shows g c =
-    made_shown (most_after (ahead_of c.args.self.now.running)) (frame_need c.ready.new.self.running c.commands_in-commands.result) c.message.new.made (told_by c.args.out.now) (told_by c.ready.new.out) (told_by c.append.new.self)
-    c.append.ensures c.in_ok-made-in-Ok.ensures.same (subst (λ (k : ℕ). IsWithin c.message.new.made (frame_need c.ready.new.self.running k)) (sym c.commands_in-commands.ensures.value) (c.in_ok-message-in-Ok.ensures.within c.in_ok-made-in-Ok.ensures.nothing))
-    (omega (arith, c.in_ok-made-in-Ok.ensures.ahead, c.commands_in-commands.ensures.most)) (omega (arith, c.in_ok-made-in-Ok.ensures.ahead, c.commands_in-commands.ensures.most))
+    let read = sym c.in-Ok.is ∙ c.read.ensures.value in
+    let many : c.commands_in-commands.result + c.most_proposed_behind-most.result ≡ commands_in c.in-Ok.message + most_proposed_behind c.args.self.now.running.proposer c.in-Ok.message =
+    ap (λ n. n + c.most_proposed_behind-most.result) c.commands_in-commands.ensures.value ∙ ap (λ n. commands_in c.in-Ok.message + n) c.most_proposed_behind-most.ensures.value in
+    subst (λ (r : Result Message FrameFault). ShowsWithin (most_shown c.args.self.now.running r) (told_by c.args.out.now) (told_by c.append.new.self)) read
+    (made_shown (most_shown c.args.self.now.running (Ok c.in-Ok.message)) (frame_need c.ready.new.self.running c.commands_in-commands.result c.most_proposed_behind-most.result) c.message.new.made (told_by c.args.out.now) (told_by c.ready.new.out) (told_by c.append.new.self)
+    c.append.ensures c.in_ok-made-in-Ok.ensures.same
+    (subst (λ (k : ℕ). IsWithin c.message.new.made (frame_need c.ready.new.self.running k c.most_proposed_behind-most.result)) (sym c.commands_in-commands.ensures.value) (c.in_ok-message-in-Ok.ensures.within c.in_ok-made-in-Ok.ensures.nothing))
+    (omega (arith, c.in_ok-made-in-Ok.ensures.ahead, many)) (omega (arith, c.in_ok-made-in-Ok.ensures.ahead, many)))

@@ -7,8 +7,9 @@ use Rattle.dealer_node.specs.Posts.{place_at}
 use Rattle.dealer_node.specs.Outs.{Told, told_by, both_told}
 use Rattle.dealer_node.specs.Calling.{HandlesCall}
 use Rattle.dealer_node.proofs.Heard.{err_is, works_over}
-use Rattle.dealer_node.specs.Most.{most_after}
-use Rattle.dealer_node.specs.Running.{ahead_of}
+use Rattle.proposer.specs.Campaigns.{Proposing}
+use Rattle.proposer.specs.CommandRuns.{IsBounded}
+use Rattle.dealer_node.specs.Most.{most_after, most_applied}
 use Rattle.dealer_node.specs.Calling.{line_need}
 use Rattle.dealer_node.proofs.Most.{none_shown, made_shown}
 use Rattle.dealer_node.proofs.up.Up.on_line.Goals as goal
@@ -45,12 +46,16 @@ returns-clause-handles g c = λ s honest is.
     )
 
 pub returns-in_err-made-clause-shows : goal.returns-in_err-made-clause-shows
-returns-in_err-made-clause-shows g c = none_shown (most_after (ahead_of c.args.self.now.running)) (told_by c.args.out.now) (told_by c.ready_line.new.out) c.ready_line.ensures.same
+returns-in_err-made-clause-shows g c = none_shown (most_after (most_applied c.args.self.now.running)) (told_by c.args.out.now) (told_by c.ready_line.new.out) c.ready_line.ensures.same
 
 pub returns-in_err-line-clause-shows : goal.returns-in_err-line-clause-shows
-returns-in_err-line-clause-shows g c = none_shown (most_after (ahead_of c.args.self.now.running)) (told_by c.args.out.now) (told_by c.ready_line.new.out) c.in_ok-made.ensures.same
+returns-in_err-line-clause-shows g c = none_shown (most_after (most_applied c.args.self.now.running)) (told_by c.args.out.now) (told_by c.ready_line.new.out) c.in_ok-made.ensures.same
 
 pub returns-clause-shows : goal.returns-clause-shows
 returns-clause-shows g c =
-    made_shown (most_after (ahead_of c.args.self.now.running)) (line_need c.ready_line.new.self.running c.in_ok-made.limit) c.line.new.made (told_by c.args.out.now) (told_by c.ready_line.new.out) (told_by c.append.new.self)
-    c.append.ensures c.in_ok-made.ensures.same (c.in_ok-line.ensures.within c.in_ok-made.ensures.nothing) (omega (arith, c.in_ok-made.ensures.ahead)) (omega (arith, c.in_ok-made.ensures.ahead))
+    made_shown (most_after (most_applied c.args.self.now.running)) (line_need c.ready_line.new.self.running c.in_ok-made.limit c.most_proposed-most.result) c.line.new.made (told_by c.args.out.now) (told_by c.ready_line.new.out) (told_by c.append.new.self)
+    c.append.ensures c.in_ok-made.ensures.same (c.in_ok-line.ensures.within c.in_ok-made.ensures.nothing) (omega (arith, c.in_ok-made.ensures.ahead, c.most_proposed-most.ensures.value)) (omega (arith, c.in_ok-made.ensures.ahead, c.most_proposed-most.ensures.value))
+
+pub line-requires-clause-bounded : goal.line-requires-clause-bounded
+line-requires-clause-bounded g c =
+    subst (λ (p : Proposing). IsBounded p c.most_proposed-most.result) (sym c.in_ok-made.ensures.proposer) c.most_proposed-most.ensures.bounded

@@ -1,51 +1,66 @@
-use Rattle.std.proofs.Common.{◌+◌, ◌*◌, refl, arith}
+use Rattle.std.proofs.Common.{◌≡◌, ℕ, ◌+◌, ◌*◌, refl, sym, subst, arith}
 use Rattle.node_rules.specs.Rules.{seeing}
-use Rattle.dealer_node.specs.declared.limits.TheConstants.{FRAMES_TO_ALL, FRAMES_OF_A_CLOSE, ANSWERS_OF_A_CALL, FRAMES_OF_A_MESSAGE}
+use Rattle.dealer_node.specs.declared.limits.TheConstants.{FRAMES_OF_A_CLOSE, ANSWERS_OF_A_CALL}
+use Rattle.dealer_node.specs.declared.running.Running.{Running}
 use Rattle.dealer_node.specs.Outs.{told_by}
-use Rattle.dealer_node.specs.Calling.{commands_in}
+use Rattle.dealer_node.specs.Running.{IsBoundedBehind, CanLearn}
+use Rattle.dealer_node.specs.Calling.{commands_in, frames_behind}
 use Rattle.dealer_node.proofs.Framed.{message_took, close_failed, take_failed, seen_up, left_of, message_left, asked_left}
 use Rattle.dealer_node.proofs.up.Up.on_message.Goals as goal
+
+pub close-requires-clause-bounded : goal.close-requires-clause-bounded
+close-requires-clause-bounded g c =
+    c.take.ensures.bounded c.args.most
+    (subst (λ (r : Running). IsBoundedBehind r.proposer c.args.message.now c.args.most) (sym c.see.ensures.rest) c.requires.bounded)
 
 pub close-requires-clause-learn : goal.close-requires-clause-learn
 close-requires-clause-learn g c =
     let k = commands_in c.args.message.now in
-    (c.take.ensures.left _ 1 1 (FRAMES_OF_A_CLOSE + 1) (message_left c.args.self.now.running c.see.new.self c.args.made.now _ k c.see.ensures.rest
-    (left_of c.args.self.now.running c.args.made.now ANSWERS_OF_A_CALL (k + 1) (FRAMES_OF_A_MESSAGE + FRAMES_TO_ALL * k) c.requires.learn c.requires.texts c.requires.bytes))).learn
+    let m = c.args.most in
+    let taken = c.take.ensures.left _ 1 (0 + m) (1 + FRAMES_OF_A_CLOSE * m) (message_left c.args.self.now.running c.see.new.self c.args.made.now _ k m c.see.ensures.rest
+    (left_of c.args.self.now.running c.args.made.now ANSWERS_OF_A_CALL (k + m) (frames_behind k m) c.requires.learn c.requires.texts c.requires.bytes)) in
+    let same : 0 + m ≡ m = omega arith in
+    subst (λ (n : ℕ). CanLearn c.take.new.self.running c.take.new.made 1 n) same taken.learn
 
 pub close-requires-clause-texts : goal.close-requires-clause-texts
 close-requires-clause-texts g c =
     let k = commands_in c.args.message.now in
-    let left = c.take.ensures.left _ 1 1 (FRAMES_OF_A_CLOSE + 1) (message_left c.args.self.now.running c.see.new.self c.args.made.now _ k c.see.ensures.rest
-    (left_of c.args.self.now.running c.args.made.now ANSWERS_OF_A_CALL (k + 1) (FRAMES_OF_A_MESSAGE + FRAMES_TO_ALL * k) c.requires.learn c.requires.texts c.requires.bytes)) in
-    omega (arith, left.texts)
+    let m = c.args.most in
+    let taken = c.take.ensures.left _ 1 (0 + m) (1 + FRAMES_OF_A_CLOSE * m) (message_left c.args.self.now.running c.see.new.self c.args.made.now _ k m c.see.ensures.rest
+    (left_of c.args.self.now.running c.args.made.now ANSWERS_OF_A_CALL (k + m) (frames_behind k m) c.requires.learn c.requires.texts c.requires.bytes)) in
+    omega (arith, taken.texts)
 
 pub close-requires-clause-bytes : goal.close-requires-clause-bytes
 close-requires-clause-bytes g c =
     let k = commands_in c.args.message.now in
-    let left = c.take.ensures.left _ 1 1 (FRAMES_OF_A_CLOSE + 1) (message_left c.args.self.now.running c.see.new.self c.args.made.now _ k c.see.ensures.rest
-    (left_of c.args.self.now.running c.args.made.now ANSWERS_OF_A_CALL (k + 1) (FRAMES_OF_A_MESSAGE + FRAMES_TO_ALL * k) c.requires.learn c.requires.texts c.requires.bytes)) in
-    omega (arith, left.bytes)
+    let m = c.args.most in
+    let taken = c.take.ensures.left _ 1 (0 + m) (1 + FRAMES_OF_A_CLOSE * m) (message_left c.args.self.now.running c.see.new.self c.args.made.now _ k m c.see.ensures.rest
+    (left_of c.args.self.now.running c.args.made.now ANSWERS_OF_A_CALL (k + m) (frames_behind k m) c.requires.learn c.requires.texts c.requires.bytes)) in
+    omega (arith, taken.bytes)
 
 pub ask-requires-clause-frames : goal.ask-requires-clause-frames
 ask-requires-clause-frames g c =
     let k = commands_in c.args.message.now in
-    let taken = c.take.ensures.left _ 1 1 (FRAMES_OF_A_CLOSE + 1) (message_left c.args.self.now.running c.see.new.self c.args.made.now _ k c.see.ensures.rest
-    (left_of c.args.self.now.running c.args.made.now ANSWERS_OF_A_CALL (k + 1) (FRAMES_OF_A_MESSAGE + FRAMES_TO_ALL * k) c.requires.learn c.requires.texts c.requires.bytes)) in
+    let m = c.args.most in
+    let taken = c.take.ensures.left _ 1 (0 + m) (1 + FRAMES_OF_A_CLOSE * m) (message_left c.args.self.now.running c.see.new.self c.args.made.now _ k m c.see.ensures.rest
+    (left_of c.args.self.now.running c.args.made.now ANSWERS_OF_A_CALL (k + m) (frames_behind k m) c.requires.learn c.requires.texts c.requires.bytes)) in
     let left = c.close.ensures.left _ 0 0 1 taken in
     omega (arith, left.texts)
 
 pub ask-requires-clause-frame_bytes : goal.ask-requires-clause-frame_bytes
 ask-requires-clause-frame_bytes g c =
     let k = commands_in c.args.message.now in
-    let taken = c.take.ensures.left _ 1 1 (FRAMES_OF_A_CLOSE + 1) (message_left c.args.self.now.running c.see.new.self c.args.made.now _ k c.see.ensures.rest
-    (left_of c.args.self.now.running c.args.made.now ANSWERS_OF_A_CALL (k + 1) (FRAMES_OF_A_MESSAGE + FRAMES_TO_ALL * k) c.requires.learn c.requires.texts c.requires.bytes)) in
+    let m = c.args.most in
+    let taken = c.take.ensures.left _ 1 (0 + m) (1 + FRAMES_OF_A_CLOSE * m) (message_left c.args.self.now.running c.see.new.self c.args.made.now _ k m c.see.ensures.rest
+    (left_of c.args.self.now.running c.args.made.now ANSWERS_OF_A_CALL (k + m) (frames_behind k m) c.requires.learn c.requires.texts c.requires.bytes)) in
     let left = c.close.ensures.left _ 0 0 1 taken in
     omega (arith, left.bytes)
 
 pub returns-in-Ok-close-clause-left : goal.returns-in-Ok-close-clause-left
 returns-in-Ok-close-clause-left g c need left =
     let k = commands_in c.args.message.now in
-    let taken = c.take.ensures.left need 1 1 (FRAMES_OF_A_CLOSE + 1) (message_left c.args.self.now.running c.see.new.self c.args.made.now need k c.see.ensures.rest left) in
+    let m = c.args.most in
+    let taken = c.take.ensures.left need 1 (0 + m) (1 + FRAMES_OF_A_CLOSE * m) (message_left c.args.self.now.running c.see.new.self c.args.made.now need k m c.see.ensures.rest left) in
     asked_left c.close.new.self.running c.close.new.made c.ask.new.made need 0 0 0 c.ask.ensures.rest c.ask.ensures.frames (c.close.ensures.left need 0 0 1 taken)
 
 pub returns-in-Err-clause-works : goal.returns-in-Err-clause-works

@@ -8,8 +8,9 @@ use Rattle.dealer_node.specs.Outs.{Told, told_by, both_told}
 use Rattle.dealer_node.specs.Working.{head_of}
 use Rattle.dealer_node.specs.Calling.{HandlesCall}
 use Rattle.dealer_node.proofs.Heard.{err_is, works_over, spent_over}
-use Rattle.dealer_node.specs.Most.{most_after}
-use Rattle.dealer_node.specs.Running.{ahead_of}
+use Rattle.proposer.specs.Campaigns.{Proposing}
+use Rattle.proposer.specs.CommandRuns.{IsBounded}
+use Rattle.dealer_node.specs.Most.{most_after, most_applied}
 use Rattle.dealer_node.specs.Calling.{close_need}
 use Rattle.dealer_node.proofs.Most.{none_shown, made_shown}
 use Rattle.dealer_node.proofs.up.Up.on_tick.Goals as goal
@@ -60,15 +61,19 @@ pub returns-then-is_spent-clause-unmade : goal.returns-then-is_spent-clause-unma
 returns-then-is_spent-clause-unmade g c = search rules
 
 pub returns-then-is_spent-clause-shows : goal.returns-then-is_spent-clause-shows
-returns-then-is_spent-clause-shows g c = none_shown (most_after (ahead_of c.args.self.now.running)) (told_by c.args.out.now) (told_by c.args.out.now) refl
+returns-then-is_spent-clause-shows g c = none_shown (most_after (most_applied c.args.self.now.running)) (told_by c.args.out.now) (told_by c.args.out.now) refl
 
 pub returns-in_err-made-clause-shows : goal.returns-in_err-made-clause-shows
-returns-in_err-made-clause-shows g c = none_shown (most_after (ahead_of c.args.self.now.running)) (told_by c.args.out.now) (told_by c.ready.new.out) c.ready.ensures.same
+returns-in_err-made-clause-shows g c = none_shown (most_after (most_applied c.args.self.now.running)) (told_by c.args.out.now) (told_by c.ready.new.out) c.ready.ensures.same
 
 pub returns-in_err-tick-clause-shows : goal.returns-in_err-tick-clause-shows
-returns-in_err-tick-clause-shows g c = none_shown (most_after (ahead_of c.args.self.now.running)) (told_by c.args.out.now) (told_by c.ready.new.out) c.in_ok-made.ensures.same
+returns-in_err-tick-clause-shows g c = none_shown (most_after (most_applied c.args.self.now.running)) (told_by c.args.out.now) (told_by c.ready.new.out) c.in_ok-made.ensures.same
 
 pub returns-clause-shows : goal.returns-clause-shows
 returns-clause-shows g c =
-    made_shown (most_after (ahead_of c.args.self.now.running)) (close_need c.ready.new.self.running) c.tick.new.made (told_by c.args.out.now) (told_by c.ready.new.out) (told_by c.append.new.self)
-    c.append.ensures c.in_ok-made.ensures.same (c.in_ok-tick.ensures.within c.in_ok-made.ensures.nothing) (omega (arith, c.in_ok-made.ensures.ahead)) (omega (arith, c.in_ok-made.ensures.ahead))
+    made_shown (most_after (most_applied c.args.self.now.running)) (close_need c.ready.new.self.running c.most_proposed-most.result) c.tick.new.made (told_by c.args.out.now) (told_by c.ready.new.out) (told_by c.append.new.self)
+    c.append.ensures c.in_ok-made.ensures.same (c.in_ok-tick.ensures.within c.in_ok-made.ensures.nothing) (omega (arith, c.in_ok-made.ensures.ahead, c.most_proposed-most.ensures.value)) (omega (arith, c.in_ok-made.ensures.ahead, c.most_proposed-most.ensures.value))
+
+pub tick-requires-clause-bounded : goal.tick-requires-clause-bounded
+tick-requires-clause-bounded g c =
+    subst (λ (p : Proposing). IsBounded p c.most_proposed-most.result) (sym c.in_ok-made.ensures.proposer) c.most_proposed-most.ensures.bounded

@@ -1,9 +1,12 @@
-use Rattle.std.proofs.Common.{sym, ap}
+use Rattle.std.proofs.Common.{◌+◌, ◌*◌, ap, sym, subst, arith}
+use Rattle.proposer.specs.CommandRuns.{IsBounded}
+use Rattle.dealer_node.specs.declared.limits.TheConstants.{FRAMES_OF_A_CLOSE}
 use Rattle.dealer_node.specs.declared.running.Running.{Running}
 use Rattle.dealer_node.specs.Outs.{told_by}
 use Rattle.dealer_node.specs.Working.{head_of}
 use Rattle.dealer_node.specs.Calling.{away_need}
 use Rattle.dealer_node.proofs.Ordered.{order_took, order_works}
+use Rattle.dealer_node.proofs.Left.{less_left}
 use Rattle.dealer_node.proofs.Within.{left_within, away_left}
 use Rattle.dealer_node.proofs.up.Up.play_for.Goals as goal
 
@@ -17,7 +20,14 @@ returns-clause-works g c = λ s honest is meant.
 
 pub returns-clause-within : goal.returns-clause-within
 returns-clause-within g c = λ nothing.
-    left_within c.close.new.self.running c.close.new.made (away_need c.args.self.now.running)
-    (c.close.ensures.left (away_need c.args.self.now.running) 0 0 0
-    (away_left c.args.self.now _ c.args.made.now c.play_for.new.made nothing c.requires.room c.play_for.ensures.frames c.play_for.ensures.rest
-    (ap (λ (r : Running). record c.args.self.now { running = r }) c.play_for.ensures.same)))
+    let m = c.args.most in
+    let need = away_need c.args.self.now.running m in
+    left_within c.close.new.self.running c.close.new.made need
+    (c.close.ensures.left need 0 0 0
+    (less_left c.play_for.new.self c.play_for.new.made need 1 (0 + m) (0 + FRAMES_OF_A_CLOSE * m) 1 m (FRAMES_OF_A_CLOSE * m) (omega arith) (omega arith) (omega arith)
+    (away_left c.args.self.now _ c.args.made.now c.play_for.new.made m nothing c.requires.room c.play_for.ensures.frames c.play_for.ensures.rest
+    (ap (λ (r : Running). record c.args.self.now { running = r }) c.play_for.ensures.same))))
+
+-- what was meant changes no ballot
+pub close-requires-clause-bounded : goal.close-requires-clause-bounded
+close-requires-clause-bounded g c = subst (λ (r : Running). IsBounded r.proposer c.args.most) (sym c.play_for.ensures.same) c.requires.bounded

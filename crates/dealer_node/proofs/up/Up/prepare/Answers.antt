@@ -33,3 +33,6 @@ returns-in-Err-clause-works g c s honest is =
 
 pub returns-in-Err-clause-only : goal.returns-in-Err-clause-only
 returns-in-Err-clause-only g c = of_store g.D.Disk c.in-Err.fault c.in-Err.ensures.needs.only (λ e. c.in-Err.ensures.memory (ap Err e))
+
+pub returns-then-send_prepare_answer-clause-bounded : goal.returns-then-send_prepare_answer-clause-bounded
+returns-then-send_prepare_answer-clause-bounded g c = λ most bounded. c.turn_idle.ensures.bounded most

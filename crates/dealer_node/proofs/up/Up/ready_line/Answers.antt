@@ -1,4 +1,5 @@
 use Rattle.std.proofs.Common.{ap, ◌∙◌}
+use Rattle.dealer_node.specs.declared.running.Running.{Running}
 use Rattle.dealer_node.specs.Running.{ahead_of}
 use Rattle.dealer_node.proofs.up.Up.ready_line.Goals as goal
 
@@ -13,3 +14,9 @@ returns-in_err-reserve_bytes-clause-ahead g c = ap ahead_of c.reserve_bytes.ensu
 
 pub returns-clause-ahead : goal.returns-clause-ahead
 returns-clause-ahead g c = ap ahead_of c.reserve_bytes.ensures.rest ∙ c.ready.ensures.ahead
+
+pub returns-in_err-reserve_bytes-clause-proposer : goal.returns-in_err-reserve_bytes-clause-proposer
+returns-in_err-reserve_bytes-clause-proposer g c = ap (λ (r : Running). r.proposer) c.reserve_bytes.ensures.rest ∙ c.ready.ensures.proposer
+
+pub returns-clause-proposer : goal.returns-clause-proposer
+returns-clause-proposer g c = ap (λ (r : Running). r.proposer) c.reserve_bytes.ensures.rest ∙ c.ready.ensures.proposer

@@ -7,6 +7,7 @@ use Rattle.dealer_node.specs.declared.limits.TheConstants.{FRAMES_TO_ALL, FRAMES
 use Rattle.dealer_node.specs.Posts.{place_at}
 use Rattle.dealer_node.specs.Outs.{told_by}
 use Rattle.dealer_node.specs.Calling.{commands_in}
+use Rattle.dealer_node.specs.Running.{IsBoundedBehind}
 use Rattle.dealer_node.specs.Working.{Works, HasLeft}
 use Rattle.dealer_node.proofs.up.Up.take.Goals as goal
 
@@ -28,3 +29,11 @@ pub returns-in-Prepare-clause-left : goal.returns-in-Prepare-clause-left
 returns-in-Prepare-clause-left g c need answers more frames left =
     c.prepare.ensures.left need answers more frames
     (subst (λ (m : Message). HasLeft c.args.self.now.running c.args.made.now need (answers + 1) (more + commands_in m) (frames + (FRAMES_OF_AN_ANSWER + FRAMES_TO_ALL * commands_in m))) c.in-Prepare.is left)
+
+pub returns-in-Prepare-clause-bounded : goal.returns-in-Prepare-clause-bounded
+returns-in-Prepare-clause-bounded g c = λ most bounded.
+    c.prepare.ensures.bounded most (subst (λ (m : Message). IsBoundedBehind c.args.self.now.running.proposer m most) c.in-Prepare.is bounded)
+
+pub returns-in-Accept-clause-bounded : goal.returns-in-Accept-clause-bounded
+returns-in-Accept-clause-bounded g c = λ most bounded.
+    c.accept.ensures.bounded most (subst (λ (m : Message). IsBoundedBehind c.args.self.now.running.proposer m most) c.in-Accept.is bounded)

@@ -1,19 +1,27 @@
-use Rattle.std.proofs.Common.{sym, ◌∙◌}
+use Rattle.std.proofs.Common.{◌+◌, ◌*◌, sym, ◌∙◌, arith}
+use Rattle.dealer_node.specs.declared.limits.TheConstants.{FRAMES_TO_ALL, FRAMES_OF_A_CLOSE}
 use Rattle.dealer_node.specs.Outs.{told_by}
 use Rattle.dealer_node.specs.Calling.{close_need}
+use Rattle.dealer_node.proofs.Left.{less_left}
 use Rattle.dealer_node.proofs.Ticked.{over_works}
 use Rattle.dealer_node.proofs.Within.{left_within, close_left}
 use Rattle.dealer_node.proofs.up.Up.tick.Goals as goal
 
 pub returns-then-over-clause-within : goal.returns-then-over-clause-within
 returns-then-over-clause-within g c = λ nothing.
-    left_within c.close.new.self.running c.close.new.made (close_need c.args.self.now.running)
-    (c.close.ensures.left (close_need c.args.self.now.running) 0 0 0 (close_left c.args.self.now c.args.made.now nothing c.requires.room))
+    let need = close_need c.args.self.now.running c.args.most in
+    let left = close_left c.args.self.now c.args.made.now c.args.most nothing c.requires.room in
+    left_within c.close.new.self.running c.close.new.made need
+    (c.close.ensures.left need 0 0 0
+    (less_left c.args.self.now.running c.args.made.now need 1 (0 + c.args.most) (0 + FRAMES_OF_A_CLOSE * c.args.most) 1 c.args.most (FRAMES_OF_A_CLOSE * c.args.most) (omega arith) (omega arith) (omega arith) left))
 
 pub returns-else-over-clause-within : goal.returns-else-over-clause-within
 returns-else-over-clause-within g c = λ nothing.
-    left_within c.begin.new.self.running c.begin.new.made (close_need c.args.self.now.running)
-    (c.begin.ensures.left (close_need c.args.self.now.running) 0 0 0 (close_left c.args.self.now c.args.made.now nothing c.requires.room))
+    let need = close_need c.args.self.now.running c.args.most in
+    let left = close_left c.args.self.now c.args.made.now c.args.most nothing c.requires.room in
+    left_within c.begin.new.self.running c.begin.new.made need
+    (c.begin.ensures.left need 0 0 0
+    (less_left c.args.self.now.running c.args.made.now need 0 0 FRAMES_TO_ALL 1 c.args.most (FRAMES_OF_A_CLOSE * c.args.most) (omega arith) (omega arith) (omega (arith, c.requires.some)) left))
 
 pub returns-then-over-clause-works : goal.returns-then-over-clause-works
 returns-then-over-clause-works g c s honest is same over =

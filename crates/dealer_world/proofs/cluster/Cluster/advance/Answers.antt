@@ -8,7 +8,7 @@ use Rattle.dealer_world.proofs.Giving.{not_given}
 use Rattle.dealer_world.proofs.Advancing.{still_posted, is_for_node, same_begun, behind_on, behind_still, record_gained, node_in, stepped_to}
 use Rattle.dealer_node.specs.declared.most_shown.MostShown.{MostShown}
 use Rattle.dealer_node.specs.Most.{ShowsWithin}
-use Rattle.dealer_world.specs.Shows.{most_shown_at}
+use Rattle.dealer_world.specs.Shows.{most_by, most_shown_for}
 use Rattle.dealer_world.specs.Viewing.{view_of}
 use Rattle.dealer_world.proofs.Showing.{same_shown, more_shown, most_at}
 use Rattle.dealer_world.proofs.cluster.Cluster.advance.Goals as goal
@@ -86,16 +86,16 @@ returns-clause-begun g c =
 
 pub returns-in_err-make_place-clause-shows : goal.returns-in_err-make_place-clause-shows
 returns-in_err-make_place-clause-shows g c =
-    same_shown (most_shown_at (view_of c.args.self.now) (node_of c.args.event.now)) c.args.self.now.recording.all c.make_place.new.self.all c.make_place.ensures.all
+    same_shown (most_shown_for (view_of c.args.self.now) c.args.event.now) c.args.self.now.recording.all c.make_place.new.self.all c.make_place.ensures.all
 
 pub returns-then-is_out_of_memory-clause-shows : goal.returns-then-is_out_of_memory-clause-shows
 returns-then-is_out_of_memory-clause-shows g c =
-    same_shown (most_shown_at (view_of c.args.self.now) (node_of c.args.event.now)) c.args.self.now.recording.all c.make_place.new.self.all c.make_place.ensures.all
+    same_shown (most_shown_for (view_of c.args.self.now) c.args.event.now) c.args.self.now.recording.all c.make_place.new.self.all c.make_place.ensures.all
 
 pub returns-clause-shows : goal.returns-clause-shows
 returns-clause-shows g c =
     let now = c.args.self.now in let nodes = now.nodes.items in let e = c.args.event.now in let node = c.index_mut.result.now in
     let at : get_or nodes (node_of e) node ≡ node = subst (λ i. get_or nodes i node ≡ node) c.node-number.ensures (sym c.index_mut.ensures.value) in
-    let most = most_at (view_of now) (node_of e) node (node_in now.config nodes e now.count c.requires) at in
-    more_shown (most_shown_at (view_of now) (node_of e)) now.recording.all c.make_place.new.self.all c.take.new.self.all (node_of e) _ c.give-answer.new.made c.begins-begins.result
+    let most = most_at (most_by e) (view_of now) (node_of e) node (node_in now.config nodes e now.count c.requires) at in
+    more_shown (most_shown_for (view_of now) e) now.recording.all c.make_place.new.self.all c.take.new.self.all (node_of e) _ c.give-answer.new.made c.begins-begins.result
     c.take.ensures.all c.make_place.ensures.all (subst (λ (m : MostShown). ShowsWithin m nothing_told c.give-answer.new.made) most c.give-answer.ensures.shows)

@@ -1,7 +1,7 @@
 use Rattle.std.proofs.Common.{arith}
 use Rattle.dealer_world.specs.Viewing.{view_of}
 use Rattle.serving.proofs.Covering.{covers_more}
-use Rattle.serving.proofs.most.most_shown.Goals as goal
+use Rattle.serving.proofs.most.most_without_frame.Goals as goal
 
 pub loop-number-init : goal.loop-number-init
 loop-number-init g c = record { pieces = λ node less. absurd (omega (arith, less)); bytes = λ node less. absurd (omega (arith, less)) }

@@ -1,9 +1,10 @@
-//! Three nodes of a match, whose frames are handed on in the order of sending.
+//! The nodes of a match, whose frames are handed on in the order of sending.
 
 use crate::peer::{Event, Peer, VERSION};
-use crate::taking::{Counts, summed, take};
+use crate::taking::{Counts, take};
 use dealer_kind::Config;
 use dealer_node::{Out, Reader};
+use paxos_wire::limits::NODES;
 use std::alloc::{AllocError, Global};
 
 /// How many turns a match takes at most: a turn is an answer of a seat, or a tick.
@@ -16,7 +17,14 @@ pub enum Course {
     Plain,
     /// Both seats sit at nodes 0 and 1 and act at either, and node 2 is down for a while.
     Varied,
+    /// Both seats sit at node 0, and no frame comes to node 1 or from there.
+    Parted,
 }
+
+/// What stands behind a seat's newest line where it calls, and where it folds.
+const CALL: &[u8] = b":c\r\n";
+
+const FOLD: &[u8] = b":f\r\n";
 
 /// In a varied match, the turns at which node 2 is stopped and started.
 const OUT: u32 = 20;
@@ -32,8 +40,8 @@ struct Sent {
     end: usize,
 }
 
-/// Three nodes of a match, and the frames between them.
-pub struct Trio {
+/// The nodes of a match, and the frames between them.
+pub struct Group {
     alloc: Global,
     course: Course,
     peers: Vec<Peer>,
@@ -46,9 +54,9 @@ pub struct Trio {
 }
 
 /// By hand, so that letting one go is one call for whoever owns it (docs/ARCHITECTURE.md, Habits).
-impl Drop for Trio {
+impl Drop for Group {
     fn drop(self) {
-        let Trio {
+        let Group {
             alloc: _,
             course: _,
             peers: _,
@@ -60,10 +68,10 @@ impl Drop for Trio {
     }
 }
 
-impl Trio {
+impl Group {
     /// No node yet. It counts on from these.
-    pub fn new(alloc: Global, course: Course, counts: Counts) -> Trio {
-        Trio {
+    pub fn new(alloc: Global, course: Course, counts: Counts) -> Group {
+        Group {
             alloc,
             course,
             peers: Vec::new(alloc),
@@ -76,7 +84,6 @@ impl Trio {
 
     /// Plays a match to its end, and counts the commands that each node knows then. An `Ok` of false: a node wasn't made.
     pub fn play_match(&mut self, config: &Config) -> Result<bool, AllocError> {
-        self.make_room()?;
         if !self.begin(config)? {
             return Ok(false);
         }
@@ -87,7 +94,7 @@ impl Trio {
 
     /// Makes room for all that waits at once in a match.
     fn make_room(&mut self) -> Result<(), AllocError> {
-        self.peers.reserve(3)?;
+        self.peers.reserve(usize::from(NODES))?;
         self.sent.reserve(4096)?;
         self.bytes.reserve(1 << 20)?;
         for line in &mut self.lines {
@@ -96,14 +103,16 @@ impl Trio {
         Ok(())
     }
 
-    /// Adds the nodes of a match, over new stores, and starts them. An `Ok` of false: one of them wasn't made.
-    fn begin(&mut self, config: &Config) -> Result<bool, AllocError> {
-        for number in 0..3 {
+    /// Adds the nodes of a match, over new stores, and starts them; seats sit down. An `Ok` of false: one of the nodes
+    /// wasn't made.
+    pub fn begin(&mut self, config: &Config) -> Result<bool, AllocError> {
+        self.make_room()?;
+        for number in 0..config.nodes() {
             if !self.add_peer(config, number)? {
                 return Ok(false);
             }
         }
-        for node in 0..3 {
+        for node in 0..NODES {
             if self.is_seated(node) {
                 self.seat_at(node)?;
             }
@@ -159,10 +168,17 @@ impl Trio {
         self.keep(node, &out)
     }
 
-    /// Keeps the frames that a node sent, and the newest lines of its seats.
+    /// Whether no frame comes to a node or from there.
+    fn is_cut_off(&self, node: u8) -> bool {
+        node == 1 && matches!(self.course, Course::Parted)
+    }
+
+    /// Keeps the frames that a node sent, but for those that are lost, and the newest lines of its seats.
     fn keep(&mut self, node: u8, out: &Out) -> Result<(), AllocError> {
         for (to, bytes) in out.frames() {
-            self.keep_frame(node, to, bytes)?;
+            if !self.is_cut_off(node) && !self.is_cut_off(to) {
+                self.keep_frame(node, to, bytes)?;
+            }
         }
         for (reader, text) in out.shown() {
             if let Reader::Seat(seat) = reader {
@@ -209,8 +225,7 @@ impl Trio {
         let Some(bytes) = self.bytes.get(sent.start..sent.end) else {
             return Ok(false);
         };
-        self.counts.frames = self.counts.frames.wrapping_add(1);
-        self.counts.sum = summed(self.counts.sum, bytes);
+        self.counts.count_frame(bytes);
         let Some(peer) = self.peers.get_mut(usize::from(sent.to)) else {
             return Ok(false);
         };
@@ -230,14 +245,33 @@ impl Trio {
                 break;
             }
         }
+        self.forget_frames();
+        Ok(())
+    }
+
+    /// Forgets the frames that wait.
+    fn forget_frames(&mut self) {
         self.sent.clear();
         self.bytes.clear();
-        Ok(())
+    }
+
+    /// Lets a node tick, and delivers all frames that come of it.
+    pub fn tick(&mut self, node: u8) -> Result<(), AllocError> {
+        self.call(node, Event::Tick)?;
+        self.deliver_all()
+    }
+
+    /// How many commands a node knows from the first on.
+    pub fn front(&self, node: u8) -> u32 {
+        match self.peers.get(usize::from(node)) {
+            Some(peer) => peer.node.front(),
+            None => 0,
+        }
     }
 
     /// The first node at which the match isn't over.
     fn unfinished(&self) -> Option<u8> {
-        for (peer, number) in self.peers.iter().zip(0..3) {
+        for (peer, number) in self.peers.iter().zip(0..NODES) {
             if !peer.node.table().over() {
                 return Some(number);
             }
@@ -245,13 +279,13 @@ impl Trio {
         None
     }
 
-    /// Lets the seat that is to act at a node call. Where none is, nothing comes of it.
-    fn answer(&mut self, node: u8) -> Result<(), AllocError> {
+    /// Lets the seat that is to act at a node call or fold. Where none is, nothing comes of it.
+    fn answer(&mut self, node: u8, action: &[u8]) -> Result<(), AllocError> {
         let Some(seat) = self.to_act(node) else {
             return Ok(());
         };
         let mut line = Vec::new(self.alloc);
-        self.put_call(seat, &mut line)?;
+        self.put_answer(seat, action, &mut line)?;
         self.call(node, Event::Line(seat, &line))
     }
 
@@ -260,13 +294,13 @@ impl Trio {
         self.peers.get(usize::from(node))?.to_act()
     }
 
-    /// Puts a seat's newest line with a call behind it.
-    fn put_call(&self, seat: u8, line: &mut Vec<u8>) -> Result<(), AllocError> {
+    /// Puts a seat's newest line with an action behind it.
+    fn put_answer(&self, seat: u8, action: &[u8], line: &mut Vec<u8>) -> Result<(), AllocError> {
         if let Some(newest) = self.lines.get(usize::from(seat)) {
-            line.reserve(newest.len().saturating_add(4))?;
+            line.reserve(newest.len().saturating_add(action.len()))?;
             line.extend_from_slice(newest)?;
         }
-        line.extend_from_slice(b":c\r\n")
+        line.extend_from_slice(action)
     }
 
     /// Stops and starts node 2 of a varied match at its turns.
@@ -300,12 +334,39 @@ impl Trio {
                 return Ok(());
             };
             if node == 0 {
-                self.answer(self.answering(turn))?;
+                self.answer(self.answering(turn), CALL)?;
             }
             if self.sent.is_empty() {
                 self.call(node, Event::Tick)?;
             }
         }
+        Ok(())
+    }
+
+    /// Plays by folds alone until node 0 knows so many commands.
+    pub fn fold_to(&mut self, commands: u32) -> Result<(), AllocError> {
+        for _ in 0..TURNS {
+            self.deliver_all()?;
+            if self.front(0) >= commands {
+                break;
+            }
+            self.answer(0, FOLD)?;
+            if self.sent.is_empty() {
+                self.call(0, Event::Tick)?;
+            }
+        }
+        Ok(())
+    }
+
+    /// Stops all nodes, and starts them. What they send as they start is lost.
+    pub fn begin_anew(&mut self) -> Result<(), AllocError> {
+        for peer in &mut self.peers {
+            peer.stop();
+        }
+        for node in 0..NODES {
+            self.call(node, Event::Start)?;
+        }
+        self.forget_frames();
         Ok(())
     }
 
