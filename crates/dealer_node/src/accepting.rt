@@ -20,6 +20,7 @@ use crate::answering::{accepted_commands, send_prepare_answer, send_refusal};
 use crate::fault::NodeFault;
 use crate::made::Made;
 use crate::post::Post;
+use crate::rooms::Lists;
 use crate::up::Up;
 use crate::voting::send_proposal;
 use paxos_wire::{Ballot, CommandList};
@@ -76,6 +77,7 @@ impl<D: Disk + Drop> Up<D> {
         ballot: Ballot,
         slot: u32,
         commands: &[Command],
+        told: &mut CommandList,
         made: &mut Made,
     ) -> Result<(), NodeFault>
         requires at { IsAt post.now self.old.running }
@@ -98,10 +100,9 @@ impl<D: Disk + Drop> Up<D> {
     {
         let _nodes = post.nodes();
         command_runs_are_moves();
-        let mut told = CommandList::new();
         match self
             .acceptor
-            .on_accept_run_reserved(ballot, slot, commands, &mut told)
+            .on_accept_run_reserved(ballot, slot, commands, told)
         {
             Ok(answer) => match accepted_commands(&answer) {
                 Some(stored) => {
@@ -125,6 +126,7 @@ impl<D: Disk + Drop> Up<D> {
         ballot: Ballot,
         slot: u32,
         commands: &[Command],
+        told: &mut CommandList,
         made: &mut Made,
     ) -> Result<(), NodeFault>
         requires at { IsAt post.now self.old.running }
@@ -151,7 +153,7 @@ impl<D: Disk + Drop> Up<D> {
             return Ok(());
         }
         self.running.turn_idle();
-        self.vote(post, ballot, slot, commands, made)
+        self.vote(post, ballot, slot, commands, told, made)
     }
 
     /// Sends a proposal to the others, and votes for it: its votes are stored at once.
@@ -159,6 +161,7 @@ impl<D: Disk + Drop> Up<D> {
         &mut self,
         post: &Post,
         proposal: &AcceptRun<'_>,
+        told: &mut CommandList,
         made: &mut Made,
     ) -> Result<(), NodeFault>
         requires at { IsAt post.now self.old.running }
@@ -185,7 +188,7 @@ impl<D: Disk + Drop> Up<D> {
             proposal.slot,
             commands,
         );
-        self.vote(post, proposal.ballot, proposal.slot, commands, made)
+        self.vote(post, proposal.ballot, proposal.slot, commands, told, made)
     }
 
     /// The end of each call: a node that leads proposes from its front on, once in a ballot. There is room for so many
@@ -194,6 +197,7 @@ impl<D: Disk + Drop> Up<D> {
         &mut self,
         post: &Post,
         most: usize,
+        lists: &mut Lists,
         made: &mut Made,
     ) -> Result<(), NodeFault>
         requires at { IsAt post.now self.old.running }
@@ -211,13 +215,12 @@ impl<D: Disk + Drop> Up<D> {
             → HasLeft self.new.running made.new need answers more frames }
     {
         let _ = most;
-        // The own deal is drawn, and a list made, only where something may be proposed.
+        // The own deal is drawn only where something may be proposed.
         if !self.running.is_leading(post) {
             return Ok(());
         }
-        let mut room = CommandList::new();
-        match self.running.proposal(post, &mut room) {
-            Some(proposal) => self.propose(post, &proposal, made),
+        match self.running.proposal(post, &mut lists.proposed) {
+            Some(proposal) => self.propose(post, &proposal, &mut lists.told, made),
             None => Ok(()),
         }
     }

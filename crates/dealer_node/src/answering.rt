@@ -11,7 +11,7 @@ ghost use Rattle.dealer_node.specs.Fitting.{AreMessages};
 use crate::sending::send;
 use crate::texts::Texts;
 use acceptor::{PrepareAnswer, RunAnswer};
-use paxos_wire::{Ballot, Entries, Message, frame_len};
+use paxos_wire::{Ballot, Entries, Message, ToldEntries, frame_len};
 use slot_log::Command;
 
 /// Sends a node the promise of a ballot, with what was accepted at the slots from one on.
@@ -34,7 +34,7 @@ pub(crate) fn send_promise(
     let message = Message::Promise {
         ballot,
         slot,
-        entries: *entries,
+        entries: ToldEntries::new(entries),
     };
     let _len = frame_len(&message);
     send(frames, to, &message);

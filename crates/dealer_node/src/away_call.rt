@@ -22,6 +22,7 @@ use crate::fault::NodeFault;
 use crate::limits::FRAMES_OF_A_CLOSE;
 use crate::made::{Made, Need};
 use crate::post::Post;
+use crate::rooms::{Lists, Rooms};
 use crate::running::Running;
 use crate::up::Up;
 use promise_store::Disk;
@@ -48,6 +49,7 @@ impl<D: Disk + Drop> Up<D> {
         post: &Post,
         act: &Command,
         most: usize,
+        lists: &mut Lists,
         made: &mut Made,
     ) -> Result<(), NodeFault>
         requires at { IsAt post.now self.old.running }
@@ -63,7 +65,7 @@ impl<D: Disk + Drop> Up<D> {
     {
         let promised = self.acceptor.promised();
         self.running.play_for(post, promised, act, made);
-        self.close(post, most, made)
+        self.close(post, most, lists, made)
     }
 
     /// Lets the command that plays for the player to act wait where nothing does, hands it on, and closes the call; 96
@@ -72,6 +74,7 @@ impl<D: Disk + Drop> Up<D> {
         &mut self,
         alloc: Global,
         post: &Post,
+        rooms: &mut Rooms,
         out: &mut Made,
     ) -> Result<(), NodeFault>
         requires { IsAt post.now self.old.running }
@@ -90,9 +93,10 @@ impl<D: Disk + Drop> Up<D> {
         };
         let most = self.running.most_proposed();
         let need = away_need(&self.running, most);
-        let mut made = self.ready(alloc, 1, most, &need, out)?;
-        self.play_for(post, &act, most, &mut made)?;
-        out.append(made);
+        let mut made = self.ready(alloc, rooms.made.take(), 1, most, &need, out)?;
+        self.play_for(post, &act, most, &mut rooms.lists, &mut made)?;
+        out.append(&mut made);
+        rooms.made = Some(made);
         Ok(())
     }
 }

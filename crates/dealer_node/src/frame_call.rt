@@ -21,18 +21,19 @@ use crate::limits::{ANSWERS_OF_A_CALL, FRAMES_OF_A_CLOSE, FRAMES_OF_AN_ANSWER, F
 use crate::made::{Made, Need};
 use crate::most_shown::{MostShown, most_after};
 use crate::post::Post;
+use crate::rooms::{Lists, Rooms};
 use crate::running::Running;
 use crate::up::Up;
-use paxos_wire::{FrameFault, Message, decode};
+use paxos_wire::{FrameFault, Message, MessageRoom, decode};
 use promise_store::Disk;
 use std::alloc::Global;
 
-/// What the bytes of a frame say.
-fn read(bytes: &[u8]) -> Result<Message, FrameFault>
+/// What the bytes of a frame say. The lists of a message stand in the room.
+fn read<'a>(bytes: &[u8], room: &'a mut MessageRoom) -> Result<Message<'a>, FrameFault>
     ensures value { result ≡ reading bytes.now }
     ensures message { IfOk result (λ message. IsMessage message) }
 {
-    decode(bytes)
+    decode(bytes, room)
 }
 
 /// How many commands a message has that may be voted for or learned: those that it asks to accept, or tells to be
@@ -78,7 +79,8 @@ impl<D: Disk + Drop> Up<D> {
     pub(crate) fn most_shown_by(&self, bytes: &[u8]) -> MostShown
         ensures { result ≡ most_after (most_applied_by self.now.running (reading bytes.now)) }
     {
-        match read(bytes) {
+        let mut room = MessageRoom::new();
+        match read(bytes, &mut room) {
             Ok(message) => most_shown_behind(&self.running, &message),
             Err(_) => self.running.most_shown(),
         }
@@ -91,6 +93,7 @@ impl<D: Disk + Drop> Up<D> {
         from: u8,
         message: &Message,
         most: usize,
+        lists: &mut Lists,
         made: &mut Made,
     ) -> Result<(), NodeFault>
         requires at { IsAt post.now self.old.running }
@@ -105,7 +108,7 @@ impl<D: Disk + Drop> Up<D> {
         ensures at { IsAt post.now self.new.running }
         ensures within { told_by made.old ≡ nothing_told → OnOk result (IsWithin made.new (frame_need self.old.running (commands_in message.now) most)) }
     {
-        self.on_message(post, from, message, most, made)
+        self.on_message(post, from, message, most, lists, made)
     }
 
     /// Takes the bytes of a frame of another node, and closes the call. What it makes goes to `out` at the end, where it
@@ -116,6 +119,7 @@ impl<D: Disk + Drop> Up<D> {
         post: &Post,
         from: u8,
         bytes: &[u8],
+        rooms: &mut Rooms,
         out: &mut Made,
     ) -> Result<(), NodeFault>
         requires at { IsAt post.now self.old.running }
@@ -128,15 +132,24 @@ impl<D: Disk + Drop> Up<D> {
         ensures unmade { IsErr result → told_by out.new ≡ told_by out.old }
         ensures shows { ShowsWithin (most_after (most_applied_by self.old.running (reading bytes.now))) (told_by out.old) (told_by out.new) }
     {
-        match read(bytes) {
+        match read(bytes, &mut rooms.message) {
             Err(fault) => Err(NodeFault::BadFrame(fault)),
             Ok(message) => {
                 let commands = commands_in(&message);
                 let most = self.running.most_proposed_behind(&message);
                 let need = frame_need(&self.running, commands, most);
-                let mut made = self.ready(alloc, ANSWERS_OF_A_CALL, commands + most, &need, out)?;
-                self.message(post, from, &message, most, &mut made)?;
-                out.append(made);
+                let earlier = rooms.made.take();
+                let mut made = self.ready(
+                    alloc,
+                    earlier,
+                    ANSWERS_OF_A_CALL,
+                    commands + most,
+                    &need,
+                    out,
+                )?;
+                self.message(post, from, &message, most, &mut rooms.lists, &mut made)?;
+                out.append(&mut made);
+                rooms.made = Some(made);
                 Ok(())
             }
         }

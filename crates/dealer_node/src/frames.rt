@@ -18,9 +18,10 @@ ghost use Rattle.dealer_node.specs.Working.{HasLeft, IsOfPart};
 use crate::fault::NodeFault;
 use crate::made::Made;
 use crate::post::Post;
+use crate::rooms::Lists;
 use crate::running::Running;
 use crate::up::Up;
-use paxos_wire::Message;
+use paxos_wire::{CommandList, Message};
 use promise_store::Disk;
 
 /// Asks a node that speaks of a slot above the front, in a Prepare, an Accept or an Accepted, for what was chosen.
@@ -53,6 +54,7 @@ impl<D: Disk + Drop> Up<D> {
         post: &Post,
         from: u8,
         message: &Message,
+        told: &mut CommandList,
         made: &mut Made,
     ) -> Result<(), NodeFault>
         requires at { IsAt post.now self.old.running }
@@ -79,7 +81,7 @@ impl<D: Disk + Drop> Up<D> {
                 ballot,
                 slot,
                 commands,
-            } => self.accept(post, from, *ballot, *slot, commands.as_slice(), made),
+            } => self.accept(post, from, *ballot, *slot, commands.as_slice(), told, made),
             Message::Promise { .. }
             | Message::Refuse { .. }
             | Message::Accepted { .. }
@@ -97,6 +99,7 @@ impl<D: Disk + Drop> Up<D> {
         from: u8,
         message: &Message,
         most: usize,
+        lists: &mut Lists,
         made: &mut Made,
     ) -> Result<(), NodeFault>
         requires at { IsAt post.now self.old.running }
@@ -116,9 +119,9 @@ impl<D: Disk + Drop> Up<D> {
             → OnOk result (HasLeft self.new.running made.new need 0 0 0) }
     {
         self.running.see(message);
-        match self.take(post, from, message, made) {
+        match self.take(post, from, message, &mut lists.told, made) {
             Err(fault) => Err(fault),
-            Ok(()) => match self.close(post, most, made) {
+            Ok(()) => match self.close(post, most, lists, made) {
                 Err(fault) => Err(fault),
                 Ok(()) => {
                     ask(&self.running, post, from, message, made);

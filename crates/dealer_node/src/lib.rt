@@ -44,6 +44,7 @@ mod proposing;
 mod reader;
 mod reading;
 mod readying;
+mod rooms;
 mod running;
 mod seat_fault;
 mod seats;

@@ -20,6 +20,7 @@ use crate::fault::NodeFault;
 use crate::limits::{FRAMES_OF_A_CLOSE, TEXT_BYTES_OF_A_COMMAND, TEXTS_OF_A_COMMAND};
 use crate::made::{Made, Need};
 use crate::post::Post;
+use crate::rooms::{Lists, Rooms};
 use crate::running::Running;
 use crate::up::Up;
 use matchstate::MOST_LINE;
@@ -86,6 +87,7 @@ impl<D: Disk + Drop> Up<D> {
         piece: &[u8],
         limit: usize,
         most: usize,
+        lists: &mut Lists,
         made: &mut Made,
     ) -> Result<(), NodeFault>
         requires at { IsAt post.now self.old.running }
@@ -102,7 +104,7 @@ impl<D: Disk + Drop> Up<D> {
         ensures within { told_by made.old ≡ nothing_told → IsWithin made.new (line_need self.old.running limit most) }
     {
         self.hear(post, seat, piece, limit, most, made);
-        self.close(post, most, made)
+        self.close(post, most, lists, made)
     }
 
     /// Makes all room that a piece of a seat's bytes may need, where the close proposes no more commands than so many, and
@@ -113,6 +115,7 @@ impl<D: Disk + Drop> Up<D> {
         seat: usize,
         bytes: &[u8],
         most: usize,
+        earlier: Option<Made>,
         out: &mut Made,
     ) -> Result<(Made, usize), NodeFault>
         requires seat { seat < length self.old.running.seats.talks }
@@ -135,7 +138,7 @@ impl<D: Disk + Drop> Up<D> {
         let Some(need) = line_need(&self.running, limit, most) else {
             return Err(NodeFault::OutOfMemory);
         };
-        let made = self.ready(alloc, 1, most, &need, out)?;
+        let made = self.ready(alloc, earlier, 1, most, &need, out)?;
         self.running.reserve_bytes(seat, bytes.len())?;
         Ok((made, limit))
     }
@@ -147,6 +150,7 @@ impl<D: Disk + Drop> Up<D> {
         post: &Post,
         seat: usize,
         bytes: &[u8],
+        rooms: &mut Rooms,
         out: &mut Made,
     ) -> Result<(), NodeFault>
         requires at { IsAt post.now self.old.running }
@@ -160,9 +164,11 @@ impl<D: Disk + Drop> Up<D> {
         ensures shows { ShowsWithin (most_after (most_applied self.old.running)) (told_by out.old) (told_by out.new) }
     {
         let most = self.running.most_proposed();
-        let (mut made, limit) = self.ready_line(alloc, seat, bytes, most, out)?;
-        self.line(post, seat, bytes, limit, most, &mut made)?;
-        out.append(made);
+        let earlier = rooms.made.take();
+        let (mut made, limit) = self.ready_line(alloc, seat, bytes, most, earlier, out)?;
+        self.line(post, seat, bytes, limit, most, &mut rooms.lists, &mut made)?;
+        out.append(&mut made);
+        rooms.made = Some(made);
         Ok(())
     }
 }

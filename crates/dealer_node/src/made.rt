@@ -49,6 +49,15 @@ impl Made {
         }
     }
 
+    /// Takes all out. What room there was stays.
+    pub(crate) fn clear(&mut self)
+        ensures { told_by self.new ≡ nothing_told }
+    {
+        self.frames.clear();
+        self.shown.clear();
+        self.faults.clear();
+    }
+
     /// Makes room for so much more. An `Err` leaves what was made as it is.
     pub(crate) fn reserve(&mut self, need: &Need) -> Result<(), AllocError>
         ensures same { told_by self.new ≡ told_by self.old }
@@ -60,17 +69,20 @@ impl Made {
     }
 
     /// Moves all that another has behind what is here, into room that was reserved for it.
-    pub(crate) fn append(&mut self, mut other: Made)
+    pub(crate) fn append(&mut self, other: &mut Made)
+        requires { HasRoomFor self.old other.old }
+        ensures { told_by self.new ≡ both_told (told_by self.old) (told_by other.old) }
+    {
+        self.frames.append(&mut other.frames);
+        self.shown.append(&mut other.shown);
+        append_reserved(&mut self.faults, &mut other.faults);
+    }
+
+    /// The same of what isn't kept for another call.
+    pub(crate) fn append_owned(&mut self, mut other: Made)
         requires { HasRoomFor self.old other }
         ensures { told_by self.new ≡ both_told (told_by self.old) (told_by other) }
     {
-        append_reserved(&mut self.faults, &mut other.faults);
-        let Made {
-            frames,
-            shown,
-            faults: _,
-        } = other;
-        self.frames.append(frames);
-        self.shown.append(shown);
+        self.append(&mut other);
     }
 }

@@ -56,7 +56,7 @@ impl Running {
                 slot,
                 entries,
             } => {
-                self.count_promise(post, from, *ballot, *slot, entries);
+                self.count_promise(post, from, *ballot, *slot, entries.list());
                 Ok(())
             }
             Message::Refuse { promised, .. } => {

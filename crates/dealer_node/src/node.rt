@@ -19,6 +19,7 @@ use crate::fault::NodeFault;
 use crate::most_shown::{MostShown, most_after};
 use crate::out::Out;
 use crate::post::Post;
+use crate::rooms::Rooms;
 use crate::starting::{open, ready};
 use crate::up::Up;
 use dealer_kind::Config;
@@ -46,6 +47,8 @@ pub struct Node<D: Disk> {
     disk: Option<D>,
     /// What it has while it runs.
     up: Option<Up<D>>,
+    /// What its calls use again.
+    rooms: Rooms,
 }
 
 /// By hand, so that letting one go is one call for whoever owns it (docs/ARCHITECTURE.md, Habits).
@@ -57,6 +60,7 @@ impl<D: Disk + Drop> Drop for Node<D> {
             blank: _,
             disk: _,
             up: _,
+            rooms: _,
         } = self;
     }
 }
@@ -102,6 +106,7 @@ impl<D: Disk + Drop> Node<D> {
             blank,
             disk: Some(disk),
             up: None,
+            rooms: Rooms::new(),
         })
     }
 
@@ -160,7 +165,7 @@ impl<D: Disk + Drop> Node<D> {
         };
         match open(self.alloc, &self.post, disk, running, &mut made) {
             Ok(up) => {
-                out.made.append(made);
+                out.made.append_owned(made);
                 self.up = Some(up);
                 Ok(())
             }
@@ -188,7 +193,14 @@ impl<D: Disk + Drop> Node<D> {
         match &mut self.up {
             None => Err(NodeFault::Down),
             Some(up) => {
-                let answer = up.on_frame(self.alloc, &self.post, from as u8, bytes, &mut out.made);
+                let answer = up.on_frame(
+                    self.alloc,
+                    &self.post,
+                    from as u8,
+                    bytes,
+                    &mut self.rooms,
+                    &mut out.made,
+                );
                 self.settle(answer)
             }
         }
@@ -210,7 +222,14 @@ impl<D: Disk + Drop> Node<D> {
         match &mut self.up {
             None => Err(NodeFault::Down),
             Some(up) => {
-                let answer = up.on_line(self.alloc, &self.post, seat, bytes, &mut out.made);
+                let answer = up.on_line(
+                    self.alloc,
+                    &self.post,
+                    seat,
+                    bytes,
+                    &mut self.rooms,
+                    &mut out.made,
+                );
                 self.settle(answer)
             }
         }
@@ -231,7 +250,7 @@ impl<D: Disk + Drop> Node<D> {
         match &mut self.up {
             None => Err(NodeFault::Down),
             Some(up) => {
-                let answer = up.on_tick(self.alloc, &self.post, &mut out.made);
+                let answer = up.on_tick(self.alloc, &self.post, &mut self.rooms, &mut out.made);
                 self.settle(answer)
             }
         }
@@ -254,7 +273,7 @@ impl<D: Disk + Drop> Node<D> {
         match &mut self.up {
             None => Err(NodeFault::Down),
             Some(up) => {
-                let answer = up.on_away(self.alloc, &self.post, &mut out.made);
+                let answer = up.on_away(self.alloc, &self.post, &mut self.rooms, &mut out.made);
                 self.settle(answer)
             }
         }

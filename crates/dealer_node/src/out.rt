@@ -35,6 +35,13 @@ impl Out {
         }
     }
 
+    /// Takes all out. What room there was stays, for further calls.
+    pub fn clear(&mut self)
+        ensures { self.new ≡ nothing_told }
+    {
+        self.made.clear();
+    }
+
     /// The frames in order of sending, each with the number of the node that it goes to.
     pub fn frames(&self) -> Reading<'_, u8>
         ensures { result ≡ self.now.frames }

@@ -11,6 +11,19 @@ use crate::up::Up;
 use promise_store::Disk;
 use std::alloc::{AllocError, Global};
 
+/// Nothing made, with the room of what an earlier call made if there is such.
+fn emptied(alloc: Global, earlier: Option<Made>) -> Made
+    ensures { told_by result ≡ nothing_told }
+{
+    match earlier {
+        Some(mut made) => {
+            made.clear();
+            made
+        }
+        None => Made::new(alloc),
+    }
+}
+
 impl<D: Disk + Drop> Up<D> {
     ghost use Rattle.dealer_node.specs.Working.{store_room};
     ghost use Rattle.dealer_node.specs.Calling.{Unmoved, HasCallRoom};
@@ -35,11 +48,12 @@ impl<D: Disk + Drop> Up<D> {
         self.running.reserve(answers, commands)
     }
 
-    /// Makes room for so much, here and where it goes in the end, to count so many answers with so many commands in all, and
-    /// for as many votes in the store. An `Err` changes room alone.
+    /// Makes room for so much, in what an earlier call made if there is such, and where it goes in the end, to count so many
+    /// answers with so many commands in all, and for as many votes in the store. An `Err` changes room alone.
     pub(crate) fn ready(
         &mut self,
         alloc: Global,
+        earlier: Option<Made>,
         answers: usize,
         commands: usize,
         need: &Need,
@@ -58,7 +72,7 @@ impl<D: Disk + Drop> Up<D> {
         ensures room { IfOk result (λ made. HasCallRoom self.new made need.now answers commands) }
         ensures room_out { OnOk result (HasRoom out.new need.now) }
     {
-        let mut made = Made::new(alloc);
+        let mut made = emptied(alloc, earlier);
         made.reserve(need)?;
         out.reserve(need)?;
         self.reserve(answers, commands)?;

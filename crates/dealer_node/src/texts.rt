@@ -53,6 +53,14 @@ impl<T: Copy + Drop> Texts<T> {
         }
     }
 
+    /// Takes all texts out. What room there was stays.
+    pub(crate) fn clear(&mut self)
+        ensures { self.new.texts ≡ [] }
+    {
+        self.runs.clear();
+        self.bytes.clear();
+    }
+
     /// Makes room for so many texts more, of so many bytes in all. An `Err` changes no text.
     pub(crate) fn reserve(&mut self, texts: usize, bytes: usize) -> Result<(), AllocError>
         ensures same { self.new.texts ≡ self.old.texts }
@@ -64,10 +72,10 @@ impl<T: Copy + Drop> Texts<T> {
     }
 
     /// Moves all texts of another behind those that are here, into room that was reserved for them.
-    pub(crate) fn append(&mut self, mut other: Texts<T>)
-        requires texts { length other.texts ≤ self.old.text_room }
-        requires bytes { byte_total other.texts ≤ self.old.byte_room }
-        ensures texts { self.new.texts ≡ self.old.texts ++ other.texts }
+    pub(crate) fn append(&mut self, other: &mut Texts<T>)
+        requires texts { length other.old.texts ≤ self.old.text_room }
+        requires bytes { byte_total other.old.texts ≤ self.old.byte_room }
+        ensures texts { self.new.texts ≡ self.old.texts ++ other.old.texts }
     {
         append_reserved(&mut self.runs, &mut other.runs);
         append_reserved(&mut self.bytes, &mut other.bytes);

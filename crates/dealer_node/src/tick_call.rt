@@ -19,6 +19,7 @@ use crate::fault::NodeFault;
 use crate::limits::FRAMES_OF_A_CLOSE;
 use crate::made::{Made, Need};
 use crate::post::Post;
+use crate::rooms::{Lists, Rooms};
 use crate::running::Running;
 use crate::up::Up;
 use paxos_wire::Ballot;
@@ -44,6 +45,7 @@ impl<D: Disk + Drop> Up<D> {
         promised: Ballot,
         over: bool,
         most: usize,
+        lists: &mut Lists,
         made: &mut Made,
     ) -> Result<(), NodeFault>
         requires at { IsAt post.now self.old.running }
@@ -59,7 +61,7 @@ impl<D: Disk + Drop> Up<D> {
         ensures within { told_by made.old ≡ nothing_told → IsWithin made.new (close_need self.old.running most) }
     {
         if over {
-            self.close(post, most, made)
+            self.close(post, most, lists, made)
         } else {
             self.begin(post, promised, made)
         }
@@ -71,6 +73,7 @@ impl<D: Disk + Drop> Up<D> {
         &mut self,
         alloc: Global,
         post: &Post,
+        rooms: &mut Rooms,
         out: &mut Made,
     ) -> Result<(), NodeFault>
         requires { IsAt post.now self.old.running }
@@ -89,9 +92,10 @@ impl<D: Disk + Drop> Up<D> {
         }
         let most = self.running.most_proposed();
         let need = close_need(&self.running, most);
-        let mut made = self.ready(alloc, 1, most, &need, out)?;
-        self.tick(post, promised, over, most, &mut made)?;
-        out.append(made);
+        let mut made = self.ready(alloc, rooms.made.take(), 1, most, &need, out)?;
+        self.tick(post, promised, over, most, &mut rooms.lists, &mut made)?;
+        out.append(&mut made);
+        rooms.made = Some(made);
         Ok(())
     }
 }

@@ -19,7 +19,7 @@ use crate::post::Post;
 use crate::running::Running;
 use crate::sending::send_to_others;
 use crate::texts::Texts;
-use paxos_wire::{Ballot, CommandList, Message};
+use paxos_wire::{Ballot, Commands, Message};
 use slot_log::{Command, SlotFault};
 
 /// Sends the others that this node accepted commands in a ballot, the first at the slot and each further one at the slot
@@ -43,7 +43,7 @@ fn send_accepted(
     let message = Message::Accepted {
         ballot,
         slot,
-        commands: CommandList::from_slice(commands),
+        commands: Commands::new(commands),
     };
     send_to_others(frames, nodes, post.node(), &message);
 }
@@ -69,7 +69,7 @@ pub(crate) fn send_proposal(
     let message = Message::Accept {
         ballot,
         slot,
-        commands: CommandList::from_slice(commands),
+        commands: Commands::new(commands),
     };
     send_to_others(frames, nodes, post.node(), &message);
 }

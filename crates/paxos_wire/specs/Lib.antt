@@ -8,5 +8,6 @@ pub mod Reading
 pub mod Faults
 pub mod Stream
 pub mod FeedInside
+pub mod KeptInside
 pub mod Lines
 pub mod Order

@@ -91,7 +91,7 @@ impl CommandList {
     }
 }
 
-/// Commands that are borrowed, for slots that follow one another.
+/// At most 64 commands that are borrowed, for slots that follow one another.
 ///
 /// Contracts see them as the list of the commands.
 #[derive(Debug, Drop)]
@@ -100,17 +100,21 @@ pub struct Commands<'a> {
 }
 
 impl<'a> Model for Commands<'a> {
-    ghost use Rattle.std.specs.Prelude.{List};
+    ghost use Rattle.std.specs.Prelude.{List, ◌≤◌, length};
     ghost use Rattle.slot_log.specs.declared.command.Command.{Command};
+    ghost use Rattle.paxos_wire.specs.declared.limits.TheConstants.{WINDOW};
 
     ghost Value = { List Command };
 
     ghost view = { λ c. c.items.now };
+
+    ghost invariant = { λ c. length c.items.now ≤ WINDOW };
 }
 
 impl<'a> Commands<'a> {
     /// These commands.
     pub fn new(items: &'a [Command]) -> Commands<'a>
+        requires { length items.now ≤ WINDOW }
         ensures { result ≡ items.now }
     {
         Commands { items }
@@ -118,14 +122,16 @@ impl<'a> Commands<'a> {
 
     /// How many there are.
     pub fn len(&self) -> usize
-        ensures { result ≡ length self.now }
+        ensures value { result ≡ length self.now }
+        ensures most { result ≤ WINDOW }
     {
         self.items.len()
     }
 
     /// The commands in order.
     pub fn as_slice(&self) -> &'a [Command]
-        ensures { result.now ≡ self.now }
+        ensures value { result.now ≡ self.now }
+        ensures most { length self.now ≤ WINDOW }
     {
         self.items
     }

@@ -12,6 +12,7 @@ use crate::fault::FrameFault;
 use crate::kind::Kind;
 use crate::limits::{LEAST_LENGTH, LENGTH_BYTES, MOST_LENGTH};
 use crate::message::Message;
+use crate::message_room::MessageRoom;
 use crate::reading::message_of_body;
 use crate::version::Version;
 use byteorder::{BigEndian, ByteOrder};
@@ -46,24 +47,28 @@ fn header_of_frame(bytes: &[u8]) -> Result<(Version, Kind), FrameFault>
     }
 }
 
-/// The message of a frame, all of the bytes, or the frame's first fault.
+/// The message of a frame, all of the bytes, whose lists stand in the room, or the frame's first fault.
 #[tactic(auto, unfolding(crate::specs::Faults::reading))]
-pub(crate) fn message_of_frame(bytes: &[u8]) -> Result<Message, FrameFault>
+pub(crate) fn message_of_frame<'a>(
+    bytes: &[u8],
+    room: &'a mut MessageRoom,
+) -> Result<Message<'a>, FrameFault>
     ensures { result ≡ reading bytes.now }
 {
     let (version, kind) = header_of_frame(bytes)?;
-    match message_of_body(version, kind, &bytes[6..]) {
+    match message_of_body(version, kind, &bytes[6..], room) {
         Some(message) => Ok(message),
         None => Err(FrameFault::BadBody),
     }
 }
 
-/// The message of one whole frame of either version, the frame's length in front.
+/// The message of one whole frame of either version, the frame's length in front. Its lists stand in the room, in place of
+/// what was read into it before.
 ///
 /// Else the first of: 50 `TooShort` (fewer than four bytes, or a length below 2), 51 `TooLong` (a length above
 /// 4096), 54 `BadBody` (another count of bytes than the length says), 52 `BadVersion` (neither 1 nor 2), 53 `BadKind`, 54 `BadBody`
 /// (a value out of its range, a byte left over or missing).
-pub fn decode(bytes: &[u8]) -> Result<Message, FrameFault>
+pub fn decode<'a>(bytes: &[u8], room: &'a mut MessageRoom) -> Result<Message<'a>, FrameFault>
     // What is read has this text.
     ensures found { IfOk result (λ m. IsMessage m × IsText m bytes.now) }
     // What has this text is read.
@@ -72,5 +77,5 @@ pub fn decode(bytes: &[u8]) -> Result<Message, FrameFault>
     ensures fault { IfErr result (λ f. f ≡ fault_of bytes.now) }
     ensures exact { result ≡ reading bytes.now }
 {
-    message_of_frame(bytes)
+    message_of_frame(bytes, room)
 }

@@ -87,3 +87,52 @@ impl Entries {
         self.count += 1;
     }
 }
+
+/// Entries that are borrowed, as a Promise tells of them.
+///
+/// Contracts see them as the list of the entries.
+#[derive(Debug, Drop)]
+pub struct ToldEntries<'a> {
+    list: &'a Entries,
+}
+
+impl<'a> Model for ToldEntries<'a> {
+    ghost use Rattle.std.specs.Prelude.{List};
+    ghost use Rattle.paxos_wire.specs.declared.entry.Entry.{Entry};
+
+    ghost Value = { List Entry };
+
+    ghost view = { λ t. t.list.now };
+}
+
+impl<'a> ToldEntries<'a> {
+    /// These entries.
+    pub fn new(list: &'a Entries) -> ToldEntries<'a>
+        ensures { result ≡ list.now }
+    {
+        ToldEntries { list }
+    }
+
+    /// How many there are.
+    pub fn len(&self) -> usize
+        ensures value { result ≡ length self.now }
+        ensures most { result ≤ WINDOW }
+    {
+        self.list.len()
+    }
+
+    /// The entries.
+    pub fn list(&self) -> &'a Entries
+        ensures { result.now ≡ self.now }
+    {
+        self.list
+    }
+
+    /// The entries in order.
+    pub fn as_slice(&self) -> &'a [Entry]
+        ensures value { result.now ≡ self.now }
+        ensures most { length self.now ≤ WINDOW }
+    {
+        self.list.as_slice()
+    }
+}

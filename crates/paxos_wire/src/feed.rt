@@ -8,6 +8,7 @@ use crate::decoding::message_of_frame;
 use crate::fault::FrameFault;
 use crate::limits::{LEAST_LENGTH, LENGTH_BYTES, MOST_LENGTH};
 use crate::message::Message;
+use crate::message_room::MessageRoom;
 use byte_queue::ByteQueue;
 use byteorder::{BigEndian, ByteOrder};
 use std::alloc::{AllocError, Global};
@@ -54,8 +55,12 @@ fn front_end(bytes: &[u8]) -> Option<usize>
     if bytes.len() < end { None } else { Some(end) }
 }
 
-/// What stands in front, and how many bytes of it there are; `None` while it isn't whole.
-fn frame_in_front(bytes: &[u8]) -> Option<(Result<Message, FrameFault>, usize)>
+/// What stands in front, and how many bytes of it there are; `None` while it isn't whole. A message's lists stand in the
+/// room.
+fn frame_in_front<'a>(
+    bytes: &[u8],
+    room: &'a mut MessageRoom,
+) -> Option<(Result<Message<'a>, FrameFault>, usize)>
     ensures partial { IsNone result ↔ IsPartial bytes.now }
     ensures end { IfSome result (λ x. x.1 ≤ length bytes.now) }
     ensures found { IfSome result (λ x. IfOk x.0 (λ m. IsMessage m × IsInFront m bytes.now (drop x.1 bytes.now))) }
@@ -63,7 +68,7 @@ fn frame_in_front(bytes: &[u8]) -> Option<(Result<Message, FrameFault>, usize)>
     ensures fault { IfSome result (λ x. IfErr x.0 (λ f. IsFaulty bytes.now f)) }
 {
     let end = front_end(bytes)?;
-    let read = message_of_frame(&bytes[..end]);
+    let read = message_of_frame(&bytes[..end], room);
     Some((read, end))
 }
 
@@ -117,11 +122,11 @@ impl Feed {
         self.queue.push_reserved(piece);
     }
 
-    /// The next message, or the fault in front (50 to 54), told again from then on.
+    /// The next message, whose lists stand in the room, or the fault in front (50 to 54), told again from then on.
     ///
     /// `None` where what is there is neither a whole frame nor at fault. A length below 2 or above 4096 is a
     /// fault as soon as its four bytes are there, the others once the frame is whole.
-    pub fn next(&mut self) -> Option<Result<Message, FrameFault>>
+    pub fn next<'a>(&mut self, room: &'a mut MessageRoom) -> Option<Result<Message<'a>, FrameFault>>
         // It waits just where the frame isn't whole.
         ensures partial { IsNone result ↔ IsPartial self.old.waiting }
         ensures waits { IsNone result → self.new ≡ self.old }
@@ -136,7 +141,7 @@ impl Feed {
         if let Some(fault) = self.fault {
             return Some(Err(fault));
         }
-        let Some((read, end)) = frame_in_front(self.queue.waiting()) else {
+        let Some((read, end)) = frame_in_front(self.queue.waiting(), room) else {
             return None;
         };
         match read {

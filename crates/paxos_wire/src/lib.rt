@@ -24,12 +24,14 @@ mod entry;
 mod fault;
 mod feed;
 mod fields;
+mod kept_message;
 mod kind;
 mod laws;
 mod lengths;
 pub mod limits;
 mod lines;
 mod message;
+mod message_room;
 mod reading;
 mod records;
 mod stream;
@@ -41,16 +43,18 @@ pub use bytes::{ballot_bytes, command_bytes, push_all, slot_bytes};
 pub use command_list::{CommandList, Commands};
 pub use decoding::decode;
 pub use encoding::{encode, encode_reserved};
-pub use entries::Entries;
+pub use entries::{Entries, ToldEntries};
 pub use entry::Entry;
 pub use fault::FrameFault;
 pub use feed::Feed;
+pub use kept_message::KeptMessage;
 pub use laws::{
     frames_are_short, frames_are_told_apart, frames_read_back, old_frames_read_back,
     readings_have_commands,
 };
 pub use lengths::{command_len, frame_len};
 pub use message::Message;
+pub use message_room::MessageRoom;
 pub use records::{
     read_ballot, read_command, read_commands, read_slot, write_ballot, write_ballot_reserved,
     write_command, write_command_reserved,

@@ -4,7 +4,7 @@ ghost use Rattle.std.specs.Prelude.{Some};
 ghost use Rattle.std.specs.List.{flat_map};
 ghost use Rattle.paxos_wire.specs.Lines.{action_line, command_line, further_line, commands_line, slots_line, run_line, message_line};
 
-use crate::command_list::CommandList;
+use crate::command_list::Commands;
 use crate::message::Message;
 use betting::Action;
 use slot_log::Command;
@@ -37,7 +37,7 @@ struct SlotsLine {
 #[derive(Clone, Copy)]
 struct RunLine<'a> {
     slot: u32,
-    commands: &'a CommandList,
+    commands: &'a Commands<'a>,
 }
 
 impl fmt::Display for ActionLine {
@@ -118,7 +118,7 @@ impl<'a> fmt::Display for RunLine<'a> {
     }
 }
 
-impl fmt::Display for Message {
+impl<'a> fmt::Display for Message<'a> {
     ghost output = { λ m. Some (message_line m) };
 
     fn fmt<W: fmt::Write>(&self, f: &mut fmt::Formatter<W>) -> fmt::Result {

@@ -1,11 +1,12 @@
 use crate::ballot::Ballot;
-use crate::command_list::CommandList;
-use crate::entries::Entries;
+use crate::command_list::Commands;
+use crate::entries::ToldEntries;
 use slot_log::Command;
 
-/// What a node says to another, after 'Paxos Made Simple'. Slots are counted from 0.
+/// What a node says to another, after 'Paxos Made Simple'. Slots are counted from 0. Its lists are borrowed: from the room
+/// into which it was read, or from whoever sends it.
 #[derive(Debug, Drop)]
-pub enum Message {
+pub enum Message<'a> {
     /// Asks for a promise to take no lower ballot, and for what was accepted from the slot on.
     Prepare {
         ballot: Ballot,
@@ -15,7 +16,7 @@ pub enum Message {
     Promise {
         ballot: Ballot,
         slot: u32,
-        entries: Entries,
+        entries: ToldEntries<'a>,
     },
     /// Refuses the ballot at the slot, since one that isn't below it was promised.
     Refuse {
@@ -27,14 +28,14 @@ pub enum Message {
     Accept {
         ballot: Ballot,
         slot: u32,
-        commands: CommandList,
+        commands: Commands<'a>,
     },
     /// Tells that the commands were accepted in the ballot, 1 to 64, the first at the slot and each further one at the slot
     /// behind.
     Accepted {
         ballot: Ballot,
         slot: u32,
-        commands: CommandList,
+        commands: Commands<'a>,
     },
     /// Tells that the command is chosen at the slot.
     Chosen {

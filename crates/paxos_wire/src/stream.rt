@@ -9,13 +9,16 @@ ghost use Rattle.paxos_wire.specs.Stream.{IsStreamOf, IsPartial, IsFaulty, IsRes
 
 use crate::fault::FrameFault;
 use crate::feed::Feed;
-use crate::message::Message;
+use crate::kept_message::KeptMessage;
+use crate::message_room::MessageRoom;
 use std::alloc::{AllocError, Global};
 
-/// Takes the next message out of a feed; `None` where there is none yet, an `Err` inside at the fault.
+/// Takes the next message out of a feed, through the room; `None` where there is none yet, an `Err` inside at the fault.
 fn take_message(
+    alloc: Global,
     feed: &mut Feed,
-    messages: &mut Vec<Message>,
+    room: &mut MessageRoom,
+    messages: &mut Vec<KeptMessage>,
 ) -> Result<Option<Result<(), FrameFault>>, AllocError>
     ensures stream { OnOk result ((stream : List ℕ) → IsStreamOf messages.old.items feed.old.waiting stream → IsStreamOf messages.new.items feed.new.waiting stream) }
     ensures each { AllByRecursion IsMessage messages.old.items → AllByRecursion IsMessage messages.new.items }
@@ -23,26 +26,29 @@ fn take_message(
     ensures taken { IfOk result (λ taken. IfSome taken (λ r. IfOk r (λ _. length feed.new.waiting < length feed.old.waiting))) }
     ensures fault { IfOk result (λ taken. IfSome taken (λ r. IfErr r (λ f. IsFaulty feed.new.waiting f))) }
 {
-    match feed.next() {
+    match feed.next(room) {
         None => Ok(None),
         Some(Ok(message)) => {
-            messages.push(message)?;
+            let kept = KeptMessage::of(alloc, &message)?;
+            messages.push(kept)?;
             Ok(Some(Ok(())))
         }
         Some(Err(fault)) => Ok(Some(Err(fault))),
     }
 }
 
-/// Takes every message that is whole out of a feed, up to its fault, if it has one.
+/// Takes every message that is whole out of a feed, through the room, up to its fault, if it has one.
 fn take_messages(
+    alloc: Global,
     feed: &mut Feed,
-    messages: &mut Vec<Message>,
+    room: &mut MessageRoom,
+    messages: &mut Vec<KeptMessage>,
 ) -> Result<Option<FrameFault>, AllocError>
     ensures stream { OnOk result ((stream : List ℕ) → IsStreamOf messages.old.items feed.old.waiting stream → IsStreamOf messages.new.items feed.new.waiting stream) }
     ensures each { AllByRecursion IsMessage messages.old.items → AllByRecursion IsMessage messages.new.items }
     ensures rest { IfOk result (λ fault. IsRest fault feed.new.waiting) }
 {
-    while let Some(taken) = take_message(feed, messages)? {
+    while let Some(taken) = take_message(alloc, feed, room, messages)? {
         if let Err(fault) = taken {
             return Ok(Some(fault));
         }
@@ -54,7 +60,7 @@ fn take_messages(
 pub fn read_stream(
     alloc: Global,
     pieces: &[Vec<u8>],
-) -> Result<(Vec<Message>, Option<FrameFault>), AllocError>
+) -> Result<(Vec<KeptMessage>, Option<FrameFault>), AllocError>
     // The stream is these messages, and then less than a frame, or this fault.
     ensures splits { IfOk result (λ x. Splits (flat_map (λ piece. piece.items) pieces.now) x.0.items x.1) }
     // It is no others, so it doesn't matter how the stream was cut into pieces.
@@ -62,10 +68,11 @@ pub fn read_stream(
         Splits (flat_map (λ piece. piece.items) pieces.now) others fault → (others ≡ x.0.items) × (fault ≡ x.1)) }
 {
     let mut feed = Feed::new(alloc);
+    let mut room = MessageRoom::new();
     let mut messages = Vec::new(alloc);
     for piece in pieces {
         feed.feed(piece)?;
-        if let Some(fault) = take_messages(&mut feed, &mut messages)? {
+        if let Some(fault) = take_messages(alloc, &mut feed, &mut room, &mut messages)? {
             return Ok((messages, Some(fault)));
         }
     }

@@ -38,6 +38,23 @@ pub none_waiting : (n : ℕ) (campaign : Campaign) → SLOTS ≤ campaign.first 
 unfolding waiting_by
 none_waiting n campaign past = none_counted n campaign WINDOW past
 
+-- ---- no command waits where none is told
+
+nowhere_by : (follows : Bool) (told : Option Entry) → told ≡ None → (if follows then is_some told else false) ≡ false
+nowhere_by follows (Some entry) e = absurd (cc)
+nowhere_by true None e = refl
+nowhere_by false None e = refl
+
+nowhere_counted : (n : ℕ) (campaign : Campaign) (places : ℕ) → ((slot : ℕ) → greatest_told campaign slot n ≡ None)
+    → count (λ place. is_waiting n campaign (campaign.first + place)) places ≡ 0
+nowhere_counted n campaign zero none = refl
+nowhere_counted n campaign (suc places) none =
+    rw (nowhere_by (may_follow campaign (campaign.first + places)) _ (none (campaign.first + places))) (nowhere_counted n campaign places none)
+
+pub nowhere_waiting : (n : ℕ) (campaign : Campaign) → ((slot : ℕ) → greatest_told campaign slot n ≡ None) → waiting_by n campaign ≡ 0
+unfolding waiting_by
+nowhere_waiting n campaign none = nowhere_counted n campaign WINDOW none
+
 pub all_counted : (n : ℕ) (campaign : Campaign) (waiting place : ℕ) → waiting ≡ count (λ p. is_waiting n campaign (campaign.first + p)) place → WINDOW ≤ place → place ≤ WINDOW → waiting ≡ waiting_by n campaign
 unfolding waiting_by
 all_counted n campaign waiting place counted low high =

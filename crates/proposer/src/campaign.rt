@@ -1,4 +1,4 @@
-ghost use Rattle.std.specs.Prelude.{◌≡◌, ℕ, ◌+◌, ◌-◌, ◌++◌, ◌<◌, ◌≤◌, length, is_some, None};
+ghost use Rattle.std.specs.Prelude.{◌≡◌, ℕ, ◌+◌, ◌-◌, ◌++◌, ◌<◌, ◌≤◌, length, is_some, None, IsTrue};
 ghost use Rattle.protocol_model.specs.Quorums.{count};
 ghost use Rattle.proposer.specs.Told.{better, best_in};
 ghost use Rattle.proposer.specs.CommandRuns.{may_follow, told_commands, commands_at, run_by, marked_places, with_marks, waiting_by};
@@ -260,6 +260,21 @@ impl Campaign {
         }))
     }
 
+    /// Whether no promise tells of an entry, and so of none at any slot.
+    fn tells_nothing(&self, nodes: u8) -> bool
+        requires { nodes ≤ NODES }
+        ensures { IsTrue result → (slot : ℕ) → greatest_told self.now slot nodes ≡ None }
+    {
+        for node in 0..nodes as usize {
+            if let Some(told) = &self.promises[node] {
+                if !told.is_empty() {
+                    return false;
+                }
+            }
+        }
+        true
+    }
+
     /// At how many of its slots a told command may follow.
     pub fn waiting(&self, nodes: u8) -> usize
         requires { nodes ≤ NODES }
@@ -267,6 +282,10 @@ impl Campaign {
         ensures most { result ≤ WINDOW }
     {
         if self.first >= SLOTS {
+            return 0;
+        }
+        // Mostly: a call that makes room asks each time, and a promise tells of what a leader before left open alone.
+        if self.tells_nothing(nodes) {
             return 0;
         }
         let mut waiting: usize = 0;

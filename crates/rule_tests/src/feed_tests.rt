@@ -6,7 +6,7 @@ use crate::frames::{
     ACCEPT_AWAY, ACCEPT_FRONT, ACCEPT_OF_TWO, ACCEPTED_OF_TWO, FORWARD, FORWARD_AWAY, LONG_ACCEPT,
     NO_FRAMES, OLD_FRAMES, PREPARE, PREPARE_OF_5, WRONG_RUNS, frame_of_calls, framed, writes,
 };
-use paxos_wire::{Ballot, Feed, FrameFault, Message, read_stream};
+use paxos_wire::{Ballot, Feed, FrameFault, KeptMessage, Message, MessageRoom, read_stream};
 use std::alloc::{AllocError, Global};
 use std::process::Abort;
 use std::test::Fail;
@@ -31,10 +31,10 @@ fn full_promise(alloc: Global) -> Result<Vec<u8>, AllocError> {
 }
 
 /// The next message of a feed, if there is one.
-fn next_message(feed: &mut Feed) -> Option<Message>
+fn next_message<'a>(feed: &mut Feed, room: &'a mut MessageRoom) -> Option<Message<'a>>
     ensures { IfSome result (λ message. Fits message) }
 {
-    match feed.next() {
+    match feed.next(room) {
         Some(Ok(message)) => Some(message),
         Some(Err(_)) | None => None,
     }
@@ -47,10 +47,11 @@ fn ends_with(
     feed: &mut Feed,
     frame: &[u8],
 ) -> Result<(), AllocError> {
-    let message = next_message(feed).expect(rt, "a frame is there");
+    let mut room = MessageRoom::new();
+    let message = next_message(feed, &mut room).expect(rt, "a frame is there");
     let mut out = Vec::new(alloc);
     writes(rt, &mut out, &message, frame)?;
-    holds!(rt; feed.next().is_none());
+    holds!(rt; feed.next(&mut room).is_none());
     Ok(())
 }
 
@@ -115,7 +116,7 @@ fn who_is_away_reads_the_same_cut_at_any_place(rt: HostRuntime) -> Result<(), Fa
 /// Gives a feed a piece that ends no frame.
 fn wants_more(rt: &impl Abort, feed: &mut Feed, piece: &[u8]) -> Result<(), AllocError> {
     feed.feed(piece)?;
-    holds!(rt; feed.next().is_none());
+    holds!(rt; feed.next(&mut MessageRoom::new()).is_none());
     Ok(())
 }
 
@@ -133,7 +134,8 @@ enum Next {
 
 /// What a feed answers.
 fn next_of(feed: &mut Feed) -> Next {
-    match feed.next() {
+    let mut room = MessageRoom::new();
+    match feed.next(&mut room) {
         None => Next::Nothing,
         Some(Ok(message)) => named(&message),
         Some(Err(fault)) => Next::Fault(fault),
@@ -304,11 +306,15 @@ fn a_stream_of_both_versions(rt: HostRuntime) -> Result<(), Fail> {
 fn says_the_same(
     rt: &impl Abort,
     alloc: Global,
-    one: &Message,
-    other: &Message,
+    one: &KeptMessage,
+    other: &KeptMessage,
 ) -> Result<(), AllocError> {
-    let line = format!(in alloc; "{other}")?;
-    prints(rt, alloc, one, line.as_str())
+    let mut room = MessageRoom::new();
+    let line = {
+        let message = other.read(&mut room);
+        format!(in alloc; "{message}")?
+    };
+    prints(rt, alloc, &one.read(&mut room), line.as_str())
 }
 
 #[test]

@@ -5,7 +5,7 @@ ghost use Rattle.std.specs.Prelude.{IfSome};
 ghost use Rattle.paxos_wire.specs.Fits.{Fits};
 
 use crate::asserting::holds;
-use paxos_wire::{FrameFault, Message, decode, encode};
+use paxos_wire::{FrameFault, Message, MessageRoom, decode, encode};
 use std::alloc::{AllocError, Global};
 use std::process::Abort;
 
@@ -273,10 +273,10 @@ pub(crate) fn framed(alloc: Global, body: &[u8]) -> Result<Vec<u8>, AllocError> 
 // Calls with long contracts stand in one function each: a contract is read anew wherever its call stands.
 
 /// The message of a frame.
-pub(crate) fn message_of(frame: &[u8]) -> Option<Message>
+pub(crate) fn message_of<'a>(frame: &[u8], room: &'a mut MessageRoom) -> Option<Message<'a>>
     ensures { IfSome result (λ message. Fits message) }
 {
-    match decode(frame) {
+    match decode(frame, room) {
         Ok(message) => Some(message),
         Err(_) => None,
     }
@@ -284,7 +284,8 @@ pub(crate) fn message_of(frame: &[u8]) -> Option<Message>
 
 /// The fault of bytes that are no frame.
 pub(crate) fn fault_of(bytes: &[u8]) -> Option<FrameFault> {
-    match decode(bytes) {
+    let mut room = MessageRoom::new();
+    match decode(bytes, &mut room) {
         Ok(_) => None,
         Err(fault) => Some(fault),
     }

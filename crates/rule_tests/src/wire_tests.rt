@@ -6,7 +6,7 @@ use crate::frames::{
     CHOSEN_AWAY, FORWARD, FORWARD_AWAY, LONG_ACCEPT, NO_FRAMES, OLD_FRAMES, PREPARE, PREPARE_OF_5,
     PROMISE, WRONG_RUNS, fault_of, frame_of_calls, framed, message_of, writes,
 };
-use paxos_wire::{FrameFault, Message, encode_reserved, frame_len};
+use paxos_wire::{FrameFault, Message, MessageRoom, encode_reserved, frame_len};
 use std::alloc::{AllocError, Global};
 use std::process::Abort;
 use std::test::Fail;
@@ -55,7 +55,8 @@ fn rewrites_and_prints(
     frame: &[u8],
     line: &str,
 ) -> Result<(), AllocError> {
-    let message = message_of(frame).expect(rt, "the bytes are a frame");
+    let mut room = MessageRoom::new();
+    let message = message_of(frame, &mut room).expect(rt, "the bytes are a frame");
     let mut out = Vec::new(alloc);
     writes(rt, &mut out, &message, frame)?;
     write_in_room(rt, &mut out, &message, frame.len())?;
@@ -78,7 +79,8 @@ fn reads_as_new(
     old: &[u8],
     frame: &[u8],
 ) -> Result<(), AllocError> {
-    let message = message_of(old).expect(rt, "the bytes are a frame");
+    let mut room = MessageRoom::new();
+    let message = message_of(old, &mut room).expect(rt, "the bytes are a frame");
     let mut out = Vec::new(alloc);
     writes(rt, &mut out, &message, frame)
 }

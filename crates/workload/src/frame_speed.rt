@@ -1,8 +1,8 @@
-ghost use Rattle.std.specs.Prelude.{◌<◌};
-ghost use Rattle.paxos_wire.specs.Fits.{Fits};
+ghost use Rattle.std.specs.List.{AllByRecursion};
+ghost use Rattle.paxos_wire.specs.Fits.{Fits, IsInRange};
 
 use deck_draw::draw;
-use paxos_wire::{Ballot, CommandList, Message, decode, encode};
+use paxos_wire::{Ballot, Commands, Message, MessageRoom, decode, encode};
 use slot_log::Command;
 use std::alloc::{AllocError, Global};
 use std::io;
@@ -10,18 +10,25 @@ use std::io;
 /// How often the frame is written, or read.
 const TIMES: u32 = 1_000_000;
 
-/// A proposal of a hand's deal for two players.
-fn proposal(hand: u32) -> Message
-    requires { hand < 10000 }
+/// The deal of hand 1 for two players.
+fn dealt() -> Command
+    ensures { IsInRange result }
+{
+    Command::Deal {
+        hand: 1,
+        deal: draw(1, 1, 2),
+    }
+}
+
+/// A proposal of a command.
+fn proposal(commands: &[Command; 1]) -> Message<'_>
+    requires { AllByRecursion IsInRange commands.now }
     ensures { Fits result }
 {
     Message::Accept {
         ballot: Ballot { round: 1, node: 0 },
-        slot: hand,
-        commands: CommandList::from_slice(&[Command::Deal {
-            hand,
-            deal: draw(1, hand, 2),
-        }]),
+        slot: 1,
+        commands: Commands::new(commands),
     }
 }
 
@@ -33,7 +40,8 @@ pub fn print_encoded(rt: &(impl Print + AllocGlobal)) -> io::Result<()> {
 
 /// How many bytes all frames have.
 fn encoded(alloc: Global) -> Result<u64, AllocError> {
-    let message = proposal(1);
+    let commands = [dealt()];
+    let message = proposal(&commands);
     let mut frame = Vec::new(alloc);
     let mut bytes = 0u64;
     for _ in 0..TIMES {
@@ -52,16 +60,18 @@ pub fn print_decoded(rt: &(impl Print + AllocGlobal)) -> io::Result<()> {
 
 /// How often the frame was read.
 fn times_read(alloc: Global) -> Result<u32, AllocError> {
+    let commands = [dealt()];
     let mut frame = Vec::new(alloc);
-    encode(&mut frame, &proposal(1))?;
+    encode(&mut frame, &proposal(&commands))?;
     Ok(decoded(&frame))
 }
 
 /// How often a frame reads as a message.
 fn decoded(frame: &[u8]) -> u32 {
+    let mut room = MessageRoom::new();
     let mut read = 0u32;
     for _ in 0..TIMES {
-        if decode(frame).is_ok() {
+        if decode(frame, &mut room).is_ok() {
             read = read.wrapping_add(1);
         }
     }

@@ -2,7 +2,7 @@ ghost use Rattle.std.specs.Prelude.{◌<◌, IfSome};
 ghost use Rattle.paxos_wire.specs.Fits.{Fits};
 
 use crate::verdicts::Verdicts;
-use paxos_wire::{FrameFault, Message, decode, encode};
+use paxos_wire::{FrameFault, Message, MessageRoom, decode, encode};
 use std::alloc::{AllocError, Global};
 use std::io;
 
@@ -38,7 +38,8 @@ fn is_right(alloc: Global, line: &str) -> Result<bool, AllocError> {
 
 /// Whether bytes read as a message that is written as the answer says, or as the fault that it names.
 fn reads_as(alloc: Global, bytes: &[u8], answer: &str) -> Result<bool, AllocError> {
-    match decode(bytes) {
+    let mut room = MessageRoom::new();
+    match decode(bytes, &mut room) {
         Ok(message) => is_written_so(alloc, &message, answer),
         Err(fault) => is_named_so(alloc, fault, answer),
     }

@@ -50,6 +50,8 @@ pub struct Group {
     bytes: Vec<u8>,
     /// The newest line of each seat.
     lines: [Vec<u8>; 2],
+    /// Where an earlier call put what it made.
+    out: Option<Out>,
     pub counts: Counts,
 }
 
@@ -63,6 +65,7 @@ impl Drop for Group {
             sent: _,
             bytes: _,
             lines: _,
+            out: _,
             counts: _,
         } = self;
     }
@@ -78,6 +81,7 @@ impl Group {
             sent: Vec::new(alloc),
             bytes: Vec::new(alloc),
             lines: [Vec::new(alloc), Vec::new(alloc)],
+            out: None,
             counts,
         }
     }
@@ -160,12 +164,25 @@ impl Group {
     /// Lets a node take an event, and keeps what it made.
     fn call(&mut self, node: u8, event: Event<'_>) -> Result<(), AllocError> {
         let is_seated = self.is_seated(node);
+        let mut out = self.emptied();
         let Some(peer) = self.peers.get_mut(usize::from(node)) else {
             return Ok(());
         };
-        let mut out = Out::new(self.alloc);
         take(peer, event, is_seated, &mut out, &mut self.counts);
-        self.keep(node, &out)
+        self.keep(node, &out)?;
+        self.out = Some(out);
+        Ok(())
+    }
+
+    /// Where a call may put what it makes.
+    fn emptied(&mut self) -> Out {
+        match self.out.take() {
+            Some(mut out) => {
+                out.clear();
+                out
+            }
+            None => Out::new(self.alloc),
+        }
     }
 
     /// Whether no frame comes to a node or from there.
@@ -222,6 +239,7 @@ impl Group {
     /// Delivers a frame that was sent.
     fn hand_on(&mut self, sent: Sent) -> Result<bool, AllocError> {
         let is_seated = self.is_seated(sent.to);
+        let mut out = self.emptied();
         let Some(bytes) = self.bytes.get(sent.start..sent.end) else {
             return Ok(false);
         };
@@ -229,12 +247,12 @@ impl Group {
         let Some(peer) = self.peers.get_mut(usize::from(sent.to)) else {
             return Ok(false);
         };
-        let mut out = Out::new(self.alloc);
         if peer.node.running() {
             let event = Event::Frame(sent.from, bytes);
             take(peer, event, is_seated, &mut out, &mut self.counts);
         }
         self.keep(sent.to, &out)?;
+        self.out = Some(out);
         Ok(true)
     }
 

@@ -11,20 +11,20 @@ use Rattle.dealer_node.proofs.voting.send_proposal.Goals as goal
 
 pub send_to_others-requires-clause-bytes : goal.send_to_others-requires-clause-bytes
 send_to_others-requires-clause-bytes c =
-    let bytes : most_bytes (Accept c.args.ballot c.args.slot c.from_slice.result) ≡ most_bytes (Accept c.args.ballot c.args.slot c.args.commands.now) =
-    ap (λ (cs : List Command). most_bytes (Accept c.args.ballot c.args.slot cs)) c.from_slice.ensures in
+    let bytes : most_bytes (Accept c.args.ballot c.args.slot c.new.result) ≡ most_bytes (Accept c.args.ballot c.args.slot c.args.commands.now) =
+    ap (λ (cs : List Command). most_bytes (Accept c.args.ballot c.args.slot cs)) c.new.ensures in
     let most = run_bytes c.args.commands.now c.nodes-nodes.result c.requires.run.least c.nodes-nodes.ensures.most in
     rw bytes (omega (arith, most, c.requires.bytes))
 
 pub returns-clause-fits : goal.returns-clause-fits
 returns-clause-fits c =
-    subst (λ (cs : List Command). AreMessages (to_others (place_at c.args.post.now) (Accept c.args.ballot c.args.slot cs))) c.from_slice.ensures
-    (messages_to c.args.post.now.nodes c.args.post.now.node c.nodes-nodes.result c.node.result (Accept c.args.ballot c.args.slot c.from_slice.result) c.nodes-nodes.ensures.value c.node.ensures.value c.send_to_others.ensures.fits)
+    subst (λ (cs : List Command). AreMessages (to_others (place_at c.args.post.now) (Accept c.args.ballot c.args.slot cs))) c.new.ensures
+    (messages_to c.args.post.now.nodes c.args.post.now.node c.nodes-nodes.result c.node.result (Accept c.args.ballot c.args.slot c.new.result) c.nodes-nodes.ensures.value c.node.ensures.value c.send_to_others.ensures.fits)
 
 pub returns-clause-grows : goal.returns-clause-grows
 returns-clause-grows c =
-    let bytes : most_bytes (Accept c.args.ballot c.args.slot c.from_slice.result) ≡ most_bytes (Accept c.args.ballot c.args.slot c.args.commands.now) =
-    ap (λ (cs : List Command). most_bytes (Accept c.args.ballot c.args.slot cs)) c.from_slice.ensures in
+    let bytes : most_bytes (Accept c.args.ballot c.args.slot c.new.result) ≡ most_bytes (Accept c.args.ballot c.args.slot c.args.commands.now) =
+    ap (λ (cs : List Command). most_bytes (Accept c.args.ballot c.args.slot cs)) c.new.ensures in
     let most = run_bytes c.args.commands.now c.nodes-nodes.result c.requires.run.least c.nodes-nodes.ensures.most in
     let room = rw bytes at c.send_to_others.ensures.byte_room in
     let size = rw bytes at c.send_to_others.ensures.size in

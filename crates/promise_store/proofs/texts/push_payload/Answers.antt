@@ -18,6 +18,6 @@ returns-in-Voted-clause-items c =
     c.push-in-Voted.ensures.items
     (c.push_all-in-Voted.ensures.items ∙ ap (λ (l : List ℕ). c.push-in-Voted.new.self.items ++ l) c.ballot_bytes-in-Voted.ensures)
     (c.push_all-in-Voted-2.ensures.items ∙ ap (λ (l : List ℕ). c.push_all-in-Voted.new.out.items ++ l) c.slot_bytes.ensures)
-    (c.push-in-Voted-2.ensures.items ∙ ap (λ (n : ℕ). c.push_all-in-Voted-2.new.out.items ++ n ∷ []) c.len.ensures)
-    (c.push_commands.ensures.items ∙ ap (λ (cs : List Command). c.push-in-Voted-2.new.self.items ++ flat_map command_text cs) c.as_slice.ensures)
+    (c.push-in-Voted-2.ensures.items ∙ ap (λ (n : ℕ). c.push_all-in-Voted-2.new.out.items ++ n ∷ []) c.len.ensures.value)
+    (c.push_commands.ensures.items ∙ ap (λ (cs : List Command). c.push-in-Voted-2.new.self.items ++ flat_map command_text cs) c.as_slice.ensures.value)
     ∙ ap (λ (r : Record). c.args.bytes.now.items ++ payload r) (sym c.in-Voted.is)

@@ -23,9 +23,9 @@ returns-in-Ok-clause-taken g c = λ s honest seen.
     let has = sym c.take.ensures.value ∙ c.in-Some.is in
     let there = seen_down g.D.Disk c.args.self.now c.self.inside c.in-Some.disk s c.self.view_is down has seen in
     let out : told_by c.ready.new.out ≡ c.args.out.now = c.ready.ensures.same ∙ c.out.view_is in
-    started_at g.D.Disk c.args.self.now c.self.inside c.in-Some.disk c.take.new.self c.in-Ok.up s c.args.out.now (told_by c.append.new.self) c.self.view_is down has seen
-    (starts_behind g.D.Disk c.self.inside.post s.store s.begun c.in-Some.disk c.in-Ok.up (told_by c.in_ok-running.made) (told_by c.open.new.made) c.args.out.now (told_by c.append.new.self)
-    c.in_ok-running.ensures.nothing (c.append.ensures ∙ ap (λ (t : Told). both_told t (told_by c.open.new.made)) out)
+    started_at g.D.Disk c.args.self.now c.self.inside c.in-Some.disk c.take.new.self c.in-Ok.up s c.args.out.now (told_by c.append_owned.new.self) c.self.view_is down has seen
+    (starts_behind g.D.Disk c.self.inside.post s.store s.begun c.in-Some.disk c.in-Ok.up (told_by c.in_ok-running.made) (told_by c.open.new.made) c.args.out.now (told_by c.append_owned.new.self)
+    c.in_ok-running.ensures.nothing (c.append_owned.ensures ∙ ap (λ (t : Told). both_told t (told_by c.open.new.made)) out)
     (c.in-Ok.ensures.starts s.store s.begun honest there.by.leaves))
 
 pub returns-in-Err-clause-taken : goal.returns-in-Err-clause-taken
@@ -75,5 +75,5 @@ returns-in-Err-clause-shows g c = none_shown (most_shown_of c.args.self.now) c.a
 -- the header of the log alone
 pub returns-in-Ok-clause-shows : goal.returns-in-Ok-clause-shows
 returns-in-Ok-clause-shows g c =
-    start_shown (most_shown_of c.args.self.now) c.in_ok-running.made c.open.new.made c.args.out.now (told_by c.ready.new.out) (told_by c.append.new.self) c.in_ok-running.ensures.nothing
-    c.append.ensures (c.ready.ensures.same ∙ c.out.view_is) c.in-Ok.ensures.texts c.in-Ok.ensures.text_bytes (omega arith) (omega arith)
+    start_shown (most_shown_of c.args.self.now) c.in_ok-running.made c.open.new.made c.args.out.now (told_by c.ready.new.out) (told_by c.append_owned.new.self) c.in_ok-running.ensures.nothing
+    c.append_owned.ensures (c.ready.ensures.same ∙ c.out.view_is) c.in-Ok.ensures.texts c.in-Ok.ensures.text_bytes (omega arith) (omega arith)

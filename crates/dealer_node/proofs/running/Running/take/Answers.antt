@@ -1,10 +1,11 @@
-use Rattle.std.proofs.Common.{◌≡◌, List, sym, subst, refl}
+use Rattle.std.proofs.Common.{◌≡◌, List, ap, sym, subst, refl, ◌∙◌}
 use Rattle.std.proofs.lemmas.Result.{on_ok_weaker}
 use Rattle.paxos_wire.specs.declared.message.Message.{Message}
 use Rattle.slot_log.specs.declared.command.Command.{Command}
 use Rattle.learner.specs.Learning.{answer_to_chosen, believing}
 use Rattle.learner.specs.CommandRuns.{answer_to_run, hearing_run}
-use Rattle.proposer.specs.Campaigns.{Proposing}
+use Rattle.paxos_wire.specs.declared.entry.Entry.{Entry}
+use Rattle.proposer.specs.Campaigns.{Proposing, counting}
 use Rattle.proposer.specs.CommandRuns.{IsBounded}
 use Rattle.node_rules.specs.Rules.{taking}
 use Rattle.node_rules.specs.Learning.{counting_votes, telling}
@@ -13,7 +14,7 @@ use Rattle.node_rules.specs.Seats.{taking_over}
 use Rattle.dealer_node.specs.Posts.{place_at}
 use Rattle.dealer_node.specs.Outs.{told_by}
 use Rattle.dealer_node.specs.declared.running.Running.{Running}
-use Rattle.dealer_node.specs.Running.{TakesTurn, IsBoundedBehind}
+use Rattle.dealer_node.specs.Running.{IsRunning, TakesTurn, IsBoundedBehind}
 use Rattle.dealer_node.specs.Memory.{TakesInMemory}
 use Rattle.dealer_node.proofs.Remembered.{counted_keeps, refused_keeps, learned_keeps, believed_keeps, still_taken}
 use Rattle.dealer_node.proofs.running.Running.take.Goals as goal
@@ -23,7 +24,7 @@ returns-in-Promise-clause-ok c = λ s is.
     let place = place_at c.args.post.now in
     subst (λ (m : Message). TakesInMemory c.args.post.now c.count_promise.new.self (told_by c.args.made.now) (told_by c.args.made.now) s (taking place c.args.from m s)) (sym c.in-Promise.is)
     (still_taken c.args.post.now c.count_promise.new.self s (counting_promise place c.args.from c.in-Promise.ballot c.in-Promise.slot c.in-Promise.entries s).after (told_by c.args.made.now)
-    (c.count_promise.ensures.runs s is) (counted_keeps place.nodes s c.args.from c.in-Promise.ballot c.in-Promise.slot c.in-Promise.entries))
+    (subst (λ (es : List Entry). IsRunning c.args.post.now c.count_promise.new.self (counting_promise place c.args.from c.in-Promise.ballot c.in-Promise.slot es s).after) c.list.ensures (c.count_promise.ensures.runs s is)) (counted_keeps place.nodes s c.args.from c.in-Promise.ballot c.in-Promise.slot c.in-Promise.entries))
 
 pub returns-in-Refuse-clause-ok : goal.returns-in-Refuse-clause-ok
 returns-in-Refuse-clause-ok c = λ s is.
@@ -77,7 +78,8 @@ returns-in-Forward-clause-ok c = λ s is.
 -- a promise is counted, or rightly passed over
 pub returns-in-Promise-clause-bounded : goal.returns-in-Promise-clause-bounded
 returns-in-Promise-clause-bounded c = λ most bounded.
-    subst (λ (p : Proposing). IsBounded p most) (sym c.count_promise.ensures.counts)
+    let counts = c.count_promise.ensures.counts ∙ ap (λ (es : List Entry). counting c.args.self.now.proposer c.args.from c.in-Promise.ballot c.in-Promise.slot es) c.list.ensures in
+    subst (λ (p : Proposing). IsBounded p most) (sym counts)
     (subst (λ (m : Message). IsBoundedBehind c.args.self.now.proposer m most) c.in-Promise.is bounded c.args.from)
 
 pub returns-in-Refuse-clause-bounded : goal.returns-in-Refuse-clause-bounded

@@ -9,7 +9,7 @@ use Rattle.dealer_node.proofs.up.Up.propose.Goals as goal
 
 pub returns-clause-left : goal.returns-clause-left
 returns-clause-left g c need answers more frames left =
-    let same : c.as_slice-commands.result.now ≡ c.args.proposal.now.commands = c.as_slice-commands.ensures in
+    let same : c.as_slice-commands.result.now ≡ c.args.proposal.now.commands = c.as_slice-commands.ensures.value in
     let k : ℕ = length c.as_slice-commands.result.now in
     let some : 1 ≤ k = subst (λ (cs : List Command). 1 ≤ length cs) (sym same) c.requires.run.least in
     c.vote.ensures.left need answers more frames
@@ -20,4 +20,4 @@ returns-clause-left g c need answers more frames left =
 pub returns-clause-works : goal.returns-clause-works
 returns-clause-works g c s honest is own =
     propose_works g.D.Disk c.args.post.now s c.args.proposal.now c.as_slice-commands.result.now c.args.self.now c.vote.new.self (told_by c.args.made.now) (told_by c.vote.new.made) c.send_proposal.new.frames.texts c.vote.result
-    c.as_slice-commands.ensures is own c.send_proposal.ensures.texts c.send_proposal.ensures.fits (c.vote.ensures.works s honest is)
+    c.as_slice-commands.ensures.value is own c.send_proposal.ensures.texts c.send_proposal.ensures.fits (c.vote.ensures.works s honest is)
