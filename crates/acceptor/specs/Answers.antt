@@ -63,10 +63,11 @@ answer_to_prepare ballot slot store =
 abbrev pub refusal_of_prepare : Ballot → ℕ → Ballot → Option PrepareAnswer
 refusal_of_prepare ballot slot promise = if is_below promise ballot then None else Some (RefusePrepare ballot slot promise)
 
+-- what is kept then: with the promise, where it is made
 abbrev pub prepared : Ballot → Store → Store
 prepared ballot store = if is_below store.promise ballot then promised store ballot else store
 
--- an answer that a frame carries: of that ballot and slot, its numbers within their ranges
+-- an answer that a frame carries: of that ballot and slot, its numbers within their ranges, its entries among the 64 slots and rising
 abbrev pub AnswersPrepare : Ballot → ℕ → PrepareAnswer → Type 0
 AnswersPrepare ballot slot (Promise b s entries) = (b ≡ ballot) × (s ≡ slot) × AreEntries slot entries
 AnswersPrepare ballot slot (RefusePrepare b s promise) = (b ≡ ballot) × (s ≡ slot) × IsBallot promise
@@ -105,6 +106,7 @@ answer_to_run ballot slot commands store =
 abbrev pub refusal_of_run : Ballot → ℕ → Ballot → Option RunAnswer
 refusal_of_run ballot slot promise = if is_below ballot promise then Some (RefuseRun ballot slot promise) else None
 
+-- what is kept then: with the votes that are taken, where they are
 abbrev pub accepted_run : Ballot → ℕ → List Command → Store → Store
 accepted_run ballot slot commands store =
     if is_below ballot store.promise then store else taking_command_run store ballot slot commands

@@ -48,9 +48,11 @@ pub record IsNotPromised (ballot : Ballot) (slot : ℕ) (store : Store) : Type 0
   pub answer : answer_to_prepare ballot slot store ≡ RefusePrepare ballot slot store.promise
   pub kept : prepared ballot store ≡ store
 
+-- a ballot above what was promised
 abbrev pub PromisesAbove : Type 0
 PromisesAbove = (ballot : Ballot) (slot : ℕ) (store : Store) → Below store.promise ballot → IsPromised ballot slot store
 
+-- any other
 abbrev pub RefusesOthers : Type 0
 RefusesOthers = (ballot : Ballot) (slot : ℕ) (store : Store) → ¬ Below store.promise ballot → IsNotPromised ballot slot store
 
@@ -66,13 +68,16 @@ pub record IsAccepted (ballot : Ballot) (slot : ℕ) (command : Command) (store 
       × (stored_in (store.votes slot) ballot command ≡ command)
       × ((vote : Vote) → store.votes slot ≡ Some vote → vote.ballot ≡ ballot → ⊥))
 
+-- refused, and nothing is stored
 pub record IsNotAccepted (ballot : Ballot) (slot : ℕ) (command : Command) (store : Store) : Type 0 where
   pub answer : answer_to_accept ballot slot command store ≡ RefuseAccept ballot slot store.promise
   pub kept : accepted ballot slot command store ≡ store
 
+-- a ballot that isn't below what was promised
 abbrev pub AcceptsAtMost : Type 0
 AcceptsAtMost = (ballot : Ballot) (slot : ℕ) (command : Command) (store : Store) → AtMost store.promise ballot → IsAccepted ballot slot command store
 
+-- any other
 abbrev pub RefusesBelow : Type 0
 RefusesBelow = (ballot : Ballot) (slot : ℕ) (command : Command) (store : Store) → ¬ AtMost store.promise ballot → IsNotAccepted ballot slot command store
 
@@ -124,5 +129,6 @@ RunVotesStand =
     (ballot : Ballot) (slot : ℕ) (commands : List Command) (store : Store) (other : ℕ) (vote : Vote) → IsWithinPromise store → store.votes other ≡ Some vote
     → HasVote (accepted_run ballot slot commands store) other vote
 
+-- no vote is of a ballot above the promise, from then on too
 abbrev pub RunsStayWithin : Type 0
 RunsStayWithin = (ballot : Ballot) (slot : ℕ) (commands : List Command) (store : Store) → IsWithinPromise store → IsWithinPromise (accepted_run ballot slot commands store)

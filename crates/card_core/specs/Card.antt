@@ -1,7 +1,7 @@
 -- Cards as the ACPC protocol writes them: a rank's letter, then a suit's.
 use Rattle.std.specs.Prelude.{ℕ, ◌/◌, ◌%◌, List, [], ◌∷◌, codes, slice_index}
 
--- from 0 (two) to 12 (ace)
+-- from 0 (two) to 12 (ace): a card's number is 4 * rank + suit
 abbrev pub rank_of : ℕ → ℕ
 rank_of card = card / 4
 

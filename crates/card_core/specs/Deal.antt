@@ -8,7 +8,7 @@ pub record IsDeal (players : ℕ) (cards : List ℕ) : Type 0 where
   pub cards_of_the_pack : AllByRecursion (λ card. card < 52) cards
   pub distinct : IsDistinct nat_eq cards
 
--- for how many players a deal is
+-- for how many players a deal is: half of what is left without the board
 abbrev pub player_count : List ℕ → ℕ
 player_count cards = (length cards - 5) / 2
 

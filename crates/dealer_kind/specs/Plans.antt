@@ -22,7 +22,7 @@ plan game name word names hands sources = record {
 abbrev pub HasNodes : ℕ → Type 0
 HasNodes nodes = (nodes ≡ 3) ⊎ ((nodes ≡ 5) ⊎ (nodes ≡ 7))
 
--- what holds of every match
+-- what holds of every match: 1 to 10000 hands, a name for each seat, no two the same
 pub record IsSetting (setting : Setting) : Type 0 where
   pub is_game : IsGame setting.game
   pub match_name : IsName setting.title.name

@@ -5,6 +5,7 @@ use Rattle.promise_store.specs.FaultText.{fault_text as store_fault_text}
 use Rattle.dealer_node.specs.declared.fault.NodeFault.{NodeFault}
 use Rattle.dealer_node.specs.declared.fault.NodeFault.TheVariants.{Down, Store, OutOfMemory, Spent, BadFrame, Conflict, NothingToAct}
 
+-- the number of a fault
 abbrev pub code_of : NodeFault → ℕ
 code_of Down = 90
 code_of (Store fault) = 91
@@ -14,6 +15,7 @@ code_of (BadFrame fault) = 94
 code_of Conflict = 95
 code_of NothingToAct = 96
 
+-- what it prints as
 abbrev pub fault_text : NodeFault → List ℕ
 fault_text Down = codes "90 Down"
 fault_text (Store fault) = codes "91 Store " ++ store_fault_text fault

@@ -4,6 +4,7 @@ use Rattle.slot_log.specs.Hand.{Match}
 use Rattle.dealer_node.specs.declared.up.Up.{Up}
 use Rattle.dealer_node.specs.Posts.{Post}
 
+-- what a node has while it is down, and while it runs
 pub record Node (D : Type 0) : Type 0 where
   pub post : Post
   -- the table that it shows while it is down

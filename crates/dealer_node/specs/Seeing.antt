@@ -56,11 +56,13 @@ module _ {D : Type 0} (g : Ghosts D) where
     pub stopped : s ≡ stopped (place_at post) s.store s.begun
     pub leaves : Leaves g (head_of post) s.store s.begun disk
 
+  -- by whether the node runs
   abbrev pub IsSeenBy : Post → Option (Up D) → Option D → Standing → Type 0
   IsSeenBy post (Some up) disk s = IsUp g post up s
   IsSeenBy post None (Some disk) s = IsDown post disk s
   IsSeenBy post None None s = ⊥
 
+  -- the node is seen as this standing
   pub record IsSeen (node : Node D) (s : Standing) : Type 0 where
     pub by : IsSeenBy (post_in node) node.up node.disk s
     -- what it shows while it is down

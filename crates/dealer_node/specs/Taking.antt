@@ -63,6 +63,7 @@ MayFail (call.Frame from bytes) outcome = IsDone outcome
 MayFail (Line seat bytes) outcome = IsDone outcome
 MayFail other outcome = ⊥
 
+-- a call that ended so
 abbrev pub FailsRightly : (place : Place) (s : Standing) (called : Call) (after : Standing) (frames : List Frame) (shown : List Piece)
     → Ends place s called after frames shown → Type 0
 FailsRightly place s called after frames shown (took turn rule e f g) = Unit {0}

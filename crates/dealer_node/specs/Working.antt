@@ -55,6 +55,7 @@ TellsNoStore (frame.Promise ballot slot entries) = ⊥
 TellsNoStore (frame.Accepted ballot slot commands) = ⊥
 TellsNoStore other = Unit {0}
 
+-- all frames of a turn are such
 abbrev pub AreStill : List Frame → Type 0
 AreStill frames = (sent : Frame) → In sent frames → TellsNoStore sent.message
 
@@ -66,6 +67,7 @@ IsOfPart (Err fault.Conflict) = Unit {0}
 IsOfPart (Err other) = ⊥
 
 module _ {D : Type 0} where
+  -- the disk of its store
   abbrev pub disk_under : Up D → D
   disk_under up = disk_of (store_of up.acceptor)
 

@@ -191,8 +191,8 @@ impl<D: Disk + Drop> Up<D> {
         self.vote(post, proposal.ballot, proposal.slot, commands, told, made)
     }
 
-    /// The end of each call: a node that leads proposes from its front on, once in a ballot. There is room for so many
-    /// commands as it proposes at most.
+    /// The end of each call: a node that leads proposes from its front on, once at a slot in a ballot. There is room for so
+    /// many commands as it proposes at most.
     pub(crate) fn close(
         &mut self,
         post: &Post,

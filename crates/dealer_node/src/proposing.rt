@@ -162,8 +162,8 @@ impl Running {
         self.proposer.is_leading()
     }
 
-    /// What a node that leads proposes from its front on, once in a ballot, where a slot is left; it is marked as proposed.
-    /// Outside of the slots that its ballot covers the node leads no longer.
+    /// What a node that leads proposes from its front on, once at a slot in a ballot, where one is left; it is marked as
+    /// proposed. Outside of the slots that its ballot covers the node leads no longer.
     fn propose<'a>(&mut self, post: &Post, room: &'a mut CommandList) -> Option<AcceptRun<'a>>
         requires at { IsAt post.now self.old }
         requires left { front self.old.learner.learned.log < SLOTS }
@@ -185,8 +185,8 @@ impl Running {
     }
 
     /// What a node that leads proposes at the end of a call: all that is told from its front on, slot by slot, or its own
-    /// value at the front, once in a ballot; it is marked as proposed. Outside of the slots that its ballot covers the node
-    /// leads no longer, nor where no slot is left. The commands stand in the room that is handed in.
+    /// value at the front, once at a slot in a ballot; it is marked as proposed. Outside of the slots that its ballot covers
+    /// the node leads no longer, nor where no slot is left. The commands stand in the room that is handed in.
     pub(crate) fn proposal<'a>(
         &mut self,
         post: &Post,

@@ -29,6 +29,7 @@ IsEvent (event.Drop node seat) other = ⊥
 IsEvent (event.Stop node pick) other = ⊥
 IsEvent (event.Start node) other = ⊥
 
+-- and so of all, none left out and none more
 abbrev pub AreEvents : List Event → List calm.Event → Type 0
 AreEvents [] [] = Unit {0}
 AreEvents [] (other ∷ others) = ⊥

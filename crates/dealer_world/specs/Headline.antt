@@ -71,10 +71,12 @@ pub record IsOfOneList (dealer : Dealer) (commands : List Command) (all : Record
   pub of_beginnings : (text : Shown) → In text texts → IsOfBeginning dealer commands text
   pub forward : NeverGoesBack texts
 
+-- it is so of each era
 abbrev pub InEach : (Era → Type 0) → List Era → Type 0
 InEach IsSo [] = Unit {0}
 InEach IsSo (era ∷ before) = IsSo era × InEach IsSo before
 
+-- and of one of them
 abbrev pub InSome : (Era → Type 0) → List Era → Type 0
 InSome IsSo [] = ⊥
 InSome IsSo (era ∷ before) = IsSo era ⊎ InSome IsSo before

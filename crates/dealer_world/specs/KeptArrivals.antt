@@ -20,6 +20,7 @@ arrived_of (what.Connect node seat) bytes = Connected node seat
 arrived_of (what.Drop node seat) bytes = Dropped node seat
 arrived_of (what.Away node front) bytes = Ordered node front
 
+-- and how many frames had been sent before it
 abbrev pub arrival_of : What → ℕ → List ℕ → Arrival
 arrival_of kind sent_before bytes = record { what = arrived_of kind bytes; sent_before = sent_before }
 

@@ -18,6 +18,7 @@ abbrev pub reader_by : Reader → model.Reader
 reader_by (Seat seat) = model.Seat seat
 reader_by Log = model.Log
 
+-- what was shown, with this text
 abbrev pub piece_by : ℕ → ℕ → Reader → List ℕ → Piece
 piece_by node start reader text = record { node = node; start = start; reader = reader_by reader; text = text }
 

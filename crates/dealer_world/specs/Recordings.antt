@@ -13,6 +13,7 @@ use Rattle.dealer_world.specs.KeptShown.{reader_by}
 abbrev pub frame_by : ℕ → Marked ℕ → Frame
 frame_by node posted = record { from = node; to = posted.mark; bytes = posted.text }
 
+-- a text that it showed
 abbrev pub text_by : Marked Reader → Text
 text_by shown = record { reader = reader_by shown.mark; text = shown.text }
 

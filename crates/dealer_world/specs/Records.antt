@@ -39,6 +39,7 @@ pub record Piece : Type 0 where
   pub reader : Reader
   pub text : List ℕ
 
+-- what was sent and delivered, the starts, and what was shown, each in its order
 pub record Record : Type 0 where
   pub sent : List Frame
   pub delivered : List Arrival
@@ -103,6 +104,7 @@ abbrev pub messages_of : ℕ → Result Content FrameFault → List Message
 messages_of from (Ok content) = carried from content
 messages_of from (Err fault) = []
 
+-- what a frame says
 abbrev pub said_by : Frame → List Message
 said_by frame = messages_of frame.from (reading frame.bytes)
 

@@ -37,6 +37,7 @@ arrived_by i front (Connect seat) = Connected i seat ∷ []
 arrived_by i front (Drop seat) = Dropped i seat ∷ []
 arrived_by i front Stop = []
 
+-- at a node that is down nothing arrives
 abbrev pub arrived_at : Bool → ℕ → ℕ → Call → List Arrived
 arrived_at true i front called = arrived_by i front called
 arrived_at false i front called = []

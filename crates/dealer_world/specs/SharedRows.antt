@@ -15,6 +15,7 @@ text_of texts number = bytes_in (slice_get texts number)
 abbrev pub row_by : {U T : Type 0} → List (Row U) → Numbered T → Row T
 row_by texts entry = record { mark = entry.mark; text = text_of texts entry.text }
 
+-- the rows of entries, in order
 abbrev pub rows_by : {U T : Type 0} → List (Row U) → List (Numbered T) → List (Row T)
 rows_by texts entries = map (row_by texts) entries
 

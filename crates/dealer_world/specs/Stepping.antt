@@ -67,6 +67,7 @@ may_begin is_up (event.Stop node pick) = false
 may_begin true (event.Start node) = false
 may_begin false (event.Start node) = true
 
+-- where the call goes well
 abbrev pub begins_by_event : Bool → Event → Result (Unit {0}) NodeFault → Bool
 begins_by_event is_up e answer = if is_ok answer then may_begin is_up e else false
 

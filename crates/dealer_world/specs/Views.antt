@@ -3,9 +3,11 @@ use Rattle.std.specs.Prelude.{ℕ, Bool, if◌then◌else◌, List, [], ◌∷�
 use Rattle.dealer_world.specs.Records.{Record, Arrived, Arrival, Start, Piece, start_count, last_start}
 use Rattle.dealer_world.specs.Calls.{Text, Made}
 
+-- what arrived, with the count of frames before it
 abbrev pub placed_at : ℕ → Arrived → Arrival
 placed_at count what = record { what = what; sent_before = count }
 
+-- a text, as what the node showed within this start
 abbrev pub piece_of : ℕ → ℕ → Text → Piece
 piece_of node start text = record { node = node; start = start; reader = text.reader; text = text.text }
 

@@ -19,7 +19,7 @@ generator_of seed hand = record (of_seed (to_le_bytes w64 seed ++ replicate 24 0
 abbrev pub stream_of_hand : ℕ → ℕ → Stream
 stream_of_hand seed hand = stream_of (steps_u32 (next_word 10)) (generator_of seed hand)
 
--- the pack, shuffled once
+-- the pack, shuffled once by rand's shuffle
 unfoldable pub deck_of : ℕ → ℕ → List ℕ
 deck_of seed hand = (shuffled pack 0 (stream_of_hand seed hand)).0
 

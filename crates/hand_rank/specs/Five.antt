@@ -44,7 +44,7 @@ straight_top counts = find (is_straight_from counts) (12 ∷ 11 ∷ 10 ∷ 9 ∷
 unfoldable pub groups_of : ℕ → List ℕ → ℕ
 groups_of size counts = count_by (λ count. count == size) counts
 
--- straight flush, four of a kind, full house, flush, straight, three of a kind, two pairs, pair, high card
+-- the first of these that the cards are: straight flush, four of a kind, full house, flush, straight, three of a kind, two pairs, pair, high card
 unfoldable pub category_of : Bool → Bool → List ℕ → ℕ
 category_of flush straight counts =
     if flush && straight then 8

@@ -64,6 +64,7 @@ abbrev pub ChosenCounts : Type 0
 ChosenCounts =
     (messages : List Message) (l : Learned) (slot : ℕ) (command : Command) → CountsFrom messages l → CountsFrom messages (believing l slot command)
 
+-- and leaves nothing out that came
 abbrev pub ChosenCountsAll : Type 0
 ChosenCountsAll =
     (came : List Message) (l : Learned) (slot : ℕ) (command : Command) → CountsAll came l → CountsAll came (believing l slot command)

@@ -12,6 +12,7 @@ use Rattle.learner.specs.declared.chosen.Chosen.{Chosen}
 use Rattle.learner.specs.Same.{is_same}
 use Rattle.learner.specs.Tallies.{nodes_for, with_node, is_completed}
 
+-- what a learner counted and knows
 pub record Learned : Type 0 where
   -- the count of nodes
   pub nodes : ℕ
@@ -64,9 +65,11 @@ emptied slot (suc more) cells = slice_set (emptied slot more cells) ((slot + mor
 abbrev pub moved : Learned → Log → Learned
 moved l log = record l { cells = emptied (front l.log) (front log - front l.log) l.cells; log = log }
 
+-- and with the command that is known at the slot
 abbrev pub knowing : Learned → ℕ → Command → Learned
 knowing l slot command = moved l (known_with l.log slot command)
 
+-- with the node's answer counted at the slot
 abbrev pub counting : Learned → ℕ → Ballot → ℕ → Command → Learned
 counting l from ballot slot command =
     record l { cells = slice_set l.cells (slot % WINDOW) (with_node ballot command from (tallies_at l.cells slot)) }
@@ -98,6 +101,7 @@ hearing l from ballot slot command =
 
 -- ---- a node's word comes that the command was chosen
 
+-- 30 where another command is known at an open slot
 abbrev pub answer_to_chosen : Log → ℕ → Command → Result (Unit {0}) SlotFault
 answer_to_chosen log slot command =
     if not (is_open log slot) then Ok tt

@@ -22,6 +22,7 @@ is_same_action (Raise m) Fold = false
 is_same_action (Raise m) Call = false
 is_same_action (Raise m) (Raise n) = m == n
 
+-- the two commands are the same
 unfoldable pub is_same : Command → Command → Bool
 is_same (Deal h c) (Deal k d) = if h == k then is_same_deal c d else false
 is_same (Deal h c) (Act k j b) = false

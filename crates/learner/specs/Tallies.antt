@@ -30,7 +30,7 @@ abbrev pub skipped : Ballot → Command → List Tally → ℕ
 skipped ballot command [] = 0
 skipped ballot command (tally ∷ tallies) = if is_of ballot command tally then 0 else 1 + skipped ballot command tallies
 
--- the nodes that accepted the command in the ballot
+-- the nodes that accepted the command in the ballot: nodes are counted, not frames, and ballots and commands are counted apart
 abbrev pub nodes_for : Ballot → Command → List Tally → List Bool
 nodes_for ballot command [] = no_nodes
 nodes_for ballot command (tally ∷ tallies) = if is_of ballot command tally then tally.nodes else nodes_for ballot command tallies

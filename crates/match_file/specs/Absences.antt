@@ -6,6 +6,7 @@ use Rattle.match_file.specs.declared.absent.Absent.TheVariants.{Wait, Play}
 use Rattle.match_file.specs.declared.key.Key.TheVariants.{Away}
 use Rattle.match_file.specs.Matches.{entry_at}
 
+-- as it stands in a match file
 abbrev pub absent_text : Absent → List ℕ
 absent_text Wait = codes "wait"
 absent_text Play = codes "play"
@@ -15,5 +16,6 @@ abbrev pub SaysOf : Option Data → Absent → Type 0
 SaysOf None absent = absent ≡ Wait
 SaysOf (Some entry) absent = entry ≡ string (absent_text absent)
 
+-- what stands at its key
 abbrev pub SaysAbsent : Members → Absent → Type 0
 SaysAbsent table absent = SaysOf (entry_at Away table) absent

@@ -4,6 +4,7 @@ use Rattle.std.specs.Coded.{Coded-set, coded_ℕ, coded_list, Π_prop}
 use Rattle.match_links.specs.Passages.{Passage, Told, passages_code, lines_in, log_of}
 use Rattle.match_links.specs.declared.memory_links.Told as line
 
+-- a line that was told, as what passed
 abbrev pub told_by : line.Told → Passage
 told_by told = Told told.node told.seat told.line.items
 

@@ -4,9 +4,11 @@ use Rattle.match_links.specs.Passages.{Passage}
 use Rattle.match_links.specs.declared.callers.Caller.{Caller}
 use Rattle.match_links.specs.declared.memory_links.MemoryLinks.{MemoryLinks}
 
+-- what passed
 abbrev pub passed_of : MemoryLinks → List Passage
 passed_of links = links.passed.items
 
+-- the connections that they have
 abbrev pub callers_of : MemoryLinks → List Caller
 callers_of links = links.callers.all.items
 

@@ -13,6 +13,7 @@ piece_len bytes = min (1 + position_or_len is_line_feed bytes) (length bytes)
 abbrev pub part_len : ℕ → List ℕ → ℕ
 part_len room bytes = min (piece_len bytes) room
 
+-- nothing came
 abbrev pub is_empty : List ℕ → Bool
 is_empty bytes = length bytes == 0
 

@@ -4,9 +4,11 @@ use Rattle.std.specs.List.{remove}
 use Rattle.match_links.specs.Waiting.{can_sit, is_over}
 use Rattle.match_links.specs.declared.held.Held.{Held}
 
+-- he can be seated
 abbrev pub sits : Held → Bool
 sits held = can_sit held.input.bytes.items held.ended
 
+-- he isn't over
 abbrev pub stays : Held → Bool
 stays held = not (is_over held.input.bytes.items held.ended)
 

@@ -44,7 +44,7 @@ pub struct Told {
 }
 
 /// Links in memory: connections that wait from the start, each with all that it sends; what was told to seats; a log
-/// for each node. Nodes are counted from 0, to 4.
+/// for each node. Nodes are counted from 0, to 6.
 ///
 /// Connections that wait at a node when its ports are closed, or while the seat is awaited elsewhere, go on waiting: they
 /// stand for bots that dial again. Nobody comes later than the start: a call that nobody is there for fails at once, and

@@ -34,7 +34,7 @@ DealsFairly (Deal hand deal) = IsDeal (player_count deal) deal
 DealsFairly (Act hand index action) = Unit {0}
 DealsFairly (Away hand index) = Unit {0}
 
--- the whole log after some list of commands that ends the match
+-- the whole log after some list of commands, none of which deals a card twice, that ends the match of its header
 pub record IsMatchLog (game : Game) (bytes : List ℕ) : Type 0 where
   pub title : Title
   pub is_title : IsTitle title

@@ -70,6 +70,7 @@ about_text (Played node hand) = played_text node hand
 about_text (Faulty node fault) = faulty_text node fault
 about_text (Refused node hand action fault late) = refused_text node hand action.now fault late
 
+-- what a note says
 abbrev pub note_text : Note → List ℕ
 note_text (note.Ports seat name ports nodes) = seat_text seat name ++ codes ": ports" ++ ports_text ports seat nodes
 note_text (note.Awaiting seat name node port) = codes "awaiting " ++ seat_text seat name ++ place_text node port
@@ -87,6 +88,7 @@ note_text (note.Made path) = codes "made " ++ path.now
 note_text note.NotKept = codes "no match.kept: whether the stores are of this match can't be told"
 note_text (note.Score line) = line.now
 
+-- and its line feed
 abbrev pub note_line : Note → List ℕ
 note_line told = note_text told ++ 10 ∷ []
 

@@ -69,5 +69,6 @@ module _ {D : Type 0} (g : Ghosts D) (ports : SeatPorts) where
     pub turns : Turns old start (2 ^ 64 - 1) waits new held_after
     pub refused : answer ≡ Err (OfNode Spent)
 
+  -- the one or the other
   abbrev pub IsServed : Served (Node D) → Result (Unit {0}) ServeFault → Served (Node D) → Option (List ℕ) → Option (List ℕ) → Type 0
   IsServed old answer new start held_after = Ends old answer new start held_after ⊎ TurnsOut old answer new start held_after

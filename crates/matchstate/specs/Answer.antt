@@ -30,7 +30,7 @@ pub record IsAnswer (game : Game) (bytes : List ℕ) (view : View) (action : Act
 abbrev pub HasFault : Game → List ℕ → LineFault → Type 0
 HasFault game bytes fault = (line : List ℕ) × (field : List ℕ) × IsCut bytes line field × ReadsAs game line (Err fault)
 
--- what a text reads as: the view and the action of an answer, or the first of its faults
+-- what a text reads as: the view and the action of an answer, or the first of its faults, that of the line before that of the action
 abbrev pub AnswerReadsAs : Game → List ℕ → Result (View × Action) LineFault → Type 0
 AnswerReadsAs game bytes (Ok answer) = IsAnswer game bytes answer.0 answer.1
 AnswerReadsAs game bytes (Err NotMatchstate) =

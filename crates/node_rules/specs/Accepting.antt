@@ -17,6 +17,7 @@ use Rattle.node_rules.specs.Learning.{counting_votes}
 abbrev pub refusing : ℕ → Ballot → ℕ → Standing → Turn
 refusing from ballot slot s = sending (one from (Refuse ballot slot s.store.promise)) s
 
+-- a promise tells the votes of its 64 slots, and the node leads no longer
 abbrev pub promising : ℕ → Ballot → ℕ → Standing → Turn
 promising from ballot slot s = sending (one from (Promise ballot slot (told_by s.store slot))) (idle (with_stored s (promised s.store ballot)))
 

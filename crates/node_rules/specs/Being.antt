@@ -112,6 +112,7 @@ IsSession game seat None (Some bytes) = ⊥
 IsSession game seat (Some talk) None = ⊥
 IsSession game seat (Some talk) (Some bytes) = IsTalk game seat talk bytes
 
+-- and so of all seats
 abbrev pub AreSessions : Game → List (Option Talk) → (ℕ → Option (List ℕ)) → Type 0
 AreSessions game sessions heard = (seat : ℕ) → IsSession game seat (session_at sessions seat) (heard seat)
 
@@ -130,12 +131,14 @@ pub record Knows (dealer : Dealer) (place : Place) (upto : List Command) (s : St
   pub seen : Sees node.has node.store.promise s.seen
   pub proposals : IsProposed place.nodes place.node upto (front_of s) (own_value place s) node.store node.has node.sent
 
+-- and all that it says of a running node, which leaves nothing to propose
 pub record Runs (dealer : Dealer) (place : Place) (s : Standing) (node : Node) : Type 0 where
   pub unbegun : s.begun ≡ s.store
   pub knows : Knows dealer place (applied s) s node
   pub sessions : AreSessions place.setting.game s.sessions node.heard
   pub settled : IsSettled place s
 
+-- the standing says what this node of the world holds, has got, sent, knows and heard
 pub record IsOf (own : ℕ → Command → Bool) (place : Place) (s : Standing) (node : Node) : Type 0 where
   pub up : node.up ≡ s.up
   pub store : node.store ≡ s.store

@@ -35,6 +35,7 @@ RefusesDown (Connect seat) why = why ≡ Down
 RefusesDown (Drop seat) why = why ≡ Down
 RefusesDown Stop why = ⊥
 
+-- of any node
 abbrev pub Refuses : Bool → Call → Refusal → Type 0
 Refuses true called why = RefusesUp called why
 Refuses false called why = RefusesDown called why

@@ -29,6 +29,7 @@ counting_votes place from ballot slot commands s =
 abbrev pub comes_to_window : ℕ → ℕ → Bool
 comes_to_window old new = nat_lt old new && (new % WINDOW == 0 && nat_lt new SLOTS)
 
+-- so it asks who told it
 abbrev pub asking_on : ℕ → ℕ → Standing → Turn
 asking_on from old s = if comes_to_window old (front_of s) then sending (one from (Ask (front_of s))) s else still s
 

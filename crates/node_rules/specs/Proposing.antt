@@ -31,6 +31,7 @@ higher a b = if is_below a b then b else a
 abbrev pub greatest_seen : Standing → Ballot
 greatest_seen s = higher s.seen s.store.promise
 
+-- the match is over by the commands that the node applied
 abbrev pub is_over : Place → Standing → Bool
 is_over place s = is_match_over place.setting.game place.setting.title.hands (hands_at place s)
 
@@ -57,6 +58,7 @@ ticking place s =
 
 -- ---- answers to a Prepare
 
+-- a promise is counted
 abbrev pub counting_promise : Place → ℕ → Ballot → ℕ → List Entry → Standing → Turn
 counting_promise place from ballot slot told s =
     still (record s { campaign = counting_from place.nodes s.campaign from ballot slot told })

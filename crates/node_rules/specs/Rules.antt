@@ -112,6 +112,7 @@ abbrev pub IsTurnBy : Bool → Place → Standing → Call → Result Turn Refus
 IsTurnBy true place s call outcome = IsTurnUp place s call outcome
 IsTurnBy false place s call outcome = IsTurnDown place s call outcome
 
+-- of any node
 abbrev pub IsTurn : Place → Standing → Call → Result Turn Refusal → Type 0
 IsTurn place s call outcome = IsTurnBy s.up place s call outcome
 

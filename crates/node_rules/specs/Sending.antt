@@ -3,10 +3,12 @@ use Rattle.std.specs.Prelude.{ℕ, zero, suc, ◌==◌, if◌then◌else◌, Lis
 use Rattle.paxos_wire.specs.declared.message.Message.{Message}
 use Rattle.node_rules.specs.Standings.{Place}
 
+-- a message for another node
 pub record Frame : Type 0 where
   pub to : ℕ
   pub message : Message
 
+-- one frame
 abbrev pub one : ℕ → Message → List Frame
 one to message = (record { to = to; message = message }) ∷ []
 

@@ -34,6 +34,7 @@ place_of plan node = record {
   deals = deals_from plan.setting.game.players (slice_get plan.sources node);
 }
 
+-- what a node holds and knows
 pub record Standing : Type 0 where
   pub up : Bool
   pub store : Store
@@ -83,6 +84,7 @@ started place found = record {
 abbrev pub stopped : Place → Store → Store → Standing
 stopped place store begun = record (started place store) { up = false; begun = begun }
 
+-- with another store, and no append begun
 abbrev pub with_stored : Standing → Store → Standing
 with_stored s store = record s { store = store; begun = store }
 

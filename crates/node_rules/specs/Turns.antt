@@ -6,6 +6,7 @@ use Rattle.node_rules.specs.Standings.{Standing}
 use Rattle.node_rules.specs.Sending.{Frame}
 use Rattle.node_rules.specs.Showing.{Piece, SeatFault}
 
+-- the standing after a call, and what it sends, shows and tells of seats
 pub record Turn : Type 0 where
   pub after : Standing
   pub frames : List Frame
@@ -13,6 +14,7 @@ pub record Turn : Type 0 where
   pub shown : List Piece
   pub faults : List SeatFault
 
+-- why a call comes to nothing
 pub data Refusal : Type 0 where
   -- 90: the node is down
   Down : Refusal
@@ -29,6 +31,7 @@ pub data Refusal : Type 0 where
 abbrev pub still : Standing → Turn
 still s = record { after = s; frames = []; shown = []; faults = [] }
 
+-- frames are sent, and nothing is shown or told
 abbrev pub sending : List Frame → Standing → Turn
 sending frames s = record { after = s; frames = frames; shown = []; faults = [] }
 

@@ -124,7 +124,7 @@ HasCommands (Chosen slot command) = Unit {0}
 HasCommands (Ask slot) = Unit {0}
 HasCommands (Forward command) = Unit {0}
 
--- a message that frames of the old version can say
+-- a message that frames of the old version can say: the node of each of its ballots is one of that version's, and an Accept or an Accepted has one command
 abbrev pub IsOld : Message → Type 0
 IsOld m = HasNodesBelow OLD_NODES m × HasOneCommand m
 

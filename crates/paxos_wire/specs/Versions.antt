@@ -4,6 +4,7 @@ use Rattle.paxos_wire.specs.declared.limits.TheConstants.{VERSION, OLD_VERSION, 
 use Rattle.paxos_wire.specs.declared.version.Version.{Version}
 use Rattle.paxos_wire.specs.declared.version.Version.TheVariants.{Old, New}
 
+-- the byte that tells it
 abbrev pub version_byte : Version → ℕ
 version_byte Old = OLD_VERSION
 version_byte New = VERSION

@@ -2,11 +2,12 @@
 //! message, and the messages of a stream of frames, however it is cut into pieces. Frames of the version before are read
 //! too; `Version` tells the two apart.
 //!
-//! A `Message` is written by `encode` and read by `decode`; a stream of frames is read by a `Feed`, which takes
-//! pieces by `feed` and gives messages by `next`, or at once by `read_stream`. `limits` has the ranges of all
-//! numbers. Ballots, slots and commands of a record are written and read by calls of their own; a `CommandList` is room
-//! for commands that are read one after the other, and `Commands` lends them. Calls with `reserved` in their name take no
-//! memory; `frame_len` and `command_len` say how much room they want.
+//! A `Message` is written by `encode` and read by `decode`, into a `MessageRoom` of the reader's, from which it borrows its
+//! entries or commands; a stream of frames is read by a `Feed`, which takes pieces by `feed` and gives messages by `next`,
+//! or at once by `read_stream`, as messages that own their frames. `limits` has the ranges of all numbers. Ballots, slots
+//! and commands of a record are written and read by calls of their own; a `CommandList` is room for commands that are read
+//! one after the other, and `Commands` lends them. Calls with `reserved` in their name take no memory; `frame_len` and
+//! `command_len` say how much room they want.
 //!
 //! The test `frames_read_and_write_alike` of `rule_tests` goes from messages to frames and back, `a_stream_in_pieces`
 //! through a feed. Faults: `FrameFault`, 50 to 54, the first in the order that `specs/Faults.antt` states; a stream at

@@ -21,10 +21,12 @@ pub record Kept : Type 0 where
   pub command : Command
   pub placed : Placed
 
+-- what a journal holds: the promise, and the entry of each slot
 pub record Holding : Type 0 where
   pub promise : Ballot
   pub entries : ℕ → Option Kept
 
+-- what an empty one holds
 abbrev pub nothing_held : Holding
 nothing_held = record { promise = no_ballot; entries = λ slot. None }
 

@@ -19,7 +19,7 @@ abbrev pub head_of : Stage → List ℕ → List ℕ
 head_of Old head = old_head head
 head_of New head = head
 
--- the old stage goes on behind a record of one of its nodes
+-- the old stage goes on behind a record of one of its nodes, 0 to 4
 abbrev pub old_where : Bool → Option Stage
 old_where test = if test then Some Old else None
 
@@ -43,6 +43,7 @@ abbrev pub last_stage : Option Stage → List Record → Option Stage
 last_stage stage [] = stage
 last_stage stage (r ∷ records) = last_stage (next_stage stage r) records
 
+-- the same of a journal that begins in this stage
 abbrev pub stage_behind : Stage → List Record → Option Stage
 stage_behind first records = last_stage (Some first) records
 

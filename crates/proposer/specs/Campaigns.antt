@@ -21,7 +21,8 @@ promise_by campaign node = slice_index_or campaign.promises node None
 abbrev pub is_proposed : Campaign → ℕ → Bool
 is_proposed campaign slot = slice_index_or campaign.proposed (slot - campaign.first) false
 
--- a proposer: its node, the count of nodes, and the ballot that it prepares or leads, if any
+-- a proposer: its node, the count of nodes, and the ballot that it prepares or leads, if any, with each node's promise, where it was counted, and a mark for
+-- each slot where it proposed
 pub record Proposing : Type 0 where
   pub node : ℕ
   pub nodes : ℕ
@@ -37,9 +38,11 @@ next_ballot node seen = record { round = seen.round + 1; node = node }
 abbrev pub new_campaign : Ballot → ℕ → Campaign
 new_campaign ballot first = record { ballot = ballot; first = first; promises = replicate NODES None; proposed = replicate WINDOW false }
 
+-- the next ballot is begun at this slot
 abbrev pub begun : Proposing → Ballot → ℕ → Proposing
 begun p seen slot = record p { campaign = Some (new_campaign (next_ballot p.node seen) slot) }
 
+-- no ballot is prepared or led
 abbrev pub idle : Proposing → Proposing
 idle p = record p { campaign = None }
 
@@ -52,11 +55,13 @@ is_outbid (Some campaign) promised = is_below campaign.ballot promised
 abbrev pub refused_from : Option Campaign → Ballot → Option Campaign
 refused_from campaign promised = if is_outbid campaign promised then None else campaign
 
+-- the same of a proposer
 abbrev pub refused : Proposing → Ballot → Proposing
 refused p promised = record p { campaign = refused_from p.campaign promised }
 
 -- ---- promises
 
+-- a promise of the node was counted
 abbrev pub has_promised : Campaign → ℕ → Bool
 has_promised campaign node = is_some (promise_by campaign node)
 
@@ -64,13 +69,16 @@ has_promised campaign node = is_some (promise_by campaign node)
 abbrev pub has_quorum : ℕ → Campaign → Bool
 has_quorum n campaign = nat_lt n (2 * count (has_promised campaign) n)
 
+-- a quorum promised the ballot that was begun, if one was
 abbrev pub leads : ℕ → Option Campaign → Bool
 leads n None = false
 leads n (Some campaign) = has_quorum n campaign
 
+-- the same of a proposer
 abbrev pub is_leading : Proposing → Bool
 is_leading p = leads p.nodes p.campaign
 
+-- the ballot that it prepares or leads
 abbrev pub ballot_in : Proposing → Option Ballot
 ballot_in p = option_map (λ campaign. campaign.ballot) p.campaign
 
@@ -82,6 +90,7 @@ is_counted n campaign from ballot first =
     else if not (first == campaign.first) then false
     else not (has_promised campaign from)
 
+-- with the promise, where it counts
 abbrev pub with_promise : ℕ → Campaign → ℕ → Ballot → ℕ → List Entry → Campaign
 with_promise n campaign from ballot first told =
     if is_counted n campaign from ballot first then record campaign { promises = slice_set campaign.promises from (Some told) } else campaign
@@ -89,6 +98,7 @@ with_promise n campaign from ballot first told =
 abbrev pub counting_from : ℕ → Option Campaign → ℕ → Ballot → ℕ → List Entry → Option Campaign
 counting_from n campaign from ballot first told = option_map (λ c. with_promise n c from ballot first told) campaign
 
+-- the same of a proposer
 abbrev pub counting : Proposing → ℕ → Ballot → ℕ → List Entry → Proposing
 counting p from ballot first told = record p { campaign = counting_from p.nodes p.campaign from ballot first told }
 
@@ -125,9 +135,11 @@ abbrev pub proposal_from : ℕ → Option Campaign → ℕ → Option Command �
 proposal_from n None slot own = Ok None
 proposal_from n (Some campaign) slot own = proposal_by n campaign slot own
 
+-- what a proposer proposes at the slot: nothing where no ballot was begun
 abbrev pub proposal_of : Proposing → ℕ → Option Command → Result (Option Accept) ProposeFault
 proposal_of p slot own = proposal_from p.nodes p.campaign slot own
 
+-- with a mark at the slot of what is proposed
 abbrev pub with_mark : Campaign → Result (Option Accept) ProposeFault → Campaign
 with_mark campaign (Ok (Some accept)) = record campaign { proposed = slice_set campaign.proposed (accept.slot - campaign.first) true }
 with_mark campaign (Ok None) = campaign
@@ -137,5 +149,6 @@ with_mark campaign (Err fault) = campaign
 abbrev pub marked_from : Option Campaign → Result (Option Accept) ProposeFault → Option Campaign
 marked_from campaign proposal = option_map (λ c. with_mark c proposal) campaign
 
+-- the same of a proposer
 abbrev pub marked : Proposing → Result (Option Accept) ProposeFault → Proposing
 marked p proposal = record p { campaign = marked_from p.campaign proposal }

@@ -32,6 +32,7 @@ pub record IsSafeCommandRun (n : ℕ) (has sent : List Message) (campaign : Camp
   pub slots : slot < SLOTS → slot + length made.commands ≤ SLOTS
   pub commands : MayProposeEach n has sent campaign.ballot slot made.commands ⊎ IsAlone n has sent campaign.ballot slot own made.commands
 
+-- whatever a campaign proposes
 abbrev pub CommandRunsAreSafe : Type 0
 CommandRunsAreSafe =
     (n : ℕ) (has sent : List Message) (campaign : Campaign) (slot : ℕ) (own : Option Command) (made : AcceptRun)
@@ -72,9 +73,11 @@ NoneToldIsFree =
 
 -- ---- how many commands it has
 
+-- the bound is 1 at least
 abbrev pub BoundIsLeast : Type 0
 BoundIsLeast = (p : Proposing) (further : ℕ) → 1 ≤ most_commands p further
 
+-- and 64 at most
 abbrev pub BoundIsMost : Type 0
 BoundIsMost = (p : Proposing) (further : ℕ) → most_commands p further ≤ WINDOW
 
@@ -90,11 +93,13 @@ BoundedLater =
 
 -- ---- counts and marks are kept
 
+-- what is proposed lets nothing be counted that didn't come
 abbrev pub CommandRunCounts : Type 0
 CommandRunCounts =
     (n : ℕ) (has : List Message) (campaign : Campaign) (slot : ℕ) (own : Option Command)
     → CountsFrom has campaign → CountsFrom has (with_marks campaign (run_by n campaign slot own))
 
+-- and leaves nothing out
 abbrev pub CommandRunCountsAll : Type 0
 CommandRunCountsAll =
     (n : ℕ) (has : List Message) (campaign : Campaign) (slot : ℕ) (own : Option Command)

@@ -60,6 +60,7 @@ abbrev pub run_from_campaign : ℕ → Option Campaign → ℕ → Option Comman
 run_from_campaign n None slot own = Ok None
 run_from_campaign n (Some campaign) slot own = run_by n campaign slot own
 
+-- what a proposer proposes from the slot on: nothing where no ballot was begun
 abbrev pub run_of : Proposing → ℕ → Option Command → Result (Option AcceptRun) ProposeFault
 run_of p slot own = run_from_campaign p.nodes p.campaign slot own
 
@@ -102,6 +103,7 @@ abbrev pub waiting_in : ℕ → Option Campaign → ℕ
 waiting_in n None = 0
 waiting_in n (Some campaign) = waiting_by n campaign
 
+-- the same of a proposer
 abbrev pub waiting_told : Proposing → ℕ
 waiting_told p = waiting_in p.nodes p.campaign
 

@@ -24,6 +24,7 @@ pub record IsSafe (n : ℕ) (has : List Message) (campaign : Campaign) (at : ℕ
   pub covered : Covers campaign.first at
   pub command : IsGreatestTold n has campaign.ballot at made.command ⊎ (IsFree n has campaign.ballot at × (own ≡ Some made.command))
 
+-- whatever a campaign proposes
 abbrev pub ProposalsAreSafe : Type 0
 ProposalsAreSafe =
     (n : ℕ) (has : List Message) (campaign : Campaign) (slot : ℕ) (own : Option Command) (made : Accept)
@@ -79,11 +80,13 @@ PromiseCounts =
     (n : ℕ) (has : List Message) (campaign : Campaign) (from : ℕ) (ballot : Ballot) (first : ℕ) (told : List Entry)
     → In (Promise from ballot first told) has → CountsFrom has campaign → CountsFrom has (with_promise n campaign from ballot first told)
 
+-- and leaves none out
 abbrev pub PromiseCountsAll : Type 0
 PromiseCountsAll =
     (n : ℕ) (has : List Message) (campaign : Campaign) (from : ℕ) (ballot : Ballot) (first : ℕ) (told : List Entry)
     → CountsAll n has campaign → CountsAll n (Promise from ballot first told ∷ has) (with_promise n campaign from ballot first told)
 
+-- and changes no mark
 abbrev pub PromiseMarks : Type 0
 PromiseMarks =
     (n : ℕ) (sent : List Message) (campaign : Campaign) (from : ℕ) (ballot : Ballot) (first : ℕ) (told : List Entry)
@@ -93,12 +96,14 @@ PromiseMarks =
 abbrev pub OthersCount : Type 0
 OthersCount = (has : List Message) (campaign : Campaign) (message : Message) → CountsFrom has campaign → CountsFrom (message ∷ has) campaign
 
+-- unless it is a promise of the ballot
 abbrev pub OthersCountAll : Type 0
 OthersCountAll =
     (n : ℕ) (has : List Message) (campaign : Campaign) (message : Message)
     → ((node : ℕ) (told : List Entry) → Promise node campaign.ballot campaign.first told ≡ message → ⊥)
     → CountsAll n has campaign → CountsAll n (message ∷ has) campaign
 
+-- or, of what is sent, a proposal of the ballot
 abbrev pub OthersMark : Type 0
 OthersMark =
     (sent : List Message) (campaign : Campaign) (message : Message)
@@ -111,11 +116,13 @@ ProposalCounts =
     (n : ℕ) (has : List Message) (campaign : Campaign) (slot : ℕ) (own : Option Command)
     → CountsFrom has campaign → CountsFrom has (with_mark campaign (proposal_by n campaign slot own))
 
+-- which leaves no promise out
 abbrev pub ProposalCountsAll : Type 0
 ProposalCountsAll =
     (n : ℕ) (has : List Message) (campaign : Campaign) (slot : ℕ) (own : Option Command)
     → CountsAll n has campaign → CountsAll n has (with_mark campaign (proposal_by n campaign slot own))
 
+-- and its slot has a mark then
 abbrev pub ProposalMarks : Type 0
 ProposalMarks =
     (n : ℕ) (sent : List Message) (campaign : Campaign) (slot : ℕ) (own : Option Command) (proposal : Accept)

@@ -2,6 +2,7 @@
 use Rattle.std.specs.Prelude.{ℕ, zero, suc, ◌≤◌, ◌&&◌, ◌==◌, if◌then◌else◌, List, [], ◌∷◌, ◌++◌, Option, Some, None}
 use Rattle.std.specs.Option.{option_map}
 
+-- what came to a node
 pub data Event : Type 0 where
   -- the node started, and has no seat
   Started : (node : ℕ) → Event
@@ -16,6 +17,7 @@ pub data Event : Type 0 where
   -- it was ordered at the node that the player to act is played for, when it knew so many commands below the first slot that it doesn't know
   Ordered : (node front : ℕ) → Event
 
+-- what came, and when
 pub record Arrival : Type 0 where
   pub event : Event
   -- how many messages had been sent by all nodes when it came

@@ -9,7 +9,8 @@ use Rattle.protocol_model.specs.Stores.{Store}
 abbrev pub HasVote : Store → ℕ → Vote → Type 0
 HasVote store slot vote = (found : Vote) × (store.votes slot ≡ Some found) × ((found ≡ vote) ⊎ Below vote.ballot found.ballot)
 
--- a start that finds the store goes on to keep what the message says: no lower ballot is promised than its own, and an accepted command isn't forgotten
+-- a start that finds the store goes on to keep what the message says: no lower ballot is promised than that of a Prepare, Promise, Accept or Accepted, and
+-- a command of the last two isn't forgotten but for one of a greater ballot; of all others nothing is to be kept
 abbrev pub Backs : Store → Message → Type 0
 Backs store (Prepare ballot slot) = AtMost ballot store.promise
 Backs store (Promise sender ballot slot told) = AtMost ballot store.promise

@@ -3,6 +3,7 @@ use Rattle.std.specs.Prelude.{◌≡◌, ◌≢◌, ℕ, ◌⊎◌, Bool, true, 
 use Rattle.std.specs.List.{AllByRecursion}
 use Rattle.slot_log.specs.declared.command.Command.{Command}
 
+-- what is asked of a dealer; whether a command is a deal or an act is its own business alone
 pub record Dealer : Type 0 where
   -- the command takes effect after these
   pub fits : List Command → Command → Bool

@@ -23,7 +23,8 @@ NeverGoesBack (latest ∷ before) =
     ((shown : Shown) → In shown before → shown.node ≡ latest.node → shown.start ≡ latest.start → shown.count ≤ latest.count)
     × NeverGoesBack before
 
--- there is one list of chosen commands behind all that was ever shown
+-- there is one list of chosen commands, each of which fits after those before it, behind all that was ever shown: each text is what its reader is shown after
+-- a beginning of it, and within one start of a node these beginnings never get shorter
 pub record OneDealer (dealer : Dealer) (n : ℕ) (world : World) : Type 0 where
   pub commands : List Command
   pub chosen : AreChosen n world.ever commands
@@ -86,7 +87,7 @@ IsLeft i node store =
     ((node.up ≡ true) × Append i node.has node.store store)
     ⊎ ((node.up ≡ false) × ((store ≡ node.store) ⊎ (store ≡ node.begun)))
 
--- the node has just been started anew, with this store
+-- the node has just been started anew, once more than before, with this store
 pub record IsStarted (old : Node) (found : Store) (new : Node) : Type 0 where
   pub store : new.store ≡ found
   pub begun : new.begun ≡ found
@@ -98,7 +99,7 @@ pub record IsStarted (old : Node) (found : Store) (new : Node) : Type 0 where
   pub shown : new.shown ≡ 0
   pub heard : (seat : ℕ) → new.heard seat ≡ None
 
--- the run goes on with all nodes started anew, with these stores
+-- the run goes on with all nodes started anew, with these stores, and nothing came but their starts
 pub record IsOpened (dealer : Dealer) (n : ℕ) (earlier : World) (stores : ℕ → Store) (opened : World) : Type 0 where
   pub run : Run dealer n earlier opened
   pub ever : opened.ever ≡ earlier.ever

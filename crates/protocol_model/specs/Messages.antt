@@ -16,6 +16,7 @@ entry_of slot vote = record { slot = slot; ballot = vote.ballot; command = vote.
 abbrev pub vote_of : Entry → Vote
 vote_of entry = record { ballot = entry.ballot; command = entry.command }
 
+-- what a node says, and who says it
 pub data Message : Type 0 where
   -- the node of the ballot asks for promises
   Prepare : (ballot : Ballot) (slot : ℕ) → Message

@@ -5,6 +5,7 @@ use Rattle.protocol_model.specs.Sets.{In}
 use Rattle.protocol_model.specs.Messages.{Message}
 use Rattle.protocol_model.specs.Stores.{Store, empty_store}
 
+-- what a node keeps on its disk, what it has got, sent and learned since its start, and what its seats said
 pub record Node : Type 0 where
   pub store : Store
   -- what the next start finds if the append that was begun at the stop went through; while the node is up, its store

@@ -12,7 +12,7 @@ abbrev pub count : (ℕ → Bool) → ℕ → ℕ
 count set zero = 0
 count set (suc n) = if set n then 1 + count set n else count set n
 
--- more than half of the n nodes
+-- more than half of the n nodes; nodes are counted, not messages
 abbrev pub IsQuorum : ℕ → (ℕ → Bool) → Type 0
 IsQuorum n quorum = n < 2 * count quorum n
 
@@ -22,6 +22,7 @@ IsChosenIn n messages ballot slot command =
     (quorum : ℕ → Bool) × IsQuorum n quorum
     × ((node : ℕ) → node < n → quorum node ≡ true → In (Accepted node ballot slot command) messages)
 
+-- in some ballot
 abbrev pub IsChosen : ℕ → List Message → ℕ → Command → Type 0
 IsChosen n messages slot command = (ballot : Ballot) × IsChosenIn n messages ballot slot command
 
@@ -36,6 +37,7 @@ HasPromise messages node ballot slot IsSo =
     (first : ℕ) × (told : List Entry) × In (Promise node ballot first told) messages × Covers first slot
     × ((entry : Entry) → In entry told → entry.slot ≡ slot → IsSo entry)
 
+-- of each node of some quorum
 abbrev pub HasPromises : ℕ → List Message → Ballot → ℕ → (Entry → Type 0) → Type 0
 HasPromises n messages ballot slot IsSo =
     (quorum : ℕ → Bool) × IsQuorum n quorum

@@ -7,18 +7,22 @@ use Rattle.protocol_model.specs.Ballots.{Below, AtMost, no_ballot}
 use Rattle.paxos_wire.specs.declared.entry.Entry.{Entry}
 use Rattle.protocol_model.specs.Messages.{Vote, entry_of, vote_of, Message, Covers, Prepare, Accept}
 
+-- what an acceptor keeps
 pub record Store : Type 0 where
   -- no ballot below it is accepted any more
   pub promise : Ballot
   -- what was accepted last at each slot
   pub votes : ℕ → Option Vote
 
+-- nothing was promised or accepted
 abbrev pub empty_store : Store
 empty_store = record { promise = no_ballot; votes = λ slot. None }
 
+-- once this ballot was promised
 abbrev pub promised : Store → Ballot → Store
 promised store ballot = record store { promise = ballot }
 
+-- once this was accepted at the slot, which promises its ballot too
 abbrev pub voted : Store → ℕ → Vote → Store
 voted store slot vote = record { promise = vote.ballot; votes = put store.votes slot (Some vote) }
 

@@ -6,6 +6,7 @@ use Rattle.protocol_model.specs.Nodes.{Node, new_node}
 use Rattle.protocol_model.specs.Arrivals.{Arrival}
 use Rattle.protocol_model.specs.Moves.{Shown, Output, Move}
 
+-- all nodes, all that was ever sent and shown, and all that ever came
 pub record World : Type 0 where
   pub nodes : ℕ → Node
   -- all that was ever sent, and all that was ever shown, newest first
@@ -33,5 +34,6 @@ pub data Run (dealer : Dealer) (n : ℕ) (first : World) : World → Type 0 wher
 abbrev pub new_world : World
 new_world = record { nodes = λ i. new_node; ever = []; shown = []; came = [] }
 
+-- what a run from nodes that were never started reaches
 abbrev pub Reached : Dealer → ℕ → World → Type 0
 Reached dealer n world = Run dealer n new_world world

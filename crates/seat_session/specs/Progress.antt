@@ -10,7 +10,8 @@ use Rattle.seat_session.specs.declared.said.Said.{Said}
 use Rattle.seat_session.specs.declared.said.Said.TheVariants.{Ready, Act}
 use Rattle.seat_session.specs.declared.session_fault.SessionFault.{SessionFault}
 
--- an answer that doesn't close the session takes a line feed of what waits, and where there is none yet none is added
+-- an answer that doesn't close the session takes a line feed of what waits, and where there is none yet none is added; so a session that is asked until it
+-- has no answer, or is closed, gives at most one answer more than line feeds wait
 pub record AnswersTakeLines : Type 0 where
   pub answered : (game : Game) (hands : List Hand) (seat : ℕ) (old : Standing) (said : Result Said SessionFault) (new : Standing)
       → Answers game hands seat old (Some said) new → is_closed new.phase ≡ false → line_feeds new.waiting < line_feeds old.waiting

@@ -76,7 +76,7 @@ abbrev pub SaidFits : Match → Said → Type 0
 SaidFits table Ready = Unit {0}
 SaidFits table (Act command) = Fits table.game table.count table.hands command
 
--- its numbers are within the ranges of every match, and so of frames: its hand, its index and its amount
+-- its numbers are within the ranges of every match, and so of frames: its hand below 10000, its index below 256, the amount of a raise at most 2147483647
 abbrev pub IsSaidInRange : Said → Type 0
 IsSaidInRange Ready = Unit {0}
 IsSaidInRange (Act command) = IsInRange command

@@ -10,6 +10,7 @@ use Rattle.serving.specs.declared.known.Known.{Known}
 use Rattle.serving.specs.declared.due.Due.{Due}
 use Rattle.serving.specs.declared.due.Due.TheVariants.{Stop, Start, Drop, Await, Read, Away, Deliver, Tick, Over}
 
+-- a node whose store failed is stopped, and then started
 abbrev pub repairing : Repair → Due
 repairing (repair.Stop node) = Stop node
 repairing (repair.Start node) = Start node
@@ -43,6 +44,7 @@ abbrev pub or_around : List NodeSight → ℕ → Option ℕ → ℕ
 or_around nodes node (Some found) = node + found
 or_around nodes node None = unwrap_or (running nodes) node
 
+-- the first that runs from this node on, in cyclic order
 abbrev pub running_from : List NodeSight → ℕ → ℕ
 running_from nodes node = or_around nodes node (running (drop node nodes))
 
@@ -67,6 +69,7 @@ abbrev pub acts_by : Option NodeSight → ℕ → Bool
 acts_by None seat = false
 acts_by (Some sight) seat = is_seat sight.to_act seat
 
+-- and so of the node of this number
 abbrev pub has_to_act : List NodeSight → ℕ → ℕ → Bool
 has_to_act nodes node seat = acts_by (slice_get nodes node) seat
 
@@ -154,7 +157,8 @@ abbrev pub repairing_or : Due → Option Repair → Due
 repairing_or later None = later
 repairing_or later (Some fault) = repairing fault
 
--- the first that is due, by the nodes, the seats' places, how many seats were greeted, the next frame and what a node whose store failed needs
+-- the first that is due, by the nodes, the seats' places, how many seats were greeted, the next frame and what a node whose store failed needs: a failed
+-- store, a seat that leaves, greeting, the end, a frame, outages, the match
 abbrev pub due_by : List NodeSight → List Place → ℕ → Option ℕ → Option Repair → Due
 due_by nodes places greeted frame repair =
     repairing_or

@@ -35,5 +35,6 @@ abbrev pub with_dropped : Absent → ℕ → List Place → ℕ → Option Place
 with_dropped absent next places seat None = places
 with_dropped absent next places seat (Some place) = set places seat (dropped_from absent next place)
 
+-- the same of the seat of this number
 abbrev pub dropped_at : Absent → ℕ → List Place → ℕ → List Place
 dropped_at absent next places seat = with_dropped absent next places seat (slice_get places seat)

@@ -5,9 +5,9 @@
 //! answers `Turn::Over` or a fault. A turn does the first thing that is due (`next_due`), which is at most one call of
 //! a node: a frame is carried to its node, a line of a seat is handed on, a node ticks, stops or starts, a seat is
 //! connected, dropped or played for. Before it the links make the room for what any node may show by its next call, or
-//! the one that is brought the next frame;
-//! what the call showed is given to its readers before the turn ends. Where a seat that is awaited or read from sends
-//! nothing, the turn is `Turn::Waits`: nothing was done, and the same turn comes again.
+//! the one that is brought the next frame; what the call showed is given to its readers before the turn ends. Where a
+//! seat that is awaited or read from sends nothing, the turn is `Turn::Waits`: nothing was done, and the same turn comes
+//! again.
 //! Between turns `awaited` tells which seat the next one waits for, `place` where a seat is, `last_node` and
 //! `last_fault` which node was called last and what refused it, `last_piece` what was read last. What a server reaches
 //! outside are `match_links::Links`. A whole match is played by the test `a_match_outlives_a_node` of `match_tests`.

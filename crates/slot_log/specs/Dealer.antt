@@ -51,7 +51,7 @@ pub record ActFits (game : Game) (count : ℕ) (newest : Hand) (earlier : List H
   pub next_index : index ≡ length newest.past
   pub allowed : CanAct game (turns game newest.past) action
 
--- a command fits the hands so far
+-- a command fits the hands so far; what plays for a player who is away does where an act of its hand and index with his action would
 abbrev pub Fits : Game → ℕ → List Hand → Command → Type 0
 Fits game count hands (Deal hand deal) = DealFits game count hands hand deal
 Fits game count [] (Act hand index action) = ⊥
@@ -85,7 +85,8 @@ abbrev pub act_for : Game → List Hand → Action
 act_for game [] = Call
 act_for game (newest ∷ earlier) = away_action game (turns game newest.past)
 
--- the first reason, in this order, why a command doesn't fit; none where it fits
+-- the first reason why a command doesn't fit, none where it fits: for a deal MatchDone, HandRunning, WrongHand, WrongCards; for an act, and for what plays
+-- for a player who is away, MatchDone, NoHand, WrongHand, WrongIndex, Illegal
 abbrev pub reason_of : Game → ℕ → List Hand → Command → Option Reason
 reason_of game count hands (Deal hand deal) = if is_match_over game count hands then Some MatchDone else deal_reason game hands hand deal
 reason_of game count hands (Act hand index action) = if is_match_over game count hands then Some MatchDone else act_reason game hands hand index action
@@ -129,7 +130,7 @@ effect_in game count (Deal hand deal) hands = Dealt
 effect_in game count (Act hand index action) hands = effect_of_action game count hands
 effect_in game count (Away hand index) hands = effect_of_action game count hands
 
--- what a command does
+-- what a command does: a hand is dealt, an action taken, the hand over or the match over; or nothing, for a reason
 abbrev pub effect_of : Game → ℕ → List Hand → Command → Effect
 effect_of game count hands command =
     elim (reason_of game count hands command) [ None ↦ effect_in game count command (with_command game hands command) | Some reason ↦ Nothing reason ]
@@ -138,7 +139,7 @@ effect_of game count hands command =
 abbrev pub hand_at : List Hand → ℕ → Option Hand
 hand_at hands number = slice_get (reverse hands) number
 
--- the command by which the player to act is played for: of the running hand, with the number of its actions so far
+-- the command by which the player to act is played for: of the running hand, with the number of its actions so far; none where no hand runs
 abbrev pub next_away : Game → List Hand → Option Command
 next_away game [] = None
 next_away game (newest ∷ earlier) = if is_finished game newest then None else Some (Away (length earlier) (length newest.past))

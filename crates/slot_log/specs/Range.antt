@@ -13,7 +13,7 @@ IsAmount Fold = Unit {0}
 IsAmount Call = Unit {0}
 IsAmount (Raise amount) = amount ≤ most_chips
 
--- a command's numbers are within the ranges of every match: its hand, its index and its amount
+-- a command's numbers are within the ranges of every match: its hand below 10000, its index below 256, the amount of a raise at most 2147483647
 abbrev pub IsInRange : Command → Type 0
 IsInRange (Deal hand deal) = hand < HANDS
 IsInRange (Act hand index action) = (hand < HANDS) × (index < ACTIONS) × IsAmount action

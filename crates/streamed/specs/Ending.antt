@@ -26,7 +26,7 @@ status_of OutOfMemory = 2
 status_of StreamFailed = 2
 status_of (WrongWords words) = 2
 
--- how a run of a script ends that stopped before the script's end
+-- how a run of a script ends that stopped before the script's end: for want of memory, or because a stream failed
 abbrev pub stopped : Stop → Ending
 stopped stop.OutOfMemory = OutOfMemory
 stopped stop.StreamFailed = StreamFailed
