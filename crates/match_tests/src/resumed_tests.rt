@@ -75,11 +75,13 @@ fn journal(alloc: Global, node: u8) -> Result<Vec<u8>, AllocError> {
     Ok(bytes)
 }
 
-/// A disk that has it.
+/// A disk that has it. None of its calls is to fail, so it refuses the journal for want of memory alone.
 fn disk_of(alloc: Global, node: u8) -> Result<OnceDisk, Fail> {
     let mut disk = OnceDisk::new(alloc, 0);
     let bytes = journal(alloc, node)?;
-    disk.write_at(0, &bytes)?;
+    if disk.write_at(0, &bytes).is_err() {
+        return Err(Fail::from(NodeFault::OutOfMemory));
+    }
     disk.sync()?;
     Ok(disk)
 }
