@@ -54,10 +54,10 @@ impl<D: Disk> Acceptor<D> {
     }
 
     /// Hands the disk back, with what the store kept on it.
-    pub fn close(self) -> D
+    pub fn into_disk(self) -> D
         ensures { result ≡ disk_of (store_of self) }
     {
-        self.store.close()
+        self.store.into_disk()
     }
 
     /// Makes room for accepting at so many slots more, so that `on_accept_reserved` takes no memory. An `Err` changes

@@ -31,7 +31,7 @@ fn vote_at<D: Disk>(
 }
 
 /// Puts what was found at a slot behind the other entries.
-fn tell(entries: &mut Entries, slot: u32, found: Option<(Ballot, Command)>)
+fn push_entry(entries: &mut Entries, slot: u32, found: Option<(Ballot, Command)>)
     requires { length entries.old < WINDOW }
     ensures entries { entries.new ≡ entries.old ++ told_pair slot found }
     ensures few { length entries.new ≤ length entries.old + 1 }
@@ -56,7 +56,7 @@ pub(crate) fn entries_from<D: Disk>(store: &mut Store<D>, first: u32) -> Result<
     for place in 0..WINDOW as u32 {
         let slot = first + place;
         let found = vote_at(store, slot)?;
-        tell(&mut entries, slot, found);
+        push_entry(&mut entries, slot, found);
     }
     Ok(entries)
 }

@@ -78,12 +78,12 @@ impl Play {
         if let Some(fault) = self.fault(action) {
             return Err(fault);
         }
-        self.take(action);
+        self.take_action(action);
         Ok(())
     }
 
     /// Takes an action of the player to act that is known to be allowed, as `act` does where there is no fault.
-    pub fn take(&mut self, action: Action)
+    pub fn take_action(&mut self, action: Action)
         requires { CanAct self.old.game (history self.old) action }
         ensures { self.new ≡ record { game = self.old.game; past = action ∷ self.old.past } }
     {

@@ -95,7 +95,7 @@ impl<L: Links + Drop> Links for SlowLinks<L> {
         self.links.part(node);
     }
 
-    fn close(&mut self, node: u8) {
-        self.links.close(node);
+    fn close_node(&mut self, node: u8) {
+        self.links.close_node(node);
     }
 }

@@ -18,7 +18,7 @@ use Rattle.dealer_node.specs.declared.reader.Reader.{Reader}
 use Rattle.dealer_node.specs.declared.seat_fault.SeatFault.{SeatFault}
 use Rattle.dealer_node.specs.Texts.{Marked}
 use Rattle.dealer_node.specs.Outs.{Told}
-use Rattle.dealer_node.specs.Turned.{posted, printed}
+use Rattle.dealer_node.specs.Turned.{framed, printed}
 use Rattle.dealer_node.specs.Fitting.{AreMessages}
 use Rattle.dealer_node.specs.Hearing.{TakesAct, TakesAnswer}
 use Rattle.dealer_node.proofs.Applied.{fits_by_table}
@@ -36,17 +36,17 @@ ready_taken place table promised seat pending told shown e = λ turn before is.
 
 pub act_taken : (place : Place) (table : Match) (promised : Ballot) (act : Command) (old new : Option Command) (told : Told) (frames : List (Marked ℕ))
     → new ≡ (if is_none old && is_none (reason_of table.game table.count table.hands act) then Some act else old)
-    → frames ≡ told.frames ++ map posted (if is_others place promised then one promised.node (Forward act) else [])
+    → frames ≡ told.frames ++ map framed (if is_others place promised then one promised.node (Forward act) else [])
     → AreMessages (if is_others place promised then one promised.node (Forward act) else [])
     → TakesAct place table promised act old new told (told_with frames told.shown told.faults)
 act_taken place table promised act old new told frames waits e messages = λ turn before is.
     let fitting : is_none (reason_of table.game table.count table.hands act) ≡ fits place.setting (applied turn.after) act = fits_by_table place.setting (applied turn.after) table act is.hands in
     let kept : new ≡ (if is_none turn.after.pending && fits place.setting (applied turn.after) act then Some act else turn.after.pending) =
     waits ∙ ap (λ b. if is_none old && b then Some act else old) fitting ∙ ap (λ o. if is_none o && fits place.setting (applied turn.after) act then Some act else o) is.waits in
-    let all : frames ≡ told.frames ++ map posted (forwarding place act turn.after) =
-    e ∙ ap (λ (p : Ballot). told.frames ++ map posted (if is_others place p then one p.node (Forward act) else [])) (sym is.promise) in
+    let all : frames ≡ told.frames ++ map framed (forwarding place act turn.after) =
+    e ∙ ap (λ (p : Ballot). told.frames ++ map framed (if is_others place p then one p.node (Forward act) else [])) (sym is.promise) in
     heard_more place table promised turn (sending (forwarding place act turn.after) (pending_act place act turn.after)) old new before told (told_with frames told.shown told.faults) is is.hands is.promise kept
-    (frames_more told frames (map posted (forwarding place act turn.after)) all)
+    (frames_more told frames (map framed (forwarding place act turn.after)) all)
     (subst (λ (p : Ballot). AreMessages (if is_others place p then one p.node (Forward act) else [])) (sym is.promise) messages)
 
 pub fault_taken : (place : Place) (table : Match) (promised : Ballot) (seat : ℕ) (fault : SessionFault) (pending : Option Command) (told : Told) (faults : List SeatFault)

@@ -11,9 +11,9 @@ use Rattle.promise_store.specs.declared.store.Store.{Store as Kept}
 use Rattle.node_rules.specs.Standings.{Standing}
 use Rattle.dealer_node.specs.Nodes.{Node}
 use Rattle.dealer_node.specs.declared.up.Up.{Up}
-use Rattle.dealer_node.specs.Posts.{Post}
+use Rattle.dealer_node.specs.Members.{Membership}
 use Rattle.dealer_node.specs.Working.{IsUp}
-use Rattle.dealer_node.specs.Seeing.{post_in, runs, is_up, IsSeenBy, IsSeen}
+use Rattle.dealer_node.specs.Seeing.{member_in, runs, is_up, IsSeenBy, IsSeen}
 
 -- one list of records at most
 abbrev pub OneReading : Type 0
@@ -26,8 +26,8 @@ module _ {D : Type 0} (g : Ghosts D) where
       (first.first, New, first.settled.journal honest) (second.first, New, second.settled.journal honest))
       ∙ sym second.is)
 
-  up_as_one : OneReading → (post : Post) (up : Up D) (a b : Standing) → IsTrue g.is_honest → IsUp g post up a → IsUp g post up b → a ≡ b
-  up_as_one reading post up a b honest first second =
+  up_as_one : OneReading → (member : Membership) (up : Up D) (a b : Standing) → IsTrue g.is_honest → IsUp g member up a → IsUp g member up b → a ≡ b
+  up_as_one reading member up a b honest first second =
       let stores : a.store ≡ b.store = kept_as_one reading _ a.store b.store _ honest first.keeps second.keeps in
       let begun : a.begun ≡ b.begun = first.unbegun ∙ (stores ∙ sym second.unbegun) in
       let x = first.running in
@@ -43,18 +43,18 @@ module _ {D : Type 0} (g : Ghosts D) where
           ∙ (ap (λ u. record b { pending = u; seen = a.seen; sessions = a.sessions }) pending ∙ (ap (λ u. record b { seen = u; sessions = a.sessions }) seen
           ∙ ap (λ u. record b { sessions = u }) sessions))))))
 
-  by_as_one : OneReading → (post : Post) (up : Option (Up D)) (disk : Option D) (a b : Standing) → IsTrue g.is_honest → IsSeenBy g post up disk a → IsSeenBy g post up disk b → a.up ≡ true → a ≡ b
-  by_as_one reading post (Some up) disk a b honest first second runs = up_as_one reading post up a b honest first second
-  by_as_one reading post None (Some disk) a b honest first second runs = absurd (let e : false ≡ true = sym (ap (λ (s : Standing). s.up) first.stopped) ∙ runs in cc)
-  by_as_one reading post None None a b honest first second runs = absurd first
+  by_as_one : OneReading → (member : Membership) (up : Option (Up D)) (disk : Option D) (a b : Standing) → IsTrue g.is_honest → IsSeenBy g member up disk a → IsSeenBy g member up disk b → a.up ≡ true → a ≡ b
+  by_as_one reading member (Some up) disk a b honest first second runs = up_as_one reading member up a b honest first second
+  by_as_one reading member None (Some disk) a b honest first second runs = absurd (let e : false ≡ true = sym (ap (λ (s : Standing). s.up) first.stopped) ∙ runs in cc)
+  by_as_one reading member None None a b honest first second runs = absurd first
 
-  by_up : (post : Post) (up : Option (Up D)) (disk : Option D) (s : Standing) → IsSeenBy g post up disk s → is_up up ≡ s.up
-  by_up post (Some up) disk s seen = sym seen.running.up
-  by_up post None (Some disk) s seen = sym (ap (λ (s : Standing). s.up) seen.stopped)
-  by_up post None None s seen = absurd seen
+  by_up : (member : Membership) (up : Option (Up D)) (disk : Option D) (s : Standing) → IsSeenBy g member up disk s → is_up up ≡ s.up
+  by_up member (Some up) disk s seen = sym seen.running.up
+  by_up member None (Some disk) s seen = sym (ap (λ (s : Standing). s.up) seen.stopped)
+  by_up member None None s seen = absurd seen
 
   pub as_one : OneReading → (node : Node D) (a b : Standing) → IsTrue g.is_honest → IsSeen g node a → IsSeen g node b → a.up ≡ true → a ≡ b
-  as_one reading node a b honest first second runs = by_as_one reading (post_in node) node.up node.disk a b honest first.by second.by runs
+  as_one reading node a b honest first second runs = by_as_one reading (member_in node) node.up node.disk a b honest first.by second.by runs
 
   pub tells_up : (node : Node D) (s : Standing) → IsSeen g node s → runs node ≡ s.up
-  tells_up node s seen = by_up (post_in node) node.up node.disk s seen.by
+  tells_up node s seen = by_up (member_in node) node.up node.disk s seen.by

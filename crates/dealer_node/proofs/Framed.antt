@@ -38,7 +38,7 @@ use Rattle.promise_store.specs.declared.fault.StoreFault.TheVariants.{Disk}
 use Rattle.dealer_node.specs.Texts.{byte_total}
 use Rattle.dealer_node.specs.Rooms.{Grows}
 use Rattle.dealer_node.specs.Outs.{Told}
-use Rattle.dealer_node.specs.Posts.{Post, place_at}
+use Rattle.dealer_node.specs.Members.{Membership, place_at}
 use Rattle.dealer_node.specs.Running.{IsRunning, IsTaken, CanLearn, ahead_of}
 use Rattle.dealer_node.specs.Calling.{frames_behind}
 use Rattle.dealer_node.specs.Working.{disk_under, ComesTo, IsDone, IsUp, Took, Failed, Works, HasLeft}
@@ -133,19 +133,19 @@ closing_done place s = by (leads place.nodes s.campaign && nat_le SLOTS (front_o
 
 module _ {D : Type 0} (g : Ghosts D) where
   -- the ballots of a message are seen
-  pub seen_up : (post : Post) (s : Standing) (message : Message) (old : Up D) (running : Running) → IsUp g post old s → IsRunning post running (seeing message s) → IsUp g post (record old { running = running }) (seeing message s)
-  seen_up post s message old running is runs = record { running = runs; keeps = is.keeps; unbegun = is.unbegun; stands = is.stands }
+  pub seen_up : (member : Membership) (s : Standing) (message : Message) (old : Up D) (running : Running) → IsUp g member old s → IsRunning member running (seeing message s) → IsUp g member (record old { running = running }) (seeing message s)
+  seen_up member s message old running is runs = record { running = runs; keeps = is.keeps; unbegun = is.unbegun; stands = is.stands }
 
   -- last, a question
-  ask_took : (post : Post) (s : Standing) (from : ℕ) (message : Message) (up : Up D) (earlier later : Told) → IsUp g post up s → IsTaken post up.running earlier later (asking from message s)
-      → Took g post s (Ok (asking from message s)) up up earlier later
-  ask_took post s from message up earlier later is taken =
+  ask_took : (member : Membership) (s : Standing) (from : ℕ) (message : Message) (up : Up D) (earlier later : Told) → IsUp g member up s → IsTaken member up.running earlier later (asking from message s)
+      → Took g member s (Ok (asking from message s)) up up earlier later
+  ask_took member s from message up earlier later is taken =
       let turn : Turn = asking from message s in
       let same = asked_same from message s in
       record {
         turn = turn;
         rule = refl;
-        now = subst (λ (x : Standing). IsUp g post up x) (sym same) is;
+        now = subst (λ (x : Standing). IsUp g member up x) (sym same) is;
         told = taken.told;
         fits = taken.fits;
         moments = λ t image was. inl was;
@@ -153,35 +153,35 @@ module _ {D : Type 0} (g : Ghosts D) where
       }
 
   -- where the question comes
-  pub message_took : (post : Post) (s : Standing) (from : ℕ) (message : Message) (old seen taken closed : Up D) (told between before later : Told)
+  pub message_took : (member : Membership) (s : Standing) (from : ℕ) (message : Message) (old seen taken closed : Up D) (told between before later : Told)
       → disk_under seen ≡ disk_under old
-      → (first : Took g post (seeing message s) (taking (place_at post) from message (seeing message s)) seen taken told between)
-      → (second : Took g post first.turn.after (closing (place_at post) first.turn.after) taken closed between before)
-      → ((x : Standing) → IsRunning post closed.running x → IsTaken post closed.running before later (asking from message x))
-      → Took g post s (on_message (place_at post) from message s) old closed told later
-  message_took post s from message old seen taken closed told between before later disk first second question =
+      → (first : Took g member (seeing message s) (taking (place_at member) from message (seeing message s)) seen taken told between)
+      → (second : Took g member first.turn.after (closing (place_at member) first.turn.after) taken closed between before)
+      → ((x : Standing) → IsRunning member closed.running x → IsTaken member closed.running before later (asking from message x))
+      → Took g member s (on_message (place_at member) from message s) old closed told later
+  message_took member s from message old seen taken closed told between before later disk first second question =
       let x : Standing = seeing message s in
-      let place = place_at post in
-      let both : Took g post x (and_then (taking place from message x) (closing place)) seen closed told before =
-      then_works g post x (closing place) (taking place from message x) seen taken closed told between before (Ok tt) first (appends_once place x first.turn (quiet place from message x first.turn first.rule)) second in
-      let third : Took g post both.turn.after (Ok (asking from message both.turn.after)) closed closed before later = ask_took post both.turn.after from message closed before later both.now (question both.turn.after both.now.running) in
-      let all : Took g post x (on_message place from message s) seen closed told later =
-      then_works g post x (λ c. Ok (asking from message c)) (and_then (taking place from message x) (closing place)) seen closed closed told before later (Ok tt) both
+      let place = place_at member in
+      let both : Took g member x (and_then (taking place from message x) (closing place)) seen closed told before =
+      then_works g member x (closing place) (taking place from message x) seen taken closed told between before (Ok tt) first (appends_once place x first.turn (quiet place from message x first.turn first.rule)) second in
+      let third : Took g member both.turn.after (Ok (asking from message both.turn.after)) closed closed before later = ask_took member both.turn.after from message closed before later both.now (question both.turn.after both.now.running) in
+      let all : Took g member x (on_message place from message s) seen closed told later =
+      then_works g member x (λ c. Ok (asking from message c)) (and_then (taking place from message x) (closing place)) seen closed closed told before later (Ok tt) both
       (inr (asking from message both.turn.after, refl, ap (λ (y : Standing). y.store) (asked_same from message both.turn.after), ap (λ (y : Standing). y.begun) (asked_same from message both.turn.after) ∙ both.now.unbegun)) third in
-      works_from g post s x (on_message place from message s) seen old closed told later (Ok tt) refl disk all
+      works_from g member s x (on_message place from message s) seen old closed told later (Ok tt) refl disk all
 
   -- a fault of what came first is one of the whole
-  later_failed : (post : Post) (s : Standing) (next : Standing → Result Turn Refusal) (outcome : Result Turn Refusal) (a b : Up D)
+  later_failed : (member : Membership) (s : Standing) (next : Standing → Result Turn Refusal) (outcome : Result Turn Refusal) (a b : Up D)
       → ((left : Store) → (left ≡ s.store) ⊎ ComesTo outcome left → (left ≡ s.store) ⊎ ComesTo (and_then outcome next) left)
-      → ((x : Standing) → IsDone (next x)) → Failed g post s outcome a b → Failed g post s (and_then outcome next) a b
-  later_failed post s next outcome a b goes ends f = record { left = f.left; comes = goes f.left f.comes; done = both_done outcome next ends f.done; leaves = f.leaves; moments = f.moments }
+      → ((x : Standing) → IsDone (next x)) → Failed g member s outcome a b → Failed g member s (and_then outcome next) a b
+  later_failed member s next outcome a b goes ends f = record { left = f.left; comes = goes f.left f.comes; done = both_done outcome next ends f.done; leaves = f.leaves; moments = f.moments }
 
-  pub later_fails : (post : Post) (s : Standing) (next : Standing → Result Turn Refusal) (outcome : Result Turn Refusal) (a b : Up D) (earlier later : Told) (why : NodeFault)
+  pub later_fails : (member : Membership) (s : Standing) (next : Standing → Result Turn Refusal) (outcome : Result Turn Refusal) (a b : Up D) (earlier later : Told) (why : NodeFault)
       → ((left : Store) → (left ≡ s.store) ⊎ ComesTo outcome left → (left ≡ s.store) ⊎ ComesTo (and_then outcome next) left)
-      → ((x : Standing) → IsDone (next x)) → Works g post s outcome a b earlier later (Err why) → Works g post s (and_then outcome next) a b earlier later (Err why)
-  later_fails post s next outcome a b earlier later (fault.Store Disk) goes ends w = later_failed post s next outcome a b goes ends w
-  later_fails post s next outcome a b earlier later fault.Conflict goes ends w = first_failed g post s next outcome a b w
-  later_fails post s next outcome a b earlier later why goes ends w = absurd w
+      → ((x : Standing) → IsDone (next x)) → Works g member s outcome a b earlier later (Err why) → Works g member s (and_then outcome next) a b earlier later (Err why)
+  later_fails member s next outcome a b earlier later (fault.Store Disk) goes ends w = later_failed member s next outcome a b goes ends w
+  later_fails member s next outcome a b earlier later fault.Conflict goes ends w = first_failed g member s next outcome a b w
+  later_fails member s next outcome a b earlier later why goes ends w = absurd w
 
   -- what a message leaves, the close and the question leave too
   asking_goes : (s : Standing) (from : ℕ) (message : Message) (outcome : Result Turn Refusal) (left : Store) → (left ≡ s.store) ⊎ ComesTo outcome left
@@ -204,31 +204,31 @@ module _ {D : Type 0} (g : Ghosts D) where
   closing_goes place s from message left unbegun (inr (inl (turn, rule, e))) = closing_by place s (taking place from message s) turn left unbegun rule e (quiet place from message s turn rule)
 
   -- where the close fails
-  pub close_failed : (post : Post) (s : Standing) (from : ℕ) (message : Message) (old seen taken closed : Up D) (told between before : Told) (why : NodeFault)
+  pub close_failed : (member : Membership) (s : Standing) (from : ℕ) (message : Message) (old seen taken closed : Up D) (told between before : Told) (why : NodeFault)
       → disk_under seen ≡ disk_under old
-      → (first : Took g post (seeing message s) (taking (place_at post) from message (seeing message s)) seen taken told between)
-      → Works g post first.turn.after (closing (place_at post) first.turn.after) taken closed between before (Err why)
-      → Works g post s (on_message (place_at post) from message s) old closed told before (Err why)
-  close_failed post s from message old seen taken closed told between before why disk first second =
+      → (first : Took g member (seeing message s) (taking (place_at member) from message (seeing message s)) seen taken told between)
+      → Works g member first.turn.after (closing (place_at member) first.turn.after) taken closed between before (Err why)
+      → Works g member s (on_message (place_at member) from message s) old closed told before (Err why)
+  close_failed member s from message old seen taken closed told between before why disk first second =
       let x : Standing = seeing message s in
-      let place = place_at post in
+      let place = place_at member in
       let outcome = and_then (taking place from message x) (closing place) in
-      let both = then_works g post x (closing place) (taking place from message x) seen taken closed told between before (Err why) first (appends_once place x first.turn (quiet place from message x first.turn first.rule)) second in
-      works_from g post s x (on_message place from message s) seen old closed told before (Err why) refl disk
-      (later_fails post x (λ c. Ok (asking from message c)) outcome seen closed told before why (asking_goes x from message outcome) (λ c. tt) both)
+      let both = then_works g member x (closing place) (taking place from message x) seen taken closed told between before (Err why) first (appends_once place x first.turn (quiet place from message x first.turn first.rule)) second in
+      works_from g member s x (on_message place from message s) seen old closed told before (Err why) refl disk
+      (later_fails member x (λ c. Ok (asking from message c)) outcome seen closed told before why (asking_goes x from message outcome) (λ c. tt) both)
 
   -- where the message itself fails
-  pub take_failed : (post : Post) (s : Standing) (from : ℕ) (message : Message) (old seen taken : Up D) (told before : Told) (why : NodeFault)
+  pub take_failed : (member : Membership) (s : Standing) (from : ℕ) (message : Message) (old seen taken : Up D) (told before : Told) (why : NodeFault)
       → disk_under seen ≡ disk_under old → s.begun ≡ s.store
-      → Works g post (seeing message s) (taking (place_at post) from message (seeing message s)) seen taken told before (Err why)
-      → Works g post s (on_message (place_at post) from message s) old taken told before (Err why)
-  take_failed post s from message old seen taken told before why disk unbegun first =
+      → Works g member (seeing message s) (taking (place_at member) from message (seeing message s)) seen taken told before (Err why)
+      → Works g member s (on_message (place_at member) from message s) old taken told before (Err why)
+  take_failed member s from message old seen taken told before why disk unbegun first =
       let x : Standing = seeing message s in
-      let place = place_at post in
+      let place = place_at member in
       let outcome = and_then (taking place from message x) (closing place) in
-      works_from g post s x (on_message place from message s) seen old taken told before (Err why) refl disk
-      (later_fails post x (λ c. Ok (asking from message c)) outcome seen taken told before why (asking_goes x from message outcome) (λ c. tt)
-      (later_fails post x (closing place) (taking place from message x) seen taken told before why (λ left. closing_goes place x from message left unbegun) (closing_done place) first))
+      works_from g member s x (on_message place from message s) seen old taken told before (Err why) refl disk
+      (later_fails member x (λ c. Ok (asking from message c)) outcome seen taken told before why (asking_goes x from message outcome) (λ c. tt)
+      (later_fails member x (closing place) (taking place from message x) seen taken told before why (λ left. closing_goes place x from message left unbegun) (closing_done place) first))
 
 -- ---- room
 

@@ -18,7 +18,7 @@ use Rattle.dealer_node.specs.declared.running.Running.{Running}
 use Rattle.dealer_node.specs.declared.fault.NodeFault.{NodeFault}
 use Rattle.dealer_node.specs.declared.fault.NodeFault.TheVariants as fault
 use Rattle.dealer_node.specs.Outs.{Told, nothing_told, both_told}
-use Rattle.dealer_node.specs.Posts.{Post, place_at}
+use Rattle.dealer_node.specs.Members.{Membership, place_at}
 use Rattle.dealer_node.specs.Turned.{told_of}
 use Rattle.dealer_node.specs.Running.{TakesPiece, is_spent_at}
 use Rattle.dealer_node.specs.Working.{disk_under, head_of, StandsByIts, IsUp, Works, GoesOn}
@@ -40,36 +40,36 @@ spent_over old new promised seen learned =
     ∙ ap (λ (l : Learned). (higher old.seen promised).round == 2 ^ 32 - 1 || nat_le SLOTS (front l.log)) learned
 
 module _ {D : Type 0} (g : Ghosts D) where
-  pub line_heard : (post : Post) (s : Standing) (seat : ℕ) (piece : List ℕ) (up : Up D) (running : Running) (earlier later : Told)
-      → IsUp g post up s → TakesPiece post running earlier later seat piece s → HearsLine g post s seat piece up (record up { running = running }) earlier later
-  line_heard post s seat piece up running earlier later is takes = record {
+  pub line_heard : (member : Membership) (s : Standing) (seat : ℕ) (piece : List ℕ) (up : Up D) (running : Running) (earlier later : Told)
+      → IsUp g member up s → TakesPiece member running earlier later seat piece s → HearsLine g member s seat piece up (record up { running = running }) earlier later
+  line_heard member s seat piece up running earlier later is takes = record {
     heard = takes.turn;
     rule = takes.rule;
-    took = memory_took g post s (Ok takes.turn) takes.turn up running earlier later is refl takes.taken.runs
+    took = memory_took g member s (Ok takes.turn) takes.turn up running earlier later is refl takes.taken.runs
         (ap (λ (t : Standing). t.store) takes.rest) (ap (λ (t : Standing). t.begun) takes.rest)
         (subst (λ (t : Standing). StandsByIts t) (sym takes.rest) is.stands) takes.taken.told takes.taken.fits;
     store = ap (λ (t : Standing). t.store) takes.rest;
   }
 
-  pub line_works : (post : Post) (s : Standing) (seat : ℕ) (piece : List ℕ) (a b c : Up D) (earlier middle later : Told) (answer : Result (Unit {0}) NodeFault)
-      → (heard : HearsLine g post s seat piece a b earlier middle)
-      → Works g post heard.took.turn.after (closing (place_at post) heard.took.turn.after) b c middle later answer
-      → WorksLine g post s seat piece a c earlier later answer
-  line_works post s seat piece a b c earlier middle later answer heard works = record {
+  pub line_works : (member : Membership) (s : Standing) (seat : ℕ) (piece : List ℕ) (a b c : Up D) (earlier middle later : Told) (answer : Result (Unit {0}) NodeFault)
+      → (heard : HearsLine g member s seat piece a b earlier middle)
+      → Works g member heard.took.turn.after (closing (place_at member) heard.took.turn.after) b c middle later answer
+      → WorksLine g member s seat piece a c earlier later answer
+  line_works member s seat piece a b c earlier middle later answer heard works = record {
     heard = heard.heard;
     rule = heard.rule;
-    works = then_works g post s (closing (place_at post)) (Ok heard.heard) a b c earlier middle later answer heard.took
+    works = then_works g member s (closing (place_at member)) (Ok heard.heard) a b c earlier middle later answer heard.took
         (inl (ap (λ (t : Turn). t.after.store) (sym (ok_is heard.heard heard.took.turn heard.took.rule)) ∙ heard.store)) works;
   }
 
   -- ---- the whole call, from the room that was made on
 
   -- of the room alone nothing is seen
-  pub works_over : (post : Post) (s : Standing) (outcome : Result Turn Refusal) (before between after : Up D) (made later out behind : Told) (answer : Result (Unit {0}) NodeFault)
+  pub works_over : (member : Membership) (s : Standing) (outcome : Result Turn Refusal) (before between after : Up D) (made later out behind : Told) (answer : Result (Unit {0}) NodeFault)
       → disk_under between ≡ disk_under before → made ≡ nothing_told → (answer ≡ Ok tt → behind ≡ both_told out later)
-      → Works g post s outcome between after made later answer → Handles g post s outcome before after out behind answer
-  works_over post s outcome before between after made later out behind (Ok done) same nothing appends w =
-      let L : D → Type 0 = λ d. LeavesDuring g (head_of post) s.store w.turn.after.store d (disk_under after) in
+      → Works g member s outcome between after made later answer → Handles g member s outcome before after out behind answer
+  works_over member s outcome before between after made later out behind (Ok done) same nothing appends w =
+      let L : D → Type 0 = λ d. LeavesDuring g (head_of member) s.store w.turn.after.store d (disk_under after) in
       record {
         turn = w.turn;
         rule = w.rule;
@@ -79,13 +79,13 @@ module _ {D : Type 0} (g : Ghosts D) where
         moments = subst L same w.moments;
         untouched = λ still. w.untouched still ∙ same;
       }
-  works_over post s outcome before between after made later out behind (Err (fault.Store Disk)) same nothing appends w =
-      let L : D → Type 0 = λ d. LeavesDuring g (head_of post) s.store w.left d (disk_under after) in
+  works_over member s outcome before between after made later out behind (Err (fault.Store Disk)) same nothing appends w =
+      let L : D → Type 0 = λ d. LeavesDuring g (head_of member) s.store w.left d (disk_under after) in
       record { left = w.left; comes = w.comes; done = w.done; leaves = w.leaves; moments = subst L same w.moments }
-  works_over post s outcome before between after made later out behind (Err fault.Conflict) same nothing appends w =
-      let L : D → Type 0 = λ d. LeavesDuring g (head_of post) s.store w.left d (disk_under after) in
+  works_over member s outcome before between after made later out behind (Err fault.Conflict) same nothing appends w =
+      let L : D → Type 0 = λ d. LeavesDuring g (head_of member) s.store w.left d (disk_under after) in
       record { left = w.left; rule = w.rule; leaves = w.leaves; moments = subst L same w.moments }
-  works_over post s outcome before between after made later out behind (Err other) same nothing appends w = absurd w
+  works_over member s outcome before between after made later out behind (Err other) same nothing appends w = absurd w
 
   pub goes_over : (before between after : Up D) (answer : Result (Unit {0}) NodeFault) → disk_under between ≡ disk_under before → GoesOn g between after answer → GoesOn g before after answer
   goes_over before between after answer same on = record {

@@ -15,9 +15,9 @@ use Rattle.node_rules.specs.Applying.{Scene, taking_all, passed, scene_of, apply
 use Rattle.dealer_node.specs.declared.reader.Reader.{Reader}
 use Rattle.dealer_node.specs.declared.running.Running.{Running}
 use Rattle.dealer_node.specs.Texts.{Marked}
-use Rattle.dealer_node.specs.Posts.{Post, place_at}
+use Rattle.dealer_node.specs.Members.{Membership, place_at}
 use Rattle.dealer_node.specs.Outs.{Told}
-use Rattle.dealer_node.specs.Turned.{posted, printed}
+use Rattle.dealer_node.specs.Turned.{framed, printed}
 use Rattle.dealer_node.specs.Fitting.{AreMessages}
 use Rattle.dealer_node.specs.Scenes.{IsTableOf, IsScene}
 use Rattle.dealer_node.specs.Running.{IsRunning, IsTaken, GoesOn}
@@ -27,30 +27,30 @@ use Rattle.dealer_node.proofs.Telling.{told_with, frames_more, shown_more, told_
 
 -- ---- the turn of what was learned
 
-pub applied_taken : (post : Post) (old new : Running) (learner : Learning) (from : ℕ) (s : Standing) (learned : Learned) (told : Told) (shown : List (Marked Reader)) (commands : ℕ)
-    → IsRunning post old s → from ≡ front old.learner.learned.log → learner.learned ≡ learned → GoesOn old.learner.learned.log learner.learned.log commands
-    → ((scene : Scene) (before : List (Marked Reader)) → IsScene post.setting scene old.table old.pending before told.shown
-    → IsScene post.setting (taking_all post.setting old.seats.talks (drop from (reverse learner.learned.log.below)) scene) new.table new.pending before shown)
+pub applied_taken : (member : Membership) (old new : Running) (learner : Learning) (from : ℕ) (s : Standing) (learned : Learned) (told : Told) (shown : List (Marked Reader)) (commands : ℕ)
+    → IsRunning member old s → from ≡ front old.learner.learned.log → learner.learned ≡ learned → GoesOn old.learner.learned.log learner.learned.log commands
+    → ((scene : Scene) (before : List (Marked Reader)) → IsScene member.setting scene old.table old.pending before told.shown
+    → IsScene member.setting (taking_all member.setting old.seats.talks (drop from (reverse learner.learned.log.below)) scene) new.table new.pending before shown)
     → new ≡ record old { learner = learner; table = new.table; pending = new.pending }
-    → IsTaken post new told (told_with told.frames shown told.faults) (applying (place_at post) learned s)
-applied_taken post old new learner from s learned told shown commands is here same goes scenes rest =
-    let first : IsScene post.setting (scene_of s) old.table old.pending told.shown told.shown = record { hands = is.hands; waits = is.waits; shown = sym (append-nil told.shown) } in
-    let end : Scene = taking_all post.setting s.sessions (passed s.learned.log learned.log) (scene_of s) in
-    let ends : taking_all post.setting old.seats.talks (drop from (reverse learner.learned.log.below)) (scene_of s) ≡ end =
-    ap (λ t. taking_all post.setting t (drop from (reverse learner.learned.log.below)) (scene_of s)) is.sessions
-    ∙ (ap (λ k. taking_all post.setting s.sessions (drop k (reverse learner.learned.log.below)) (scene_of s)) (here ∙ ap (λ (l : Learned). front l.log) is.learned)
-    ∙ ap (λ (l : Learned). taking_all post.setting s.sessions (drop (front s.learned.log) (reverse l.log.below)) (scene_of s)) same) in
-    let last : IsScene post.setting end new.table new.pending told.shown shown = subst (λ (scene : Scene). IsScene post.setting scene new.table new.pending told.shown shown) ends (scenes (scene_of s) told.shown first) in
+    → IsTaken member new told (told_with told.frames shown told.faults) (applying (place_at member) learned s)
+applied_taken member old new learner from s learned told shown commands is here same goes scenes rest =
+    let first : IsScene member.setting (scene_of s) old.table old.pending told.shown told.shown = record { hands = is.hands; waits = is.waits; shown = sym (append-nil told.shown) } in
+    let end : Scene = taking_all member.setting s.sessions (passed s.learned.log learned.log) (scene_of s) in
+    let ends : taking_all member.setting old.seats.talks (drop from (reverse learner.learned.log.below)) (scene_of s) ≡ end =
+    ap (λ t. taking_all member.setting t (drop from (reverse learner.learned.log.below)) (scene_of s)) is.sessions
+    ∙ (ap (λ k. taking_all member.setting s.sessions (drop k (reverse learner.learned.log.below)) (scene_of s)) (here ∙ ap (λ (l : Learned). front l.log) is.learned)
+    ∙ ap (λ (l : Learned). taking_all member.setting s.sessions (drop (front s.learned.log) (reverse l.log.below)) (scene_of s)) same) in
+    let last : IsScene member.setting end new.table new.pending told.shown shown = subst (λ (scene : Scene). IsScene member.setting scene new.table new.pending told.shown shown) ends (scenes (scene_of s) told.shown first) in
     let below : learned.log.below ≡ goes.later ++ s.learned.log.below =
     ap (λ (l : Learned). l.log.below) (sym same) ∙ (goes.below ∙ ap (λ (l : Learned). goes.later ++ l.log.below) is.learned) in
     let all : end.applied ≡ learned.log.below =
-    all_applied post.setting s.sessions (passed s.learned.log learned.log) (scene_of s) ∙ passed_all s.learned.log learned.log goes.later below in
+    all_applied member.setting s.sessions (passed s.learned.log learned.log) (scene_of s) ∙ passed_all s.learned.log learned.log goes.later below in
     record {
       runs = record {
         up = is.up;
         campaign = ap (λ (r : Running). r.proposer.campaign) rest ∙ is.campaign;
         learned = ap (λ (r : Running). r.learner.learned) rest ∙ same;
-        hands = subst (λ (l : List Command). IsTableOf post.setting l new.table) all last.hands;
+        hands = subst (λ (l : List Command). IsTableOf member.setting l new.table) all last.hands;
         waits = last.waits;
         greatest = ap (λ (r : Running). r.seen) rest ∙ is.greatest;
         sessions = ap (λ (r : Running). r.seats.talks) rest ∙ is.sessions;
@@ -70,14 +70,14 @@ learned_err place (Err fault) learned s e = refl
 
 -- ---- frames alone
 
-pub sent_taken : (post : Post) (running : Running) (s : Standing) (told : Told) (texts : List (Marked ℕ)) (frames : List Frame) → IsRunning post running s
-    → texts ≡ told.frames ++ map posted frames → AreMessages frames → IsTaken post running told (told_with texts told.shown told.faults) (sending frames s)
-sent_taken post running s told texts frames is e messages = record { runs = is; told = frames_more told texts (map posted frames) e; fits = messages }
+pub sent_taken : (member : Membership) (running : Running) (s : Standing) (told : Told) (texts : List (Marked ℕ)) (frames : List Frame) → IsRunning member running s
+    → texts ≡ told.frames ++ map framed frames → AreMessages frames → IsTaken member running told (told_with texts told.shown told.faults) (sending frames s)
+sent_taken member running s told texts frames is e messages = record { runs = is; told = frames_more told texts (map framed frames) e; fits = messages }
 
 -- ---- what is stored changes nothing of it
 
-pub stored_too : (post : Post) (running : Running) (s : Standing) (store : Store) → IsRunning post running s → IsRunning post running (with_stored s store)
-stored_too post running s store is = record {
+pub stored_too : (member : Membership) (running : Running) (s : Standing) (store : Store) → IsRunning member running s → IsRunning member running (with_stored s store)
+stored_too member running s store is = record {
   up = is.up;
   campaign = is.campaign;
   learned = is.learned;
@@ -91,9 +91,9 @@ stored_too post running s store is = record {
 
 -- ---- one turn behind another
 
-pub taken_behind : (post : Post) (mid new : Running) (earlier between later : Told) (first next : Turn)
-    → IsTaken post mid earlier between first → IsTaken post new between later next → IsTaken post new earlier later (joined first next)
-taken_behind post mid new earlier between later first next one other = record {
+pub taken_behind : (member : Membership) (mid new : Running) (earlier between later : Told) (first next : Turn)
+    → IsTaken member mid earlier between first → IsTaken member new between later next → IsTaken member new earlier later (joined first next)
+taken_behind member mid new earlier between later first next one other = record {
   runs = other.runs;
   told = told_more first next earlier between later one.told other.told;
   fits = both_messages first.frames next.frames one.fits other.fits;

@@ -2,7 +2,7 @@ pub mod Cutting
 pub mod Applied
 pub mod Printed
 pub mod Sent
-pub mod Posted
+pub mod MemberMade
 pub mod Messages
 pub mod Telling
 pub mod Answered

@@ -28,9 +28,9 @@ use Rattle.protocol_model.specs.Votes.{told_by}
 use Rattle.node_rules.specs.Proposing.{prepared, beginning, own_value, proposal_at, closing, closing_by}
 use Rattle.dealer_node.specs.declared.running.Running.{Running}
 use Rattle.dealer_node.specs.Texts.{Marked}
-use Rattle.dealer_node.specs.Posts.{Post, place_at}
+use Rattle.dealer_node.specs.Members.{Membership, place_at}
 use Rattle.dealer_node.specs.Outs.{Told}
-use Rattle.dealer_node.specs.Turned.{posted}
+use Rattle.dealer_node.specs.Turned.{framed}
 use Rattle.dealer_node.specs.Fitting.{AreMessages}
 use Rattle.dealer_node.specs.Running.{IsRunning, IsTaken, IsCampaign, IsAt, Closes, proposed_by}
 use Rattle.dealer_node.specs.Scenes.{IsTableOf}
@@ -218,57 +218,57 @@ spent_by true slot e here = le-leb SLOTS slot here
 spent_by false slot e here = absurd (true≢false (sym e))
 
 -- it leads and no slot is left
-abbrev is_spent_leader : Post → Standing → Bool
-is_spent_leader post s = leads post.nodes s.campaign && nat_le SLOTS (front_of s)
+abbrev is_spent_leader : Membership → Standing → Bool
+is_spent_leader member s = leads member.nodes s.campaign && nat_le SLOTS (front_of s)
 
 -- the campaign alone has changed
-runs_with : (post : Post) (old new : Running) (s : Standing) (campaign : Option Campaign) → IsRunning post old s → new.proposer.campaign ≡ campaign → new ≡ record old { proposer = new.proposer }
-    → IsRunning post new (record s { campaign = campaign })
-runs_with post old new s campaign is marks rest = record {
+runs_with : (member : Membership) (old new : Running) (s : Standing) (campaign : Option Campaign) → IsRunning member old s → new.proposer.campaign ≡ campaign → new ≡ record old { proposer = new.proposer }
+    → IsRunning member new (record s { campaign = campaign })
+runs_with member old new s campaign is marks rest = record {
   up = is.up;
   campaign = marks;
   learned = ap (λ (r : Running). r.learner.learned) rest ∙ is.learned;
-  hands = subst (λ (r : Running). IsTableOf post.setting (applied s) r.table) (sym rest) is.hands;
+  hands = subst (λ (r : Running). IsTableOf member.setting (applied s) r.table) (sym rest) is.hands;
   waits = ap (λ (r : Running). r.pending) rest ∙ is.waits;
   greatest = ap (λ (r : Running). r.seen) rest ∙ is.greatest;
   sessions = ap (λ (r : Running). r.seats.talks) rest ∙ is.sessions;
 }
 
-module _ (post : Post) (old : Running) (s : Standing) (at : IsAt post old) (is : IsRunning post old s) where
+module _ (member : Membership) (old : Running) (s : Standing) (at : IsAt member old) (is : IsRunning member old s) where
   same_front : front old.learner.learned.log ≡ front_of s
   same_front = ap (λ (l : Learned). front l.log) is.learned
 
-  same_proposal : (own : Option Command) (slot : ℕ) (outcome : Result (Option AcceptRun) ProposeFault) → outcome ≡ run_of old.proposer slot own → slot ≡ front old.learner.learned.log → own ≡ own_value (place_at post) s
-      → proposal_at (place_at post) s ≡ outcome
+  same_proposal : (own : Option Command) (slot : ℕ) (outcome : Result (Option AcceptRun) ProposeFault) → outcome ≡ run_of old.proposer slot own → slot ≡ front old.learner.learned.log → own ≡ own_value (place_at member) s
+      → proposal_at (place_at member) s ≡ outcome
   same_proposal own slot outcome e here value =
       sym (e ∙ (ap (λ n. run_from_campaign n old.proposer.campaign slot own) at.nodes
-      ∙ (ap (λ (c : Option Campaign). run_from_campaign post.nodes c slot own) is.campaign
-      ∙ (ap (λ k. run_from_campaign post.nodes s.campaign k own) (here ∙ same_front)
-      ∙ ap (λ (v : Option Command). run_from_campaign post.nodes s.campaign (front_of s) v) value))))
+      ∙ (ap (λ (c : Option Campaign). run_from_campaign member.nodes c slot own) is.campaign
+      ∙ (ap (λ k. run_from_campaign member.nodes s.campaign k own) (here ∙ same_front)
+      ∙ ap (λ (v : Option Command). run_from_campaign member.nodes s.campaign (front_of s) v) value))))
 
-  goes_on : (leads post.nodes old.proposer.campaign ≡ true → front old.learner.learned.log < SLOTS) → is_spent_leader post s ≡ false
-  goes_on left = open_by (leads post.nodes s.campaign) (front_of s) (λ e. subst (λ k. k < SLOTS) same_front (left (ap (λ (c : Option Campaign). leads post.nodes c) is.campaign ∙ e)))
+  goes_on : (leads member.nodes old.proposer.campaign ≡ true → front old.learner.learned.log < SLOTS) → is_spent_leader member s ≡ false
+  goes_on left = open_by (leads member.nodes s.campaign) (front_of s) (λ e. subst (λ k. k < SLOTS) same_front (left (ap (λ (c : Option Campaign). leads member.nodes c) is.campaign ∙ e)))
 
-  close_by : (outcome : Result (Option AcceptRun) ProposeFault) → proposal_at (place_at post) s ≡ outcome
-      → (leads post.nodes old.proposer.campaign ≡ true → front old.learner.learned.log < SLOTS)
-      → closing (place_at post) s ≡ closing_by (place_at post) outcome (record s { campaign = marked_run_from s.campaign outcome })
+  close_by : (outcome : Result (Option AcceptRun) ProposeFault) → proposal_at (place_at member) s ≡ outcome
+      → (leads member.nodes old.proposer.campaign ≡ true → front old.learner.learned.log < SLOTS)
+      → closing (place_at member) s ≡ closing_by (place_at member) outcome (record s { campaign = marked_run_from s.campaign outcome })
   close_by outcome e left =
-      ap (λ (b : Bool). if b then Ok (still (idle s)) else closing_by (place_at post) (proposal_at (place_at post) s) (record s { campaign = marked_run_from s.campaign (proposal_at (place_at post) s) })) (goes_on left)
-      ∙ ap (λ (p : Result (Option AcceptRun) ProposeFault). closing_by (place_at post) p (record s { campaign = marked_run_from s.campaign p })) e
+      ap (λ (b : Bool). if b then Ok (still (idle s)) else closing_by (place_at member) (proposal_at (place_at member) s) (record s { campaign = marked_run_from s.campaign (proposal_at (place_at member) s) })) (goes_on left)
+      ∙ ap (λ (p : Result (Option AcceptRun) ProposeFault). closing_by (place_at member) p (record s { campaign = marked_run_from s.campaign p })) e
 
-  closed : (made : Option AcceptRun) (after : Standing) → closing_by (place_at post) (Ok made) after ≡ proposed_by (place_at post) made after
+  closed : (made : Option AcceptRun) (after : Standing) → closing_by (place_at member) (Ok made) after ≡ proposed_by (place_at member) made after
   closed None after = refl
   closed (Some made) after = refl
 
   pub close_proposed : (new : Running) (own : Option Command) (slot : ℕ) (made : Option AcceptRun)
-      → Ok made ≡ run_of old.proposer slot own → slot ≡ front old.learner.learned.log → own ≡ own_value (place_at post) s
-      → (leads post.nodes old.proposer.campaign ≡ true → front old.learner.learned.log < SLOTS)
-      → new.proposer.campaign ≡ marked_run_from old.proposer.campaign (Ok made) → new ≡ record old { proposer = new.proposer } → Closes post new s made
+      → Ok made ≡ run_of old.proposer slot own → slot ≡ front old.learner.learned.log → own ≡ own_value (place_at member) s
+      → (leads member.nodes old.proposer.campaign ≡ true → front old.learner.learned.log < SLOTS)
+      → new.proposer.campaign ≡ marked_run_from old.proposer.campaign (Ok made) → new ≡ record old { proposer = new.proposer } → Closes member new s made
   close_proposed new own slot made e here value left marks rest =
       let campaign : Option Campaign = marked_run_from s.campaign (Ok made) in
       record {
         marked = record s { campaign = campaign };
-        runs = runs_with post old new s campaign is (marks ∙ ap (λ (c : Option Campaign). marked_run_from c (Ok made)) is.campaign) rest;
+        runs = runs_with member old new s campaign is (marks ∙ ap (λ (c : Option Campaign). marked_run_from c (Ok made)) is.campaign) rest;
         rule = close_by (Ok made) (same_proposal own slot (Ok made) e here value) left ∙ closed made (record s { campaign = campaign });
         rest = refl;
         stands = marked_stands s.campaign made;
@@ -276,34 +276,34 @@ module _ (post : Post) (old : Running) (s : Standing) (at : IsAt post old) (is :
       }
 
   -- a node that doesn't lead proposes nothing, whatever it would of its own
-  pub close_unled : leads post.nodes old.proposer.campaign ≡ false → Closes post old s None
+  pub close_unled : leads member.nodes old.proposer.campaign ≡ false → Closes member old s None
   close_unled unled =
-      close_proposed old (own_value (place_at post) s) (front old.learner.learned.log) None
-      (no_proposal old.proposer.nodes (front old.learner.learned.log) old.proposer.campaign (own_value (place_at post) s) (ap (λ n. leads n old.proposer.campaign) at.nodes ∙ unled)) refl refl
+      close_proposed old (own_value (place_at member) s) (front old.learner.learned.log) None
+      (no_proposal old.proposer.nodes (front old.learner.learned.log) old.proposer.campaign (own_value (place_at member) s) (ap (λ n. leads n old.proposer.campaign) at.nodes ∙ unled)) refl refl
       (λ leading. absurd (true≢false (sym leading ∙ unled))) (unmarked old.proposer.campaign) refl
 
   pub close_outside : (new : Running) (own : Option Command) (slot : ℕ) (fault : ProposeFault)
-      → Err fault ≡ run_of old.proposer slot own → slot ≡ front old.learner.learned.log → own ≡ own_value (place_at post) s
-      → (leads post.nodes old.proposer.campaign ≡ true → front old.learner.learned.log < SLOTS)
-      → new.proposer.campaign ≡ None → new ≡ record old { proposer = new.proposer } → Closes post new s None
+      → Err fault ≡ run_of old.proposer slot own → slot ≡ front old.learner.learned.log → own ≡ own_value (place_at member) s
+      → (leads member.nodes old.proposer.campaign ≡ true → front old.learner.learned.log < SLOTS)
+      → new.proposer.campaign ≡ None → new ≡ record old { proposer = new.proposer } → Closes member new s None
   close_outside new own slot fault e here value left gone rest = record {
     marked = idle s;
-    runs = runs_with post old new s None is gone rest;
+    runs = runs_with member old new s None is gone rest;
     rule = close_by (Err fault) (same_proposal own slot (Err fault) e here value) left;
     rest = refl;
     stands = λ ballot led. tt;
     own = λ ballot led. tt;
   }
 
-  pub close_spent : (new : Running) → leads post.nodes old.proposer.campaign ≡ true → SLOTS ≤ front old.learner.learned.log
-      → new.proposer.campaign ≡ None → new ≡ record old { proposer = new.proposer } → Closes post new s None
+  pub close_spent : (new : Running) → leads member.nodes old.proposer.campaign ≡ true → SLOTS ≤ front old.learner.learned.log
+      → new.proposer.campaign ≡ None → new ≡ record old { proposer = new.proposer } → Closes member new s None
   close_spent new leading most gone rest =
-      let leads_too : leads post.nodes s.campaign ≡ true = ap (λ (c : Option Campaign). leads post.nodes c) (sym is.campaign) ∙ leading in
-      let spent : is_spent_leader post s ≡ true = spent_by (leads post.nodes s.campaign) (front_of s) leads_too (subst (λ k. SLOTS ≤ k) same_front most) in
+      let leads_too : leads member.nodes s.campaign ≡ true = ap (λ (c : Option Campaign). leads member.nodes c) (sym is.campaign) ∙ leading in
+      let spent : is_spent_leader member s ≡ true = spent_by (leads member.nodes s.campaign) (front_of s) leads_too (subst (λ k. SLOTS ≤ k) same_front most) in
       record {
         marked = idle s;
-        runs = runs_with post old new s None is gone rest;
-        rule = ap (λ (b : Bool). if b then Ok (still (idle s)) else closing_by (place_at post) (proposal_at (place_at post) s) (record s { campaign = marked_run_from s.campaign (proposal_at (place_at post) s) })) spent;
+        runs = runs_with member old new s None is gone rest;
+        rule = ap (λ (b : Bool). if b then Ok (still (idle s)) else closing_by (place_at member) (proposal_at (place_at member) s) (record s { campaign = marked_run_from s.campaign (proposal_at (place_at member) s) })) spent;
         rest = refl;
         stands = λ ballot led. tt;
         own = λ ballot led. tt;
@@ -311,27 +311,27 @@ module _ (post : Post) (old : Running) (s : Standing) (at : IsAt post old) (is :
 
 -- ---- a ballot begins
 
-pub begun_taken : (post : Post) (old : Running) (begun counted : Proposing) (s : Standing) (seen ballot : Ballot) (slot node nodes number : ℕ) (entries : List Entry) (told : Told) (texts : List (Marked ℕ))
-    → IsAt post old → IsRunning post old s → slot ≡ front old.learner.learned.log → node ≡ post.node → nodes ≡ post.nodes → number ≡ post.node
+pub begun_taken : (member : Membership) (old : Running) (begun counted : Proposing) (s : Standing) (seen ballot : Ballot) (slot node nodes number : ℕ) (entries : List Entry) (told : Told) (texts : List (Marked ℕ))
+    → IsAt member old → IsRunning member old s → slot ≡ front old.learner.learned.log → node ≡ member.node → nodes ≡ member.nodes → number ≡ member.node
     → ballot ≡ next_ballot old.proposer.node seen
     → begun ≡ record old.proposer { campaign = Some (new_campaign (next_ballot old.proposer.node seen) slot) }
     → counted ≡ counting begun node ballot slot entries → entries ≡ told_by s.store (front_of s)
-    → texts ≡ told.frames ++ map posted (to_first nodes number (Prepare ballot slot)) → AreMessages (to_first nodes number (Prepare ballot slot))
-    → IsTaken post (record old { proposer = counted }) told (told_with texts told.shown told.faults) (beginning (place_at post) ballot s)
-begun_taken post old begun counted s seen ballot slot node nodes number entries told texts at is here own many own_too next begins counts tells sends fits =
+    → texts ≡ told.frames ++ map framed (to_first nodes number (Prepare ballot slot)) → AreMessages (to_first nodes number (Prepare ballot slot))
+    → IsTaken member (record old { proposer = counted }) told (told_with texts told.shown told.faults) (beginning (place_at member) ballot s)
+begun_taken member old begun counted s seen ballot slot node nodes number entries told texts at is here own many own_too next begins counts tells sends fits =
     let at_front : slot ≡ front_of s = here ∙ ap (λ (l : Learned). front l.log) is.learned in
     let first : begun.campaign ≡ Some (new_campaign ballot slot) =
     ap (λ (p : Proposing). p.campaign) begins ∙ ap (λ (b : Ballot). Some (new_campaign b slot)) (sym next) in
-    let total : begun.nodes ≡ post.nodes = ap (λ (p : Proposing). p.nodes) begins ∙ at.nodes in
-    let campaign : counted.campaign ≡ Some (prepared (place_at post) ballot s) =
+    let total : begun.nodes ≡ member.nodes = ap (λ (p : Proposing). p.nodes) begins ∙ at.nodes in
+    let campaign : counted.campaign ≡ Some (prepared (place_at member) ballot s) =
     ap (λ (p : Proposing). p.campaign) counts
     ∙ (ap (λ (c : Option Campaign). counting_from begun.nodes c node ballot slot entries) first
     ∙ (ap (λ n. Some (with_promise n (new_campaign ballot slot) node ballot slot entries)) total
-    ∙ (ap (λ n. Some (with_promise post.nodes (new_campaign ballot slot) n ballot slot entries)) own
-    ∙ (ap (λ k. Some (with_promise post.nodes (new_campaign ballot k) post.node ballot k entries)) at_front
-    ∙ ap (λ (es : List Entry). Some (with_promise post.nodes (new_campaign ballot (front_of s)) post.node ballot (front_of s) es)) tells)))) in
-    let frames : to_first nodes number (Prepare ballot slot) ≡ to_first post.nodes post.node (Prepare ballot (front_of s)) =
-    ap (λ n. to_first n number (Prepare ballot slot)) many ∙ (ap (λ n. to_first post.nodes n (Prepare ballot slot)) own_too ∙ ap (λ k. to_first post.nodes post.node (Prepare ballot k)) at_front) in
+    ∙ (ap (λ n. Some (with_promise member.nodes (new_campaign ballot slot) n ballot slot entries)) own
+    ∙ (ap (λ k. Some (with_promise member.nodes (new_campaign ballot k) member.node ballot k entries)) at_front
+    ∙ ap (λ (es : List Entry). Some (with_promise member.nodes (new_campaign ballot (front_of s)) member.node ballot (front_of s) es)) tells)))) in
+    let frames : to_first nodes number (Prepare ballot slot) ≡ to_first member.nodes member.node (Prepare ballot (front_of s)) =
+    ap (λ n. to_first n number (Prepare ballot slot)) many ∙ (ap (λ n. to_first member.nodes n (Prepare ballot slot)) own_too ∙ ap (λ k. to_first member.nodes member.node (Prepare ballot k)) at_front) in
     record {
       runs = record {
         up = is.up;
@@ -342,7 +342,7 @@ begun_taken post old begun counted s seen ballot slot node nodes number entries 
         greatest = is.greatest;
         sessions = is.sessions;
       };
-      told = frames_more told texts (map posted (to_first post.nodes post.node (Prepare ballot (front_of s)))) (sends ∙ ap (λ (fs : List Frame). told.frames ++ map posted fs) frames);
+      told = frames_more told texts (map framed (to_first member.nodes member.node (Prepare ballot (front_of s)))) (sends ∙ ap (λ (fs : List Frame). told.frames ++ map framed fs) frames);
       fits = subst (λ (fs : List Frame). AreMessages fs) frames fits;
     }
 
@@ -365,12 +365,12 @@ counted_within : (counts : Bool) (campaign : Campaign) (from : ℕ) (told : List
 counted_within true campaign from told is all = record { ballot = is.ballot; told = set_within campaign.promises from told is.told all }
 counted_within false campaign from told is all = is
 
-pub begun_at : (post : Post) (old : Running) (begun counted : Proposing) (seen ballot : Ballot) (slot node : ℕ) (entries : List Entry)
-    → IsAt post old → IsBallot ballot → ballot ≡ next_ballot old.proposer.node seen
+pub begun_at : (member : Membership) (old : Running) (begun counted : Proposing) (seen ballot : Ballot) (slot node : ℕ) (entries : List Entry)
+    → IsAt member old → IsBallot ballot → ballot ≡ next_ballot old.proposer.node seen
     → begun ≡ record old.proposer { campaign = Some (new_campaign (next_ballot old.proposer.node seen) slot) }
     → counted ≡ counting begun node ballot slot entries → AllByRecursion IsEntry entries
-    → IsAt post (record old { proposer = counted })
-begun_at post old begun counted seen ballot slot node entries at is next begins counts all =
+    → IsAt member (record old { proposer = counted })
+begun_at member old begun counted seen ballot slot node entries at is next begins counts all =
     let first : begun.campaign ≡ Some (new_campaign ballot slot) = ap (λ (p : Proposing). p.campaign) begins ∙ ap (λ (b : Ballot). Some (new_campaign b slot)) (sym next) in
     let campaign : counted.campaign ≡ Some (with_promise begun.nodes (new_campaign ballot slot) node ballot slot entries) =
     ap (λ (p : Proposing). p.campaign) counts ∙ ap (λ (c : Option Campaign). counting_from begun.nodes c node ballot slot entries) first in

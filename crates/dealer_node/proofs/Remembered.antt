@@ -14,7 +14,7 @@ use Rattle.node_rules.specs.Learning.{learning, asking_on}
 use Rattle.node_rules.specs.Applying.{applying}
 use Rattle.dealer_node.specs.declared.running.Running.{Running}
 use Rattle.dealer_node.specs.Outs.{Told}
-use Rattle.dealer_node.specs.Posts.{Post}
+use Rattle.dealer_node.specs.Members.{Membership}
 use Rattle.dealer_node.specs.Running.{IsRunning}
 use Rattle.dealer_node.specs.Memory.{KeepsStore, TakesInMemory}
 use Rattle.node_rules.proofs.Results.{ok_is}
@@ -67,8 +67,8 @@ believed_keeps place (Err fault) learned s from turn e = absurd (cc)
 
 -- ---- nothing is sent or shown
 
-pub still_taken : (post : Post) (running : Running) (s after : Standing) (told : Told) → IsRunning post running after → KeepsStore s after → TakesInMemory post running told told s (Ok (still after))
-still_taken post running s after told is keeps = record {
+pub still_taken : (member : Membership) (running : Running) (s after : Standing) (told : Told) → IsRunning member running after → KeepsStore s after → TakesInMemory member running told told s (Ok (still after))
+still_taken member running s after told is keeps = record {
   takes = record { turn = still after; rule = refl; taken = record { runs = is; told = nothing_more told after; fits = no_messages } };
   keeps = keeps;
 }

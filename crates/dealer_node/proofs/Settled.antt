@@ -22,7 +22,7 @@ use Rattle.dealer_node.specs.declared.up.Up.{Up}
 use Rattle.dealer_node.specs.declared.fault.NodeFault.{NodeFault}
 use Rattle.dealer_node.specs.declared.fault.NodeFault.TheVariants as fault
 use Rattle.dealer_node.specs.Outs.{Told}
-use Rattle.dealer_node.specs.Posts.{Post, place_at}
+use Rattle.dealer_node.specs.Members.{Membership, place_at}
 use Rattle.dealer_node.specs.Fitting.{AreMessages}
 use Rattle.dealer_node.specs.Working.{head_of, disk_under, ComesTo, IsDone, IsUp, Took, Failed, Clashed}
 use Rattle.dealer_node.specs.declared.node.Node.TheInside.{Inside}
@@ -57,12 +57,12 @@ pub left_after : (place : Place) (s : Standing) (outcome : Result Turn Refusal) 
 left_after place s outcome left (inl (turn, rule, e)) = e ∙ sym (ap (λ (o : Result Turn Refusal). (standing_after place s o).begun) rule)
 left_after place s outcome left (inr rule) = sym (ap (λ (o : Result Turn Refusal). (standing_after place s o).begun) rule)
 
-kept_by : {D : Type 0} (post : Post) (up : Option (Up D)) (one : Up D) → up ≡ Some one → IfSome up (λ u. IsAt post u.running) → IsAt post one.running
-kept_by {D} post up one is at = let P : Option (Up D) → Type 0 = λ u. IfSome u (λ v. IsAt post v.running) in subst P is at
+kept_by : {D : Type 0} (member : Membership) (up : Option (Up D)) (one : Up D) → up ≡ Some one → IfSome up (λ u. IsAt member u.running) → IsAt member one.running
+kept_by {D} member up one is at = let P : Option (Up D) → Type 0 = λ u. IfSome u (λ v. IsAt member v.running) in subst P is at
 
--- what runs, runs at the node's post
-pub kept_some : {D : Type 0} (i : Inside D) (up : Up D) → i.up ≡ Some up → IsKept i → IsAt i.post up.running
-kept_some i up is kept = kept_by i.post i.up up is kept.at
+-- what runs, runs at the node's member
+pub kept_some : {D : Type 0} (i : Inside D) (up : Up D) → i.up ≡ Some up → IsKept i → IsAt i.member up.running
+kept_some i up is kept = kept_by i.member i.up up is kept.at
 
 left_from : (place : Place) (s : Standing) (outcome : Result Turn Refusal) (left : Store) → (left ≡ s.store) ⊎ ComesTo outcome left → (left ≡ s.store) ⊎ (left ≡ (standing_after place s outcome).begun)
 left_from place s outcome left (inl e) = inl e
@@ -74,18 +74,18 @@ left_may place s called outcome left turns (inl e) = inl e
 left_may place s called outcome left turns (inr e) = inr (outcome, turns, e)
 
 module _ {D : Type 0} (g : Ghosts D) where
-  abbrev pub noted : Post → Match → Option D → Option (Up D) → Node D
-  noted post blank disk up = record { post = post; blank = blank; disk = disk; up = up }
+  abbrev pub noted : Membership → Match → Option D → Option (Up D) → Node D
+  noted member blank disk up = record { member = member; blank = blank; disk = disk; up = up }
 
   -- ---- a node that runs on
 
-  pub up_took : (post : Post) (blank : Match) (disk other : Option D) (old new : Up D) (s : Standing) (called : Call) (outcome : Result Turn Refusal) (earlier later : Told)
-      → IsSeen g (noted post blank disk (Some old)) s → IsTurnUp (place_at post) s called outcome → Took g post s outcome old new earlier later
-      → Takes g called s (noted post blank disk (Some old)) (noted post blank other (Some new)) earlier later (Ok tt)
-  up_took post blank disk other old new s called outcome earlier later seen rule t =
-      let P : Result Turn Refusal → Type 0 = λ o. IsTurnUp (place_at post) s called o in
-      let turns = turn_up (place_at post) s called (Ok t.turn) seen.by.running.up (subst P t.rule rule) in
-      let L : Store → Type 0 = λ next. LeavesDuring g (head_of post) s.store next (disk_under old) (disk_under new) in
+  pub up_took : (member : Membership) (blank : Match) (disk other : Option D) (old new : Up D) (s : Standing) (called : Call) (outcome : Result Turn Refusal) (earlier later : Told)
+      → IsSeen g (noted member blank disk (Some old)) s → IsTurnUp (place_at member) s called outcome → Took g member s outcome old new earlier later
+      → Takes g called s (noted member blank disk (Some old)) (noted member blank other (Some new)) earlier later (Ok tt)
+  up_took member blank disk other old new s called outcome earlier later seen rule t =
+      let P : Result Turn Refusal → Type 0 = λ o. IsTurnUp (place_at member) s called o in
+      let turns = turn_up (place_at member) s called (Ok t.turn) seen.by.running.up (subst P t.rule rule) in
+      let L : Store → Type 0 = λ next. LeavesDuring g (head_of member) s.store next (disk_under old) (disk_under new) in
       record {
         after = t.turn.after;
         frames = t.turn.frames;
@@ -98,15 +98,15 @@ module _ {D : Type 0} (g : Ghosts D) where
         told = t.told;
         fits = read_back t.turn.frames t.fits;
         next = t.turn.after.begun;
-        may_begin = may_up (place_at post) s called t.turn.after.begun seen.by.running.up (inr (Ok t.turn, turns, refl));
+        may_begin = may_up (place_at member) s called t.turn.after.begun seen.by.running.up (inr (Ok t.turn, turns, refl));
         moments = subst L (sym t.now.unbegun) t.moments;
       }
 
-  pub up_unchanged : (post : Post) (blank : Match) (disk other : Option D) (old new : Up D) (s : Standing) (called : Call) (told : Told)
-      → IsSeen g (noted post blank disk (Some old)) s → IsUp g post new s → disk_under new ≡ disk_under old
-      → Takes g called s (noted post blank disk (Some old)) (noted post blank other (Some new)) told told (Err fault.OutOfMemory)
-  up_unchanged post blank disk other old new s called told seen now same =
-      let L : D → Type 0 = λ d. LeavesDuring g (head_of post) s.store s.store (disk_under old) d in
+  pub up_unchanged : (member : Membership) (blank : Match) (disk other : Option D) (old new : Up D) (s : Standing) (called : Call) (told : Told)
+      → IsSeen g (noted member blank disk (Some old)) s → IsUp g member new s → disk_under new ≡ disk_under old
+      → Takes g called s (noted member blank disk (Some old)) (noted member blank other (Some new)) told told (Err fault.OutOfMemory)
+  up_unchanged member blank disk other old new s called told seen now same =
+      let L : D → Type 0 = λ d. LeavesDuring g (head_of member) s.store s.store (disk_under old) d in
       record {
         after = s;
         frames = [];
@@ -119,17 +119,17 @@ module _ {D : Type 0} (g : Ghosts D) where
         told = nothing_more told s;
         fits = λ one at. absurd at;
         next = s.store;
-        may_begin = may_up (place_at post) s called s.store seen.by.running.up (inl refl);
+        may_begin = may_up (place_at member) s called s.store seen.by.running.up (inl refl);
         moments = subst L (sym same) (λ t image was. inl was);
       }
 
-  pub up_refused : (post : Post) (blank : Match) (disk other : Option D) (old new : Up D) (s : Standing) (called : Call) (told : Told) (refusal : Refusal) (why : NodeFault)
-      → (standing_after (place_at post) s (Err refusal) ≡ s) → (why ≡ refusal_fault refusal)
-      → IsSeen g (noted post blank disk (Some old)) s → IsTurnUp (place_at post) s called (Err refusal) → IsUp g post new s → disk_under new ≡ disk_under old
-      → Takes g called s (noted post blank disk (Some old)) (noted post blank other (Some new)) told told (Err why)
-  up_refused post blank disk other old new s called told refusal why stays is seen rule now same =
-      let turns = turn_up (place_at post) s called (Err refusal) seen.by.running.up rule in
-      let L : D → Type 0 = λ d. LeavesDuring g (head_of post) s.store s.store (disk_under old) d in
+  pub up_refused : (member : Membership) (blank : Match) (disk other : Option D) (old new : Up D) (s : Standing) (called : Call) (told : Told) (refusal : Refusal) (why : NodeFault)
+      → (standing_after (place_at member) s (Err refusal) ≡ s) → (why ≡ refusal_fault refusal)
+      → IsSeen g (noted member blank disk (Some old)) s → IsTurnUp (place_at member) s called (Err refusal) → IsUp g member new s → disk_under new ≡ disk_under old
+      → Takes g called s (noted member blank disk (Some old)) (noted member blank other (Some new)) told told (Err why)
+  up_refused member blank disk other old new s called told refusal why stays is seen rule now same =
+      let turns = turn_up (place_at member) s called (Err refusal) seen.by.running.up rule in
+      let L : D → Type 0 = λ d. LeavesDuring g (head_of member) s.store s.store (disk_under old) d in
       record {
         after = s;
         frames = [];
@@ -142,21 +142,21 @@ module _ {D : Type 0} (g : Ghosts D) where
         told = nothing_more told s;
         fits = λ one at. absurd at;
         next = s.store;
-        may_begin = may_up (place_at post) s called s.store seen.by.running.up (inl refl);
+        may_begin = may_up (place_at member) s called s.store seen.by.running.up (inl refl);
         moments = subst L (sym same) (λ t image was. inl was);
       }
 
   -- ---- a node that goes down
 
-  pub up_failed : (post : Post) (blank : Match) (disk : Option D) (old new : Up D) (s : Standing) (called : Call) (outcome : Result Turn Refusal) (told : Told)
+  pub up_failed : (member : Membership) (blank : Match) (disk : Option D) (old new : Up D) (s : Standing) (called : Call) (outcome : Result Turn Refusal) (told : Told)
       → (IsDone outcome → MayFail called outcome)
-      → IsSeen g (noted post blank disk (Some old)) s → IsTurnUp (place_at post) s called outcome → Failed g post s outcome old new
-      → Takes g called s (noted post blank disk (Some old)) (noted post blank (Some (disk_under new)) None) told told (Err (fault.Store Disk))
-  up_failed post blank disk old new s called outcome told may seen rule f =
-      let turns = turn_up (place_at post) s called outcome seen.by.running.up rule in
-      let left = left_from (place_at post) s outcome f.left f.comes in
+      → IsSeen g (noted member blank disk (Some old)) s → IsTurnUp (place_at member) s called outcome → Failed g member s outcome old new
+      → Takes g called s (noted member blank disk (Some old)) (noted member blank (Some (disk_under new)) None) told told (Err (fault.Store Disk))
+  up_failed member blank disk old new s called outcome told may seen rule f =
+      let turns = turn_up (place_at member) s called outcome seen.by.running.up rule in
+      let left = left_from (place_at member) s outcome f.left f.comes in
       record {
-        after = stopped (place_at post) s.store f.left;
+        after = stopped (place_at member) s.store f.left;
         frames = [];
         shown = [];
         faults = [];
@@ -167,18 +167,18 @@ module _ {D : Type 0} (g : Ghosts D) where
         told = nothing_more told s;
         fits = λ one at. absurd at;
         next = f.left;
-        may_begin = may_up (place_at post) s called f.left seen.by.running.up (left_may (place_at post) s called outcome f.left turns left);
+        may_begin = may_up (place_at member) s called f.left seen.by.running.up (left_may (place_at member) s called outcome f.left turns left);
         moments = f.moments;
       }
 
-  pub up_clashed : (post : Post) (blank : Match) (disk : Option D) (old new : Up D) (s : Standing) (called : Call) (outcome : Result Turn Refusal) (told : Told)
-      → IsSeen g (noted post blank disk (Some old)) s → IsTurnUp (place_at post) s called outcome → Clashed g post s outcome old new
-      → Takes g called s (noted post blank disk (Some old)) (noted post blank (Some (disk_under new)) None) told told (Err fault.Conflict)
-  up_clashed post blank disk old new s called outcome told seen rule f =
-      let P : Result Turn Refusal → Type 0 = λ o. IsTurnUp (place_at post) s called o in
-      let turns = turn_up (place_at post) s called (Err (Conflict f.left)) seen.by.running.up (subst P f.rule rule) in
+  pub up_clashed : (member : Membership) (blank : Match) (disk : Option D) (old new : Up D) (s : Standing) (called : Call) (outcome : Result Turn Refusal) (told : Told)
+      → IsSeen g (noted member blank disk (Some old)) s → IsTurnUp (place_at member) s called outcome → Clashed g member s outcome old new
+      → Takes g called s (noted member blank disk (Some old)) (noted member blank (Some (disk_under new)) None) told told (Err fault.Conflict)
+  up_clashed member blank disk old new s called outcome told seen rule f =
+      let P : Result Turn Refusal → Type 0 = λ o. IsTurnUp (place_at member) s called o in
+      let turns = turn_up (place_at member) s called (Err (Conflict f.left)) seen.by.running.up (subst P f.rule rule) in
       record {
-        after = stopped (place_at post) s.store f.left;
+        after = stopped (place_at member) s.store f.left;
         frames = [];
         shown = [];
         faults = [];
@@ -189,53 +189,53 @@ module _ {D : Type 0} (g : Ghosts D) where
         told = nothing_more told s;
         fits = λ one at. absurd at;
         next = f.left;
-        may_begin = may_up (place_at post) s called f.left seen.by.running.up (inr (Err (Conflict f.left), turns, refl));
+        may_begin = may_up (place_at member) s called f.left seen.by.running.up (inr (Err (Conflict f.left), turns, refl));
         moments = f.moments;
       }
 
   -- ---- a node that is down
 
-  pub down_by : (post : Post) (disk : Option D) (s : Standing) → IsSeenBy g post None disk s → s.up ≡ false
-  down_by post (Some disk) s seen = ap (λ (x : Standing). x.up) seen.stopped
-  down_by post None s seen = absurd seen
+  pub down_by : (member : Membership) (disk : Option D) (s : Standing) → IsSeenBy g member None disk s → s.up ≡ false
+  down_by member (Some disk) s seen = ap (λ (x : Standing). x.up) seen.stopped
+  down_by member None s seen = absurd seen
 
-  pub down_refuses : (post : Post) (blank : Match) (disk : Option D) (s : Standing) (called : Call) (told : Told)
-      → IsSeen g (noted post blank disk None) s → IsTurnDown (place_at post) s called (Err Down)
-      → Takes g called s (noted post blank disk None) (noted post blank disk None) told told (Err fault.Down)
-  down_refuses post blank disk s called told seen rule =
-      let down = down_by post disk s seen.by in
+  pub down_refuses : (member : Membership) (blank : Match) (disk : Option D) (s : Standing) (called : Call) (told : Told)
+      → IsSeen g (noted member blank disk None) s → IsTurnDown (place_at member) s called (Err Down)
+      → Takes g called s (noted member blank disk None) (noted member blank disk None) told told (Err fault.Down)
+  down_refuses member blank disk s called told seen rule =
+      let down = down_by member disk s seen.by in
       record {
         after = s;
         frames = [];
         shown = [];
         faults = [];
         now = seen;
-        ends = refused Down (turn_down (place_at post) s called (Err Down) down rule) refl refl refl;
+        ends = refused Down (turn_down (place_at member) s called (Err Down) down rule) refl refl refl;
         fails = tt;
         answered = (refl, refl);
         told = nothing_more told s;
         fits = λ one at. absurd at;
         next = s.begun;
-        may_begin = may_down (place_at post) s called down;
+        may_begin = may_down (place_at member) s called down;
         moments = λ t image was. inl was;
       }
 
   -- ---- from the fields of a node
 
-  pub seen_at : (now : Node D) (i : Inside D) (up : Option (Up D)) (s : Standing) → node_of i ≡ now → i.up ≡ up → IsSeen g now s → IsSeen g (noted i.post i.blank i.disk up) s
+  pub seen_at : (now : Node D) (i : Inside D) (up : Option (Up D)) (s : Standing) → node_of i ≡ now → i.up ≡ up → IsSeen g now s → IsSeen g (noted i.member i.blank i.disk up) s
   seen_at now i up s view is seen =
-      let P : Option (Up D) → Type 0 = λ u. IsSeen g (noted i.post i.blank i.disk u) s in
+      let P : Option (Up D) → Type 0 = λ u. IsSeen g (noted i.member i.blank i.disk u) s in
       let Q : Node D → Type 0 = λ n. IsSeen g n s in
       subst P is (subst Q (sym view) seen)
 
   pub taken_at : (now : Node D) (i j : Inside D) (up : Option (Up D)) (new : Node D) (s : Standing) (called : Call) (earlier later : Told) (answer given : Result (Unit {0}) NodeFault)
       → node_of i ≡ now → i.up ≡ up → node_of j ≡ new → answer ≡ given
-      → Takes g called s (noted i.post i.blank i.disk up) new earlier later given
+      → Takes g called s (noted i.member i.blank i.disk up) new earlier later given
       → Takes g called s now (node_of j) earlier later answer
   taken_at now i j up new s called earlier later answer given view is next says t =
-      let A : Result (Unit {0}) NodeFault → Type 0 = λ a. Takes g called s (noted i.post i.blank i.disk up) new earlier later a in
-      let N : Node D → Type 0 = λ n. Takes g called s (noted i.post i.blank i.disk up) n earlier later answer in
-      let P : Option (Up D) → Type 0 = λ u. Takes g called s (noted i.post i.blank i.disk u) (node_of j) earlier later answer in
+      let A : Result (Unit {0}) NodeFault → Type 0 = λ a. Takes g called s (noted i.member i.blank i.disk up) new earlier later a in
+      let N : Node D → Type 0 = λ n. Takes g called s (noted i.member i.blank i.disk up) n earlier later answer in
+      let P : Option (Up D) → Type 0 = λ u. Takes g called s (noted i.member i.blank i.disk u) (node_of j) earlier later answer in
       let Q : Node D → Type 0 = λ n. Takes g called s n (node_of j) earlier later answer in
       subst Q view (subst P (sym is) (subst N (sym next) (subst A (sym says) t)))
 
@@ -244,86 +244,86 @@ module _ {D : Type 0} (g : Ghosts D) where
       → node_of i ≡ now → i.up ≡ None → j ≡ i → answer ≡ Err fault.Down → ((place : Place) → IsTurnDown place s called (Err Down)) → IsSeen g now s
       → Takes g called s now (node_of j) told told answer
   refuses_at now i j s called told answer view is same says rule seen =
-      taken_at now i j None (noted i.post i.blank i.disk None) s called told told answer (Err fault.Down) view is (ap node_of same ∙ ap (λ (u : Option (Up D)). noted i.post i.blank i.disk u) is) says
-      (down_refuses i.post i.blank i.disk s called told (seen_at now i None s view is seen) (rule (place_at i.post)))
+      taken_at now i j None (noted i.member i.blank i.disk None) s called told told answer (Err fault.Down) view is (ap node_of same ∙ ap (λ (u : Option (Up D)). noted i.member i.blank i.disk u) is) says
+      (down_refuses i.member i.blank i.disk s called told (seen_at now i None s view is seen) (rule (place_at i.member)))
 
   -- ---- a stop
 
-  pub up_stopped : (post : Post) (blank : Match) (disk : Option D) (up : Up D) (left : D) (s : Standing) (told : Told)
-      → IsSeen g (noted post blank disk (Some up)) s → Leaves g (head_of post) s.store s.store (disk_under up)
+  pub up_stopped : (member : Membership) (blank : Match) (disk : Option D) (up : Up D) (left : D) (s : Standing) (told : Told)
+      → IsSeen g (noted member blank disk (Some up)) s → Leaves g (head_of member) s.store s.store (disk_under up)
       → Within (g.images (disk_under up)) (g.images left) → Elapses (g.moment (disk_under up)) (g.moment left) (g.since (disk_under up)) (g.since left) (g.images left)
-      → Takes g Stop s (noted post blank disk (Some up)) (noted post blank (Some left) None) told told (Ok tt)
-  up_stopped post blank disk up left s told seen leaves fewer time =
-      let turns = turn_up (place_at post) s Stop (Ok (stopping (place_at post) s)) seen.by.running.up refl in
+      → Takes g Stop s (noted member blank disk (Some up)) (noted member blank (Some left) None) told told (Ok tt)
+  up_stopped member blank disk up left s told seen leaves fewer time =
+      let turns = turn_up (place_at member) s Stop (Ok (stopping (place_at member) s)) seen.by.running.up refl in
       record {
-        after = stopped (place_at post) s.store s.store;
+        after = stopped (place_at member) s.store s.store;
         frames = [];
         shown = [];
         faults = [];
         now = record { by = record { stopped = refl; leaves = λ image at. leaves image (fewer image at) }; blank = seen.blank };
-        ends = took (stopping (place_at post) s) turns refl refl refl;
+        ends = took (stopping (place_at member) s) turns refl refl refl;
         fails = tt;
         answered = (refl, refl);
         told = nothing_more told s;
         fits = λ one at. absurd at;
         next = s.store;
-        may_begin = may_up (place_at post) s Stop s.store seen.by.running.up (inl refl);
+        may_begin = may_up (place_at member) s Stop s.store seen.by.running.up (inl refl);
         moments = λ t image at. elim (time.nothing_else t image at) [ inl was ↦ inl was | inr now ↦ inr (leaves image (fewer image now)) ];
       }
 
-  pub down_stopped : (post : Post) (blank : Match) (disk left : D) (s : Standing) (told : Told)
-      → IsSeen g (noted post blank (Some disk) None) s
+  pub down_stopped : (member : Membership) (blank : Match) (disk left : D) (s : Standing) (told : Told)
+      → IsSeen g (noted member blank (Some disk) None) s
       → Within (g.images disk) (g.images left) → Elapses (g.moment disk) (g.moment left) (g.since disk) (g.since left) (g.images left)
-      → Takes g Stop s (noted post blank (Some disk) None) (noted post blank (Some left) None) told told (Ok tt)
-  down_stopped post blank disk left s told seen fewer time =
-      let down = down_by post (Some disk) s seen.by in
+      → Takes g Stop s (noted member blank (Some disk) None) (noted member blank (Some left) None) told told (Ok tt)
+  down_stopped member blank disk left s told seen fewer time =
+      let down = down_by member (Some disk) s seen.by in
       record {
         after = s;
         frames = [];
         shown = [];
         faults = [];
         now = record { by = record { stopped = seen.by.stopped; leaves = λ image at. seen.by.leaves image (fewer image at) }; blank = seen.blank };
-        ends = took (still s) (turn_down (place_at post) s Stop (Ok (still s)) down refl) refl refl refl;
+        ends = took (still s) (turn_down (place_at member) s Stop (Ok (still s)) down refl) refl refl refl;
         fails = tt;
         answered = (refl, refl);
         told = nothing_more told s;
         fits = λ one at. absurd at;
         next = s.begun;
-        may_begin = may_down (place_at post) s Stop down;
+        may_begin = may_down (place_at member) s Stop down;
         moments = λ t image at. elim (time.nothing_else t image at) [ inl was ↦ inl was | inr now ↦ inr (seen.by.leaves image (fewer image now)) ];
       }
 
-  stop_by : (post : Post) (blank : Match) (bare : Option D) (up : Option (Up D)) (disk left : D) (s : Standing) (told : Told)
-      → ((one : Up D) → IsUp g post one s → Leaves g (head_of post) s.store s.store (disk_under one))
+  stop_by : (member : Membership) (blank : Match) (bare : Option D) (up : Option (Up D)) (disk left : D) (s : Standing) (told : Told)
+      → ((one : Up D) → IsUp g member one s → Leaves g (head_of member) s.store s.store (disk_under one))
       → Within (g.images disk) (g.images left) → Elapses (g.moment disk) (g.moment left) (g.since disk) (g.since left) (g.images left)
-      → disk_by up bare ≡ Some disk → IsSeen g (noted post blank bare up) s
-      → Takes g Stop s (noted post blank bare up) (noted post blank (Some left) None) told told (Ok tt)
-  stop_by post blank bare (Some up) disk left s told leaves fewer time found seen =
+      → disk_by up bare ≡ Some disk → IsSeen g (noted member blank bare up) s
+      → Takes g Stop s (noted member blank bare up) (noted member blank (Some left) None) told told (Ok tt)
+  stop_by member blank bare (Some up) disk left s told leaves fewer time found seen =
       let same = same_Some (disk_under up) disk found in
       let F : D → Type 0 = λ d. Within (g.images d) (g.images left) in
       let T : D → Type 0 = λ d. Elapses (g.moment d) (g.moment left) (g.since d) (g.since left) (g.images left) in
-      up_stopped post blank bare up left s told seen (leaves up seen.by) (subst F (sym same) fewer) (subst T (sym same) time)
-  stop_by post blank None None disk left s told leaves fewer time found seen = absurd seen.by
-  stop_by post blank (Some bare) None disk left s told leaves fewer time found seen =
+      up_stopped member blank bare up left s told seen (leaves up seen.by) (subst F (sym same) fewer) (subst T (sym same) time)
+  stop_by member blank None None disk left s told leaves fewer time found seen = absurd seen.by
+  stop_by member blank (Some bare) None disk left s told leaves fewer time found seen =
       let same = same_Some bare disk found in
       let F : D → Type 0 = λ d. Within (g.images d) (g.images left) in
       let T : D → Type 0 = λ d. Elapses (g.moment d) (g.moment left) (g.since d) (g.since left) (g.images left) in
-      down_stopped post blank bare left s told seen (subst F (sym same) fewer) (subst T (sym same) time)
+      down_stopped member blank bare left s told seen (subst F (sym same) fewer) (subst T (sym same) time)
 
   pub stopped_at : (old : Node D) (i j : Inside D) (disk left : D) (s : Standing) (told : Told)
-      → node_of i ≡ downed old → i.disk ≡ Some disk → node_of j ≡ noted i.post i.blank (Some left) None
-      → ((up : Up D) → IsUp g old.post up s → Leaves g (head_of old.post) s.store s.store (disk_under up))
+      → node_of i ≡ downed old → i.disk ≡ Some disk → node_of j ≡ noted i.member i.blank (Some left) None
+      → ((up : Up D) → IsUp g old.member up s → Leaves g (head_of old.member) s.store s.store (disk_under up))
       → Within (g.images disk) (g.images left) → Elapses (g.moment disk) (g.moment left) (g.since disk) (g.since left) (g.images left)
       → IsSeen g old s → Takes g Stop s old (node_of j) told told (Ok tt)
   stopped_at old i j disk left s told view has next leaves fewer time seen =
       let N : Node D → Type 0 = λ n. Takes g Stop s old n told told (Ok tt) in
-      let same : noted i.post i.blank (Some left) None ≡ noted old.post old.blank (Some left) None = ap (λ (n : Node D). noted n.post n.blank (Some left) None) view in
+      let same : noted i.member i.blank (Some left) None ≡ noted old.member old.blank (Some left) None = ap (λ (n : Node D). noted n.member n.blank (Some left) None) view in
       let found : disk_by old.up old.disk ≡ Some disk = sym (ap (λ (n : Node D). n.disk) view) ∙ has in
-      subst N (sym (next ∙ same)) (stop_by old.post old.blank old.disk old.up disk left s told leaves fewer time found seen)
+      subst N (sym (next ∙ same)) (stop_by old.member old.blank old.disk old.up disk left s told leaves fewer time found seen)
 
   -- and its disk has what was picked of it
   pub picked_at : (old : Node D) (i j : Inside D) (disk left : D) (pick : ℕ)
-      → node_of i ≡ downed old → i.disk ≡ Some disk → node_of j ≡ noted i.post i.blank (Some left) None
+      → node_of i ≡ downed old → i.disk ≡ Some disk → node_of j ≡ noted i.member i.blank (Some left) None
       → Picks (g.picked disk pick) (g.seen disk) (g.seen left) (g.count disk) (g.count left) → StopsBy g pick old (node_of j)
   picked_at old i j disk left pick view has next picks =
       let found : disk_in old ≡ Some disk = sym (ap (λ (n : Node D). n.disk) view) ∙ has in
@@ -343,26 +343,26 @@ module _ {D : Type 0} (g : Ghosts D) where
   up_none None down = refl
   up_none (Some up) down = cc
 
-  pub created_at : (now : Node D) (i : Inside D) (disk : D) → node_of i ≡ now → runs now ≡ false → IsTableOf i.post.setting [] i.blank → Leaves g (head_of i.post) empty_store empty_store disk
-      → IsSeen g (noted i.post i.blank (Some disk) i.up) (stopped (place_at now.post) empty_store empty_store)
+  pub created_at : (now : Node D) (i : Inside D) (disk : D) → node_of i ≡ now → runs now ≡ false → IsTableOf i.member.setting [] i.blank → Leaves g (head_of i.member) empty_store empty_store disk
+      → IsSeen g (noted i.member i.blank (Some disk) i.up) (stopped (place_at now.member) empty_store empty_store)
   created_at now i disk view down blank leaves =
       let none = up_none i.up (ap (λ (n : Node D). is_up n.up) view ∙ down) in
-      let P : Option (Up D) → Type 0 = λ up. IsSeen g (noted i.post i.blank (Some disk) up) (stopped (place_at now.post) empty_store empty_store) in
-      subst P (sym none) (record { by = record { stopped = ap (λ (n : Node D). stopped (place_at n.post) empty_store empty_store) (sym view); leaves = leaves }; blank = blank })
+      let P : Option (Up D) → Type 0 = λ up. IsSeen g (noted i.member i.blank (Some disk) up) (stopped (place_at now.member) empty_store empty_store) in
+      subst P (sym none) (record { by = record { stopped = ap (λ (n : Node D). stopped (place_at n.member) empty_store empty_store) (sym view); leaves = leaves }; blank = blank })
 
   pub begun_at : (now : Node D) (i : Inside D) (old new : D) → node_of i ≡ now → runs now ≡ false → i.disk ≡ Some old → g.begun new ≡ g.begun old
-      → begun_of g (noted i.post i.blank (Some new) i.up) ≡ begun_of g now
+      → begun_of g (noted i.member i.blank (Some new) i.up) ≡ begun_of g now
   begun_at now i old new view down has same =
       let none = up_none i.up (ap (λ (n : Node D). is_up n.up) view ∙ down) in
-      ap (λ (u : Option (Up D)). begun_of g (noted i.post i.blank (Some new) u)) none ∙ same
-      ∙ sym (ap (λ (d : Option D). begun_by g d) has) ∙ sym (ap (λ (u : Option (Up D)). begun_of g (noted i.post i.blank i.disk u)) none) ∙ ap (begun_of g) view
+      ap (λ (u : Option (Up D)). begun_of g (noted i.member i.blank (Some new) u)) none ∙ same
+      ∙ sym (ap (λ (d : Option D). begun_by g d) has) ∙ sym (ap (λ (u : Option (Up D)). begun_of g (noted i.member i.blank i.disk u)) none) ∙ ap (begun_of g) view
 
   pub rose_at : (now : Node D) (i : Inside D) (old new : D) → node_of i ≡ now → runs now ≡ false → i.disk ≡ Some old → Rose (g.count old) (g.count new)
-      → Rose (failures_of g now) (failures_of g (noted i.post i.blank (Some new) i.up))
+      → Rose (failures_of g now) (failures_of g (noted i.member i.blank (Some new) i.up))
   rose_at now i old new view down has rose =
       let none = up_none i.up (ap (λ (n : Node D). is_up n.up) view ∙ down) in
-      let after = ap (λ (u : Option (Up D)). failures_of g (noted i.post i.blank (Some new) u)) none in
-      let before = sym (ap (failures_of g) view) ∙ ap (λ (u : Option (Up D)). failures_of g (noted i.post i.blank i.disk u)) none ∙ ap (λ (d : Option D). count_by g d) has in
-      let P : ℕ → Type 0 = λ n. Rose n (failures_of g (noted i.post i.blank (Some new) i.up)) in
+      let after = ap (λ (u : Option (Up D)). failures_of g (noted i.member i.blank (Some new) u)) none in
+      let before = sym (ap (failures_of g) view) ∙ ap (λ (u : Option (Up D)). failures_of g (noted i.member i.blank i.disk u)) none ∙ ap (λ (d : Option D). count_by g d) has in
+      let P : ℕ → Type 0 = λ n. Rose n (failures_of g (noted i.member i.blank (Some new) i.up)) in
       let Q : ℕ → Type 0 = λ n. Rose (g.count old) n in
       subst P (sym before) (subst Q (sym after) rose)

@@ -40,9 +40,9 @@ use Rattle.dealer_node.specs.declared.running.Running.{Running}
 use Rattle.dealer_node.specs.declared.fault.NodeFault.{NodeFault}
 use Rattle.dealer_node.specs.declared.fault.NodeFault.TheVariants as fault
 use Rattle.dealer_node.specs.Outs.{Told}
-use Rattle.dealer_node.specs.Posts.{Post, place_at}
+use Rattle.dealer_node.specs.Members.{Membership, place_at}
 use Rattle.dealer_node.specs.Texts.{Marked}
-use Rattle.dealer_node.specs.Turned.{posted}
+use Rattle.dealer_node.specs.Turned.{framed}
 use Rattle.dealer_node.specs.Answering.{message_of, is_promise, accepted_in}
 use Rattle.dealer_node.specs.Fitting.{AreMessages}
 use Rattle.dealer_node.specs.Running.{IsRunning, TakesTurn, Closes, proposed_by}
@@ -67,40 +67,40 @@ preparing_by b from ballot slot s = if b then promising from ballot slot s else 
 
 module _ {D : Type 0} (g : Ghosts D) where
   -- the ballot is promised
-  promised_by : (post : Post) (s : Standing) (from : ℕ) (ballot : Ballot) (slot : ℕ) (b : Bool) (old new : Up D) (answer : PrepareAnswer) (told : Told) (texts : List (Marked ℕ))
-      → IsUp g post old s → answer ≡ answered_prepare b ballot slot s.store → Keeps g (head_of post) (prepared_by b ballot s.store) (store_of new.acceptor)
-      → LeavesDuring g (head_of post) s.store (prepared_by b ballot s.store) (disk_under old) (disk_under new)
-      → IsRunning post new.running (idle s) → is_promise answer ≡ true → texts ≡ told.frames ++ map posted (one from (message_of answer)) → AreMessages (one from (message_of answer))
-      → Took g post s (Ok (preparing_by b from ballot slot s)) old new told (told_with texts told.shown told.faults)
-  promised_by post s from ballot slot false old new answer told texts is given keeps during runs promises sent fits =
+  promised_by : (member : Membership) (s : Standing) (from : ℕ) (ballot : Ballot) (slot : ℕ) (b : Bool) (old new : Up D) (answer : PrepareAnswer) (told : Told) (texts : List (Marked ℕ))
+      → IsUp g member old s → answer ≡ answered_prepare b ballot slot s.store → Keeps g (head_of member) (prepared_by b ballot s.store) (store_of new.acceptor)
+      → LeavesDuring g (head_of member) s.store (prepared_by b ballot s.store) (disk_under old) (disk_under new)
+      → IsRunning member new.running (idle s) → is_promise answer ≡ true → texts ≡ told.frames ++ map framed (one from (message_of answer)) → AreMessages (one from (message_of answer))
+      → Took g member s (Ok (preparing_by b from ballot slot s)) old new told (told_with texts told.shown told.faults)
+  promised_by member s from ballot slot false old new answer told texts is given keeps during runs promises sent fits =
       absurd (true≢false (sym promises ∙ ap is_promise given))
-  promised_by post s from ballot slot true old new answer told texts is given keeps during runs promises sent fits =
+  promised_by member s from ballot slot true old new answer told texts is given keeps during runs promises sent fits =
       let same : message_of answer ≡ frame.Promise ballot slot (told_by s.store slot) = ap message_of given in
       record {
         turn = promising from ballot slot s;
         rule = refl;
-        now = record { running = stored_too post new.running (idle s) (promised s.store ballot) runs; keeps = keeps; unbegun = refl; stands = tt };
-        told = frames_more told texts (map posted (one from (frame.Promise ballot slot (told_by s.store slot)))) (sent ∙ ap (λ m. told.frames ++ map posted (one from m)) same);
+        now = record { running = stored_too member new.running (idle s) (promised s.store ballot) runs; keeps = keeps; unbegun = refl; stands = tt };
+        told = frames_more told texts (map framed (one from (frame.Promise ballot slot (told_by s.store slot)))) (sent ∙ ap (λ m. told.frames ++ map framed (one from m)) same);
         fits = subst (λ m. AreMessages (one from m)) same fits;
         moments = during;
         untouched = λ still. absurd (still _ (inl refl));
       }
 
   -- it is refused
-  refused_by : (post : Post) (s : Standing) (from : ℕ) (ballot : Ballot) (slot : ℕ) (b : Bool) (old new : Up D) (answer : PrepareAnswer) (told : Told) (texts : List (Marked ℕ))
-      → IsUp g post old s → answer ≡ answered_prepare b ballot slot s.store → Keeps g (head_of post) (prepared_by b ballot s.store) (store_of new.acceptor)
-      → LeavesDuring g (head_of post) s.store (prepared_by b ballot s.store) (disk_under old) (disk_under new)
-      → new.running ≡ old.running → is_promise answer ≡ false → (b ≡ false → disk_under new ≡ disk_under old) → texts ≡ told.frames ++ map posted (one from (message_of answer)) → AreMessages (one from (message_of answer))
-      → Took g post s (Ok (preparing_by b from ballot slot s)) old new told (told_with texts told.shown told.faults)
-  refused_by post s from ballot slot true old new answer told texts is given keeps during same refuses unread sent fits =
+  refused_by : (member : Membership) (s : Standing) (from : ℕ) (ballot : Ballot) (slot : ℕ) (b : Bool) (old new : Up D) (answer : PrepareAnswer) (told : Told) (texts : List (Marked ℕ))
+      → IsUp g member old s → answer ≡ answered_prepare b ballot slot s.store → Keeps g (head_of member) (prepared_by b ballot s.store) (store_of new.acceptor)
+      → LeavesDuring g (head_of member) s.store (prepared_by b ballot s.store) (disk_under old) (disk_under new)
+      → new.running ≡ old.running → is_promise answer ≡ false → (b ≡ false → disk_under new ≡ disk_under old) → texts ≡ told.frames ++ map framed (one from (message_of answer)) → AreMessages (one from (message_of answer))
+      → Took g member s (Ok (preparing_by b from ballot slot s)) old new told (told_with texts told.shown told.faults)
+  refused_by member s from ballot slot true old new answer told texts is given keeps during same refuses unread sent fits =
       absurd (true≢false (sym (ap is_promise given) ∙ refuses))
-  refused_by post s from ballot slot false old new answer told texts is given keeps during same refuses unread sent fits =
+  refused_by member s from ballot slot false old new answer told texts is given keeps during same refuses unread sent fits =
       let message : message_of answer ≡ frame.Refuse ballot slot s.store.promise = ap message_of given in
       record {
         turn = refusing from ballot slot s;
         rule = refl;
-        now = record { running = subst (λ r. IsRunning post r s) (sym same) is.running; keeps = keeps; unbegun = is.unbegun; stands = is.stands };
-        told = frames_more told texts (map posted (one from (frame.Refuse ballot slot s.store.promise))) (sent ∙ ap (λ m. told.frames ++ map posted (one from m)) message);
+        now = record { running = subst (λ r. IsRunning member r s) (sym same) is.running; keeps = keeps; unbegun = is.unbegun; stands = is.stands };
+        told = frames_more told texts (map framed (one from (frame.Refuse ballot slot s.store.promise))) (sent ∙ ap (λ m. told.frames ++ map framed (one from m)) message);
         fits = subst (λ m. AreMessages (one from m)) message fits;
         moments = during;
         untouched = λ still. unread refl;
@@ -115,29 +115,29 @@ module _ {D : Type 0} (g : Ghosts D) where
       of_refusal (is_below (promised_in (held_of old)) ballot) (Refuse ballot slot (promised_in (held_of old))) P (ap (λ (b : Ballot). is_below b ballot) (sym shown ∙ same) ∙ below) needs.refused in
       unread.1.disk
 
-  pub prepare_promised : (post : Post) (s : Standing) (from : ℕ) (ballot : Ballot) (slot : ℕ) (old new : Up D) (answer : PrepareAnswer) (told : Told) (texts : List (Marked ℕ))
-      → IsUp g post old s → answer ≡ answer_to_prepare ballot slot s.store → Keeps g (head_of post) (prepared ballot s.store) (store_of new.acceptor)
-      → LeavesDuring g (head_of post) s.store (prepared ballot s.store) (disk_under old) (disk_under new)
-      → IsRunning post new.running (idle s) → is_promise answer ≡ true → texts ≡ told.frames ++ map posted (one from (message_of answer)) → AreMessages (one from (message_of answer))
-      → Took g post s (Ok (preparing from ballot slot s)) old new told (told_with texts told.shown told.faults)
-  prepare_promised post s from ballot slot old new answer told texts = promised_by post s from ballot slot (is_below s.store.promise ballot) old new answer told texts
+  pub prepare_promised : (member : Membership) (s : Standing) (from : ℕ) (ballot : Ballot) (slot : ℕ) (old new : Up D) (answer : PrepareAnswer) (told : Told) (texts : List (Marked ℕ))
+      → IsUp g member old s → answer ≡ answer_to_prepare ballot slot s.store → Keeps g (head_of member) (prepared ballot s.store) (store_of new.acceptor)
+      → LeavesDuring g (head_of member) s.store (prepared ballot s.store) (disk_under old) (disk_under new)
+      → IsRunning member new.running (idle s) → is_promise answer ≡ true → texts ≡ told.frames ++ map framed (one from (message_of answer)) → AreMessages (one from (message_of answer))
+      → Took g member s (Ok (preparing from ballot slot s)) old new told (told_with texts told.shown told.faults)
+  prepare_promised member s from ballot slot old new answer told texts = promised_by member s from ballot slot (is_below s.store.promise ballot) old new answer told texts
 
-  pub prepare_refused : (post : Post) (s : Standing) (from : ℕ) (ballot : Ballot) (slot : ℕ) (old new : Up D) (answer : PrepareAnswer) (told : Told) (texts : List (Marked ℕ))
-      → IsUp g post old s → answer ≡ answer_to_prepare ballot slot s.store → Keeps g (head_of post) (prepared ballot s.store) (store_of new.acceptor)
-      → LeavesDuring g (head_of post) s.store (prepared ballot s.store) (disk_under old) (disk_under new)
-      → new.running ≡ old.running → is_promise answer ≡ false → (is_below s.store.promise ballot ≡ false → disk_under new ≡ disk_under old) → texts ≡ told.frames ++ map posted (one from (message_of answer)) → AreMessages (one from (message_of answer))
-      → Took g post s (Ok (preparing from ballot slot s)) old new told (told_with texts told.shown told.faults)
-  prepare_refused post s from ballot slot old new answer told texts = refused_by post s from ballot slot (is_below s.store.promise ballot) old new answer told texts
+  pub prepare_refused : (member : Membership) (s : Standing) (from : ℕ) (ballot : Ballot) (slot : ℕ) (old new : Up D) (answer : PrepareAnswer) (told : Told) (texts : List (Marked ℕ))
+      → IsUp g member old s → answer ≡ answer_to_prepare ballot slot s.store → Keeps g (head_of member) (prepared ballot s.store) (store_of new.acceptor)
+      → LeavesDuring g (head_of member) s.store (prepared ballot s.store) (disk_under old) (disk_under new)
+      → new.running ≡ old.running → is_promise answer ≡ false → (is_below s.store.promise ballot ≡ false → disk_under new ≡ disk_under old) → texts ≡ told.frames ++ map framed (one from (message_of answer)) → AreMessages (one from (message_of answer))
+      → Took g member s (Ok (preparing from ballot slot s)) old new told (told_with texts told.shown told.faults)
+  prepare_refused member s from ballot slot old new answer told texts = refused_by member s from ballot slot (is_below s.store.promise ballot) old new answer told texts
 
   -- the disk failed
   comes_by : (s : Standing) (from : ℕ) (ballot : Ballot) (slot : ℕ) (b : Bool) → s.begun ≡ s.store → ComesTo (Ok (preparing_by b from ballot slot s)) (prepared_by b ballot s.store)
   comes_by s from ballot slot true unbegun = inl (promising from ballot slot s, refl, refl)
   comes_by s from ballot slot false unbegun = inl (refusing from ballot slot s, refl, sym unbegun)
 
-  pub prepare_failed : (post : Post) (s : Standing) (from : ℕ) (ballot : Ballot) (slot : ℕ) (old new : Up D) → IsUp g post old s
-      → Leaves g (head_of post) s.store (prepared ballot s.store) (disk_under new) → LeavesDuring g (head_of post) s.store (prepared ballot s.store) (disk_under old) (disk_under new)
-      → Failed g post s (Ok (preparing from ballot slot s)) old new
-  prepare_failed post s from ballot slot old new is leaves during =
+  pub prepare_failed : (member : Membership) (s : Standing) (from : ℕ) (ballot : Ballot) (slot : ℕ) (old new : Up D) → IsUp g member old s
+      → Leaves g (head_of member) s.store (prepared ballot s.store) (disk_under new) → LeavesDuring g (head_of member) s.store (prepared ballot s.store) (disk_under old) (disk_under new)
+      → Failed g member s (Ok (preparing from ballot slot s)) old new
+  prepare_failed member s from ballot slot old new is leaves during =
       record { left = prepared ballot s.store; comes = inr (comes_by s from ballot slot (is_below s.store.promise ballot) is.unbegun); done = tt; leaves = leaves; moments = during }
 
   -- a fault of the acceptor is that of its disk
@@ -150,9 +150,9 @@ module _ {D : Type 0} (g : Ghosts D) where
   of_store why (inl of) memory = of
   of_store why (inr e) memory = absurd (memory e)
 
-  pub fails_by : (post : Post) (s : Standing) (outcome : Result Turn Refusal) (old new : Up D) (earlier later : Told) (why : StoreFault) → why ≡ Disk → Failed g post s outcome old new
-      → Works g post s outcome old new earlier later (Err (fault.Store why))
-  fails_by post s outcome old new earlier later why e failed = subst (λ w. Works g post s outcome old new earlier later (Err (fault.Store w))) (sym e) failed
+  pub fails_by : (member : Membership) (s : Standing) (outcome : Result Turn Refusal) (old new : Up D) (earlier later : Told) (why : StoreFault) → why ≡ Disk → Failed g member s outcome old new
+      → Works g member s outcome old new earlier later (Err (fault.Store why))
+  fails_by member s outcome old new earlier later why e failed = subst (λ w. Works g member s outcome old new earlier later (Err (fault.Store w))) (sym e) failed
 
 -- ---- votes
 
@@ -243,70 +243,70 @@ module _ {D : Type 0} (g : Ghosts D) where
   with_votes s ballot slot commands = with_stored s (taking_command_run s.store ballot slot commands)
 
   -- votes were told and counted
-  pub vote_took : (law : Promising) (post : Post) (s : Standing) (ballot : Ballot) (slot : ℕ) (commands stored : List Command) (old new : Up D) (earlier later : Told)
-      → IsUp g post old s → is_below ballot s.store.promise ≡ false → IfSome s.campaign (λ c. c.ballot ≡ ballot)
+  pub vote_took : (law : Promising) (member : Membership) (s : Standing) (ballot : Ballot) (slot : ℕ) (commands stored : List Command) (old new : Up D) (earlier later : Told)
+      → IsUp g member old s → is_below ballot s.store.promise ≡ false → IfSome s.campaign (λ c. c.ballot ≡ ballot)
       → Some stored ≡ accepted_in (answer_to_run ballot slot commands s.store)
-      → Keeps g (head_of post) (accepted_run ballot slot commands s.store) (store_of new.acceptor)
-      → LeavesDuring g (head_of post) s.store (accepted_run ballot slot commands s.store) (disk_under old) (disk_under new)
-      → ((x : Standing) → IsRunning post old.running x → TakesTurn post new.running earlier later (telling_votes (place_at post) ballot slot stored x))
-      → 2 ≤ post.nodes
-      → Took g post s (voting (place_at post) ballot slot commands s) old new earlier later
-  vote_took law post s ballot slot commands stored old new earlier later is above own accepts keeps during tells many =
+      → Keeps g (head_of member) (accepted_run ballot slot commands s.store) (store_of new.acceptor)
+      → LeavesDuring g (head_of member) s.store (accepted_run ballot slot commands s.store) (disk_under old) (disk_under new)
+      → ((x : Standing) → IsRunning member old.running x → TakesTurn member new.running earlier later (telling_votes (place_at member) ballot slot stored x))
+      → 2 ≤ member.nodes
+      → Took g member s (voting (place_at member) ballot slot commands s) old new earlier later
+  vote_took law member s ballot slot commands stored old new earlier later is above own accepts keeps during tells many =
       let x : Standing = with_votes s ballot slot commands in
-      let t = tells x (stored_too post old.running s (taking_command_run s.store ballot slot commands) is.running) in
+      let t = tells x (stored_too member old.running s (taking_command_run s.store ballot slot commands) is.running) in
       let same : stored ≡ command_run_at s.store ballot slot commands = same_Some _ _ (accepts ∙ vote_accepts ballot slot commands s.store above) in
-      let kept = telling_keeps (place_at post) ballot slot stored x t.turn t.rule in
+      let kept = telling_keeps (place_at member) ballot slot stored x t.turn t.rule in
       let stores : accepted_run ballot slot commands s.store ≡ t.turn.after.store = vote_stores ballot slot commands s.store above ∙ sym kept.store in
       let promise : (taking_command_run s.store ballot slot commands).promise ≡ t.turn.after.store.promise = ap (λ (st : Store). st.promise) (sym kept.store) in
       let stands = stands_by s.campaign s.store.promise (taking_command_run s.store ballot slot commands).promise ballot (law.promise s.store ballot slot commands) is.stands own in
       record {
         turn = t.turn;
-        rule = sym (ap (λ (cs : List Command). telling_votes (place_at post) ballot slot cs x) same) ∙ t.rule;
+        rule = sym (ap (λ (cs : List Command). telling_votes (place_at member) ballot slot cs x) same) ∙ t.rule;
         now = record {
           running = t.taken.runs;
-          keeps = subst (λ (st : Store). Keeps g (head_of post) st (store_of new.acceptor)) stores keeps;
+          keeps = subst (λ (st : Store). Keeps g (head_of member) st (store_of new.acceptor)) stores keeps;
           unbegun = kept.begun ∙ sym kept.store;
           stands = subst (λ (c : Option Campaign). IfSome c (λ k. k.ballot ≡ t.turn.after.store.promise)) (sym kept.campaign) (subst (λ (b : Ballot). IfSome s.campaign (λ k. k.ballot ≡ b)) promise stands);
         };
         told = t.taken.told;
         fits = t.taken.fits;
-        moments = subst (λ (st : Store). LeavesDuring g (head_of post) s.store st (disk_under old) (disk_under new)) stores during;
-        untouched = λ still. absurd (told_to_none post.nodes post.node (frame.Accepted ballot slot stored) many (λ e. e) (λ sent at. still sent (telling_sends (place_at post) ballot slot stored x t.turn sent t.rule at)));
+        moments = subst (λ (st : Store). LeavesDuring g (head_of member) s.store st (disk_under old) (disk_under new)) stores during;
+        untouched = λ still. absurd (told_to_none member.nodes member.node (frame.Accepted ballot slot stored) many (λ e. e) (λ sent at. still sent (telling_sends (place_at member) ballot slot stored x t.turn sent t.rule at)));
       }
 
   -- another command was known
-  pub vote_clashed : (post : Post) (s : Standing) (ballot : Ballot) (slot : ℕ) (commands stored : List Command) (old new : Up D)
-      → IsUp g post old s → is_below ballot s.store.promise ≡ false
+  pub vote_clashed : (member : Membership) (s : Standing) (ballot : Ballot) (slot : ℕ) (commands stored : List Command) (old new : Up D)
+      → IsUp g member old s → is_below ballot s.store.promise ≡ false
       → Some stored ≡ accepted_in (answer_to_run ballot slot commands s.store)
-      → Leaves g (head_of post) s.store (accepted_run ballot slot commands s.store) (disk_under new)
-      → LeavesDuring g (head_of post) s.store (accepted_run ballot slot commands s.store) (disk_under old) (disk_under new)
-      → ((x : Standing) → IsRunning post old.running x → telling_votes (place_at post) ballot slot stored x ≡ Err (Conflict x.store))
-      → Clashed g post s (voting (place_at post) ballot slot commands s) old new
-  vote_clashed post s ballot slot commands stored old new is above accepts leaves during clashes =
+      → Leaves g (head_of member) s.store (accepted_run ballot slot commands s.store) (disk_under new)
+      → LeavesDuring g (head_of member) s.store (accepted_run ballot slot commands s.store) (disk_under old) (disk_under new)
+      → ((x : Standing) → IsRunning member old.running x → telling_votes (place_at member) ballot slot stored x ≡ Err (Conflict x.store))
+      → Clashed g member s (voting (place_at member) ballot slot commands s) old new
+  vote_clashed member s ballot slot commands stored old new is above accepts leaves during clashes =
       let x : Standing = with_votes s ballot slot commands in
       let same : stored ≡ command_run_at s.store ballot slot commands = same_Some _ _ (accepts ∙ vote_accepts ballot slot commands s.store above) in
       let stores = vote_stores ballot slot commands s.store above in
       record {
         left = x.store;
-        rule = sym (ap (λ (cs : List Command). telling_votes (place_at post) ballot slot cs x) same) ∙ clashes x (stored_too post old.running s (taking_command_run s.store ballot slot commands) is.running);
-        leaves = subst (λ (st : Store). Leaves g (head_of post) s.store st (disk_under new)) stores leaves;
-        moments = subst (λ (st : Store). LeavesDuring g (head_of post) s.store st (disk_under old) (disk_under new)) stores during;
+        rule = sym (ap (λ (cs : List Command). telling_votes (place_at member) ballot slot cs x) same) ∙ clashes x (stored_too member old.running s (taking_command_run s.store ballot slot commands) is.running);
+        leaves = subst (λ (st : Store). Leaves g (head_of member) s.store st (disk_under new)) stores leaves;
+        moments = subst (λ (st : Store). LeavesDuring g (head_of member) s.store st (disk_under old) (disk_under new)) stores during;
       }
 
   -- the disk failed
-  pub vote_failed : (post : Post) (s : Standing) (ballot : Ballot) (slot : ℕ) (commands : List Command) (old new : Up D)
+  pub vote_failed : (member : Membership) (s : Standing) (ballot : Ballot) (slot : ℕ) (commands : List Command) (old new : Up D)
       → is_below ballot s.store.promise ≡ false
-      → Leaves g (head_of post) s.store (accepted_run ballot slot commands s.store) (disk_under new)
-      → LeavesDuring g (head_of post) s.store (accepted_run ballot slot commands s.store) (disk_under old) (disk_under new)
-      → Failed g post s (voting (place_at post) ballot slot commands s) old new
-  vote_failed post s ballot slot commands old new above leaves during =
+      → Leaves g (head_of member) s.store (accepted_run ballot slot commands s.store) (disk_under new)
+      → LeavesDuring g (head_of member) s.store (accepted_run ballot slot commands s.store) (disk_under old) (disk_under new)
+      → Failed g member s (voting (place_at member) ballot slot commands s) old new
+  vote_failed member s ballot slot commands old new above leaves during =
       let stores = vote_stores ballot slot commands s.store above in
       record {
         left = taking_command_run s.store ballot slot commands;
-        comes = inr (telling_comes (place_at post) ballot slot (command_run_at s.store ballot slot commands) (with_votes s ballot slot commands) refl);
-        done = telling_done (place_at post) ballot slot (command_run_at s.store ballot slot commands) (with_votes s ballot slot commands);
-        leaves = subst (λ (st : Store). Leaves g (head_of post) s.store st (disk_under new)) stores leaves;
-        moments = subst (λ (st : Store). LeavesDuring g (head_of post) s.store st (disk_under old) (disk_under new)) stores during;
+        comes = inr (telling_comes (place_at member) ballot slot (command_run_at s.store ballot slot commands) (with_votes s ballot slot commands) refl);
+        done = telling_done (place_at member) ballot slot (command_run_at s.store ballot slot commands) (with_votes s ballot slot commands);
+        leaves = subst (λ (st : Store). Leaves g (head_of member) s.store st (disk_under new)) stores leaves;
+        moments = subst (λ (st : Store). LeavesDuring g (head_of member) s.store st (disk_under old) (disk_under new)) stores during;
       }
 
   -- own votes that aren't below the promise are never refused
@@ -330,31 +330,31 @@ voting_is true place from ballot slot commands s e = absurd (true≢false e)
 voting_is false place from ballot slot commands s e = refl
 
 module _ {D : Type 0} (g : Ghosts D) where
-  pub accept_refused : (post : Post) (s : Standing) (from : ℕ) (ballot promise : Ballot) (slot : ℕ) (commands : List Command) (up : Up D) (told : Told) (texts : List (Marked ℕ))
-      → IsUp g post up s → promise ≡ s.store.promise → is_below ballot promise ≡ true
-      → texts ≡ told.frames ++ map posted (one from (frame.Refuse ballot slot promise)) → AreMessages (one from (frame.Refuse ballot slot promise))
-      → Took g post s (accepting (place_at post) from ballot slot commands s) up up told (told_with texts told.shown told.faults)
-  accept_refused post s from ballot promise slot commands up told texts is same below sent fits =
+  pub accept_refused : (member : Membership) (s : Standing) (from : ℕ) (ballot promise : Ballot) (slot : ℕ) (commands : List Command) (up : Up D) (told : Told) (texts : List (Marked ℕ))
+      → IsUp g member up s → promise ≡ s.store.promise → is_below ballot promise ≡ true
+      → texts ≡ told.frames ++ map framed (one from (frame.Refuse ballot slot promise)) → AreMessages (one from (frame.Refuse ballot slot promise))
+      → Took g member s (accepting (place_at member) from ballot slot commands s) up up told (told_with texts told.shown told.faults)
+  accept_refused member s from ballot promise slot commands up told texts is same below sent fits =
       let turn : Turn = refusing from ballot slot s in
       let b : is_below ballot s.store.promise ≡ true = ap (is_below ballot) (sym same) ∙ below in
       record {
         turn = turn;
-        rule = refusing_is (is_below ballot s.store.promise) (place_at post) from ballot slot commands s b;
+        rule = refusing_is (is_below ballot s.store.promise) (place_at member) from ballot slot commands s b;
         now = is;
-        told = frames_more told texts (map posted (one from (frame.Refuse ballot slot s.store.promise))) (sent ∙ ap (λ (p : Ballot). told.frames ++ map posted (one from (frame.Refuse ballot slot p))) same);
+        told = frames_more told texts (map framed (one from (frame.Refuse ballot slot s.store.promise))) (sent ∙ ap (λ (p : Ballot). told.frames ++ map framed (one from (frame.Refuse ballot slot p))) same);
         fits = subst (λ (p : Ballot). AreMessages (one from (frame.Refuse ballot slot p))) same fits;
         moments = λ t image was. inl was;
         untouched = λ still. refl;
       }
 
-  pub accept_voted : (post : Post) (s : Standing) (from : ℕ) (ballot promise : Ballot) (slot : ℕ) (commands : List Command) (mid old new : Up D) (earlier later : Told) (answer : Result (Unit {0}) NodeFault)
+  pub accept_voted : (member : Membership) (s : Standing) (from : ℕ) (ballot promise : Ballot) (slot : ℕ) (commands : List Command) (mid old new : Up D) (earlier later : Told) (answer : Result (Unit {0}) NodeFault)
       → disk_under mid ≡ disk_under old → promise ≡ s.store.promise → is_below ballot promise ≡ false
-      → Works g post (idle s) (voting (place_at post) ballot slot commands (idle s)) mid new earlier later answer
-      → Works g post s (accepting (place_at post) from ballot slot commands s) old new earlier later answer
-  accept_voted post s from ballot promise slot commands mid old new earlier later answer disk same above works =
+      → Works g member (idle s) (voting (place_at member) ballot slot commands (idle s)) mid new earlier later answer
+      → Works g member s (accepting (place_at member) from ballot slot commands s) old new earlier later answer
+  accept_voted member s from ballot promise slot commands mid old new earlier later answer disk same above works =
       let b : is_below ballot s.store.promise ≡ false = ap (is_below ballot) (sym same) ∙ above in
-      works_from g post s (idle s) _ mid old new earlier later answer refl disk
-      (subst (λ (o : Result Turn Refusal). Works g post (idle s) o mid new earlier later answer) (sym (voting_is (is_below ballot s.store.promise) (place_at post) from ballot slot commands s b)) works)
+      works_from g member s (idle s) _ mid old new earlier later answer refl disk
+      (subst (λ (o : Result Turn Refusal). Works g member (idle s) o mid new earlier later answer) (sym (voting_is (is_below ballot s.store.promise) (place_at member) from ballot slot commands s b)) works)
 
 -- ---- proposals
 
@@ -368,54 +368,54 @@ pub not_below : (ballot promise : Ballot) → ballot ≡ promise → is_below ba
 not_below ballot promise e = ap (λ (b : Ballot). is_below b promise) e ∙ below_itself promise.round promise.node
 
 module _ {D : Type 0} (g : Ghosts D) where
-  pub propose_works : (post : Post) (s : Standing) (made : AcceptRun) (commands : List Command) (old new : Up D) (told later : Told) (texts : List (Marked ℕ)) (answer : Result (Unit {0}) NodeFault)
-      → commands ≡ made.commands → IsUp g post old s → made.ballot ≡ s.store.promise
-      → texts ≡ told.frames ++ map posted (to_others (place_at post) (frame.Accept made.ballot made.slot commands)) → AreMessages (to_others (place_at post) (frame.Accept made.ballot made.slot commands))
+  pub propose_works : (member : Membership) (s : Standing) (made : AcceptRun) (commands : List Command) (old new : Up D) (told later : Told) (texts : List (Marked ℕ)) (answer : Result (Unit {0}) NodeFault)
+      → commands ≡ made.commands → IsUp g member old s → made.ballot ≡ s.store.promise
+      → texts ≡ told.frames ++ map framed (to_others (place_at member) (frame.Accept made.ballot made.slot commands)) → AreMessages (to_others (place_at member) (frame.Accept made.ballot made.slot commands))
       → (is_below made.ballot s.store.promise ≡ false → IfSome s.campaign (λ c. c.ballot ≡ made.ballot)
-      → Works g post s (voting (place_at post) made.ballot made.slot commands s) old new (told_with texts told.shown told.faults) later answer)
-      → Works g post s (proposed_by (place_at post) (Some made) s) old new told later answer
-  propose_works post s made commands old new told later texts answer same is own sent fits votes =
-      let frames : List Frame = to_others (place_at post) (frame.Accept made.ballot made.slot commands) in
+      → Works g member s (voting (place_at member) made.ballot made.slot commands s) old new (told_with texts told.shown told.faults) later answer)
+      → Works g member s (proposed_by (place_at member) (Some made) s) old new told later answer
+  propose_works member s made commands old new told later texts answer same is own sent fits votes =
+      let frames : List Frame = to_others (place_at member) (frame.Accept made.ballot made.slot commands) in
       let turn : Turn = sending frames s in
-      let first : Took g post s (Ok turn) old old told (told_with texts told.shown told.faults) = record {
+      let first : Took g member s (Ok turn) old old told (told_with texts told.shown told.faults) = record {
         turn = turn;
         rule = refl;
         now = is;
-        told = frames_more told texts (map posted frames) sent;
+        told = frames_more told texts (map framed frames) sent;
         fits = fits;
         moments = λ t image was. inl was;
         untouched = λ still. refl;
       } in
-      subst (λ (cs : List Command). Works g post s (proposed_by (place_at post) (Some (record made { commands = cs })) s) old new told later answer) same
-      (then_works g post s (voting (place_at post) made.ballot made.slot commands) (Ok turn) old old new told (told_with texts told.shown told.faults) later answer first (inl refl)
+      subst (λ (cs : List Command). Works g member s (proposed_by (place_at member) (Some (record made { commands = cs })) s) old new told later answer) same
+      (then_works g member s (voting (place_at member) made.ballot made.slot commands) (Ok turn) old old new told (told_with texts told.shown told.faults) later answer first (inl refl)
       (votes (not_below made.ballot s.store.promise own) (subst (λ (b : Ballot). IfSome s.campaign (λ c. c.ballot ≡ b)) (sym own) is.stands)))
 
-  marked_up : (post : Post) (s marked : Standing) (old : Up D) (running : Running) → IsUp g post old s → IsRunning post running marked → marked ≡ record s { campaign = marked.campaign }
-      → IfSome marked.campaign (λ c. c.ballot ≡ s.store.promise) → IsUp g post (record old { running = running }) marked
-  marked_up post s marked old running is runs rest stands =
+  marked_up : (member : Membership) (s marked : Standing) (old : Up D) (running : Running) → IsUp g member old s → IsRunning member running marked → marked ≡ record s { campaign = marked.campaign }
+      → IfSome marked.campaign (λ c. c.ballot ≡ s.store.promise) → IsUp g member (record old { running = running }) marked
+  marked_up member s marked old running is runs rest stands =
       let store : s.store ≡ marked.store = sym (ap (λ (x : Standing). x.store) rest) in
       record {
         running = runs;
-        keeps = subst (λ (st : Store). Keeps g (head_of post) st (store_of old.acceptor)) store is.keeps;
+        keeps = subst (λ (st : Store). Keeps g (head_of member) st (store_of old.acceptor)) store is.keeps;
         unbegun = ap (λ (x : Standing). x.begun) rest ∙ is.unbegun ∙ store;
         stands = subst (λ (st : Store). IfSome marked.campaign (λ c. c.ballot ≡ st.promise)) store stands;
       }
 
-  pub close_works : (post : Post) (s : Standing) (made : AcceptRun) (old new : Up D) (running : Running) (told later : Told) (answer : Result (Unit {0}) NodeFault)
-      → IsUp g post old s → (closes : Closes post running s (Some made))
-      → (IsUp g post (record old { running = running }) closes.marked → made.ballot ≡ closes.marked.store.promise
-      → Works g post closes.marked (proposed_by (place_at post) (Some made) closes.marked) (record old { running = running }) new told later answer)
-      → Works g post s (closing (place_at post) s) old new told later answer
-  close_works post s made old new running told later answer is closes proposes =
+  pub close_works : (member : Membership) (s : Standing) (made : AcceptRun) (old new : Up D) (running : Running) (told later : Told) (answer : Result (Unit {0}) NodeFault)
+      → IsUp g member old s → (closes : Closes member running s (Some made))
+      → (IsUp g member (record old { running = running }) closes.marked → made.ballot ≡ closes.marked.store.promise
+      → Works g member closes.marked (proposed_by (place_at member) (Some made) closes.marked) (record old { running = running }) new told later answer)
+      → Works g member s (closing (place_at member) s) old new told later answer
+  close_works member s made old new running told later answer is closes proposes =
       let store : s.store ≡ closes.marked.store = sym (ap (λ (x : Standing). x.store) closes.rest) in
-      let there = marked_up post s closes.marked old running is closes.runs closes.rest (closes.stands s.store.promise is.stands) in
+      let there = marked_up member s closes.marked old running is closes.runs closes.rest (closes.stands s.store.promise is.stands) in
       let own : made.ballot ≡ closes.marked.store.promise = closes.own s.store.promise is.stands ∙ ap (λ (st : Store). st.promise) store in
-      works_from g post s closes.marked (closing (place_at post) s) (record old { running = running }) old new told later answer (sym store) refl
-      (subst (λ (o : Result Turn Refusal). Works g post closes.marked o (record old { running = running }) new told later answer) (sym closes.rule) (proposes there own))
+      works_from g member s closes.marked (closing (place_at member) s) (record old { running = running }) old new told later answer (sym store) refl
+      (subst (λ (o : Result Turn Refusal). Works g member closes.marked o (record old { running = running }) new told later answer) (sym closes.rule) (proposes there own))
 
-  pub close_rests : (post : Post) (s : Standing) (old : Up D) (running : Running) (told : Told) → IsUp g post old s → Closes post running s None
-      → Took g post s (closing (place_at post) s) old (record old { running = running }) told told
-  close_rests post s old running told is closes =
+  pub close_rests : (member : Membership) (s : Standing) (old : Up D) (running : Running) (told : Told) → IsUp g member old s → Closes member running s None
+      → Took g member s (closing (place_at member) s) old (record old { running = running }) told told
+  close_rests member s old running told is closes =
       let store : closes.marked.store ≡ s.store = ap (λ (x : Standing). x.store) closes.rest in
-      let there = marked_up post s closes.marked old running is closes.runs closes.rest (closes.stands s.store.promise is.stands) in
-      memory_took g post s (closing (place_at post) s) (still closes.marked) old running told told is closes.rule closes.runs store (ap (λ (x : Standing). x.begun) closes.rest) there.stands (nothing_more told closes.marked) (λ one at. absurd at)
+      let there = marked_up member s closes.marked old running is closes.runs closes.rest (closes.stands s.store.promise is.stands) in
+      memory_took g member s (closing (place_at member) s) (still closes.marked) old running told told is closes.rule closes.runs store (ap (λ (x : Standing). x.begun) closes.rest) there.stands (nothing_more told closes.marked) (λ one at. absurd at)

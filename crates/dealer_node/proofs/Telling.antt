@@ -11,7 +11,7 @@ use Rattle.dealer_node.specs.declared.reader.Reader.{Reader}
 use Rattle.dealer_node.specs.declared.seat_fault.SeatFault.{SeatFault}
 use Rattle.dealer_node.specs.Texts.{Marked}
 use Rattle.dealer_node.specs.Outs.{Told, both_told}
-use Rattle.dealer_node.specs.Turned.{told_of, posted, printed, fault_of}
+use Rattle.dealer_node.specs.Turned.{told_of, framed, printed, fault_of}
 use Rattle.dealer_node.specs.Fitting.{AreMessages}
 use Rattle.dealer_node.specs.Scenes.{IsTableOf}
 use Rattle.dealer_node.specs.Hearing.{IsHeard}
@@ -24,7 +24,7 @@ pub same_told : (frames others : List (Marked ℕ)) (shown texts : List (Marked 
 same_told frames others shown texts faults more a b c = ap (λ f. told_with f shown faults) a ∙ ap (λ s. told_with others s faults) b ∙ ap (λ t. told_with others texts t) c
 
 pub told_joined : (first next : Turn) → told_of (joined first next) ≡ both_told (told_of first) (told_of next)
-told_joined first next = same_told _ _ _ _ _ _ (map-append posted first.frames next.frames) (map-append printed first.shown next.shown) (map-append fault_of first.faults next.faults)
+told_joined first next = same_told _ _ _ _ _ _ (map-append framed first.frames next.frames) (map-append printed first.shown next.shown) (map-append fault_of first.faults next.faults)
 
 pub both_assoc : (a b c : Told) → both_told (both_told a b) c ≡ both_told a (both_told b c)
 both_assoc a b c = same_told _ _ _ _ _ _ (append_assoc a.frames b.frames c.frames) (append_assoc a.shown b.shown c.shown) (append_assoc a.faults b.faults c.faults)

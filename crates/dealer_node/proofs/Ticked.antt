@@ -29,7 +29,7 @@ use Rattle.node_rules.specs.Proposing.{higher, greatest_seen, is_over, is_spent,
 use Rattle.dealer_node.specs.declared.up.Up.{Up}
 use Rattle.dealer_node.specs.declared.running.Running.{Running}
 use Rattle.dealer_node.specs.Outs.{Told}
-use Rattle.dealer_node.specs.Posts.{Post, IsPost, place_at}
+use Rattle.dealer_node.specs.Members.{Membership, IsMember, place_at}
 use Rattle.dealer_node.specs.Running.{IsRunning, IsTaken, is_spent_at}
 use Rattle.dealer_node.specs.Working.{head_of, disk_under, IsDone, IsUp, Took, Failed, Works}
 use Rattle.dealer_node.specs.declared.fault.NodeFault.{NodeFault}
@@ -47,15 +47,15 @@ unled_by : (place : Place) (s : Standing) (campaign : Campaign) (quorum full : B
 unled_by place s campaign true full rest is e = absurd (true≢false e)
 unled_by place s campaign false full rest is e = ap (λ (c : Option Campaign). Ok (still (record s { campaign = c }))) (sym is)
 
-pub unled : (post : Post) (ballot : Ballot) (s : Standing) → IsPost post → closing (place_at post) (beginning (place_at post) ballot s).after ≡ Ok (still (beginning (place_at post) ballot s).after)
-unled post ballot s is =
-    let after : Standing = (beginning (place_at post) ballot s).after in
-    let campaign : Campaign = prepared (place_at post) ballot s in
-    let none : has_quorum post.nodes campaign ≡ false =
-    one_promise_leads_not post.nodes post.node ballot ballot (front_of s) (front_of s) (told_by s.store (front_of s)) (three_nodes post.nodes is.nodes) in
-    unled_by (place_at post) after campaign (has_quorum post.nodes campaign) (nat_le SLOTS (front_of after))
+pub unled : (member : Membership) (ballot : Ballot) (s : Standing) → IsMember member → closing (place_at member) (beginning (place_at member) ballot s).after ≡ Ok (still (beginning (place_at member) ballot s).after)
+unled member ballot s is =
+    let after : Standing = (beginning (place_at member) ballot s).after in
+    let campaign : Campaign = prepared (place_at member) ballot s in
+    let none : has_quorum member.nodes campaign ≡ false =
+    one_promise_leads_not member.nodes member.node ballot ballot (front_of s) (front_of s) (told_by s.store (front_of s)) (three_nodes member.nodes is.nodes) in
+    unled_by (place_at member) after campaign (has_quorum member.nodes campaign) (nat_le SLOTS (front_of after))
     (if not (is_covered campaign.first (front_of after)) then Err OutOfWindow else if is_proposed campaign (front_of after) then Ok None
-    else Ok (accept_run_of campaign (front_of after) (commands_at post.nodes campaign (front_of after) (own_value (place_at post) after)))) refl none
+    else Ok (accept_run_of campaign (front_of after) (commands_at member.nodes campaign (front_of after) (own_value (place_at member) after)))) refl none
 
 -- ---- the ballot is above what was promised
 
@@ -75,32 +75,32 @@ next_above node seen promise =
 
 -- ---- what a tick comes to
 
-spent_same : (post : Post) (running : Running) (s : Standing) (promise : Ballot) → IsRunning post running s → promise ≡ s.store.promise → is_spent_at running promise ≡ is_spent s
-spent_same post running s promise is same =
+spent_same : (member : Membership) (running : Running) (s : Standing) (promise : Ballot) → IsRunning member running s → promise ≡ s.store.promise → is_spent_at running promise ≡ is_spent s
+spent_same member running s promise is same =
     ap (λ (b : Ballot). (higher b promise).round == 2 ^ 32 - 1 || nat_le SLOTS (front running.learner.learned.log)) is.greatest
     ∙ ap (λ (b : Ballot). (higher s.seen b).round == 2 ^ 32 - 1 || nat_le SLOTS (front running.learner.learned.log)) same
     ∙ ap (λ (l : Learned). (higher s.seen s.store.promise).round == 2 ^ 32 - 1 || nat_le SLOTS (front l.log)) is.learned
 
-ballot_same : (post : Post) (running : Running) (s : Standing) (promise : Ballot) → IsRunning post running s → promise ≡ s.store.promise
-    → next_ballot post.node (higher running.seen promise) ≡ next_ballot post.node (greatest_seen s)
-ballot_same post running s promise is same =
-    ap (λ (b : Ballot). next_ballot post.node (higher b promise)) is.greatest ∙ ap (λ (b : Ballot). next_ballot post.node (higher s.seen b)) same
+ballot_same : (member : Membership) (running : Running) (s : Standing) (promise : Ballot) → IsRunning member running s → promise ≡ s.store.promise
+    → next_ballot member.node (higher running.seen promise) ≡ next_ballot member.node (greatest_seen s)
+ballot_same member running s promise is same =
+    ap (λ (b : Ballot). next_ballot member.node (higher b promise)) is.greatest ∙ ap (λ (b : Ballot). next_ballot member.node (higher s.seen b)) same
 
-begins : (post : Post) (s : Standing) (over spent : Bool) → over ≡ false → spent ≡ false
-    → (if over then Ok (still s) else if spent then Err Spent else Ok (beginning (place_at post) (next_ballot post.node (greatest_seen s)) s)) ≡ Ok (beginning (place_at post) (next_ballot post.node (greatest_seen s)) s)
-begins post s true spent a b = absurd (true≢false a)
-begins post s false true a b = absurd (true≢false b)
-begins post s false false a b = refl
+begins : (member : Membership) (s : Standing) (over spent : Bool) → over ≡ false → spent ≡ false
+    → (if over then Ok (still s) else if spent then Err Spent else Ok (beginning (place_at member) (next_ballot member.node (greatest_seen s)) s)) ≡ Ok (beginning (place_at member) (next_ballot member.node (greatest_seen s)) s)
+begins member s true spent a b = absurd (true≢false a)
+begins member s false true a b = absurd (true≢false b)
+begins member s false false a b = refl
 
-pub tick_begins : (post : Post) (running : Running) (s : Standing) (promise : Ballot) → IsRunning post running s → promise ≡ s.store.promise → is_over (place_at post) s ≡ false → is_spent_at running promise ≡ false
-    → ticking (place_at post) s ≡ Ok (beginning (place_at post) (next_ballot post.node (higher running.seen promise)) s)
-tick_begins post running s promise is same over unspent =
-    begins post s (is_over (place_at post) s) (is_spent s) over (sym (spent_same post running s promise is same) ∙ unspent)
-    ∙ ap (λ (b : Ballot). Ok (beginning (place_at post) b s)) (sym (ballot_same post running s promise is same))
+pub tick_begins : (member : Membership) (running : Running) (s : Standing) (promise : Ballot) → IsRunning member running s → promise ≡ s.store.promise → is_over (place_at member) s ≡ false → is_spent_at running promise ≡ false
+    → ticking (place_at member) s ≡ Ok (beginning (place_at member) (next_ballot member.node (higher running.seen promise)) s)
+tick_begins member running s promise is same over unspent =
+    begins member s (is_over (place_at member) s) (is_spent s) over (sym (spent_same member running s promise is same) ∙ unspent)
+    ∙ ap (λ (b : Ballot). Ok (beginning (place_at member) b s)) (sym (ballot_same member running s promise is same))
 
-pub next_is_above : (post : Post) (running : Running) (s : Standing) (promise : Ballot) → promise ≡ s.store.promise → is_below s.store.promise (next_ballot post.node (higher running.seen promise)) ≡ true
-next_is_above post running s promise same =
-    ap (λ (b : Ballot). is_below s.store.promise (next_ballot post.node (higher running.seen b))) same ∙ next_above post.node running.seen s.store.promise
+pub next_is_above : (member : Membership) (running : Running) (s : Standing) (promise : Ballot) → promise ≡ s.store.promise → is_below s.store.promise (next_ballot member.node (higher running.seen promise)) ≡ true
+next_is_above member running s promise same =
+    ap (λ (b : Ballot). is_below s.store.promise (next_ballot member.node (higher running.seen b))) same ∙ next_above member.node running.seen s.store.promise
 
 answered_by : (below : Bool) (ballot : Ballot) (slot first : ℕ) (store : Store) → below ≡ true → slot ≡ first → answered_prepare below ballot slot store ≡ Promise ballot slot (told_by store first)
 answered_by false ballot slot first store e here = absurd (true≢false (sym e))
@@ -124,32 +124,32 @@ counted_ballot true campaign node told = refl
 counted_ballot false campaign node told = refl
 
 module _ {D : Type 0} (g : Ghosts D) where
-  pub begin_took : (post : Post) (s : Standing) (ballot : Ballot) (old new : Up D) (told later : Told) → IsPost post → IsUp g post old s
-      → ticking (place_at post) s ≡ Ok (beginning (place_at post) ballot s) → is_below s.store.promise ballot ≡ true
-      → Keeps g (head_of post) (stores_prepared ballot s.store) (store_of new.acceptor)
-      → LeavesDuring g (head_of post) s.store (stores_prepared ballot s.store) (disk_under old) (disk_under new)
-      → IsTaken post new.running told later (beginning (place_at post) ballot s)
-      → Took g post s (and_then (ticking (place_at post) s) (closing (place_at post))) old new told later
-  begin_took post s ballot old new told later is_post is rule above keeps during taken =
-      let turn : Turn = beginning (place_at post) ballot s in
+  pub begin_took : (member : Membership) (s : Standing) (ballot : Ballot) (old new : Up D) (told later : Told) → IsMember member → IsUp g member old s
+      → ticking (place_at member) s ≡ Ok (beginning (place_at member) ballot s) → is_below s.store.promise ballot ≡ true
+      → Keeps g (head_of member) (stores_prepared ballot s.store) (store_of new.acceptor)
+      → LeavesDuring g (head_of member) s.store (stores_prepared ballot s.store) (disk_under old) (disk_under new)
+      → IsTaken member new.running told later (beginning (place_at member) ballot s)
+      → Took g member s (and_then (ticking (place_at member) s) (closing (place_at member))) old new told later
+  begin_took member s ballot old new told later is_member is rule above keeps during taken =
+      let turn : Turn = beginning (place_at member) ballot s in
       let stores = is_stored ballot s.store above in
-      let there : IsUp g post new turn.after = record {
+      let there : IsUp g member new turn.after = record {
         running = taken.runs;
-        keeps = subst (λ (st : Store). Keeps g (head_of post) st (store_of new.acceptor)) stores keeps;
+        keeps = subst (λ (st : Store). Keeps g (head_of member) st (store_of new.acceptor)) stores keeps;
         unbegun = refl;
-        stands = counted_ballot (is_counted post.nodes (new_campaign ballot (front_of s)) post.node ballot (front_of s)) (new_campaign ballot (front_of s)) post.node (told_by s.store (front_of s));
+        stands = counted_ballot (is_counted member.nodes (new_campaign ballot (front_of s)) member.node ballot (front_of s)) (new_campaign ballot (front_of s)) member.node (told_by s.store (front_of s));
       } in
-      let first : Took g post s (ticking (place_at post) s) old new told later = record {
+      let first : Took g member s (ticking (place_at member) s) old new told later = record {
         turn = turn;
         rule = rule;
         now = there;
         told = taken.told;
         fits = taken.fits;
-        moments = subst (λ (st : Store). LeavesDuring g (head_of post) s.store st (disk_under old) (disk_under new)) stores during;
-        untouched = λ still. absurd (told_to_none post.nodes post.node (frame.Prepare ballot (front_of s)) (let three = three_nodes post.nodes is_post.nodes in omega arith) (λ e. e) still);
+        moments = subst (λ (st : Store). LeavesDuring g (head_of member) s.store st (disk_under old) (disk_under new)) stores during;
+        untouched = λ still. absurd (told_to_none member.nodes member.node (frame.Prepare ballot (front_of s)) (let three = three_nodes member.nodes is_member.nodes in omega arith) (λ e. e) still);
       } in
-      let closes = unled post ballot s is_post in
-      let second : Took g post turn.after (closing (place_at post) turn.after) new new later later = record {
+      let closes = unled member ballot s is_member in
+      let second : Took g member turn.after (closing (place_at member) turn.after) new new later later = record {
         turn = still turn.after;
         rule = closes;
         now = there;
@@ -158,42 +158,42 @@ module _ {D : Type 0} (g : Ghosts D) where
         moments = λ t image was. inl was;
         untouched = λ still. refl;
       } in
-      then_works g post s (closing (place_at post)) (ticking (place_at post) s) old new new told later later (Ok tt) first (inr (still turn.after, closes, refl, refl)) second
+      then_works g member s (closing (place_at member)) (ticking (place_at member) s) old new new told later later (Ok tt) first (inr (still turn.after, closes, refl, refl)) second
 
-  pub begin_failed : (post : Post) (s : Standing) (ballot : Ballot) (old new : Up D) → IsPost post
-      → ticking (place_at post) s ≡ Ok (beginning (place_at post) ballot s) → is_below s.store.promise ballot ≡ true
-      → Leaves g (head_of post) s.store (stores_prepared ballot s.store) (disk_under new)
-      → LeavesDuring g (head_of post) s.store (stores_prepared ballot s.store) (disk_under old) (disk_under new)
-      → Failed g post s (and_then (ticking (place_at post) s) (closing (place_at post))) old new
-  begin_failed post s ballot old new is_post rule above leaves during =
-      let turn : Turn = beginning (place_at post) ballot s in
+  pub begin_failed : (member : Membership) (s : Standing) (ballot : Ballot) (old new : Up D) → IsMember member
+      → ticking (place_at member) s ≡ Ok (beginning (place_at member) ballot s) → is_below s.store.promise ballot ≡ true
+      → Leaves g (head_of member) s.store (stores_prepared ballot s.store) (disk_under new)
+      → LeavesDuring g (head_of member) s.store (stores_prepared ballot s.store) (disk_under old) (disk_under new)
+      → Failed g member s (and_then (ticking (place_at member) s) (closing (place_at member))) old new
+  begin_failed member s ballot old new is_member rule above leaves during =
+      let turn : Turn = beginning (place_at member) ballot s in
       record {
         left = stores_prepared ballot s.store;
-        comes = inr (inl (joined turn (still turn.after), ap (λ (o : Result Turn Refusal). and_then o (closing (place_at post))) rule ∙ ap (behind turn) (unled post ballot s is_post), is_stored ballot s.store above));
-        done = subst IsDone (sym (ap (λ (o : Result Turn Refusal). and_then o (closing (place_at post))) rule ∙ ap (behind turn) (unled post ballot s is_post))) tt;
+        comes = inr (inl (joined turn (still turn.after), ap (λ (o : Result Turn Refusal). and_then o (closing (place_at member))) rule ∙ ap (behind turn) (unled member ballot s is_member), is_stored ballot s.store above));
+        done = subst IsDone (sym (ap (λ (o : Result Turn Refusal). and_then o (closing (place_at member))) rule ∙ ap (behind turn) (unled member ballot s is_member))) tt;
         leaves = leaves;
         moments = during;
       }
 
   -- a tick after the match's end does nothing
-  pub over_works : (post : Post) (s : Standing) (old new : Up D) (told later : Told) (answer : Result (Unit {0}) NodeFault) → IsUp g post old s → is_over (place_at post) s ≡ true
-      → Works g post s (closing (place_at post) s) old new told later answer
-      → Works g post s (and_then (ticking (place_at post) s) (closing (place_at post))) old new told later answer
-  over_works post s old new told later answer is over works =
-      let first : Took g post s (ticking (place_at post) s) old old told told = record {
+  pub over_works : (member : Membership) (s : Standing) (old new : Up D) (told later : Told) (answer : Result (Unit {0}) NodeFault) → IsUp g member old s → is_over (place_at member) s ≡ true
+      → Works g member s (closing (place_at member) s) old new told later answer
+      → Works g member s (and_then (ticking (place_at member) s) (closing (place_at member))) old new told later answer
+  over_works member s old new told later answer is over works =
+      let first : Took g member s (ticking (place_at member) s) old old told told = record {
         turn = still s;
-        rule = ap (λ (b : Bool). if b then Ok (still s) else if is_spent s then Err Spent else Ok (beginning (place_at post) (next_ballot post.node (greatest_seen s)) s)) over;
+        rule = ap (λ (b : Bool). if b then Ok (still s) else if is_spent s then Err Spent else Ok (beginning (place_at member) (next_ballot member.node (greatest_seen s)) s)) over;
         now = is;
         told = nothing_more told s;
         fits = λ one at. absurd at;
         moments = λ t image was. inl was;
         untouched = λ still. refl;
       } in
-      then_works g post s (closing (place_at post)) (ticking (place_at post) s) old old new told told later answer first (inl refl) works
+      then_works g member s (closing (place_at member)) (ticking (place_at member) s) old old new told told later answer first (inl refl) works
 
 -- no ballot or no slot is left
-spends : (post : Post) (s : Standing) (over spent : Bool) → over ≡ false → spent ≡ true
-    → (if over then Ok (still s) else if spent then Err Spent else Ok (beginning (place_at post) (next_ballot post.node (greatest_seen s)) s)) ≡ Err Spent
-spends post s true spent a b = absurd (true≢false a)
-spends post s false true a b = refl
-spends post s false false a b = absurd (true≢false (sym b))
+spends : (member : Membership) (s : Standing) (over spent : Bool) → over ≡ false → spent ≡ true
+    → (if over then Ok (still s) else if spent then Err Spent else Ok (beginning (place_at member) (next_ballot member.node (greatest_seen s)) s)) ≡ Err Spent
+spends member s true spent a b = absurd (true≢false a)
+spends member s false true a b = refl
+spends member s false false a b = absurd (true≢false (sym b))

@@ -9,7 +9,7 @@ use Rattle.paxos_wire.specs.declared.message.Message.TheVariants.{Chosen}
 use Rattle.node_rules.specs.Sending.{Frame, one}
 use Rattle.node_rules.specs.Learning.{told_of, telling_from}
 use Rattle.dealer_node.specs.Texts.{Marked}
-use Rattle.dealer_node.specs.Turned.{posted}
+use Rattle.dealer_node.specs.Turned.{framed}
 use Rattle.dealer_node.specs.Fitting.{AreMessages}
 use Rattle.dealer_node.proofs.Messages.{no_messages, one_message, both_messages}
 
@@ -21,15 +21,15 @@ one_told : (log : Log) (to slot : ℕ) → telling_from log to slot 1 ≡ told_o
 unfolding telling_from
 one_told log to slot = append-nil (told_of to slot (known_at log slot))
 
-pub nothing_told_yet : (texts : List (Marked ℕ)) (log : Log) (to slot : ℕ) → texts ≡ texts ++ map posted (telling_from log to slot 0)
-nothing_told_yet texts log to slot = sym (ap (λ t. texts ++ map posted t) (none_told log to slot) ∙ append-nil texts)
+pub nothing_told_yet : (texts : List (Marked ℕ)) (log : Log) (to slot : ℕ) → texts ≡ texts ++ map framed (telling_from log to slot 0)
+nothing_told_yet texts log to slot = sym (ap (λ t. texts ++ map framed t) (none_told log to slot) ∙ append-nil texts)
 
-pub told_none : (texts : List (Marked ℕ)) (log : Log) (to slot : ℕ) → None ≡ known_at log slot → texts ≡ texts ++ map posted (telling_from log to slot 1)
-told_none texts log to slot none = sym (ap (λ t. texts ++ map posted t) (one_told log to slot ∙ ap (told_of to slot) (sym none)) ∙ append-nil texts)
+pub told_none : (texts : List (Marked ℕ)) (log : Log) (to slot : ℕ) → None ≡ known_at log slot → texts ≡ texts ++ map framed (telling_from log to slot 1)
+told_none texts log to slot none = sym (ap (λ t. texts ++ map framed t) (one_told log to slot ∙ ap (told_of to slot) (sym none)) ∙ append-nil texts)
 
-pub told_some : (texts new : List (Marked ℕ)) (log : Log) (to slot : ℕ) (command : Command) → Some command ≡ known_at log slot → new ≡ texts ++ map posted (one to (Chosen slot command))
-    → new ≡ texts ++ map posted (telling_from log to slot 1)
-told_some texts new log to slot command some e = e ∙ ap (λ t. texts ++ map posted t) (sym (one_told log to slot ∙ ap (told_of to slot) (sym some)))
+pub told_some : (texts new : List (Marked ℕ)) (log : Log) (to slot : ℕ) (command : Command) → Some command ≡ known_at log slot → new ≡ texts ++ map framed (one to (Chosen slot command))
+    → new ≡ texts ++ map framed (telling_from log to slot 1)
+told_some texts new log to slot command some e = e ∙ ap (λ t. texts ++ map framed t) (sym (one_told log to slot ∙ ap (told_of to slot) (sym some)))
 
 -- one slot more at the end
 further : (log : Log) (to slot more : ℕ) → telling_from log to slot (more + 1) ≡ telling_from log to slot more ++ telling_from log to (slot + more) 1
@@ -44,11 +44,11 @@ further log to slot (suc more) =
     ∙ (ap (λ t. front ++ t) next ∙ (ap (λ s. front ++ (telling_from log to (slot + 1) more ++ telling_from log to s 1)) place
     ∙ sym (append_assoc front (telling_from log to (slot + 1) more) (telling_from log to (slot + suc more) 1)))))
 
-pub told_on : (old texts new : List (Marked ℕ)) (log : Log) (to slot more : ℕ) → texts ≡ old ++ map posted (telling_from log to slot more) → new ≡ texts ++ map posted (telling_from log to (slot + more) 1)
-    → new ≡ old ++ map posted (telling_from log to slot (more + 1))
+pub told_on : (old texts new : List (Marked ℕ)) (log : Log) (to slot more : ℕ) → texts ≡ old ++ map framed (telling_from log to slot more) → new ≡ texts ++ map framed (telling_from log to (slot + more) 1)
+    → new ≡ old ++ map framed (telling_from log to slot (more + 1))
 told_on old texts new log to slot more before e =
-    e ∙ ap (λ t. t ++ map posted (telling_from log to (slot + more) 1)) before ∙ append_assoc old (map posted (telling_from log to slot more)) (map posted (telling_from log to (slot + more) 1))
-    ∙ ap (λ t. old ++ t) (sym (map-append posted (telling_from log to slot more) (telling_from log to (slot + more) 1)) ∙ ap (map posted) (sym (further log to slot more)))
+    e ∙ ap (λ t. t ++ map framed (telling_from log to (slot + more) 1)) before ∙ append_assoc old (map framed (telling_from log to slot more)) (map framed (telling_from log to (slot + more) 1))
+    ∙ ap (λ t. old ++ t) (sym (map-append framed (telling_from log to slot more) (telling_from log to (slot + more) 1)) ∙ ap (map framed) (sym (further log to slot more)))
 
 -- ---- each has a frame
 

@@ -11,9 +11,9 @@ use Rattle.node_rules.specs.Turns.{Turn, sending, behind, joined}
 use Rattle.node_rules.specs.Learning.{counting_votes}
 use Rattle.dealer_node.specs.declared.running.Running.{Running}
 use Rattle.dealer_node.specs.Texts.{Marked}
-use Rattle.dealer_node.specs.Posts.{Post, place_at}
+use Rattle.dealer_node.specs.Members.{Membership, place_at}
 use Rattle.dealer_node.specs.Outs.{Told}
-use Rattle.dealer_node.specs.Turned.{posted}
+use Rattle.dealer_node.specs.Turned.{framed}
 use Rattle.dealer_node.specs.Fitting.{AreMessages}
 use Rattle.dealer_node.specs.Running.{IsRunning, TakesTurn}
 use Rattle.dealer_node.specs.Voting.{telling_votes}
@@ -26,15 +26,15 @@ messages_to nodes node n i message a b are =
     let Q : ℕ → Type 0 = λ k. AreMessages (to_first nodes k message) in
     subst Q b (subst P a are)
 
-pub votes_told : (post : Post) (old new : Running) (node : ℕ) (ballot : Ballot) (slot : ℕ) (commands : List Command) (told later : Told) (texts : List (Marked ℕ)) (s : Standing)
-    → IsRunning post old s → node ≡ post.node → texts ≡ told.frames ++ map posted (to_others (place_at post) (Accepted ballot slot commands)) → AreMessages (to_others (place_at post) (Accepted ballot slot commands))
-    → TakesTurn post new (told_with texts told.shown told.faults) later (counting_votes (place_at post) node ballot slot commands s)
-    → TakesTurn post new told later (telling_votes (place_at post) ballot slot commands s)
-votes_told post old new node ballot slot commands told later texts s is own e are t =
-    let frames : List Frame = to_others (place_at post) (Accepted ballot slot commands) in
+pub votes_told : (member : Membership) (old new : Running) (node : ℕ) (ballot : Ballot) (slot : ℕ) (commands : List Command) (told later : Told) (texts : List (Marked ℕ)) (s : Standing)
+    → IsRunning member old s → node ≡ member.node → texts ≡ told.frames ++ map framed (to_others (place_at member) (Accepted ballot slot commands)) → AreMessages (to_others (place_at member) (Accepted ballot slot commands))
+    → TakesTurn member new (told_with texts told.shown told.faults) later (counting_votes (place_at member) node ballot slot commands s)
+    → TakesTurn member new told later (telling_votes (place_at member) ballot slot commands s)
+votes_told member old new node ballot slot commands told later texts s is own e are t =
+    let frames : List Frame = to_others (place_at member) (Accepted ballot slot commands) in
     let sent : Turn = sending frames s in
     record {
       turn = joined sent t.turn;
-      rule = ap (behind sent) (sym (ap (λ i. counting_votes (place_at post) i ballot slot commands s) own) ∙ t.rule);
-      taken = taken_behind post old new told (told_with texts told.shown told.faults) later sent t.turn (sent_taken post old s told texts frames is e are) t.taken;
+      rule = ap (behind sent) (sym (ap (λ i. counting_votes (place_at member) i ballot slot commands s) own) ∙ t.rule);
+      taken = taken_behind member old new told (told_with texts told.shown told.faults) later sent t.turn (sent_taken member old s told texts frames is e are) t.taken;
     }

@@ -18,7 +18,7 @@ use Rattle.dealer_node.specs.declared.running.Running.{Running}
 use Rattle.dealer_node.specs.declared.fault.NodeFault.{NodeFault}
 use Rattle.dealer_node.specs.declared.fault.NodeFault.TheVariants as fault
 use Rattle.dealer_node.specs.Outs.{Told, both_told}
-use Rattle.dealer_node.specs.Posts.{Post}
+use Rattle.dealer_node.specs.Members.{Membership}
 use Rattle.dealer_node.specs.Turned.{told_of}
 use Rattle.dealer_node.specs.Fitting.{AreMessages}
 use Rattle.dealer_node.specs.Running.{IsRunning}
@@ -95,101 +95,101 @@ comes_once s first next left (inr (other, is, store, begun)) (inl e) = inr (inl 
 
 module _ {D : Type 0} (g : Ghosts D) where
   -- what a part does in memory alone
-  pub memory_took : (post : Post) (s : Standing) (outcome : Result Turn Refusal) (turn : Turn) (up : Up D) (running : Running) (earlier later : Told)
-      → IsUp g post up s → outcome ≡ Ok turn → IsRunning post running turn.after → turn.after.store ≡ s.store → turn.after.begun ≡ s.begun → StandsByIts turn.after
+  pub memory_took : (member : Membership) (s : Standing) (outcome : Result Turn Refusal) (turn : Turn) (up : Up D) (running : Running) (earlier later : Told)
+      → IsUp g member up s → outcome ≡ Ok turn → IsRunning member running turn.after → turn.after.store ≡ s.store → turn.after.begun ≡ s.begun → StandsByIts turn.after
       → later ≡ both_told earlier (told_of turn) → AreMessages turn.frames
-      → Took g post s outcome up (record up { running = running }) earlier later
-  memory_took post s outcome turn up running earlier later is rule runs store begun stands told fits = record {
+      → Took g member s outcome up (record up { running = running }) earlier later
+  memory_took member s outcome turn up running earlier later is rule runs store begun stands told fits = record {
     turn = turn;
     rule = rule;
     told = told;
     fits = fits;
-    now = record { running = runs; keeps = subst (λ (st : Store). Keeps g (head_of post) st (store_of up.acceptor)) (sym store) is.keeps; unbegun = begun ∙ is.unbegun ∙ sym store; stands = stands };
+    now = record { running = runs; keeps = subst (λ (st : Store). Keeps g (head_of member) st (store_of up.acceptor)) (sym store) is.keeps; unbegun = begun ∙ is.unbegun ∙ sym store; stands = stands };
     moments = λ t image was. inl was;
     untouched = λ still. refl;
   }
 
-  then_took : (post : Post) (s : Standing) (next : Standing → Result Turn Refusal) (outcome : Result Turn Refusal) (a b c : Up D) (earlier middle later : Told)
-      → (first : Took g post s outcome a b earlier middle) → OneAppends s first.turn.after (next first.turn.after)
-      → Took g post first.turn.after (next first.turn.after) b c middle later
-      → Took g post s (and_then outcome next) a c earlier later
-  then_took post s next outcome a b c earlier middle later first once second = record {
+  then_took : (member : Membership) (s : Standing) (next : Standing → Result Turn Refusal) (outcome : Result Turn Refusal) (a b c : Up D) (earlier middle later : Told)
+      → (first : Took g member s outcome a b earlier middle) → OneAppends s first.turn.after (next first.turn.after)
+      → Took g member first.turn.after (next first.turn.after) b c middle later
+      → Took g member s (and_then outcome next) a c earlier later
+  then_took member s next outcome a b c earlier middle later first once second = record {
     turn = joined first.turn second.turn;
     rule = ap (λ (o : Result Turn Refusal). and_then o next) first.rule ∙ ap (behind first.turn) second.rule;
     now = second.now;
     told = told_more first.turn second.turn earlier middle later first.told second.told;
     fits = both_messages first.turn.frames second.turn.frames first.fits second.fits;
-    moments = left_during (head_of post) _ _ _ s.store first.turn.after.store second.turn.after.store (appends_once s first.turn.after (next first.turn.after) second.turn once second.rule) first.moments second.moments;
+    moments = left_during (head_of member) _ _ _ s.store first.turn.after.store second.turn.after.store (appends_once s first.turn.after (next first.turn.after) second.turn once second.rule) first.moments second.moments;
     untouched = λ still.
         second.untouched (λ sent at. still sent (in_later first.turn.frames second.turn.frames sent at)) ∙ first.untouched (λ sent at. still sent (in_first first.turn.frames second.turn.frames sent at));
   }
 
-  then_failed : (post : Post) (s : Standing) (next : Standing → Result Turn Refusal) (outcome : Result Turn Refusal) (a b c : Up D) (earlier middle : Told)
-      → (first : Took g post s outcome a b earlier middle) → OneAppends s first.turn.after (next first.turn.after)
-      → Failed g post first.turn.after (next first.turn.after) b c
-      → Failed g post s (and_then outcome next) a c
-  then_failed post s next outcome a b c earlier middle first once second =
+  then_failed : (member : Membership) (s : Standing) (next : Standing → Result Turn Refusal) (outcome : Result Turn Refusal) (a b c : Up D) (earlier middle : Told)
+      → (first : Took g member s outcome a b earlier middle) → OneAppends s first.turn.after (next first.turn.after)
+      → Failed g member first.turn.after (next first.turn.after) b c
+      → Failed g member s (and_then outcome next) a c
+  then_failed member s next outcome a b c earlier middle first once second =
       let apart = leaves_once s first.turn.after (next first.turn.after) second.left once second.comes in
       record {
         left = second.left;
         comes = subst (λ (o : Result Turn Refusal). (second.left ≡ s.store) ⊎ ComesTo (and_then o next) second.left) (sym first.rule) (comes_once s first.turn (next first.turn.after) second.left once second.comes);
         done = subst (λ (o : Result Turn Refusal). IsDone (and_then o next)) (sym first.rule) (done_behind first.turn (next first.turn.after) second.done);
-        leaves = left_by (head_of post) _ s.store first.turn.after.store second.left apart second.leaves;
-        moments = left_during (head_of post) _ _ _ s.store first.turn.after.store second.left apart first.moments second.moments;
+        leaves = left_by (head_of member) _ s.store first.turn.after.store second.left apart second.leaves;
+        moments = left_during (head_of member) _ _ _ s.store first.turn.after.store second.left apart first.moments second.moments;
       }
 
-  then_clashed : (post : Post) (s : Standing) (next : Standing → Result Turn Refusal) (outcome : Result Turn Refusal) (a b c : Up D) (earlier middle : Told)
-      → (first : Took g post s outcome a b earlier middle) → OneAppends s first.turn.after (next first.turn.after)
-      → Clashed g post first.turn.after (next first.turn.after) b c
-      → Clashed g post s (and_then outcome next) a c
-  then_clashed post s next outcome a b c earlier middle first once second =
+  then_clashed : (member : Membership) (s : Standing) (next : Standing → Result Turn Refusal) (outcome : Result Turn Refusal) (a b c : Up D) (earlier middle : Told)
+      → (first : Took g member s outcome a b earlier middle) → OneAppends s first.turn.after (next first.turn.after)
+      → Clashed g member first.turn.after (next first.turn.after) b c
+      → Clashed g member s (and_then outcome next) a c
+  then_clashed member s next outcome a b c earlier middle first once second =
       let apart = leaves_once s first.turn.after (next first.turn.after) second.left once (inr (inr second.rule)) in
       record {
         left = second.left;
         rule = ap (λ (o : Result Turn Refusal). and_then o next) first.rule ∙ ap (behind first.turn) second.rule;
-        leaves = left_by (head_of post) _ s.store first.turn.after.store second.left apart second.leaves;
-        moments = left_during (head_of post) _ _ _ s.store first.turn.after.store second.left apart first.moments second.moments;
+        leaves = left_by (head_of member) _ s.store first.turn.after.store second.left apart second.leaves;
+        moments = left_during (head_of member) _ _ _ s.store first.turn.after.store second.left apart first.moments second.moments;
       }
 
   -- however the second part ends
-  pub then_works : (post : Post) (s : Standing) (next : Standing → Result Turn Refusal) (outcome : Result Turn Refusal) (a b c : Up D) (earlier middle later : Told) (answer : Result (Unit {0}) NodeFault)
-      → (first : Took g post s outcome a b earlier middle) → OneAppends s first.turn.after (next first.turn.after)
-      → Works g post first.turn.after (next first.turn.after) b c middle later answer
-      → Works g post s (and_then outcome next) a c earlier later answer
-  then_works post s next outcome a b c earlier middle later (Ok done) first once w = then_took post s next outcome a b c earlier middle later first once w
-  then_works post s next outcome a b c earlier middle later (Err (fault.Store Disk)) first once w = then_failed post s next outcome a b c earlier middle first once w
-  then_works post s next outcome a b c earlier middle later (Err fault.Conflict) first once w = then_clashed post s next outcome a b c earlier middle first once w
-  then_works post s next outcome a b c earlier middle later (Err other) first once w = absurd w
+  pub then_works : (member : Membership) (s : Standing) (next : Standing → Result Turn Refusal) (outcome : Result Turn Refusal) (a b c : Up D) (earlier middle later : Told) (answer : Result (Unit {0}) NodeFault)
+      → (first : Took g member s outcome a b earlier middle) → OneAppends s first.turn.after (next first.turn.after)
+      → Works g member first.turn.after (next first.turn.after) b c middle later answer
+      → Works g member s (and_then outcome next) a c earlier later answer
+  then_works member s next outcome a b c earlier middle later (Ok done) first once w = then_took member s next outcome a b c earlier middle later first once w
+  then_works member s next outcome a b c earlier middle later (Err (fault.Store Disk)) first once w = then_failed member s next outcome a b c earlier middle first once w
+  then_works member s next outcome a b c earlier middle later (Err fault.Conflict) first once w = then_clashed member s next outcome a b c earlier middle first once w
+  then_works member s next outcome a b c earlier middle later (Err other) first once w = absurd w
 
-  moments_from : (post : Post) (old other new : Store) (a c b : Up D) → other ≡ old → disk_under a ≡ disk_under c
-      → LeavesDuring g (head_of post) other new (disk_under a) (disk_under b) → LeavesDuring g (head_of post) old new (disk_under c) (disk_under b)
-  moments_from post old other new a c b same disk during =
-      subst (λ (d : D). LeavesDuring g (head_of post) old new d (disk_under b)) disk (subst (λ (st : Store). LeavesDuring g (head_of post) st new (disk_under a) (disk_under b)) same during)
+  moments_from : (member : Membership) (old other new : Store) (a c b : Up D) → other ≡ old → disk_under a ≡ disk_under c
+      → LeavesDuring g (head_of member) other new (disk_under a) (disk_under b) → LeavesDuring g (head_of member) old new (disk_under c) (disk_under b)
+  moments_from member old other new a c b same disk during =
+      subst (λ (d : D). LeavesDuring g (head_of member) old new d (disk_under b)) disk (subst (λ (st : Store). LeavesDuring g (head_of member) st new (disk_under a) (disk_under b)) same during)
 
   comes_from : (old other : Store) (outcome : Result Turn Refusal) (left : Store) → (left ≡ other) ⊎ ComesTo outcome left → other ≡ old → (left ≡ old) ⊎ ComesTo outcome left
   comes_from old other outcome left (inl e) same = inl (e ∙ same)
   comes_from old other outcome left (inr comes) same = inr comes
 
   -- a part is that of any standing with the same store, from any node with the same disk
-  pub works_from : (post : Post) (s other : Standing) (outcome : Result Turn Refusal) (a c b : Up D) (earlier later : Told) (answer : Result (Unit {0}) NodeFault)
-      → other.store ≡ s.store → disk_under a ≡ disk_under c → Works g post other outcome a b earlier later answer → Works g post s outcome c b earlier later answer
-  works_from post s other outcome a c b earlier later (Ok done) same disk w =
+  pub works_from : (member : Membership) (s other : Standing) (outcome : Result Turn Refusal) (a c b : Up D) (earlier later : Told) (answer : Result (Unit {0}) NodeFault)
+      → other.store ≡ s.store → disk_under a ≡ disk_under c → Works g member other outcome a b earlier later answer → Works g member s outcome c b earlier later answer
+  works_from member s other outcome a c b earlier later (Ok done) same disk w =
       record {
         turn = w.turn;
         rule = w.rule;
         now = w.now;
         told = w.told;
         fits = w.fits;
-        moments = moments_from post s.store other.store w.turn.after.store a c b same disk w.moments;
+        moments = moments_from member s.store other.store w.turn.after.store a c b same disk w.moments;
         untouched = λ still. w.untouched still ∙ disk;
       }
-  works_from post s other outcome a c b earlier later (Err (fault.Store Disk)) same disk w =
-      record { left = w.left; comes = comes_from s.store other.store outcome w.left w.comes same; done = w.done; leaves = subst (λ (st : Store). Leaves g (head_of post) st w.left (disk_under b)) same w.leaves; moments = moments_from post s.store other.store w.left a c b same disk w.moments }
-  works_from post s other outcome a c b earlier later (Err fault.Conflict) same disk w =
-      record { left = w.left; rule = w.rule; leaves = subst (λ (st : Store). Leaves g (head_of post) st w.left (disk_under b)) same w.leaves; moments = moments_from post s.store other.store w.left a c b same disk w.moments }
-  works_from post s other outcome a c b earlier later (Err why) same disk w = absurd w
+  works_from member s other outcome a c b earlier later (Err (fault.Store Disk)) same disk w =
+      record { left = w.left; comes = comes_from s.store other.store outcome w.left w.comes same; done = w.done; leaves = subst (λ (st : Store). Leaves g (head_of member) st w.left (disk_under b)) same w.leaves; moments = moments_from member s.store other.store w.left a c b same disk w.moments }
+  works_from member s other outcome a c b earlier later (Err fault.Conflict) same disk w =
+      record { left = w.left; rule = w.rule; leaves = subst (λ (st : Store). Leaves g (head_of member) st w.left (disk_under b)) same w.leaves; moments = moments_from member s.store other.store w.left a c b same disk w.moments }
+  works_from member s other outcome a c b earlier later (Err why) same disk w = absurd w
 
   -- where the first part fails, so does the whole
-  pub first_failed : (post : Post) (s : Standing) (next : Standing → Result Turn Refusal) (outcome : Result Turn Refusal) (a b : Up D)
-      → Clashed g post s outcome a b → Clashed g post s (and_then outcome next) a b
-  first_failed post s next outcome a b c = record { left = c.left; rule = ap (λ (o : Result Turn Refusal). and_then o next) c.rule; leaves = c.leaves; moments = c.moments }
+  pub first_failed : (member : Membership) (s : Standing) (next : Standing → Result Turn Refusal) (outcome : Result Turn Refusal) (a b : Up D)
+      → Clashed g member s outcome a b → Clashed g member s (and_then outcome next) a b
+  first_failed member s next outcome a b c = record { left = c.left; rule = ap (λ (o : Result Turn Refusal). and_then o next) c.rule; leaves = c.leaves; moments = c.moments }

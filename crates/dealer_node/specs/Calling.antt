@@ -16,7 +16,7 @@ use Rattle.dealer_node.specs.declared.made.Need.{Need}
 use Rattle.dealer_node.specs.declared.fault.NodeFault.{NodeFault}
 use Rattle.dealer_node.specs.declared.fault.NodeFault.TheVariants as fault
 use Rattle.dealer_node.specs.Outs.{Told, HasRoom}
-use Rattle.dealer_node.specs.Posts.{Post, place_at}
+use Rattle.dealer_node.specs.Members.{Membership, place_at}
 use Rattle.dealer_node.specs.Running.{ahead_of}
 use Rattle.dealer_node.specs.Working.{disk_under, store_room, IsUp}
 use Rattle.dealer_node.specs.Handling.{Stays, Handles}
@@ -80,16 +80,16 @@ module _ {D : Type 0} where
 module _ {D : Type 0} (g : Ghosts D) where
   -- room alone has changed
   pub record Unmoved (before after : Up D) : Type 0 where
-    pub up : (post : Post) (s : Standing) → IsUp g post before s → IsUp g post after s
+    pub up : (member : Membership) (s : Standing) → IsUp g member before s → IsUp g member after s
     pub disk : disk_under after ≡ disk_under before
 
   -- there was no memory
-  pub record Wants (post : Post) (s : Standing) (before after : Up D) (answer : Result (Unit {0}) NodeFault) : Type 0 where
-    pub stays : Stays g post s before after
+  pub record Wants (member : Membership) (s : Standing) (before after : Up D) (answer : Result (Unit {0}) NodeFault) : Type 0 where
+    pub stays : Stays g member s before after
     pub memory : answer ≡ Err fault.OutOfMemory
 
   -- a call that found no memory, or whose outcome is by its rule
-  abbrev pub HandlesCall : Post → Standing → Call → Up D → Up D → Told → Told → Result (Unit {0}) NodeFault → Type 0
-  HandlesCall post s called before after earlier later answer =
-      Wants post s before after answer
-      ⊎ ((outcome : Result Turn Refusal) × IsTurnUp (place_at post) s called outcome × Handles g post s outcome before after earlier later answer)
+  abbrev pub HandlesCall : Membership → Standing → Call → Up D → Up D → Told → Told → Result (Unit {0}) NodeFault → Type 0
+  HandlesCall member s called before after earlier later answer =
+      Wants member s before after answer
+      ⊎ ((outcome : Result Turn Refusal) × IsTurnUp (place_at member) s called outcome × Handles g member s outcome before after earlier later answer)

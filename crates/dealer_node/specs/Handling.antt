@@ -11,7 +11,7 @@ use Rattle.dealer_node.specs.declared.made.Need.{Need}
 use Rattle.dealer_node.specs.declared.fault.NodeFault.{NodeFault}
 use Rattle.dealer_node.specs.declared.fault.NodeFault.TheVariants as fault
 use Rattle.dealer_node.specs.Outs.{Told}
-use Rattle.dealer_node.specs.Posts.{Post}
+use Rattle.dealer_node.specs.Members.{Membership}
 use Rattle.dealer_node.specs.Texts.{byte_total}
 use Rattle.dealer_node.specs.Working.{disk_under, IsUp, Took, Failed, Clashed}
 
@@ -39,20 +39,20 @@ module _ {D : Type 0} where
 
 module _ {D : Type 0} (g : Ghosts D) where
   -- nothing but room has changed
-  pub record Stays (post : Post) (s : Standing) (before after : Up D) : Type 0 where
-    pub now : IsUp g post after s
+  pub record Stays (member : Membership) (s : Standing) (before after : Up D) : Type 0 where
+    pub now : IsUp g member after s
     pub disk : disk_under after ≡ disk_under before
 
   -- a call whose outcome is this, or that found no memory
-  abbrev pub Handles : Post → Standing → Result Turn Refusal → Up D → Up D → Told → Told → Result (Unit {0}) NodeFault → Type 0
-  Handles post s outcome before after earlier later (Ok done) = Took g post s outcome before after earlier later
-  Handles post s outcome before after earlier later (Err (fault.Store Disk)) = Failed g post s outcome before after
-  Handles post s outcome before after earlier later (Err fault.Conflict) = Clashed g post s outcome before after
-  Handles post s outcome before after earlier later (Err fault.OutOfMemory) = Stays post s before after
-  Handles post s outcome before after earlier later (Err fault.Spent) = (outcome ≡ Err Spent) × Stays post s before after
-  Handles post s outcome before after earlier later (Err (fault.BadFrame why)) = (outcome ≡ Err (BadFrame why)) × Stays post s before after
-  Handles post s outcome before after earlier later (Err fault.NothingToAct) = (outcome ≡ Err NothingToAct) × Stays post s before after
-  Handles post s outcome before after earlier later (Err other) = ⊥
+  abbrev pub Handles : Membership → Standing → Result Turn Refusal → Up D → Up D → Told → Told → Result (Unit {0}) NodeFault → Type 0
+  Handles member s outcome before after earlier later (Ok done) = Took g member s outcome before after earlier later
+  Handles member s outcome before after earlier later (Err (fault.Store Disk)) = Failed g member s outcome before after
+  Handles member s outcome before after earlier later (Err fault.Conflict) = Clashed g member s outcome before after
+  Handles member s outcome before after earlier later (Err fault.OutOfMemory) = Stays member s before after
+  Handles member s outcome before after earlier later (Err fault.Spent) = (outcome ≡ Err Spent) × Stays member s before after
+  Handles member s outcome before after earlier later (Err (fault.BadFrame why)) = (outcome ≡ Err (BadFrame why)) × Stays member s before after
+  Handles member s outcome before after earlier later (Err fault.NothingToAct) = (outcome ≡ Err NothingToAct) × Stays member s before after
+  Handles member s outcome before after earlier later (Err other) = ⊥
 
 -- no more was made than was needed
 pub record IsWithin (made : Made) (need : Need) : Type 0 where

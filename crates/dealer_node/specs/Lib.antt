@@ -2,8 +2,8 @@ pub mod Texts
 pub mod Fitting
 pub mod Outs
 pub mod Turned
-pub mod Posts
-pub mod PostInside
+pub mod Members
+pub mod MemberInside
 pub mod Scenes
 pub mod Rooms
 pub mod Hearing

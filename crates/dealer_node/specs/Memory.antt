@@ -6,7 +6,7 @@ use Rattle.node_rules.specs.Standings.{Standing}
 use Rattle.node_rules.specs.Turns.{Turn, Refusal}
 use Rattle.dealer_node.specs.declared.running.Running.{Running}
 use Rattle.dealer_node.specs.Outs.{Told}
-use Rattle.dealer_node.specs.Posts.{Post}
+use Rattle.dealer_node.specs.Members.{Membership}
 use Rattle.dealer_node.specs.Running.{TakesTurn}
 use Rattle.dealer_node.specs.Working.{StandsByIts}
 
@@ -28,6 +28,6 @@ pub record KeepsStore (s after : Standing) : Type 0 where
   pub stands : StandsByIts s → StandsByIts after
 
 -- the outcome of a rule is a turn that leaves the store as it is, and that was taken
-pub record TakesInMemory (post : Post) (running : Running) (earlier later : Told) (s : Standing) (outcome : Result Turn Refusal) : Type 0 where
-  pub takes : TakesTurn post running earlier later outcome
+pub record TakesInMemory (member : Membership) (running : Running) (earlier later : Told) (s : Standing) (outcome : Result Turn Refusal) : Type 0 where
+  pub takes : TakesTurn member running earlier later outcome
   pub keeps : KeepsStore s takes.turn.after

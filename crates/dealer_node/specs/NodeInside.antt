@@ -8,10 +8,10 @@ use Rattle.dealer_node.specs.Scenes.{IsTableOf}
 
 module _ {D : Type 0} where
   abbrev pub node_of : Inside D → Node D
-  node_of n = record { post = n.post; blank = n.blank; disk = n.disk; up = n.up }
+  node_of n = record { member = n.member; blank = n.blank; disk = n.disk; up = n.up }
 
-  -- what runs, runs at the node's post; a node that is down has its disk; and no hand was dealt at the blank table
+  -- what runs, runs at the node's member; a node that is down has its disk; and no hand was dealt at the blank table
   pub record IsKept (n : Inside D) : Type 0 where
-    pub at : IfSome n.up (λ up. IsAt n.post up.running)
+    pub at : IfSome n.up (λ up. IsAt n.member up.running)
     pub has_disk : IsSome (disk_by n.up n.disk)
-    pub blank : IsTableOf n.post.setting [] n.blank
+    pub blank : IsTableOf n.member.setting [] n.blank

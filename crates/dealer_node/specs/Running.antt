@@ -18,7 +18,7 @@ use Rattle.node_rules.specs.Proposing.{higher, proposing, closing}
 use Rattle.node_rules.specs.Seats.{session_at, HearsPiece}
 use Rattle.dealer_node.specs.declared.made.Made.{Made}
 use Rattle.dealer_node.specs.declared.running.Running.{Running}
-use Rattle.dealer_node.specs.Posts.{Post, place_at}
+use Rattle.dealer_node.specs.Members.{Membership, place_at}
 use Rattle.dealer_node.specs.Outs.{Told, both_told}
 use Rattle.dealer_node.specs.Rooms.{Grows}
 use Rattle.dealer_node.specs.Turned.{told_of}
@@ -28,32 +28,32 @@ use Rattle.dealer_node.specs.Scenes.{IsTableOf}
 -- ---- what it is seen as
 
 -- all but the store stands as the standing says
-pub record IsRunning (post : Post) (running : Running) (s : Standing) : Type 0 where
+pub record IsRunning (member : Membership) (running : Running) (s : Standing) : Type 0 where
   pub up : s.up ≡ true
   pub campaign : running.proposer.campaign ≡ s.campaign
   pub learned : running.learner.learned ≡ s.learned
-  pub hands : IsTableOf post.setting (applied s) running.table
+  pub hands : IsTableOf member.setting (applied s) running.table
   pub waits : running.pending ≡ s.pending
   pub greatest : running.seen ≡ s.seen
   pub sessions : running.seats.talks ≡ s.sessions
 
 -- what runs and what was made behind other things are those of a turn, whose messages have frames
-pub record IsTaken (post : Post) (running : Running) (earlier later : Told) (turn : Turn) : Type 0 where
-  pub runs : IsRunning post running turn.after
+pub record IsTaken (member : Membership) (running : Running) (earlier later : Told) (turn : Turn) : Type 0 where
+  pub runs : IsRunning member running turn.after
   pub told : later ≡ both_told earlier (told_of turn)
   pub fits : AreMessages turn.frames
 
 -- the outcome of a rule is a turn, and that was taken
-pub record TakesTurn (post : Post) (running : Running) (earlier later : Told) (outcome : Result Turn Refusal) : Type 0 where
+pub record TakesTurn (member : Membership) (running : Running) (earlier later : Told) (outcome : Result Turn Refusal) : Type 0 where
   pub turn : Turn
   pub rule : outcome ≡ Ok turn
-  pub taken : IsTaken post running earlier later turn
+  pub taken : IsTaken member running earlier later turn
 
 -- a turn of a piece of a seat's bytes was taken
-pub record TakesPiece (post : Post) (running : Running) (earlier later : Told) (seat : ℕ) (piece : List ℕ) (s : Standing) : Type 0 where
+pub record TakesPiece (member : Membership) (running : Running) (earlier later : Told) (seat : ℕ) (piece : List ℕ) (s : Standing) : Type 0 where
   pub turn : Turn
-  pub rule : HearsPiece (place_at post) seat piece (session_at s.sessions seat) s turn
-  pub taken : IsTaken post running earlier later turn
+  pub rule : HearsPiece (place_at member) seat piece (session_at s.sessions seat) s turn
+  pub taken : IsTaken member running earlier later turn
   -- which changes the sessions and the act that waits, and nothing else
   pub rest : turn.after ≡ record s { sessions = running.seats.talks; pending = running.pending }
 
@@ -65,10 +65,10 @@ proposed_by place None s = Ok (still s)
 proposed_by place (Some made) s = proposing place made s
 
 -- the close comes to proposing this; its campaign alone may have changed
-pub record Closes (post : Post) (running : Running) (s : Standing) (made : Option AcceptRun) : Type 0 where
+pub record Closes (member : Membership) (running : Running) (s : Standing) (made : Option AcceptRun) : Type 0 where
   pub marked : Standing
-  pub runs : IsRunning post running marked
-  pub rule : closing (place_at post) s ≡ proposed_by (place_at post) made marked
+  pub runs : IsRunning member running marked
+  pub rule : closing (place_at member) s ≡ proposed_by (place_at member) made marked
   pub rest : marked ≡ record s { campaign = marked.campaign }
   -- and it proposes in no other ballot than the one that it leads
   pub stands : (ballot : Ballot) → IfSome s.campaign (λ campaign. campaign.ballot ≡ ballot) → IfSome marked.campaign (λ campaign. campaign.ballot ≡ ballot)
@@ -122,14 +122,14 @@ pub record GoesOn (old new : Log) (commands : ℕ) : Type 0 where
   pub fronts : front old ≤ front new
   pub count : front new + length new.beyond ≤ front old + length old.beyond + commands
 
--- it runs at this post, and all that it may send has its numbers within their ranges
-pub record IsAt (post : Post) (running : Running) : Type 0 where
-  pub node : running.proposer.node ≡ post.node
-  pub nodes : running.proposer.nodes ≡ post.nodes
-  pub counted : running.learner.learned.nodes ≡ post.nodes
-  pub game : running.table.game ≡ post.setting.game
-  pub count : running.table.count ≡ post.setting.title.hands
-  pub seats : length running.seats.talks ≡ post.setting.game.players
+-- it runs at this member, and all that it may send has its numbers within their ranges
+pub record IsAt (member : Membership) (running : Running) : Type 0 where
+  pub node : running.proposer.node ≡ member.node
+  pub nodes : running.proposer.nodes ≡ member.nodes
+  pub counted : running.learner.learned.nodes ≡ member.nodes
+  pub game : running.table.game ≡ member.setting.game
+  pub count : running.table.count ≡ member.setting.title.hands
+  pub seats : length running.seats.talks ≡ member.setting.game.players
   pub ballots : IfSome running.proposer.campaign (λ campaign. IsCampaign campaign)
   pub commands : AreInRange running.learner.learned.log
   pub act : IfSome running.pending (λ command. IsInRange command)

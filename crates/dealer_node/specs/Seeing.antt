@@ -9,13 +9,13 @@ use Rattle.dealer_node.specs.Nodes.{Node}
 use Rattle.dealer_node.specs.declared.fault.NodeFault.{NodeFault}
 use Rattle.dealer_node.specs.declared.fault.NodeFault.TheVariants as fault
 use Rattle.dealer_node.specs.declared.up.Up.{Up}
-use Rattle.dealer_node.specs.Posts.{Post, place_at}
+use Rattle.dealer_node.specs.Members.{Membership, place_at}
 use Rattle.dealer_node.specs.Scenes.{IsTableOf}
 pub use Rattle.dealer_node.specs.Working.{head_of, IsUp}
 
 module _ {D : Type 0} where
-  abbrev pub post_in : Node D → Post
-  post_in node = node.post
+  abbrev pub member_in : Node D → Membership
+  member_in node = node.member
 
   abbrev pub is_up : Option (Up D) → Bool
   is_up None = false
@@ -52,21 +52,21 @@ module _ {D : Type 0} where
 
 module _ {D : Type 0} (g : Ghosts D) where
   -- a node that is down knows nothing, and each image of its disk stands for one of two stores
-  pub record IsDown (post : Post) (disk : D) (s : Standing) : Type 0 where
-    pub stopped : s ≡ stopped (place_at post) s.store s.begun
-    pub leaves : Leaves g (head_of post) s.store s.begun disk
+  pub record IsDown (member : Membership) (disk : D) (s : Standing) : Type 0 where
+    pub stopped : s ≡ stopped (place_at member) s.store s.begun
+    pub leaves : Leaves g (head_of member) s.store s.begun disk
 
   -- by whether the node runs
-  abbrev pub IsSeenBy : Post → Option (Up D) → Option D → Standing → Type 0
-  IsSeenBy post (Some up) disk s = IsUp g post up s
-  IsSeenBy post None (Some disk) s = IsDown post disk s
-  IsSeenBy post None None s = ⊥
+  abbrev pub IsSeenBy : Membership → Option (Up D) → Option D → Standing → Type 0
+  IsSeenBy member (Some up) disk s = IsUp g member up s
+  IsSeenBy member None (Some disk) s = IsDown member disk s
+  IsSeenBy member None None s = ⊥
 
   -- the node is seen as this standing
   pub record IsSeen (node : Node D) (s : Standing) : Type 0 where
-    pub by : IsSeenBy (post_in node) node.up node.disk s
+    pub by : IsSeenBy (member_in node) node.up node.disk s
     -- what it shows while it is down
-    pub blank : IsTableOf (post_in node).setting [] node.blank
+    pub blank : IsTableOf (member_in node).setting [] node.blank
 
   -- ---- what is said of the disk
 

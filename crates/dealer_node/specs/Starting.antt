@@ -16,7 +16,7 @@ use Rattle.dealer_node.specs.declared.up.Up.{Up}
 use Rattle.dealer_node.specs.declared.fault.NodeFault.{NodeFault}
 use Rattle.dealer_node.specs.declared.fault.NodeFault.TheVariants as fault
 use Rattle.dealer_node.specs.Outs.{Told, both_told}
-use Rattle.dealer_node.specs.Posts.{Post, place_at}
+use Rattle.dealer_node.specs.Members.{Membership, place_at}
 use Rattle.dealer_node.specs.Turned.{told_of}
 use Rattle.dealer_node.specs.Fitting.{AreMessages}
 use Rattle.dealer_node.specs.Working.{head_of, disk_under, IsUp}
@@ -35,22 +35,22 @@ MarksJournal head earlier later = (first last : Stage) (records : List Record) �
 
 module _ {D : Type 0} (g : Ghosts D) where
   -- it runs with one of the two stores that its disk may have, with its header shown and the others asked
-  pub record Starts (post : Post) (store begun : Store) (disk : D) (up : Up D) (earlier later : Told) : Type 0 where
+  pub record Starts (member : Membership) (store begun : Store) (disk : D) (up : Up D) (earlier later : Told) : Type 0 where
     pub found : Store
     pub either : (found ≡ store) ⊎ (found ≡ begun)
-    pub now : IsUp g post up (started (place_at post) found)
-    pub told : later ≡ both_told earlier (told_of (starting (place_at post) found))
-    pub fits : AreMessages (asking_all (place_at post) found)
-    pub moments : LeavesDuring g (head_of post) store begun disk (disk_under up)
+    pub now : IsUp g member up (started (place_at member) found)
+    pub told : later ≡ both_told earlier (told_of (starting (place_at member) found))
+    pub fits : AreMessages (asking_all (place_at member) found)
+    pub moments : LeavesDuring g (head_of member) store begun disk (disk_under up)
 
   -- it stays down, and its disk leaves what it left
-  pub record StaysDown (post : Post) (store begun : Store) (before after : D) (why : NodeFault) : Type 0 where
-    pub leaves : Leaves g (head_of post) store begun after
-    pub moments : LeavesDuring g (head_of post) store begun before after
+  pub record StaysDown (member : Membership) (store begun : Store) (before after : D) (why : NodeFault) : Type 0 where
+    pub leaves : Leaves g (head_of member) store begun after
+    pub moments : LeavesDuring g (head_of member) store begun before after
     pub fault : (why ≡ fault.OutOfMemory) ⊎ (why ≡ fault.Store Disk)
 
   -- it runs with the store that the bytes of its disk stood for
-  pub record Finds (post : Post) (disk : D) (up : Up D) : Type 0 where
+  pub record Finds (member : Membership) (disk : D) (up : Up D) : Type 0 where
     pub held : Store
-    pub stands : StandsFor (head_of post) (g.seen disk) held
-    pub now : IsUp g post up (started (place_at post) held)
+    pub stands : StandsFor (head_of member) (g.seen disk) held
+    pub now : IsUp g member up (started (place_at member) held)

@@ -24,12 +24,12 @@ use Rattle.dealer_node.specs.Nodes.{Node}
 use Rattle.dealer_node.specs.declared.fault.NodeFault.{NodeFault}
 use Rattle.dealer_node.specs.declared.fault.NodeFault.TheVariants as fault
 use Rattle.dealer_node.specs.Outs.{Told, both_told}
-use Rattle.dealer_node.specs.Posts.{place_at}
-use Rattle.dealer_node.specs.Turned.{posted, printed, fault_of}
+use Rattle.dealer_node.specs.Members.{place_at}
+use Rattle.dealer_node.specs.Turned.{framed, printed, fault_of}
 use Rattle.dealer_node.specs.Working.{IsDone, AreStill}
 use Rattle.dealer_node.specs.Handling.{HasNoEffect}
 use Rattle.dealer_node.specs.Starting.{GoesOnNew, MarksJournal}
-use Rattle.dealer_node.specs.Seeing.{head_of, post_in, runs, disk_in, IsSeen, begun_of, bytes_of, picked_of, failures_of, since_of}
+use Rattle.dealer_node.specs.Seeing.{head_of, member_in, runs, disk_in, IsSeen, begun_of, bytes_of, picked_of, failures_of, since_of}
 
 -- ---- what it answers
 
@@ -109,7 +109,7 @@ module _ {D : Type 0} where
   -- the disk is read and written only by a turn that sends a Prepare, a Promise or an Accepted
   pub record LeavesDisk (called : Call) (s : Standing) (old new : Node D) : Type 0 where
     pub turn : Turn
-    pub rule : IsTurn (place_at (post_in old)) s called (Ok turn)
+    pub rule : IsTurn (place_at (member_in old)) s called (Ok turn)
     pub untouched : AreStill turn.frames → disk_in new ≡ disk_in old
 
 -- ---- the whole
@@ -124,21 +124,21 @@ module _ {D : Type 0} (g : Ghosts D) where
     -- the node is seen as the standing after it
     pub now : IsSeen g new after
     -- which is that of the rule, or that of a node whose disk failed
-    pub ends : Ends (place_at (post_in old)) s called after frames shown
-    pub answered : Answered (place_at (post_in old)) s called after frames shown ends faults answer
-    pub fails : FailsRightly (place_at (post_in old)) s called after frames shown ends
+    pub ends : Ends (place_at (member_in old)) s called after frames shown
+    pub answered : Answered (place_at (member_in old)) s called after frames shown ends faults answer
+    pub fails : FailsRightly (place_at (member_in old)) s called after frames shown ends
     -- what it made stands behind what was there before
-    pub told : later ≡ both_told earlier (record { frames = map posted frames; shown = map printed shown; faults = map fault_of faults })
+    pub told : later ≡ both_told earlier (record { frames = map framed frames; shown = map printed shown; faults = map fault_of faults })
     -- each frame reads back as its message
     pub fits : (one : Frame) → In one frames → reading (frame one.message) ≡ Ok one.message
     -- at each moment of the call, and behind it, each image of the disk stands for the store or for what the call began
     pub next : Store
-    pub may_begin : MayBegin s.up (place_at (post_in old)) s called next
-    pub moments : During (since_of g old) (since_of g new) (λ image. StandsFor (head_of (post_in old)) image s.store ⊎ StandsFor (head_of (post_in old)) image next)
+    pub may_begin : MayBegin s.up (place_at (member_in old)) s called next
+    pub moments : During (since_of g old) (since_of g new) (λ image. StandsFor (head_of (member_in old)) image s.store ⊎ StandsFor (head_of (member_in old)) image next)
 
   -- what holds of every call, whatever the node is seen as
   pub record StaysItself (old new : Node D) (earlier later : Told) (answer : Result (Unit {0}) NodeFault) : Type 0 where
-    pub post : post_in new ≡ post_in old
+    pub member : member_in new ≡ member_in old
     pub begun : begun_of g new ≡ begun_of g old
     pub counts : failures_of g old ≤ failures_of g new
     -- 63 comes only where a call of the disk failed
@@ -151,8 +151,8 @@ module _ {D : Type 0} (g : Ghosts D) where
   -- the node runs, with the store that its disk's bytes stand for
   pub record FindsStore (old new : Node D) : Type 0 where
     pub held : Store
-    pub stands : StandsFor (head_of (post_in old)) (bytes_of g old) held
-    pub seen : IsSeen g new (started (place_at (post_in old)) held)
+    pub stands : StandsFor (head_of (member_in old)) (bytes_of g old) held
+    pub seen : IsSeen g new (started (place_at (member_in old)) held)
 
   -- what a start that answered this made of the disk, which the node has
   pub record OpensDisk (old new : Node D) (answer : Result (Unit {0}) NodeFault) : Type 0 where
@@ -161,11 +161,11 @@ module _ {D : Type 0} (g : Ghosts D) where
     pub was : disk_in old ≡ Some before
     pub is : disk_in new ≡ Some after
     -- at each moment each image stands for what it stood for
-    pub reopens : Reopens g (head_of (post_in old)) before after
+    pub reopens : Reopens g (head_of (member_in old)) before after
     -- by Ok the journal of a node that was down is as it was, or has the one record behind it that opens it for version 2
-    pub marks : IsTrue g.is_honest → runs old ≡ false → OnOk answer (MarksJournal (head_of (post_in old)) (g.seen before) (g.seen after))
+    pub marks : IsTrue g.is_honest → runs old ≡ false → OnOk answer (MarksJournal (head_of (member_in old)) (g.seen before) (g.seen after))
     -- one that goes on with version 2 was only read or synced
-    pub quiet : IsTrue g.is_honest → GoesOnNew (head_of (post_in old)) (g.seen before) → OnlyReads g before after
+    pub quiet : IsTrue g.is_honest → GoesOnNew (head_of (member_in old)) (g.seen before) → OnlyReads g before after
     -- and so was each where the start was refused, but for a failed disk
     pub unwritten : IfErr answer (λ why. why ≢ fault.Store Disk → OnlyReads g before after)
 

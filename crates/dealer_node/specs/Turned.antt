@@ -19,8 +19,8 @@ reader_of (model.Seat seat) = Seat seat
 reader_of model.Log = Log
 
 -- a frame's bytes, under the number of the node that it goes to
-abbrev pub posted : Frame → Marked ℕ
-posted one = record { mark = one.to; text = frame one.message }
+abbrev pub framed : Frame → Marked ℕ
+framed one = record { mark = one.to; text = frame one.message }
 
 -- a text, under its reader
 abbrev pub printed : Piece → Marked Reader
@@ -31,7 +31,7 @@ fault_of told = record { seat = told.seat; fault = told.fault }
 
 -- all that a turn sends, shows and tells
 abbrev pub told_of : Turn → Told
-told_of turn = record { frames = map posted turn.frames; shown = map printed turn.shown; faults = map fault_of turn.faults }
+told_of turn = record { frames = map framed turn.frames; shown = map printed turn.shown; faults = map fault_of turn.faults }
 
 -- where the sessions of the seats stand
 abbrev pub talk_of : Option Conversation → Option Talk

@@ -24,15 +24,15 @@ use Rattle.dealer_node.specs.declared.made.Need.{Need}
 use Rattle.dealer_node.specs.declared.fault.NodeFault.{NodeFault}
 use Rattle.dealer_node.specs.declared.fault.NodeFault.TheVariants as fault
 use Rattle.dealer_node.specs.Outs.{Told, both_told}
-use Rattle.dealer_node.specs.Posts.{Post}
+use Rattle.dealer_node.specs.Members.{Membership}
 use Rattle.dealer_node.specs.Texts.{byte_total}
 use Rattle.dealer_node.specs.Turned.{told_of}
 use Rattle.dealer_node.specs.Fitting.{AreMessages}
 use Rattle.dealer_node.specs.Running.{IsRunning, CanLearn, ahead_of}
 
 -- what the journal of a node's store begins with
-abbrev pub head_of : Post → List ℕ
-head_of post = header post.node post.nodes
+abbrev pub head_of : Membership → List ℕ
+head_of member = header member.node member.nodes
 
 -- the ballot that it prepares or leads is the one that it promised
 abbrev pub StandsByIts : Standing → Type 0
@@ -77,46 +77,46 @@ module _ {D : Type 0} where
 
 module _ {D : Type 0} (g : Ghosts D) where
   -- a node that runs keeps the standing's store, and knows what the standing says
-  pub record IsUp (post : Post) (up : Up D) (s : Standing) : Type 0 where
-    pub running : IsRunning post up.running s
-    pub keeps : Keeps g (head_of post) s.store (store_of up.acceptor)
+  pub record IsUp (member : Membership) (up : Up D) (s : Standing) : Type 0 where
+    pub running : IsRunning member up.running s
+    pub keeps : Keeps g (head_of member) s.store (store_of up.acceptor)
     pub unbegun : s.begun ≡ s.store
     pub stands : StandsByIts s
 
   -- ---- however it ends
 
   -- the turn was taken: at each moment images stand for the store before or for the one after
-  pub record Took (post : Post) (s : Standing) (outcome : Result Turn Refusal) (before after : Up D) (earlier later : Told) : Type 0 where
+  pub record Took (member : Membership) (s : Standing) (outcome : Result Turn Refusal) (before after : Up D) (earlier later : Told) : Type 0 where
     pub turn : Turn
     pub rule : outcome ≡ Ok turn
-    pub now : IsUp post after turn.after
+    pub now : IsUp member after turn.after
     pub told : later ≡ both_told earlier (told_of turn)
     pub fits : AreMessages turn.frames
-    pub moments : LeavesDuring g (head_of post) s.store turn.after.store (disk_under before) (disk_under after)
+    pub moments : LeavesDuring g (head_of member) s.store turn.after.store (disk_under before) (disk_under after)
     -- the disk is read and written only where the turn sends a Prepare, a Promise or an Accepted
     pub untouched : AreStill turn.frames → disk_under after ≡ disk_under before
 
   -- the disk failed: images stand for the store before or for what the outcome leaves
-  pub record Failed (post : Post) (s : Standing) (outcome : Result Turn Refusal) (before after : Up D) : Type 0 where
+  pub record Failed (member : Membership) (s : Standing) (outcome : Result Turn Refusal) (before after : Up D) : Type 0 where
     pub left : Store
     pub comes : (left ≡ s.store) ⊎ ComesTo outcome left
     pub done : IsDone outcome
-    pub leaves : Leaves g (head_of post) s.store left (disk_under after)
-    pub moments : LeavesDuring g (head_of post) s.store left (disk_under before) (disk_under after)
+    pub leaves : Leaves g (head_of member) s.store left (disk_under after)
+    pub moments : LeavesDuring g (head_of member) s.store left (disk_under before) (disk_under after)
 
   -- another command was known
-  pub record Clashed (post : Post) (s : Standing) (outcome : Result Turn Refusal) (before after : Up D) : Type 0 where
+  pub record Clashed (member : Membership) (s : Standing) (outcome : Result Turn Refusal) (before after : Up D) : Type 0 where
     pub left : Store
     pub rule : outcome ≡ Err (Conflict left)
-    pub leaves : Leaves g (head_of post) s.store left (disk_under after)
-    pub moments : LeavesDuring g (head_of post) s.store left (disk_under before) (disk_under after)
+    pub leaves : Leaves g (head_of member) s.store left (disk_under after)
+    pub moments : LeavesDuring g (head_of member) s.store left (disk_under before) (disk_under after)
 
   -- a part of a call whose outcome is this, after which the node runs on or is to go down
-  abbrev pub Works : Post → Standing → Result Turn Refusal → Up D → Up D → Told → Told → Result (Unit {0}) NodeFault → Type 0
-  Works post s outcome before after earlier later (Ok done) = Took post s outcome before after earlier later
-  Works post s outcome before after earlier later (Err (fault.Store Disk)) = Failed post s outcome before after
-  Works post s outcome before after earlier later (Err fault.Conflict) = Clashed post s outcome before after
-  Works post s outcome before after earlier later (Err other) = ⊥
+  abbrev pub Works : Membership → Standing → Result Turn Refusal → Up D → Up D → Told → Told → Result (Unit {0}) NodeFault → Type 0
+  Works member s outcome before after earlier later (Ok done) = Took member s outcome before after earlier later
+  Works member s outcome before after earlier later (Err (fault.Store Disk)) = Failed member s outcome before after
+  Works member s outcome before after earlier later (Err fault.Conflict) = Clashed member s outcome before after
+  Works member s outcome before after earlier later (Err other) = ⊥
 
   -- what holds whatever the disk is
   pub record GoesOn (before after : Up D) (answer : Result (Unit {0}) NodeFault) : Type 0 where

@@ -8,7 +8,7 @@ ghost use Rattle.proposer.specs.CommandRuns.{IsBounded};
 ghost use Rattle.node_rules.specs.Standings.{Standing};
 ghost use Rattle.node_rules.specs.Accepting.{preparing, accepting, voting};
 ghost use Rattle.node_rules.specs.Proposing.{closing};
-ghost use Rattle.dealer_node.specs.Posts.{place_at};
+ghost use Rattle.dealer_node.specs.Members.{place_at};
 ghost use Rattle.dealer_node.specs.Outs.{told_by};
 ghost use Rattle.dealer_node.specs.declared.limits.TheConstants.{FRAMES_TO_ALL, FRAMES_OF_A_CLOSE, FRAMES_OF_AN_ANSWER, FRAME_BYTES_OF_AN_ANSWER};
 ghost use Rattle.dealer_node.specs.declared.made.Need.{Need as Needs};
@@ -19,7 +19,7 @@ ghost use Rattle.dealer_node.specs.Working.{HasLeft, IsOfPart};
 use crate::answering::{accepted_commands, send_prepare_answer, send_refusal};
 use crate::fault::NodeFault;
 use crate::made::Made;
-use crate::post::Post;
+use crate::member::Member;
 use crate::rooms::Lists;
 use crate::up::Up;
 use crate::voting::send_proposal;
@@ -36,27 +36,27 @@ impl<D: Disk + Drop> Up<D> {
     /// is refused.
     pub(crate) fn prepare(
         &mut self,
-        post: &Post,
+        member: &Member,
         from: u8,
         ballot: Ballot,
         slot: u32,
         made: &mut Made,
     ) -> Result<(), NodeFault>
-        requires at { IsAt post.now self.old.running }
+        requires at { IsAt member.now self.old.running }
         requires ballot { IsBallot ballot }
         requires slot { IsSlot slot }
         requires texts { FRAMES_OF_AN_ANSWER ≤ made.old.frames.text_room }
         requires bytes { FRAME_BYTES_OF_AN_ANSWER ≤ made.old.frames.byte_room }
-        ensures works { (s : Standing) → IsTrue D.is_honest → IsUp D.Disk post.now self.old s
-            → Works D.Disk post.now s (Ok (preparing from ballot slot s)) self.old self.new (told_by made.old) (told_by made.new) result }
+        ensures works { (s : Standing) → IsTrue D.is_honest → IsUp D.Disk member.now self.old s
+            → Works D.Disk member.now s (Ok (preparing from ballot slot s)) self.old self.new (told_by made.old) (told_by made.new) result }
         ensures goes_on { GoesOn D.Disk self.old self.new result }
         ensures only { IsOfPart result }
-        ensures at { IsAt post.now self.new.running }
+        ensures at { IsAt member.now self.new.running }
         ensures bounded { (most : ℕ) → IsBounded self.old.running.proposer most → IsBounded self.new.running.proposer most }
         ensures room { store_room self.old ≤ store_room self.new + 1 }
         ensures left { (need : Needs) (answers commands frames : ℕ) → HasLeft self.old.running made.old need (answers + 1) (commands + 1) (frames + (FRAMES_OF_AN_ANSWER + FRAMES_TO_ALL)) → HasLeft self.new.running made.new need answers commands frames }
     {
-        let _ = post;
+        let _ = member;
         let _promised = self.acceptor.promised();
         match self.acceptor.on_prepare(ballot, slot) {
             Ok(answer) => {
@@ -73,32 +73,32 @@ impl<D: Disk + Drop> Up<D> {
     /// taken; tells the others what is stored, and counts that as the votes of any other node.
     fn vote(
         &mut self,
-        post: &Post,
+        member: &Member,
         ballot: Ballot,
         slot: u32,
         commands: &[Command],
         told: &mut CommandList,
         made: &mut Made,
     ) -> Result<(), NodeFault>
-        requires at { IsAt post.now self.old.running }
+        requires at { IsAt member.now self.old.running }
         requires ballot { IsBallot ballot }
         requires run { IsCommandRun slot commands.now }
         requires store { length commands.now ≤ store_room self.old }
         requires learn { CanLearn self.old.running made.old 1 (length commands.now) }
         requires texts { FRAMES_TO_ALL ≤ made.old.frames.text_room }
         requires bytes { MOST_SINGLE_FRAME * (FRAMES_TO_ALL * length commands.now) ≤ made.old.frames.byte_room }
-        ensures works { (s : Standing) → IsTrue D.is_honest → IsUp D.Disk post.now self.old s
+        ensures works { (s : Standing) → IsTrue D.is_honest → IsUp D.Disk member.now self.old s
             → is_below ballot s.store.promise ≡ false → IfSome s.campaign (λ campaign. campaign.ballot ≡ ballot)
-            → Works D.Disk post.now s (voting (place_at post.now) ballot slot commands.now s) self.old self.new (told_by made.old) (told_by made.new) result }
+            → Works D.Disk member.now s (voting (place_at member.now) ballot slot commands.now s) self.old self.new (told_by made.old) (told_by made.new) result }
         ensures goes_on { GoesOn D.Disk self.old self.new result }
         ensures only { IsOfPart result }
-        ensures at { IsAt post.now self.new.running }
+        ensures at { IsAt member.now self.new.running }
         ensures proposer { self.new.running.proposer ≡ self.old.running.proposer }
         ensures room { store_room self.old ≤ store_room self.new + length commands.now }
         ensures left { (need : Needs) (answers more frames : ℕ) → HasLeft self.old.running made.old need (answers + 1) (more + length commands.now) (frames + FRAMES_TO_ALL * length commands.now)
             → HasLeft self.new.running made.new need answers more frames }
     {
-        let _nodes = post.nodes();
+        let _nodes = member.nodes();
         command_runs_are_moves();
         match self
             .acceptor
@@ -106,7 +106,7 @@ impl<D: Disk + Drop> Up<D> {
         {
             Ok(answer) => match accepted_commands(&answer) {
                 Some(stored) => {
-                    match self.running.tell_votes(post, ballot, slot, stored, made) {
+                    match self.running.tell_votes(member, ballot, slot, stored, made) {
                         Ok(()) => Ok(()),
                         Err(_) => Err(NodeFault::Conflict),
                     }
@@ -121,7 +121,7 @@ impl<D: Disk + Drop> Up<D> {
     /// voted for, and the node leads no longer; any other is refused at its first slot.
     pub(crate) fn accept(
         &mut self,
-        post: &Post,
+        member: &Member,
         from: u8,
         ballot: Ballot,
         slot: u32,
@@ -129,18 +129,18 @@ impl<D: Disk + Drop> Up<D> {
         told: &mut CommandList,
         made: &mut Made,
     ) -> Result<(), NodeFault>
-        requires at { IsAt post.now self.old.running }
+        requires at { IsAt member.now self.old.running }
         requires ballot { IsBallot ballot }
         requires run { IsCommandRun slot commands.now }
         requires store { length commands.now ≤ store_room self.old }
         requires learn { CanLearn self.old.running made.old 1 (length commands.now) }
         requires texts { FRAMES_OF_AN_ANSWER ≤ made.old.frames.text_room }
         requires bytes { MOST_SINGLE_FRAME * (FRAMES_OF_AN_ANSWER + FRAMES_TO_ALL * length commands.now) ≤ made.old.frames.byte_room }
-        ensures works { (s : Standing) → IsTrue D.is_honest → IsUp D.Disk post.now self.old s
-            → Works D.Disk post.now s (accepting (place_at post.now) from ballot slot commands.now s) self.old self.new (told_by made.old) (told_by made.new) result }
+        ensures works { (s : Standing) → IsTrue D.is_honest → IsUp D.Disk member.now self.old s
+            → Works D.Disk member.now s (accepting (place_at member.now) from ballot slot commands.now s) self.old self.new (told_by made.old) (told_by made.new) result }
         ensures goes_on { GoesOn D.Disk self.old self.new result }
         ensures only { IsOfPart result }
-        ensures at { IsAt post.now self.new.running }
+        ensures at { IsAt member.now self.new.running }
         ensures bounded { (most : ℕ) → IsBounded self.old.running.proposer most → IsBounded self.new.running.proposer most }
         ensures room { store_room self.old ≤ store_room self.new + length commands.now }
         ensures left { (need : Needs) (answers more frames : ℕ)
@@ -153,29 +153,29 @@ impl<D: Disk + Drop> Up<D> {
             return Ok(());
         }
         self.running.turn_idle();
-        self.vote(post, ballot, slot, commands, told, made)
+        self.vote(member, ballot, slot, commands, told, made)
     }
 
     /// Sends a proposal to the others, and votes for it: its votes are stored at once.
     fn propose(
         &mut self,
-        post: &Post,
+        member: &Member,
         proposal: &AcceptRun<'_>,
         told: &mut CommandList,
         made: &mut Made,
     ) -> Result<(), NodeFault>
-        requires at { IsAt post.now self.old.running }
+        requires at { IsAt member.now self.old.running }
         requires ballot { IsBallot proposal.now.ballot }
         requires run { IsCommandRun proposal.now.slot proposal.now.commands }
         requires store { length proposal.now.commands ≤ store_room self.old }
         requires learn { CanLearn self.old.running made.old 1 (length proposal.now.commands) }
         requires texts { FRAMES_OF_A_CLOSE ≤ made.old.frames.text_room }
         requires bytes { MOST_SINGLE_FRAME * (FRAMES_OF_A_CLOSE * length proposal.now.commands) ≤ made.old.frames.byte_room }
-        ensures works { (s : Standing) → IsTrue D.is_honest → IsUp D.Disk post.now self.old s → proposal.now.ballot ≡ s.store.promise
-            → Works D.Disk post.now s (proposed_by (place_at post.now) (Some proposal.now) s) self.old self.new (told_by made.old) (told_by made.new) result }
+        ensures works { (s : Standing) → IsTrue D.is_honest → IsUp D.Disk member.now self.old s → proposal.now.ballot ≡ s.store.promise
+            → Works D.Disk member.now s (proposed_by (place_at member.now) (Some proposal.now) s) self.old self.new (told_by made.old) (told_by made.new) result }
         ensures goes_on { GoesOn D.Disk self.old self.new result }
         ensures only { IsOfPart result }
-        ensures at { IsAt post.now self.new.running }
+        ensures at { IsAt member.now self.new.running }
         ensures left { (need : Needs) (answers more frames : ℕ)
             → HasLeft self.old.running made.old need (answers + 1) (more + length proposal.now.commands) (frames + FRAMES_OF_A_CLOSE * length proposal.now.commands)
             → HasLeft self.new.running made.new need answers more frames }
@@ -183,44 +183,44 @@ impl<D: Disk + Drop> Up<D> {
         let commands = proposal.commands.as_slice();
         send_proposal(
             &mut made.frames,
-            post,
+            member,
             proposal.ballot,
             proposal.slot,
             commands,
         );
-        self.vote(post, proposal.ballot, proposal.slot, commands, told, made)
+        self.vote(member, proposal.ballot, proposal.slot, commands, told, made)
     }
 
     /// The end of each call: a node that leads proposes from its front on, once at a slot in a ballot. There is room for so
     /// many commands as it proposes at most.
-    pub(crate) fn close(
+    pub(crate) fn close_call(
         &mut self,
-        post: &Post,
+        member: &Member,
         most: usize,
         lists: &mut Lists,
         made: &mut Made,
     ) -> Result<(), NodeFault>
-        requires at { IsAt post.now self.old.running }
+        requires at { IsAt member.now self.old.running }
         requires bounded { IsBounded self.old.running.proposer most }
         requires store { most ≤ store_room self.old }
         requires learn { CanLearn self.old.running made.old 1 most }
         requires texts { FRAMES_OF_A_CLOSE * most ≤ made.old.frames.text_room }
         requires bytes { MOST_SINGLE_FRAME * (FRAMES_OF_A_CLOSE * most) ≤ made.old.frames.byte_room }
-        ensures works { (s : Standing) → IsTrue D.is_honest → IsUp D.Disk post.now self.old s
-            → Works D.Disk post.now s (closing (place_at post.now) s) self.old self.new (told_by made.old) (told_by made.new) result }
+        ensures works { (s : Standing) → IsTrue D.is_honest → IsUp D.Disk member.now self.old s
+            → Works D.Disk member.now s (closing (place_at member.now) s) self.old self.new (told_by made.old) (told_by made.new) result }
         ensures goes_on { GoesOn D.Disk self.old self.new result }
         ensures only { IsOfPart result }
-        ensures at { IsAt post.now self.new.running }
+        ensures at { IsAt member.now self.new.running }
         ensures left { (need : Needs) (answers more frames : ℕ) → HasLeft self.old.running made.old need (answers + 1) (more + most) (frames + FRAMES_OF_A_CLOSE * most)
             → HasLeft self.new.running made.new need answers more frames }
     {
         let _ = most;
         // The own deal is drawn only where something may be proposed.
-        if !self.running.is_leading(post) {
+        if !self.running.is_leading(member) {
             return Ok(());
         }
-        match self.running.proposal(post, &mut lists.proposed) {
-            Some(proposal) => self.propose(post, &proposal, &mut lists.told, made),
+        match self.running.proposal(member, &mut lists.proposed) {
+            Some(proposal) => self.propose(member, &proposal, &mut lists.told, made),
             None => Ok(()),
         }
     }

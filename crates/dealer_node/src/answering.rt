@@ -4,7 +4,7 @@ ghost use Rattle.paxos_wire.specs.declared.limits.TheConstants.{MOST_FRAME, MOST
 ghost use Rattle.paxos_wire.specs.declared.message.Message.TheVariants.{Promise as Promising, Refuse as Refusing};
 ghost use Rattle.node_rules.specs.Sending.{one};
 ghost use Rattle.dealer_node.specs.Rooms.{Grows};
-ghost use Rattle.dealer_node.specs.Turned.{posted};
+ghost use Rattle.dealer_node.specs.Turned.{framed};
 ghost use Rattle.dealer_node.specs.Answering.{message_of, is_promise, accepted_in};
 ghost use Rattle.dealer_node.specs.Fitting.{AreMessages};
 
@@ -27,7 +27,7 @@ pub(crate) fn send_promise(
     requires entries { AreEntries slot entries.now }
     requires texts { 1 ≤ frames.old.text_room }
     requires bytes { MOST_FRAME ≤ frames.old.byte_room }
-    ensures texts { frames.new.texts ≡ frames.old.texts ++ map posted (one to (Promising ballot slot entries.now)) }
+    ensures texts { frames.new.texts ≡ frames.old.texts ++ map framed (one to (Promising ballot slot entries.now)) }
     ensures grows { Grows frames.old frames.new 1 MOST_FRAME }
     ensures fits { AreMessages (one to (Promising ballot slot entries.now)) }
 {
@@ -53,7 +53,7 @@ pub(crate) fn send_refusal(
     requires promised { IsBallot promised }
     requires texts { 1 ≤ frames.old.text_room }
     requires bytes { MOST_SINGLE_FRAME ≤ frames.old.byte_room }
-    ensures texts { frames.new.texts ≡ frames.old.texts ++ map posted (one to (Refusing ballot slot promised)) }
+    ensures texts { frames.new.texts ≡ frames.old.texts ++ map framed (one to (Refusing ballot slot promised)) }
     ensures grows { Grows frames.old frames.new 1 MOST_SINGLE_FRAME }
     ensures fits { AreMessages (one to (Refusing ballot slot promised)) }
 {
@@ -72,7 +72,7 @@ pub(crate) fn send_prepare_answer(frames: &mut Texts<u8>, to: u8, answer: &Prepa
     requires texts { 1 ≤ frames.old.text_room }
     requires bytes { MOST_FRAME ≤ frames.old.byte_room }
     ensures promised { result ≡ is_promise answer.now }
-    ensures texts { frames.new.texts ≡ frames.old.texts ++ map posted (one to (message_of answer.now)) }
+    ensures texts { frames.new.texts ≡ frames.old.texts ++ map framed (one to (message_of answer.now)) }
     ensures grows { Grows frames.old frames.new 1 MOST_FRAME }
     ensures fits { AreMessages (one to (message_of answer.now)) }
 {

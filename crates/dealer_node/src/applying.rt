@@ -12,18 +12,18 @@ ghost use Rattle.dealer_node.specs.Turned.{talks};
 ghost use Rattle.dealer_node.specs.Scenes.{IsScene, IsTableOf};
 
 use crate::lines::show_news;
-use crate::post::Post;
+use crate::member::Member;
 use crate::reader::Reader;
 use crate::texts::Texts;
 use seat_session::Session;
 use slot_log::{Command, Effect, Table};
 
 /// Forgets an act that waits and doesn't fit.
-fn forget(pending: &mut Option<Command>, post: &Post, table: &Table)
-    ensures kept { (applied : List Order) → IsTableOf post.now.setting applied table.now → pending.new ≡ kept post.now.setting applied pending.old }
+fn forget(pending: &mut Option<Command>, member: &Member, table: &Table)
+    ensures kept { (applied : List Order) → IsTableOf member.now.setting applied table.now → pending.new ≡ kept member.now.setting applied pending.old }
     ensures act { IfSome pending.old (λ command. IsInRange command) → IfSome pending.new (λ command. IsInRange command) }
 {
-    let _ = post;
+    let _ = member;
     if let Some(act) = pending {
         if !table.fits(act) {
             *pending = None;
@@ -40,22 +40,22 @@ fn took_effect(effect: Effect) -> bool
 }
 
 /// Applies a command: one that takes effect is shown, and an act that waits is forgotten once it doesn't fit.
-fn take(
+fn apply_command(
     table: &mut Table,
     pending: &mut Option<Command>,
-    post: &Post,
+    member: &Member,
     sessions: &[Option<Session>],
     command: &Command,
     shown: &mut Texts<Reader>,
 )
-    requires game { table.old.game ≡ post.now.setting.game }
-    requires count { table.old.count ≡ post.now.setting.title.hands }
+    requires game { table.old.game ≡ member.now.setting.game }
+    requires count { table.old.count ≡ member.now.setting.title.hands }
     requires seats { length sessions.now ≡ table.old.game.players }
     requires room { 1 ≤ table.old.room }
     requires texts { 11 ≤ shown.old.text_room }
     requires bytes { 45716 ≤ shown.old.byte_room }
-    ensures scene { (scene : Scene) (before : List (Marked Reads)) → IsScene post.now.setting scene table.old pending.old before shown.old.texts
-        → IsScene post.now.setting (taking post.now.setting (talks sessions.now) command.now scene) table.new pending.new before shown.new.texts }
+    ensures scene { (scene : Scene) (before : List (Marked Reads)) → IsScene member.now.setting scene table.old pending.old before shown.old.texts
+        → IsScene member.now.setting (taking member.now.setting (talks sessions.now) command.now scene) table.new pending.new before shown.new.texts }
     ensures game { table.new.game ≡ table.old.game }
     ensures count { table.new.count ≡ table.old.count }
     ensures room { table.old.room ≤ table.new.room + 1 }
@@ -66,27 +66,27 @@ fn take(
     ensures act { IfSome pending.old (λ command. IsInRange command) → IfSome pending.new (λ command. IsInRange command) }
 {
     let took = took_effect(table.apply_reserved(command));
-    show_news(shown, took, post, table, sessions);
-    forget(pending, post, table);
+    show_news(shown, took, member, table, sessions);
+    forget(pending, member, table);
 }
 
 /// Applies commands in order, for all of which there is room.
-pub(crate) fn take_all(
+pub(crate) fn apply_commands(
     table: &mut Table,
     pending: &mut Option<Command>,
-    post: &Post,
+    member: &Member,
     sessions: &[Option<Session>],
     commands: &[Command],
     shown: &mut Texts<Reader>,
 )
-    requires game { table.old.game ≡ post.now.setting.game }
-    requires count { table.old.count ≡ post.now.setting.title.hands }
+    requires game { table.old.game ≡ member.now.setting.game }
+    requires count { table.old.count ≡ member.now.setting.title.hands }
     requires seats { length sessions.now ≡ table.old.game.players }
     requires room { length commands.now ≤ table.old.room }
     requires texts { 11 * length commands.now ≤ shown.old.text_room }
     requires bytes { 45716 * length commands.now ≤ shown.old.byte_room }
-    ensures scene { (scene : Scene) (before : List (Marked Reads)) → IsScene post.now.setting scene table.old pending.old before shown.old.texts
-        → IsScene post.now.setting (taking_all post.now.setting (talks sessions.now) commands.now scene) table.new pending.new before shown.new.texts }
+    ensures scene { (scene : Scene) (before : List (Marked Reads)) → IsScene member.now.setting scene table.old pending.old before shown.old.texts
+        → IsScene member.now.setting (taking_all member.now.setting (talks sessions.now) commands.now scene) table.new pending.new before shown.new.texts }
     ensures game { table.new.game ≡ table.old.game }
     ensures count { table.new.count ≡ table.old.count }
     ensures room { table.old.room ≤ table.new.room + length commands.now }
@@ -97,6 +97,6 @@ pub(crate) fn take_all(
     ensures act { IfSome pending.old (λ command. IsInRange command) → IfSome pending.new (λ command. IsInRange command) }
 {
     for command in commands {
-        take(table, pending, post, sessions, command, shown);
+        apply_command(table, pending, member, sessions, command, shown);
     }
 }

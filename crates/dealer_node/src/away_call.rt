@@ -10,7 +10,7 @@ ghost use Rattle.node_rules.specs.Calls.{Away};
 ghost use Rattle.node_rules.specs.Seats.{away_at, ordering};
 ghost use Rattle.node_rules.specs.Proposing.{closing};
 ghost use Rattle.dealer_node.specs.Outs.{told_by, nothing_told};
-ghost use Rattle.dealer_node.specs.Posts.{place_at};
+ghost use Rattle.dealer_node.specs.Members.{place_at};
 ghost use Rattle.dealer_node.specs.Hearing.{IsForwardable};
 ghost use Rattle.dealer_node.specs.Running.{IsAt};
 ghost use Rattle.dealer_node.specs.Working.{IsOfPart};
@@ -21,7 +21,7 @@ ghost use Rattle.dealer_node.specs.Most.{most_after, most_applied, ShowsWithin};
 use crate::fault::NodeFault;
 use crate::limits::FRAMES_OF_A_CLOSE;
 use crate::made::{Made, Need};
-use crate::post::Post;
+use crate::member::Member;
 use crate::rooms::{Lists, Rooms};
 use crate::running::Running;
 use crate::up::Up;
@@ -46,26 +46,26 @@ impl<D: Disk + Drop> Up<D> {
     /// Takes an order that means this, into room that was made, and closes the call.
     fn play_for(
         &mut self,
-        post: &Post,
+        member: &Member,
         act: &Command,
         most: usize,
         lists: &mut Lists,
         made: &mut Made,
     ) -> Result<(), NodeFault>
-        requires at { IsAt post.now self.old.running }
+        requires at { IsAt member.now self.old.running }
         requires act { IsForwardable (Ok (SaidAct act.now)) }
         requires bounded { IsBounded self.old.running.proposer most }
         requires room { HasCallRoom self.old made.old (away_need self.old.running most) 1 most }
-        ensures works { (s : Standing) → IsTrue D.is_honest → IsUp D.Disk post.now self.old s → away_at (place_at post.now) s ≡ Some act.now
-            → Works D.Disk post.now s (and_then (ordering (place_at post.now) s) (closing (place_at post.now))) self.old self.new (told_by made.old) (told_by made.new) result }
+        ensures works { (s : Standing) → IsTrue D.is_honest → IsUp D.Disk member.now self.old s → away_at (place_at member.now) s ≡ Some act.now
+            → Works D.Disk member.now s (and_then (ordering (place_at member.now) s) (closing (place_at member.now))) self.old self.new (told_by made.old) (told_by made.new) result }
         ensures goes_on { GoesOn D.Disk self.old self.new result }
         ensures only { IsOfPart result }
-        ensures at { IsAt post.now self.new.running }
+        ensures at { IsAt member.now self.new.running }
         ensures within { told_by made.old ≡ nothing_told → IsWithin made.new (away_need self.old.running most) }
     {
         let promised = self.acceptor.promised();
-        self.running.play_for(post, promised, act, made);
-        self.close(post, most, lists, made)
+        self.running.play_for(member, promised, act, made);
+        self.close_call(member, most, lists, made)
     }
 
     /// Lets the command that plays for the player to act wait where nothing does, hands it on, and closes the call; 96
@@ -73,16 +73,16 @@ impl<D: Disk + Drop> Up<D> {
     pub(crate) fn on_away(
         &mut self,
         alloc: Global,
-        post: &Post,
+        member: &Member,
         rooms: &mut Rooms,
         out: &mut Made,
     ) -> Result<(), NodeFault>
-        requires { IsAt post.now self.old.running }
-        ensures handles { (s : Standing) → IsTrue D.is_honest → IsUp D.Disk post.now self.old s
-            → HandlesCall D.Disk post.now s Away self.old self.new (told_by out.old) (told_by out.new) result }
+        requires { IsAt member.now self.old.running }
+        ensures handles { (s : Standing) → IsTrue D.is_honest → IsUp D.Disk member.now self.old s
+            → HandlesCall D.Disk member.now s Away self.old self.new (told_by out.old) (told_by out.new) result }
         ensures goes_on { GoesOn D.Disk self.old self.new result }
         ensures answers { AnswersUp self.old self.new result }
-        ensures at { IsAt post.now self.new.running }
+        ensures at { IsAt member.now self.new.running }
         ensures unmade { IsErr result → told_by out.new ≡ told_by out.old }
         ensures shows { ShowsWithin (most_after (most_applied self.old.running)) (told_by out.old) (told_by out.new) }
     {
@@ -94,7 +94,7 @@ impl<D: Disk + Drop> Up<D> {
         let most = self.running.most_proposed();
         let need = away_need(&self.running, most);
         let mut made = self.ready(alloc, rooms.made.take(), 1, most, &need, out)?;
-        self.play_for(post, &act, most, &mut rooms.lists, &mut made)?;
+        self.play_for(member, &act, most, &mut rooms.lists, &mut made)?;
         out.append(&mut made);
         rooms.made = Some(made);
         Ok(())

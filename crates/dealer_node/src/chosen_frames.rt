@@ -7,7 +7,7 @@ ghost use Rattle.slot_log.specs.declared.command.Command.{Command as Order};
 ghost use Rattle.node_rules.specs.Sending.{one};
 ghost use Rattle.node_rules.specs.Learning.{next_window, telling_from};
 ghost use Rattle.dealer_node.specs.Rooms.{Grows};
-ghost use Rattle.dealer_node.specs.Turned.{posted};
+ghost use Rattle.dealer_node.specs.Turned.{framed};
 ghost use Rattle.dealer_node.specs.Fitting.{AreMessages};
 
 use crate::sending::send;
@@ -21,7 +21,7 @@ pub(crate) fn ask(frames: &mut Texts<u8>, to: u8, slot: u32)
     requires slot { IsSlot slot }
     requires texts { 1 ≤ frames.old.text_room }
     requires bytes { MOST_SINGLE_FRAME ≤ frames.old.byte_room }
-    ensures texts { frames.new.texts ≡ frames.old.texts ++ map posted (one to (Asking slot)) }
+    ensures texts { frames.new.texts ≡ frames.old.texts ++ map framed (one to (Asking slot)) }
     ensures fits { AreMessages (one to (Asking slot)) }
     ensures grows { Grows frames.old frames.new 1 MOST_SINGLE_FRAME }
 {
@@ -49,7 +49,7 @@ fn tell_slot(frames: &mut Texts<u8>, to: u8, log: &SlotLog, slot: u32)
     requires commands { (command : Order) → known_at log.now.log slot ≡ Some command → IsInRange command }
     requires texts { 1 ≤ frames.old.text_room }
     requires bytes { MOST_SINGLE_FRAME ≤ frames.old.byte_room }
-    ensures texts { frames.new.texts ≡ frames.old.texts ++ map posted (telling_from log.now.log to slot 1) }
+    ensures texts { frames.new.texts ≡ frames.old.texts ++ map framed (telling_from log.now.log to slot 1) }
     ensures fits { AreMessages (telling_from log.now.log to slot 1) }
     ensures grows { Grows frames.old frames.new 1 MOST_SINGLE_FRAME }
 {
@@ -67,12 +67,12 @@ fn tell_slot(frames: &mut Texts<u8>, to: u8, log: &SlotLog, slot: u32)
 }
 
 /// Tells a node the commands of so many slots from one on as chosen, each that is known.
-pub(crate) fn tell(frames: &mut Texts<u8>, to: u8, log: &SlotLog, slot: u32, slots: u32)
+pub(crate) fn send_chosen(frames: &mut Texts<u8>, to: u8, log: &SlotLog, slot: u32, slots: u32)
     requires slots { slot + slots ≤ SLOTS }
     requires commands { (one : ℕ) (command : Order) → known_at log.now.log one ≡ Some command → IsInRange command }
     requires texts { slots ≤ frames.old.text_room }
     requires bytes { MOST_SINGLE_FRAME * slots ≤ frames.old.byte_room }
-    ensures texts { frames.new.texts ≡ frames.old.texts ++ map posted (telling_from log.now.log to slot slots) }
+    ensures texts { frames.new.texts ≡ frames.old.texts ++ map framed (telling_from log.now.log to slot slots) }
     ensures fits { AreMessages (telling_from log.now.log to slot slots) }
     ensures grows { Grows frames.old frames.new slots (MOST_SINGLE_FRAME * slots) }
 {

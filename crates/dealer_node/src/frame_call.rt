@@ -7,7 +7,7 @@ ghost use Rattle.node_rules.specs.Standings.{Standing};
 ghost use Rattle.node_rules.specs.Calls.{Frame as Letter};
 ghost use Rattle.node_rules.specs.Rules.{on_message};
 ghost use Rattle.dealer_node.specs.Outs.{told_by, nothing_told};
-ghost use Rattle.dealer_node.specs.Posts.{place_at};
+ghost use Rattle.dealer_node.specs.Members.{place_at};
 ghost use Rattle.dealer_node.specs.Running.{IsAt, IsBoundedBehind};
 ghost use Rattle.dealer_node.specs.Working.{IsOfPart};
 ghost use Rattle.dealer_node.specs.Handling.{IsWithin, AnswersUp};
@@ -19,8 +19,8 @@ ghost use Rattle.dealer_node.specs.Most.{most_after, most_applied_behind, most_a
 use crate::fault::NodeFault;
 use crate::limits::{ANSWERS_OF_A_CALL, FRAMES_OF_A_CLOSE, FRAMES_OF_AN_ANSWER, FRAMES_TO_ALL};
 use crate::made::{Made, Need};
+use crate::member::Member;
 use crate::most_shown::{MostShown, most_after};
-use crate::post::Post;
 use crate::rooms::{Lists, Rooms};
 use crate::running::Running;
 use crate::up::Up;
@@ -89,26 +89,26 @@ impl<D: Disk + Drop> Up<D> {
     /// Takes a message of another node, into room that was made.
     fn message(
         &mut self,
-        post: &Post,
+        member: &Member,
         from: u8,
         message: &Message,
         most: usize,
         lists: &mut Lists,
         made: &mut Made,
     ) -> Result<(), NodeFault>
-        requires at { IsAt post.now self.old.running }
-        requires from { from < post.now.nodes }
+        requires at { IsAt member.now self.old.running }
+        requires from { from < member.now.nodes }
         requires message { IsMessage message.now }
         requires bounded { IsBoundedBehind self.old.running.proposer message.now most }
         requires room { HasCallRoom self.old made.old (frame_need self.old.running (commands_in message.now) most) ANSWERS_OF_A_CALL (commands_in message.now + most) }
-        ensures works { (s : Standing) → IsTrue D.is_honest → IsUp D.Disk post.now self.old s
-            → Works D.Disk post.now s (on_message (place_at post.now) from message.now s) self.old self.new (told_by made.old) (told_by made.new) result }
+        ensures works { (s : Standing) → IsTrue D.is_honest → IsUp D.Disk member.now self.old s
+            → Works D.Disk member.now s (on_message (place_at member.now) from message.now s) self.old self.new (told_by made.old) (told_by made.new) result }
         ensures goes_on { GoesOn D.Disk self.old self.new result }
         ensures only { IsOfPart result }
-        ensures at { IsAt post.now self.new.running }
+        ensures at { IsAt member.now self.new.running }
         ensures within { told_by made.old ≡ nothing_told → OnOk result (IsWithin made.new (frame_need self.old.running (commands_in message.now) most)) }
     {
-        self.on_message(post, from, message, most, lists, made)
+        self.on_message(member, from, message, most, lists, made)
     }
 
     /// Takes the bytes of a frame of another node, and closes the call. What it makes goes to `out` at the end, where it
@@ -116,19 +116,19 @@ impl<D: Disk + Drop> Up<D> {
     pub(crate) fn on_frame(
         &mut self,
         alloc: Global,
-        post: &Post,
+        member: &Member,
         from: u8,
         bytes: &[u8],
         rooms: &mut Rooms,
         out: &mut Made,
     ) -> Result<(), NodeFault>
-        requires at { IsAt post.now self.old.running }
-        requires from { from < post.now.nodes }
-        ensures handles { (s : Standing) → IsTrue D.is_honest → IsUp D.Disk post.now self.old s
-            → HandlesCall D.Disk post.now s (Letter from bytes.now) self.old self.new (told_by out.old) (told_by out.new) result }
+        requires at { IsAt member.now self.old.running }
+        requires from { from < member.now.nodes }
+        ensures handles { (s : Standing) → IsTrue D.is_honest → IsUp D.Disk member.now self.old s
+            → HandlesCall D.Disk member.now s (Letter from bytes.now) self.old self.new (told_by out.old) (told_by out.new) result }
         ensures goes_on { GoesOn D.Disk self.old self.new result }
         ensures answers { AnswersUp self.old self.new result }
-        ensures at { IsAt post.now self.new.running }
+        ensures at { IsAt member.now self.new.running }
         ensures unmade { IsErr result → told_by out.new ≡ told_by out.old }
         ensures shows { ShowsWithin (most_after (most_applied_by self.old.running (reading bytes.now))) (told_by out.old) (told_by out.new) }
     {
@@ -147,7 +147,7 @@ impl<D: Disk + Drop> Up<D> {
                     &need,
                     out,
                 )?;
-                self.message(post, from, &message, most, &mut rooms.lists, &mut made)?;
+                self.message(member, from, &message, most, &mut rooms.lists, &mut made)?;
                 out.append(&mut made);
                 rooms.made = Some(made);
                 Ok(())

@@ -6,7 +6,7 @@ ghost use Rattle.paxos_wire.specs.declared.limits.TheConstants.{MOST_SINGLE_FRAM
 ghost use Rattle.node_rules.specs.Standings.{Standing};
 ghost use Rattle.node_rules.specs.Rules.{taking, asking, on_message};
 ghost use Rattle.proposer.specs.CommandRuns.{IsBounded};
-ghost use Rattle.dealer_node.specs.Posts.{place_at};
+ghost use Rattle.dealer_node.specs.Members.{place_at};
 ghost use Rattle.dealer_node.specs.Outs.{told_by};
 ghost use Rattle.dealer_node.specs.declared.limits.TheConstants.{FRAMES_TO_ALL, ANSWERS_OF_A_CALL, FRAMES_OF_AN_ANSWER};
 ghost use Rattle.dealer_node.specs.Rooms.{Grows};
@@ -17,7 +17,7 @@ ghost use Rattle.dealer_node.specs.Working.{HasLeft, IsOfPart};
 
 use crate::fault::NodeFault;
 use crate::made::Made;
-use crate::post::Post;
+use crate::member::Member;
 use crate::rooms::Lists;
 use crate::running::Running;
 use crate::up::Up;
@@ -25,18 +25,18 @@ use paxos_wire::{CommandList, Message};
 use promise_store::Disk;
 
 /// Asks a node that speaks of a slot above the front, in a Prepare, an Accept or an Accepted, for what was chosen.
-fn ask(running: &Running, post: &Post, from: u8, message: &Message, made: &mut Made)
+fn ask(running: &Running, member: &Member, from: u8, message: &Message, made: &mut Made)
     requires message { IsMessage message.now }
     requires frames { 1 ≤ made.old.frames.text_room }
     requires frame_bytes { MOST_SINGLE_FRAME ≤ made.old.frames.byte_room }
-    ensures taken { (s : Standing) → IsRunning post.now running.now s → IsTaken post.now running.now (told_by made.old) (told_by made.new) (asking from message.now s) }
+    ensures taken { (s : Standing) → IsRunning member.now running.now s → IsTaken member.now running.now (told_by made.old) (told_by made.new) (asking from message.now s) }
     ensures frames { Grows made.old.frames made.new.frames 1 MOST_SINGLE_FRAME }
     ensures rest { made.new ≡ record made.old { frames = made.new.frames } }
 {
     match message {
         Message::Prepare { slot, .. }
         | Message::Accept { slot, .. }
-        | Message::Accepted { slot, .. } => running.ask_above(post, from, *slot, made),
+        | Message::Accepted { slot, .. } => running.ask_above(member, from, *slot, made),
         Message::Promise { .. }
         | Message::Refuse { .. }
         | Message::Chosen { .. }
@@ -49,26 +49,26 @@ impl<D: Disk + Drop> Up<D> {
     ghost use Rattle.dealer_node.specs.Working.{IsUp, Works, GoesOn, store_room};
 
     /// What each message asks of a node.
-    fn take(
+    fn take_message(
         &mut self,
-        post: &Post,
+        member: &Member,
         from: u8,
         message: &Message,
         told: &mut CommandList,
         made: &mut Made,
     ) -> Result<(), NodeFault>
-        requires at { IsAt post.now self.old.running }
-        requires from { from < post.now.nodes }
+        requires at { IsAt member.now self.old.running }
+        requires from { from < member.now.nodes }
         requires message { IsMessage message.now }
         requires store { commands_in message.now ≤ store_room self.old }
         requires learn { CanLearn self.old.running made.old 1 (commands_in message.now) }
         requires texts { FRAMES_OF_AN_ANSWER ≤ made.old.frames.text_room }
         requires bytes { MOST_SINGLE_FRAME * (FRAMES_OF_AN_ANSWER + FRAMES_TO_ALL * commands_in message.now) ≤ made.old.frames.byte_room }
-        ensures works { (s : Standing) → IsTrue D.is_honest → IsUp D.Disk post.now self.old s
-            → Works D.Disk post.now s (taking (place_at post.now) from message.now s) self.old self.new (told_by made.old) (told_by made.new) result }
+        ensures works { (s : Standing) → IsTrue D.is_honest → IsUp D.Disk member.now self.old s
+            → Works D.Disk member.now s (taking (place_at member.now) from message.now s) self.old self.new (told_by made.old) (told_by made.new) result }
         ensures goes_on { GoesOn D.Disk self.old self.new result }
         ensures only { IsOfPart result }
-        ensures at { IsAt post.now self.new.running }
+        ensures at { IsAt member.now self.new.running }
         ensures bounded { (most : ℕ) → IsBoundedBehind self.old.running.proposer message.now most → IsBounded self.new.running.proposer most }
         ensures room { store_room self.old ≤ store_room self.new + commands_in message.now }
         ensures left { (need : Needs) (answers more frames : ℕ)
@@ -76,18 +76,26 @@ impl<D: Disk + Drop> Up<D> {
             → HasLeft self.new.running made.new need answers more frames }
     {
         match message {
-            Message::Prepare { ballot, slot } => self.prepare(post, from, *ballot, *slot, made),
+            Message::Prepare { ballot, slot } => self.prepare(member, from, *ballot, *slot, made),
             Message::Accept {
                 ballot,
                 slot,
                 commands,
-            } => self.accept(post, from, *ballot, *slot, commands.as_slice(), told, made),
+            } => self.accept(
+                member,
+                from,
+                *ballot,
+                *slot,
+                commands.as_slice(),
+                told,
+                made,
+            ),
             Message::Promise { .. }
             | Message::Refuse { .. }
             | Message::Accepted { .. }
             | Message::Chosen { .. }
             | Message::Ask { .. }
-            | Message::Forward { .. } => self.take_in_memory(post, from, message, made),
+            | Message::Forward { .. } => self.take_in_memory(member, from, message, made),
         }
     }
 
@@ -95,36 +103,36 @@ impl<D: Disk + Drop> Up<D> {
     /// many commands as the close proposes at most.
     pub(crate) fn on_message(
         &mut self,
-        post: &Post,
+        member: &Member,
         from: u8,
         message: &Message,
         most: usize,
         lists: &mut Lists,
         made: &mut Made,
     ) -> Result<(), NodeFault>
-        requires at { IsAt post.now self.old.running }
-        requires from { from < post.now.nodes }
+        requires at { IsAt member.now self.old.running }
+        requires from { from < member.now.nodes }
         requires message { IsMessage message.now }
         requires bounded { IsBoundedBehind self.old.running.proposer message.now most }
         requires store { commands_in message.now + most ≤ store_room self.old }
         requires learn { CanLearn self.old.running made.old ANSWERS_OF_A_CALL (commands_in message.now + most) }
         requires texts { frames_behind (commands_in message.now) most ≤ made.old.frames.text_room }
         requires bytes { MOST_SINGLE_FRAME * frames_behind (commands_in message.now) most ≤ made.old.frames.byte_room }
-        ensures works { (s : Standing) → IsTrue D.is_honest → IsUp D.Disk post.now self.old s
-            → Works D.Disk post.now s (on_message (place_at post.now) from message.now s) self.old self.new (told_by made.old) (told_by made.new) result }
+        ensures works { (s : Standing) → IsTrue D.is_honest → IsUp D.Disk member.now self.old s
+            → Works D.Disk member.now s (on_message (place_at member.now) from message.now s) self.old self.new (told_by made.old) (told_by made.new) result }
         ensures goes_on { GoesOn D.Disk self.old self.new result }
         ensures only { IsOfPart result }
-        ensures at { IsAt post.now self.new.running }
+        ensures at { IsAt member.now self.new.running }
         ensures left { (need : Needs) → HasLeft self.old.running made.old need ANSWERS_OF_A_CALL (commands_in message.now + most) (frames_behind (commands_in message.now) most)
             → OnOk result (HasLeft self.new.running made.new need 0 0 0) }
     {
         self.running.see(message);
-        match self.take(post, from, message, &mut lists.told, made) {
+        match self.take_message(member, from, message, &mut lists.told, made) {
             Err(fault) => Err(fault),
-            Ok(()) => match self.close(post, most, lists, made) {
+            Ok(()) => match self.close_call(member, most, lists, made) {
                 Err(fault) => Err(fault),
                 Ok(()) => {
-                    ask(&self.running, post, from, message, made);
+                    ask(&self.running, member, from, message, made);
                     Ok(())
                 }
             },

@@ -10,15 +10,15 @@ ghost use Rattle.seat_session.specs.declared.said.Said.TheVariants.{Ready as Sai
 ghost use Rattle.node_rules.specs.Sending.{one};
 ghost use Rattle.node_rules.specs.Seats.{is_others};
 ghost use Rattle.dealer_node.specs.Outs.{told_by};
-ghost use Rattle.dealer_node.specs.Posts.{place_at};
-ghost use Rattle.dealer_node.specs.Turned.{posted};
+ghost use Rattle.dealer_node.specs.Members.{place_at};
+ghost use Rattle.dealer_node.specs.Turned.{framed};
 ghost use Rattle.dealer_node.specs.Fitting.{AreMessages};
 ghost use Rattle.dealer_node.specs.Rooms.{Grows, Tells};
 ghost use Rattle.dealer_node.specs.Hearing.{IsForwardable, TakesAct, TakesAnswer, Hears, HearsPiece, CanHear};
 
 use crate::lines::show_line;
 use crate::made::Made;
-use crate::post::Post;
+use crate::member::Member;
 use crate::seat_fault::SeatFault;
 use crate::sending::send;
 use crate::texts::Texts;
@@ -39,23 +39,23 @@ pub(crate) fn wait(pending: &mut Option<Command>, table: &Table, act: &Command)
 }
 
 /// Whether the promised ballot is another node's.
-fn is_others(post: &Post, promised: Ballot) -> bool
-    ensures { result ≡ is_others (place_at post.now) promised }
+fn is_others(member: &Member, promised: Ballot) -> bool
+    ensures { result ≡ is_others (place_at member.now) promised }
 {
-    promised.round > 0 && promised.node < post.nodes() && promised.node != post.node()
+    promised.round > 0 && promised.node < member.nodes() && promised.node != member.node()
 }
 
 /// Hands an act on to the node whose ballot was promised, where that is another.
-fn forward(frames: &mut Texts<u8>, post: &Post, promised: Ballot, act: &Command)
+fn forward(frames: &mut Texts<u8>, member: &Member, promised: Ballot, act: &Command)
     requires act { MayGoOn act.now }
     requires numbers { IsInRange act.now }
     requires texts { 1 ≤ frames.old.text_room }
     requires bytes { MOST_SINGLE_FRAME ≤ frames.old.byte_room }
-    ensures texts { frames.new.texts ≡ frames.old.texts ++ map posted (if is_others (place_at post.now) promised then one promised.node (Forwarding act.now) else []) }
-    ensures fits { AreMessages (if is_others (place_at post.now) promised then one promised.node (Forwarding act.now) else []) }
+    ensures texts { frames.new.texts ≡ frames.old.texts ++ map framed (if is_others (place_at member.now) promised then one promised.node (Forwarding act.now) else []) }
+    ensures fits { AreMessages (if is_others (place_at member.now) promised then one promised.node (Forwarding act.now) else []) }
     ensures grows { Grows frames.old frames.new 1 MOST_SINGLE_FRAME }
 {
-    if is_others(post, promised) {
+    if is_others(member, promised) {
         let message = Message::Forward { command: *act };
         let _len = frame_len(&message);
         send(frames, promised.node, &message);
@@ -65,23 +65,23 @@ fn forward(frames: &mut Texts<u8>, post: &Post, promised: Ballot, act: &Command)
 /// A seat that gets ready is shown its line.
 fn take_ready(
     seat: usize,
-    post: &Post,
+    member: &Member,
     promised: Ballot,
     table: &Table,
     pending: &Option<Command>,
     made: &mut Made,
 )
-    requires game { table.now.game ≡ post.now.setting.game }
+    requires game { table.now.game ≡ member.now.setting.game }
     requires seat { seat < table.now.game.players }
     requires texts { 1 ≤ made.old.shown.text_room }
     requires bytes { 4096 ≤ made.old.shown.byte_room }
-    ensures taken { TakesAnswer (place_at post.now) table.now promised seat (Ok SaidReady) pending.now pending.now (told_by made.old) (told_by made.new) }
+    ensures taken { TakesAnswer (place_at member.now) table.now promised seat (Ok SaidReady) pending.now pending.now (told_by made.old) (told_by made.new) }
     ensures shown { Grows made.old.shown made.new.shown 1 4096 }
     ensures rest { made.new ≡ record made.old { shown = made.new.shown } }
 {
     show_line(
         &mut made.shown,
-        post,
+        member,
         table,
         seat,
         &BettingText::newest(table),
@@ -91,7 +91,7 @@ fn take_ready(
 /// An act waits where it fits and none does, and goes on to the node whose ballot was promised, where that is another.
 pub(crate) fn take_act(
     act: &Command,
-    post: &Post,
+    member: &Member,
     promised: Ballot,
     table: &Table,
     pending: &mut Option<Command>,
@@ -100,27 +100,27 @@ pub(crate) fn take_act(
     requires act { IsForwardable (Ok (SaidAct act.now)) }
     requires texts { 1 ≤ made.old.frames.text_room }
     requires bytes { MOST_SINGLE_FRAME ≤ made.old.frames.byte_room }
-    ensures taken { TakesAct (place_at post.now) table.now promised act.now pending.old pending.new (told_by made.old) (told_by made.new) }
+    ensures taken { TakesAct (place_at member.now) table.now promised act.now pending.old pending.new (told_by made.old) (told_by made.new) }
     ensures frames { Grows made.old.frames made.new.frames 1 MOST_SINGLE_FRAME }
     ensures rest { made.new ≡ record made.old { frames = made.new.frames } }
     ensures act { IfSome pending.old (λ command. IsInRange command) → IfSome pending.new (λ command. IsInRange command) }
 {
     wait(pending, table, act);
-    forward(&mut made.frames, post, promised, act);
+    forward(&mut made.frames, member, promised, act);
 }
 
 /// A fault is told.
 fn take_fault(
     fault: SessionFault,
     seat: usize,
-    post: &Post,
+    member: &Member,
     promised: Ballot,
     table: &Table,
     pending: &Option<Command>,
     made: &mut Made,
 )
     requires { vec_len made.old.faults < vec_capacity made.old.faults }
-    ensures taken { TakesAnswer (place_at post.now) table.now promised seat (Err fault) pending.now pending.now (told_by made.old) (told_by made.new) }
+    ensures taken { TakesAnswer (place_at member.now) table.now promised seat (Err fault) pending.now pending.now (told_by made.old) (told_by made.new) }
     ensures faults { Tells made.old made.new 1 }
     ensures rest { made.new ≡ record made.old { faults = made.new.faults } }
 {
@@ -131,20 +131,20 @@ fn take_fault(
 fn take_said(
     said: &Said,
     seat: usize,
-    post: &Post,
+    member: &Member,
     promised: Ballot,
     table: &Table,
     pending: &mut Option<Command>,
     made: &mut Made,
 )
-    requires game { table.now.game ≡ post.now.setting.game }
+    requires game { table.now.game ≡ member.now.setting.game }
     requires seat { seat < table.now.game.players }
     requires act { IsForwardable (Ok said.now) }
     requires frames { 1 ≤ made.old.frames.text_room }
     requires frame_bytes { MOST_SINGLE_FRAME ≤ made.old.frames.byte_room }
     requires texts { said.now ≡ SaidReady → 1 ≤ made.old.shown.text_room }
     requires text_bytes { said.now ≡ SaidReady → 4096 ≤ made.old.shown.byte_room }
-    ensures taken { TakesAnswer (place_at post.now) table.now promised seat (Ok said.now) pending.old pending.new (told_by made.old) (told_by made.new) }
+    ensures taken { TakesAnswer (place_at member.now) table.now promised seat (Ok said.now) pending.old pending.new (told_by made.old) (told_by made.new) }
     ensures frames { Grows made.old.frames made.new.frames 1 MOST_SINGLE_FRAME }
     ensures shown { Grows made.old.shown made.new.shown 1 4096 }
     ensures still { (said.now ≡ SaidReady → ⊥) → made.new.shown ≡ made.old.shown }
@@ -152,8 +152,8 @@ fn take_said(
     ensures act { IfSome pending.old (λ command. IsInRange command) → IfSome pending.new (λ command. IsInRange command) }
 {
     match said {
-        Said::Ready => take_ready(seat, post, promised, table, pending, made),
-        Said::Act(act) => take_act(act, post, promised, table, pending, made),
+        Said::Ready => take_ready(seat, member, promised, table, pending, made),
+        Said::Act(act) => take_act(act, member, promised, table, pending, made),
     }
 }
 
@@ -161,13 +161,13 @@ fn take_said(
 fn take_answer(
     said: &Result<Said, SessionFault>,
     seat: usize,
-    post: &Post,
+    member: &Member,
     promised: Ballot,
     table: &Table,
     pending: &mut Option<Command>,
     made: &mut Made,
 )
-    requires game { table.now.game ≡ post.now.setting.game }
+    requires game { table.now.game ≡ member.now.setting.game }
     requires seat { seat < table.now.game.players }
     requires act { IsForwardable said.now }
     requires frames { 1 ≤ made.old.frames.text_room }
@@ -175,7 +175,7 @@ fn take_answer(
     requires texts { said.now ≡ Ok SaidReady → 1 ≤ made.old.shown.text_room }
     requires text_bytes { said.now ≡ Ok SaidReady → 4096 ≤ made.old.shown.byte_room }
     requires faults { vec_len made.old.faults < vec_capacity made.old.faults }
-    ensures taken { TakesAnswer (place_at post.now) table.now promised seat said.now pending.old pending.new (told_by made.old) (told_by made.new) }
+    ensures taken { TakesAnswer (place_at member.now) table.now promised seat said.now pending.old pending.new (told_by made.old) (told_by made.new) }
     ensures frames { Grows made.old.frames made.new.frames 1 MOST_SINGLE_FRAME }
     ensures shown { Grows made.old.shown made.new.shown 1 4096 }
     ensures still { (said.now ≡ Ok SaidReady → ⊥) → made.new.shown ≡ made.old.shown }
@@ -183,8 +183,8 @@ fn take_answer(
     ensures act { IfSome pending.old (λ command. IsInRange command) → IfSome pending.new (λ command. IsInRange command) }
 {
     match said {
-        Ok(said) => take_said(said, seat, post, promised, table, pending, made),
-        Err(fault) => take_fault(*fault, seat, post, promised, table, pending, made),
+        Ok(said) => take_said(said, seat, member, promised, table, pending, made),
+        Err(fault) => take_fault(*fault, seat, member, promised, table, pending, made),
     }
 }
 
@@ -192,13 +192,13 @@ fn take_answer(
 fn drain(
     session: &mut Session,
     limit: usize,
-    post: &Post,
+    member: &Member,
     promised: Ballot,
     table: &Table,
     pending: &mut Option<Command>,
     made: &mut Made,
 )
-    requires game { table.now.game ≡ post.now.setting.game }
+    requires game { table.now.game ≡ member.now.setting.game }
     requires seat { session.old.seat < table.now.game.players }
     requires stays { is_closed session.old.standing.phase ≡ false }
     requires limit { line_feeds session.old.standing.waiting < limit }
@@ -207,7 +207,7 @@ fn drain(
     requires texts { 1 ≤ made.old.shown.text_room }
     requires text_bytes { 4096 ≤ made.old.shown.byte_room }
     requires faults { vec_len made.old.faults + limit ≤ vec_capacity made.old.faults }
-    ensures hears { Hears (place_at post.now) table.now promised session.old.seat session.old.standing session.new.standing pending.old pending.new (told_by made.old) (told_by made.new) }
+    ensures hears { Hears (place_at member.now) table.now promised session.old.seat session.old.standing session.new.standing pending.old pending.new (told_by made.old) (told_by made.new) }
     ensures seat { session.new.seat ≡ session.old.seat }
     ensures frames { Grows made.old.frames made.new.frames limit (MOST_SINGLE_FRAME * limit) }
     ensures shown { Grows made.old.shown made.new.shown 1 4096 }
@@ -220,7 +220,15 @@ fn drain(
         match session.next(table) {
             None => return,
             Some(said) => {
-                take_answer(&said, session.seat(), post, promised, table, pending, made);
+                take_answer(
+                    &said,
+                    session.seat(),
+                    member,
+                    promised,
+                    table,
+                    pending,
+                    made,
+                );
                 if session.is_closed() {
                     return;
                 }
@@ -230,18 +238,18 @@ fn drain(
 }
 
 /// Takes a piece of a seat's bytes; a session that it closes is dropped.
-pub(crate) fn hear(
+pub(crate) fn session_hears(
     session: Option<Session>,
     seat: usize,
     piece: &[u8],
     limit: usize,
-    post: &Post,
+    member: &Member,
     promised: Ballot,
     table: &Table,
     pending: &mut Option<Command>,
     made: &mut Made,
 ) -> Option<Session>
-    requires game { table.now.game ≡ post.now.setting.game }
+    requires game { table.now.game ≡ member.now.setting.game }
     requires seat { seat < table.now.game.players }
     requires session { ForSome session (λ s. CanHear seat piece.now limit s) }
     requires frames { limit ≤ made.old.frames.text_room }
@@ -249,7 +257,7 @@ pub(crate) fn hear(
     requires texts { 1 ≤ made.old.shown.text_room }
     requires text_bytes { 4096 ≤ made.old.shown.byte_room }
     requires faults { vec_len made.old.faults + limit ≤ vec_capacity made.old.faults }
-    ensures hears { HearsPiece (place_at post.now) table.now promised seat piece.now session result pending.old pending.new (told_by made.old) (told_by made.new) }
+    ensures hears { HearsPiece (place_at member.now) table.now promised seat piece.now session result pending.old pending.new (told_by made.old) (told_by made.new) }
     ensures own { IfSome result (λ s. s.seat ≡ seat) }
     ensures stays { IfSome result (λ s. is_closed s.standing.phase ≡ false) }
     ensures frames { Grows made.old.frames made.new.frames limit (MOST_SINGLE_FRAME * limit) }
@@ -260,7 +268,7 @@ pub(crate) fn hear(
     pieces_add_lines();
     let mut session = session?;
     session.feed_reserved(piece);
-    drain(&mut session, limit, post, promised, table, pending, made);
+    drain(&mut session, limit, member, promised, table, pending, made);
     if session.is_closed() {
         None
     } else {

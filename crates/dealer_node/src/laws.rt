@@ -4,7 +4,7 @@ ghost use Rattle.std.specs.Prelude.{◌≡◌, ◌⊎◌, ℕ, List, IsTrue, tru
 ghost use Rattle.node_rules.specs.Standings.{Standing};
 ghost use Rattle.promise_store.specs.Holding.{StandsFor};
 ghost use Rattle.dealer_node.specs.Nodes.{Node as Seen};
-ghost use Rattle.dealer_node.specs.Seeing.{head_of, post_in, runs, IsSeen, images_of, since_of, moment_of};
+ghost use Rattle.dealer_node.specs.Seeing.{head_of, member_in, runs, IsSeen, images_of, since_of, moment_of};
 
 use promise_store::Disk;
 use promise_store::laws::{journals_have_one_reading, what_is_kept_is_left};
@@ -12,7 +12,7 @@ use promise_store::laws::{journals_have_one_reading, what_is_kept_is_left};
 /// Each image of a node's disk stands for its store, or for what was begun.
 pub fn images_are_seen<D: Disk + Drop>()
     ensures { (node : Seen D) (s : Standing) (image : List ℕ) → IsSeen D.Disk node s → images_of D.Disk node image
-        → StandsFor (head_of (post_in node)) image s.store ⊎ StandsFor (head_of (post_in node)) image s.begun }
+        → StandsFor (head_of (member_in node)) image s.store ⊎ StandsFor (head_of (member_in node)) image s.begun }
 {
     what_is_kept_is_left::<D>();
 }

@@ -12,15 +12,15 @@ ghost use Rattle.dealer_node.specs.declared.reader.Reader.{Reader as Reads};
 ghost use Rattle.dealer_node.specs.Texts.{Marked};
 ghost use Rattle.dealer_node.specs.declared.limits.TheConstants.{FRAMES_OF_AN_ANSWER, FRAME_BYTES_OF_AN_ANSWER};
 ghost use Rattle.dealer_node.specs.Scenes.{IsScene};
-ghost use Rattle.dealer_node.specs.Posts.{place_at};
+ghost use Rattle.dealer_node.specs.Members.{place_at};
 ghost use Rattle.dealer_node.specs.Outs.{told_by};
 ghost use Rattle.dealer_node.specs.Rooms.{Grows};
 ghost use Rattle.dealer_node.specs.Running.{IsRunning, IsTaken, TakesTurn, IsAt, AreInRange, GoesOn, CanLearn, Learns};
 
-use crate::applying::take_all;
-use crate::chosen_frames::{ask, tell, told_slots};
+use crate::applying::apply_commands;
+use crate::chosen_frames::{ask, send_chosen, told_slots};
 use crate::made::Made;
-use crate::post::Post;
+use crate::member::Member;
 use crate::reader::Reader;
 use crate::running::Running;
 use crate::texts::Texts;
@@ -95,16 +95,16 @@ fn passed(log: &SlotLog, from: u32) -> &[Command]
 
 impl Running {
     /// Applies the commands from a slot on that the front has passed.
-    fn apply_from(&mut self, from: u32, post: &Post, shown: &mut Texts<Reader>)
+    fn apply_from(&mut self, from: u32, member: &Member, shown: &mut Texts<Reader>)
         requires from { from ≤ front self.old.learner.learned.log }
-        requires game { self.old.table.game ≡ post.now.setting.game }
-        requires count { self.old.table.count ≡ post.now.setting.title.hands }
-        requires seats { length self.old.seats.talks ≡ post.now.setting.game.players }
+        requires game { self.old.table.game ≡ member.now.setting.game }
+        requires count { self.old.table.count ≡ member.now.setting.title.hands }
+        requires seats { length self.old.seats.talks ≡ member.now.setting.game.players }
         requires room { front self.old.learner.learned.log ≤ from + self.old.table.room }
         requires texts { 11 * (front self.old.learner.learned.log - from) ≤ shown.old.text_room }
         requires bytes { 45716 * (front self.old.learner.learned.log - from) ≤ shown.old.byte_room }
-        ensures scene { (scene : Scene) (before : List (Marked Reads)) → IsScene post.now.setting scene self.old.table self.old.pending before shown.old.texts
-            → IsScene post.now.setting (taking_all post.now.setting self.old.seats.talks (drop from (reverse self.old.learner.learned.log.below)) scene) self.new.table self.new.pending before shown.new.texts }
+        ensures scene { (scene : Scene) (before : List (Marked Reads)) → IsScene member.now.setting scene self.old.table self.old.pending before shown.old.texts
+            → IsScene member.now.setting (taking_all member.now.setting self.old.seats.talks (drop from (reverse self.old.learner.learned.log.below)) scene) self.new.table self.new.pending before shown.new.texts }
         ensures game { self.new.table.game ≡ self.old.table.game }
         ensures count { self.new.table.count ≡ self.old.table.count }
         ensures room { self.old.table.room + from ≤ self.new.table.room + front self.old.learner.learned.log }
@@ -112,10 +112,10 @@ impl Running {
         ensures act { IfSome self.old.pending (λ command. IsInRange command) → IfSome self.new.pending (λ command. IsInRange command) }
         ensures rest { self.new ≡ record self.old { table = self.new.table; pending = self.new.pending } }
     {
-        take_all(
+        apply_commands(
             &mut self.table,
             &mut self.pending,
-            post,
+            member,
             self.seats.sessions(),
             passed(self.learner.log(), from),
             shown,
@@ -127,29 +127,29 @@ impl Running {
     /// slots.
     pub(crate) fn count_votes(
         &mut self,
-        post: &Post,
+        member: &Member,
         from: u8,
         ballot: Ballot,
         slot: u32,
         commands: &[Command],
         made: &mut Made,
     ) -> Result<(), SlotFault>
-        requires at { IsAt post.now self.old }
-        requires from { from < post.now.nodes }
+        requires at { IsAt member.now self.old }
+        requires from { from < member.now.nodes }
         requires run { IsCommandRun slot commands.now }
         requires room { CanLearn self.old made.old 1 (length commands.now) }
-        ensures ok { OnOk result ((s : Standing) → IsRunning post.now self.old s
-            → TakesTurn post.now self.new (told_by made.old) (told_by made.new) (counting_votes (place_at post.now) from ballot slot commands.now s)) }
-        ensures err { OnErr result ((s : Standing) → IsRunning post.now self.old s
-            → counting_votes (place_at post.now) from ballot slot commands.now s ≡ Err (Conflicting s.store)) }
-        ensures at { IsAt post.now self.new }
+        ensures ok { OnOk result ((s : Standing) → IsRunning member.now self.old s
+            → TakesTurn member.now self.new (told_by made.old) (told_by made.new) (counting_votes (place_at member.now) from ballot slot commands.now s)) }
+        ensures err { OnErr result ((s : Standing) → IsRunning member.now self.old s
+            → counting_votes (place_at member.now) from ballot slot commands.now s ≡ Err (Conflicting s.store)) }
+        ensures at { IsAt member.now self.new }
         ensures proposer { self.new.proposer ≡ self.old.proposer }
         ensures learns { Learns (length commands.now) self.old self.new made.old made.new }
         ensures rest { made.new ≡ record made.old { shown = made.new.shown } }
     {
         let front = self.front();
         hear_votes(&mut self.learner, from, ballot, slot, commands)?;
-        self.apply_from(front, post, &mut made.shown);
+        self.apply_from(front, member, &mut made.shown);
         Ok(())
     }
 
@@ -157,38 +157,38 @@ impl Running {
     /// another command is known there.
     fn take_chosen(
         &mut self,
-        post: &Post,
+        member: &Member,
         slot: u32,
         command: Command,
         made: &mut Made,
     ) -> Result<(), SlotFault>
-        requires at { IsAt post.now self.old }
+        requires at { IsAt member.now self.old }
         requires command { IsInRange command }
         requires room { CanLearn self.old made.old 0 1 }
-        ensures ok { OnOk result ((s : Standing) → IsRunning post.now self.old s
-            → TakesTurn post.now self.new (told_by made.old) (told_by made.new) (learning (place_at post.now) (answer_to_chosen s.learned.log slot command) (with_chosen s.learned slot command) s)) }
-        ensures err { OnErr result ((s : Standing) → IsRunning post.now self.old s
-            → learning (place_at post.now) (answer_to_chosen s.learned.log slot command) (with_chosen s.learned slot command) s ≡ Err (Conflicting s.store)) }
-        ensures at { IsAt post.now self.new }
+        ensures ok { OnOk result ((s : Standing) → IsRunning member.now self.old s
+            → TakesTurn member.now self.new (told_by made.old) (told_by made.new) (learning (place_at member.now) (answer_to_chosen s.learned.log slot command) (with_chosen s.learned slot command) s)) }
+        ensures err { OnErr result ((s : Standing) → IsRunning member.now self.old s
+            → learning (place_at member.now) (answer_to_chosen s.learned.log slot command) (with_chosen s.learned slot command) s ≡ Err (Conflicting s.store)) }
+        ensures at { IsAt member.now self.new }
         ensures proposer { self.new.proposer ≡ self.old.proposer }
         ensures learns { Learns 1 self.old self.new made.old made.new }
         ensures rest { made.new ≡ record made.old { shown = made.new.shown } }
     {
         let front = self.front();
         hear_chosen(&mut self.learner, slot, command)?;
-        self.apply_from(front, post, &mut made.shown);
+        self.apply_from(front, member, &mut made.shown);
         Ok(())
     }
 
     /// Asks a node for more where the front came from a slot to a multiple of 64 at which there is a slot.
-    fn ask_on(&self, post: &Post, from: u8, before: u32, made: &mut Made)
+    fn ask_on(&self, member: &Member, from: u8, before: u32, made: &mut Made)
         requires frames { 1 ≤ made.old.frames.text_room }
         requires frame_bytes { MOST_SINGLE_FRAME ≤ made.old.frames.byte_room }
-        ensures taken { (s : Standing) → IsRunning post.now self.now s → IsTaken post.now self.now (told_by made.old) (told_by made.new) (asking_on from before s) }
+        ensures taken { (s : Standing) → IsRunning member.now self.now s → IsTaken member.now self.now (told_by made.old) (told_by made.new) (asking_on from before s) }
         ensures frames { Grows made.old.frames made.new.frames 1 MOST_SINGLE_FRAME }
         ensures rest { made.new ≡ record made.old { frames = made.new.frames } }
     {
-        let _ = post;
+        let _ = member;
         let front = self.front();
         if before < front && front % WINDOW as u32 == 0 && front < SLOTS {
             ask(&mut made.frames, from, front);
@@ -199,58 +199,58 @@ impl Running {
     /// for more where the front comes to a multiple of 64. An `Err` is 30: another command is known there.
     pub(crate) fn believe(
         &mut self,
-        post: &Post,
+        member: &Member,
         from: u8,
         slot: u32,
         command: Command,
         made: &mut Made,
     ) -> Result<(), SlotFault>
-        requires at { IsAt post.now self.old }
+        requires at { IsAt member.now self.old }
         requires command { IsInRange command }
         requires room { CanLearn self.old made.old 0 1 }
         requires frames { 1 ≤ made.old.frames.text_room }
         requires frame_bytes { MOST_SINGLE_FRAME ≤ made.old.frames.byte_room }
-        ensures ok { OnOk result ((s : Standing) → IsRunning post.now self.old s
-            → TakesTurn post.now self.new (told_by made.old) (told_by made.new) (believing (place_at post.now) from slot command s)) }
-        ensures err { OnErr result ((s : Standing) → IsRunning post.now self.old s
-            → believing (place_at post.now) from slot command s ≡ Err (Conflicting s.store)) }
-        ensures at { IsAt post.now self.new }
+        ensures ok { OnOk result ((s : Standing) → IsRunning member.now self.old s
+            → TakesTurn member.now self.new (told_by made.old) (told_by made.new) (believing (place_at member.now) from slot command s)) }
+        ensures err { OnErr result ((s : Standing) → IsRunning member.now self.old s
+            → believing (place_at member.now) from slot command s ≡ Err (Conflicting s.store)) }
+        ensures at { IsAt member.now self.new }
         ensures proposer { self.new.proposer ≡ self.old.proposer }
         ensures learns { Learns 1 self.old self.new made.old made.new }
         ensures frames { Grows made.old.frames made.new.frames 1 MOST_SINGLE_FRAME }
         ensures rest { made.new ≡ record made.old { frames = made.new.frames; shown = made.new.shown } }
     {
         let before = self.front();
-        self.take_chosen(post, slot, command, made)?;
-        self.ask_on(post, from, before, made);
+        self.take_chosen(member, slot, command, made)?;
+        self.ask_on(member, from, before, made);
         Ok(())
     }
 
     /// Tells a node what was chosen at the slots that it asks for: 64 at most.
-    pub(crate) fn tell(&self, post: &Post, from: u8, slot: u32, made: &mut Made)
-        requires at { IsAt post.now self.now }
+    pub(crate) fn tell_chosen(&self, member: &Member, from: u8, slot: u32, made: &mut Made)
+        requires at { IsAt member.now self.now }
         requires slot { IsSlot slot }
         requires frames { FRAMES_OF_AN_ANSWER ≤ made.old.frames.text_room }
         requires frame_bytes { FRAME_BYTES_OF_AN_ANSWER ≤ made.old.frames.byte_room }
-        ensures taken { (s : Standing) → IsRunning post.now self.now s → IsTaken post.now self.now (told_by made.old) (told_by made.new) (telling from slot s) }
+        ensures taken { (s : Standing) → IsRunning member.now self.now s → IsTaken member.now self.now (told_by made.old) (told_by made.new) (telling from slot s) }
         ensures frames { Grows made.old.frames made.new.frames FRAMES_OF_AN_ANSWER FRAME_BYTES_OF_AN_ANSWER }
         ensures rest { made.new ≡ record made.old { frames = made.new.frames } }
     {
-        let _ = post;
+        let _ = member;
         let slots = told_slots(self.learner.log(), slot);
-        tell(&mut made.frames, from, self.learner.log(), slot, slots);
+        send_chosen(&mut made.frames, from, self.learner.log(), slot, slots);
     }
 
     /// Asks a node that speaks of a slot above the front for what was chosen from the front on.
-    pub(crate) fn ask_above(&self, post: &Post, from: u8, slot: u32, made: &mut Made)
+    pub(crate) fn ask_above(&self, member: &Member, from: u8, slot: u32, made: &mut Made)
         requires slot { IsSlot slot }
         requires frames { 1 ≤ made.old.frames.text_room }
         requires frame_bytes { MOST_SINGLE_FRAME ≤ made.old.frames.byte_room }
-        ensures taken { (s : Standing) → IsRunning post.now self.now s → IsTaken post.now self.now (told_by made.old) (told_by made.new) (asking_above from slot s) }
+        ensures taken { (s : Standing) → IsRunning member.now self.now s → IsTaken member.now self.now (told_by made.old) (told_by made.new) (asking_above from slot s) }
         ensures frames { Grows made.old.frames made.new.frames 1 MOST_SINGLE_FRAME }
         ensures rest { made.new ≡ record made.old { frames = made.new.frames } }
     {
-        let _ = post;
+        let _ = member;
         let front = self.front();
         if front < slot {
             ask(&mut made.frames, from, front);

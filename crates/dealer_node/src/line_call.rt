@@ -5,7 +5,7 @@ ghost use Rattle.node_rules.specs.Standings.{Standing};
 ghost use Rattle.node_rules.specs.Calls.{Line as Piece};
 ghost use Rattle.node_rules.specs.Seats.{session_at};
 ghost use Rattle.dealer_node.specs.Outs.{told_by, nothing_told, HasRoom};
-ghost use Rattle.dealer_node.specs.Posts.{Post as Station};
+ghost use Rattle.dealer_node.specs.Members.{Membership};
 ghost use Rattle.dealer_node.specs.Rooms.{Grows, Tells};
 ghost use Rattle.dealer_node.specs.Seated.{feeds_with, HasRoomAt};
 ghost use Rattle.dealer_node.specs.Running.{IsAt, ahead_of};
@@ -19,7 +19,7 @@ ghost use Rattle.dealer_node.specs.Most.{most_after, most_applied, ShowsWithin};
 use crate::fault::NodeFault;
 use crate::limits::{FRAMES_OF_A_CLOSE, TEXT_BYTES_OF_A_COMMAND, TEXTS_OF_A_COMMAND};
 use crate::made::{Made, Need};
-use crate::post::Post;
+use crate::member::Member;
 use crate::rooms::{Lists, Rooms};
 use crate::running::Running;
 use crate::up::Up;
@@ -52,23 +52,23 @@ impl<D: Disk + Drop> Up<D> {
     ghost use Rattle.dealer_node.specs.Lines.{HearsLine, WorksLine};
 
     /// Takes a piece of a seat's bytes, as for fewer answers than these.
-    fn hear(
+    fn hear_piece(
         &mut self,
-        post: &Post,
+        member: &Member,
         seat: usize,
         piece: &[u8],
         limit: usize,
         most: usize,
         made: &mut Made,
     )
-        requires at { IsAt post.now self.old.running }
-        requires seat { seat < post.now.setting.game.players }
+        requires at { IsAt member.now self.old.running }
+        requires seat { seat < member.now.setting.game.players }
         requires bytes { HasRoomAt self.old.running.seats seat (length piece.now) }
         requires limit { feeds_with (session_at self.old.running.seats.talks seat) piece.now < limit }
         requires room { HasCallRoom self.old made.old (line_need self.old.running limit most) 1 most }
-        ensures heard { (s : Standing) → IsTrue D.is_honest → IsUp D.Disk post.now self.old s
-            → HearsLine D.Disk post.now s seat piece.now self.old self.new (told_by made.old) (told_by made.new) }
-        ensures at { IsAt post.now self.new.running }
+        ensures heard { (s : Standing) → IsTrue D.is_honest → IsUp D.Disk member.now self.old s
+            → HearsLine D.Disk member.now s seat piece.now self.old self.new (told_by made.old) (told_by made.new) }
+        ensures at { IsAt member.now self.new.running }
         ensures frames { Grows made.old.frames made.new.frames limit (MOST_SINGLE_FRAME * limit) }
         ensures shown { Grows made.old.shown made.new.shown 1 4096 }
         ensures faults { Tells made.old made.new limit }
@@ -76,13 +76,14 @@ impl<D: Disk + Drop> Up<D> {
     {
         let _ = most;
         let promised = self.acceptor.promised();
-        self.running.hear(post, promised, seat, piece, limit, made);
+        self.running
+            .hear_piece(member, promised, seat, piece, limit, made);
     }
 
     /// Takes a piece of a seat's bytes, into room that was made, and closes the call.
     fn line(
         &mut self,
-        post: &Post,
+        member: &Member,
         seat: usize,
         piece: &[u8],
         limit: usize,
@@ -90,21 +91,21 @@ impl<D: Disk + Drop> Up<D> {
         lists: &mut Lists,
         made: &mut Made,
     ) -> Result<(), NodeFault>
-        requires at { IsAt post.now self.old.running }
-        requires seat { seat < post.now.setting.game.players }
+        requires at { IsAt member.now self.old.running }
+        requires seat { seat < member.now.setting.game.players }
         requires bytes { HasRoomAt self.old.running.seats seat (length piece.now) }
         requires limit { feeds_with (session_at self.old.running.seats.talks seat) piece.now < limit }
         requires bounded { IsBounded self.old.running.proposer most }
         requires room { HasCallRoom self.old made.old (line_need self.old.running limit most) 1 most }
-        ensures works { (s : Standing) → IsTrue D.is_honest → IsUp D.Disk post.now self.old s
-            → WorksLine D.Disk post.now s seat piece.now self.old self.new (told_by made.old) (told_by made.new) result }
+        ensures works { (s : Standing) → IsTrue D.is_honest → IsUp D.Disk member.now self.old s
+            → WorksLine D.Disk member.now s seat piece.now self.old self.new (told_by made.old) (told_by made.new) result }
         ensures goes_on { GoesOn D.Disk self.old self.new result }
         ensures only { IsOfPart result }
-        ensures at { IsAt post.now self.new.running }
+        ensures at { IsAt member.now self.new.running }
         ensures within { told_by made.old ≡ nothing_told → IsWithin made.new (line_need self.old.running limit most) }
     {
-        self.hear(post, seat, piece, limit, most, made);
-        self.close(post, most, lists, made)
+        self.hear_piece(member, seat, piece, limit, most, made);
+        self.close_call(member, most, lists, made)
     }
 
     /// Makes all room that a piece of a seat's bytes may need, where the close proposes no more commands than so many, and
@@ -121,7 +122,7 @@ impl<D: Disk + Drop> Up<D> {
         requires seat { seat < length self.old.running.seats.talks }
         requires most { most ≤ WINDOW }
         ensures unmoved { Unmoved D.Disk self.old self.new }
-        ensures at { (post : Station) → IsAt post self.old.running → IsAt post self.new.running }
+        ensures at { (member : Membership) → IsAt member self.old.running → IsAt member self.new.running }
         ensures ahead { ahead_of self.new.running ≡ ahead_of self.old.running }
         ensures proposer { self.new.running.proposer ≡ self.old.running.proposer }
         ensures same { told_by out.new ≡ told_by out.old }
@@ -147,26 +148,34 @@ impl<D: Disk + Drop> Up<D> {
     pub(crate) fn on_line(
         &mut self,
         alloc: Global,
-        post: &Post,
+        member: &Member,
         seat: usize,
         bytes: &[u8],
         rooms: &mut Rooms,
         out: &mut Made,
     ) -> Result<(), NodeFault>
-        requires at { IsAt post.now self.old.running }
-        requires seat { seat < post.now.setting.game.players }
-        ensures handles { (s : Standing) → IsTrue D.is_honest → IsUp D.Disk post.now self.old s
-            → HandlesCall D.Disk post.now s (Piece seat bytes.now) self.old self.new (told_by out.old) (told_by out.new) result }
+        requires at { IsAt member.now self.old.running }
+        requires seat { seat < member.now.setting.game.players }
+        ensures handles { (s : Standing) → IsTrue D.is_honest → IsUp D.Disk member.now self.old s
+            → HandlesCall D.Disk member.now s (Piece seat bytes.now) self.old self.new (told_by out.old) (told_by out.new) result }
         ensures goes_on { GoesOn D.Disk self.old self.new result }
         ensures answers { AnswersUp self.old self.new result }
-        ensures at { IsAt post.now self.new.running }
+        ensures at { IsAt member.now self.new.running }
         ensures unmade { IsErr result → told_by out.new ≡ told_by out.old }
         ensures shows { ShowsWithin (most_after (most_applied self.old.running)) (told_by out.old) (told_by out.new) }
     {
         let most = self.running.most_proposed();
         let earlier = rooms.made.take();
         let (mut made, limit) = self.ready_line(alloc, seat, bytes, most, earlier, out)?;
-        self.line(post, seat, bytes, limit, most, &mut rooms.lists, &mut made)?;
+        self.line(
+            member,
+            seat,
+            bytes,
+            limit,
+            most,
+            &mut rooms.lists,
+            &mut made,
+        )?;
         out.append(&mut made);
         rooms.made = Some(made);
         Ok(())

@@ -4,7 +4,7 @@ ghost use Rattle.node_rules.specs.Showing.{is_connected, seat_line, seat_lines, 
 ghost use Rattle.dealer_node.specs.Texts.{byte_total};
 ghost use Rattle.dealer_node.specs.Turned.{printed, talk_of, talks};
 
-use crate::post::Post;
+use crate::member::Member;
 use crate::reader::Reader;
 use crate::texts::{Run, Texts};
 use match_log::{further_lines_reserved, header_reserved};
@@ -25,17 +25,17 @@ pub(crate) fn is_connected(session: &Option<Session>) -> bool
 /// Shows a seat its line; nothing before the first deal. This is the betting text of the newest hand.
 pub(crate) fn show_line(
     shown: &mut Texts<Reader>,
-    post: &Post,
+    member: &Member,
     table: &Table,
     seat: usize,
     betting: &BettingText,
 )
-    requires game { table.now.game ≡ post.now.setting.game }
+    requires game { table.now.game ≡ member.now.setting.game }
     requires seat { seat < table.now.game.players }
     requires betting { betting.now ≡ newest_text table.now.game table.now.hands }
     requires texts { 1 ≤ shown.old.text_room }
     requires bytes { 4096 ≤ shown.old.byte_room }
-    ensures texts { shown.new.texts ≡ shown.old.texts ++ map printed (seat_line post.now.setting table.now.hands seat) }
+    ensures texts { shown.new.texts ≡ shown.old.texts ++ map printed (seat_line member.now.setting table.now.hands seat) }
     ensures text_room { shown.old.text_room ≤ shown.new.text_room + 1 }
     ensures byte_room { shown.old.byte_room ≤ shown.new.byte_room + 4096 }
     ensures len { length shown.new.texts ≤ length shown.old.texts + 1 }
@@ -56,15 +56,15 @@ pub(crate) fn show_line(
 /// Shows each connected seat its line, in order of seats.
 pub(crate) fn show_lines(
     shown: &mut Texts<Reader>,
-    post: &Post,
+    member: &Member,
     table: &Table,
     sessions: &[Option<Session>],
 )
-    requires game { table.now.game ≡ post.now.setting.game }
+    requires game { table.now.game ≡ member.now.setting.game }
     requires seats { length sessions.now ≡ table.now.game.players }
     requires texts { length sessions.now ≤ shown.old.text_room }
     requires bytes { 4096 * length sessions.now ≤ shown.old.byte_room }
-    ensures texts { shown.new.texts ≡ shown.old.texts ++ map printed (seat_lines post.now.setting table.now.hands 0 (talks sessions.now)) }
+    ensures texts { shown.new.texts ≡ shown.old.texts ++ map printed (seat_lines member.now.setting table.now.hands 0 (talks sessions.now)) }
     ensures text_room { shown.old.text_room ≤ shown.new.text_room + length sessions.now }
     ensures byte_room { shown.old.byte_room ≤ shown.new.byte_room + 4096 * length sessions.now }
     ensures len { length shown.new.texts ≤ length shown.old.texts + length sessions.now }
@@ -73,18 +73,18 @@ pub(crate) fn show_lines(
     let betting = BettingText::newest(table);
     for (seat, session) in sessions.iter().enumerate() {
         if is_connected(session) {
-            show_line(shown, post, table, seat, &betting);
+            show_line(shown, member, table, seat, &betting);
         }
     }
 }
 
 /// Shows the log what it has further after a command that took effect; nothing while a hand runs.
-pub(crate) fn show_log(shown: &mut Texts<Reader>, post: &Post, table: &Table)
-    requires game { table.now.game ≡ post.now.setting.game }
-    requires count { table.now.count ≡ post.now.setting.title.hands }
+pub(crate) fn show_log(shown: &mut Texts<Reader>, member: &Member, table: &Table)
+    requires game { table.now.game ≡ member.now.setting.game }
+    requires count { table.now.count ≡ member.now.setting.title.hands }
     requires texts { 1 ≤ shown.old.text_room }
     requires bytes { 4756 ≤ shown.old.byte_room }
-    ensures texts { shown.new.texts ≡ shown.old.texts ++ map printed (log_piece post.now.setting table.now.hands) }
+    ensures texts { shown.new.texts ≡ shown.old.texts ++ map printed (log_piece member.now.setting table.now.hands) }
     ensures text_room { shown.old.text_room ≤ shown.new.text_room + 1 }
     ensures byte_room { shown.old.byte_room ≤ shown.new.byte_room + 4756 }
     ensures len { length shown.new.texts ≤ length shown.old.texts + 1 }
@@ -94,7 +94,7 @@ pub(crate) fn show_log(shown: &mut Texts<Reader>, post: &Post, table: &Table)
         return;
     }
     let start = shown.bytes.len();
-    further_lines_reserved(&mut shown.bytes, table, post.names());
+    further_lines_reserved(&mut shown.bytes, table, member.names());
     let len = shown.bytes.len() - start;
     shown.runs.push_reserved(Run {
         mark: Reader::Log,
@@ -106,16 +106,16 @@ pub(crate) fn show_log(shown: &mut Texts<Reader>, post: &Post, table: &Table)
 pub(crate) fn show_news(
     shown: &mut Texts<Reader>,
     took: bool,
-    post: &Post,
+    member: &Member,
     table: &Table,
     sessions: &[Option<Session>],
 )
-    requires game { table.now.game ≡ post.now.setting.game }
-    requires count { table.now.count ≡ post.now.setting.title.hands }
+    requires game { table.now.game ≡ member.now.setting.game }
+    requires count { table.now.count ≡ member.now.setting.title.hands }
     requires seats { length sessions.now ≡ table.now.game.players }
     requires texts { 11 ≤ shown.old.text_room }
     requires bytes { 45716 ≤ shown.old.byte_room }
-    ensures texts { shown.new.texts ≡ shown.old.texts ++ map printed (if took then news post.now.setting (talks sessions.now) table.now.hands else []) }
+    ensures texts { shown.new.texts ≡ shown.old.texts ++ map printed (if took then news member.now.setting (talks sessions.now) table.now.hands else []) }
     ensures text_room { shown.old.text_room ≤ shown.new.text_room + 11 }
     ensures byte_room { shown.old.byte_room ≤ shown.new.byte_room + 45716 }
     ensures len { length shown.new.texts ≤ length shown.old.texts + 11 }
@@ -123,26 +123,26 @@ pub(crate) fn show_news(
 {
     if took {
         table.game().limits();
-        show_lines(shown, post, table, sessions);
-        show_log(shown, post, table);
+        show_lines(shown, member, table, sessions);
+        show_log(shown, member, table);
     }
 }
 
 /// Shows the log its header.
-pub(crate) fn show_header(shown: &mut Texts<Reader>, post: &Post)
+pub(crate) fn show_header(shown: &mut Texts<Reader>, member: &Member)
     requires texts { 1 ≤ shown.old.text_room }
     requires bytes { 263 ≤ shown.old.byte_room }
-    ensures texts { shown.new.texts ≡ shown.old.texts ++ map printed (header post.now.setting ∷ []) }
+    ensures texts { shown.new.texts ≡ shown.old.texts ++ map printed (header member.now.setting ∷ []) }
     ensures len { length shown.new.texts ≤ length shown.old.texts + 1 }
     ensures size { byte_total shown.new.texts ≤ byte_total shown.old.texts + 263 }
 {
-    post.limits();
+    member.limits();
     let start = shown.bytes.len();
     header_reserved(
         &mut shown.bytes,
-        post.name().as_bytes(),
-        post.game_word(),
-        post.hands(),
+        member.name().as_bytes(),
+        member.game_word(),
+        member.hands(),
     );
     let len = shown.bytes.len() - start;
     shown.runs.push_reserved(Run {

@@ -4,7 +4,7 @@ ghost use Rattle.node_rules.specs.Standings.{Standing};
 ghost use Rattle.node_rules.specs.Turns.{Conflict as Conflicting};
 ghost use Rattle.node_rules.specs.Rules.{taking};
 ghost use Rattle.dealer_node.specs.declared.made.Need.{Need as Needs};
-ghost use Rattle.dealer_node.specs.Posts.{place_at};
+ghost use Rattle.dealer_node.specs.Members.{place_at};
 ghost use Rattle.dealer_node.specs.Outs.{told_by};
 ghost use Rattle.dealer_node.specs.declared.limits.TheConstants.{FRAMES_TO_ALL, FRAMES_OF_AN_ANSWER, FRAME_BYTES_OF_AN_ANSWER};
 ghost use Rattle.dealer_node.specs.Rooms.{Grows};
@@ -16,7 +16,7 @@ ghost use Rattle.dealer_node.specs.Working.{HasLeft, IsOfPart};
 
 use crate::fault::NodeFault;
 use crate::made::Made;
-use crate::post::Post;
+use crate::member::Member;
 use crate::running::Running;
 use crate::up::Up;
 use paxos_wire::Message;
@@ -26,25 +26,25 @@ use slot_log::SlotFault;
 impl Running {
     /// Takes a message of another node that asks nothing of the store. An `Err` is 30: another command is known at its
     /// slot.
-    pub(crate) fn take(
+    pub(crate) fn take_in_memory(
         &mut self,
-        post: &Post,
+        member: &Member,
         from: u8,
         message: &Message,
         made: &mut Made,
     ) -> Result<(), SlotFault>
-        requires at { IsAt post.now self.old }
-        requires from { from < post.now.nodes }
+        requires at { IsAt member.now self.old }
+        requires from { from < member.now.nodes }
         requires message { IsMessage message.now }
         requires memory { IsOfMemory message.now }
         requires learn { CanLearn self.old made.old 1 (commands_in message.now) }
         requires texts { FRAMES_OF_AN_ANSWER ≤ made.old.frames.text_room }
         requires bytes { FRAME_BYTES_OF_AN_ANSWER ≤ made.old.frames.byte_room }
-        ensures ok { OnOk result ((s : Standing) → IsRunning post.now self.old s
-            → TakesInMemory post.now self.new (told_by made.old) (told_by made.new) s (taking (place_at post.now) from message.now s)) }
-        ensures err { OnErr result ((s : Standing) → IsRunning post.now self.old s
-            → taking (place_at post.now) from message.now s ≡ Err (Conflicting s.store)) }
-        ensures at { IsAt post.now self.new }
+        ensures ok { OnOk result ((s : Standing) → IsRunning member.now self.old s
+            → TakesInMemory member.now self.new (told_by made.old) (told_by made.new) s (taking (place_at member.now) from message.now s)) }
+        ensures err { OnErr result ((s : Standing) → IsRunning member.now self.old s
+            → taking (place_at member.now) from message.now s ≡ Err (Conflicting s.store)) }
+        ensures at { IsAt member.now self.new }
         ensures bounded { (most : ℕ) → IsBoundedBehind self.old.proposer message.now most → IsBounded self.new.proposer most }
         ensures learns { Learns (commands_in message.now) self.old self.new made.old made.new }
         ensures frames { Grows made.old.frames made.new.frames FRAMES_OF_AN_ANSWER FRAME_BYTES_OF_AN_ANSWER }
@@ -56,7 +56,7 @@ impl Running {
                 slot,
                 entries,
             } => {
-                self.count_promise(post, from, *ballot, *slot, entries.list());
+                self.count_promise(member, from, *ballot, *slot, entries.list());
                 Ok(())
             }
             Message::Refuse { promised, .. } => {
@@ -67,14 +67,14 @@ impl Running {
                 ballot,
                 slot,
                 commands,
-            } => self.count_votes(post, from, *ballot, *slot, commands.as_slice(), made),
-            Message::Chosen { slot, command } => self.believe(post, from, *slot, *command, made),
+            } => self.count_votes(member, from, *ballot, *slot, commands.as_slice(), made),
+            Message::Chosen { slot, command } => self.believe(member, from, *slot, *command, made),
             Message::Ask { slot } => {
-                self.tell(post, from, *slot, made);
+                self.tell_chosen(member, from, *slot, made);
                 Ok(())
             }
             Message::Forward { command } => {
-                self.take_over(post, command);
+                self.take_over(member, command);
                 Ok(())
             }
             Message::Prepare { .. } | Message::Accept { .. } => unreachable!(),
@@ -88,28 +88,28 @@ impl<D: Disk + Drop> Up<D> {
     /// Takes a message of another node that asks nothing of the store.
     pub(crate) fn take_in_memory(
         &mut self,
-        post: &Post,
+        member: &Member,
         from: u8,
         message: &Message,
         made: &mut Made,
     ) -> Result<(), NodeFault>
-        requires at { IsAt post.now self.old.running }
-        requires from { from < post.now.nodes }
+        requires at { IsAt member.now self.old.running }
+        requires from { from < member.now.nodes }
         requires message { IsMessage message.now }
         requires memory { IsOfMemory message.now }
         requires learn { CanLearn self.old.running made.old 1 (commands_in message.now) }
         requires texts { FRAMES_OF_AN_ANSWER ≤ made.old.frames.text_room }
         requires bytes { FRAME_BYTES_OF_AN_ANSWER ≤ made.old.frames.byte_room }
-        ensures works { (s : Standing) → IsTrue D.is_honest → IsUp D.Disk post.now self.old s
-            → Works D.Disk post.now s (taking (place_at post.now) from message.now s) self.old self.new (told_by made.old) (told_by made.new) result }
+        ensures works { (s : Standing) → IsTrue D.is_honest → IsUp D.Disk member.now self.old s
+            → Works D.Disk member.now s (taking (place_at member.now) from message.now s) self.old self.new (told_by made.old) (told_by made.new) result }
         ensures goes_on { GoesOn D.Disk self.old self.new result }
         ensures only { IsOfPart result }
         ensures same { self.new.acceptor ≡ self.old.acceptor }
-        ensures at { IsAt post.now self.new.running }
+        ensures at { IsAt member.now self.new.running }
         ensures bounded { (most : ℕ) → IsBoundedBehind self.old.running.proposer message.now most → IsBounded self.new.running.proposer most }
         ensures left { (need : Needs) (answers more frames : ℕ) → HasLeft self.old.running made.old need (answers + 1) (more + commands_in message.now) (frames + (FRAMES_OF_AN_ANSWER + FRAMES_TO_ALL * commands_in message.now)) → HasLeft self.new.running made.new need answers more frames }
     {
-        match self.running.take(post, from, message, made) {
+        match self.running.take_in_memory(member, from, message, made) {
             Ok(()) => Ok(()),
             Err(_) => Err(NodeFault::Conflict),
         }

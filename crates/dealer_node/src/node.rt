@@ -10,15 +10,15 @@ ghost use Rattle.promise_store.specs.Keeping.{Leaves};
 ghost use Rattle.promise_store.specs.declared.fault.StoreFault.{StoreFault as Fault};
 ghost use Rattle.promise_store.specs.declared.fault.StoreFault.TheVariants.{Disk as DiskFailed};
 ghost use Rattle.dealer_node.specs.Outs.{nothing_told};
-ghost use Rattle.dealer_node.specs.Posts.{place_at};
+ghost use Rattle.dealer_node.specs.Members.{place_at};
 ghost use Rattle.dealer_node.specs.Scenes.{IsTableOf};
 ghost use Rattle.dealer_node.specs.Running.{IsAt};
 ghost use Rattle.dealer_node.specs.Most.{ShowsWithin};
 
 use crate::fault::NodeFault;
+use crate::member::Member;
 use crate::most_shown::{MostShown, most_after};
 use crate::out::Out;
-use crate::post::Post;
 use crate::rooms::Rooms;
 use crate::starting::{open, ready};
 use crate::up::Up;
@@ -40,7 +40,7 @@ use std::marker::Model;
 /// is down; by every fault the `Out` is as it was.
 pub struct Node<D: Disk> {
     alloc: Global,
-    post: Post,
+    member: Member,
     /// The table before the first hand, which the node shows while it is down.
     blank: Table,
     /// The disk, while the node is down.
@@ -56,7 +56,7 @@ impl<D: Disk + Drop> Drop for Node<D> {
     fn drop(self) {
         let Node {
             alloc: _,
-            post: _,
+            member: _,
             blank: _,
             disk: _,
             up: _,
@@ -82,7 +82,7 @@ impl<D: Disk> Model for Node<D> {
 }
 
 impl<D: Disk + Drop> Node<D> {
-    ghost use Rattle.dealer_node.specs.Seeing.{post_in, runs, front_in, disk_in, IsSeen, begun_of, bytes_of, failures_of, images_of, since_of, downed, settled};
+    ghost use Rattle.dealer_node.specs.Seeing.{member_in, runs, front_in, disk_in, IsSeen, begun_of, bytes_of, failures_of, images_of, since_of, downed, settled};
     ghost use Rattle.promise_store.specs.Refusals.{Refuses};
     ghost use Rattle.dealer_node.specs.Working.{head_of};
     ghost use Rattle.dealer_node.specs.Most.{most_shown_of, most_shown_by};
@@ -92,17 +92,17 @@ impl<D: Disk + Drop> Node<D> {
     /// memory was refused.
     pub fn new(alloc: Global, config: &Config, node: usize, disk: D) -> Result<Node<D>, AllocError>
         requires { node < length config.now.sources }
-        ensures place { IfOk result (λ made. place_at (post_in made) ≡ place_of config.now node) }
+        ensures place { IfOk result (λ made. place_at (member_in made) ≡ place_of config.now node) }
         ensures down { IfOk result (λ made. runs made ≡ false) }
         ensures disk { IfOk result (λ made. disk_in made ≡ Some disk) }
         ensures seen { IfOk result (λ made. (store begun : Kept) → Leaves D.Disk (header node (length config.now.sources)) store begun disk
             → IsSeen D.Disk made (stopped (place_of config.now node) store begun)) }
     {
-        let post = Post::new(alloc, config, node)?;
-        let blank = Table::new(alloc, *post.game(), post.hands());
+        let member = Member::new(alloc, config, node)?;
+        let blank = Table::new(alloc, *member.game(), member.hands());
         Ok(Node {
             alloc,
-            post,
+            member,
             blank,
             disk: Some(disk),
             up: None,
@@ -115,10 +115,10 @@ impl<D: Disk + Drop> Node<D> {
     /// Refused is 91 with 63 where the disk failed; then `create` is to be called again.
     pub fn create(&mut self) -> Result<(), NodeFault>
         requires { runs self.old ≡ false }
-        ensures made { OnOk result (IsSeen D.Disk self.new (stopped (place_at (post_in self.old)) empty_store empty_store)) }
+        ensures made { OnOk result (IsSeen D.Disk self.new (stopped (place_at (member_in self.old)) empty_store empty_store)) }
         ensures failed { IfErr result (λ fault. (fault ≡ NodeFault.Store DiskFailed) × Rose (failures_of D.Disk self.old) (failures_of D.Disk self.new)) }
         ensures down { runs self.new ≡ false }
-        ensures post { post_in self.new ≡ post_in self.old }
+        ensures member { member_in self.new ≡ member_in self.old }
         ensures begun { begun_of D.Disk self.new ≡ begun_of D.Disk self.old }
         ensures counts { failures_of D.Disk self.old ≤ failures_of D.Disk self.new }
     {
@@ -126,9 +126,9 @@ impl<D: Disk + Drop> Node<D> {
         let Some(disk) = self.disk.take() else {
             unreachable!();
         };
-        match Store::create(self.alloc, disk, self.post.node(), self.post.nodes()) {
+        match Store::create(self.alloc, disk, self.member.node(), self.member.nodes()) {
             Ok(store) => {
-                self.disk = Some(store.close());
+                self.disk = Some(store.into_disk());
                 Ok(())
             }
             Err((disk, fault)) => {
@@ -154,16 +154,16 @@ impl<D: Disk + Drop> Node<D> {
         ensures running { runs self.old ≡ true → (self.new ≡ self.old) × (out.new ≡ out.old) × (result ≡ Ok tt) }
         ensures down { IsErr result → runs self.new ≡ false }
         ensures faults { IfErr result IsOfStart }
-        ensures refused { IsTrue D.is_honest → (why : Fault) → result ≡ Err (NodeFault.Store why) → Refuses (head_of (post_in self.old)) (bytes_of D.Disk self.old) why }
+        ensures refused { IsTrue D.is_honest → (why : Fault) → result ≡ Err (NodeFault.Store why) → Refuses (head_of (member_in self.old)) (bytes_of D.Disk self.old) why }
     {
         if self.up.is_some() {
             return Ok(());
         }
-        let (running, mut made) = ready(self.alloc, &self.post, &mut out.made)?;
+        let (running, mut made) = ready(self.alloc, &self.member, &mut out.made)?;
         let Some(disk) = self.disk.take() else {
             unreachable!();
         };
-        match open(self.alloc, &self.post, disk, running, &mut made) {
+        match open(self.alloc, &self.member, disk, running, &mut made) {
             Ok(up) => {
                 out.made.append_owned(made);
                 self.up = Some(up);
@@ -181,7 +181,7 @@ impl<D: Disk + Drop> Node<D> {
     /// Refused are 90, 92, 94 where the bytes are no frame, 91 where the disk failed, and 95 where another command is
     /// known at a slot.
     pub fn on_frame(&mut self, from: usize, bytes: &[u8], out: &mut Out) -> Result<(), NodeFault>
-        requires { from < (post_in self.old).nodes }
+        requires { from < (member_in self.old).nodes }
         ensures taken { (s : Standing) → IsTrue D.is_honest → IsSeen D.Disk self.old s
             → Takes D.Disk (Frame from bytes.now) s self.old self.new out.old out.new result }
         ensures stays { StaysItself D.Disk self.old self.new out.old out.new result }
@@ -189,19 +189,19 @@ impl<D: Disk + Drop> Node<D> {
         ensures answers { AnswersRightly self.old self.new result }
         ensures untouched { (s : Standing) → IsTrue D.is_honest → IsSeen D.Disk self.old s → OnOk result (LeavesDisk (Frame from bytes.now) s self.old self.new) }
     {
-        let _nodes = self.post.nodes();
+        let _nodes = self.member.nodes();
         match &mut self.up {
             None => Err(NodeFault::Down),
             Some(up) => {
                 let answer = up.on_frame(
                     self.alloc,
-                    &self.post,
+                    &self.member,
                     from as u8,
                     bytes,
                     &mut self.rooms,
                     &mut out.made,
                 );
-                self.settle(answer)
+                self.go_down_after(answer)
             }
         }
     }
@@ -211,7 +211,7 @@ impl<D: Disk + Drop> Node<D> {
     /// Refused are 90, 92, 91 where the disk failed, and 95 where another command is known at a slot. What is wrong with
     /// what the seat sent is no fault of the call, and stands in `out`.
     pub fn on_line(&mut self, seat: usize, bytes: &[u8], out: &mut Out) -> Result<(), NodeFault>
-        requires { seat < (post_in self.old).setting.game.players }
+        requires { seat < (member_in self.old).setting.game.players }
         ensures taken { (s : Standing) → IsTrue D.is_honest → IsSeen D.Disk self.old s
             → Takes D.Disk (Line seat bytes.now) s self.old self.new out.old out.new result }
         ensures stays { StaysItself D.Disk self.old self.new out.old out.new result }
@@ -224,13 +224,13 @@ impl<D: Disk + Drop> Node<D> {
             Some(up) => {
                 let answer = up.on_line(
                     self.alloc,
-                    &self.post,
+                    &self.member,
                     seat,
                     bytes,
                     &mut self.rooms,
                     &mut out.made,
                 );
-                self.settle(answer)
+                self.go_down_after(answer)
             }
         }
     }
@@ -250,8 +250,8 @@ impl<D: Disk + Drop> Node<D> {
         match &mut self.up {
             None => Err(NodeFault::Down),
             Some(up) => {
-                let answer = up.on_tick(self.alloc, &self.post, &mut self.rooms, &mut out.made);
-                self.settle(answer)
+                let answer = up.on_tick(self.alloc, &self.member, &mut self.rooms, &mut out.made);
+                self.go_down_after(answer)
             }
         }
     }
@@ -273,15 +273,15 @@ impl<D: Disk + Drop> Node<D> {
         match &mut self.up {
             None => Err(NodeFault::Down),
             Some(up) => {
-                let answer = up.on_away(self.alloc, &self.post, &mut self.rooms, &mut out.made);
-                self.settle(answer)
+                let answer = up.on_away(self.alloc, &self.member, &mut self.rooms, &mut out.made);
+                self.go_down_after(answer)
             }
         }
     }
 
     /// Connects a seat: its session begins anew. Refused is 90, and nothing else.
     pub fn connect(&mut self, seat: usize) -> Result<(), NodeFault>
-        requires { seat < (post_in self.old).setting.game.players }
+        requires { seat < (member_in self.old).setting.game.players }
         ensures taken { (s : Standing) → IsTrue D.is_honest → IsSeen D.Disk self.old s
             → Takes D.Disk (Connect seat) s self.old self.new nothing_told nothing_told result }
         ensures stays { StaysItself D.Disk self.old self.new nothing_told nothing_told result }
@@ -300,7 +300,7 @@ impl<D: Disk + Drop> Node<D> {
 
     /// Drops a seat's session. Refused is 90, and nothing else.
     pub fn drop_seat(&mut self, seat: usize) -> Result<(), NodeFault>
-        requires { seat < (post_in self.old).setting.game.players }
+        requires { seat < (member_in self.old).setting.game.players }
         ensures taken { (s : Standing) → IsTrue D.is_honest → IsSeen D.Disk self.old s
             → Takes D.Disk (Dropping seat) s self.old self.new nothing_told nothing_told result }
         ensures stays { StaysItself D.Disk self.old self.new nothing_told nothing_told result }
@@ -355,8 +355,8 @@ impl<D: Disk + Drop> Node<D> {
 
     /// The table after the commands that the node applied; while it is down the table before the first hand.
     pub fn table(&self) -> &Table
-        ensures seen { (s : Standing) → IsSeen D.Disk self.now s → IsTableOf (post_in self.now).setting (applied s) result.now }
-        ensures down { runs self.now ≡ false → IsTableOf (post_in self.now).setting [] result.now }
+        ensures seen { (s : Standing) → IsSeen D.Disk self.now s → IsTableOf (member_in self.now).setting (applied s) result.now }
+        ensures down { runs self.now ≡ false → IsTableOf (member_in self.now).setting [] result.now }
     {
         match &self.up {
             None => &self.blank,
@@ -377,7 +377,7 @@ impl<D: Disk + Drop> Node<D> {
 
     /// Whether a seat is connected: its session is ready. None is while the node is down.
     pub fn connected(&self, seat: usize) -> bool
-        requires { seat < (post_in self.now).setting.game.players }
+        requires { seat < (member_in self.now).setting.game.players }
         ensures seen { (s : Standing) → IsSeen D.Disk self.now s → result ≡ is_talk_ready (session_at s.sessions seat) }
         ensures down { runs self.now ≡ false → result ≡ false }
     {
@@ -437,7 +437,7 @@ impl<D: Disk + Drop> Node<D> {
         requires { runs self.old ≡ false }
         ensures begun { begun_of D.Disk self.new ≡ bytes_of D.Disk self.old }
         ensures bytes { bytes_of D.Disk self.new ≡ bytes_of D.Disk self.old }
-        ensures post { post_in self.new ≡ post_in self.old }
+        ensures member { member_in self.new ≡ member_in self.old }
         ensures down { runs self.new ≡ false }
         ensures failures { failures_of D.Disk self.new ≡ failures_of D.Disk self.old }
         ensures images { Within (images_of D.Disk self.old) (images_of D.Disk self.new) }
@@ -450,7 +450,7 @@ impl<D: Disk + Drop> Node<D> {
     }
 
     /// Takes the node down where a call of what runs was answered by 91 or 95.
-    fn settle(&mut self, answer: Result<(), NodeFault>) -> Result<(), NodeFault>
+    fn go_down_after(&mut self, answer: Result<(), NodeFault>) -> Result<(), NodeFault>
         ensures same { result ≡ answer }
         ensures node { self.new ≡ settled answer self.old }
     {
@@ -466,7 +466,7 @@ impl<D: Disk + Drop> Node<D> {
         ensures { self.new ≡ downed self.old }
     {
         if let Some(up) = self.up.take() {
-            self.disk = Some(up.acceptor.close());
+            self.disk = Some(up.acceptor.into_disk());
         }
     }
 }

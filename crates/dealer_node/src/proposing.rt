@@ -8,13 +8,13 @@ ghost use Rattle.proposer.specs.CommandRuns.{IsBounded};
 ghost use Rattle.node_rules.specs.Standings.{Standing, idle, front_of};
 ghost use Rattle.protocol_model.specs.Votes.{told_by as told_by_store};
 ghost use Rattle.node_rules.specs.Proposing.{higher, is_over, beginning, counting_promise, hearing_refusal};
-ghost use Rattle.dealer_node.specs.Posts.{Post as Station, place_at};
+ghost use Rattle.dealer_node.specs.Members.{Membership, place_at};
 ghost use Rattle.dealer_node.specs.Outs.{told_by};
 ghost use Rattle.dealer_node.specs.Rooms.{Grows};
 ghost use Rattle.dealer_node.specs.Running.{IsRunning, IsTaken, Closes, most_proposed, most_proposed_behind, IsBoundedBehind, IsAt, is_spent_at};
 
 use crate::made::Made;
-use crate::post::Post;
+use crate::member::Member;
 use crate::running::Running;
 use crate::seen_ballot::higher;
 use crate::sending::send_to_others;
@@ -26,10 +26,10 @@ use proposer::laws::command_runs_are_bounded;
 
 impl Running {
     /// Whether the match is over.
-    pub(crate) fn is_over(&self, post: &Post) -> bool
-        ensures { (s : Standing) → IsRunning post.now self.now s → result ≡ is_over (place_at post.now) s }
+    pub(crate) fn is_over(&self, member: &Member) -> bool
+        ensures { (s : Standing) → IsRunning member.now self.now s → result ≡ is_over (place_at member.now) s }
     {
-        is_over(post, &self.table)
+        is_over(member, &self.table)
     }
 
     /// Whether no round is above those seen, that of the ballot that the store has promised among them, or no slot is
@@ -44,21 +44,21 @@ impl Running {
     /// counts the node's own, which tells these entries. It gives the ballot, for the store to promise.
     pub(crate) fn begin_ballot(
         &mut self,
-        post: &Post,
+        member: &Member,
         promised: Ballot,
         told: &Entries,
         made: &mut Made,
     ) -> Ballot
-        requires at { IsAt post.now self.old }
+        requires at { IsAt member.now self.old }
         requires unspent { is_spent_at self.old promised ≡ false }
         requires told { AllByRecursion IsEntry told.now }
-        requires frames { post.now.nodes ≤ made.old.frames.text_room }
-        requires frame_bytes { MOST_SINGLE_FRAME * post.now.nodes ≤ made.old.frames.byte_room }
-        ensures ballot { result ≡ next_ballot post.now.node (higher self.old.seen promised) }
-        ensures taken { (s : Standing) → IsRunning post.now self.old s → told.now ≡ told_by_store s.store (front_of s)
-            → IsTaken post.now self.new (told_by made.old) (told_by made.new) (beginning (place_at post.now) result s) }
-        ensures at { IsAt post.now self.new }
-        ensures frames { Grows made.old.frames made.new.frames post.now.nodes (MOST_SINGLE_FRAME * post.now.nodes) }
+        requires frames { member.now.nodes ≤ made.old.frames.text_room }
+        requires frame_bytes { MOST_SINGLE_FRAME * member.now.nodes ≤ made.old.frames.byte_room }
+        ensures ballot { result ≡ next_ballot member.now.node (higher self.old.seen promised) }
+        ensures taken { (s : Standing) → IsRunning member.now self.old s → told.now ≡ told_by_store s.store (front_of s)
+            → IsTaken member.now self.new (told_by made.old) (told_by made.new) (beginning (place_at member.now) result s) }
+        ensures at { IsAt member.now self.new }
+        ensures frames { Grows made.old.frames made.new.frames member.now.nodes (MOST_SINGLE_FRAME * member.now.nodes) }
         ensures rest { made.new ≡ record made.old { frames = made.new.frames } }
         ensures same { self.new ≡ record self.old { proposer = self.new.proposer } }
     {
@@ -68,9 +68,9 @@ impl Running {
             Err(_) => unreachable!(),
             Ok(prepare) => {
                 let ballot = prepare.ballot;
-                self.proposer.on_promise(post.node(), ballot, slot, told);
+                self.proposer.on_promise(member.node(), ballot, slot, told);
                 let message = Message::Prepare { ballot, slot };
-                send_to_others(&mut made.frames, post.nodes(), post.node(), &message);
+                send_to_others(&mut made.frames, member.nodes(), member.node(), &message);
                 ballot
             }
         }
@@ -79,28 +79,28 @@ impl Running {
     /// Counts a promise of a node, with what it tells.
     pub(crate) fn count_promise(
         &mut self,
-        post: &Post,
+        member: &Member,
         from: u8,
         ballot: Ballot,
         slot: u32,
         told: &Entries,
     )
-        requires at { IsAt post.now self.old }
-        requires from { from < post.now.nodes }
+        requires at { IsAt member.now self.old }
+        requires from { from < member.now.nodes }
         requires told { AllByRecursion IsEntry told.now }
-        ensures runs { (s : Standing) → IsRunning post.now self.old s → IsRunning post.now self.new (counting_promise (place_at post.now) from ballot slot told.now s).after }
-        ensures at { IsAt post.now self.new }
+        ensures runs { (s : Standing) → IsRunning member.now self.old s → IsRunning member.now self.new (counting_promise (place_at member.now) from ballot slot told.now s).after }
+        ensures at { IsAt member.now self.new }
         ensures counts { self.new.proposer ≡ counting self.old.proposer from ballot slot told.now }
         ensures rest { self.new ≡ record self.old { proposer = self.new.proposer } }
     {
-        let _ = post;
+        let _ = member;
         self.proposer.on_promise(from, ballot, slot, told);
     }
 
     /// Gives a ballot up that is outbid.
     pub(crate) fn hear_refusal(&mut self, promised: Ballot)
-        ensures runs { (post : Station) (s : Standing) → IsRunning post self.old s → IsRunning post self.new (hearing_refusal promised s).after }
-        ensures at { (post : Station) → IsAt post self.old → IsAt post self.new }
+        ensures runs { (member : Membership) (s : Standing) → IsRunning member self.old s → IsRunning member self.new (hearing_refusal promised s).after }
+        ensures at { (member : Membership) → IsAt member self.old → IsAt member self.new }
         ensures bounded { (most : ℕ) → IsBounded self.old.proposer most → IsBounded self.new.proposer most }
         ensures rest { self.new ≡ record self.old { proposer = self.new.proposer } }
     {
@@ -109,8 +109,8 @@ impl Running {
 
     /// Leads no longer, nor prepares.
     pub(crate) fn turn_idle(&mut self)
-        ensures runs { (post : Station) (s : Standing) → IsRunning post self.old s → IsRunning post self.new (idle s) }
-        ensures at { (post : Station) → IsAt post self.old → IsAt post self.new }
+        ensures runs { (member : Membership) (s : Standing) → IsRunning member self.old s → IsRunning member self.new (idle s) }
+        ensures at { (member : Membership) → IsAt member self.old → IsAt member self.new }
         ensures bounded { (most : ℕ) → IsBounded self.new.proposer most }
         ensures rest { self.new ≡ record self.old { proposer = self.new.proposer } }
     {
@@ -154,27 +154,27 @@ impl Running {
     }
 
     /// Whether a quorum promised the ballot that the node began.
-    pub(crate) fn is_leading(&self, post: &Post) -> bool
-        requires { IsAt post.now self.now }
-        ensures { result ≡ leads post.now.nodes self.now.proposer.campaign }
+    pub(crate) fn is_leading(&self, member: &Member) -> bool
+        requires { IsAt member.now self.now }
+        ensures { result ≡ leads member.now.nodes self.now.proposer.campaign }
     {
-        let _ = post;
+        let _ = member;
         self.proposer.is_leading()
     }
 
     /// What a node that leads proposes from its front on, once at a slot in a ballot, where one is left; it is marked as
     /// proposed. Outside of the slots that its ballot covers the node leads no longer.
-    fn propose<'a>(&mut self, post: &Post, room: &'a mut CommandList) -> Option<AcceptRun<'a>>
-        requires at { IsAt post.now self.old }
+    fn propose<'a>(&mut self, member: &Member, room: &'a mut CommandList) -> Option<AcceptRun<'a>>
+        requires at { IsAt member.now self.old }
         requires left { front self.old.learner.learned.log < SLOTS }
-        ensures closes { (s : Standing) → IsRunning post.now self.old s → Closes post.now self.new s result }
+        ensures closes { (s : Standing) → IsRunning member.now self.old s → Closes member.now self.new s result }
         ensures fits { IfSome result (λ made. IsBallot made.ballot × IsCommandRun made.slot made.commands) }
         ensures bounded { (most : ℕ) → IsBounded self.old.proposer most → IfSome result (λ made. length made.commands ≤ most) }
-        ensures at { IsAt post.now self.new }
+        ensures at { IsAt member.now self.new }
         ensures rest { self.new ≡ record self.old { proposer = self.new.proposer } }
     {
         let front = self.front();
-        let own = own_value(post, &self.table, &self.pending);
+        let own = own_value(member, &self.table, &self.pending);
         match self.proposer.propose_run(front, own, room) {
             Ok(proposal) => proposal,
             Err(_) => {
@@ -189,21 +189,21 @@ impl Running {
     /// the node leads no longer, nor where no slot is left. The commands stand in the room that is handed in.
     pub(crate) fn proposal<'a>(
         &mut self,
-        post: &Post,
+        member: &Member,
         room: &'a mut CommandList,
     ) -> Option<AcceptRun<'a>>
-        requires at { IsAt post.now self.old }
-        requires leading { leads post.now.nodes self.old.proposer.campaign ≡ true }
-        ensures closes { (s : Standing) → IsRunning post.now self.old s → Closes post.now self.new s result }
+        requires at { IsAt member.now self.old }
+        requires leading { leads member.now.nodes self.old.proposer.campaign ≡ true }
+        ensures closes { (s : Standing) → IsRunning member.now self.old s → Closes member.now self.new s result }
         ensures fits { IfSome result (λ made. IsBallot made.ballot × IsCommandRun made.slot made.commands) }
         ensures bounded { (most : ℕ) → IsBounded self.old.proposer most → IfSome result (λ made. length made.commands ≤ most) }
-        ensures at { IsAt post.now self.new }
+        ensures at { IsAt member.now self.new }
         ensures rest { self.new ≡ record self.old { proposer = self.new.proposer } }
     {
         if SLOTS <= self.front() {
             self.proposer.turn_idle();
             return None;
         }
-        self.propose(post, room)
+        self.propose(member, room)
     }
 }

@@ -3,7 +3,7 @@
 ghost use Rattle.std.specs.Prelude.{◌≡◌, ◌+◌, ◌≤◌, IfOk, OnOk};
 ghost use Rattle.dealer_node.specs.declared.limits.TheConstants.{COMMANDS_OF_A_CALL};
 ghost use Rattle.dealer_node.specs.Outs.{told_by, nothing_told, HasRoom};
-ghost use Rattle.dealer_node.specs.Posts.{Post as Station};
+ghost use Rattle.dealer_node.specs.Members.{Membership};
 ghost use Rattle.dealer_node.specs.Running.{IsAt, ahead_of};
 
 use crate::made::{Made, Need};
@@ -33,7 +33,7 @@ impl<D: Disk + Drop> Up<D> {
     fn reserve(&mut self, answers: usize, commands: usize) -> Result<(), AllocError>
         requires { commands ≤ COMMANDS_OF_A_CALL }
         ensures unmoved { Unmoved D.Disk self.old self.new }
-        ensures at { (post : Station) → IsAt post self.old.running → IsAt post self.new.running }
+        ensures at { (member : Membership) → IsAt member self.old.running → IsAt member self.new.running }
         ensures seats { self.new.running.seats ≡ self.old.running.seats }
         ensures ahead { ahead_of self.new.running ≡ ahead_of self.old.running }
         ensures learned { self.new.running.learner.learned ≡ self.old.running.learner.learned }
@@ -61,7 +61,7 @@ impl<D: Disk + Drop> Up<D> {
     ) -> Result<Made, AllocError>
         requires { commands ≤ COMMANDS_OF_A_CALL }
         ensures unmoved { Unmoved D.Disk self.old self.new }
-        ensures at { (post : Station) → IsAt post self.old.running → IsAt post self.new.running }
+        ensures at { (member : Membership) → IsAt member self.old.running → IsAt member self.new.running }
         ensures seats { self.new.running.seats ≡ self.old.running.seats }
         ensures ahead { ahead_of self.new.running ≡ ahead_of self.old.running }
         ensures learned { self.new.running.learner.learned ≡ self.old.running.learner.learned }

@@ -7,7 +7,7 @@ ghost use Rattle.node_rules.specs.Rules.{seeing};
 ghost use Rattle.node_rules.specs.Turns.{sending};
 ghost use Rattle.node_rules.specs.Seats.{session_at, connecting, dropping, pending_act, forwarding, taking_over};
 ghost use Rattle.node_rules.specs.Showing.{is_connected as is_talk_ready};
-ghost use Rattle.dealer_node.specs.Posts.{Post as Station, place_at};
+ghost use Rattle.dealer_node.specs.Members.{Membership, place_at};
 ghost use Rattle.dealer_node.specs.Outs.{told_by};
 ghost use Rattle.dealer_node.specs.declared.limits.TheConstants.{COMMANDS_OF_A_CALL, MOST_FRAMES_OF_A_MESSAGE};
 ghost use Rattle.dealer_node.specs.Rooms.{Grows, Tells};
@@ -21,8 +21,8 @@ ghost use Rattle.dealer_node.specs.Most.{most_after, most_applied};
 use crate::hearing::{take_act, wait};
 use crate::limits::{TEXT_BYTES_OF_A_COMMAND, TEXTS_OF_A_COMMAND};
 use crate::made::{Made, Need};
+use crate::member::Member;
 use crate::most_shown::{MostShown, most_after};
-use crate::post::Post;
 use crate::seats::Seats;
 use crate::seen_ballot::seen_in;
 use learner::Learner;
@@ -75,17 +75,17 @@ fn ahead(log: &SlotLog) -> usize
 
 impl Running {
     /// What runs at a node that has just started: it knows nothing yet, prepares no ballot, and no seat is connected.
-    pub(crate) fn new(alloc: Global, post: &Post) -> Result<Running, AllocError>
-        ensures runs { IfOk result (λ running. (found : Store) → IsRunning post.now running (started (place_at post.now) found)) }
-        ensures at { IfOk result (λ running. IsAt post.now running) }
+    pub(crate) fn new(alloc: Global, member: &Member) -> Result<Running, AllocError>
+        ensures runs { IfOk result (λ running. (found : Store) → IsRunning member.now running (started (place_at member.now) found)) }
+        ensures at { IfOk result (λ running. IsAt member.now running) }
     {
-        post.limits();
-        post.game().limits();
-        let players = post.game().players();
+        member.limits();
+        member.game().limits();
+        let players = member.game().players();
         Ok(Running {
-            proposer: Proposer::new(post.node(), post.nodes()),
-            learner: Learner::new(alloc, post.nodes())?,
-            table: Table::new(alloc, *post.game(), post.hands()),
+            proposer: Proposer::new(member.node(), member.nodes()),
+            learner: Learner::new(alloc, member.nodes())?,
+            table: Table::new(alloc, *member.game(), member.hands()),
             pending: None,
             seen: Ballot { round: 0, node: 0 },
             seats: Seats::new(alloc, players)?,
@@ -143,8 +143,8 @@ impl Running {
     /// Makes room to count so many answers more, with so many commands in all. An `Err` changes room alone.
     pub(crate) fn reserve(&mut self, answers: usize, commands: usize) -> Result<(), AllocError>
         requires { commands ≤ COMMANDS_OF_A_CALL }
-        ensures same { (post : Station) (s : Standing) → IsRunning post self.old s → IsRunning post self.new s }
-        ensures at { (post : Station) → IsAt post self.old → IsAt post self.new }
+        ensures same { (member : Membership) (s : Standing) → IsRunning member self.old s → IsRunning member self.new s }
+        ensures at { (member : Membership) → IsAt member self.old → IsAt member self.new }
         ensures ahead { ahead_of self.new ≡ ahead_of self.old }
         ensures learned { self.new.learner.learned ≡ self.old.learner.learned }
         ensures answers { OnOk result (answers ≤ self.new.learner.answers) }
@@ -159,8 +159,8 @@ impl Running {
 
     /// Sees the ballots that a message tells.
     pub(crate) fn see(&mut self, message: &Message)
-        ensures runs { (post : Station) (s : Standing) → IsRunning post self.old s → IsRunning post self.new (seeing message.now s) }
-        ensures at { (post : Station) → IsAt post self.old → IsAt post self.new }
+        ensures runs { (member : Membership) (s : Standing) → IsRunning member self.old s → IsRunning member self.new (seeing message.now s) }
+        ensures at { (member : Membership) → IsAt member self.old → IsAt member self.new }
         ensures rest { self.new ≡ record self.old { seen = self.new.seen } }
     {
         self.seen = seen_in(self.seen, message);
@@ -169,8 +169,8 @@ impl Running {
     /// Begins a seat's session anew.
     pub(crate) fn connect(&mut self, alloc: Global, seat: usize)
         requires { seat < length self.old.seats.talks }
-        ensures runs { (post : Station) (s : Standing) → IsRunning post self.old s → IsRunning post self.new (connecting seat s).after }
-        ensures at { (post : Station) → IsAt post self.old → IsAt post self.new }
+        ensures runs { (member : Membership) (s : Standing) → IsRunning member self.old s → IsRunning member self.new (connecting seat s).after }
+        ensures at { (member : Membership) → IsAt member self.old → IsAt member self.new }
     {
         self.seats.connect(alloc, seat);
     }
@@ -178,8 +178,8 @@ impl Running {
     /// Drops a seat's session.
     pub(crate) fn drop_seat(&mut self, seat: usize)
         requires { seat < length self.old.seats.talks }
-        ensures runs { (post : Station) (s : Standing) → IsRunning post self.old s → IsRunning post self.new (dropping seat s).after }
-        ensures at { (post : Station) → IsAt post self.old → IsAt post self.new }
+        ensures runs { (member : Membership) (s : Standing) → IsRunning member self.old s → IsRunning member self.new (dropping seat s).after }
+        ensures at { (member : Membership) → IsAt member self.old → IsAt member self.new }
     {
         self.seats.drop_seat(seat);
     }
@@ -195,8 +195,8 @@ impl Running {
     /// Makes room for so many bytes more of a seat. An `Err` changes room alone.
     pub(crate) fn reserve_bytes(&mut self, seat: usize, more: usize) -> Result<(), AllocError>
         requires { seat < length self.old.seats.talks }
-        ensures same { (post : Station) (s : Standing) → IsRunning post self.old s → IsRunning post self.new s }
-        ensures at { (post : Station) → IsAt post self.old → IsAt post self.new }
+        ensures same { (member : Membership) (s : Standing) → IsRunning member self.old s → IsRunning member self.new s }
+        ensures at { (member : Membership) → IsAt member self.old → IsAt member self.new }
         ensures talks { self.new.seats.talks ≡ self.old.seats.talks }
         ensures room { OnOk result (HasRoomAt self.new.seats seat more) }
         ensures rest { self.new ≡ record self.old { seats = self.new.seats } }
@@ -206,17 +206,17 @@ impl Running {
 
     /// Takes a piece of a seat's bytes, for which there is room, as for all answers to it: one more at most than line
     /// feeds wait and come. The ballot is the one that the node's store has promised.
-    pub(crate) fn hear(
+    pub(crate) fn hear_piece(
         &mut self,
-        post: &Post,
+        member: &Member,
         promised: Ballot,
         seat: usize,
         piece: &[u8],
         limit: usize,
         made: &mut Made,
     )
-        requires at { IsAt post.now self.old }
-        requires seat { seat < post.now.setting.game.players }
+        requires at { IsAt member.now self.old }
+        requires seat { seat < member.now.setting.game.players }
         requires room { HasRoomAt self.old.seats seat (length piece.now) }
         requires limit { feeds_with (session_at self.old.seats.talks seat) piece.now < limit }
         requires frames { limit ≤ made.old.frames.text_room }
@@ -224,19 +224,19 @@ impl Running {
         requires texts { 1 ≤ made.old.shown.text_room }
         requires text_bytes { 4096 ≤ made.old.shown.byte_room }
         requires faults { vec_len made.old.faults + limit ≤ vec_capacity made.old.faults }
-        ensures taken { (s : Standing) → IsRunning post.now self.old s → s.store.promise ≡ promised
-            → TakesPiece post.now self.new (told_by made.old) (told_by made.new) seat piece.now s }
-        ensures at { IsAt post.now self.new }
+        ensures taken { (s : Standing) → IsRunning member.now self.old s → s.store.promise ≡ promised
+            → TakesPiece member.now self.new (told_by made.old) (told_by made.new) seat piece.now s }
+        ensures at { IsAt member.now self.new }
         ensures frames { Grows made.old.frames made.new.frames limit (MOST_SINGLE_FRAME * limit) }
         ensures shown { Grows made.old.shown made.new.shown 1 4096 }
         ensures faults { Tells made.old made.new limit }
         ensures rest { self.new ≡ record self.old { pending = self.new.pending; seats = self.new.seats } }
     {
-        self.seats.hear(
+        self.seats.seat_hears(
             seat,
             piece,
             limit,
-            post,
+            member,
             promised,
             &self.table,
             &mut self.pending,
@@ -246,28 +246,34 @@ impl Running {
 
     /// Takes what an order means: it waits where nothing does, and goes on to the node whose ballot was promised, where
     /// that is another. The ballot is the one that the node's store has promised.
-    pub(crate) fn play_for(&mut self, post: &Post, promised: Ballot, act: &Command, made: &mut Made)
-        requires at { IsAt post.now self.old }
+    pub(crate) fn play_for(
+        &mut self,
+        member: &Member,
+        promised: Ballot,
+        act: &Command,
+        made: &mut Made,
+    )
+        requires at { IsAt member.now self.old }
         requires act { IsForwardable (Ok (SaidAct act.now)) }
         requires texts { 1 ≤ made.old.frames.text_room }
         requires bytes { MOST_SINGLE_FRAME ≤ made.old.frames.byte_room }
-        ensures taken { (s : Standing) → IsRunning post.now self.old s → s.store.promise ≡ promised
-            → IsTaken post.now self.new (told_by made.old) (told_by made.new) (sending (forwarding (place_at post.now) act.now s) (pending_act (place_at post.now) act.now s)) }
-        ensures at { IsAt post.now self.new }
+        ensures taken { (s : Standing) → IsRunning member.now self.old s → s.store.promise ≡ promised
+            → IsTaken member.now self.new (told_by made.old) (told_by made.new) (sending (forwarding (place_at member.now) act.now s) (pending_act (place_at member.now) act.now s)) }
+        ensures at { IsAt member.now self.new }
         ensures frames { Grows made.old.frames made.new.frames 1 MOST_SINGLE_FRAME }
         ensures rest { made.new ≡ record made.old { frames = made.new.frames } }
         ensures same { self.new ≡ record self.old { pending = self.new.pending } }
     {
-        take_act(act, post, promised, &self.table, &mut self.pending, made);
+        take_act(act, member, promised, &self.table, &mut self.pending, made);
     }
 
     /// Lets an act that another node hands on wait, where it fits and none does.
-    pub(crate) fn take_over(&mut self, post: &Post, act: &Command)
-        ensures runs { (s : Standing) → IsRunning post.now self.old s → IsRunning post.now self.new (taking_over (place_at post.now) act.now s).after }
-        ensures at { IsAt post.now self.old → IsAt post.now self.new }
+    pub(crate) fn take_over(&mut self, member: &Member, act: &Command)
+        ensures runs { (s : Standing) → IsRunning member.now self.old s → IsRunning member.now self.new (taking_over (place_at member.now) act.now s).after }
+        ensures at { IsAt member.now self.old → IsAt member.now self.new }
         ensures rest { self.new ≡ record self.old { pending = self.new.pending } }
     {
-        let _ = post;
+        let _ = member;
         wait(&mut self.pending, &self.table, act);
     }
 }

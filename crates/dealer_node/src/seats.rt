@@ -6,15 +6,15 @@ ghost use Rattle.node_rules.specs.Standings.{Standing};
 ghost use Rattle.node_rules.specs.Showing.{is_connected as is_talk_ready};
 ghost use Rattle.node_rules.specs.Seats.{session_at};
 ghost use Rattle.dealer_node.specs.Outs.{told_by};
-ghost use Rattle.dealer_node.specs.Posts.{place_at};
+ghost use Rattle.dealer_node.specs.Members.{place_at};
 ghost use Rattle.dealer_node.specs.Rooms.{Grows, Tells};
 ghost use Rattle.dealer_node.specs.Turned.{talks};
 ghost use Rattle.dealer_node.specs.Seated.{without_room, feeds_with, HasRoomAt, IsSeatedAt, PieceTurn};
 
-use crate::hearing::hear;
+use crate::hearing::session_hears;
 use crate::lines::is_connected;
 use crate::made::Made;
-use crate::post::Post;
+use crate::member::Member;
 use paxos_wire::Ballot;
 use seat_session::{Session, line_feeds};
 use slot_log::{Command, Table};
@@ -120,18 +120,18 @@ impl Seats {
 
     /// Takes a piece of a seat's bytes, for which there is room, as for all answers to it: one more at most than line
     /// feeds wait and come.
-    pub(crate) fn hear(
+    pub(crate) fn seat_hears(
         &mut self,
         seat: usize,
         piece: &[u8],
         limit: usize,
-        post: &Post,
+        member: &Member,
         promised: Ballot,
         table: &Table,
         pending: &mut Option<Command>,
         made: &mut Made,
     )
-        requires game { table.now.game ≡ post.now.setting.game }
+        requires game { table.now.game ≡ member.now.setting.game }
         requires seats { length self.old.talks ≡ table.now.game.players }
         requires seat { seat < table.now.game.players }
         requires room { HasRoomAt self.old seat (length piece.now) }
@@ -141,8 +141,8 @@ impl Seats {
         requires texts { 1 ≤ made.old.shown.text_room }
         requires text_bytes { 4096 ≤ made.old.shown.byte_room }
         requires faults { vec_len made.old.faults + limit ≤ vec_capacity made.old.faults }
-        ensures heard { (s : Standing) → IsSeatedAt (place_at post.now) self.old.talks table.now promised pending.old s
-            → PieceTurn (place_at post.now) seat piece.now s table.now promised self.new.talks pending.new (told_by made.old) (told_by made.new) }
+        ensures heard { (s : Standing) → IsSeatedAt (place_at member.now) self.old.talks table.now promised pending.old s
+            → PieceTurn (place_at member.now) seat piece.now s table.now promised self.new.talks pending.new (told_by made.old) (told_by made.new) }
         ensures len { length self.new.talks ≡ length self.old.talks }
         ensures frames { Grows made.old.frames made.new.frames limit (MOST_SINGLE_FRAME * limit) }
         ensures shown { Grows made.old.shown made.new.shown 1 4096 }
@@ -150,8 +150,8 @@ impl Seats {
         ensures act { IfSome pending.old (λ command. IsInRange command) → IfSome pending.new (λ command. IsInRange command) }
     {
         let session = self.sessions[seat].take();
-        let kept = hear(
-            session, seat, piece, limit, post, promised, table, pending, made,
+        let kept = session_hears(
+            session, seat, piece, limit, member, promised, table, pending, made,
         );
         self.sessions[seat] = kept;
     }

@@ -3,7 +3,7 @@ ghost use Rattle.paxos_wire.specs.Fits.{Fits, IsMessage, most_bytes};
 ghost use Rattle.paxos_wire.specs.Spelling.{frame};
 ghost use Rattle.dealer_node.specs.Texts.{byte_total};
 ghost use Rattle.node_rules.specs.Sending.{one, to_first};
-ghost use Rattle.dealer_node.specs.Turned.{posted};
+ghost use Rattle.dealer_node.specs.Turned.{framed};
 ghost use Rattle.dealer_node.specs.Fitting.{AreMessages};
 
 use crate::texts::{Run, Texts};
@@ -14,7 +14,7 @@ pub(crate) fn send(frames: &mut Texts<u8>, to: u8, message: &Message)
     requires fits { Fits message.now }
     requires texts { 1 ≤ frames.old.text_room }
     requires bytes { length (frame message.now) ≤ frames.old.byte_room }
-    ensures texts { frames.new.texts ≡ frames.old.texts ++ map posted (one to message.now) }
+    ensures texts { frames.new.texts ≡ frames.old.texts ++ map framed (one to message.now) }
     ensures text_room { frames.old.text_room ≤ frames.new.text_room + 1 }
     ensures byte_room { frames.old.byte_room ≤ frames.new.byte_room + length (frame message.now) }
     ensures len { length frames.new.texts ≡ length frames.old.texts + 1 }
@@ -32,7 +32,7 @@ pub(crate) fn send_to_others(frames: &mut Texts<u8>, nodes: u8, number: u8, mess
     requires fits { Fits message.now }
     requires texts { nodes ≤ frames.old.text_room }
     requires bytes { most_bytes message.now * nodes ≤ frames.old.byte_room }
-    ensures texts { frames.new.texts ≡ frames.old.texts ++ map posted (to_first nodes number message.now) }
+    ensures texts { frames.new.texts ≡ frames.old.texts ++ map framed (to_first nodes number message.now) }
     ensures fits { AreMessages (to_first nodes number message.now) }
     ensures text_room { frames.old.text_room ≤ frames.new.text_room + nodes }
     ensures byte_room { frames.old.byte_room ≤ frames.new.byte_room + most_bytes message.now * nodes }

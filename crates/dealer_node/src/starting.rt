@@ -10,7 +10,7 @@ ghost use Rattle.acceptor.specs.Stored.{store_of};
 ghost use Rattle.promise_store.specs.Refusals.{Refuses};
 ghost use Rattle.promise_store.specs.declared.fault.StoreFault.{StoreFault as Fault};
 ghost use Rattle.promise_store.specs.declared.fault.StoreFault.TheVariants.{Disk as DiskFailed};
-ghost use Rattle.dealer_node.specs.Posts.{place_at};
+ghost use Rattle.dealer_node.specs.Members.{place_at};
 ghost use Rattle.dealer_node.specs.Outs.{told_by, both_told, nothing_told, HasRoom};
 ghost use Rattle.dealer_node.specs.Texts.{byte_total};
 ghost use Rattle.dealer_node.specs.Rooms.{Grows};
@@ -25,7 +25,7 @@ use crate::fault::NodeFault;
 use crate::limits::{FRAME_BYTES_TO_ALL, FRAMES_TO_ALL};
 use crate::lines::show_header;
 use crate::made::{Made, Need};
-use crate::post::Post;
+use crate::member::Member;
 use crate::running::Running;
 use crate::sending::send_to_others;
 use crate::up::Up;
@@ -47,17 +47,17 @@ pub(crate) const START: Need = Need {
 /// What runs after a start, and room for all that the start makes, here and where it goes. An `Err` changes room alone.
 pub(crate) fn ready(
     alloc: Global,
-    post: &Post,
+    member: &Member,
     out: &mut Made,
 ) -> Result<(Running, Made), AllocError>
-    ensures runs { IfOk result (λ made. (found : Kept) → IsRunning post.now made.0 (started (place_at post.now) found)) }
-    ensures at { IfOk result (λ made. IsAt post.now made.0) }
+    ensures runs { IfOk result (λ made. (found : Kept) → IsRunning member.now made.0 (started (place_at member.now) found)) }
+    ensures at { IfOk result (λ made. IsAt member.now made.0) }
     ensures nothing { IfOk result (λ made. told_by made.1 ≡ nothing_told) }
     ensures room { IfOk result (λ made. HasRoom made.1 START) }
     ensures room_out { IfOk result (λ made. HasRoom out.new START) }
     ensures same { told_by out.new ≡ told_by out.old }
 {
-    let running = Running::new(alloc, post)?;
+    let running = Running::new(alloc, member)?;
     let mut made = Made::new(alloc);
     made.reserve(&START)?;
     out.reserve(&START)?;
@@ -65,19 +65,19 @@ pub(crate) fn ready(
 }
 
 /// Shows the log its header, and asks the others for what was chosen where the store has a promise.
-fn greet(post: &Post, promised: Ballot, made: &mut Made)
+fn greet(member: &Member, promised: Ballot, made: &mut Made)
     requires room { HasRoom made.old START }
-    ensures told { (found : Kept) → promised ≡ found.promise → told_by made.new ≡ both_told (told_by made.old) (told_of (starting (place_at post.now) found)) }
-    ensures fits { (found : Kept) → promised ≡ found.promise → AreMessages (asking_all (place_at post.now) found) }
+    ensures told { (found : Kept) → promised ≡ found.promise → told_by made.new ≡ both_told (told_by made.old) (told_of (starting (place_at member.now) found)) }
+    ensures fits { (found : Kept) → promised ≡ found.promise → AreMessages (asking_all (place_at member.now) found) }
     ensures frames { Grows made.old.frames made.new.frames FRAMES_TO_ALL FRAME_BYTES_TO_ALL }
     ensures texts { length made.new.shown.texts ≤ length made.old.shown.texts + 1 }
     ensures text_bytes { byte_total made.new.shown.texts ≤ byte_total made.old.shown.texts + 263 }
     ensures faults { made.new.faults ≡ made.old.faults }
 {
-    show_header(&mut made.shown, post);
+    show_header(&mut made.shown, member);
     if promised.round > 0 {
         let message = Message::Ask { slot: 0 };
-        send_to_others(&mut made.frames, post.nodes(), post.node(), &message);
+        send_to_others(&mut made.frames, member.nodes(), member.node(), &message);
     }
 }
 
@@ -95,23 +95,27 @@ fn fault_of(fault: StoreFault) -> NodeFault
 }
 
 /// Opens the store on a disk, and where version 1 made it has it go on with version 2. With a fault the disk is handed back.
-fn open_store<D: Disk>(alloc: Global, post: &Post, disk: D) -> Result<Acceptor<D>, (D, NodeFault)>
-    ensures opened { (old new : Kept) → IsTrue D.is_honest → Leaves D.Disk (head_of post.now) old new disk
-        → IfOk result (λ acceptor. Keeps D.Disk (head_of post.now) old (store_of acceptor) ⊎ Keeps D.Disk (head_of post.now) new (store_of acceptor)) }
-    ensures stands { IsTrue D.is_honest → IfOk result (λ acceptor. (held : Kept) × StandsFor (head_of post.now) (D.seen disk) held × Keeps D.Disk (head_of post.now) held (store_of acceptor)) }
-    ensures refused { (old new : Kept) → IsTrue D.is_honest → Leaves D.Disk (head_of post.now) old new disk
+fn open_store<D: Disk>(
+    alloc: Global,
+    member: &Member,
+    disk: D,
+) -> Result<Acceptor<D>, (D, NodeFault)>
+    ensures opened { (old new : Kept) → IsTrue D.is_honest → Leaves D.Disk (head_of member.now) old new disk
+        → IfOk result (λ acceptor. Keeps D.Disk (head_of member.now) old (store_of acceptor) ⊎ Keeps D.Disk (head_of member.now) new (store_of acceptor)) }
+    ensures stands { IsTrue D.is_honest → IfOk result (λ acceptor. (held : Kept) × StandsFor (head_of member.now) (D.seen disk) held × Keeps D.Disk (head_of member.now) held (store_of acceptor)) }
+    ensures refused { (old new : Kept) → IsTrue D.is_honest → Leaves D.Disk (head_of member.now) old new disk
         → IfErr result (λ x. (x.1 ≡ NodeFault.OutOfMemory) ⊎ (x.1 ≡ NodeFault.Store DiskFailed)) }
-    ensures reopens { IfOk result (λ acceptor. Reopens D.Disk (head_of post.now) disk (disk_of (store_of acceptor))) }
-    ensures reopens_err { IfErr result (λ x. Reopens D.Disk (head_of post.now) disk x.0) }
-    ensures marks { IsTrue D.is_honest → IfOk result (λ acceptor. MarksJournal (head_of post.now) (D.seen disk) (D.seen (disk_of (store_of acceptor)))) }
-    ensures quiet { IsTrue D.is_honest → GoesOnNew (head_of post.now) (D.seen disk) → IfOk result (λ acceptor. OnlyReads D.Disk disk (disk_of (store_of acceptor))) }
-    ensures quiet_err { IsTrue D.is_honest → GoesOnNew (head_of post.now) (D.seen disk) → IfErr result (λ x. OnlyReads D.Disk disk x.0) }
+    ensures reopens { IfOk result (λ acceptor. Reopens D.Disk (head_of member.now) disk (disk_of (store_of acceptor))) }
+    ensures reopens_err { IfErr result (λ x. Reopens D.Disk (head_of member.now) disk x.0) }
+    ensures marks { IsTrue D.is_honest → IfOk result (λ acceptor. MarksJournal (head_of member.now) (D.seen disk) (D.seen (disk_of (store_of acceptor)))) }
+    ensures quiet { IsTrue D.is_honest → GoesOnNew (head_of member.now) (D.seen disk) → IfOk result (λ acceptor. OnlyReads D.Disk disk (disk_of (store_of acceptor))) }
+    ensures quiet_err { IsTrue D.is_honest → GoesOnNew (head_of member.now) (D.seen disk) → IfErr result (λ x. OnlyReads D.Disk disk x.0) }
     ensures unwritten { IfErr result (λ x. x.1 ≢ NodeFault.Store DiskFailed → OnlyReads D.Disk disk x.0) }
     ensures rose { IfErr result (λ x. x.1 ≡ NodeFault.Store DiskFailed → Rose (D.count disk) (D.count x.0)) }
     ensures faults { IfErr result (λ x. IsOfStart x.1) }
-    ensures finds { IsTrue D.is_honest → IfErr result (λ x. (why : Fault) → x.1 ≡ NodeFault.Store why → Refuses (head_of post.now) (D.seen disk) why) }
+    ensures finds { IsTrue D.is_honest → IfErr result (λ x. (why : Fault) → x.1 ≡ NodeFault.Store why → Refuses (head_of member.now) (D.seen disk) why) }
 {
-    match Store::open(alloc, disk, post.node(), post.nodes()) {
+    match Store::open(alloc, disk, member.node(), member.nodes()) {
         Ok(store) => Ok(Acceptor::new(store)),
         Err((disk, fault)) => Err((disk, fault_of(fault))),
     }
@@ -120,38 +124,38 @@ fn open_store<D: Disk>(alloc: Global, post: &Post, disk: D) -> Result<Acceptor<D
 /// Opens the store on a disk for what is to run, and makes what a start makes. With a fault the disk is handed back.
 pub(crate) fn open<D: Disk + Drop>(
     alloc: Global,
-    post: &Post,
+    member: &Member,
     disk: D,
     running: Running,
     made: &mut Made,
 ) -> Result<Up<D>, (D, NodeFault)>
-    requires runs { (found : Kept) → IsRunning post.now running (started (place_at post.now) found) }
-    requires at { IsAt post.now running }
+    requires runs { (found : Kept) → IsRunning member.now running (started (place_at member.now) found) }
+    requires at { IsAt member.now running }
     requires room { HasRoom made.old START }
-    ensures starts { (store begun : Kept) → IsTrue D.is_honest → Leaves D.Disk (head_of post.now) store begun disk
-        → IfOk result (λ up. Starts D.Disk post.now store begun disk up (told_by made.old) (told_by made.new)) }
-    ensures stays { (store begun : Kept) → IsTrue D.is_honest → Leaves D.Disk (head_of post.now) store begun disk
-        → IfErr result (λ x. StaysDown D.Disk post.now store begun disk x.0 x.1) }
-    ensures stands { IsTrue D.is_honest → IfOk result (λ up. Finds D.Disk post.now disk up) }
-    ensures reopens { IfOk result (λ up. Reopens D.Disk (head_of post.now) disk (disk_under up)) }
-    ensures reopens_err { IfErr result (λ x. Reopens D.Disk (head_of post.now) disk x.0) }
-    ensures marks { IsTrue D.is_honest → IfOk result (λ up. MarksJournal (head_of post.now) (D.seen disk) (D.seen (disk_under up))) }
-    ensures quiet { IsTrue D.is_honest → GoesOnNew (head_of post.now) (D.seen disk) → IfOk result (λ up. OnlyReads D.Disk disk (disk_under up)) }
-    ensures quiet_err { IsTrue D.is_honest → GoesOnNew (head_of post.now) (D.seen disk) → IfErr result (λ x. OnlyReads D.Disk disk x.0) }
+    ensures starts { (store begun : Kept) → IsTrue D.is_honest → Leaves D.Disk (head_of member.now) store begun disk
+        → IfOk result (λ up. Starts D.Disk member.now store begun disk up (told_by made.old) (told_by made.new)) }
+    ensures stays { (store begun : Kept) → IsTrue D.is_honest → Leaves D.Disk (head_of member.now) store begun disk
+        → IfErr result (λ x. StaysDown D.Disk member.now store begun disk x.0 x.1) }
+    ensures stands { IsTrue D.is_honest → IfOk result (λ up. Finds D.Disk member.now disk up) }
+    ensures reopens { IfOk result (λ up. Reopens D.Disk (head_of member.now) disk (disk_under up)) }
+    ensures reopens_err { IfErr result (λ x. Reopens D.Disk (head_of member.now) disk x.0) }
+    ensures marks { IsTrue D.is_honest → IfOk result (λ up. MarksJournal (head_of member.now) (D.seen disk) (D.seen (disk_under up))) }
+    ensures quiet { IsTrue D.is_honest → GoesOnNew (head_of member.now) (D.seen disk) → IfOk result (λ up. OnlyReads D.Disk disk (disk_under up)) }
+    ensures quiet_err { IsTrue D.is_honest → GoesOnNew (head_of member.now) (D.seen disk) → IfErr result (λ x. OnlyReads D.Disk disk x.0) }
     ensures unwritten { IfErr result (λ x. x.1 ≢ NodeFault.Store DiskFailed → OnlyReads D.Disk disk x.0) }
     ensures rose { IfErr result (λ x. x.1 ≡ NodeFault.Store DiskFailed → Rose (D.count disk) (D.count x.0)) }
     ensures faults_err { IfErr result (λ x. IsOfStart x.1) }
-    ensures finds { IsTrue D.is_honest → IfErr result (λ x. (why : Fault) → x.1 ≡ NodeFault.Store why → Refuses (head_of post.now) (D.seen disk) why) }
-    ensures at { IfOk result (λ up. IsAt post.now up.running) }
+    ensures finds { IsTrue D.is_honest → IfErr result (λ x. (why : Fault) → x.1 ≡ NodeFault.Store why → Refuses (head_of member.now) (D.seen disk) why) }
+    ensures at { IfOk result (λ up. IsAt member.now up.running) }
     ensures frames { Grows made.old.frames made.new.frames FRAMES_TO_ALL FRAME_BYTES_TO_ALL }
     ensures texts { length made.new.shown.texts ≤ length made.old.shown.texts + 1 }
     ensures text_bytes { byte_total made.new.shown.texts ≤ byte_total made.old.shown.texts + 263 }
     ensures faults { made.new.faults ≡ made.old.faults }
 {
-    match open_store(alloc, post, disk) {
+    match open_store(alloc, member, disk) {
         Err(failed) => Err(failed),
         Ok(acceptor) => {
-            greet(post, acceptor.promised(), made);
+            greet(member, acceptor.promised(), made);
             Ok(Up { acceptor, running })
         }
     }

@@ -8,7 +8,7 @@ ghost use Rattle.node_rules.specs.Turns.{and_then};
 ghost use Rattle.node_rules.specs.Calls.{Tick};
 ghost use Rattle.node_rules.specs.Proposing.{is_over, ticking, closing};
 ghost use Rattle.dealer_node.specs.Outs.{told_by, nothing_told};
-ghost use Rattle.dealer_node.specs.Posts.{place_at};
+ghost use Rattle.dealer_node.specs.Members.{place_at};
 ghost use Rattle.dealer_node.specs.Running.{IsAt, is_spent_at};
 ghost use Rattle.dealer_node.specs.Working.{IsOfPart};
 ghost use Rattle.dealer_node.specs.Handling.{IsWithin, AnswersUp};
@@ -18,7 +18,7 @@ ghost use Rattle.dealer_node.specs.Most.{most_after, most_applied, ShowsWithin};
 use crate::fault::NodeFault;
 use crate::limits::FRAMES_OF_A_CLOSE;
 use crate::made::{Made, Need};
-use crate::post::Post;
+use crate::member::Member;
 use crate::rooms::{Lists, Rooms};
 use crate::running::Running;
 use crate::up::Up;
@@ -41,29 +41,29 @@ impl<D: Disk + Drop> Up<D> {
     /// Begins a ballot, into room that was made, unless the match is over.
     fn tick(
         &mut self,
-        post: &Post,
+        member: &Member,
         promised: Ballot,
         over: bool,
         most: usize,
         lists: &mut Lists,
         made: &mut Made,
     ) -> Result<(), NodeFault>
-        requires at { IsAt post.now self.old.running }
+        requires at { IsAt member.now self.old.running }
         requires unspent { over ≡ false → is_spent_at self.old.running promised ≡ false }
         requires some { 1 ≤ most }
         requires bounded { IsBounded self.old.running.proposer most }
         requires room { HasCallRoom self.old made.old (close_need self.old.running most) 1 most }
-        ensures works { (s : Standing) → IsTrue D.is_honest → IsUp D.Disk post.now self.old s → promised ≡ s.store.promise → over ≡ is_over (place_at post.now) s
-            → Works D.Disk post.now s (and_then (ticking (place_at post.now) s) (closing (place_at post.now))) self.old self.new (told_by made.old) (told_by made.new) result }
+        ensures works { (s : Standing) → IsTrue D.is_honest → IsUp D.Disk member.now self.old s → promised ≡ s.store.promise → over ≡ is_over (place_at member.now) s
+            → Works D.Disk member.now s (and_then (ticking (place_at member.now) s) (closing (place_at member.now))) self.old self.new (told_by made.old) (told_by made.new) result }
         ensures goes_on { GoesOn D.Disk self.old self.new result }
         ensures only { IsOfPart result }
-        ensures at { IsAt post.now self.new.running }
+        ensures at { IsAt member.now self.new.running }
         ensures within { told_by made.old ≡ nothing_told → IsWithin made.new (close_need self.old.running most) }
     {
         if over {
-            self.close(post, most, lists, made)
+            self.close_call(member, most, lists, made)
         } else {
-            self.begin(post, promised, made)
+            self.begin(member, promised, made)
         }
     }
 
@@ -72,28 +72,28 @@ impl<D: Disk + Drop> Up<D> {
     pub(crate) fn on_tick(
         &mut self,
         alloc: Global,
-        post: &Post,
+        member: &Member,
         rooms: &mut Rooms,
         out: &mut Made,
     ) -> Result<(), NodeFault>
-        requires { IsAt post.now self.old.running }
-        ensures handles { (s : Standing) → IsTrue D.is_honest → IsUp D.Disk post.now self.old s
-            → HandlesCall D.Disk post.now s Tick self.old self.new (told_by out.old) (told_by out.new) result }
+        requires { IsAt member.now self.old.running }
+        ensures handles { (s : Standing) → IsTrue D.is_honest → IsUp D.Disk member.now self.old s
+            → HandlesCall D.Disk member.now s Tick self.old self.new (told_by out.old) (told_by out.new) result }
         ensures goes_on { GoesOn D.Disk self.old self.new result }
         ensures answers { AnswersUp self.old self.new result }
-        ensures at { IsAt post.now self.new.running }
+        ensures at { IsAt member.now self.new.running }
         ensures unmade { IsErr result → told_by out.new ≡ told_by out.old }
         ensures shows { ShowsWithin (most_after (most_applied self.old.running)) (told_by out.old) (told_by out.new) }
     {
         let promised = self.acceptor.promised();
-        let over = self.running.is_over(post);
+        let over = self.running.is_over(member);
         if !over && self.running.is_spent(promised) {
             return Err(NodeFault::Spent);
         }
         let most = self.running.most_proposed();
         let need = close_need(&self.running, most);
         let mut made = self.ready(alloc, rooms.made.take(), 1, most, &need, out)?;
-        self.tick(post, promised, over, most, &mut rooms.lists, &mut made)?;
+        self.tick(member, promised, over, most, &mut rooms.lists, &mut made)?;
         out.append(&mut made);
         rooms.made = Some(made);
         Ok(())

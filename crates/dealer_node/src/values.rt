@@ -3,10 +3,10 @@ ghost use Rattle.paxos_wire.specs.Fits.{IsInRange};
 ghost use Rattle.slot_log.specs.Dealer.{is_match_over, is_running};
 ghost use Rattle.node_rules.specs.Standings.{Standing, applied};
 ghost use Rattle.node_rules.specs.Proposing.{own_value, is_over};
-ghost use Rattle.dealer_node.specs.Posts.{place_at};
+ghost use Rattle.dealer_node.specs.Members.{place_at};
 ghost use Rattle.dealer_node.specs.Scenes.{IsTableOf};
 
-use crate::post::Post;
+use crate::member::Member;
 use slot_log::{Command, Table};
 
 /// Whether a deal could fit: the match goes on, and no hand runs.
@@ -18,8 +18,12 @@ fn is_free(table: &Table) -> bool
 
 /// What a node would propose where it is free to: its own deal where it fits, and else the act that waits.
 #[tactic(auto, using(crate::proofs::Own::own_waits))]
-pub(crate) fn own_value(post: &Post, table: &Table, pending: &Option<Command>) -> Option<Command>
-    ensures value { (s : Standing) → IsTableOf (place_at post.now).setting (applied s) table.now → pending.now ≡ s.pending → result ≡ own_value (place_at post.now) s }
+pub(crate) fn own_value(
+    member: &Member,
+    table: &Table,
+    pending: &Option<Command>,
+) -> Option<Command>
+    ensures value { (s : Standing) → IsTableOf (place_at member.now).setting (applied s) table.now → pending.now ≡ s.pending → result ≡ own_value (place_at member.now) s }
     ensures range { IfSome pending.now (λ command. IsInRange command) → IfSome result (λ command. IsInRange command) }
 {
     // A deal is drawn only where it could fit: drawing one is a deck's work.
@@ -27,7 +31,7 @@ pub(crate) fn own_value(post: &Post, table: &Table, pending: &Option<Command>) -
         return *pending;
     }
     let hand = table.finished();
-    if let Some(deal) = post.deal(hand) {
+    if let Some(deal) = member.deal(hand) {
         let dealing = Command::Deal { hand, deal };
         if table.fits(&dealing) {
             return Some(dealing);
@@ -37,9 +41,9 @@ pub(crate) fn own_value(post: &Post, table: &Table, pending: &Option<Command>) -
 }
 
 /// Whether the match is over.
-pub(crate) fn is_over(post: &Post, table: &Table) -> bool
-    ensures { (s : Standing) → IsTableOf (place_at post.now).setting (applied s) table.now → result ≡ is_over (place_at post.now) s }
+pub(crate) fn is_over(member: &Member, table: &Table) -> bool
+    ensures { (s : Standing) → IsTableOf (place_at member.now).setting (applied s) table.now → result ≡ is_over (place_at member.now) s }
 {
-    let _ = post;
+    let _ = member;
     table.over()
 }

@@ -1,13 +1,13 @@
 ghost use Rattle.std.specs.Prelude.{◌≡◌, ◌+◌, ◌*◌, ◌≤◌, ◌++◌, length, map, OnOk, OnErr, Err};
 ghost use Rattle.paxos_wire.specs.declared.message.Message.TheVariants.{Accept as Proposing, Accepted as Accepting};
 ghost use Rattle.node_rules.specs.Sending.{to_others};
-ghost use Rattle.dealer_node.specs.Turned.{posted};
+ghost use Rattle.dealer_node.specs.Turned.{framed};
 ghost use Rattle.dealer_node.specs.Fitting.{AreMessages};
 ghost use Rattle.paxos_wire.specs.Fits.{IsBallot, IsCommandRun};
 ghost use Rattle.paxos_wire.specs.declared.limits.TheConstants.{MOST_SINGLE_FRAME};
 ghost use Rattle.node_rules.specs.Standings.{Standing};
 ghost use Rattle.node_rules.specs.Turns.{Conflict as Conflicting};
-ghost use Rattle.dealer_node.specs.Posts.{place_at};
+ghost use Rattle.dealer_node.specs.Members.{place_at};
 ghost use Rattle.dealer_node.specs.Outs.{told_by};
 ghost use Rattle.dealer_node.specs.Rooms.{Grows};
 ghost use Rattle.dealer_node.specs.Running.{IsRunning, TakesTurn, IsAt, CanLearn, Learns};
@@ -15,7 +15,7 @@ ghost use Rattle.dealer_node.specs.Voting.{telling_votes};
 ghost use Rattle.dealer_node.specs.declared.limits.TheConstants.{FRAMES_TO_ALL};
 
 use crate::made::Made;
-use crate::post::Post;
+use crate::member::Member;
 use crate::running::Running;
 use crate::sending::send_to_others;
 use crate::texts::Texts;
@@ -26,7 +26,7 @@ use slot_log::{Command, SlotFault};
 /// behind. The frame of each counts as one for each of its commands.
 fn send_accepted(
     frames: &mut Texts<u8>,
-    post: &Post,
+    member: &Member,
     ballot: Ballot,
     slot: u32,
     commands: &[Command],
@@ -35,24 +35,24 @@ fn send_accepted(
     requires run { IsCommandRun slot commands.now }
     requires texts { FRAMES_TO_ALL ≤ frames.old.text_room }
     requires bytes { MOST_SINGLE_FRAME * (FRAMES_TO_ALL * length commands.now) ≤ frames.old.byte_room }
-    ensures texts { frames.new.texts ≡ frames.old.texts ++ map posted (to_others (place_at post.now) (Accepting ballot slot commands.now)) }
-    ensures fits { AreMessages (to_others (place_at post.now) (Accepting ballot slot commands.now)) }
+    ensures texts { frames.new.texts ≡ frames.old.texts ++ map framed (to_others (place_at member.now) (Accepting ballot slot commands.now)) }
+    ensures fits { AreMessages (to_others (place_at member.now) (Accepting ballot slot commands.now)) }
     ensures grows { Grows frames.old frames.new FRAMES_TO_ALL (MOST_SINGLE_FRAME * (FRAMES_TO_ALL * length commands.now)) }
 {
-    let nodes = post.nodes();
+    let nodes = member.nodes();
     let message = Message::Accepted {
         ballot,
         slot,
         commands: Commands::new(commands),
     };
-    send_to_others(frames, nodes, post.node(), &message);
+    send_to_others(frames, nodes, member.node(), &message);
 }
 
 /// Sends the others a proposal of commands in a ballot, the first at the slot and each further one at the slot behind. The
 /// frame of each counts as one for each of its commands.
 pub(crate) fn send_proposal(
     frames: &mut Texts<u8>,
-    post: &Post,
+    member: &Member,
     ballot: Ballot,
     slot: u32,
     commands: &[Command],
@@ -61,17 +61,17 @@ pub(crate) fn send_proposal(
     requires run { IsCommandRun slot commands.now }
     requires texts { FRAMES_TO_ALL ≤ frames.old.text_room }
     requires bytes { MOST_SINGLE_FRAME * (FRAMES_TO_ALL * length commands.now) ≤ frames.old.byte_room }
-    ensures texts { frames.new.texts ≡ frames.old.texts ++ map posted (to_others (place_at post.now) (Proposing ballot slot commands.now)) }
-    ensures fits { AreMessages (to_others (place_at post.now) (Proposing ballot slot commands.now)) }
+    ensures texts { frames.new.texts ≡ frames.old.texts ++ map framed (to_others (place_at member.now) (Proposing ballot slot commands.now)) }
+    ensures fits { AreMessages (to_others (place_at member.now) (Proposing ballot slot commands.now)) }
     ensures grows { Grows frames.old frames.new FRAMES_TO_ALL (MOST_SINGLE_FRAME * (FRAMES_TO_ALL * length commands.now)) }
 {
-    let nodes = post.nodes();
+    let nodes = member.nodes();
     let message = Message::Accept {
         ballot,
         slot,
         commands: Commands::new(commands),
     };
-    send_to_others(frames, nodes, post.node(), &message);
+    send_to_others(frames, nodes, member.node(), &message);
 }
 
 impl Running {
@@ -79,29 +79,29 @@ impl Running {
     /// behind, and counts that as the votes of any other node. An `Err` is 30: another command is known at one of the slots.
     pub(crate) fn tell_votes(
         &mut self,
-        post: &Post,
+        member: &Member,
         ballot: Ballot,
         slot: u32,
         commands: &[Command],
         made: &mut Made,
     ) -> Result<(), SlotFault>
-        requires at { IsAt post.now self.old }
+        requires at { IsAt member.now self.old }
         requires ballot { IsBallot ballot }
         requires run { IsCommandRun slot commands.now }
         requires room { CanLearn self.old made.old 1 (length commands.now) }
         requires texts { FRAMES_TO_ALL ≤ made.old.frames.text_room }
         requires bytes { MOST_SINGLE_FRAME * (FRAMES_TO_ALL * length commands.now) ≤ made.old.frames.byte_room }
-        ensures ok { OnOk result ((s : Standing) → IsRunning post.now self.old s
-            → TakesTurn post.now self.new (told_by made.old) (told_by made.new) (telling_votes (place_at post.now) ballot slot commands.now s)) }
-        ensures err { OnErr result ((s : Standing) → IsRunning post.now self.old s
-            → telling_votes (place_at post.now) ballot slot commands.now s ≡ Err (Conflicting s.store)) }
-        ensures at { IsAt post.now self.new }
+        ensures ok { OnOk result ((s : Standing) → IsRunning member.now self.old s
+            → TakesTurn member.now self.new (told_by made.old) (told_by made.new) (telling_votes (place_at member.now) ballot slot commands.now s)) }
+        ensures err { OnErr result ((s : Standing) → IsRunning member.now self.old s
+            → telling_votes (place_at member.now) ballot slot commands.now s ≡ Err (Conflicting s.store)) }
+        ensures at { IsAt member.now self.new }
         ensures proposer { self.new.proposer ≡ self.old.proposer }
         ensures learns { Learns (length commands.now) self.old self.new made.old made.new }
         ensures frames { Grows made.old.frames made.new.frames FRAMES_TO_ALL (MOST_SINGLE_FRAME * (FRAMES_TO_ALL * length commands.now)) }
         ensures rest { made.new ≡ record made.old { frames = made.new.frames; shown = made.new.shown } }
     {
-        send_accepted(&mut made.frames, post, ballot, slot, commands);
-        self.count_votes(post, post.node(), ballot, slot, commands, made)
+        send_accepted(&mut made.frames, member, ballot, slot, commands);
+        self.count_votes(member, member.node(), ballot, slot, commands, made)
     }
 }

@@ -10,8 +10,8 @@ use Rattle.dealer_node.specs.Nodes.{Node}
 use Rattle.dealer_node.specs.declared.fault.NodeFault.{NodeFault}
 use Rattle.dealer_node.specs.declared.fault.NodeFault.TheVariants as fault
 use Rattle.dealer_node.specs.Outs.{Told}
-use Rattle.dealer_node.specs.Posts.{place_at}
-use Rattle.dealer_node.specs.Seeing.{post_in, runs, front_in, IsSeen, begun_of}
+use Rattle.dealer_node.specs.Members.{place_at}
+use Rattle.dealer_node.specs.Seeing.{member_in, runs, front_in, IsSeen, begun_of}
 use Rattle.dealer_world.specs.declared.event.Event.{Event}
 use Rattle.dealer_world.specs.Records.{Record}
 use Rattle.dealer_world.specs.Views.{grown}
@@ -19,35 +19,35 @@ use Rattle.dealer_world.specs.Recordings.{made_by}
 use Rattle.dealer_world.specs.Events.{node_of}
 use Rattle.dealer_world.specs.Stepping.{View, IsFor, for_prop, IsGiven, Gains, Stepped, arrived_by_event, begins_by_event}
 use Rattle.dealer_world.specs.Promise.{IsForMatch}
-use Rattle.dealer_world.specs.Ruling.{ArePosted, GoesOn, IsBehind}
+use Rattle.dealer_world.specs.Ruling.{AreAtPlaces, GoesOn, IsBehind}
 use Rattle.dealer_world.proofs.Ruled.{node_within, runs_on, runs_still}
 
 module _ {D : Type 0} where
-  pub same_place : (nodes : List (Node D)) (i j : ℕ) (new d : Node D) → place_at (post_in new) ≡ place_at (post_in (get_or nodes i d))
-      → place_at (post_in (get_or (set nodes i new) j d)) ≡ place_at (post_in (get_or nodes j d))
+  pub same_place : (nodes : List (Node D)) (i j : ℕ) (new d : Node D) → place_at (member_in new) ≡ place_at (member_in (get_or nodes i d))
+      → place_at (member_in (get_or (set nodes i new) j d)) ≡ place_at (member_in (get_or nodes j d))
   same_place [] i j new d is = refl
   same_place (node ∷ nodes) zero zero new d is = is
   same_place (node ∷ nodes) zero (suc j) new d is = refl
   same_place (node ∷ nodes) (suc i) zero new d is = refl
   same_place (node ∷ nodes) (suc i) (suc j) new d is = same_place nodes i j new d is
 
-  -- who keeps its post leaves all at theirs
-  pub still_posted : (plan : Plan) (nodes : List (Node D)) (i : ℕ) (old new : Node D) → i < length nodes → get_or nodes i old ≡ old → post_in new ≡ post_in old
-      → ∥ ArePosted plan nodes ∥₁ → ∥ ArePosted plan (set nodes i new) ∥₁
-  still_posted plan nodes i old new less at same posted = ∥∥₁_map posted (λ each j d within.
-      let here : place_at (post_in new) ≡ place_at (post_in (get_or nodes i d)) =
-      ap place_at same ∙ (ap (λ (node : Node D). place_at (post_in node)) (sym at) ∙ (each i old less ∙ sym (each i d less))) in
+  -- who keeps its member leaves all at theirs
+  pub still_at_places : (plan : Plan) (nodes : List (Node D)) (i : ℕ) (old new : Node D) → i < length nodes → get_or nodes i old ≡ old → member_in new ≡ member_in old
+      → ∥ AreAtPlaces plan nodes ∥₁ → ∥ AreAtPlaces plan (set nodes i new) ∥₁
+  still_at_places plan nodes i old new less at same at_places = ∥∥₁_map at_places (λ each j d within.
+      let here : place_at (member_in new) ≡ place_at (member_in (get_or nodes i d)) =
+      ap place_at same ∙ (ap (λ (node : Node D). place_at (member_in node)) (sym at) ∙ (each i old less ∙ sym (each i d less))) in
       same_place nodes i j new d here ∙ each j d (subst (λ n. j < n) (length-set nodes i new) within))
 
   -- the event is for its node
   pub is_for_node : (plan : Plan) (nodes : List (Node D)) (e : Event) (node : Node D) → length nodes ≡ length plan.sources → get_or nodes (node_of e) node ≡ node
-      → ∥ ArePosted plan nodes ∥₁ → IsForMatch plan e → IsFor (post_in node).nodes (post_in node).setting.game.players e
-  is_for_node plan nodes e node count at posted is_for_match =
+      → ∥ AreAtPlaces plan nodes ∥₁ → IsForMatch plan e → IsFor (member_in node).nodes (member_in node).setting.game.players e
+  is_for_node plan nodes e node count at at_places is_for_match =
       let is_for : IsFor (length nodes) plan.setting.game.players e = subst (λ n. IsFor n plan.setting.game.players e) (sym count) is_for_match in
-      ∥∥₁_elim posted (for_prop (post_in node).nodes (post_in node).setting.game.players e) (λ each.
-      let here : place_at (post_in node) ≡ place_of plan (node_of e) =
-      ap (λ (n : Node D). place_at (post_in n)) (sym at) ∙ each (node_of e) node (node_within (length nodes) plan.setting.game.players e is_for) in
-      subst (λ n. IsFor n (post_in node).setting.game.players e) (count ∙ ap (λ (p : Place). p.nodes) (sym here))
+      ∥∥₁_elim at_places (for_prop (member_in node).nodes (member_in node).setting.game.players e) (λ each.
+      let here : place_at (member_in node) ≡ place_of plan (node_of e) =
+      ap (λ (n : Node D). place_at (member_in n)) (sym at) ∙ each (node_of e) node (node_within (length nodes) plan.setting.game.players e is_for) in
+      subst (λ n. IsFor n (member_in node).setting.game.players e) (count ∙ ap (λ (p : Place). p.nodes) (sym here))
       (subst (λ players. IsFor (length nodes) players e) (ap (λ (p : Place). p.setting.game.players) (sym here)) is_for))
 
 module _ {D : Type 0} (g : Ghosts D) where
@@ -57,14 +57,14 @@ module _ {D : Type 0} (g : Ghosts D) where
   same_begun nodes i old new at same = map-set_same (begun_of g) nodes i new old (same ∙ ap (begun_of g) (sym at))
 
   pub behind_on : (opened : Bool) (plan : Plan) (nodes : List (Node D)) (e : Event) (old new : Node D) (told : Told) (answer : Result (Unit {0}) NodeFault) (all : Record)
-      → length nodes ≡ length plan.sources → IsForMatch plan e → get_or nodes (node_of e) old ≡ old → ∥ ArePosted plan nodes ∥₁ → ((s : Standing) → IsSeen g old s → runs old ≡ s.up)
+      → length nodes ≡ length plan.sources → IsForMatch plan e → get_or nodes (node_of e) old ≡ old → ∥ AreAtPlaces plan nodes ∥₁ → ((s : Standing) → IsSeen g old s → runs old ≡ s.up)
       → IsGiven g e old new told answer → (answer ≡ Err fault.OutOfMemory → ⊥) → IsBehind g opened plan nodes all
       → IsBehind g opened plan (set nodes (node_of e) new) (grown all (node_of e) (arrived_by_event (runs old) (front_in old) e) (made_by (node_of e) told (begins_by_event (runs old) e answer)))
-  behind_on opened plan nodes e old new told answer all count is_for_match at posted is_up given ample behind before goes honest =
+  behind_on opened plan nodes e old new told answer all count is_for_match at at_places is_up given ample behind before goes honest =
       let is_for : IsFor (length nodes) plan.setting.game.players e = subst (λ n. IsFor n plan.setting.game.players e) (sym count) is_for_match in
       let less = node_within (length nodes) plan.setting.game.players e is_for in
-      ∥∥₁_elim posted (hlevel) (λ each.
-      let here : place_at (post_in old) ≡ place_of plan (node_of e) = ap (λ (n : Node D). place_at (post_in n)) (sym at) ∙ each (node_of e) old less in
+      ∥∥₁_elim at_places (hlevel) (λ each.
+      let here : place_at (member_in old) ≡ place_of plan (node_of e) = ap (λ (n : Node D). place_at (member_in n)) (sym at) ∙ each (node_of e) old less in
       ∥∥₁_map (behind before (subst (GoesOn opened plan.setting (length plan.sources) before) (same_begun nodes (node_of e) old new at given.stays.begun) goes) honest)
       (λ ruled. runs_on g plan before nodes e old new told answer all here less at is_for honest is_up given ample ruled))
 

@@ -17,8 +17,8 @@ use Rattle.dealer_node.specs.Nodes.{Node}
 use Rattle.dealer_node.specs.declared.fault.NodeFault.{NodeFault}
 use Rattle.dealer_node.specs.declared.fault.NodeFault.TheVariants as fault
 use Rattle.dealer_node.specs.Outs.{Told, nothing_told}
-use Rattle.dealer_node.specs.Posts.{place_at}
-use Rattle.dealer_node.specs.Seeing.{post_in, runs, front_in, IsSeen}
+use Rattle.dealer_node.specs.Members.{place_at}
+use Rattle.dealer_node.specs.Seeing.{member_in, runs, front_in, IsSeen}
 use Rattle.dealer_node.specs.Taking.{Answered, refusal_fault}
 use Rattle.dealer_world.specs.declared.event.Event.{Event}
 use Rattle.dealer_world.specs.Records.{Record, Frame, Arrived}
@@ -30,7 +30,7 @@ use Rattle.dealer_world.specs.Events.{node_of, call_of}
 use Rattle.dealer_world.specs.RuleRuns.{IsAddressed, RunsSendToNodes, RunsNeverConflict}
 use Rattle.dealer_world.specs.Stepping.{View, Gains, nothing, call as gained, Stepped, arrived_by_event, begins_by_event}
 use Rattle.dealer_world.specs.Promise.{IsForMatch, AreAddressed, NeverConflicts}
-use Rattle.dealer_world.specs.Ruling.{ArePosted, IsBehind}
+use Rattle.dealer_world.specs.Ruling.{AreAtPlaces, IsBehind}
 use Rattle.dealer_world.proofs.Ruled.{err_is, arrives, front_seen, same_count, seen_at, seated}
 
 addressed_prop : (n : ℕ) (frame : Frame) → IsProp (IsAddressed n frame)
@@ -82,16 +82,16 @@ module _ {D : Type 0} (g : Ghosts D) where
   abbrev pub TellsUp : Type 0
   TellsUp = (node : Node D) (s : Standing) → IsSeen g node s → runs node ≡ s.up
 
-  pub never_conflicts : (old new : View (Node D)) (e : Event) (answer : Result (Unit {0}) NodeFault) → RunsNeverConflict → TellsUp → ∥ ArePosted old.config old.nodes ∥₁
+  pub never_conflicts : (old new : View (Node D)) (e : Event) (answer : Result (Unit {0}) NodeFault) → RunsNeverConflict → TellsUp → ∥ AreAtPlaces old.config old.nodes ∥₁
       → length old.nodes ≡ length old.config.sources → IsForMatch old.config e → IsBehind g old.opened old.config old.nodes old.all → Stepped g old e answer new → NeverConflicts g old answer new
-  never_conflicts old new e answer law tells posted count is_for behind stepped before goes honest unforged is =
-      ∥∥₁_elim posted (hlevel) (λ each. ∥∥₁_elim (behind before goes honest) (hlevel) (λ ruled.
+  never_conflicts old new e answer law tells at_places count is_for behind stepped before goes honest unforged is =
+      ∥∥₁_elim at_places (hlevel) (λ each. ∥∥₁_elim (behind before goes honest) (hlevel) (λ ruled.
       let i : ℕ = node_of e in
       let d : Standing = stopped (place_of old.config i) empty_store empty_store in
       let s : Standing = get_or ruled.standings i d in
       let below : i < length ruled.standings = subst (λ n. i < n) (same_count g old.nodes ruled.standings ruled.seen) stepped.within in
       let seen : IsSeen g stepped.before s = subst (λ node. IsSeen g node s) stepped.at (seen_at g old.nodes ruled.standings i stepped.before d stepped.within ruled.seen) in
-      let placed : place_at (post_in stepped.before) ≡ place_of old.config i = ap (λ (n : Node D). place_at (post_in n)) (sym stepped.at) ∙ each i stepped.before stepped.within in
+      let placed : place_at (member_in stepped.before) ≡ place_of old.config i = ap (λ (n : Node D). place_at (member_in n)) (sym stepped.at) ∙ each i stepped.before stepped.within in
       let t = stepped.given.taken s honest seen in
       let takes = t.1 in
       let called : Call = call_of t.0 e in

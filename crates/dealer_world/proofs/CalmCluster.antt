@@ -32,9 +32,9 @@ use Rattle.paxos_wire.specs.declared.message.Message.TheVariants.{Prepare, Promi
 use Rattle.dealer_node.specs.Nodes.{Node}
 use Rattle.dealer_node.specs.declared.fault.NodeFault.{NodeFault}
 use Rattle.dealer_node.specs.declared.fault.NodeFault.TheVariants as fault
-use Rattle.dealer_node.specs.Posts.{Post, place_at}
+use Rattle.dealer_node.specs.Members.{Membership, place_at}
 use Rattle.dealer_node.specs.declared.up.Up.{Up}
-use Rattle.dealer_node.specs.Seeing.{post_in, runs, IsSeenBy, IsSeen, failures_of, front_in}
+use Rattle.dealer_node.specs.Seeing.{member_in, runs, IsSeenBy, IsSeen, failures_of, front_in}
 use Rattle.dealer_node.specs.Taking.{Answered}
 use Rattle.dealer_world.specs.declared.event.Event.{Event}
 use Rattle.dealer_world.specs.declared.event.Event.TheVariants as event
@@ -43,7 +43,7 @@ use Rattle.dealer_world.specs.Recordings.{made_by}
 use Rattle.dealer_world.specs.RuleRuns.{State}
 use Rattle.dealer_world.specs.Events.{node_of, call_of}
 use Rattle.dealer_world.specs.Stepping.{View, Stepped, Ran, none, more, arrived_by_event, begins_by_event}
-use Rattle.dealer_world.specs.Ruling.{ArePosted, AreSeen, IsBehind}
+use Rattle.dealer_world.specs.Ruling.{AreAtPlaces, AreSeen, IsBehind}
 use Rattle.dealer_world.specs.CalmRun.{standing_at, IsUntroubled, TakesEvent, TakesEvents, RoundsMoveOn}
 use Rattle.dealer_world.specs.CalmCluster.{IsEvent, AreEvents, HaveNotFailed, MovesOn}
 use Rattle.dealer_world.proofs.Ruled.{ruled_by, front_seen, same_count, seen_at, seen_set}
@@ -132,14 +132,14 @@ without_in i [] k h = absurd h
 without_in i (m ∷ ms) k h = without_step i m ms k (m == i) (λ t. without_in i ms k t) h
 
 round_in : (standings : ℕ → Standing) (i : ℕ) (members : List ℕ) (commands : List Command) → In i members → (y : calm.Event) → In y (round standings i members commands) → In (of_round.node_of y) members
-round_in standings i members commands member y (inl e) = subst (λ (k : ℕ). In k members) (sym (ap of_round.node_of e)) member
-round_in standings i members commands member y (inr h) = elim (in_split (map asks others) _ y h) [
+round_in standings i members commands among y (inl e) = subst (λ (k : ℕ). In k members) (sym (ap of_round.node_of e)) among
+round_in standings i members commands among y (inr h) = elim (in_split (map asks others) _ y h) [
   | inl a ↦ from_map asks (λ j. j) others members (λ j. refl) (λ j k. without_in i members j k) y a
   | inr h ↦ elim (in_split (map promises others) _ y h) [
-    | inl a ↦ from_map promises (λ j. i) others members (λ j. refl) (λ j k. member) y a
+    | inl a ↦ from_map promises (λ j. i) others members (λ j. refl) (λ j k. among) y a
     | inr h ↦ elim (in_split (map proposes others) _ y h) [
       | inl a ↦ from_map proposes (λ j. j) others members (λ j. refl) (λ j k. without_in i members j k) y a
-      | inr a ↦ from_map accepts (λ j. i) others members (λ j. refl) (λ j k. member) y a
+      | inr a ↦ from_map accepts (λ j. i) others members (λ j. refl) (λ j k. among) y a
     ]
   ]
 ]
@@ -172,7 +172,7 @@ map_same f h [] same = refl
 map_same f h (j ∷ js) same = λ k. same j (inl refl) k ∷ map_same f h js (λ m i. same m (inr i)) k
 
 round_same : (a b : ℕ → Standing) (i : ℕ) (members : List ℕ) (commands : List Command) → In i members → ((k : ℕ) → In k members → a k ≡ b k) → round a i members commands ≡ round b i members commands
-round_same a b i members commands member same = λ k.
+round_same a b i members commands among same = λ k.
     let ballot = ballot_after i (here k) in
     let slot = front_of (here k) in
     Ticks i ∷ (map (λ j. delivers i j (Prepare ballot slot)) (without i members)
@@ -181,7 +181,7 @@ round_same a b i members commands member same = λ k.
     ++ map (λ j. delivers j i (Accepted ballot slot commands)) (without i members))))
   where
     here : a i ≡ b i
-    here = same i member
+    here = same i among
 
     told : map (λ j. delivers j i (Promise (ballot_after i (a i)) (front_of (a i)) (told_by (a j).store (front_of (a i))))) (without i members)
         ≡ map (λ j. delivers j i (Promise (ballot_after i (b i)) (front_of (b i)) (told_by (b j).store (front_of (b i))))) (without i members)
@@ -189,7 +189,7 @@ round_same a b i members commands member same = λ k.
         (λ j h k. delivers j i (Promise (ballot_after i (here k)) (front_of (here k)) (told_by (same j (without_in i members j h) k).store (front_of (here k)))))
 
 held_same : (a b : ℕ → Standing) (members : List ℕ) (slot : ℕ) (vote : Vote) → ((k : ℕ) → In k members → a k ≡ b k) → IsHeld a members slot vote → IsHeld b members slot vote
-held_same a b members slot vote same (node, member, e) = (node, member, ap (λ (s : Standing). s.store.votes slot) (sym (same node member)) ∙ e)
+held_same a b members slot vote same (node, among, e) = (node, among, ap (λ (s : Standing). s.store.votes slot) (sym (same node among)) ∙ e)
 
 greatest_same : (a b : ℕ → Standing) (members : List ℕ) (slot : ℕ) (command : Command) → ((k : ℕ) → In k members → a k ≡ b k) → IsGreatestHeld a members slot command → IsGreatestHeld b members slot command
 greatest_same a b members slot command same held = record {
@@ -227,21 +227,21 @@ calm_same : (place : Place) (a b : ℕ → Standing) (i : ℕ) (members : List �
 calm_same place a b i members commands same calm = record {
   of_node = calm.of_node;
   quorum = calm.quorum;
-  member = calm.member;
+  among = calm.among;
   up = λ k h. ap (λ (s : Standing). s.up) (sym (same k h)) ∙ calm.up k h;
-  round_left = subst (λ (s : Standing). (ballot_after i s).round < 2 ^ 32) (same i calm.member) calm.round_left;
-  slot_left = subst (λ (s : Standing). front_of s < SLOTS) (same i calm.member) calm.slot_left;
+  round_left = subst (λ (s : Standing). (ballot_after i s).round < 2 ^ 32) (same i calm.among) calm.round_left;
+  slot_left = subst (λ (s : Standing). front_of s < SLOTS) (same i calm.among) calm.slot_left;
   unpromised = λ k h. subst (λ (s : Standing). Below s.store.promise (ballot_after i (b i))) (same k h)
-      (subst (λ (s : Standing). Below (a k).store.promise (ballot_after i s)) (same i calm.member) (calm.unpromised k h));
-  goes_on = ap (is_over place) (sym (same i calm.member)) ∙ calm.goes_on;
+      (subst (λ (s : Standing). Below (a k).store.promise (ballot_after i s)) (same i calm.among) (calm.unpromised k h));
+  goes_on = ap (is_over place) (sym (same i calm.among)) ∙ calm.goes_on;
   value = elim calm.value [
-    | inl told ↦ inl (subst (λ (s : Standing). IsToldCommandRun b members (front_of s) commands) (same i calm.member) (told_same a b members (front_of (a i)) commands same told))
+    | inl told ↦ inl (subst (λ (s : Standing). IsToldCommandRun b members (front_of s) commands) (same i calm.among) (told_same a b members (front_of (a i)) commands same told))
     | inr own ↦ inr (
       own.0,
       own.1,
       (
-        subst (λ (s : Standing). IsUnheld b members (front_of s)) (same i calm.member) (unheld_same a b members (front_of (a i)) same own.2.0),
-        ap (own_value place) (sym (same i calm.member)) ∙ own.2.1,
+        subst (λ (s : Standing). IsUnheld b members (front_of s)) (same i calm.among) (unheld_same a b members (front_of (a i)) same own.2.0),
+        ap (own_value place) (sym (same i calm.among)) ∙ own.2.1,
       ),
     )
   ];
@@ -283,16 +283,16 @@ module _ {D : Type 0} (g : Ghosts D) where
     seen : AreSeen g new.nodes after
     takes : TakesEvent plan (state_of standings old) y (state_of after new)
 
-  step_on : (plan : Plan) (standings : List Standing) (old new : View (Node D)) (e : Event) (answer : Result (Unit {0}) NodeFault) (y : calm.Event) → ArePosted plan old.nodes
+  step_on : (plan : Plan) (standings : List Standing) (old new : View (Node D)) (e : Event) (answer : Result (Unit {0}) NodeFault) (y : calm.Event) → AreAtPlaces plan old.nodes
       → node_of e < length old.nodes → AreSeen g old.nodes standings → IsTrue g.is_honest → TellsUp g → (stepped : Stepped g old e answer new) → (answer ≡ Err fault.OutOfMemory → ⊥) → IsEvent e y
       → failures_of g stepped.after ≡ failures_of g stepped.before → failures_of g stepped.after < 2 ^ 64 - 1 → Next plan standings old y new
-  step_on plan standings old new e answer y posted less are_seen honest up stepped ample is same low =
+  step_on plan standings old new e answer y at_places less are_seen honest up stepped ample is same low =
       let i : ℕ = node_of e in
       let d : Standing = stopped (place_of plan i) empty_store empty_store in
       let s : Standing = get_or standings i d in
       let count = same_count g old.nodes standings are_seen in
       let seen : IsSeen g stepped.before s = subst (λ node. IsSeen g node s) stepped.at (seen_at g old.nodes standings i stepped.before d less are_seen) in
-      let placed : place_at (post_in stepped.before) ≡ place_of plan i = ap (λ (n : Node D). place_at (post_in n)) (sym stepped.at) ∙ posted i stepped.before less in
+      let placed : place_at (member_in stepped.before) ≡ place_of plan i = ap (λ (n : Node D). place_at (member_in n)) (sym stepped.at) ∙ at_places i stepped.before less in
       let t = stepped.given.taken s honest seen in
       let takes = t.1 in
       let called : Call = call_of t.0 e in
@@ -349,12 +349,12 @@ module _ {D : Type 0} (g : Ghosts D) where
 
   -- ---- all events
 
-  -- where a run of a round's events has come to, with no disk of a member failing
+  -- where a run of a round's events has come to, with no disk of a among failing
   record Moved (plan : Plan) (standings : List Standing) (old : View (Node D)) (ys : List calm.Event) (new : View (Node D)) : Type 0 where
     after : List Standing
     seen : AreSeen g new.nodes after
     takes : TakesEvents plan (state_of standings old) ys (state_of after new)
-    posted : ArePosted plan new.nodes
+    at_places : AreAtPlaces plan new.nodes
     count : length new.nodes ≡ length old.nodes
 
   -- as many nodes, and counts that didn't fall
@@ -371,50 +371,50 @@ module _ {D : Type 0} (g : Ghosts D) where
   grown_by n members first end all_events ys count low (more before between e answer events last ran stepped ample whole) are all =
       let s = split before e ys (subst (λ (l : List Event). AreEvents l ys) whole are) in
       let b = grown_by n members first between before s.front count low ran s.are (λ y h. all y (subst (λ (l : List calm.Event). In y l) (sym s.whole) (in_first s.front (s.last ∷ []) y h))) in
-      let member : In (node_of e) members = subst (λ (k : ℕ). In k members) (sym (same_node e s.last s.is))
+      let among : In (node_of e) members = subst (λ (k : ℕ). In k members) (sym (same_node e s.last s.is))
       (all s.last (subst (λ (l : List calm.Event). In s.last l) (sym s.whole) (in_later s.front (s.last ∷ []) s.last (inl refl)))) in
-      let less : node_of e < length between.nodes = subst (λ (m : ℕ). node_of e < m) (sym (b.count ∙ count)) (low (node_of e) member) in
+      let less : node_of e < length between.nodes = subst (λ (m : ℕ). node_of e < m) (sym (b.count ∙ count)) (low (node_of e) among) in
       record {
         count = ap (λ (l : List (Node D)). length l) stepped.others ∙ (length-set between.nodes (node_of e) stepped.after ∙ b.count);
         counts = λ k d. let x = b.counts k d in let y = step_counts between last e answer stepped less k d in omega (arith, x, y);
       }
 
   ran_on : (n : ℕ) (members : List ℕ) (plan : Plan) (standings : List Standing) (first last : View (Node D)) (events : List Event) (ys : List calm.Event) → length first.nodes ≡ n
-      → ((k : ℕ) → In k members → k < n) → Ran g first events last → AreEvents events ys → AllIn members ys → ArePosted plan first.nodes → AreSeen g first.nodes standings → IsTrue g.is_honest → TellsUp g
+      → ((k : ℕ) → In k members → k < n) → Ran g first events last → AreEvents events ys → AllIn members ys → AreAtPlaces plan first.nodes → AreSeen g first.nodes standings → IsTrue g.is_honest → TellsUp g
       → HaveNotFailed g first last members → Moved plan standings first ys last
-  ran_on n members plan standings first end all_events ys count low (none events last e same) are all posted seen honest up sound = record {
+  ran_on n members plan standings first end all_events ys count low (none events last e same) are all at_places seen honest up sound = record {
     after = standings;
     seen = subst (λ (v : View (Node D)). AreSeen g v.nodes standings) (sym same) seen;
     takes = subst (λ (l : List calm.Event). TakesEvents plan (state_of standings first) l (state_of standings last)) (sym (no_events events ys e are)) (ap (state_of standings) same);
-    posted = subst (λ (v : View (Node D)). ArePosted plan v.nodes) (sym same) posted;
+    at_places = subst (λ (v : View (Node D)). AreAtPlaces plan v.nodes) (sym same) at_places;
     count = ap (λ (v : View (Node D)). length v.nodes) same;
   }
-  ran_on n members plan standings first end all_events ys count low (more before between e answer events last ran stepped ample whole) are all posted seen honest up sound =
+  ran_on n members plan standings first end all_events ys count low (more before between e answer events last ran stepped ample whole) are all at_places seen honest up sound =
       let s = split before e ys (subst (λ (l : List Event). AreEvents l ys) whole are) in
       let front_in : AllIn members s.front = (λ y h. all y (subst (λ (l : List calm.Event). In y l) (sym s.whole) (in_first s.front (s.last ∷ []) y h))) in
       let b = grown_by n members first between before s.front count low ran s.are front_in in
-      let member : In (node_of e) members = subst (λ (k : ℕ). In k members) (sym (same_node e s.last s.is))
+      let among : In (node_of e) members = subst (λ (k : ℕ). In k members) (sym (same_node e s.last s.is))
       (all s.last (subst (λ (l : List calm.Event). In s.last l) (sym s.whole) (in_later s.front (s.last ∷ []) s.last (inl refl)))) in
-      let less : node_of e < length between.nodes = subst (λ (m : ℕ). node_of e < m) (sym (b.count ∙ count)) (low (node_of e) member) in
+      let less : node_of e < length between.nodes = subst (λ (m : ℕ). node_of e < m) (sym (b.count ∙ count)) (low (node_of e) among) in
       let still : HaveNotFailed g first between members =
       (λ k d h. let x = b.counts k d in let y = step_counts between last e answer stepped less k d in let z = sound k d h in let zz = z.0 in let zw = z.1 in (omega (arith, x, y, zz), omega (arith, y, zw))) in
-      let m = ran_on n members plan standings first between before s.front count low ran s.are front_in posted seen honest up still in
+      let m = ran_on n members plan standings first between before s.front count low ran s.are front_in at_places seen honest up still in
       let a = after_at between last e answer stepped stepped.before less in
-      let here = sound (node_of e) stepped.before member in
-      let there = still (node_of e) stepped.before member in
+      let here = sound (node_of e) stepped.before among in
+      let there = still (node_of e) stepped.before among in
       let even : failures_of g stepped.after ≡ failures_of g stepped.before =
       ap (failures_of g) (sym a.0) ∙ (here.0 ∙ (sym there.0 ∙ ap (failures_of g) a.1)) in
       let bounded : failures_of g stepped.after < 2 ^ 64 - 1 = subst (λ (x : Node D). failures_of g x < 2 ^ 64 - 1) a.0 here.1 in
-      let x = step_on plan m.after between last e answer s.last m.posted less m.seen honest up stepped ample s.is even bounded in
+      let x = step_on plan m.after between last e answer s.last m.at_places less m.seen honest up stepped ample s.is even bounded in
       record {
         after = x.after;
         seen = x.seen;
         takes = subst (λ (l : List calm.Event). TakesEvents plan (state_of standings first) l (state_of x.after last)) (sym s.whole)
             (takes_one_more plan (state_of standings first) s.front (state_of m.after between) (state_of x.after last) s.last m.takes x.takes);
-        posted = subst (ArePosted plan) (sym stepped.others)
+        at_places = subst (AreAtPlaces plan) (sym stepped.others)
             (λ j d within. same_place between.nodes (node_of e) j stepped.after d
-            (ap place_at stepped.given.stays.post ∙ (ap (λ (node : Node D). place_at (post_in node)) (sym stepped.at) ∙ (m.posted (node_of e) stepped.before less ∙ sym (m.posted (node_of e) d less))))
-            ∙ m.posted j d (subst (λ (k : ℕ). j < k) (length-set between.nodes (node_of e) stepped.after) within));
+            (ap place_at stepped.given.stays.member ∙ (ap (λ (node : Node D). place_at (member_in node)) (sym stepped.at) ∙ (m.at_places (node_of e) stepped.before less ∙ sym (m.at_places (node_of e) d less))))
+            ∙ m.at_places j d (subst (λ (k : ℕ). j < k) (length-set between.nodes (node_of e) stepped.after) within));
         count = ap (λ (l : List (Node D)). length l) stepped.others ∙ (length-set between.nodes (node_of e) stepped.after ∙ m.count);
       }
 
@@ -429,15 +429,15 @@ module _ {D : Type 0} (g : Ghosts D) where
   SeenAsOne = (node : Node D) (a b : Standing) → IsTrue g.is_honest → IsSeen g node a → IsSeen g node b → a.up ≡ true → a ≡ b
 
   -- a node that is down has passed nothing
-  up_above : (post : Post) (up : Option (Up D)) (disk : Option D) (s : Standing) (slot : ℕ) → IsSeenBy g post up disk s → slot < front_of s → s.up ≡ true
-  up_above post (Some up) disk s slot seen above = seen.running.up
-  up_above post None (Some disk) s slot seen above = let none : front_of s ≡ 0 = ap (λ (k : Standing). front_of k) seen.stopped in absurd (omega (arith, none, above))
-  up_above post None None s slot seen above = absurd seen
+  up_above : (member : Membership) (up : Option (Up D)) (disk : Option D) (s : Standing) (slot : ℕ) → IsSeenBy g member up disk s → slot < front_of s → s.up ≡ true
+  up_above member (Some up) disk s slot seen above = seen.running.up
+  up_above member None (Some disk) s slot seen above = let none : front_of s ≡ 0 = ap (λ (k : Standing). front_of k) seen.stopped in absurd (omega (arith, none, above))
+  up_above member None None s slot seen above = absurd seen
 
-  pub moves_on : (old new : View (Node D)) (events : List Event) → RoundsMoveOn → SeenAsOne → TellsUp g → ∥ ArePosted old.config old.nodes ∥₁ → length old.nodes ≡ length old.config.sources
+  pub moves_on : (old new : View (Node D)) (events : List Event) → RoundsMoveOn → SeenAsOne → TellsUp g → ∥ AreAtPlaces old.config old.nodes ∥₁ → length old.nodes ≡ length old.config.sources
       → IsBehind g old.opened old.config old.nodes old.all → Ran g old events new → MovesOn g old events new
-  moves_on old new events law one up posted count behind ran before standings i members commands first rest goes honest unforged seen calm_now whole are sound =
-      ∥∥₁_elim posted (hlevel) (λ each. ∥∥₁_map (behind before goes honest) (λ ruled.
+  moves_on old new events law one up at_places count behind ran before standings i members commands first rest goes honest unforged seen calm_now whole are sound =
+      ∥∥₁_elim at_places (hlevel) (λ each. ∥∥₁_map (behind before goes honest) (λ ruled.
       let plan : Plan = old.config in
       let n : ℕ = length old.config.sources in
       let state : State = state_of ruled.standings old in
@@ -448,13 +448,13 @@ module _ {D : Type 0} (g : Ghosts D) where
       one (get_or old.nodes k d) (standings k) (standing_at plan state k) honest (seen k d h)
       (seen_at g old.nodes ruled.standings k d (stopped (place_of plan k) empty_store empty_store) within ruled.seen) (calm_now.up k h))) in
       let calm_then = calm_same (place_of plan i) standings (standing_at plan state) i members commands same calm_now in
-      let split_then : round (standing_at plan state) i members commands ≡ first ++ rest = sym (round_same standings (standing_at plan state) i members commands calm_now.member same) ∙ whole in
+      let split_then : round (standing_at plan state) i members commands ≡ first ++ rest = sym (round_same standings (standing_at plan state) i members commands calm_now.among same) ∙ whole in
       let inside : AllIn members first =
-      (λ y h. round_in (standing_at plan state) i members commands calm_now.member y (subst (λ (l : List calm.Event). In y l) (sym split_then) (in_first first rest y h))) in
+      (λ y h. round_in (standing_at plan state) i members commands calm_now.among y (subst (λ (l : List calm.Event). In y l) (sym split_then) (in_first first rest y h))) in
       let m = ran_on n members plan ruled.standings old new events first count low ran are inside each ruled.seen honest up sound in
       let moved = law plan.setting n before plan.sources state (state_of m.after new) i members commands first rest ruled.runs unforged calm_then split_then m.takes in
-      let within : i < length new.nodes = subst (λ (k : ℕ). i < k) (sym (m.count ∙ count)) (low i calm_now.member) in
-      let front_is : front_of (standing_at plan state i) ≡ front_of (standings i) = ap (λ (x : Standing). front_of x) (sym (same i calm_now.member)) in
+      let within : i < length new.nodes = subst (λ (k : ℕ). i < k) (sym (m.count ∙ count)) (low i calm_now.among) in
+      let front_is : front_of (standing_at plan state i) ≡ front_of (standings i) = ap (λ (x : Standing). front_of x) (sym (same i calm_now.among)) in
       let s : Standing = standing_at plan (state_of m.after new) i in (
         moved.0,
         λ all d.
@@ -464,5 +464,5 @@ module _ {D : Type 0} (g : Ghosts D) where
             let some = some_command (place_of plan i) standings i members commands calm_now in
             let up_to = further.0 in
             let above : front_of (standings i) < front_of s = omega (arith, some, up_to) in
-            (s, is, up_above (post_in (get_or new.nodes i d)) (get_or new.nodes i d).up (get_or new.nodes i d).disk s (front_of (standings i)) is.by above, further.0, further.1),
+            (s, is, up_above (member_in (get_or new.nodes i d)) (get_or new.nodes i d).up (get_or new.nodes i d).disk s (front_of (standings i)) is.by above, further.0, further.1),
       )))

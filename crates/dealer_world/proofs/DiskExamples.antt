@@ -17,8 +17,8 @@ use Rattle.dealer_node.specs.Nodes.{Node}
 use Rattle.dealer_node.specs.declared.fault.NodeFault.{NodeFault}
 use Rattle.dealer_node.specs.declared.fault.NodeFault.TheVariants as fault
 use Rattle.dealer_node.specs.Outs.{nothing_told}
-use Rattle.dealer_node.specs.Posts.{place_at}
-use Rattle.dealer_node.specs.Seeing.{post_in, disk_in, IsSeen, seen_by, bytes_of, images_of, since_by}
+use Rattle.dealer_node.specs.Members.{place_at}
+use Rattle.dealer_node.specs.Seeing.{member_in, disk_in, IsSeen, seen_by, bytes_of, images_of, since_by}
 use Rattle.dealer_node.specs.Taking.{FindsStore, StopsBy}
 use Rattle.dealer_world.specs.declared.event.Event.TheVariants as event
 use Rattle.dealer_world.specs.Records.{no_record}
@@ -81,7 +81,7 @@ written = record (settled (created 0)) { shown = with_promise }
 -- node 0 of three, down
 abbrev pub down : Paper → Node Paper
 down disk = record {
-  post = record { setting = setting; source = Seed 7; nodes = 3; node = 0 };
+  member = record { setting = setting; source = Seed 7; nodes = 3; node = 0 };
   blank = record { game = setting.game; count = setting.title.hands; hands = []; room = 0 };
   disk = Some disk;
   up = None;
@@ -125,7 +125,7 @@ made_where_none_was : OnlyReads paper (settled []) made → ⊥
 made_where_none_was reads = created_for_nothing reads.seen
 
 -- what runs with the store of the file found it
-found_what_stands : (new : Node Paper) → IsSeen paper new (started (place_at (post_in (down (settled (created 0))))) empty_store) → FindsStore paper (down (settled (created 0))) new
+found_what_stands : (new : Node Paper) → IsSeen paper new (started (place_at (member_in (down (settled (created 0))))) empty_store) → FindsStore paper (down (settled (created 0))) new
 found_what_stands new seen = record { held = empty_store; stands = stands_created 0; seen = seen }
 
 -- nothing runs with a store of an empty file, nor with one that lacks the file's promise
@@ -286,7 +286,7 @@ answered = record {
   told = nothing_told;
   given = record {
     taken = λ s honest seen. absurd seen.by;
-    stays = record { post = refl; begun = refl; counts = omega arith; rose = λ failed. absurd (no_failed_disk failed); unmade = λ refused. refl };
+    stays = record { member = refl; begun = refl; counts = omega arith; rose = λ failed. absurd (no_failed_disk failed); unmade = λ refused. refl };
     disk = tt;
   };
   gains = call conflict no_want refl refl;

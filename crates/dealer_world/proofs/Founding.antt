@@ -13,7 +13,7 @@ use Rattle.dealer_world.specs.Records.{no_record}
 use Rattle.dealer_world.specs.Headline.{Era}
 use Rattle.dealer_world.specs.Behind.{EachNode}
 use Rattle.dealer_world.specs.RuleRuns.{State, IsCreated, AreReopened, RunsTo, fresh, opened}
-use Rattle.dealer_world.specs.Ruling.{ArePosted, AreSeen, AreRuled, AreLeft, Leaves, IsBehind, new_stores, a_run}
+use Rattle.dealer_world.specs.Ruling.{AreAtPlaces, AreSeen, AreRuled, AreLeft, Leaves, IsBehind, new_stores, a_run}
 use Rattle.dealer_world.specs.Beginning.{IsCreatedAt, IsReopenedAt, HaveStores, AreEach}
 
 -- ---- of a new match
@@ -46,8 +46,8 @@ module _ {D : Type 0} (g : Ghosts D) where
   pub from_0 : (IsSo : ℕ → Node D → Type 0) (nodes : List (Node D)) → AreEach IsSo nodes → AreEach (λ i. IsSo (0 + i)) nodes
   from_0 IsSo nodes each i d less = let e : i ≡ 0 + i = omega arith in subst (λ j. IsSo j (get_or nodes i d)) e (each i d less)
 
-  pub created_posted : (plan : Plan) (nodes : List (Node D)) → AreEach (IsCreatedAt g plan) nodes → ∥ ArePosted plan nodes ∥₁
-  created_posted plan nodes each = ∣ (λ i d less. (each i d less).placed) ∣₁
+  pub created_at_places : (plan : Plan) (nodes : List (Node D)) → AreEach (IsCreatedAt g plan) nodes → ∥ AreAtPlaces plan nodes ∥₁
+  created_at_places plan nodes each = ∣ (λ i d less. (each i d less).placed) ∣₁
 
   pub created_behind : (plan : Plan) (nodes : List (Node D)) → IsPlan plan → length nodes ≡ length plan.sources → AreEach (IsCreatedAt g plan) nodes → IsBehind g false plan nodes no_record
   created_behind plan nodes is_plan count each before none honest =
@@ -80,8 +80,8 @@ module _ {D : Type 0} (g : Ghosts D) where
     reopened_seen plan begun (k + 1) nodes standings (rest_of (IsReopenedAt g plan) k node nodes each) left,
   )
 
-  pub reopened_posted : (plan : Plan) (nodes : List (Node D)) → AreEach (IsReopenedAt g plan) nodes → ∥ ArePosted plan nodes ∥₁
-  reopened_posted plan nodes each = ∣ (λ i d less. (each i d less).placed) ∣₁
+  pub reopened_at_places : (plan : Plan) (nodes : List (Node D)) → AreEach (IsReopenedAt g plan) nodes → ∥ AreAtPlaces plan nodes ∥₁
+  reopened_at_places plan nodes each = ∣ (λ i d less. (each i d less).placed) ∣₁
 
   -- over files of new stores
   created_files_seen : (plan : Plan) (k : ℕ) (nodes : List (Node D)) → AreEach (λ i. IsReopenedAt g plan (k + i)) nodes

@@ -10,9 +10,9 @@ use Rattle.node_rules.specs.Calls.{Call}
 use Rattle.dealer_node.specs.Nodes.{Node}
 use Rattle.dealer_node.specs.declared.fault.NodeFault.{NodeFault}
 use Rattle.dealer_node.specs.declared.fault.NodeFault.TheVariants as fault
-use Rattle.dealer_node.specs.Posts.{place_at}
+use Rattle.dealer_node.specs.Members.{place_at}
 use Rattle.dealer_node.specs.Outs.{Told, nothing_told}
-use Rattle.dealer_node.specs.Seeing.{post_in, IsSeen}
+use Rattle.dealer_node.specs.Seeing.{member_in, IsSeen}
 use Rattle.dealer_node.specs.Taking.{Takes, StaysItself, MayBegin, IsOfStart, FindsStore, StopsBy}
 use Rattle.dealer_world.specs.declared.event.Event.{Event}
 use Rattle.dealer_world.specs.declared.event.Event.TheVariants as event
@@ -65,7 +65,7 @@ module _ {D : Type 0} (g : Ghosts D) where
   -- a call that wasn't made: there was no memory
   pub not_given : (e : Event) (node : Node D) (answer : Result (Unit {0}) NodeFault) → answer ≡ Err fault.OutOfMemory → IsGiven g e node node nothing_told answer
   not_given e node answer none = record {
-    taken = λ s honest seen. let begun = begins_nothing s.up (place_at (post_in node)) s (call_of empty_store e) in (
+    taken = λ s honest seen. let begun = begins_nothing s.up (place_at (member_in node)) s (call_of empty_store e) in (
       empty_store,
       record {
         after = s;
@@ -84,7 +84,7 @@ module _ {D : Type 0} (g : Ghosts D) where
       },
     );
     stays = record {
-      post = refl;
+      member = refl;
       begun = refl;
       counts = omega arith;
       rose = λ failed. absurd (not_store answer none failed);

@@ -17,7 +17,7 @@ use Rattle.node_rules.specs.Standings.{Place}
 use Rattle.dealer_node.specs.Nodes.{Node}
 use Rattle.dealer_node.specs.declared.fault.NodeFault.{NodeFault}
 use Rattle.dealer_node.specs.declared.fault.NodeFault.TheVariants as fault
-use Rattle.dealer_node.specs.Seeing.{head_of, post_in, runs, seen_by, begun_by, count_by, images_by, since_by, begun_of, bytes_of, images_of, disk_in}
+use Rattle.dealer_node.specs.Seeing.{head_of, member_in, runs, seen_by, begun_by, count_by, images_by, since_by, begun_of, bytes_of, images_of, disk_in}
 use Rattle.dealer_node.specs.Starting.{GoesOnNew, MarksJournal}
 use Rattle.dealer_node.specs.Taking.{IsOfStart, FindsStore, OpensDisk}
 use Rattle.dealer_world.specs.declared.event.Event.TheVariants as event
@@ -93,7 +93,7 @@ module _ {D : Type 0} (g : Ghosts D) where
 
   pub read_itself : (node : Node D) → IsOnlyRead g node node
   read_itself node = record {
-    post = refl;
+    member = refl;
     bytes = refl;
     begun = refl;
     counts = omega arith;
@@ -101,9 +101,9 @@ module _ {D : Type 0} (g : Ghosts D) where
     during = λ t image was. inl was;
   }
 
-  read_disk : (old new : Node D) (before after : D) → post_in new ≡ post_in old → disk_in old ≡ Some before → disk_in new ≡ Some after → OnlyReads g before after → IsOnlyRead g old new
-  read_disk old new before after post was is reads = record {
-    post = post;
+  read_disk : (old new : Node D) (before after : D) → member_in new ≡ member_in old → disk_in old ≡ Some before → disk_in new ≡ Some after → OnlyReads g before after → IsOnlyRead g old new
+  read_disk old new before after member was is reads = record {
+    member = member;
     bytes = ap (seen_by g) is ∙ (reads.seen ∙ sym (ap (seen_by g) was));
     begun = ap (begun_by g) is ∙ (reads.begun ∙ sym (ap (begun_by g) was));
     counts = let a = ap (count_by g) was in let b = ap (count_by g) is in let c = reads.counts in omega arith;
@@ -116,7 +116,7 @@ module _ {D : Type 0} (g : Ghosts D) where
 
   pub read_on : (a b c : Node D) → IsOnlyRead g a b → IsOnlyRead g b c → IsOnlyRead g a c
   read_on a b c first second = record {
-    post = second.post ∙ first.post;
+    member = second.member ∙ first.member;
     bytes = second.bytes ∙ first.bytes;
     begun = second.begun ∙ first.begun;
     counts = let x = first.counts in let y = second.counts in omega arith;
@@ -126,7 +126,7 @@ module _ {D : Type 0} (g : Ghosts D) where
 
   pub opened_itself : (node : Node D) → IsOpenedSince g node node
   opened_itself node = record {
-    post = refl;
+    member = refl;
     begun = refl;
     counts = omega arith;
     leaves = λ store begun honest leaves. leaves;
@@ -134,13 +134,13 @@ module _ {D : Type 0} (g : Ghosts D) where
     quiet = λ honest goes_on. read_itself node;
   }
 
-  open_disk : (old new : Node D) (answer : Result (Unit {0}) NodeFault) → post_in new ≡ post_in old → OpensDisk g old new answer → IsOpenedSince g old new
-  open_disk old new answer post opens =
-      let head = head_of (post_in old) in
+  open_disk : (old new : Node D) (answer : Result (Unit {0}) NodeFault) → member_in new ≡ member_in old → OpensDisk g old new answer → IsOpenedSince g old new
+  open_disk old new answer member opens =
+      let head = head_of (member_in old) in
       let at_first : (store begun : Store) → LeavesIn g head store begun old → Leaves g head store begun opens.before =
       λ store begun leaves image left. leaves image (subst (λ disk. images_by g disk image) (sym opens.was) left) in
       record {
-        post = post;
+        member = member;
         begun = ap (begun_by g) opens.is ∙ (opens.reopens.begun ∙ sym (ap (begun_by g) opens.was));
         counts = let a = ap (count_by g) opens.was in let b = ap (count_by g) opens.is in let c = opens.reopens.counts in omega arith;
         leaves = λ store begun honest leaves image left.
@@ -151,17 +151,17 @@ module _ {D : Type 0} (g : Ghosts D) where
               | inr either ↦ inr either
             ];
         quiet = λ honest goes_on.
-            read_disk old new opens.before opens.after post opens.was opens.is
+            read_disk old new opens.before opens.after member opens.was opens.is
             (opens.quiet honest (subst (GoesOnNew head) (ap (seen_by g) opens.was) goes_on));
       }
 
   opened_on : (a b c : Node D) → IsOpenedSince g a b → IsOpenedSince g b c → IsOpenedSince g a c
   opened_on a b c first second =
-      let heads : head_of (post_in b) ≡ head_of (post_in a) = ap (λ post. head_of post) first.post in
-      let later : (store begun : Store) → IsTrue g.is_honest → LeavesIn g (head_of (post_in a)) store begun a → LeavesIn g (head_of (post_in b)) store begun b =
+      let heads : head_of (member_in b) ≡ head_of (member_in a) = ap (λ member. head_of member) first.member in
+      let later : (store begun : Store) → IsTrue g.is_honest → LeavesIn g (head_of (member_in a)) store begun a → LeavesIn g (head_of (member_in b)) store begun b =
       λ store begun honest leaves. subst (λ head. LeavesIn g head store begun b) (sym heads) (first.leaves store begun honest leaves) in
       record {
-        post = second.post ∙ first.post;
+        member = second.member ∙ first.member;
         begun = second.begun ∙ first.begun;
         counts = let x = first.counts in let y = second.counts in omega arith;
         leaves = λ store begun honest leaves.
@@ -173,14 +173,14 @@ module _ {D : Type 0} (g : Ghosts D) where
             ];
         quiet = λ honest goes_on.
             let one = first.quiet honest goes_on in
-            let there = subst (λ head. GoesOnNew head (bytes_of g b)) (sym heads) (subst (GoesOnNew (head_of (post_in a))) (sym one.bytes) goes_on) in
+            let there = subst (λ head. GoesOnNew head (bytes_of g b)) (sym heads) (subst (GoesOnNew (head_of (member_in a))) (sym one.bytes) goes_on) in
             read_on a b c one (second.quiet honest there);
       }
 
   start_opens : (old new : View (Node D)) (k : ℕ) (answer : Result (Unit {0}) NodeFault) (stepped : Stepped g old (event.Start k) answer new) → IsOpenedSince g stepped.before stepped.after
   start_opens old new k answer stepped = elim stepped.given.disk.opens [
     | inl same ↦ subst (IsOpenedSince g stepped.before) (sym same.0) (opened_itself stepped.before)
-    | inr opens ↦ open_disk stepped.before stepped.after answer stepped.given.stays.post opens
+    | inr opens ↦ open_disk stepped.before stepped.after answer stepped.given.stays.member opens
   ]
 
   -- ---- one start after another: of the nodes, the first ones were started
@@ -218,11 +218,11 @@ module _ {D : Type 0} (g : Ghosts D) where
 
   -- the journal of a node whose start went well
   start_marks : (old new : View (Node D)) (k : ℕ) (answer : Result (Unit {0}) NodeFault) (stepped : Stepped g old (event.Start k) answer new) → answer ≡ Ok tt → IsTrue g.is_honest
-      → runs stepped.before ≡ false → MarksJournal (head_of (post_in stepped.before)) (bytes_of g stepped.before) (bytes_of g stepped.after)
+      → runs stepped.before ≡ false → MarksJournal (head_of (member_in stepped.before)) (bytes_of g stepped.before) (bytes_of g stepped.after)
   start_marks old new k answer stepped went honest down = elim stepped.given.disk.opens [
     | inl same ↦ absurd (let e : ◌≡◌ {A = Result (Unit {0}) NodeFault} (Ok tt) (Err fault.OutOfMemory) = sym went ∙ same.1 in cc)
     | inr opens ↦
-        let head = head_of (post_in stepped.before) in
+        let head = head_of (member_in stepped.before) in
         let marks = subst (λ (a : Result (Unit {0}) NodeFault). OnOk a (MarksJournal head (g.seen opens.before) (g.seen opens.after))) went (opens.marks honest down) in
         subst (λ (file : List ℕ). MarksJournal head file (bytes_of g stepped.after)) (sym (ap (seen_by g) opens.was))
         (subst (MarksJournal head (g.seen opens.before)) (sym (ap (seen_by g) opens.is)) marks)
@@ -235,12 +235,12 @@ module _ {D : Type 0} (g : Ghosts D) where
         let one = start_marks old new k answer stepped went honest (is_down first old new k answer stepped waits less down) in
         let was : get_or first k d ≡ stepped.before = next_is first old new k answer d stepped waits less in
         let now : get_or new.nodes k d ≡ stepped.after = ap (λ (nodes : List (Node D)). get_or nodes k d) stepped.others ∙ get_or-set_same old.nodes k stepped.after d stepped.within in
-        subst (λ j. MarksJournal (head_of (post_in (get_or first j d))) (bytes_of g (get_or first j d)) (bytes_of g (get_or new.nodes j d))) (sym is)
-        (subst (λ (node : Node D). MarksJournal (head_of (post_in node)) (bytes_of g node) (bytes_of g (get_or new.nodes k d))) (sym was)
-        (subst (λ (node : Node D). MarksJournal (head_of (post_in stepped.before)) (bytes_of g stepped.before) (bytes_of g node)) (sym now) one))
+        subst (λ j. MarksJournal (head_of (member_in (get_or first j d))) (bytes_of g (get_or first j d)) (bytes_of g (get_or new.nodes j d))) (sym is)
+        (subst (λ (node : Node D). MarksJournal (head_of (member_in node)) (bytes_of g node) (bytes_of g (get_or new.nodes k d))) (sym was)
+        (subst (λ (node : Node D). MarksJournal (head_of (member_in stepped.before)) (bytes_of g stepped.before) (bytes_of g node)) (sym now) one))
     | inr ne ↦
         let other : get_or new.nodes i d ≡ get_or old.nodes i d = ap (λ (nodes : List (Node D)). get_or nodes i d) stepped.others ∙ get_or-set_other old.nodes k i stepped.after d ne in
-        subst (λ (node : Node D). MarksJournal (head_of (post_in (get_or first i d))) (bytes_of g (get_or first i d)) (bytes_of g node)) (sym other) (marks i d (omega (arith, below, ne)))
+        subst (λ (node : Node D). MarksJournal (head_of (member_in (get_or first i d))) (bytes_of g (get_or first i d)) (bytes_of g node)) (sym other) (marks i d (omega (arith, below, ne)))
   ]
 
   pub step_finds : (first : List (Node D)) (old new : View (Node D)) (k : ℕ) (answer : Result (Unit {0}) NodeFault) → Stepped g old (event.Start k) answer new → answer ≡ Ok tt
@@ -264,12 +264,12 @@ module _ {D : Type 0} (g : Ghosts D) where
   abbrev pub IsRefusedStart : List (Node D) → NodeFault → Type 0
   IsRefusedStart first why = IsWant why ⊎ ((f : StoreFault) × (why ≡ fault.Store f) × IsFirstRefused g first f)
 
-  first_refused : (first : List (Node D)) (k : ℕ) (f : StoreFault) → IsOfBytes f → k < length first → ((d : Node D) → Refuses (head_of (post_in (get_or first k d))) (bytes_of g (get_or first k d)) f)
+  first_refused : (first : List (Node D)) (k : ℕ) (f : StoreFault) → IsOfBytes f → k < length first → ((d : Node D) → Refuses (head_of (member_in (get_or first k d))) (bytes_of g (get_or first k d)) f)
       → HaveFirst first k → IsRefusedStart first (fault.Store f)
   first_refused first k f kind less refused have = inr (f, refl, record { kind = kind; node = k; within = less; refused = refused; before = have })
 
   by_store_fault : (first : List (Node D)) (k : ℕ) (f : StoreFault) (node : Node D) → IsOfStart (fault.Store f) → k < length first
-      → ((d : Node D) → Refuses (head_of (post_in (get_or first k d))) (bytes_of g (get_or first k d)) f) → HaveFirst first k → IsRefusedStart first (fault.Store f)
+      → ((d : Node D) → Refuses (head_of (member_in (get_or first k d))) (bytes_of g (get_or first k d)) f) → HaveFirst first k → IsRefusedStart first (fault.Store f)
   by_store_fault first k NoStore node of less refused have = first_refused first k NoStore tt less refused have
   by_store_fault first k BadHeader node of less refused have = first_refused first k BadHeader tt less refused have
   by_store_fault first k BadRecord node of less refused have = first_refused first k BadRecord tt less refused have
@@ -278,7 +278,7 @@ module _ {D : Type 0} (g : Ghosts D) where
   by_store_fault first k OutOfMemory node of less refused have = absurd (of refl)
 
   by_fault : (first : List (Node D)) (k : ℕ) (why : NodeFault) (node : Node D) → IsOfStart why → k < length first
-      → ((f : StoreFault) → why ≡ fault.Store f → (d : Node D) → Refuses (head_of (post_in (get_or first k d))) (bytes_of g (get_or first k d)) f) → HaveFirst first k → IsRefusedStart first why
+      → ((f : StoreFault) → why ≡ fault.Store f → (d : Node D) → Refuses (head_of (member_in (get_or first k d))) (bytes_of g (get_or first k d)) f) → HaveFirst first k → IsRefusedStart first why
   by_fault first k fault.Down node of less refused have = absurd of
   by_fault first k (fault.Store f) node of less refused have = by_store_fault first k f node of less (refused f refl) have
   by_fault first k fault.OutOfMemory node of less refused have = inl (inl refl)
@@ -291,7 +291,7 @@ module _ {D : Type 0} (g : Ghosts D) where
       → IsTrue g.is_honest → Wait first k old.nodes → k < length first → HaveFirst first k → IsRefusedStart first why
   step_refused first old new k answer why stepped failed honest waits less have =
       by_fault first k why stepped.before (subst (λ (a : Result (Unit {0}) NodeFault). IfErr a IsOfStart) failed stepped.given.disk.faults) less
-      (λ f is d. subst (λ (node : Node D). Refuses (head_of (post_in node)) (bytes_of g node) f) (sym (next_is first old new k answer d stepped waits less))
+      (λ f is d. subst (λ (node : Node D). Refuses (head_of (member_in node)) (bytes_of g node) f) (sym (next_is first old new k answer d stepped waits less))
       (stepped.given.disk.refused honest f (failed ∙ ap Err is))) have
 
   -- ---- over the disks that were given
@@ -319,13 +319,13 @@ module _ {D : Type 0} (g : Ghosts D) where
       all_zip_map (IsOpenedSince g) (begun_of g) (begun_of g) (λ old new one. one.begun) first now opens
       ∙ (ap (map (begun_of g)) same ∙ begun_are given nodes over)
 
-  opened_one : (head : List ℕ) (given : D) (old new : Node D) → head_of (post_in old) ≡ head → IsOver g given old → IsOpenedSince g old new
-      → (IsTrue g.is_honest → MarksJournal (head_of (post_in old)) (bytes_of g old) (bytes_of g new)) → IsOpenedOver g head given new
+  opened_one : (head : List ℕ) (given : D) (old new : Node D) → head_of (member_in old) ≡ head → IsOver g given old → IsOpenedSince g old new
+      → (IsTrue g.is_honest → MarksJournal (head_of (member_in old)) (bytes_of g old) (bytes_of g new)) → IsOpenedOver g head given new
   opened_one head given old new heads over opens marks = record {
     begun = opens.begun ∙ over.begun;
     counts = let a = over.counts in let b = opens.counts in omega arith;
     during = λ store honest stands t image left.
-        let first : LeavesIn g (head_of (post_in old)) store store old =
+        let first : LeavesIn g (head_of (member_in old)) store store old =
         λ other is. inl (subst (λ (h : List ℕ). StandsFor h other store) (sym heads) (subst (λ (file : List ℕ). StandsFor head file store) (sym (over.settled other is)) stands)) in
         elim (opens.during store store honest first t image left) [
           | inl before ↦ elim (over.during t image before) [ inl was ↦ inl was | inr now ↦ inr (inl now) ]
@@ -426,7 +426,7 @@ module _ {D : Type 0} (g : Ghosts D) where
 
   -- the store that a node's disk has is that of its file
   pub stands_at : (plan : Plan) (given : List D) (nodes : List (Node D)) (i : ℕ) (d : Node D) (store : Store) → AreEach (IsReopenedAt g plan) nodes → AllZip (IsOver g) given nodes → i < length nodes
-      → StandsFor (head_of (post_in (get_or nodes i d))) (bytes_of g (get_or nodes i d)) store → StandsFor (header i (length plan.sources)) (get_or (map g.seen given) i []) store
+      → StandsFor (head_of (member_in (get_or nodes i d))) (bytes_of g (get_or nodes i d)) store → StandsFor (header i (length plan.sources)) (get_or (map g.seen given) i []) store
   stands_at plan given nodes i d store each over less stands =
       subst (λ (file : List ℕ). StandsFor (header i (length plan.sources)) file store) (file_at given nodes i d over less)
       (subst (λ (head : List ℕ). StandsFor head (bytes_of g (get_or nodes i d)) store) (ap (λ (p : Place). header p.node p.nodes) (each i d less).placed) stands)
@@ -437,7 +437,7 @@ module _ {D : Type 0} (g : Ghosts D) where
   picked nodes d have i (inr most) = empty_store
 
   picked_stands : (nodes : List (Node D)) (d : Node D) (have : AreEach (λ i. HasStore g) nodes) (i : ℕ) → i < length nodes → (which : (i < length nodes) ⊎ (length nodes ≤ i))
-      → StandsFor (head_of (post_in (get_or nodes i d))) (bytes_of g (get_or nodes i d)) (picked nodes d have i which)
+      → StandsFor (head_of (member_in (get_or nodes i d))) (bytes_of g (get_or nodes i d)) (picked nodes d have i which)
   unfolding picked
   picked_stands nodes d have i less (inl within) = (have i d within).1
   picked_stands nodes d have i less (inr most) = absurd (omega (arith, less, most))

@@ -142,7 +142,7 @@ either store begun t image (inr old) left = inr (during_the_opening begun old t 
 
 opened_since : IsOpenedSince paper (down (settled old_file)) (down (opened_by_way_of torn_file))
 opened_since = record {
-  post = refl;
+  member = refl;
   begun = refl;
   counts = omega arith;
   leaves = λ store begun honest leaves image left. either store begun 1 image (leaves old_file (inl refl)) (inl left);

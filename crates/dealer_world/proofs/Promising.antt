@@ -10,7 +10,7 @@ use Rattle.dealer_world.specs.declared.event.Event.{Event}
 use Rattle.dealer_world.specs.RuleRuns.{RunsShowOneList, RunsAreBacked, IsBacked as IsBackedRule}
 use Rattle.dealer_world.specs.Stepping.{View, Stepped, Ran, more}
 use Rattle.dealer_world.specs.Promise.{IsPromised, IsPromisedNew, IsBackedBy}
-use Rattle.dealer_world.specs.Ruling.{ArePosted, IsBehind, GoesOn}
+use Rattle.dealer_world.specs.Ruling.{AreAtPlaces, IsBehind, GoesOn}
 use Rattle.std.specs.Prelude.{map}
 use Rattle.dealer_node.specs.Seeing.{begun_of}
 use Rattle.promise_store.specs.Journals.{header}
@@ -32,10 +32,10 @@ module _ {D : Type 0} (g : Ghosts D) where
       more (take k events) between e answer _ last ran stepped ample (take_more events k e within ∙ ap (λ (x : Event). take k events ++ x ∷ []) (sym is))
 
   -- what was said is backed, by each image
-  pub backed : (view : View (Node D)) → RunsAreBacked → ImagesAreSeen g → ∥ ArePosted view.config view.nodes ∥₁ → IsBehind g view.opened view.config view.nodes view.all → IsBackedBy g view
-  backed view law images posted behind before goes honest unforged i d image frame message less is sent from says =
+  pub backed : (view : View (Node D)) → RunsAreBacked → ImagesAreSeen g → ∥ AreAtPlaces view.config view.nodes ∥₁ → IsBehind g view.opened view.config view.nodes view.all → IsBackedBy g view
+  backed view law images at_places behind before goes honest unforged i d image frame message less is sent from says =
       let head = header i (length view.config.sources) in
-      ∥∥₁_elim posted (hlevel) (λ each. ∥∥₁_map (behind before goes honest) (λ ruled.
+      ∥∥₁_elim at_places (hlevel) (λ each. ∥∥₁_map (behind before goes honest) (λ ruled.
       let e : Standing = stopped (place_of view.config i) empty_store empty_store in
       let s : Standing = get_or ruled.standings i e in
       let back = each_here (IsBackedRule view.all.sent) i ruled.standings e (subst (λ n. i < n) (same_count g view.nodes ruled.standings ruled.seen) less)

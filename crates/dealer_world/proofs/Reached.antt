@@ -21,18 +21,18 @@ use Rattle.dealer_world.specs.Headline.{Era}
 use Rattle.dealer_world.specs.Stepping.{View, Gains, nothing, call, Stepped, Ran, none, more, arrived_by_event, begins_by_event}
 use Rattle.dealer_world.specs.Unforged.{IsUnforged, ArePlaced}
 use Rattle.dealer_world.specs.RuleRuns.{State, RunsTo, fresh, step, opened, RunsNeverConflict}
-use Rattle.dealer_world.specs.Ruling.{ArePosted, GoesOn, IsBehind}
+use Rattle.dealer_world.specs.Ruling.{AreAtPlaces, GoesOn, IsBehind}
 use Rattle.dealer_world.specs.Promise.{IsForMatch, GoesOnFrom, HasNoForged, WasReached, NoneIsAnswered, NoneConflicts}
 use Rattle.dealer_world.proofs.Saying.{unforged_before, placed_after}
 use Rattle.dealer_world.proofs.Each.{all_front, all_last}
-use Rattle.dealer_world.proofs.Advancing.{still_posted, same_begun, behind_on, behind_still}
+use Rattle.dealer_world.proofs.Advancing.{still_at_places, same_begun, behind_on, behind_still}
 use Rattle.dealer_world.proofs.Answering.{TellsUp, never_conflicts}
 
 module _ {D : Type 0} (g : Ghosts D) where
   -- what holds of every cluster
   pub record IsCluster (view : View (Node D)) : Type 0 where
     pub count : length view.nodes ≡ length view.config.sources
-    pub posted : ∥ ArePosted view.config view.nodes ∥₁
+    pub at_places : ∥ AreAtPlaces view.config view.nodes ∥₁
     pub behind : IsBehind g view.opened view.config view.nodes view.all
 
   -- what no event changes
@@ -65,14 +65,14 @@ module _ {D : Type 0} (g : Ghosts D) where
       by_gain (call _ ample all last) =
           subst (λ (r : Record). IsBehind g old.opened old.config new.nodes r) (sym all)
           (subst (λ (nodes : List (Node D)). IsBehind g old.opened old.config nodes (grew stepped)) (sym stepped.others)
-          (behind_on g old.opened old.config old.nodes e stepped.before stepped.after stepped.told answer old.all kept.count is_for stepped.at kept.posted (tells stepped.before) stepped.given ample kept.behind))
+          (behind_on g old.opened old.config old.nodes e stepped.before stepped.after stepped.told answer old.all kept.count is_for stepped.at kept.at_places (tells stepped.before) stepped.given ample kept.behind))
 
   pub step_keeps : (old new : View (Node D)) (e : Event) (answer : Result (Unit {0}) NodeFault) → TellsUp g → IsCluster old → IsForMatch old.config e → Stepped g old e answer new → IsCluster new
   step_keeps old new e answer tells kept is_for stepped = record {
     count = ap length stepped.others ∙ (length-set old.nodes (node_of e) stepped.after ∙ (kept.count ∙ ap (λ (p : Plan). length p.sources) (sym stepped.same_config)));
-    posted = subst (λ (p : Plan). ∥ ArePosted p new.nodes ∥₁) (sym stepped.same_config)
-        (subst (λ (nodes : List (Node D)). ∥ ArePosted old.config nodes ∥₁) (sym stepped.others)
-        (still_posted old.config old.nodes (node_of e) stepped.before stepped.after stepped.within stepped.at stepped.given.stays.post kept.posted));
+    at_places = subst (λ (p : Plan). ∥ AreAtPlaces p new.nodes ∥₁) (sym stepped.same_config)
+        (subst (λ (nodes : List (Node D)). ∥ AreAtPlaces old.config nodes ∥₁) (sym stepped.others)
+        (still_at_places old.config old.nodes (node_of e) stepped.before stepped.after stepped.within stepped.at stepped.given.stays.member kept.at_places));
     behind = subst (λ b. IsBehind g b new.config new.nodes new.all) (sym stepped.same_opened)
         (subst (λ (p : Plan). IsBehind g old.opened p new.nodes new.all) (sym stepped.same_config) (behind_by old new e answer tells kept is_for stepped));
   }
@@ -141,5 +141,5 @@ module _ {D : Type 0} (g : Ghosts D) where
           let from = goes_on_to g first between eras there.one goes in
           let clean = unforged_behind between last e answer stepped (are_placed between eras there.kept from honest) unforged in (
             by_run before between ran front clean,
-            never_conflicts g between last e answer law tells there.kept.posted there.kept.count here there.kept.behind stepped eras from honest unforged,
+            never_conflicts g between last e answer law tells there.kept.at_places there.kept.count here there.kept.behind stepped eras from honest unforged,
           )

@@ -21,9 +21,9 @@ use Rattle.dealer_node.specs.declared.fault.NodeFault.{NodeFault}
 use Rattle.dealer_node.specs.declared.fault.NodeFault.TheVariants as fault
 use Rattle.dealer_node.specs.Outs.{Told, nothing_told, both_told}
 use Rattle.dealer_node.specs.declared.up.Up.{Up}
-use Rattle.dealer_node.specs.Posts.{Post, place_at}
-use Rattle.dealer_node.specs.Turned.{reader_of, posted, printed, fault_of}
-use Rattle.dealer_node.specs.Seeing.{post_in, runs, front_by, front_in, IsSeenBy, IsSeen}
+use Rattle.dealer_node.specs.Members.{Membership, place_at}
+use Rattle.dealer_node.specs.Turned.{reader_of, framed, printed, fault_of}
+use Rattle.dealer_node.specs.Seeing.{member_in, runs, front_by, front_in, IsSeenBy, IsSeen}
 use Rattle.dealer_node.specs.Taking.{Answered, IsStart, refusal_fault}
 use Rattle.dealer_world.specs.declared.event.Event.{Event}
 use Rattle.dealer_world.specs.declared.event.Event.TheVariants as event
@@ -51,7 +51,7 @@ same_texts (piece ∷ shown) =
     let first : Text → List Text = λ text. text ∷ map text_by (map printed shown) in
     ap (λ reader. first (record { reader = reader; text = piece.text })) (same_reader piece.reader) ∙ ap (λ texts. text_by_rule piece ∷ texts) (same_texts shown)
 
-pub written : (i : ℕ) (frames : List Outgoing) → ((one : Outgoing) → In one frames → reading (frame one.message) ≡ Ok one.message) → AreWritten i frames (map (frame_by i) (map posted frames))
+pub written : (i : ℕ) (frames : List Outgoing) → ((one : Outgoing) → In one frames → reading (frame one.message) ≡ Ok one.message) → AreWritten i frames (map (frame_by i) (map framed frames))
 written i [] fits = tt
 written i (one ∷ frames) fits = (refl, refl, refl, fits one (inl refl), written i frames (λ other there. fits other (inr there)))
 
@@ -119,7 +119,7 @@ abbrev pub ruled_by : (place : Place) (s : Standing) (e : Event) (found : Store)
     (answer : Result (Unit {0}) NodeFault) (told : Told) (up : Bool) (front : ℕ) → place.node ≡ node_of e → up ≡ s.up → front ≡ front_of s → (answer ≡ Err fault.OutOfMemory → ⊥)
     → IsSeated place.setting.game.players (call_of found e)
     → (ends : Ends place s (call_of found e) after frames shown) → Answered place s (call_of found e) after frames shown ends faults answer
-    → told ≡ both_told nothing_told (record { frames = map posted frames; shown = map printed shown; faults = map fault_of faults })
+    → told ≡ both_told nothing_told (record { frames = map framed frames; shown = map printed shown; faults = map fault_of faults })
     → ((one : Outgoing) → In one frames → reading (frame one.message) ≡ Ok one.message)
     → Ruled place s (call_of found e) (arrived_by_event up front e) (made_by (node_of e) told (begins_by_event up e answer)) after
 ruled_by place s e found after frames shown faults answer told up front here is same ample seated ends answered made fits = record {
@@ -136,14 +136,14 @@ ruled_by place s e found after frames shown faults answer told up front here is 
 -- ---- what its node is seen as
 
 module _ {D : Type 0} (g : Ghosts D) where
-  front_by_seen : (post : Post) (up : Option (Up D)) (disk : Option D) (s : Standing) → IsSeenBy g post up disk s → front_by up ≡ front_of s
-  front_by_seen post (Some up) disk s seen = λ i. front ((seen.running.learned i).log)
-  front_by_seen post None (Some disk) s seen = sym (ap front_of seen.stopped)
-  front_by_seen post None None s seen = absurd seen
+  front_by_seen : (member : Membership) (up : Option (Up D)) (disk : Option D) (s : Standing) → IsSeenBy g member up disk s → front_by up ≡ front_of s
+  front_by_seen member (Some up) disk s seen = λ i. front ((seen.running.learned i).log)
+  front_by_seen member None (Some disk) s seen = sym (ap front_of seen.stopped)
+  front_by_seen member None None s seen = absurd seen
 
   -- its front, running or not
   pub front_seen : (node : Node D) (s : Standing) → IsSeen g node s → front_in node ≡ front_of s
-  front_seen node s seen = front_by_seen node.post node.up node.disk s seen.by
+  front_seen node s seen = front_by_seen node.member node.up node.disk s seen.by
 
   pub same_count : (nodes : List (Node D)) (standings : List Standing) → AreSeen g nodes standings → length nodes ≡ length standings
   same_count [] [] seen = refl
@@ -218,7 +218,7 @@ same_after place s called after frames shown faults answer none (unchanged same 
 module _ {D : Type 0} (g : Ghosts D) where
   -- a call keeps the nodes those of a run of the rules
   pub runs_on : (plan : Plan) (eras : List Era) (nodes : List (Node D)) (e : Event) (old new : Node D) (told : Told) (answer : Result (Unit {0}) NodeFault) (all : Record)
-      → place_at (post_in old) ≡ place_of plan (node_of e) → node_of e < length nodes → get_or nodes (node_of e) old ≡ old
+      → place_at (member_in old) ≡ place_of plan (node_of e) → node_of e < length nodes → get_or nodes (node_of e) old ≡ old
       → IsFor (length nodes) plan.setting.game.players e → IsTrue g.is_honest → ((s : Standing) → IsSeen g old s → runs old ≡ s.up)
       → IsGiven g e old new told answer → (answer ≡ Err fault.OutOfMemory → ⊥) → AreRuled g plan eras nodes all
       → AreRuled g plan eras (set nodes (node_of e) new) (grown all (node_of e) (arrived_by_event (runs old) (front_in old) e) (made_by (node_of e) told (begins_by_event (runs old) e answer)))
@@ -265,7 +265,7 @@ module _ {D : Type 0} (g : Ghosts D) where
       let s : Standing = get_or ruled.standings i d in
       let seen : IsSeen g old s = subst (λ node. IsSeen g node s) at (seen_at g nodes ruled.standings i old d less ruled.seen) in
       let takes = (given.taken s honest seen).1 in
-      let same : takes.after ≡ s = same_after (place_at (post_in old)) s (call_of (given.taken s honest seen).0 e) takes.after takes.frames takes.shown takes.faults answer none takes.ends takes.answered in
+      let same : takes.after ≡ s = same_after (place_at (member_in old)) s (call_of (given.taken s honest seen).0 e) takes.after takes.frames takes.shown takes.faults answer none takes.ends takes.answered in
       record {
         standings = ruled.standings;
         seen = subst (λ (standings : List Standing). AreSeen g (set nodes i new) standings) (ap (set ruled.standings i) same ∙ set-get_or ruled.standings i d)

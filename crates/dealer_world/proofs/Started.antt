@@ -16,9 +16,9 @@ use Rattle.node_rules.specs.Rules.{asking_all, starting}
 use Rattle.dealer_node.specs.Nodes.{Node}
 use Rattle.dealer_node.specs.declared.fault.NodeFault.{NodeFault}
 use Rattle.dealer_node.specs.Outs.{Told, nothing_told, both_told}
-use Rattle.dealer_node.specs.Posts.{place_at}
-use Rattle.dealer_node.specs.Turned.{posted, printed, fault_of}
-use Rattle.dealer_node.specs.Seeing.{post_in, runs, front_in, IsSeen, begun_of}
+use Rattle.dealer_node.specs.Members.{place_at}
+use Rattle.dealer_node.specs.Turned.{framed, printed, fault_of}
+use Rattle.dealer_node.specs.Seeing.{member_in, runs, front_in, IsSeen, begun_of}
 use Rattle.promise_store.specs.Journals.{header as store_header}
 use Rattle.promise_store.specs.Holding.{StandsFor}
 use Rattle.dealer_node.specs.Taking.{Answered}
@@ -82,7 +82,7 @@ none_yet (suc k) j less =
 
 -- the record, a start longer
 start_more : (plan : Plan) (stores : ℕ → Store) (k : ℕ) (told : Told) (frames : List Outgoing) (shown : List Shown) (faults : List SeatFault)
-    → told ≡ both_told nothing_told (record { frames = map posted frames; shown = map printed shown; faults = map fault_of faults })
+    → told ≡ both_told nothing_told (record { frames = map framed frames; shown = map printed shown; faults = map fault_of faults })
     → frames ≡ asking_all (place_of plan k) (stores k) → shown ≡ header plan.setting ∷ []
     → grown (first_record plan stores k) k [] (made_by k told true) ≡ first_record plan stores (suc k)
 start_more plan stores k told frames shown faults made asks shows =
@@ -99,12 +99,12 @@ start_more plan stores k told frames shown faults made asks shows =
     let one : start_count ((record { node = k; start = n }) ∷ []) k ≡ 1 = ap (λ b. if b then 1 + 0 else 0) (eq-eqb k k refl) in
     let sum = count_more (first_starts k) ((record { node = k; start = n }) ∷ []) k in
     let zero_m : m ≡ 0 = omega (arith, zero_n, one, sum) in
-    let first : Told = record { frames = map posted frames; shown = map printed shown; faults = map fault_of faults } in
-    let second : Told = record { frames = map posted asked; shown = map printed shown; faults = map fault_of faults } in
-    let third : Told = record { frames = map posted asked; shown = map printed (header plan.setting ∷ []); faults = map fault_of faults } in
+    let first : Told = record { frames = map framed frames; shown = map printed shown; faults = map fault_of faults } in
+    let second : Told = record { frames = map framed asked; shown = map printed shown; faults = map fault_of faults } in
+    let third : Told = record { frames = map framed asked; shown = map printed (header plan.setting ∷ []); faults = map fault_of faults } in
     let made_first : told ≡ first = made in
-    let first_second : first ≡ second = ap (λ fs. record { frames = map posted fs; shown = map printed shown; faults = map fault_of faults }) asks in
-    let second_third : second ≡ third = ap (λ ps. record { frames = map posted asked; shown = map printed ps; faults = map fault_of faults }) shows in
+    let first_second : first ≡ second = ap (λ fs. record { frames = map framed fs; shown = map printed shown; faults = map fault_of faults }) asks in
+    let second_third : second ≡ third = ap (λ ps. record { frames = map framed asked; shown = map printed ps; faults = map fault_of faults }) shows in
     ap (λ (t : Told). shape t n m) (made_first ∙ (first_second ∙ second_third)) ∙ (ap (λ x. shape third x m) zero_n ∙ ap (λ y. shape third 0 y) zero_m)
 
 -- ---- one start after another
@@ -117,7 +117,7 @@ gained e up front told old new answer ok (call a ample all last) = all
 module _ {D : Type 0} (g : Ghosts D) where
   -- node i of a plan, down, with this store
   pub record IsWaiting (plan : Plan) (stores : ℕ → Store) (i : ℕ) (node : Node D) : Type 0 where
-    pub placed : place_at (post_in node) ≡ place_of plan i
+    pub placed : place_at (member_in node) ≡ place_of plan i
     pub down : runs node ≡ false
     pub seen : IsSeen g node (stopped (place_of plan i) (stores i) (stores i))
 

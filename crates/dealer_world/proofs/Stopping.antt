@@ -14,8 +14,8 @@ use Rattle.node_rules.specs.Calls.{Call}
 use Rattle.node_rules.specs.Rules.{IsTurn, standing_after}
 use Rattle.dealer_node.specs.Nodes.{Node}
 use Rattle.dealer_node.specs.declared.fault.NodeFault.{NodeFault}
-use Rattle.dealer_node.specs.Posts.{place_at}
-use Rattle.dealer_node.specs.Seeing.{post_in, front_in, IsSeen, begun_of, images_of, since_of, moment_of, head_of}
+use Rattle.dealer_node.specs.Members.{place_at}
+use Rattle.dealer_node.specs.Seeing.{member_in, front_in, IsSeen, begun_of, images_of, since_of, moment_of, head_of}
 use Rattle.dealer_node.specs.Taking.{MayBegin}
 use Rattle.dealer_world.specs.declared.event.Event.{Event}
 use Rattle.dealer_world.specs.Records.{Arrived}
@@ -24,7 +24,7 @@ use Rattle.dealer_world.specs.Calls.{nothing_made}
 use Rattle.dealer_world.specs.Views.{grown}
 use Rattle.dealer_world.specs.RuleRuns.{in_a_call}
 use Rattle.dealer_world.specs.Events.{node_of, call_of}
-use Rattle.dealer_world.specs.Ruling.{ArePosted, AreRuled, Leaves, a_run, GoesOn, IsBehind}
+use Rattle.dealer_world.specs.Ruling.{AreAtPlaces, AreRuled, Leaves, a_run, GoesOn, IsBehind}
 use Rattle.dealer_world.specs.Stepping.{View, Stepped}
 use Rattle.dealer_world.specs.Promise.{IsForMatch, era_of, with_brought, HasNoForged, GoesOnFrom}
 use Rattle.dealer_world.specs.Beginning.{AreImagesDuring}
@@ -100,12 +100,12 @@ module _ {D : Type 0} (g : Ghosts D) where
       })
 
   -- inside a call: its record is that before the call, or that with what the call brought
-  left_inside : (view after : View (Node D)) (e : Event) (answer : Result (Unit {0}) NodeFault) (eras : List Era) (files : List (List ℕ)) → ImagesAreSeen g → MomentsPass → ArePosted view.config view.nodes
+  left_inside : (view after : View (Node D)) (e : Event) (answer : Result (Unit {0}) NodeFault) (eras : List Era) (files : List (List ℕ)) → ImagesAreSeen g → MomentsPass → AreAtPlaces view.config view.nodes
       → length view.nodes ≡ length view.config.sources → (stepped : Stepped g view e answer after) → IsForMatch view.config e
       → AreImagesDuring g (node_of e) stepped.before stepped.after view.nodes files → IsTrue g.is_honest → HasNoForged view → HasNoForged (with_brought view (front_in stepped.before) e)
       → AreRuled g view.config eras view.nodes view.all
       → Leaves view.config.setting (length view.config.sources) (era_of view ∷ eras) files ⊎ Leaves view.config.setting (length view.config.sources) (era_of (with_brought view (front_in stepped.before) e) ∷ eras) files
-  left_inside view after e answer eras files law moments posted nodes_are stepped is_for images honest unforged brought_unforged ruled =
+  left_inside view after e answer eras files law moments at_places nodes_are stepped is_for images honest unforged brought_unforged ruled =
       let i = node_of e in
       let n = length view.config.sources in
       let standings = ruled.standings in
@@ -114,12 +114,12 @@ module _ {D : Type 0} (g : Ghosts D) where
       let s : Standing = get_or standings i d in
       let file = get_or files i [] in
       let less = node_in view.config view.nodes e nodes_are is_for in
-      let placed : place_at (post_in node) ≡ place_of view.config i = ap (λ (m : Node D). place_at (post_in m)) (sym stepped.at) ∙ posted i node less in
+      let placed : place_at (member_in node) ≡ place_of view.config i = ap (λ (m : Node D). place_at (member_in m)) (sym stepped.at) ∙ at_places i node less in
       let seen : IsSeen g node s = subst (λ (m : Node D). IsSeen g m s) stepped.at (seen_at g view.nodes standings i node d less ruled.seen) in
       let t = stepped.given.taken s honest seen in
-      let head : head_of (post_in node) ≡ header i n = ap (λ (p : Place). header p.node p.nodes) placed in
+      let head : head_of (member_in node) ≡ header i n = ap (λ (p : Place). header p.node p.nodes) placed in
       let others : (j : ℕ) → j < length view.nodes → j ≢ i → IsLeftBy n j (get_or standings j d).store (get_or standings j d).begun (get_or files j []) =
-      λ j within ne. all_left g view.config view.nodes standings files node d j law posted ruled.seen within (images.others j node within ne) in
+      λ j within ne. all_left g view.config view.nodes standings files node d j law at_places ruled.seen within (images.others j node within ne) in
       let rest : IsLeftBy n i s.store s.begun file → Leaves view.config.setting n (era_of view ∷ eras) files =
       λ own. rests g view eras files d images.count unforged ruled (λ j within. elim (cases_eq j i) [
         | inl is ↦ subst (λ k. IsLeftBy n k (get_or standings k d).store (get_or standings k d).begun (get_or files k [])) (sym is) own
@@ -141,17 +141,17 @@ module _ {D : Type 0} (g : Ghosts D) where
       ]
 
   -- a cluster of the same match goes on from what this one leaves inside a call
-  pub goes_on_inside : (view after now : View (Node D)) (e : Event) (answer : Result (Unit {0}) NodeFault) (eras : List Era) → ImagesAreSeen g → MomentsPass → ∥ ArePosted view.config view.nodes ∥₁
+  pub goes_on_inside : (view after now : View (Node D)) (e : Event) (answer : Result (Unit {0}) NodeFault) (eras : List Era) → ImagesAreSeen g → MomentsPass → ∥ AreAtPlaces view.config view.nodes ∥₁
       → IsBehind g view.opened view.config view.nodes view.all → length view.nodes ≡ length view.config.sources → now.opened ≡ true → view.config.setting ≡ now.config.setting
       → length view.config.sources ≡ length now.config.sources → (stepped : Stepped g view e answer after) → IsForMatch view.config e
       → AreImagesDuring g (node_of e) stepped.before stepped.after view.nodes (map (begun_of g) now.nodes) → GoesOnFrom g view eras → IsTrue g.is_honest → HasNoForged view → HasNoForged (with_brought view (front_in stepped.before) e)
       → ∥ GoesOnFrom g now (era_of view ∷ eras) ⊎ GoesOnFrom g now (era_of (with_brought view (front_in stepped.before) e) ∷ eras) ∥₁
-  goes_on_inside view after now e answer eras law moments posted behind nodes_are opened setting count stepped is_for images goes honest unforged brought_unforged =
+  goes_on_inside view after now e answer eras law moments at_places behind nodes_are opened setting count stepped is_for images goes honest unforged brought_unforged =
       let files = map (begun_of g) now.nodes in
       let there : (found : List Era) → Leaves view.config.setting (length view.config.sources) found files → GoesOnFrom g now found = λ found left.
       subst (λ b. GoesOn b now.config.setting (length now.config.sources) found files) (sym opened)
       ∣ (subst (λ n. Leaves now.config.setting n found files) count (subst (λ (s : Setting). Leaves s (length view.config.sources) found files) setting left)) ∣₁ in
-      ∥∥₁_elim posted (hlevel) (λ each. ∥∥₁_map (behind eras goes honest) (λ ruled.
+      ∥∥₁_elim at_places (hlevel) (λ each. ∥∥₁_map (behind eras goes honest) (λ ruled.
       elim (left_inside view after e answer eras files law moments each nodes_are stepped is_for images honest unforged brought_unforged ruled) [
         | inl left ↦ inl (there (era_of view ∷ eras) left)
         | inr left ↦ inr (there (era_of (with_brought view (front_in stepped.before) e) ∷ eras) left)

@@ -16,9 +16,9 @@ use Rattle.node_rules.specs.Called.{Ends, took, refused, failed, unchanged}
 use Rattle.dealer_node.specs.Nodes.{Node}
 use Rattle.dealer_node.specs.declared.fault.NodeFault.{NodeFault}
 use Rattle.dealer_node.specs.declared.fault.NodeFault.TheVariants as fault
-use Rattle.dealer_node.specs.Posts.{place_at}
+use Rattle.dealer_node.specs.Members.{place_at}
 use Rattle.dealer_kind.specs.Plans.{Plan}
-use Rattle.dealer_node.specs.Seeing.{post_in, IsSeen, begun_of}
+use Rattle.dealer_node.specs.Seeing.{member_in, IsSeen, begun_of}
 use Rattle.dealer_node.specs.Taking.{Answered}
 use Rattle.dealer_world.specs.declared.event.Event.{Event}
 use Rattle.dealer_world.specs.declared.event.Event.TheVariants as event
@@ -55,7 +55,7 @@ module _ {D : Type 0} (g : Ghosts D) where
   pub seen_on : (old new : View (Node D)) (e : Event) (answer : Result (Unit {0}) NodeFault) (standings : List Standing) → Stepped g old e answer new → IsTrue g.is_honest → AreSeen g old.nodes standings
       → (after : List Standing) × AreSeen g new.nodes after
   seen_on old new e answer standings stepped honest are =
-      let d : Standing = stopped (place_at (post_in stepped.before)) empty_store empty_store in
+      let d : Standing = stopped (place_at (member_in stepped.before)) empty_store empty_store in
       let s : Standing = get_or standings (node_of e) d in
       let seen : IsSeen g stepped.before s = subst (λ node. IsSeen g node s) stepped.at (seen_at g old.nodes standings (node_of e) stepped.before d stepped.within are) in
       let takes = (stepped.given.taken s honest seen).1 in (
@@ -67,11 +67,11 @@ module _ {D : Type 0} (g : Ghosts D) where
   pub start_wants : (old new : View (Node D)) (k : ℕ) (answer : Result (Unit {0}) NodeFault) (why : NodeFault) (standings : List Standing) → Stepped g old (event.Start k) answer new → IsTrue g.is_honest
       → AreSeen g old.nodes standings → answer ≡ Err why → IsWant why
   start_wants old new k answer why standings stepped honest are is =
-      let d : Standing = stopped (place_at (post_in stepped.before)) empty_store empty_store in
+      let d : Standing = stopped (place_at (member_in stepped.before)) empty_store empty_store in
       let s : Standing = get_or standings k d in
       let seen : IsSeen g stepped.before s = subst (λ node. IsSeen g node s) stepped.at (seen_at g old.nodes standings k stepped.before d stepped.within are) in
       let t = stepped.given.taken s honest seen in
-      wants_by (place_at (post_in stepped.before)) s t.0 t.1.after t.1.frames t.1.shown t.1.faults answer why is t.1.ends t.1.answered
+      wants_by (place_at (member_in stepped.before)) s t.0 t.1.after t.1.frames t.1.shown t.1.faults answer why is t.1.ends t.1.answered
 
   -- ---- the nodes before they are started
 

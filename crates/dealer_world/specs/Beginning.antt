@@ -19,10 +19,10 @@ use Rattle.dealer_node.specs.Nodes.{Node}
 use Rattle.dealer_node.specs.declared.fault.NodeFault.{NodeFault}
 use Rattle.dealer_node.specs.declared.fault.NodeFault.TheVariants as fault
 use Rattle.dealer_node.specs.Outs.{nothing_told}
-use Rattle.dealer_node.specs.Turned.{posted}
-use Rattle.dealer_node.specs.Posts.{place_at}
+use Rattle.dealer_node.specs.Turned.{framed}
+use Rattle.dealer_node.specs.Members.{place_at}
 use Rattle.dealer_node.specs.Starting.{GoesOnNew, MarksJournal}
-use Rattle.dealer_node.specs.Seeing.{head_of, post_in, runs, IsSeen, begun_of, bytes_of, failures_of, images_of, since_of, moment_of}
+use Rattle.dealer_node.specs.Seeing.{head_of, member_in, runs, IsSeen, begun_of, bytes_of, failures_of, images_of, since_of, moment_of}
 use Rattle.dealer_world.specs.declared.event.Event.TheVariants as event
 use Rattle.dealer_world.specs.Records.{Record, Frame, Start, Piece}
 use Rattle.dealer_world.specs.Recordings.{frame_by}
@@ -35,13 +35,13 @@ IsWant why = (why ≡ fault.OutOfMemory) ⊎ (why ≡ fault.Store Disk)
 module _ {D : Type 0} (g : Ghosts D) where
   -- node i of a new match, down, over an empty store
   pub record IsCreatedAt (plan : Plan) (i : ℕ) (node : Node D) : Type 0 where
-    pub placed : place_at (post_in node) ≡ place_of plan i
+    pub placed : place_at (member_in node) ≡ place_of plan i
     pub down : runs node ≡ false
     pub seen : IsSeen g node (stopped (place_of plan i) empty_store empty_store)
 
   -- node i of a match, down, over the store that its disk has
   pub record IsReopenedAt (plan : Plan) (i : ℕ) (node : Node D) : Type 0 where
-    pub placed : place_at (post_in node) ≡ place_of plan i
+    pub placed : place_at (member_in node) ≡ place_of plan i
     pub down : runs node ≡ false
     pub seen : (store begun : Store) → StandsFor (header i (length plan.sources)) (begun_of g node) store ⊎ StandsFor (header i (length plan.sources)) (begun_of g node) begun
         → IsSeen g node (stopped (place_of plan i) store begun)
@@ -72,7 +72,7 @@ module _ {D : Type 0} (g : Ghosts D) where
 
   -- the node's disk was only read or synced meanwhile
   pub record IsOnlyRead (old new : Node D) : Type 0 where
-    pub post : post_in new ≡ post_in old
+    pub member : member_in new ≡ member_in old
     pub bytes : bytes_of g new ≡ bytes_of g old
     pub begun : begun_of g new ≡ begun_of g old
     pub counts : failures_of g old ≤ failures_of g new
@@ -85,18 +85,18 @@ module _ {D : Type 0} (g : Ghosts D) where
 
   -- the node's disk was opened meanwhile: at each moment each image stands for what it stood for, and a journal that goes on with version 2 was only read
   pub record IsOpenedSince (old new : Node D) : Type 0 where
-    pub post : post_in new ≡ post_in old
+    pub member : member_in new ≡ member_in old
     pub begun : begun_of g new ≡ begun_of g old
     pub counts : failures_of g old ≤ failures_of g new
-    pub leaves : (store begun : Store) → IsTrue g.is_honest → LeavesIn (head_of (post_in old)) store begun old → LeavesIn (head_of (post_in old)) store begun new
-    pub during : (store begun : Store) → IsTrue g.is_honest → LeavesIn (head_of (post_in old)) store begun old
-        → During (since_of g old) (since_of g new) (λ image. StandsFor (head_of (post_in old)) image store ⊎ StandsFor (head_of (post_in old)) image begun)
-    pub quiet : IsTrue g.is_honest → GoesOnNew (head_of (post_in old)) (bytes_of g old) → IsOnlyRead old new
+    pub leaves : (store begun : Store) → IsTrue g.is_honest → LeavesIn (head_of (member_in old)) store begun old → LeavesIn (head_of (member_in old)) store begun new
+    pub during : (store begun : Store) → IsTrue g.is_honest → LeavesIn (head_of (member_in old)) store begun old
+        → During (since_of g old) (since_of g new) (λ image. StandsFor (head_of (member_in old)) image store ⊎ StandsFor (head_of (member_in old)) image begun)
+    pub quiet : IsTrue g.is_honest → GoesOnNew (head_of (member_in old)) (bytes_of g old) → IsOnlyRead old new
 
   -- the journals of the first nodes are as they were, or have the record behind them that opens them for version 2
   abbrev pub MarkFirst : List (Node D) → ℕ → List (Node D) → Type 0
   MarkFirst first k nodes =
-      (i : ℕ) (d : Node D) → i < k → MarksJournal (head_of (post_in (get_or first i d))) (bytes_of g (get_or first i d)) (bytes_of g (get_or nodes i d))
+      (i : ℕ) (d : Node D) → i < k → MarksJournal (head_of (member_in (get_or first i d))) (bytes_of g (get_or first i d)) (bytes_of g (get_or nodes i d))
 
   -- the node's disk is the one that was given, begun anew and opened since, under the head of its journal: what it left meanwhile that one left, or it stands for
   -- the store that a read of that one gave
@@ -138,7 +138,7 @@ module _ {D : Type 0} (g : Ghosts D) where
 
   -- the node's disk has a store of it
   abbrev pub HasStore : Node D → Type 0
-  HasStore node = (store : Store) × StandsFor (head_of (post_in node)) (bytes_of g node) store
+  HasStore node = (store : Store) × StandsFor (head_of (member_in node)) (bytes_of g node) store
 
 -- 60 to 62: what only a file's bytes are refused for
 abbrev pub IsOfBytes : StoreFault → Type 0
@@ -153,7 +153,7 @@ module _ {D : Type 0} (g : Ghosts D) where
     pub kind : IsOfBytes f
     pub node : ℕ
     pub within : node < length nodes
-    pub refused : (d : Node D) → Refuses (head_of (post_in (get_or nodes node d))) (bytes_of g (get_or nodes node d)) f
+    pub refused : (d : Node D) → Refuses (head_of (member_in (get_or nodes node d))) (bytes_of g (get_or nodes node d)) f
     pub before : (i : ℕ) (d : Node D) → i < node → HasStore g (get_or nodes i d)
 
 -- the file of a node of n is refused for its bytes, and those of all nodes before it stand for stores
@@ -196,7 +196,7 @@ first_headers setting (suc k) =
 -- what each asked the others that had promised anything
 abbrev pub first_asks : Plan → (ℕ → Store) → ℕ → List Frame
 first_asks plan stores zero = []
-first_asks plan stores (suc k) = first_asks plan stores k ++ map (frame_by k) (map posted (asking_all (place_of plan k) (stores k)))
+first_asks plan stores (suc k) = first_asks plan stores k ++ map (frame_by k) (map framed (asking_all (place_of plan k) (stores k)))
 
 -- the record of a cluster whose first nodes were started, with these stores
 abbrev pub first_record : Plan → (ℕ → Store) → ℕ → Record

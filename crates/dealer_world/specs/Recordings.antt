@@ -11,7 +11,7 @@ use Rattle.dealer_world.specs.KeptShown.{reader_by}
 
 -- a frame that a node made
 abbrev pub frame_by : ℕ → Marked ℕ → Frame
-frame_by node posted = record { from = node; to = posted.mark; bytes = posted.text }
+frame_by node outgoing = record { from = node; to = outgoing.mark; bytes = outgoing.text }
 
 -- a text that it showed
 abbrev pub text_by : Marked Reader → Text

@@ -10,8 +10,8 @@ use Rattle.dealer_kind.specs.Plans.{Plan}
 use Rattle.dealer_kind.specs.declared.source.Source.{Source}
 use Rattle.node_rules.specs.Standings.{Standing, place_of}
 use Rattle.dealer_node.specs.Nodes.{Node}
-use Rattle.dealer_node.specs.Posts.{place_at}
-use Rattle.dealer_node.specs.Seeing.{post_in, IsSeen, begun_of}
+use Rattle.dealer_node.specs.Members.{place_at}
+use Rattle.dealer_node.specs.Seeing.{member_in, IsSeen, begun_of}
 use Rattle.dealer_world.specs.Records.{Record}
 use Rattle.dealer_world.specs.Unforged.{IsUnforged}
 use Rattle.dealer_world.specs.Headline.{Era}
@@ -20,8 +20,8 @@ use Rattle.dealer_world.specs.Beginning.{HaveStores}
 
 module _ {D : Type 0} where
   -- each node is at its place in the match
-  abbrev pub ArePosted : Plan → List (Node D) → Type 0
-  ArePosted plan nodes = (i : ℕ) (d : Node D) → i < length nodes → place_at (post_in (get_or nodes i d)) ≡ place_of plan i
+  abbrev pub AreAtPlaces : Plan → List (Node D) → Type 0
+  AreAtPlaces plan nodes = (i : ℕ) (d : Node D) → i < length nodes → place_at (member_in (get_or nodes i d)) ≡ place_of plan i
 
 module _ {D : Type 0} (g : Ghosts D) where
   -- the nodes are seen as these standings

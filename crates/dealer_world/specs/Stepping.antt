@@ -12,7 +12,7 @@ use Rattle.dealer_node.specs.Nodes.{Node}
 use Rattle.dealer_node.specs.declared.fault.NodeFault.{NodeFault}
 use Rattle.dealer_node.specs.declared.fault.NodeFault.TheVariants as fault
 use Rattle.dealer_node.specs.Outs.{Told, nothing_told}
-use Rattle.dealer_node.specs.Seeing.{head_of, post_in, runs, front_in, IsSeen, bytes_of}
+use Rattle.dealer_node.specs.Seeing.{head_of, member_in, runs, front_in, IsSeen, bytes_of}
 use Rattle.dealer_node.specs.Taking.{Takes, StaysItself, IsOfStart, FindsStore, OpensDisk, StopsBy}
 use Rattle.dealer_world.specs.declared.event.Event.{Event}
 use Rattle.dealer_world.specs.declared.event.Event.TheVariants as event
@@ -78,7 +78,7 @@ module _ {D : Type 0} (g : Ghosts D) where
     pub faults : IfErr answer IsOfStart
     pub opens : ((new ≡ old) × (answer ≡ Err fault.OutOfMemory)) ⊎ OpensDisk g old new answer
     pub found : IsTrue g.is_honest → runs old ≡ false → OnOk answer (FindsStore g old new)
-    pub refused : IsTrue g.is_honest → (why : StoreFault) → answer ≡ Err (fault.Store why) → Refuses (head_of (post_in old)) (bytes_of g old) why
+    pub refused : IsTrue g.is_honest → (why : StoreFault) → answer ≡ Err (fault.Store why) → Refuses (head_of (member_in old)) (bytes_of g old) why
 
   -- what starts and stops make of a disk
   abbrev pub MakesOfDisk : Event → Node D → Node D → Result (Unit {0}) NodeFault → Type 0

@@ -5,7 +5,7 @@ ghost use Rattle.dealer_world.specs.Recordings.{start_by};
 ghost use Rattle.std.specs.List.{All, AllZip};
 ghost use Rattle.dealer_node.specs.Outs.{nothing_told};
 ghost use Rattle.dealer_node.specs.Most.{ShowsWithin};
-ghost use Rattle.dealer_node.specs.Seeing.{post_in, runs, front_in, IsSeen, begun_of};
+ghost use Rattle.dealer_node.specs.Seeing.{member_in, runs, front_in, IsSeen, begun_of};
 ghost use Rattle.node_rules.specs.Standings.{Standing};
 ghost use Rattle.dealer_world.specs.Records.{no_record, log_of};
 ghost use Rattle.dealer_world.specs.Headline.{Era};
@@ -20,7 +20,7 @@ ghost use Rattle.dealer_node.specs.declared.fault.NodeFault.{NodeFault as Fault}
 ghost use Rattle.promise_store.specs.declared.fault.StoreFault.{StoreFault};
 ghost use Rattle.dealer_node.specs.Nodes.{Node};
 ghost use Rattle.dealer_world.specs.Promise.{IsForMatch, IsPromised, IsPromisedNew, IsBackedBy, StopsAt, IsSameMatch, GoesOnFrom, WasReached, HasNoForged, AreAddressed, NeverConflicts, NoneConflicts, era_of, with_brought};
-ghost use Rattle.dealer_world.specs.Ruling.{ArePosted, AreSeen, IsBehind, GoesOn};
+ghost use Rattle.dealer_world.specs.Ruling.{AreAtPlaces, AreSeen, IsBehind, GoesOn};
 
 use crate::arrivals::Arrival;
 use crate::beginning::{created_all, reopened_all};
@@ -41,7 +41,7 @@ use std::alloc::{AllocError, Global};
 
 /// Gives an event to its node.
 fn give<D: Disk + Drop>(node: &mut Node<D>, event: &Event, made: &mut Out) -> Result<(), NodeFault>
-    requires within { IsFor (post_in node.old).nodes (post_in node.old).setting.game.players event.now }
+    requires within { IsFor (member_in node.old).nodes (member_in node.old).setting.game.players event.now }
     requires nothing { made.old ≡ nothing_told }
     ensures given { IsGiven D.Disk event.now node.old node.new made.new result }
     ensures up { (s : Standing) → IsSeen D.Disk node.old s → runs node.old ≡ s.up }
@@ -79,7 +79,7 @@ pub struct Cluster<D: Disk + Drop> {
     nodes: Vec<Node<D>>,
     recording: Recording,
     ghost count: { length nodes.items ≡ length config.sources },
-    ghost posted: { ∥ ArePosted config nodes.items ∥₁ },
+    ghost at_places: { ∥ AreAtPlaces config nodes.items ∥₁ },
     ghost behind: { IsBehind D.Disk opened config nodes.items recording.all },
 }
 
@@ -118,7 +118,7 @@ impl<D: Disk + Drop> Cluster<D> {
             return answer;
         }
         let begins = begins(is_up, event, answer);
-        self.recording.take(event, front, is_up, begins, made);
+        self.recording.put_call(event, front, is_up, begins, made);
         answer
     }
 
@@ -181,7 +181,7 @@ impl<D: Disk + Drop> Cluster<D> {
     /// A cluster over nodes that are down, with nothing in its record.
     fn down(alloc: Global, config: Config, opened: bool, nodes: Vec<Node<D>>) -> Cluster<D>
         requires count { length nodes.items ≡ length config.sources }
-        requires posted { ∥ ArePosted config nodes.items ∥₁ }
+        requires at_places { ∥ AreAtPlaces config nodes.items ∥₁ }
         requires behind { IsBehind D.Disk opened config nodes.items no_record }
         ensures config { (view_of result).config ≡ config }
         ensures opened { (view_of result).opened ≡ opened }
@@ -296,7 +296,7 @@ impl<D: Disk + Drop> Cluster<D> {
     /// What holds of every cluster: it has as many nodes as the match, each at its place there.
     pub fn limits(&self)
         ensures count { length (view_of self.now).nodes ≡ length (view_of self.now).config.sources }
-        ensures posted { ∥ ArePosted (view_of self.now).config (view_of self.now).nodes ∥₁ }
+        ensures at_places { ∥ AreAtPlaces (view_of self.now).config (view_of self.now).nodes ∥₁ }
     {
         let _ = &self.opened;
     }

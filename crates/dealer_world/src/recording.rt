@@ -60,12 +60,12 @@ fn text_at<'a, T: Copy + Drop>(texts: Reading<'a, T>, number: usize) -> Option<(
 }
 
 /// Puts a node's frames away.
-fn put_frames(frames: &mut Frames, node: u8, posted: Reading<'_, u8>)
-    requires frames { length posted ≤ frames.old.frame_room }
-    requires bytes { byte_total posted ≤ frames.old.byte_room }
-    ensures frames { frames.new.frames ≡ frames.old.frames ++ map (frame_by node) posted.entry }
+fn put_frames(frames: &mut Frames, node: u8, outgoing: Reading<'_, u8>)
+    requires frames { length outgoing ≤ frames.old.frame_room }
+    requires bytes { byte_total outgoing ≤ frames.old.byte_room }
+    ensures frames { frames.new.frames ≡ frames.old.frames ++ map (frame_by node) outgoing.entry }
 {
-    for (to, bytes) in posted {
+    for (to, bytes) in outgoing {
         frames.push_reserved(node, to, bytes);
     }
 }
@@ -271,7 +271,7 @@ impl Recording {
     }
 
     /// Puts away what the last call made, if it wasn't put away. The record is as before, also after an `Err`.
-    fn settle(&mut self) -> Result<(), AllocError>
+    fn put_last_away(&mut self) -> Result<(), AllocError>
         ensures all { self.new.all ≡ self.old.all }
         ensures last { self.new.last ≡ self.old.last }
         ensures settled { OnOk result (self.new.is_settled ≡ true) }
@@ -303,14 +303,21 @@ impl Recording {
         ensures byte_room { OnOk result (bytes ≤ self.new.byte_room) }
         ensures start_room { OnOk result (1 ≤ self.new.start_room) }
     {
-        self.settle()?;
+        self.put_last_away()?;
         self.arrivals.reserve(1, bytes)?;
         self.starts.reserve(1)
     }
 
     /// Puts a call down, for which there is a place: what arrived by the event at a node with this front, if it did,
     /// whether a start began, and what the node made.
-    pub(crate) fn take(&mut self, event: &Event, front: u32, arrives: bool, begins: bool, made: Out)
+    pub(crate) fn put_call(
+        &mut self,
+        event: &Event,
+        front: u32,
+        arrives: bool,
+        begins: bool,
+        made: Out,
+    )
         requires settled { self.old.is_settled ≡ true }
         requires arrival { 1 ≤ self.old.arrival_room }
         requires bytes { length (bytes_in event.now) ≤ self.old.byte_room }
@@ -331,7 +338,7 @@ impl Recording {
         ensures all { self.new.all ≡ self.old.all }
         ensures last { OnOk result (self.new.last ≡ nothing_told) }
     {
-        self.settle()?;
+        self.put_last_away()?;
         self.last = Out::new(alloc);
         Ok(())
     }

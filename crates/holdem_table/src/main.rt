@@ -34,12 +34,12 @@ fn main(rt: HostRuntime) -> ExitCode {
         Ok(words) => run(&rt, &words),
         Err(error) => Conclusion::Ended(no_words(&error)),
     };
-    tell(&rt, conclusion);
+    tell_conclusion(&rt, conclusion);
     ExitCode::from(conclusion.status())
 }
 
 /// Prints the last line that standard error gets, if any.
-fn tell(rt: &HostRuntime, conclusion: Conclusion) {
+fn tell_conclusion(rt: &HostRuntime, conclusion: Conclusion) {
     match conclusion {
         Conclusion::Ended(
             Ending::Done | Ending::SaidNo(_) | Ending::WrongWords(WrongWords::Told),

@@ -108,7 +108,7 @@ fn count_at(cells: &mut Vec<Vec<Tally>>, from: u8, ballot: Ballot, slot: u32, co
 }
 
 /// Counts a node's answer for an open slot, for which there is room; what it completes becomes known.
-pub(crate) fn hear(
+pub(crate) fn hear_answer(
     nodes: u8,
     cells: &mut Vec<Vec<Tally>>,
     log: &mut SlotLog,
@@ -252,7 +252,7 @@ fn hear_one(
     if !is_open(log, slot) {
         return false;
     }
-    match hear(nodes, cells, log, from, ballot, slot, command) {
+    match hear_answer(nodes, cells, log, from, ballot, slot, command) {
         Ok(Some(_)) => true,
         Ok(None) | Err(_) => false,
     }

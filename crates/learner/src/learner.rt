@@ -113,7 +113,7 @@ impl Learner {
         }
         self.log.reserve(1)?;
         hearing::reserve_at(&mut self.cells, slot)?;
-        Ok(hearing::hear(
+        Ok(hearing::hear_answer(
             self.nodes,
             &mut self.cells,
             &mut self.log,
@@ -144,7 +144,7 @@ impl Learner {
         if !hearing::is_open(&self.log, slot) {
             return Ok(None);
         }
-        hearing::hear(
+        hearing::hear_answer(
             self.nodes,
             &mut self.cells,
             &mut self.log,

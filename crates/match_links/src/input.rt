@@ -52,7 +52,7 @@ impl Input {
     }
 
     /// Reads the next piece into a buffer, as much of it as fits, and says how long that is.
-    pub(crate) fn take(&mut self, piece: &mut [u8]) -> usize
+    pub(crate) fn take_piece(&mut self, piece: &mut [u8]) -> usize
         ensures count { result ≡ part_len (length piece.old) self.old.bytes.items }
         ensures piece { take result piece.new ≡ take result self.old.bytes.items }
         ensures rest { self.new.bytes.items ≡ drop result self.old.bytes.items }

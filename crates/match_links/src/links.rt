@@ -100,6 +100,6 @@ pub trait Links {
         ensures { passed self.new ≡ passed self.old };
 
     /// Closes the seats' ports of a node, and the connections to it.
-    fn close(&mut self, node: u8)
+    fn close_node(&mut self, node: u8)
         ensures { passed self.new ≡ passed self.old };
 }

@@ -478,7 +478,7 @@ impl Links for MemoryLinks {
         self.callers.close_node(node);
     }
 
-    fn close(&mut self, node: u8)
+    fn close_node(&mut self, node: u8)
         ensures same { passed_of self.new ≡ passed_of self.old }
         ensures room { Leaves (room_of self.old) 0 (λ _. 0) (room_of self.new) }
         ensures turned { turned_away_in self.new ≡ turned_away_in self.old }

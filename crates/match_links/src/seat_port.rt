@@ -54,7 +54,7 @@ impl SeatPort {
     }
 
     /// Closes the port, and lets go of who waits there. Who sits stays.
-    pub(crate) fn close(&mut self) {
+    pub(crate) fn close_listener(&mut self) {
         self.listener = None;
         self.waiters.clear();
     }

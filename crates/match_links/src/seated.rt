@@ -54,7 +54,7 @@ impl Seated {
                 Err(fault) => after(fault.kind())?,
             }
         }
-        Ok(self.input.take(piece))
+        Ok(self.input.take_piece(piece))
     }
 
     /// Waits until then for more bytes, and says how many came: none at the end.

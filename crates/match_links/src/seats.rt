@@ -282,7 +282,7 @@ impl Seats {
     }
 
     /// Closes the ports of a node, and the connections to it.
-    pub(crate) fn close(&mut self, node: u8) {
+    pub(crate) fn close_node(&mut self, node: u8) {
         // All ports first: a bot that is hung up and dials again is refused at once.
         for seat in 0..self.numbers.players as u8 {
             self.close_port(node, seat);
@@ -295,7 +295,7 @@ impl Seats {
     fn close_port(&mut self, node: u8, seat: u8) {
         let place = self.numbers.place(node, seat);
         if let Some(port) = self.ports.get_mut(place) {
-            port.close();
+            port.close_listener();
         }
     }
 }

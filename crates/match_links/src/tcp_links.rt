@@ -236,7 +236,7 @@ impl Links for TcpLinks<'_> {
         self.seats.part(node);
     }
 
-    fn close(&mut self, node: u8) {
-        self.seats.close(node);
+    fn close_node(&mut self, node: u8) {
+        self.seats.close_node(node);
     }
 }

@@ -30,7 +30,7 @@ pub(crate) fn payoffs(game: &GameDef, play: &Play, deal: &Deal) -> ArrayVec<i64,
     let amounts = amounts(game, play);
     let folds = folds(game, play);
     let values = values(deal);
-    settle(
+    settle_pots(
         amounts.as_slice(),
         folds.as_slice(),
         &values[..game.players()],

@@ -8,16 +8,16 @@ use Rattle.dealer_kind.specs.Kind.{hands_after}
 use Rattle.node_rules.specs.Standings.{Standing, applied}
 use Rattle.dealer_node.specs.Nodes.{Node}
 use Rattle.dealer_node.specs.Scenes.{IsTableOf}
-use Rattle.dealer_node.specs.Seeing.{post_in, IsSeen}
+use Rattle.dealer_node.specs.Seeing.{member_in, IsSeen}
 use Rattle.dealer_world.specs.Stepping.{View}
 use Rattle.match_runs.specs.Turning.{HasDealt, AreDealt}
 
 -- the table of the node that stands there has so many
 pub dealt_at : {D : Type 0} (g : Ghosts D) (view : View (Node D)) (node count : ℕ) (found : Node D) (table : Match) → slice_get view.nodes node ≡ Some found
-    → ((s : Standing) → IsSeen g found s → IsTableOf (post_in found).setting (applied s) table) → length table.hands ≡ count → HasDealt g view node count
+    → ((s : Standing) → IsSeen g found s → IsTableOf (member_in found).setting (applied s) table) → length table.hands ≡ count → HasDealt g view node count
 dealt_at {D} g view node count found table at seen is d s at_d is_seen =
     let same : found ≡ d = same_Some found d (sym at ∙ at_d) in
-    let counts : Node D → Type 0 = λ n. IsSeen g n s → length (hands_after (post_in n).setting (applied s)) ≡ count in
+    let counts : Node D → Type 0 = λ n. IsSeen g n s → length (hands_after (member_in n).setting (applied s)) ≡ count in
     subst counts same (λ seen_so. ap length (sym (seen s seen_so).hands) ∙ is) is_seen
 
 -- what holds of each number before this one, and of what is put at its place

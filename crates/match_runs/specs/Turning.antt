@@ -5,7 +5,7 @@ use Rattle.promise_store.specs.declared.disk.Disk.{Ghosts}
 use Rattle.dealer_kind.specs.Kind.{hands_after}
 use Rattle.node_rules.specs.Standings.{Standing, applied}
 use Rattle.dealer_node.specs.Nodes.{Node}
-use Rattle.dealer_node.specs.Seeing.{post_in, IsSeen}
+use Rattle.dealer_node.specs.Seeing.{member_in, IsSeen}
 use Rattle.dealer_world.specs.Records.{Record}
 use Rattle.dealer_world.specs.Stepping.{View}
 use Rattle.serving.specs.Served.{Served}
@@ -58,7 +58,7 @@ module _ {D : Type 0} (g : Ghosts D) where
   -- so many hands were dealt at a node, by its own table: none at one that is down
   abbrev pub HasDealt : View (Node D) → ℕ → ℕ → Type 0
   HasDealt view node count =
-      (d : Node D) (s : Standing) → slice_get view.nodes node ≡ Some d → IsSeen g d s → length (hands_after (post_in d).setting (applied s)) ≡ count
+      (d : Node D) (s : Standing) → slice_get view.nodes node ≡ Some d → IsSeen g d s → length (hands_after (member_in d).setting (applied s)) ≡ count
 
   -- so many at each node, in their order
   abbrev pub AreDealt : View (Node D) → List ℕ → Type 0

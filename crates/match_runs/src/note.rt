@@ -102,7 +102,7 @@ pub enum Note<'a> {
 
 /// Writes a note in one piece, and flushes. One that can't be made or written is left out, or a beginning of it stands
 /// there.
-pub fn tell<W: Write>(alloc: Global, notes: &mut W, note: &Note<'_>)
+pub fn tell_note<W: Write>(alloc: Global, notes: &mut W, note: &Note<'_>)
     ensures { IsNoted (note_line note.now) (W.contents notes.old) (W.contents notes.new) }
 {
     let mut line = Vec::new(alloc);

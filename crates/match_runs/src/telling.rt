@@ -9,7 +9,7 @@ ghost use Rattle.match_runs.specs.Turning.{TellsDone, TellsWaiting};
 ghost use Rattle.match_runs.specs.Score.{IsLastLine, EndsInFeed, IsLastLog, HasNoLog, TellsScore};
 
 use crate::dealt::Dealt;
-use crate::note::{About, Note, tell};
+use crate::note::{About, Note, tell_note};
 use crate::refusals::about_fault;
 use crate::seat_lines::newest_line;
 use crate::seat_ports::SeatPorts;
@@ -32,7 +32,7 @@ pub fn tell_ports<W: Write>(alloc: Global, config: &Config, ports: SeatPorts, no
             ports,
             nodes: config.nodes() as u8,
         };
-        tell(alloc, notes, &told);
+        tell_note(alloc, notes, &told);
     }
 }
 
@@ -55,7 +55,7 @@ pub(crate) fn tell_awaited<D: Disk + Drop, W: Write>(
                 node,
                 port: ports.port(node, seat),
             };
-            tell(alloc, notes, &told);
+            tell_note(alloc, notes, &told);
         }
     }
 }
@@ -103,7 +103,7 @@ fn tell_wait<W: Write>(
             port: ports.port(node, seat),
             line: None,
         };
-        tell(alloc, notes, &told);
+        tell_note(alloc, notes, &told);
     }
 }
 
@@ -127,7 +127,7 @@ fn tell_wait_with<W: Write>(
             port: ports.port(node, seat),
             line: Some(line),
         };
-        tell(alloc, notes, &told);
+        tell_note(alloc, notes, &told);
     }
 }
 
@@ -152,8 +152,8 @@ pub(crate) fn tell_turn<D: Disk + Drop, W: Write>(
         }
         Turn::Gone(seat) => tell_seat(alloc, config, seat as usize, About::Gone(node), notes),
         Turn::Away { seat, node } => tell_played(alloc, config, dealt, seat, node, notes),
-        Turn::Stopped(node) => tell(alloc, notes, &Note::Stopped(node)),
-        Turn::Started(node) => tell(alloc, notes, &Note::Started(node)),
+        Turn::Stopped(node) => tell_note(alloc, notes, &Note::Stopped(node)),
+        Turn::Started(node) => tell_note(alloc, notes, &Note::Started(node)),
         Turn::Read(_) => {
             tell_faults(alloc, cluster, node, piece, cluster.last().faults(), notes)
         }
@@ -193,7 +193,7 @@ pub(crate) fn tell_failure<W: Write>(
 {
     if let Some(fault) = refused {
         if let NodeFault::Store(_) = fault {
-            tell(alloc, notes, &Note::Failed { node, fault });
+            tell_note(alloc, notes, &Note::Failed { node, fault });
         }
     }
 }
@@ -204,7 +204,7 @@ fn tell_seat<W: Write>(alloc: Global, config: &Config, seat: usize, about: About
 {
     if let Some(name) = config.names().as_slice().get(seat) {
         let name = *name;
-        tell(alloc, notes, &Note::Seat { seat, name, about });
+        tell_note(alloc, notes, &Note::Seat { seat, name, about });
     }
 }
 
@@ -249,7 +249,7 @@ pub(crate) fn tell_score<D: Disk + Drop, W: Write>(
 {
     if let Some(text) = last_log(cluster) {
         if let Some(line) = last_line(text) {
-            tell(alloc, notes, &Note::Score(line));
+            tell_note(alloc, notes, &Note::Score(line));
         }
     }
 }

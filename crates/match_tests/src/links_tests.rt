@@ -272,7 +272,7 @@ fn a_closed_port_lets_go_of_those_held(rt: HostRuntime) -> Result<(), Fail> {
     let mut links = links(&rt).expect(&rt, "free ports");
     let mut silent = call(&rt, &links, (0, 0), b"")?;
     assert_nobody(&rt, &mut links, 0, 0);
-    links.close(0);
+    links.close_node(0);
     assert_ended(&rt, &mut silent)?;
     assert!(rt; links.accept(0, 0) == Err(LinkFault::Failed));
     assert!(rt; links.open(0) == Ok(()));

@@ -1,7 +1,7 @@
 //! A node of three in a match of one hand, over a disk in memory.
 
 ghost use Rattle.std.specs.Prelude.{◌≡◌};
-ghost use Rattle.dealer_node.specs.Seeing.{post_in};
+ghost use Rattle.dealer_node.specs.Seeing.{member_in};
 
 use crate::samples::one_hand;
 use dealer_node::{Node, NodeFault, Out, Reader, Reading};
@@ -14,8 +14,8 @@ use std::test::Fail;
 #[derive(Drop)]
 pub(crate) struct Peer {
     pub(crate) node: Node<OnceDisk>,
-    ghost nodes: { (post_in node).nodes ≡ 3 },
-    ghost players: { (post_in node).setting.game.players ≡ 2 },
+    ghost nodes: { (member_in node).nodes ≡ 3 },
+    ghost players: { (member_in node).setting.game.players ≡ 2 },
 }
 
 impl Peer {

@@ -239,7 +239,7 @@ fn run_first_round<D: Disk + Drop>(
 }
 
 /// Does a step.
-fn take<D: Disk + Drop>(
+fn do_step<D: Disk + Drop>(
     rt: &impl Abort,
     alloc: Global,
     cluster: &mut Cluster<D>,
@@ -257,14 +257,14 @@ fn take<D: Disk + Drop>(
 }
 
 /// Does these steps, one after another; none of them is refused.
-fn take_all<D: Disk + Drop>(
+fn do_steps<D: Disk + Drop>(
     rt: &impl Abort,
     alloc: Global,
     cluster: &mut Cluster<D>,
     steps: &[Step<'_>],
 ) -> Result<(), NodeFault> {
     for step in steps.iter() {
-        take(rt, alloc, cluster, *step)?;
+        do_step(rt, alloc, cluster, *step)?;
     }
     Ok(())
 }
@@ -362,7 +362,7 @@ pub(crate) fn run<D: Disk + Drop>(
     cluster: &mut Cluster<D>,
     course: &Course<'_>,
 ) -> Result<(), NodeFault> {
-    take_all(rt, alloc, cluster, course.steps)?;
+    do_steps(rt, alloc, cluster, course.steps)?;
     assert_due(rt, cluster, course);
     assert_logs(rt, alloc, cluster)?;
     Ok(())

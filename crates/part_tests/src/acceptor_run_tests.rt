@@ -138,7 +138,7 @@ fn disk_with_five(rt: &impl Abort, alloc: Global) -> Result<MemoryDisk, Fail> {
     let mut acceptor = created_in_memory(rt, alloc, &[])?;
     let all = Wanted::Accepted(five.as_slice());
     accepts_run(rt, &mut acceptor, FIRST, 7, five.as_slice(), all);
-    let disk = acceptor.close();
+    let disk = acceptor.into_disk();
     has_appended(rt, &disk, 1);
     Ok(disk)
 }
@@ -188,7 +188,7 @@ fn a_run_that_is_stored(rt: HostRuntime) -> Result<(), Fail> {
     let few = Wanted::Accepted(&five.as_slice()[..2]);
     accepts_run(&rt, &mut acceptor, FIRST, 7, &folds.as_slice()[..2], few);
     // The sync of the opening is one more.
-    let disk = acceptor.close();
+    let disk = acceptor.into_disk();
     assert_same(&rt, (writes(&disk), syncs(&disk)), (3, 4));
     Ok(())
 }
@@ -216,13 +216,13 @@ fn a_run_that_is_stored_in_part(rt: HostRuntime) -> Result<(), Fail> {
     let mut acceptor = with_three(&rt, alloc, 3)?;
     let first = Wanted::Accepted(three.as_slice());
     accepts_run(&rt, &mut acceptor, FIRST, 7, folds.as_slice(), first);
-    has_appended(&rt, &acceptor.close(), 1);
+    has_appended(&rt, &acceptor.into_disk(), 1);
     let mut acceptor = with_three(&rt, alloc, 2)?;
     let failed = Wanted::Fault(StoreFault::Disk);
     accepts_run(&rt, &mut acceptor, FIRST, 7, folds.as_slice(), failed);
     let closed = Wanted::Fault(StoreFault::Closed);
     accepts_run(&rt, &mut acceptor, FIRST, 7, folds.as_slice(), closed);
-    has_appended(&rt, &acceptor.close(), 1);
+    has_appended(&rt, &acceptor.into_disk(), 1);
     Ok(())
 }
 
@@ -235,7 +235,7 @@ fn a_run_up_to_a_slot_that_is_stored(rt: HostRuntime) -> Result<(), Fail> {
     let mut acceptor = with_three(&rt, alloc, 4)?;
     let two = Wanted::Accepted(&folds.as_slice()[..2]);
     accepts_run(&rt, &mut acceptor, FIRST, 5, folds.as_slice(), two);
-    has_appended(&rt, &acceptor.close(), 2);
+    has_appended(&rt, &acceptor.into_disk(), 2);
     Ok(())
 }
 
@@ -248,7 +248,7 @@ fn a_run_in_a_greater_ballot(rt: HostRuntime) -> Result<(), Fail> {
     let all = Wanted::Accepted(folds.as_slice());
     accepts_run(&rt, &mut acceptor, THIRD, 5, folds.as_slice(), all);
     assert_same(&rt, acceptor.promised(), THIRD);
-    has_appended(&rt, &acceptor.close(), 2);
+    has_appended(&rt, &acceptor.into_disk(), 2);
     Ok(())
 }
 

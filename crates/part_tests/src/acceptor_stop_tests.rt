@@ -17,7 +17,7 @@ fn stopped<D: Disk>(
     acceptor: Acceptor<D>,
     pick: u64,
 ) -> Acceptor<D> {
-    let mut disk = acceptor.close();
+    let mut disk = acceptor.into_disk();
     disk.stop(pick);
     opened(rt, alloc, disk)
 }
@@ -50,7 +50,7 @@ fn created_and_opened<D: Disk + Drop>(alloc: Global, disk: D) -> Option<Acceptor
     let Ok(store) = journal::create(alloc, disk) else {
         return None;
     };
-    let Ok(store) = journal::open(alloc, store.close()) else {
+    let Ok(store) = journal::open(alloc, store.into_disk()) else {
         return None;
     };
     Some(Acceptor::new(store))
@@ -177,7 +177,7 @@ fn opened_at_last(
     acceptor: Acceptor<OnceDisk>,
     faults: &mut u32,
 ) -> Acceptor<OnceDisk> {
-    match journal::open(alloc, acceptor.close()) {
+    match journal::open(alloc, acceptor.into_disk()) {
         Ok(store) => Acceptor::new(store),
         Err((disk, fault)) => {
             count(rt, fault, faults);

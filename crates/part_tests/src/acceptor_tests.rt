@@ -92,7 +92,7 @@ fn disk_with_two(rt: &impl Abort, alloc: Global) -> Result<MemoryDisk, Fail> {
     let mut acceptor = created_in_memory(rt, alloc, &[])?;
     promises_and_tells(rt, &mut acceptor, FIRST, Entries::new());
     accepts_two(rt, &mut acceptor)?;
-    Ok(acceptor.close())
+    Ok(acceptor.into_disk())
 }
 
 /// Two slots are accepted in one ballot, and told to the next.
@@ -117,14 +117,14 @@ const ACCEPTED: AcceptAnswer = AcceptAnswer::Accepted {
 fn disk_with_one(rt: &impl Abort, alloc: Global) -> Result<MemoryDisk, AllocError> {
     let mut acceptor = created_in_memory(rt, alloc, &[])?;
     accepts(rt, &mut acceptor, FIRST, 7, CALL, Ok(ACCEPTED));
-    Ok(acceptor.close())
+    Ok(acceptor.into_disk())
 }
 
 /// The disk once another command was proposed in the first ballot at slot 7, which was answered with the one before.
 fn proposed_again(rt: &impl Abort, alloc: Global, disk: MemoryDisk) -> MemoryDisk {
     let mut acceptor = opened(rt, alloc, disk);
     accepts(rt, &mut acceptor, FIRST, 7, FOLD, Ok(ACCEPTED));
-    acceptor.close()
+    acceptor.into_disk()
 }
 
 /// A ballot that is stored at its slot is answered with the command that is stored, and nothing is written.

@@ -50,7 +50,7 @@ fn each_stop_takes_the_next_fuse(rt: HostRuntime) -> Result<(), Fail> {
 fn disk_with_a_promise(rt: &impl Abort, alloc: Global) -> Result<MemoryDisk, Fail> {
     let mut store = created_in_memory(rt, alloc, &[])?;
     promise(&mut store)?;
-    Ok(store.close())
+    Ok(store.into_disk())
 }
 
 /// A write that no memory can serve fails, and leaves the bytes.
@@ -70,7 +70,7 @@ fn accepted_on(rt: &impl Abort, alloc: Global, disk: MemoryDisk) -> Result<Memor
     let mut store = opened(rt, alloc, disk);
     assert!(rt; !store.is_closed());
     accept(rt, &mut store)?;
-    Ok(store.close())
+    Ok(store.into_disk())
 }
 
 /// A growth that no memory can serve is a failure of the disk in memory, which goes on afterwards.
@@ -111,7 +111,7 @@ fn file_with_both<R: Abort + AllocGlobal + Files<File = File>>(
 ) -> Result<FileDisk, Fail> {
     let mut store = created(rt, rt.alloc(), FileDisk::new(new_file(rt, path)?));
     store_both(rt, &mut store)?;
-    Ok(store.close())
+    Ok(store.into_disk())
 }
 
 /// The file has these bytes.

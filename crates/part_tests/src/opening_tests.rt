@@ -13,7 +13,7 @@ use std::test::Fail;
 /// What opening a disk answers, by the fault's number or 0, and the disk.
 fn after_opening(alloc: Global, disk: MemoryDisk) -> (u8, MemoryDisk) {
     match open(alloc, disk) {
-        Ok(store) => (0, store.close()),
+        Ok(store) => (0, store.into_disk()),
         Err((disk, fault)) => (fault.code(), disk),
     }
 }
@@ -357,7 +357,7 @@ fn goes_on(rt: &impl Abort, alloc: Global, disk: MemoryDisk) -> Result<MemoryDis
     let mut store = opened(rt, alloc, disk);
     is_as_in_the_old(rt, &mut store)?;
     accept_run(&mut store, FIRST, 1, more.as_slice())?;
-    Ok(store.close())
+    Ok(store.into_disk())
 }
 
 /// The store that is opened on the disk has what the old journal has, and these two.

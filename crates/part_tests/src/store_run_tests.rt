@@ -50,7 +50,7 @@ fn disk_with_two(rt: &impl Abort, alloc: Global) -> Result<MemoryDisk, Fail> {
     let mut store = created_in_memory(rt, alloc, &[])?;
     accept_run(&mut store, THIRD_NODE, 0, two.as_slice())?;
     are_two(rt, &mut store)?;
-    Ok(store.close())
+    Ok(store.into_disk())
 }
 
 /// The store has the two, and no more.
@@ -80,7 +80,7 @@ fn disk_with_three(rt: &impl Abort, alloc: Global) -> Result<MemoryDisk, Fail> {
     accept_run(&mut store, LATER, 1, call.as_slice())?;
     accept_run(&mut store, FIRST, 0, deals.as_slice())?;
     are_three(rt, &mut store)?;
-    Ok(store.close())
+    Ok(store.into_disk())
 }
 
 /// Of the three deals the store has the first and the third; at slot 1 the greater ballot stays.
@@ -158,7 +158,7 @@ fn stopped(
     let answer = accept_run(&mut store, FIRST, 0, run);
     assert!(rt; matches!(answer, Ok(()) | Err(StoreFault::Disk)));
     assert_same(rt, store.is_closed(), answer.is_err());
-    let mut disk = store.close();
+    let mut disk = store.into_disk();
     disk.stop(pick);
     Ok((answer.is_ok(), disk))
 }
@@ -229,7 +229,7 @@ fn disk_behind_both(rt: &impl Abort, alloc: Global) -> Result<MemoryDisk, Fail> 
     let mut store = created_in_memory(rt, alloc, &[])?;
     store_both(rt, &mut store)?;
     accept_run(&mut store, FIRST, 1, three.as_slice())?;
-    Ok(store.close())
+    Ok(store.into_disk())
 }
 
 /// A file of these bytes opens to both and the three, or to both alone.
@@ -380,7 +380,7 @@ fn a_million_slots(rt: HostRuntime) -> Result<(), Fail> {
     let mut store = opened(&rt, alloc, disk);
     has_a_million(&rt, &mut store, run.as_slice(), 1_000_000)?;
     accept_run(&mut store, FIRST, 1_000_000, run.as_slice())?;
-    let mut store = opened(&rt, alloc, store.close());
+    let mut store = opened(&rt, alloc, store.into_disk());
     has_a_million(&rt, &mut store, run.as_slice(), 1_000_064)?;
     are_found(&rt, &mut store, FIRST, 1_000_000, run.as_slice())
 }

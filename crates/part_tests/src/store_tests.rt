@@ -30,7 +30,7 @@ fn stores_both<D: Disk>(rt: &impl Abort, store: &mut Store<D>) -> Result<(), Fai
 fn disk_with_both(rt: &impl Abort, alloc: Global) -> Result<MemoryDisk, Fail> {
     let mut store = created_in_memory(rt, alloc, &[])?;
     stores_both(rt, &mut store)?;
-    Ok(store.close())
+    Ok(store.into_disk())
 }
 
 #[test]
@@ -47,7 +47,7 @@ fn disk_with_a_promise(rt: &impl Abort, alloc: Global) -> Result<MemoryDisk, Fai
     assert!(rt; disk.calls().is_empty());
     let mut store = created(rt, alloc, disk);
     promise(&mut store)?;
-    Ok(store.close())
+    Ok(store.into_disk())
 }
 
 /// What the calls of a create and of an append write; nothing of a sync.
@@ -100,7 +100,7 @@ fn stopped_in_an_accept(rt: &impl Abort, alloc: Global, pick: u64) -> Result<Mem
     let mut store = created_in_memory(rt, alloc, &[9])?;
     promise(&mut store)?;
     is_closed_in_an_accept(rt, &mut store);
-    let mut disk = store.close();
+    let mut disk = store.into_disk();
     disk.stop(pick);
     Ok(disk)
 }
@@ -168,7 +168,7 @@ fn disk_of_away(rt: &impl Abort, alloc: Global) -> Result<MemoryDisk, Fail> {
     let mut store = created_in_memory(rt, alloc, &[])?;
     promise(&mut store)?;
     accept_away(&mut store)?;
-    Ok(store.close())
+    Ok(store.into_disk())
 }
 
 /// Two bytes of that journal in place of its own: hand 10000, index 256, and a fourth kind of command.
@@ -221,7 +221,7 @@ fn twenty(rt: &impl Abort, alloc: Global) -> Result<MemoryDisk, Fail> {
     for slot in 0..10u32 {
         append_two(rt, &mut store, slot)?;
     }
-    Ok(store.close())
+    Ok(store.into_disk())
 }
 
 /// Random bytes from 0 to 2, behind the header of node 0 of 3.

@@ -126,7 +126,7 @@ impl Held {
     }
 
     /// Takes the record behind a gate, with room made for its entries. An `Err` changes nothing.
-    pub(crate) fn take(
+    pub(crate) fn take_record(
         &mut self,
         gate: usize,
         size: usize,

@@ -146,7 +146,7 @@ pub fn read_records<D: Disk>(
                 let Some(next) = stage.after(&record) else {
                     return Err(StoreFault::BadRecord);
                 };
-                held.take(at, size, &record)?;
+                held.take_record(at, size, &record)?;
                 stage = next;
                 at += size + 3;
             }

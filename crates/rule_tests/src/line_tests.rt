@@ -36,7 +36,7 @@ fn dealt(rt: &impl Abort, alloc: Global) -> Table {
 }
 
 /// Takes an action of the first hand, its index counted from 0.
-fn take(table: &mut Table, index: u16, action: Action) -> Result<(), AllocError> {
+fn take_act(table: &mut Table, index: u16, action: Action) -> Result<(), AllocError> {
     let hand = 0;
     applied(
         table,
@@ -117,8 +117,8 @@ fn sees(
 
 /// Raises and calls in the first round.
 fn raise_and_call(table: &mut Table) -> Result<(), AllocError> {
-    take(table, 0, Action::Raise(20))?;
-    take(table, 1, Action::Call)
+    take_act(table, 0, Action::Raise(20))?;
+    take_act(table, 1, Action::Call)
 }
 
 /// Sees the lines of both seats of a table of two that are written of one betting text, the second into room that is made

@@ -24,7 +24,7 @@ fn apply(table: &mut Table, command: &Command) -> Result<(), AllocError> {
 }
 
 /// Takes the actions of a hand.
-fn take_all(table: &mut Table, hand: u32, actions: &[Action]) -> Result<(), AllocError>
+fn take_actions(table: &mut Table, hand: u32, actions: &[Action]) -> Result<(), AllocError>
     requires { length actions.now ≤ 256 }
 {
     for (index, action) in actions.iter().enumerate() {
@@ -55,7 +55,7 @@ fn play(rt: &impl Abort, table: &mut Table, hand: u32, texts: &Hand) -> Result<(
     let deal = cards(rt, texts.0, game.players());
     apply(table, &Command::Deal { hand, deal })?;
     let play = read(texts.1, &game).expect(rt, "a play");
-    take_all(table, hand, play.actions())
+    take_actions(table, hand, play.actions())
 }
 
 /// The names of a game's seats.

@@ -21,13 +21,13 @@ fn pair_of(rank: u8) -> HandValue
 
 /// 5, 10 and 10 chips, the first player having folded: one pot of 25.
 fn one_pot(rt: &impl Abort, twos: HandValue, kings: HandValue) {
-    let payoffs = settle(&[5, 10, 10], &[true, false, false], &[twos, kings, kings]);
+    let payoffs = settle_pots(&[5, 10, 10], &[true, false, false], &[twos, kings, kings]);
     same!(rt; payoffs.as_slice(), [-5, 3, 2].as_slice());
 }
 
 /// Pots of 450 and 1700.
 fn two_pots(rt: &impl Abort, twos: HandValue, aces: HandValue, kings: HandValue) {
-    let payoffs = settle(
+    let payoffs = settle_pots(
         &[1000, 150, 1000],
         &[false, false, false],
         &[twos, aces, kings],
@@ -44,7 +44,7 @@ fn one_pot_and_two_pots(rt: HostRuntime) {
 
 /// 3, 5 and 5 chips and the folded player's 2: a pot of 11, split 4, 4 and 3, and one of 4.
 fn two_tied_pots(rt: &impl Abort, kings: HandValue, aces: HandValue) {
-    let tied = settle(
+    let tied = settle_pots(
         &[3, 5, 5, 2],
         &[false, false, false, true],
         &[kings, kings, kings, aces],
@@ -54,7 +54,7 @@ fn two_tied_pots(rt: &impl Abort, kings: HandValue, aces: HandValue) {
 
 /// The folded player's 4 chips make a pot of 19 odd.
 fn odd_pot(rt: &impl Abort, aces: HandValue, twos: HandValue) {
-    let odd = settle(
+    let odd = settle_pots(
         &[5, 4, 5, 5],
         &[false, true, false, false],
         &[aces, aces, aces, twos],
@@ -64,7 +64,7 @@ fn odd_pot(rt: &impl Abort, aces: HandValue, twos: HandValue) {
 
 /// Equal parts in a pot that two levels make.
 fn whole_pot(rt: &impl Abort, aces: HandValue, kings: HandValue) {
-    let whole = settle(
+    let whole = settle_pots(
         &[1, 2, 2, 2, 2],
         &[true, true, false, false, false],
         &[aces, aces, kings, kings, kings],
@@ -96,14 +96,14 @@ fn ten_players(rt: HostRuntime) {
         pair_of(1),
     ];
     // ten pots, each to the player who put in the least of those who compete for it, but for the last two
-    let ten_stacks = settle(&spent, &[false; 10], &values);
+    let ten_stacks = settle_pots(&spent, &[false; 10], &values);
     same!(&rt; ten_stacks.as_slice(), [90, 70, 50, 30, 10, -10, -30, -50, -90, -70].as_slice());
 }
 
 #[test]
 fn greatest_amounts(rt: HostRuntime) {
     let most = 2147483647;
-    let all = settle(
+    let all = settle_pots(
         &[most, most, most],
         &[true, false, true],
         &[pair_of(12), pair_of(0), pair_of(12)],

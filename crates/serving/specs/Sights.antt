@@ -13,7 +13,7 @@ use Rattle.match_file.specs.Outages.{is_node_out}
 use Rattle.dealer_kind.specs.Kind.{Setting, hands_after}
 use Rattle.node_rules.specs.Standings.{Standing, applied, front_of}
 use Rattle.dealer_node.specs.Nodes.{Node}
-use Rattle.dealer_node.specs.Seeing.{post_in, runs, IsSeen}
+use Rattle.dealer_node.specs.Seeing.{member_in, runs, IsSeen}
 use Rattle.serving.specs.declared.known.NodeSight.{NodeSight}
 
 -- the seat to act in the newest hand, newest first; none where that is over, or none was dealt
@@ -33,7 +33,7 @@ module _ {D : Type 0} (g : Ghosts D) where
   pub record IsSight (node : Node D) (out : Bool) (sight : NodeSight) : Type 0 where
     pub running : sight.runs ≡ runs node
     pub is_out : sight.is_out ≡ out
-    pub shows : (s : Standing) → IsSeen g node s → IsSightOf (post_in node).setting s sight
+    pub shows : (s : Standing) → IsSeen g node s → IsSightOf (member_in node).setting s sight
 
   -- what is seen of all nodes, of which those are to be out that outages keep out at this count
   pub record AreSights (nodes : List (Node D)) (outages : List Outage) (count : ℕ) (sights : List NodeSight) : Type 0 where

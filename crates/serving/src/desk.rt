@@ -69,7 +69,7 @@ impl<L: Links + Drop> Desk<L> {
     }
 
     /// What is known goes on after an event that was given to the cluster.
-    pub(crate) fn settle<D: Disk + Drop>(&mut self, cluster: &Cluster<D>, waiting: &Waiting)
+    pub(crate) fn settle_event<D: Disk + Drop>(&mut self, cluster: &Cluster<D>, waiting: &Waiting)
         ensures settled { Settled D.Disk (view_of cluster.now) waiting.now.event (turn_of waiting.now.number waiting.now.seat waiting.now.event) self.old.progress self.new.progress }
         ensures passed { L.passed self.new.links ≡ L.passed self.old.links }
         ensures shown { self.new.shown ≡ self.old.shown }
@@ -96,7 +96,7 @@ impl<L: Links + Drop> Desk<L> {
                 }
             }
             Event::Stop { node, .. } => {
-                self.links.close(*node);
+                self.links.close_node(*node);
                 self.progress.stop(cluster, *node);
             }
             Event::Start { node } => self.progress.start(*node),
@@ -145,14 +145,14 @@ impl<L: Links + Drop> Desk<L> {
                 Err(_) => Err(ServeFault::LogFailed),
             },
             Reader::Seat(seat) => {
-                self.tell(piece.node, seat, piece.text);
+                self.tell_line(piece.node, seat, piece.text);
                 Ok(())
             }
         }
     }
 
     /// Sends a line to a seat that has a connection to the node. A seat that doesn't take it leaves.
-    fn tell(&mut self, node: u8, seat: usize, line: &[u8])
+    fn tell_line(&mut self, node: u8, seat: usize, line: &[u8])
         ensures kept { IsKept self.old.progress self.new.progress }
         ensures shown { self.new.shown ≡ self.old.shown }
         ensures called { self.new.last_node ≡ self.old.last_node }

@@ -22,7 +22,7 @@ use crate::most::most_shown;
 use crate::outages::Outages;
 use crate::place::Place;
 use crate::serve_fault::ServeFault;
-use crate::taking::{close_all, empty_logs, take};
+use crate::taking::{close_all, empty_logs, take_due};
 use crate::turn::Turn;
 use crate::waiting::{Taking, Waiting};
 use dealer_node::{MostShown, NodeFault, is_out_of_memory};
@@ -202,7 +202,7 @@ impl<D: Disk + Drop, L: Links + Drop> Server<D, L> {
             Some(waiting) => Ok(Taking::Gives(waiting)),
             None => {
                 let due = self.desk.progress.due(&self.cluster);
-                take(self.alloc, &mut self.desk.links, &self.cluster, due)
+                take_due(self.alloc, &mut self.desk.links, &self.cluster, due)
             }
         }
     }
@@ -220,14 +220,14 @@ impl<D: Disk + Drop, L: Links + Drop> Server<D, L> {
             return Err(ServeFault::Node(NodeFault::OutOfMemory));
         }
         self.waiting = None;
-        self.desk.settle(&self.cluster, &waiting);
-        let turn = self.close(&waiting, answer);
+        self.desk.settle_event(&self.cluster, &waiting);
+        let turn = self.close_turn(&waiting, answer);
         keep_piece(&mut self.last_piece, waiting);
         turn
     }
 
     /// Ends a turn whose event was answered so: what was shown is given to its readers.
-    fn close(
+    fn close_turn(
         &mut self,
         waiting: &Waiting,
         answer: Result<(), NodeFault>,

@@ -24,7 +24,7 @@ use std::alloc::Global;
 /// Takes what is due from the links, and says which event it gives to the cluster; none where all is over. A seat that
 /// is awaited or read from may turn out to be gone: then it is dropped; or it sends nothing for so long as the links
 /// wait: then nothing is taken.
-pub(crate) fn take<D: Disk + Drop, L: Links + Drop>(
+pub(crate) fn take_due<D: Disk + Drop, L: Links + Drop>(
     alloc: Global,
     links: &mut L,
     cluster: &Cluster<D>,
@@ -60,7 +60,7 @@ pub(crate) fn close_all<D: Disk + Drop, L: Links + Drop>(links: &mut L, cluster:
     cluster.config().limits();
     for node in 0..cluster.node_count() as u8 {
         links.part(node);
-        links.close(node);
+        links.close_node(node);
     }
 }
 

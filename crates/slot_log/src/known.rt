@@ -67,7 +67,7 @@ pub(crate) fn run_at(known: &[Known], front: usize) -> usize
 }
 
 /// The front goes on over the commands that are known at it, for all of which there is room.
-pub(crate) fn settle(below: &mut Vec<Command>, beyond: &mut Vec<Known>)
+pub(crate) fn advance_front(below: &mut Vec<Command>, beyond: &mut Vec<Known>)
     requires { vec_len below.old + vec_len beyond.old ≤ vec_capacity below.old }
     ensures log { settled (reverse below.old.items) beyond.old.items ≡ record { below = reverse below.new.items; beyond = beyond.new.items } }
     ensures len { vec_len below.new + vec_len beyond.new ≡ vec_len below.old + vec_len beyond.old }

@@ -45,6 +45,6 @@ impl PlayedHand {
         ensures deal { self.new.deal ≡ self.old.deal }
         ensures play { self.new.play ≡ record { game = self.old.play.game; past = action ∷ self.old.play.past } }
     {
-        self.play.take(action);
+        self.play.take_action(action);
     }
 }

@@ -189,6 +189,6 @@ impl SlotLog {
     {
         one_more_is_known();
         known::add(&mut self.beyond, slot, command);
-        known::settle(&mut self.below, &mut self.beyond);
+        known::advance_front(&mut self.below, &mut self.beyond);
     }
 }

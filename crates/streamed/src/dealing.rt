@@ -168,7 +168,11 @@ impl<'a> Dealing<'a> {
     }
 
     /// Takes what a line says, and appends the answer to it. An `Err` comes where memory was refused.
-    pub(crate) fn take(&mut self, said: ScriptLine, out: &mut Vec<u8>) -> Result<(), AllocError>
+    pub(crate) fn take_line(
+        &mut self,
+        said: ScriptLine,
+        out: &mut Vec<u8>,
+    ) -> Result<(), AllocError>
         requires { ComesInTurn self.old.table.game.players self.old.names said }
         ensures stands { OnOk result ((game : Game) (count : ℕ) (log : Maybe (List ℕ)) (before : List Said) → Stands game count log before self.old → Stands game count log (said ∷ before) self.new) }
         ensures answered { OnOk result ((game : Game) (count : ℕ) (log : Maybe (List ℕ)) (before : List Said) → Stands game count log before self.old → out.new.items ≡ out.old.items ++ answer game count log before said) }

@@ -79,7 +79,7 @@ impl<'a> Running<'a> {
         let said = self.dealing.read(&self.line);
         self.line.clear();
         self.answer.clear();
-        self.dealing.take(said, &mut self.answer)?;
+        self.dealing.take_line(said, &mut self.answer)?;
         send(writer, &self.answer)
     }
 }

@@ -1,7 +1,7 @@
 //! The nodes of a match, whose frames are handed on in the order of sending.
 
 use crate::peer::{Event, Peer, VERSION};
-use crate::taking::{Counts, take};
+use crate::taking::{Counts, take_event};
 use dealer_kind::Config;
 use dealer_node::{Out, Reader};
 use paxos_wire::limits::NODES;
@@ -168,7 +168,7 @@ impl Group {
         let Some(peer) = self.peers.get_mut(usize::from(node)) else {
             return Ok(());
         };
-        take(peer, event, is_seated, &mut out, &mut self.counts);
+        take_event(peer, event, is_seated, &mut out, &mut self.counts);
         self.keep(node, &out)?;
         self.out = Some(out);
         Ok(())
@@ -249,7 +249,7 @@ impl Group {
         };
         if peer.node.running() {
             let event = Event::Frame(sent.from, bytes);
-            take(peer, event, is_seated, &mut out, &mut self.counts);
+            take_event(peer, event, is_seated, &mut out, &mut self.counts);
         }
         self.keep(sent.to, &out)?;
         self.out = Some(out);

@@ -1,7 +1,7 @@
 //! A node of a match of two players, over a disk in memory, and what comes to it.
 
 ghost use Rattle.std.specs.Prelude.{◌≡◌, ◌<◌};
-ghost use Rattle.dealer_node.specs.Seeing.{post_in};
+ghost use Rattle.dealer_node.specs.Seeing.{member_in};
 
 use dealer_kind::{Config, Source};
 use dealer_node::{Node, NodeFault, Out};
@@ -66,8 +66,8 @@ pub struct Peer {
     pub node: Node<MemoryDisk>,
     /// The number of the match's last node.
     last: usize,
-    ghost nodes: { last < (post_in node).nodes },
-    ghost players: { (post_in node).setting.game.players ≡ 2 },
+    ghost nodes: { last < (member_in node).nodes },
+    ghost players: { (member_in node).setting.game.players ≡ 2 },
 }
 
 impl Peer {

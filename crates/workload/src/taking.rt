@@ -51,7 +51,13 @@ impl Counts {
 
 /// Lets a node take an event. A call that finds no memory changes nothing, and is made again; where its disk fails the
 /// node is started again, its seats sit down, and the call is made again.
-pub fn take(peer: &mut Peer, event: Event<'_>, seated: bool, out: &mut Out, counts: &mut Counts) {
+pub fn take_event(
+    peer: &mut Peer,
+    event: Event<'_>,
+    seated: bool,
+    out: &mut Out,
+    counts: &mut Counts,
+) {
     let before = peer.shown();
     let answer = match peer.step(event, out) {
         Err(NodeFault::OutOfMemory) => {

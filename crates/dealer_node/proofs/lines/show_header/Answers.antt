@@ -18,7 +18,7 @@ invariant_of-shown c = (put_header c).0
 
 pub returns-clause-texts : goal.returns-clause-texts
 returns-clause-texts c =
-    (put_header c).1 ∙ ap (λ p. c.args.shown.now.texts ++ p) (header_printed c.args.post.now.setting c.as_bytes.result.now c.game_word.result.now c.hands.result (c.as_bytes.ensures.value ∙ c.name.ensures) c.game_word.ensures c.hands.ensures.value)
+    (put_header c).1 ∙ ap (λ p. c.args.shown.now.texts ++ p) (header_printed c.args.member.now.setting c.as_bytes.result.now c.game_word.result.now c.hands.result (c.as_bytes.ensures.value ∙ c.name.ensures) c.game_word.ensures c.hands.ensures.value)
 
 pub returns-clause-len : goal.returns-clause-len
 returns-clause-len c = omega (arith, (put_header c).2)

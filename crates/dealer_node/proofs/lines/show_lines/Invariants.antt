@@ -6,7 +6,7 @@ use Rattle.dealer_node.proofs.lines.show_lines.Given as goal
 
 abbrev pub invariant-loop-seat : goal.invariant-loop-seat
 invariant-loop-seat l = record {
-  texts : l.shown.texts ++ map printed (seat_lines l.post.setting l.table.hands l.seat (talks (drop l.seat l.sessions))) ≡ l.fn.shown.texts ++ map printed (seat_lines l.post.setting l.table.hands 0 (talks l.sessions));
+  texts : l.shown.texts ++ map printed (seat_lines l.member.setting l.table.hands l.seat (talks (drop l.seat l.sessions))) ≡ l.fn.shown.texts ++ map printed (seat_lines l.member.setting l.table.hands 0 (talks l.sessions));
   text_room : l.fn.shown.text_room ≤ l.shown.text_room + l.seat;
   byte_room : l.fn.shown.byte_room ≤ l.shown.byte_room + 4096 * l.seat;
   len : length l.shown.texts ≤ length l.fn.shown.texts + l.seat;

@@ -18,7 +18,7 @@ invariant_of-shown c = (put_log c).0
 
 pub returns-clause-texts : goal.returns-clause-texts
 returns-clause-texts c =
-    (put_log c).1 ∙ ap (λ p. c.args.shown.now.texts ++ p) (log_printed c.args.post.now.setting c.args.table.now.game c.args.table.now.count c.names.result.now c.args.table.now.hands c.requires.game c.requires.count c.names.ensures.value (sym c.running.ensures ∙ c.if-running.false))
+    (put_log c).1 ∙ ap (λ p. c.args.shown.now.texts ++ p) (log_printed c.args.member.now.setting c.args.table.now.game c.args.table.now.count c.names.result.now c.args.table.now.hands c.requires.game c.requires.count c.names.ensures.value (sym c.running.ensures ∙ c.if-running.false))
 
 pub returns-clause-len : goal.returns-clause-len
 returns-clause-len c = omega (arith, (put_log c).2)

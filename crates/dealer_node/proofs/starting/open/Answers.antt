@@ -6,8 +6,8 @@ use Rattle.dealer_node.proofs.starting.open.Goals as goal
 
 pub returns-in-Ok-clause-starts : goal.returns-in-Ok-clause-starts
 returns-in-Ok-clause-starts g c = λ store begun honest leaves.
-    let head = head_of c.args.post.now in
-    starts_by g.D.Disk c.args.post.now store begun c.args.disk c.in-Ok.acceptor c.args.running (told_by c.args.made.now) (told_by c.greet.new.made)
+    let head = head_of c.args.member.now in
+    starts_by g.D.Disk c.args.member.now store begun c.args.disk c.in-Ok.acceptor c.args.running (told_by c.args.made.now) (told_by c.greet.new.made)
     (c.in-Ok.ensures.opened store begun honest leaves) c.requires.runs (c.in-Ok.ensures.reopens.during store begun honest leaves)
     (λ found keeps. c.greet.ensures.told found (c.promised.ensures.kept head found keeps honest))
     (λ found keeps. c.greet.ensures.fits found (c.promised.ensures.kept head found keeps honest))

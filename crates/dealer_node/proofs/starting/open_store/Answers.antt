@@ -7,25 +7,25 @@ use Rattle.promise_store.specs.declared.store.Store.{Store as Journal}
 use Rattle.promise_store.specs.Refusals.{Refuses}
 use Rattle.promise_store.specs.declared.fault.StoreFault.{StoreFault}
 use Rattle.acceptor.specs.Stored.{store_of}
-use Rattle.dealer_node.specs.Posts.{Post}
+use Rattle.dealer_node.specs.Members.{Membership}
 use Rattle.dealer_node.specs.Working.{head_of}
 use Rattle.dealer_node.specs.Starting.{GoesOnNew, MarksJournal}
 use Rattle.dealer_node.proofs.Started.{opened_at}
 use Rattle.dealer_node.proofs.starting.open_store.Goals as goal
 
-heads : (post : Post) (node nodes : ℕ) → node ≡ post.node → nodes ≡ post.nodes → header node nodes ≡ head_of post
-heads post node nodes own many = ap (λ n. header n nodes) own ∙ ap (λ n. header post.node n) many
+heads : (member : Membership) (node nodes : ℕ) → node ≡ member.node → nodes ≡ member.nodes → header node nodes ≡ head_of member
+heads member node nodes own many = ap (λ n. header n nodes) own ∙ ap (λ n. header member.node n) many
 
 pub returns-in-Ok-clause-opened : goal.returns-in-Ok-clause-opened
 returns-in-Ok-clause-opened g c = λ old new honest leaves.
-    let same = heads c.args.post.now c.node.result c.nodes.result c.node.ensures.value c.nodes.ensures.value in
+    let same = heads c.args.member.now c.node.result c.nodes.result c.node.ensures.value c.nodes.ensures.value in
     let L : List ℕ → Type 0 = λ h. Leaves g.D.Disk h old new c.args.disk in
-    opened_at g.D.Disk (header c.node.result c.nodes.result) (head_of c.args.post.now) old new c.in-Ok.store (store_of c.new.result) same c.new.ensures
+    opened_at g.D.Disk (header c.node.result c.nodes.result) (head_of c.args.member.now) old new c.in-Ok.store (store_of c.new.result) same c.new.ensures
     (c.in-Ok.ensures.either old new honest (subst L (sym same) leaves))
 
 pub returns-in-Ok-clause-stands : goal.returns-in-Ok-clause-stands
 returns-in-Ok-clause-stands g c = λ honest.
-    let same = heads c.args.post.now c.node.result c.nodes.result c.node.ensures.value c.nodes.ensures.value in
+    let same = heads c.args.member.now c.node.result c.nodes.result c.node.ensures.value c.nodes.ensures.value in
     let opened = c.in-Ok.ensures.opened in
     let S : List ℕ → Type 0 = λ h. StandsFor h (g.D.Disk.seen c.args.disk) opened.held in
     let K : List ℕ → Type 0 = λ h. Keeps g.D.Disk h opened.held (store_of c.new.result) in
@@ -34,7 +34,7 @@ returns-in-Ok-clause-stands g c = λ honest.
 
 pub returns-in-Err-clause-refused : goal.returns-in-Err-clause-refused
 returns-in-Err-clause-refused g c = λ old new honest leaves.
-    let same = heads c.args.post.now c.node.result c.nodes.result c.node.ensures.value c.nodes.ensures.value in
+    let same = heads c.args.member.now c.node.result c.nodes.result c.node.ensures.value c.nodes.ensures.value in
     let L : List ℕ → Type 0 = λ h. Leaves g.D.Disk h old new c.args.disk in
     elim (c.in-Err.ensures.sound old new honest (subst L (sym same) leaves)) [
       | inl failed ↦ inr (c.fault_of.ensures.disk failed)
@@ -43,40 +43,40 @@ returns-in-Err-clause-refused g c = λ old new honest leaves.
 
 pub returns-in-Err-clause-finds : goal.returns-in-Err-clause-finds
 returns-in-Err-clause-finds g c = λ honest why is.
-    let same = heads c.args.post.now c.node.result c.nodes.result c.node.ensures.value c.nodes.ensures.value in
+    let same = heads c.args.member.now c.node.result c.nodes.result c.node.ensures.value c.nodes.ensures.value in
     let R : List ℕ → Type 0 = λ h. Refuses h (g.D.Disk.seen c.args.disk) why in
     let F : StoreFault → Type 0 = λ f. Refuses (header c.node.result c.nodes.result) (g.D.Disk.seen c.args.disk) f in
     subst R same (subst F (c.fault_of.ensures.only why is) (c.in-Err.ensures.refused honest))
 
 pub returns-in-Ok-clause-reopens : goal.returns-in-Ok-clause-reopens
 returns-in-Ok-clause-reopens g c =
-    let same = heads c.args.post.now c.node.result c.nodes.result c.node.ensures.value c.nodes.ensures.value in
+    let same = heads c.args.member.now c.node.result c.nodes.result c.node.ensures.value c.nodes.ensures.value in
     let R : List ℕ → Type 0 = λ h. Reopens g.D.Disk h c.args.disk (disk_of (store_of c.new.result)) in
     let J : Journal g.row.D.Denot → Type 0 = λ st. Reopens g.D.Disk (header c.node.result c.nodes.result) c.args.disk (disk_of st) in
     subst R same (subst J (sym c.new.ensures) c.in-Ok.ensures.settles)
 
 pub returns-in-Err-clause-reopens_err : goal.returns-in-Err-clause-reopens_err
 returns-in-Err-clause-reopens_err g c =
-    let same = heads c.args.post.now c.node.result c.nodes.result c.node.ensures.value c.nodes.ensures.value in
+    let same = heads c.args.member.now c.node.result c.nodes.result c.node.ensures.value c.nodes.ensures.value in
     subst (λ (h : List ℕ). Reopens g.D.Disk h c.args.disk c.in-Err.disk) same c.in-Err.ensures.settles_err
 
 pub returns-in-Ok-clause-marks : goal.returns-in-Ok-clause-marks
 returns-in-Ok-clause-marks g c = λ honest.
-    let same = heads c.args.post.now c.node.result c.nodes.result c.node.ensures.value c.nodes.ensures.value in
+    let same = heads c.args.member.now c.node.result c.nodes.result c.node.ensures.value c.nodes.ensures.value in
     let M : List ℕ → Type 0 = λ h. MarksJournal h (g.D.Disk.seen c.args.disk) (g.D.Disk.seen (disk_of (store_of c.new.result))) in
     let J : Journal g.row.D.Denot → Type 0 = λ st. MarksJournal (header c.node.result c.nodes.result) (g.D.Disk.seen c.args.disk) (g.D.Disk.seen (disk_of st)) in
     subst M same (subst J (sym c.new.ensures) (c.in-Ok.ensures.marks honest))
 
 pub returns-in-Ok-clause-quiet : goal.returns-in-Ok-clause-quiet
 returns-in-Ok-clause-quiet g c = λ honest goes_on.
-    let same = heads c.args.post.now c.node.result c.nodes.result c.node.ensures.value c.nodes.ensures.value in
+    let same = heads c.args.member.now c.node.result c.nodes.result c.node.ensures.value c.nodes.ensures.value in
     let there = subst (λ (h : List ℕ). GoesOnNew h (g.D.Disk.seen c.args.disk)) (sym same) goes_on in
     let J : Journal g.row.D.Denot → Type 0 = λ st. OnlyReads g.D.Disk c.args.disk (disk_of st) in
     subst J (sym c.new.ensures) (c.in-Ok.ensures.quiet honest there.0 there.1 there.2)
 
 pub returns-in-Err-clause-quiet_err : goal.returns-in-Err-clause-quiet_err
 returns-in-Err-clause-quiet_err g c = λ honest goes_on.
-    let same = heads c.args.post.now c.node.result c.nodes.result c.node.ensures.value c.nodes.ensures.value in
+    let same = heads c.args.member.now c.node.result c.nodes.result c.node.ensures.value c.nodes.ensures.value in
     let there = subst (λ (h : List ℕ). GoesOnNew h (g.D.Disk.seen c.args.disk)) (sym same) goes_on in
     c.in-Err.ensures.quiet_err honest there.0 there.1 there.2
 

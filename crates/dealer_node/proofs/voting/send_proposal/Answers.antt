@@ -3,7 +3,7 @@ use Rattle.paxos_wire.specs.Fits.{most_bytes}
 use Rattle.paxos_wire.specs.declared.message.Message.TheVariants.{Accept}
 use Rattle.slot_log.specs.declared.command.Command.{Command}
 use Rattle.node_rules.specs.Sending.{to_others}
-use Rattle.dealer_node.specs.Posts.{place_at}
+use Rattle.dealer_node.specs.Members.{place_at}
 use Rattle.dealer_node.specs.Fitting.{AreMessages}
 use Rattle.dealer_node.proofs.Left.{run_bytes}
 use Rattle.dealer_node.proofs.Voted.{messages_to}
@@ -18,8 +18,8 @@ send_to_others-requires-clause-bytes c =
 
 pub returns-clause-fits : goal.returns-clause-fits
 returns-clause-fits c =
-    subst (λ (cs : List Command). AreMessages (to_others (place_at c.args.post.now) (Accept c.args.ballot c.args.slot cs))) c.new.ensures
-    (messages_to c.args.post.now.nodes c.args.post.now.node c.nodes-nodes.result c.node.result (Accept c.args.ballot c.args.slot c.new.result) c.nodes-nodes.ensures.value c.node.ensures.value c.send_to_others.ensures.fits)
+    subst (λ (cs : List Command). AreMessages (to_others (place_at c.args.member.now) (Accept c.args.ballot c.args.slot cs))) c.new.ensures
+    (messages_to c.args.member.now.nodes c.args.member.now.node c.nodes-nodes.result c.node.result (Accept c.args.ballot c.args.slot c.new.result) c.nodes-nodes.ensures.value c.node.ensures.value c.send_to_others.ensures.fits)
 
 pub returns-clause-grows : goal.returns-clause-grows
 returns-clause-grows c =

@@ -6,4 +6,4 @@ use Rattle.dealer_world.proofs.recording.put_frames.Given as goal
 abbrev pub invariant-loop-to : goal.invariant-loop-to
 invariant-loop-to l = ((goal.iterator-loop-to).can_next l.to-iterator) × ((goal.iterator-loop-to).is_finite l.to-iterator)
     × (length l.to-iterator ≤ l.frames.frame_room) × (byte_total l.to-iterator ≤ l.frames.byte_room)
-    × (l.frames.frames ++ map (frame_by l.node) l.to-iterator ≡ l.fn.frames.frames ++ map (frame_by l.node) l.fn.posted)
+    × (l.frames.frames ++ map (frame_by l.node) l.to-iterator ≡ l.fn.frames.frames ++ map (frame_by l.node) l.fn.outgoing)

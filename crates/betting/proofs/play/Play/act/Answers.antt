@@ -13,8 +13,8 @@ returns-in-Some-clause-allowed c = (
 pub returns-clause-allowed : goal.returns-clause-allowed
 returns-clause-allowed c = (λ _. none-can_act c.args.self.now.game (history c.args.self.now) c.args.action (sym c.fault.ensures ∙ c.in_default.is), λ _. refl)
 
-pub take-requires : goal.take-requires
-take-requires c = none-can_act c.args.self.now.game (history c.args.self.now) c.args.action (sym c.fault.ensures ∙ c.in_default.is)
+pub take_action-requires : goal.take_action-requires
+take_action-requires c = none-can_act c.args.self.now.game (history c.args.self.now) c.args.action (sym c.fault.ensures ∙ c.in_default.is)
 
 pub returns-in-Some-clause-after : goal.returns-in-Some-clause-after
 returns-in-Some-clause-after c = search rules

@@ -20,18 +20,18 @@ invariant_of-result g c = record {
 }
 
 pub returns-clause-place : goal.returns-clause-place
-returns-clause-place g c = placed c.in_ok-post.post c.args.config.now c.args.node c.in_ok-post.ensures.setting c.in_ok-post.ensures.nodes c.in_ok-post.ensures.node c.in_ok-post.ensures.deals
+returns-clause-place g c = placed c.in_ok-member.member c.args.config.now c.args.node c.in_ok-member.ensures.setting c.in_ok-member.ensures.nodes c.in_ok-member.ensures.node c.in_ok-member.ensures.deals
 
 pub returns-clause-seen : goal.returns-clause-seen
 unfolding hands_of
 returns-clause-seen g c store begun leaves =
-    let p = placed c.in_ok-post.post c.args.config.now c.args.node c.in_ok-post.ensures.setting c.in_ok-post.ensures.nodes c.in_ok-post.ensures.node c.in_ok-post.ensures.deals in
-    let P : ℕ → Type 0 = λ n. Leaves g.D.Disk (header n c.in_ok-post.post.nodes) store begun c.args.disk in
+    let p = placed c.in_ok-member.member c.args.config.now c.args.node c.in_ok-member.ensures.setting c.in_ok-member.ensures.nodes c.in_ok-member.ensures.node c.in_ok-member.ensures.deals in
+    let P : ℕ → Type 0 = λ n. Leaves g.D.Disk (header n c.in_ok-member.member.nodes) store begun c.args.disk in
     let Q : ℕ → Type 0 = λ n. Leaves g.D.Disk (header c.args.node n) store begun c.args.disk in
     record {
       by = record {
         stopped = ap (λ (place : Place). stopped place store begun) (sym p);
-        leaves = subst P (sym c.in_ok-post.ensures.node) (subst Q (sym c.in_ok-post.ensures.nodes) leaves);
+        leaves = subst P (sym c.in_ok-member.ensures.node) (subst Q (sym c.in_ok-member.ensures.nodes) leaves);
       };
       blank = record {
         game = ap (λ (m : Match). m.game) c.new-blank.ensures ∙ c.game.ensures;

@@ -19,17 +19,17 @@ returns-in-Some-clause-taken g c s honest seen =
     let call = c.on_away-answer in
     let before : Told = told_by c.out.inside.made in
     let there = seen_at d c.args.self.now c.self.inside (Some c.in-Some.up) s c.self.view_is c.in-Some.is seen in
-    let t = handled d c.self.inside.post c.self.inside.blank c.self.inside.disk c.in-Some.up call.new.self s Away before (told_by call.new.out) call.result there call.ensures.unmade (λ o done. done) (call.ensures.handles s honest there.by) in
-    subst (λ (told : Told). Takes d Away s c.args.self.now c.settle.new.self told (told_by call.new.out) c.settle.result) c.out.view_is
-    (settled_at d c.args.self.now c.self.inside c.in-Some.up c.settle.new.self _ s Away before (told_by call.new.out) c.settle.result call.result c.self.view_is c.in-Some.is c.settle.ensures.node c.settle.ensures.same t)
+    let t = handled d c.self.inside.member c.self.inside.blank c.self.inside.disk c.in-Some.up call.new.self s Away before (told_by call.new.out) call.result there call.ensures.unmade (λ o done. done) (call.ensures.handles s honest there.by) in
+    subst (λ (told : Told). Takes d Away s c.args.self.now c.go_down_after.new.self told (told_by call.new.out) c.go_down_after.result) c.out.view_is
+    (settled_at d c.args.self.now c.self.inside c.in-Some.up c.go_down_after.new.self _ s Away before (told_by call.new.out) c.go_down_after.result call.result c.self.view_is c.in-Some.is c.go_down_after.ensures.node c.go_down_after.ensures.same t)
 
 pub returns-in-Some-clause-untouched : goal.returns-in-Some-clause-untouched
 returns-in-Some-clause-untouched g c s honest seen =
     let d = g.D.Disk in
     let call = c.on_away-answer in
     let there = seen_at d c.args.self.now c.self.inside (Some c.in-Some.up) s c.self.view_is c.in-Some.is seen in
-    reads_at d c.args.self.now c.self.inside c.in-Some.up c.settle.new.self _ s Away c.settle.result call.result c.self.view_is c.in-Some.is c.settle.ensures.node c.settle.ensures.same
-    (handled_reads d c.self.inside.post c.self.inside.blank c.self.inside.disk c.in-Some.up call.new.self s Away (told_by c.out.inside.made) (told_by call.new.out) call.result there (call.ensures.handles s honest there.by))
+    reads_at d c.args.self.now c.self.inside c.in-Some.up c.go_down_after.new.self _ s Away c.go_down_after.result call.result c.self.view_is c.in-Some.is c.go_down_after.ensures.node c.go_down_after.ensures.same
+    (handled_reads d c.self.inside.member c.self.inside.blank c.self.inside.disk c.in-Some.up call.new.self s Away (told_by c.out.inside.made) (told_by call.new.out) call.result there (call.ensures.handles s honest there.by))
 
 pub returns-in-None-clause-shows : goal.returns-in-None-clause-shows
 returns-in-None-clause-shows g c = none_shown (most_shown_of c.args.self.now) c.args.out.now _ refl

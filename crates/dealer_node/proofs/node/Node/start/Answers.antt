@@ -24,7 +24,7 @@ returns-in-Ok-clause-taken g c = λ s honest seen.
     let there = seen_down g.D.Disk c.args.self.now c.self.inside c.in-Some.disk s c.self.view_is down has seen in
     let out : told_by c.ready.new.out ≡ c.args.out.now = c.ready.ensures.same ∙ c.out.view_is in
     started_at g.D.Disk c.args.self.now c.self.inside c.in-Some.disk c.take.new.self c.in-Ok.up s c.args.out.now (told_by c.append_owned.new.self) c.self.view_is down has seen
-    (starts_behind g.D.Disk c.self.inside.post s.store s.begun c.in-Some.disk c.in-Ok.up (told_by c.in_ok-running.made) (told_by c.open.new.made) c.args.out.now (told_by c.append_owned.new.self)
+    (starts_behind g.D.Disk c.self.inside.member s.store s.begun c.in-Some.disk c.in-Ok.up (told_by c.in_ok-running.made) (told_by c.open.new.made) c.args.out.now (told_by c.append_owned.new.self)
     c.in_ok-running.ensures.nothing (c.append_owned.ensures ∙ ap (λ (t : Told). both_told t (told_by c.open.new.made)) out)
     (c.in-Ok.ensures.starts s.store s.begun honest there.by.leaves))
 

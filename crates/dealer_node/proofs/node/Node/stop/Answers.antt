@@ -15,7 +15,7 @@ returns-clause-taken g c s honest seen = elim c.match-self.branch [
   | in-Some w ↦
       stopped_at g.D.Disk c.args.self.now c.self.inside c.match-self.self-inside w.in-Some.disk w.stop.new.self s nothing_told
       (c.self.view_is ∙ c.go_down.ensures) w.in-Some.is
-      (ap node_of w.self-inside-is ∙ ap (λ (u : Option (Up g.row.D.Denot)). noted g.D.Disk c.self.inside.post c.self.inside.blank (Some w.stop.new.self) u) (ap (λ (n : Node g.row.D.Denot). n.up) (c.self.view_is ∙ c.go_down.ensures))) (λ up is. c.what_is_kept_is_left.ensures (head_of c.args.self.now.post) s.store (store_of up.acceptor) is.keeps)
+      (ap node_of w.self-inside-is ∙ ap (λ (u : Option (Up g.row.D.Denot)). noted g.D.Disk c.self.inside.member c.self.inside.blank (Some w.stop.new.self) u) (ap (λ (n : Node g.row.D.Denot). n.up) (c.self.view_is ∙ c.go_down.ensures))) (λ up is. c.what_is_kept_is_left.ensures (head_of c.args.self.now.member) s.store (store_of up.acceptor) is.keeps)
       w.stop.ensures.crash w.stop.ensures.time seen
   | in_default w ↦ absurd (no_disk g.D.Disk c.self.inside c.self.invariant (ap (λ (n : Node g.row.D.Denot). n.up) (c.self.view_is ∙ c.go_down.ensures)) w.in_default.is)
 ]
@@ -25,7 +25,7 @@ returns-clause-picked g c honest = elim c.match-self.branch [
   | in-Some w ↦
       picked_at g.D.Disk c.args.self.now c.self.inside c.match-self.self-inside w.in-Some.disk w.stop.new.self c.args.pick
       (c.self.view_is ∙ c.go_down.ensures) w.in-Some.is
-      (ap node_of w.self-inside-is ∙ ap (λ (u : Option (Up g.row.D.Denot)). noted g.D.Disk c.self.inside.post c.self.inside.blank (Some w.stop.new.self) u) (ap (λ (n : Node g.row.D.Denot). n.up) (c.self.view_is ∙ c.go_down.ensures)))
+      (ap node_of w.self-inside-is ∙ ap (λ (u : Option (Up g.row.D.Denot)). noted g.D.Disk c.self.inside.member c.self.inside.blank (Some w.stop.new.self) u) (ap (λ (n : Node g.row.D.Denot). n.up) (c.self.view_is ∙ c.go_down.ensures)))
       (w.stop.ensures.picked honest)
   | in_default w ↦ absurd (no_disk g.D.Disk c.self.inside c.self.invariant (ap (λ (n : Node g.row.D.Denot). n.up) (c.self.view_is ∙ c.go_down.ensures)) w.in_default.is)
 ]

@@ -7,7 +7,7 @@ use Rattle.dealer_node.proofs.running.Running.begin_ballot.Goals as goal
 
 pub returns-clause-taken : goal.returns-clause-taken
 returns-clause-taken c = λ s is told.
-    begun_taken c.args.post.now c.args.self.now c.begin.new.self c.on_promise.new.self s c.higher-seen.result c.in-Ok.prepare.ballot c.front-slot.result c.node.result c.nodes.result c.node-in-Ok.result c.args.told.now (told_by c.args.made.now) c.send_to_others.new.frames.texts
+    begun_taken c.args.member.now c.args.self.now c.begin.new.self c.on_promise.new.self s c.higher-seen.result c.in-Ok.prepare.ballot c.front-slot.result c.node.result c.nodes.result c.node-in-Ok.result c.args.told.now (told_by c.args.made.now) c.send_to_others.new.frames.texts
     c.requires.at is c.front-slot.ensures.value c.node.ensures.value c.nodes.ensures.value c.node-in-Ok.ensures.value (ap (λ (p : Prepare). p.ballot) c.in-Ok.ensures.prepare) c.in-Ok.ensures.begun c.on_promise.ensures told
     c.send_to_others.ensures.texts c.send_to_others.ensures.fits
 
@@ -17,5 +17,5 @@ returns-clause-ballot c = search rules
 pub returns-clause-at : goal.returns-clause-at
 returns-clause-at c =
     let is : IsBallot c.in-Ok.prepare.ballot = search rules in
-    begun_at c.args.post.now c.args.self.now c.begin.new.self c.on_promise.new.self c.higher-seen.result c.in-Ok.prepare.ballot c.front-slot.result c.node.result c.args.told.now
+    begun_at c.args.member.now c.args.self.now c.begin.new.self c.on_promise.new.self c.higher-seen.result c.in-Ok.prepare.ballot c.front-slot.result c.node.result c.args.told.now
     c.requires.at is (ap (λ (p : Prepare). p.ballot) c.in-Ok.ensures.prepare) c.in-Ok.ensures.begun c.on_promise.ensures c.requires.told

@@ -15,7 +15,7 @@ no_hands setting = refl
 
 pub returns-clause-runs : goal.returns-clause-runs
 returns-clause-runs c = λ found.
-    let setting : Setting = c.args.post.now.setting in
+    let setting : Setting = c.args.member.now.setting in
     record {
       up = refl;
       campaign = ap (λ (p : Proposing). p.campaign) c.new.ensures;

@@ -6,5 +6,5 @@ use Rattle.dealer_node.proofs.running.Running.proposal.Goals as goal
 
 pub returns-then-front-ge-SLOTS-clause-closes : goal.returns-then-front-ge-SLOTS-clause-closes
 returns-then-front-ge-SLOTS-clause-closes c = λ s is.
-    close_spent c.args.post.now c.args.self.now s c.requires.at is _ c.requires.leading (subst (λ k. SLOTS ≤ k) c.front.ensures.value c.if-front-ge-SLOTS.true)
+    close_spent c.args.member.now c.args.self.now s c.requires.at is _ c.requires.leading (subst (λ k. SLOTS ≤ k) c.front.ensures.value c.if-front-ge-SLOTS.true)
     (ap (λ (p : Proposing). p.campaign) c.turn_idle.ensures) refl

@@ -6,7 +6,7 @@ use Rattle.dealer_node.proofs.running.Running.propose.Goals as goal
 
 pub returns-in-Ok-clause-closes : goal.returns-in-Ok-clause-closes
 returns-in-Ok-clause-closes c = λ s is.
-    close_proposed c.args.post.now c.args.self.now s c.requires.at is _ c.own_value-own.result c.front-front.result c.in-Ok.proposal
+    close_proposed c.args.member.now c.args.self.now s c.requires.at is _ c.own_value-own.result c.front-front.result c.in-Ok.proposal
     (sym c.in-Ok.is ∙ c.propose_run.ensures.proposal) c.front-front.ensures.value (c.own_value-own.ensures.value s is.hands is.waits) (λ leading. c.requires.left)
     (ap (λ (p : Proposing). p.campaign) c.in-Ok.ensures.marked) refl
 
@@ -22,6 +22,6 @@ returns-in-Ok-clause-bounded c = λ most bounded.
 
 pub returns-in-Err-clause-closes : goal.returns-in-Err-clause-closes
 returns-in-Err-clause-closes c = λ s is.
-    close_outside c.args.post.now c.args.self.now s c.requires.at is _ c.own_value-own.result c.front-front.result c.in-Err.field-0
+    close_outside c.args.member.now c.args.self.now s c.requires.at is _ c.own_value-own.result c.front-front.result c.in-Err.field-0
     (sym c.in-Err.is ∙ c.propose_run.ensures.proposal) c.front-front.ensures.value (c.own_value-own.ensures.value s is.hands is.waits) (λ leading. c.requires.left)
     (ap (λ (p : Proposing). p.campaign) c.turn_idle.ensures) refl

@@ -11,7 +11,7 @@ use Rattle.dealer_node.proofs.Stored.{accept_voted}
 use Rattle.dealer_node.proofs.up.Up.accept.Goals as goal
 
 pub vote-requires-clause-at : goal.vote-requires-clause-at
-vote-requires-clause-at g c = c.turn_idle.ensures.at c.args.post.now c.requires.at
+vote-requires-clause-at g c = c.turn_idle.ensures.at c.args.member.now c.requires.at
 
 pub returns-clause-left : goal.returns-clause-left
 returns-clause-left g c need answers more frames left =
@@ -21,10 +21,10 @@ returns-clause-left g c need answers more frames left =
 
 pub returns-clause-works : goal.returns-clause-works
 returns-clause-works g c s honest is =
-    let same = c.promised-promised.ensures.kept (head_of c.args.post.now) s.store is.keeps honest in
+    let same = c.promised-promised.ensures.kept (head_of c.args.member.now) s.store is.keeps honest in
     let above = sym c.is_below.ensures ∙ c.if-is_below.false in
-    let there : IsUp g.D.Disk c.args.post.now (record c.args.self.now { running = c.turn_idle.new.self }) (idle s) = record { running = c.turn_idle.ensures.runs c.args.post.now s is.running; keeps = is.keeps; unbegun = is.unbegun; stands = tt } in
-    accept_voted g.D.Disk c.args.post.now s c.args.from c.args.ballot c.promised-promised.result c.args.slot c.args.commands.now (record c.args.self.now { running = c.turn_idle.new.self }) c.args.self.now c.vote.new.self (told_by c.args.made.now) (told_by c.vote.new.made) c.vote.result refl same above
+    let there : IsUp g.D.Disk c.args.member.now (record c.args.self.now { running = c.turn_idle.new.self }) (idle s) = record { running = c.turn_idle.ensures.runs c.args.member.now s is.running; keeps = is.keeps; unbegun = is.unbegun; stands = tt } in
+    accept_voted g.D.Disk c.args.member.now s c.args.from c.args.ballot c.promised-promised.result c.args.slot c.args.commands.now (record c.args.self.now { running = c.turn_idle.new.self }) c.args.self.now c.vote.new.self (told_by c.args.made.now) (told_by c.vote.new.made) c.vote.result refl same above
     (c.vote.ensures.works (idle s) honest there (ap (is_below c.args.ballot) (sym same) ∙ above) tt)
 
 pub returns-clause-bounded : goal.returns-clause-bounded

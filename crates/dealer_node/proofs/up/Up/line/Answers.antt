@@ -12,20 +12,20 @@ use Rattle.dealer_node.proofs.up.Up.line.Goals as goal
 
 pub returns-clause-works : goal.returns-clause-works
 returns-clause-works g c = λ s honest is.
-    let heard = c.hear.ensures.heard s honest is in
-    line_works g.D.Disk c.args.post.now s c.args.seat c.args.piece.now c.args.self.now c.hear.new.self c.close.new.self (told_by c.args.made.now) (told_by c.hear.new.made) (told_by c.close.new.made) c.close.result
-    heard (c.close.ensures.works heard.took.turn.after honest heard.took.now)
+    let heard = c.hear_piece.ensures.heard s honest is in
+    line_works g.D.Disk c.args.member.now s c.args.seat c.args.piece.now c.args.self.now c.hear_piece.new.self c.close_call.new.self (told_by c.args.made.now) (told_by c.hear_piece.new.made) (told_by c.close_call.new.made) c.close_call.result
+    heard (c.close_call.ensures.works heard.took.turn.after honest heard.took.now)
 
 pub returns-clause-within : goal.returns-clause-within
 returns-clause-within g c = λ nothing.
     let m = c.args.most in
     let need = line_need c.args.self.now.running c.args.limit m in
-    left_within c.close.new.self.running c.close.new.made need
-    (c.close.ensures.left need 0 0 0
-    (less_left c.hear.new.self.running c.hear.new.made need 1 (0 + m) (0 + FRAMES_OF_A_CLOSE * m) 1 m (FRAMES_OF_A_CLOSE * m) (omega arith) (omega arith) (omega arith)
-    (line_left c.args.self.now c.hear.new.self c.args.made.now c.hear.new.made c.args.limit m nothing c.requires.room c.hear.ensures.frames c.hear.ensures.shown c.hear.ensures.faults c.hear.ensures.rest)))
+    left_within c.close_call.new.self.running c.close_call.new.made need
+    (c.close_call.ensures.left need 0 0 0
+    (less_left c.hear_piece.new.self.running c.hear_piece.new.made need 1 (0 + m) (0 + FRAMES_OF_A_CLOSE * m) 1 m (FRAMES_OF_A_CLOSE * m) (omega arith) (omega arith) (omega arith)
+    (line_left c.args.self.now c.hear_piece.new.self c.args.made.now c.hear_piece.new.made c.args.limit m nothing c.requires.room c.hear_piece.ensures.frames c.hear_piece.ensures.shown c.hear_piece.ensures.faults c.hear_piece.ensures.rest)))
 
 -- what was heard changes no ballot
-pub close-requires-clause-bounded : goal.close-requires-clause-bounded
-close-requires-clause-bounded g c =
-    subst (λ (p : Proposing). IsBounded p c.args.most) (sym (ap (λ (u : Up _). u.running.proposer) c.hear.ensures.rest)) c.requires.bounded
+pub close_call-requires-clause-bounded : goal.close_call-requires-clause-bounded
+close_call-requires-clause-bounded g c =
+    subst (λ (p : Proposing). IsBounded p c.args.most) (sym (ap (λ (u : Up _). u.running.proposer) c.hear_piece.ensures.rest)) c.requires.bounded

@@ -4,7 +4,7 @@ use Rattle.node_rules.specs.Proposing.{closing}
 use Rattle.node_rules.specs.Seats.{ordering}
 use Rattle.node_rules.specs.Calls.{Away}
 use Rattle.dealer_node.specs.declared.fault.NodeFault.{NodeFault}
-use Rattle.dealer_node.specs.Posts.{place_at}
+use Rattle.dealer_node.specs.Members.{place_at}
 use Rattle.dealer_node.specs.Outs.{Told, told_by, both_told}
 use Rattle.dealer_node.specs.Calling.{HandlesCall, away_need}
 use Rattle.proposer.specs.Campaigns.{Proposing}
@@ -16,10 +16,10 @@ use Rattle.dealer_node.proofs.Most.{none_shown, made_shown}
 use Rattle.dealer_node.proofs.up.Up.on_away.Goals as goal
 
 pub returns-in_err-made-clause-at : goal.returns-in_err-made-clause-at
-returns-in_err-made-clause-at g c = c.ready.ensures.at c.args.post.now c.requires
+returns-in_err-made-clause-at g c = c.ready.ensures.at c.args.member.now c.requires
 
 pub play_for-requires-clause-at : goal.play_for-requires-clause-at
-play_for-requires-clause-at g c = c.ready.ensures.at c.args.post.now c.requires
+play_for-requires-clause-at g c = c.ready.ensures.at c.args.member.now c.requires
 
 -- what is meant fits, so its numbers are within their ranges
 pub play_for-requires-clause-act : goal.play_for-requires-clause-act
@@ -32,36 +32,36 @@ play_for-requires-clause-act g c =
 
 pub returns-in_default-clause-handles : goal.returns-in_default-clause-handles
 returns-in_default-clause-handles g c = λ s honest is.
-    let post = c.args.post.now in
-    let none = sym (meant_by_table post c.args.self.now.running s is.running) ∙ sym c.in_default.ensures.value in
-    inr (_, refl, (order_refused post s none, record { now = is; disk = refl }))
+    let member = c.args.member.now in
+    let none = sym (meant_by_table member c.args.self.now.running s is.running) ∙ sym c.in_default.ensures.value in
+    inr (_, refl, (order_refused member s none, record { now = is; disk = refl }))
 
 pub returns-in_err-play_for-clause-handles : goal.returns-in_err-play_for-clause-handles
 returns-in_err-play_for-clause-handles g c = λ s honest is.
-    let place = place_at c.args.post.now in
+    let place = place_at c.args.member.now in
     let outcome = and_then (ordering place s) (closing place) in
-    let meant = sym (meant_by_table c.args.post.now c.args.self.now.running s is.running) ∙ sym c.in-Some.ensures.value in
-    let worked = c.in_err-play_for.ensures.works s honest (c.in_ok-made.ensures.unmoved.up c.args.post.now s is) meant in
+    let meant = sym (meant_by_table c.args.member.now c.args.self.now.running s is.running) ∙ sym c.in-Some.ensures.value in
+    let worked = c.in_err-play_for.ensures.works s honest (c.in_ok-made.ensures.unmoved.up c.args.member.now s is) meant in
     let same : c.from_residual-in_err-play_for.result ≡ Err c.in_err-play_for.field-0.0 = err_is c.from_residual-in_err-play_for.result c.in_err-play_for.field-0.0 c.from_residual-in_err-play_for.ensures.1 in
-    let A : Result (Unit {0}) NodeFault → Type 0 = λ a. HandlesCall g.D.Disk c.args.post.now s Away c.args.self.now c.play_for.new.self (told_by c.args.out.now) (told_by c.ready.new.out) a in
+    let A : Result (Unit {0}) NodeFault → Type 0 = λ a. HandlesCall g.D.Disk c.args.member.now s Away c.args.self.now c.play_for.new.self (told_by c.args.out.now) (told_by c.ready.new.out) a in
     subst A (sym same)
     (inr (
       outcome,
       refl,
-      works_over g.D.Disk c.args.post.now s outcome c.args.self.now c.ready.new.self c.play_for.new.self (told_by c.in_ok-made.made) (told_by c.play_for.new.made) (told_by c.args.out.now) (told_by c.ready.new.out) (Err c.in_err-play_for.field-0.0)
+      works_over g.D.Disk c.args.member.now s outcome c.args.self.now c.ready.new.self c.play_for.new.self (told_by c.in_ok-made.made) (told_by c.play_for.new.made) (told_by c.args.out.now) (told_by c.ready.new.out) (Err c.in_err-play_for.field-0.0)
           c.in_ok-made.ensures.unmoved.disk c.in_ok-made.ensures.nothing (λ e. absurd (cc)) worked,
     ))
 
 pub returns-clause-handles : goal.returns-clause-handles
 returns-clause-handles g c = λ s honest is.
-    let place = place_at c.args.post.now in
+    let place = place_at c.args.member.now in
     let outcome = and_then (ordering place s) (closing place) in
-    let meant = sym (meant_by_table c.args.post.now c.args.self.now.running s is.running) ∙ sym c.in-Some.ensures.value in
-    let worked = c.in_ok-play_for.ensures.works s honest (c.in_ok-made.ensures.unmoved.up c.args.post.now s is) meant in
+    let meant = sym (meant_by_table c.args.member.now c.args.self.now.running s is.running) ∙ sym c.in-Some.ensures.value in
+    let worked = c.in_ok-play_for.ensures.works s honest (c.in_ok-made.ensures.unmoved.up c.args.member.now s is) meant in
     inr (
       outcome,
       refl,
-      works_over g.D.Disk c.args.post.now s outcome c.args.self.now c.ready.new.self c.play_for.new.self (told_by c.in_ok-made.made) (told_by c.play_for.new.made) (told_by c.args.out.now) (told_by c.append.new.self) (Ok tt)
+      works_over g.D.Disk c.args.member.now s outcome c.args.self.now c.ready.new.self c.play_for.new.self (told_by c.in_ok-made.made) (told_by c.play_for.new.made) (told_by c.args.out.now) (told_by c.append.new.self) (Ok tt)
           c.in_ok-made.ensures.unmoved.disk c.in_ok-made.ensures.nothing (λ e. c.append.ensures ∙ ap (λ (t : Told). both_told t (told_by c.play_for.new.made)) c.in_ok-made.ensures.same) worked,
     )
 

@@ -4,7 +4,7 @@ use Rattle.paxos_wire.specs.declared.fault.FrameFault.{FrameFault}
 use Rattle.node_rules.specs.Rules.{on_message, on_read}
 use Rattle.node_rules.specs.Calls.{Frame}
 use Rattle.dealer_node.specs.declared.fault.NodeFault.{NodeFault}
-use Rattle.dealer_node.specs.Posts.{place_at}
+use Rattle.dealer_node.specs.Members.{place_at}
 use Rattle.dealer_node.specs.Outs.{Told, told_by, both_told}
 use Rattle.dealer_node.specs.Calling.{HandlesCall}
 use Rattle.dealer_node.proofs.Heard.{err_is, works_over}
@@ -20,35 +20,35 @@ use Rattle.dealer_node.proofs.Most.{none_shown, made_shown}
 use Rattle.dealer_node.proofs.up.Up.on_frame.Goals as goal
 
 pub returns-in_err-made-in-Ok-clause-at : goal.returns-in_err-made-in-Ok-clause-at
-returns-in_err-made-in-Ok-clause-at g c = c.ready.ensures.at c.args.post.now c.requires.at
+returns-in_err-made-in-Ok-clause-at g c = c.ready.ensures.at c.args.member.now c.requires.at
 
 pub message-requires-clause-at : goal.message-requires-clause-at
-message-requires-clause-at g c = c.ready.ensures.at c.args.post.now c.requires.at
+message-requires-clause-at g c = c.ready.ensures.at c.args.member.now c.requires.at
 
 pub returns-in_err-message-in-Ok-clause-handles : goal.returns-in_err-message-in-Ok-clause-handles
 returns-in_err-message-in-Ok-clause-handles g c = λ s honest is.
-    let place = place_at c.args.post.now in
+    let place = place_at c.args.member.now in
     let outcome = on_message place c.args.from c.in-Ok.message s in
-    let worked = c.in_err-message-in-Ok.ensures.works s honest (c.in_ok-made-in-Ok.ensures.unmoved.up c.args.post.now s is) in
+    let worked = c.in_err-message-in-Ok.ensures.works s honest (c.in_ok-made-in-Ok.ensures.unmoved.up c.args.member.now s is) in
     let same : c.from_residual-in_err-message-in-Ok.result ≡ Err c.in_err-message-in-Ok.field-0.0 = err_is c.from_residual-in_err-message-in-Ok.result c.in_err-message-in-Ok.field-0.0 c.from_residual-in_err-message-in-Ok.ensures.1 in
-    let A : Result (Unit {0}) NodeFault → Type 0 = λ a. HandlesCall g.D.Disk c.args.post.now s (Frame c.args.from c.args.bytes.now) c.args.self.now c.message.new.self (told_by c.args.out.now) (told_by c.ready.new.out) a in
+    let A : Result (Unit {0}) NodeFault → Type 0 = λ a. HandlesCall g.D.Disk c.args.member.now s (Frame c.args.from c.args.bytes.now) c.args.self.now c.message.new.self (told_by c.args.out.now) (told_by c.ready.new.out) a in
     subst A (sym same)
     (inr (
       outcome,
       ap (λ (r : Result Message FrameFault). on_read place c.args.from r s) (sym c.in-Ok.is ∙ c.read.ensures.value),
-      works_over g.D.Disk c.args.post.now s outcome c.args.self.now c.ready.new.self c.message.new.self (told_by c.in_ok-made-in-Ok.made) (told_by c.message.new.made) (told_by c.args.out.now) (told_by c.ready.new.out) (Err c.in_err-message-in-Ok.field-0.0)
+      works_over g.D.Disk c.args.member.now s outcome c.args.self.now c.ready.new.self c.message.new.self (told_by c.in_ok-made-in-Ok.made) (told_by c.message.new.made) (told_by c.args.out.now) (told_by c.ready.new.out) (Err c.in_err-message-in-Ok.field-0.0)
           c.in_ok-made-in-Ok.ensures.unmoved.disk c.in_ok-made-in-Ok.ensures.nothing (λ e. absurd (cc)) worked,
     ))
 
 pub returns-in_ok-message-in-Ok-clause-handles : goal.returns-in_ok-message-in-Ok-clause-handles
 returns-in_ok-message-in-Ok-clause-handles g c = λ s honest is.
-    let place = place_at c.args.post.now in
+    let place = place_at c.args.member.now in
     let outcome = on_message place c.args.from c.in-Ok.message s in
-    let worked = c.in_ok-message-in-Ok.ensures.works s honest (c.in_ok-made-in-Ok.ensures.unmoved.up c.args.post.now s is) in
+    let worked = c.in_ok-message-in-Ok.ensures.works s honest (c.in_ok-made-in-Ok.ensures.unmoved.up c.args.member.now s is) in
     inr (
       outcome,
       ap (λ (r : Result Message FrameFault). on_read place c.args.from r s) (sym c.in-Ok.is ∙ c.read.ensures.value),
-      works_over g.D.Disk c.args.post.now s outcome c.args.self.now c.ready.new.self c.message.new.self (told_by c.in_ok-made-in-Ok.made) (told_by c.message.new.made) (told_by c.args.out.now) (told_by c.append.new.self) (Ok tt)
+      works_over g.D.Disk c.args.member.now s outcome c.args.self.now c.ready.new.self c.message.new.self (told_by c.in_ok-made-in-Ok.made) (told_by c.message.new.made) (told_by c.args.out.now) (told_by c.append.new.self) (Ok tt)
           c.in_ok-made-in-Ok.ensures.unmoved.disk c.in_ok-made-in-Ok.ensures.nothing (λ e. c.append.ensures ∙ ap (λ (t : Told). both_told t (told_by c.message.new.made)) c.in_ok-made-in-Ok.ensures.same) worked,
     )
 

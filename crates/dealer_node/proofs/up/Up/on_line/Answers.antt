@@ -3,7 +3,7 @@ use Rattle.node_rules.specs.Turns.{and_then}
 use Rattle.node_rules.specs.Proposing.{closing}
 use Rattle.node_rules.specs.Calls.{Line}
 use Rattle.dealer_node.specs.declared.fault.NodeFault.{NodeFault}
-use Rattle.dealer_node.specs.Posts.{place_at}
+use Rattle.dealer_node.specs.Members.{place_at}
 use Rattle.dealer_node.specs.Outs.{Told, told_by, both_told}
 use Rattle.dealer_node.specs.Calling.{HandlesCall}
 use Rattle.dealer_node.proofs.Heard.{err_is, works_over}
@@ -15,33 +15,33 @@ use Rattle.dealer_node.proofs.Most.{none_shown, made_shown}
 use Rattle.dealer_node.proofs.up.Up.on_line.Goals as goal
 
 pub returns-in_err-made-clause-at : goal.returns-in_err-made-clause-at
-returns-in_err-made-clause-at g c = c.ready_line.ensures.at c.args.post.now c.requires.at
+returns-in_err-made-clause-at g c = c.ready_line.ensures.at c.args.member.now c.requires.at
 
 pub line-requires-clause-at : goal.line-requires-clause-at
-line-requires-clause-at g c = c.ready_line.ensures.at c.args.post.now c.requires.at
+line-requires-clause-at g c = c.ready_line.ensures.at c.args.member.now c.requires.at
 
 pub returns-in_err-line-clause-handles : goal.returns-in_err-line-clause-handles
 returns-in_err-line-clause-handles g c = λ s honest is.
-    let place = place_at c.args.post.now in
-    let worked = c.in_err-line.ensures.works s honest (c.in_ok-made.ensures.unmoved.up c.args.post.now s is) in
+    let place = place_at c.args.member.now in
+    let worked = c.in_err-line.ensures.works s honest (c.in_ok-made.ensures.unmoved.up c.args.member.now s is) in
     let same : c.from_residual-in_err-line.result ≡ Err c.in_err-line.field-0.0 = err_is c.from_residual-in_err-line.result c.in_err-line.field-0.0 c.from_residual-in_err-line.ensures.1 in
-    let A : Result (Unit {0}) NodeFault → Type 0 = λ a. HandlesCall g.D.Disk c.args.post.now s (Line c.args.seat c.args.bytes.now) c.args.self.now c.line.new.self (told_by c.args.out.now) (told_by c.ready_line.new.out) a in
+    let A : Result (Unit {0}) NodeFault → Type 0 = λ a. HandlesCall g.D.Disk c.args.member.now s (Line c.args.seat c.args.bytes.now) c.args.self.now c.line.new.self (told_by c.args.out.now) (told_by c.ready_line.new.out) a in
     subst A (sym same)
     (inr (
       and_then (Ok worked.heard) (closing place),
       (worked.heard, worked.rule, refl),
-      works_over g.D.Disk c.args.post.now s (and_then (Ok worked.heard) (closing place)) c.args.self.now c.ready_line.new.self c.line.new.self (told_by c.in_ok-made.made) (told_by c.line.new.made) (told_by c.args.out.now) (told_by c.ready_line.new.out) (Err c.in_err-line.field-0.0)
+      works_over g.D.Disk c.args.member.now s (and_then (Ok worked.heard) (closing place)) c.args.self.now c.ready_line.new.self c.line.new.self (told_by c.in_ok-made.made) (told_by c.line.new.made) (told_by c.args.out.now) (told_by c.ready_line.new.out) (Err c.in_err-line.field-0.0)
           c.in_ok-made.ensures.unmoved.disk c.in_ok-made.ensures.nothing (λ e. absurd (cc)) worked.works,
     ))
 
 pub returns-clause-handles : goal.returns-clause-handles
 returns-clause-handles g c = λ s honest is.
-    let place = place_at c.args.post.now in
-    let worked = c.in_ok-line.ensures.works s honest (c.in_ok-made.ensures.unmoved.up c.args.post.now s is) in
+    let place = place_at c.args.member.now in
+    let worked = c.in_ok-line.ensures.works s honest (c.in_ok-made.ensures.unmoved.up c.args.member.now s is) in
     inr (
       and_then (Ok worked.heard) (closing place),
       (worked.heard, worked.rule, refl),
-      works_over g.D.Disk c.args.post.now s (and_then (Ok worked.heard) (closing place)) c.args.self.now c.ready_line.new.self c.line.new.self (told_by c.in_ok-made.made) (told_by c.line.new.made) (told_by c.args.out.now) (told_by c.append.new.self) (Ok tt)
+      works_over g.D.Disk c.args.member.now s (and_then (Ok worked.heard) (closing place)) c.args.self.now c.ready_line.new.self c.line.new.self (told_by c.in_ok-made.made) (told_by c.line.new.made) (told_by c.args.out.now) (told_by c.append.new.self) (Ok tt)
           c.in_ok-made.ensures.unmoved.disk c.in_ok-made.ensures.nothing (λ e. c.append.ensures ∙ ap (λ (t : Told). both_told t (told_by c.line.new.made)) c.in_ok-made.ensures.same) worked.works,
     )
 

@@ -3,7 +3,7 @@ use Rattle.node_rules.specs.Turns.{and_then}
 use Rattle.node_rules.specs.Proposing.{ticking, closing}
 use Rattle.node_rules.specs.Calls.{Tick}
 use Rattle.dealer_node.specs.declared.fault.NodeFault.{NodeFault}
-use Rattle.dealer_node.specs.Posts.{place_at}
+use Rattle.dealer_node.specs.Members.{place_at}
 use Rattle.dealer_node.specs.Outs.{Told, told_by, both_told}
 use Rattle.dealer_node.specs.Working.{head_of}
 use Rattle.dealer_node.specs.Calling.{HandlesCall}
@@ -17,10 +17,10 @@ use Rattle.dealer_node.proofs.up.Up.on_tick.Goals as goal
 use Rattle.dealer_node.proofs.up.Up.on_tick.Goals.{else-not-over-via-then-not-over+else-is_spent, else-not-over-via-else-not-over}
 
 pub returns-in_err-made-clause-at : goal.returns-in_err-made-clause-at
-returns-in_err-made-clause-at g c = c.ready.ensures.at c.args.post.now c.requires
+returns-in_err-made-clause-at g c = c.ready.ensures.at c.args.member.now c.requires
 
 pub tick-requires-clause-at : goal.tick-requires-clause-at
-tick-requires-clause-at g c = c.ready.ensures.at c.args.post.now c.requires
+tick-requires-clause-at g c = c.ready.ensures.at c.args.member.now c.requires
 
 pub tick-requires-clause-unspent : goal.tick-requires-clause-unspent
 tick-requires-clause-unspent g c = λ running.
@@ -32,28 +32,28 @@ tick-requires-clause-unspent g c = λ running.
 
 pub returns-in_err-tick-clause-handles : goal.returns-in_err-tick-clause-handles
 returns-in_err-tick-clause-handles g c = λ s honest is.
-    let place = place_at c.args.post.now in
+    let place = place_at c.args.member.now in
     let outcome = and_then (ticking place s) (closing place) in
-    let worked = c.in_err-tick.ensures.works s honest (c.in_ok-made.ensures.unmoved.up c.args.post.now s is) (c.promised-promised.ensures.kept (head_of c.args.post.now) s.store is.keeps honest) (c.is_over-over.ensures s is.running) in
+    let worked = c.in_err-tick.ensures.works s honest (c.in_ok-made.ensures.unmoved.up c.args.member.now s is) (c.promised-promised.ensures.kept (head_of c.args.member.now) s.store is.keeps honest) (c.is_over-over.ensures s is.running) in
     let same : c.from_residual-in_err-tick.result ≡ Err c.in_err-tick.field-0.0 = err_is c.from_residual-in_err-tick.result c.in_err-tick.field-0.0 c.from_residual-in_err-tick.ensures.1 in
-    let A : Result (Unit {0}) NodeFault → Type 0 = λ a. HandlesCall g.D.Disk c.args.post.now s Tick c.args.self.now c.tick.new.self (told_by c.args.out.now) (told_by c.ready.new.out) a in
+    let A : Result (Unit {0}) NodeFault → Type 0 = λ a. HandlesCall g.D.Disk c.args.member.now s Tick c.args.self.now c.tick.new.self (told_by c.args.out.now) (told_by c.ready.new.out) a in
     subst A (sym same)
     (inr (
       outcome,
       refl,
-      works_over g.D.Disk c.args.post.now s outcome c.args.self.now c.ready.new.self c.tick.new.self (told_by c.in_ok-made.made) (told_by c.tick.new.made) (told_by c.args.out.now) (told_by c.ready.new.out) (Err c.in_err-tick.field-0.0)
+      works_over g.D.Disk c.args.member.now s outcome c.args.self.now c.ready.new.self c.tick.new.self (told_by c.in_ok-made.made) (told_by c.tick.new.made) (told_by c.args.out.now) (told_by c.ready.new.out) (Err c.in_err-tick.field-0.0)
           c.in_ok-made.ensures.unmoved.disk c.in_ok-made.ensures.nothing (λ e. absurd (cc)) worked,
     ))
 
 pub returns-clause-handles : goal.returns-clause-handles
 returns-clause-handles g c = λ s honest is.
-    let place = place_at c.args.post.now in
+    let place = place_at c.args.member.now in
     let outcome = and_then (ticking place s) (closing place) in
-    let worked = c.in_ok-tick.ensures.works s honest (c.in_ok-made.ensures.unmoved.up c.args.post.now s is) (c.promised-promised.ensures.kept (head_of c.args.post.now) s.store is.keeps honest) (c.is_over-over.ensures s is.running) in
+    let worked = c.in_ok-tick.ensures.works s honest (c.in_ok-made.ensures.unmoved.up c.args.member.now s is) (c.promised-promised.ensures.kept (head_of c.args.member.now) s.store is.keeps honest) (c.is_over-over.ensures s is.running) in
     inr (
       outcome,
       refl,
-      works_over g.D.Disk c.args.post.now s outcome c.args.self.now c.ready.new.self c.tick.new.self (told_by c.in_ok-made.made) (told_by c.tick.new.made) (told_by c.args.out.now) (told_by c.append.new.self) (Ok tt)
+      works_over g.D.Disk c.args.member.now s outcome c.args.self.now c.ready.new.self c.tick.new.self (told_by c.in_ok-made.made) (told_by c.tick.new.made) (told_by c.args.out.now) (told_by c.append.new.self) (Ok tt)
           c.in_ok-made.ensures.unmoved.disk c.in_ok-made.ensures.nothing (λ e. c.append.ensures ∙ ap (λ (t : Told). both_told t (told_by c.tick.new.made)) c.in_ok-made.ensures.same) worked,
     )
 

@@ -12,22 +12,22 @@ use Rattle.dealer_node.proofs.up.Up.play_for.Goals as goal
 
 pub returns-clause-works : goal.returns-clause-works
 returns-clause-works g c = λ s honest is meant.
-    let post = c.args.post.now in
-    let taken = c.play_for.ensures.taken s is.running (sym (c.promised-promised.ensures.kept (head_of post) s.store is.keeps honest)) in
-    let took = order_took g.D.Disk post s c.args.act.now c.args.self.now c.play_for.new.self (told_by c.args.made.now) (told_by c.play_for.new.made) is taken in
-    order_works g.D.Disk post s c.args.act.now c.args.self.now _ c.close.new.self (told_by c.args.made.now) (told_by c.play_for.new.made) (told_by c.close.new.made) c.close.result meant took
-    (c.close.ensures.works took.turn.after honest took.now)
+    let member = c.args.member.now in
+    let taken = c.play_for.ensures.taken s is.running (sym (c.promised-promised.ensures.kept (head_of member) s.store is.keeps honest)) in
+    let took = order_took g.D.Disk member s c.args.act.now c.args.self.now c.play_for.new.self (told_by c.args.made.now) (told_by c.play_for.new.made) is taken in
+    order_works g.D.Disk member s c.args.act.now c.args.self.now _ c.close_call.new.self (told_by c.args.made.now) (told_by c.play_for.new.made) (told_by c.close_call.new.made) c.close_call.result meant took
+    (c.close_call.ensures.works took.turn.after honest took.now)
 
 pub returns-clause-within : goal.returns-clause-within
 returns-clause-within g c = λ nothing.
     let m = c.args.most in
     let need = away_need c.args.self.now.running m in
-    left_within c.close.new.self.running c.close.new.made need
-    (c.close.ensures.left need 0 0 0
+    left_within c.close_call.new.self.running c.close_call.new.made need
+    (c.close_call.ensures.left need 0 0 0
     (less_left c.play_for.new.self c.play_for.new.made need 1 (0 + m) (0 + FRAMES_OF_A_CLOSE * m) 1 m (FRAMES_OF_A_CLOSE * m) (omega arith) (omega arith) (omega arith)
     (away_left c.args.self.now _ c.args.made.now c.play_for.new.made m nothing c.requires.room c.play_for.ensures.frames c.play_for.ensures.rest
     (ap (λ (r : Running). record c.args.self.now { running = r }) c.play_for.ensures.same))))
 
 -- what was meant changes no ballot
-pub close-requires-clause-bounded : goal.close-requires-clause-bounded
-close-requires-clause-bounded g c = subst (λ (r : Running). IsBounded r.proposer c.args.most) (sym c.play_for.ensures.same) c.requires.bounded
+pub close_call-requires-clause-bounded : goal.close_call-requires-clause-bounded
+close_call-requires-clause-bounded g c = subst (λ (r : Running). IsBounded r.proposer c.args.most) (sym c.play_for.ensures.same) c.requires.bounded

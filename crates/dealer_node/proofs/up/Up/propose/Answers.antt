@@ -19,5 +19,5 @@ returns-clause-left g c need answers more frames left =
 
 pub returns-clause-works : goal.returns-clause-works
 returns-clause-works g c s honest is own =
-    propose_works g.D.Disk c.args.post.now s c.args.proposal.now c.as_slice-commands.result.now c.args.self.now c.vote.new.self (told_by c.args.made.now) (told_by c.vote.new.made) c.send_proposal.new.frames.texts c.vote.result
+    propose_works g.D.Disk c.args.member.now s c.args.proposal.now c.as_slice-commands.result.now c.args.self.now c.vote.new.self (told_by c.args.made.now) (told_by c.vote.new.made) c.send_proposal.new.frames.texts c.vote.result
     c.as_slice-commands.ensures.value is own c.send_proposal.ensures.texts c.send_proposal.ensures.fits (c.vote.ensures.works s honest is)

@@ -11,8 +11,8 @@ pub returns-then-over-clause-within : goal.returns-then-over-clause-within
 returns-then-over-clause-within g c = λ nothing.
     let need = close_need c.args.self.now.running c.args.most in
     let left = close_left c.args.self.now c.args.made.now c.args.most nothing c.requires.room in
-    left_within c.close.new.self.running c.close.new.made need
-    (c.close.ensures.left need 0 0 0
+    left_within c.close_call.new.self.running c.close_call.new.made need
+    (c.close_call.ensures.left need 0 0 0
     (less_left c.args.self.now.running c.args.made.now need 1 (0 + c.args.most) (0 + FRAMES_OF_A_CLOSE * c.args.most) 1 c.args.most (FRAMES_OF_A_CLOSE * c.args.most) (omega arith) (omega arith) (omega arith) left))
 
 pub returns-else-over-clause-within : goal.returns-else-over-clause-within
@@ -25,4 +25,4 @@ returns-else-over-clause-within g c = λ nothing.
 
 pub returns-then-over-clause-works : goal.returns-then-over-clause-works
 returns-then-over-clause-works g c s honest is same over =
-    over_works g.D.Disk c.args.post.now s c.args.self.now c.close.new.self (told_by c.args.made.now) (told_by c.close.new.made) c.close.result is (sym over ∙ c.if-over.true) (c.close.ensures.works s honest is)
+    over_works g.D.Disk c.args.member.now s c.args.self.now c.close_call.new.self (told_by c.args.made.now) (told_by c.close_call.new.made) c.close_call.result is (sym over ∙ c.if-over.true) (c.close_call.ensures.works s honest is)

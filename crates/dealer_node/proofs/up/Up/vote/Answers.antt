@@ -56,30 +56,30 @@ returns-in-Err-tell_votes-clause-left g c need answers more frames =
 pub returns-in-Ok-tell_votes-clause-works : goal.returns-in-Ok-tell_votes-clause-works
 returns-in-Ok-tell_votes-clause-works g c s honest is above own =
     let t = c.in-Ok.ensures.taken in
-    let done = t.ok (head_of c.args.post.now) s.store is.keeps honest in
+    let done = t.ok (head_of c.args.member.now) s.store is.keeps honest in
     let accepts = rw c.in-Some.is at c.accepted_commands.ensures in
-    vote_took g.D.Disk (record { promise = c.command_runs_are_moves.ensures.promise }) c.args.post.now s c.args.ballot c.args.slot c.args.commands.now c.in-Some.stored.now c.args.self.now _ (told_by c.args.made.now) (told_by c.tell_votes.new.made) is above own
-    (accepts ∙ ap accepted_in done.0) done.1 (t.any_moment (head_of c.args.post.now) s.store is.keeps honest) c.in-Ok-tell_votes.ensures.ok
+    vote_took g.D.Disk (record { promise = c.command_runs_are_moves.ensures.promise }) c.args.member.now s c.args.ballot c.args.slot c.args.commands.now c.in-Some.stored.now c.args.self.now _ (told_by c.args.made.now) (told_by c.tell_votes.new.made) is above own
+    (accepts ∙ ap accepted_in done.0) done.1 (t.any_moment (head_of c.args.member.now) s.store is.keeps honest) c.in-Ok-tell_votes.ensures.ok
     (omega (arith, c.nodes-nodes.ensures.least, c.nodes-nodes.ensures.value))
 
 pub returns-in-Err-tell_votes-clause-works : goal.returns-in-Err-tell_votes-clause-works
 returns-in-Err-tell_votes-clause-works g c s honest is above own =
     let t = c.in-Ok.ensures.taken in
-    let done = t.ok (head_of c.args.post.now) s.store is.keeps honest in
+    let done = t.ok (head_of c.args.member.now) s.store is.keeps honest in
     let accepts = rw c.in-Some.is at c.accepted_commands.ensures in
-    vote_clashed g.D.Disk c.args.post.now s c.args.ballot c.args.slot c.args.commands.now c.in-Some.stored.now c.args.self.now _ is above
-    (accepts ∙ ap accepted_in done.0) (t.leaves (head_of c.args.post.now) s.store is.keeps honest) (t.any_moment (head_of c.args.post.now) s.store is.keeps honest) c.in-Err-tell_votes.ensures.err
+    vote_clashed g.D.Disk c.args.member.now s c.args.ballot c.args.slot c.args.commands.now c.in-Some.stored.now c.args.self.now _ is above
+    (accepts ∙ ap accepted_in done.0) (t.leaves (head_of c.args.member.now) s.store is.keeps honest) (t.any_moment (head_of c.args.member.now) s.store is.keeps honest) c.in-Err-tell_votes.ensures.err
 
 pub returns-in-None-clause-works : goal.returns-in-None-clause-works
 returns-in-None-clause-works g c s honest is above own =
-    let done = c.in-Ok.ensures.taken.ok (head_of c.args.post.now) s.store is.keeps honest in
+    let done = c.in-Ok.ensures.taken.ok (head_of c.args.member.now) s.store is.keeps honest in
     vote_stands g.D.Disk c.args.ballot c.args.slot c.args.commands.now s.store c.in-Ok.answer above done.0 (rw c.in-None.is at c.accepted_commands.ensures)
 
 pub returns-in-Err-clause-works : goal.returns-in-Err-clause-works
 returns-in-Err-clause-works g c s honest is above own =
     let t = c.in-Err.ensures.taken in
-    fails_by g.D.Disk c.args.post.now s _ c.args.self.now _ (told_by c.args.made.now) (told_by c.args.made.now) c.in-Err.fault (is_disk g.D.Disk c.in-Err.fault (t.only (head_of c.args.post.now) s.store is.keeps honest) (λ e. c.in-Err.ensures.memory (ap Err e)))
-    (vote_failed g.D.Disk c.args.post.now s c.args.ballot c.args.slot c.args.commands.now c.args.self.now _ above (t.leaves (head_of c.args.post.now) s.store is.keeps honest) (t.any_moment (head_of c.args.post.now) s.store is.keeps honest))
+    fails_by g.D.Disk c.args.member.now s _ c.args.self.now _ (told_by c.args.made.now) (told_by c.args.made.now) c.in-Err.fault (is_disk g.D.Disk c.in-Err.fault (t.only (head_of c.args.member.now) s.store is.keeps honest) (λ e. c.in-Err.ensures.memory (ap Err e)))
+    (vote_failed g.D.Disk c.args.member.now s c.args.ballot c.args.slot c.args.commands.now c.args.self.now _ above (t.leaves (head_of c.args.member.now) s.store is.keeps honest) (t.any_moment (head_of c.args.member.now) s.store is.keeps honest))
 
 pub returns-in-Err-clause-only : goal.returns-in-Err-clause-only
 returns-in-Err-clause-only g c = of_store g.D.Disk c.in-Err.fault c.in-Err.ensures.needs.only (λ e. c.in-Err.ensures.memory (ap Err e))

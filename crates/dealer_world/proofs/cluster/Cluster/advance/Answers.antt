@@ -5,7 +5,7 @@ use Rattle.dealer_node.specs.Outs.{nothing_told}
 use Rattle.dealer_world.specs.Events.{node_of}
 use Rattle.dealer_world.specs.Stepping.{nothing, call}
 use Rattle.dealer_world.proofs.Giving.{not_given}
-use Rattle.dealer_world.proofs.Advancing.{still_posted, is_for_node, same_begun, behind_on, behind_still, record_gained, node_in, stepped_to}
+use Rattle.dealer_world.proofs.Advancing.{still_at_places, is_for_node, same_begun, behind_on, behind_still, record_gained, node_in, stepped_to}
 use Rattle.dealer_node.specs.declared.most_shown.MostShown.{MostShown}
 use Rattle.dealer_node.specs.Most.{ShowsWithin}
 use Rattle.dealer_world.specs.Shows.{most_by, most_shown_for}
@@ -28,7 +28,7 @@ give-answer-requires-clause-within g c =
     let nodes = c.args.self.now.nodes.items in
     let node = c.index_mut.result.now in
     is_for_node c.args.self.now.config nodes c.args.event.now node c.args.self.now.count
-    (subst (λ i. get_or nodes i node ≡ node) c.node-number.ensures (sym c.index_mut.ensures.value)) c.args.self.now.posted c.requires
+    (subst (λ i. get_or nodes i node ≡ node) c.node-number.ensures (sym c.index_mut.ensures.value)) c.args.self.now.at_places c.requires
 
 pub invariant_of-self-then-is_out_of_memory : goal.invariant_of-self-then-is_out_of_memory
 invariant_of-self-then-is_out_of_memory g c =
@@ -39,7 +39,7 @@ invariant_of-self-then-is_out_of_memory g c =
     let none : c.give-answer.result ≡ Err fault.OutOfMemory = search rules in
     rw (c.node-number.ensures, c.make_place.ensures.all) record {
       count = length-set nodes (node_of e) new ∙ now.count;
-      posted = still_posted now.config nodes (node_of e) old new less at c.give-answer.ensures.given.stays.post now.posted;
+      at_places = still_at_places now.config nodes (node_of e) old new less at c.give-answer.ensures.given.stays.member now.at_places;
       behind = behind_still g.D.Disk now.opened now.config nodes e old new c.give-answer.new.made c.give-answer.result now.recording.all now.count c.requires at c.give-answer.ensures.given none now.behind;
     }
 
@@ -65,8 +65,8 @@ invariant_of-self-2 g c =
     c.make_place.ensures.all in
     rw (c.node-number.ensures, all) record {
       count = length-set nodes (node_of e) new ∙ now.count;
-      posted = still_posted now.config nodes (node_of e) old new less at c.give-answer.ensures.given.stays.post now.posted;
-      behind = behind_on g.D.Disk now.opened now.config nodes e old new c.give-answer.new.made answer now.recording.all now.count c.requires at now.posted c.give-answer.ensures.up c.give-answer.ensures.given ample now.behind;
+      at_places = still_at_places now.config nodes (node_of e) old new less at c.give-answer.ensures.given.stays.member now.at_places;
+      behind = behind_on g.D.Disk now.opened now.config nodes e old new c.give-answer.new.made answer now.recording.all now.count c.requires at now.at_places c.give-answer.ensures.up c.give-answer.ensures.given ample now.behind;
     }
 
 pub returns-clause-stepped : goal.returns-clause-stepped

@@ -3,15 +3,15 @@ use Rattle.dealer_node.specs.declared.fault.NodeFault.{NodeFault}
 use Rattle.dealer_world.specs.Beginning.{IsWant}
 use Rattle.dealer_world.specs.Ruling.{AreSeen}
 use Rattle.dealer_world.specs.Viewing.{view_of}
-use Rattle.dealer_world.proofs.Founding.{created_posted, created_behind}
+use Rattle.dealer_world.proofs.Founding.{created_at_places, created_behind}
 use Rattle.protocol_model.specs.Stores.{empty_store}
 use Rattle.dealer_world.proofs.Started.{all_started, created_wait}
 use Rattle.dealer_world.proofs.Wanting.{created_are_seen, on_fault}
 use Rattle.dealer_world.proofs.Promising.{promised_new, promised}
 use Rattle.dealer_world.proofs.cluster.Cluster.new.Goals as goal
 
-pub down-cluster-requires-clause-posted : goal.down-cluster-requires-clause-posted
-down-cluster-requires-clause-posted g c = created_posted g.D.Disk c.args.config c.in_ok-nodes.nodes.items c.in_ok-nodes.ensures.each
+pub down-cluster-requires-clause-at_places : goal.down-cluster-requires-clause-at_places
+down-cluster-requires-clause-at_places g c = created_at_places g.D.Disk c.args.config c.in_ok-nodes.nodes.items c.in_ok-nodes.ensures.each
 
 pub down-cluster-requires-clause-behind : goal.down-cluster-requires-clause-behind
 down-cluster-requires-clause-behind g c = created_behind g.D.Disk c.args.config c.in_ok-nodes.nodes.items c.limits.ensures c.in_ok-nodes.ensures.count c.in_ok-nodes.ensures.each

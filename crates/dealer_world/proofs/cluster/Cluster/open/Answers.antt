@@ -1,5 +1,5 @@
 use Rattle.dealer_world.specs.Viewing.{view_of}
-use Rattle.dealer_world.proofs.Founding.{reopened_posted, reopened_behind}
+use Rattle.dealer_world.proofs.Founding.{reopened_at_places, reopened_behind}
 use Rattle.dealer_world.proofs.Started.{all_started, reopened_wait}
 use Rattle.dealer_world.proofs.Opened.{AreDown, IsRefusedStart, opened_over, begun_are, begun_since, found_keeps, found_again, found_within, found_resumes, files_have, unopened}
 use Rattle.dealer_world.proofs.Again.{goes_on_again}
@@ -19,8 +19,8 @@ use Rattle.std.proofs.Common.{◌≡◌, ◌∙◌, ℕ, Bool, List, length, tru
 use Rattle.std.proofs.lemmas.List.{length-map}
 use Rattle.dealer_world.proofs.cluster.Cluster.open.Goals as goal
 
-pub down-cluster-requires-clause-posted : goal.down-cluster-requires-clause-posted
-down-cluster-requires-clause-posted g c = reopened_posted g.D.Disk c.args.config c.in_ok-nodes.nodes.items c.in_ok-nodes.ensures.each
+pub down-cluster-requires-clause-at_places : goal.down-cluster-requires-clause-at_places
+down-cluster-requires-clause-at_places g c = reopened_at_places g.D.Disk c.args.config c.in_ok-nodes.nodes.items c.in_ok-nodes.ensures.each
 
 pub down-cluster-requires-clause-behind : goal.down-cluster-requires-clause-behind
 down-cluster-requires-clause-behind g c = reopened_behind g.D.Disk c.args.config c.in_ok-nodes.nodes.items c.limits.ensures c.in_ok-nodes.ensures.count c.in_ok-nodes.ensures.each
@@ -42,8 +42,8 @@ returns-clause-goes_on g c = λ first before eras reached same images goes hones
     let now = view_of c.start_all.new.self in
     let files = begun_since g.D.Disk c.args.disks.items c.in_ok-nodes.nodes.items (view_of c.down-cluster.result).nodes now.nodes c.in_ok-nodes.ensures.over c.down-cluster.ensures.nodes c.start_all.ensures.opens in
     let is_open : now.opened ≡ true = search rules in
-    let there = (reached_keeps g.D.Disk (view_of first) before c.seen_as_one.ensures.up (record { count = first.count; posted = first.posted; behind = first.behind }) reached).kept in
-    goes_on g.D.Disk before now eras c.images_are_seen.ensures there.posted there.behind is_open same.setting same.count
+    let there = (reached_keeps g.D.Disk (view_of first) before c.seen_as_one.ensures.up (record { count = first.count; at_places = first.at_places; behind = first.behind }) reached).kept in
+    goes_on g.D.Disk before now eras c.images_are_seen.ensures there.at_places there.behind is_open same.setting same.count
     (subst (AreImages g.D.Disk before.nodes) (sym files) images) goes honest unforged
 
 pub returns-clause-goes_on_inside : goal.returns-clause-goes_on_inside
@@ -51,8 +51,8 @@ returns-clause-goes_on_inside g c = λ first before after event answer eras reac
     let now = view_of c.start_all.new.self in
     let files = begun_since g.D.Disk c.args.disks.items c.in_ok-nodes.nodes.items (view_of c.down-cluster.result).nodes now.nodes c.in_ok-nodes.ensures.over c.down-cluster.ensures.nodes c.start_all.ensures.opens in
     let is_open : now.opened ≡ true = search rules in
-    let there = (reached_keeps g.D.Disk (view_of first) before c.seen_as_one.ensures.up (record { count = first.count; posted = first.posted; behind = first.behind }) reached).kept in
-    goes_on_inside g.D.Disk before after now event answer eras c.images_are_seen.ensures c.moments_pass.ensures there.posted there.behind there.count is_open same.setting same.count stepped is_for
+    let there = (reached_keeps g.D.Disk (view_of first) before c.seen_as_one.ensures.up (record { count = first.count; at_places = first.at_places; behind = first.behind }) reached).kept in
+    goes_on_inside g.D.Disk before after now event answer eras c.images_are_seen.ensures c.moments_pass.ensures there.at_places there.behind there.count is_open same.setting same.count stepped is_for
     (subst (AreImagesDuring g.D.Disk (node_of event) stepped.before stepped.after before.nodes) (sym files) images) goes honest unforged brought
 
 pub returns-clause-stands : goal.returns-clause-stands

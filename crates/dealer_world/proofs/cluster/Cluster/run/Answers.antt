@@ -33,7 +33,7 @@ pub returns-clause-promised : goal.returns-clause-promised
 returns-clause-promised g c = promised g.D.Disk (view_of c.loop-at.self) c.runs_show_one_list.ensures c.loop-at.self.behind
 
 pub returns-clause-backed : goal.returns-clause-backed
-returns-clause-backed g c = backed g.D.Disk (view_of c.loop-at.self) c.runs_are_backed.ensures c.images_are_seen.ensures c.loop-at.self.posted c.loop-at.self.behind
+returns-clause-backed g c = backed g.D.Disk (view_of c.loop-at.self) c.runs_are_backed.ensures c.images_are_seen.ensures c.loop-at.self.at_places c.loop-at.self.behind
 
 pub returns-clause-promised_new : goal.returns-clause-promised_new
 returns-clause-promised_new g c = promised_new g.D.Disk (view_of c.loop-at.self) (promised g.D.Disk (view_of c.loop-at.self) c.runs_show_one_list.ensures c.loop-at.self.behind)
@@ -43,7 +43,7 @@ returns-clause-addressed g c = addressed g.D.Disk (view_of c.loop-at.self) c.run
 
 pub returns-clause-moves_on : goal.returns-clause-moves_on
 returns-clause-moves_on g c =
-    moves_on g.D.Disk (view_of c.args.self.now) (view_of c.loop-at.self) c.args.events.now c.rounds_move_on.ensures c.seen_as_one.ensures.one c.seen_as_one.ensures.up c.args.self.now.posted
+    moves_on g.D.Disk (view_of c.args.self.now) (view_of c.loop-at.self) c.args.events.now c.rounds_move_on.ensures c.seen_as_one.ensures.one c.seen_as_one.ensures.up c.args.self.now.at_places
     c.args.self.now.count c.args.self.now.behind
     (subst (λ (l : List Event). Ran g.D.Disk (view_of c.args.self.now) l (view_of c.loop-at.self)) (take_all c.loop-at.at c.args.events.now c.loop-at-test.false) c.loop-at.invariant.ran)
 
@@ -54,9 +54,9 @@ returns-then-is_out_of_memory-clause-stopped g c = search rules
 pub returns-clause-conflict : goal.returns-clause-conflict
 returns-clause-conflict g c =
     none_conflicts g.D.Disk (view_of c.args.self.now) c.runs_never_conflict.ensures c.seen_as_one.ensures.up
-    (record { count = c.args.self.now.count; posted = c.args.self.now.posted; behind = c.args.self.now.behind })
+    (record { count = c.args.self.now.count; at_places = c.args.self.now.at_places; behind = c.args.self.now.behind })
 
 pub returns-then-is_out_of_memory-clause-conflict : goal.returns-then-is_out_of_memory-clause-conflict
 returns-then-is_out_of_memory-clause-conflict g c =
     none_conflicts g.D.Disk (view_of c.args.self.now) c.runs_never_conflict.ensures c.seen_as_one.ensures.up
-    (record { count = c.args.self.now.count; posted = c.args.self.now.posted; behind = c.args.self.now.behind })
+    (record { count = c.args.self.now.count; at_places = c.args.self.now.at_places; behind = c.args.self.now.behind })

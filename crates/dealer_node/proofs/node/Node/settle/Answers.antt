@@ -1,5 +1,0 @@
-use Rattle.std.proofs.Common.{rules}
-use Rattle.dealer_node.proofs.node.Node.settle.Goals as goal
-
-pub returns : goal.returns
-returns g c = search rules

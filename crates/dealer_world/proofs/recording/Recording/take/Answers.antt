@@ -1,8 +1,0 @@
-use Rattle.std.proofs.Common.{rules}
-use Rattle.dealer_world.proofs.recording.Recording.take.Goals as goal
-
-pub returns-clause-all : goal.returns-clause-all
-returns-clause-all c = search rules
-
-pub returns-clause-last : goal.returns-clause-last
-returns-clause-last c = search rules

@@ -1,4 +1,0 @@
-use Rattle.promise_store.proofs.held.Held.take.Goals as goal
-
-pub returns : goal.returns
-returns c = record { held = λ held small indexes. c.note.ensures.held held small (c.reserve.ensures.same held indexes) }

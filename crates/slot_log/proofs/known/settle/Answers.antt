@@ -1,6 +1,0 @@
-use Rattle.std.proofs.Common.{arith}
-use Rattle.std.proofs.lemmas.Grind.{common_steps}
-use Rattle.slot_log.proofs.known.settle.Goals as goal
-
-pub loop-run-preserved : goal.loop-run-preserved
-loop-run-preserved c = grind (arith, common_steps)
