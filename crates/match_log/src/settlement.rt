@@ -13,7 +13,7 @@ use card_core::Deal;
 use card_core::limits::PLAYERS;
 use game_def::GameDef;
 use hand_rank::{HandValue, best_of_seven};
-use side_pots::settle;
+use side_pots::settle_pots;
 
 /// What each position wins or loses in a finished hand, in whole chips: the pots go to the best five of
 /// each player's hole cards and the board.

@@ -3,7 +3,7 @@ ghost use Rattle.std.specs.Prelude.{◌<◌};
 use crate::asserting::same;
 use card_core::Card;
 use hand_rank::{HandValue, value_of_five};
-use side_pots::settle;
+use side_pots::settle_pots;
 use std::process::Abort;
 
 /// A pair and the cards six, five and four: the higher the rank of the pair, the better the hand.

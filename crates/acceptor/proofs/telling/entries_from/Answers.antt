@@ -22,17 +22,17 @@ unfolding told_from
 loop-place-init g c = search rules
 
 pub loop-place-preserved : goal.loop-place-preserved
-loop-place-preserved g c = let fit = more_fit c.args.first c.loop-place.place c.loop-place.entries c.tell.new.entries c.in_ok-found.found c.tell.ensures.entries c.loop-place.invariant.each c.loop-place.invariant.rise c.in_ok-found.ensures.range in record {
+loop-place-preserved g c = let fit = more_fit c.args.first c.loop-place.place c.loop-place.entries c.push_entry.new.entries c.in_ok-found.found c.push_entry.ensures.entries c.loop-place.invariant.each c.loop-place.invariant.rise c.in_ok-found.ensures.range in record {
   read = read_on g.D.Disk (λ held. told_from held c.args.first c.loop-place.place) (λ held. vote_pair (held.votes (c.args.first + c.loop-place.place))) (λ held. told_from held c.args.first (c.loop-place.place + 1))
-      c.args.store.now c.loop-place.store c.vote_at.new.store c.loop-place.entries c.in_ok-found.found c.tell.new.entries c.loop-place.invariant.read c.in_ok-found.ensures.read
-      (λ held before is. told_more held c.args.first c.loop-place.place c.loop-place.entries c.in_ok-found.found c.tell.new.entries c.tell.ensures.entries before is);
+      c.args.store.now c.loop-place.store c.vote_at.new.store c.loop-place.entries c.in_ok-found.found c.push_entry.new.entries c.loop-place.invariant.read c.in_ok-found.ensures.read
+      (λ held before is. told_more held c.args.first c.loop-place.place c.loop-place.entries c.in_ok-found.found c.push_entry.new.entries c.push_entry.ensures.entries before is);
   each = fit.0;
   rise = fit.1;
   begin = λ e. absurd (omega (arith, e));
   opened = λ closed.
       let none = c.loop-place.invariant.opened closed in
       let wrong = c.in_ok-found.ensures.closed (ap is_closed (c.loop-place.invariant.begin none) ∙ closed) in absurd (cc);
-  few = let less = c.loop-place.invariant.few in let more = c.tell.ensures.few in omega (arith, less, more);
+  few = let less = c.loop-place.invariant.few in let more = c.push_entry.ensures.few in omega (arith, less, more);
 }
 
 pub returns-clause-read : goal.returns-clause-read

@@ -7,13 +7,13 @@ use Rattle.match_log.specs.Payoffs.{amounts_of, folds_of, values_of}
 use Rattle.match_log.proofs.Settling.{somebody_has_most_as, length_values, length_amounts, length_folds, length_payoffs, payoffs_as, all_payoffs_within, values_as}
 use Rattle.match_log.proofs.settlement.payoffs.Goals as goal
 
-spent_is : (c : goal.After-settle-arg-1) → c.as_slice.result.now ≡ amounts_of c.args.game.now c.args.play.now.past
+spent_is : (c : goal.After-settle_pots-arg-1) → c.as_slice.result.now ≡ amounts_of c.args.game.now c.args.play.now.past
 spent_is c = c.as_slice.ensures.value ∙ c.amounts-amounts.ensures.value
 
-folds_are : (c : goal.After-settle-arg-1) → c.as_slice-2.result.now ≡ folds_of c.args.game.now c.args.play.now.past
+folds_are : (c : goal.After-settle_pots-arg-1) → c.as_slice-2.result.now ≡ folds_of c.args.game.now c.args.play.now.past
 folds_are c = c.as_slice-2.ensures.value ∙ c.folds-folds.ensures
 
-values_are : (c : goal.After-settle-arg-1) → take c.players.result c.values-values.result ≡ values_of c.args.game.now.players c.args.deal.now
+values_are : (c : goal.After-settle_pots-arg-1) → take c.players.result c.values-values.result ≡ values_of c.args.game.now.players c.args.deal.now
 values_are c = values_as c.args.game.now.players c.players.result c.args.deal.now c.values-values.result c.requires.dealt c.players.ensures.value c.values-values.ensures
 
 pub settle_pots-requires-clause-two_players : goal.settle_pots-requires-clause-two_players

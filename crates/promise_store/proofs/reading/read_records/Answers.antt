@@ -81,8 +81,8 @@ records-preserved g c =
             reading_more (drop 8 file) (drop at file) i.so_far.records i.so_far.each (i.so_far.text honest) count r size (subst (λ (l : List ℕ). IsStep l (Found r size)) window found)
             ∙ ap (λ (l : List ℕ). gated (i.so_far.records ++ r ∷ []) ++ l) (drop-drop (size + 3) at file);
         place = omega (arith, i.so_far.place, found.1, length_gated_push i.so_far.records r);
-        indexes = subst (λ (h : Holding). Indexes c.take.new.self h) (ap (λ (k : ℕ). with_record k before r) i.so_far.place ∙ sym (held_push 8 nothing_held i.so_far.records r))
-            (c.in_ok-take-in-Found.ensures.held before (omega (arith, inside, s.0, s.1, s.2, c.ranges.len)) i.so_far.indexes);
+        indexes = subst (λ (h : Holding). Indexes c.take_record.new.self h) (ap (λ (k : ℕ). with_record k before r) i.so_far.place ∙ sym (held_push 8 nothing_held i.so_far.records r))
+            (c.in_ok-take_record-in-Found.ensures.held before (omega (arith, inside, s.0, s.1, s.2, c.ranges.len)) i.so_far.indexes);
       };
       reads = reads_on g.D.Disk _ _ _ i.reads c.in-Ok.ensures.reads;
     }

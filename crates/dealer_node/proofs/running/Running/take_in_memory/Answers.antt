@@ -62,9 +62,9 @@ returns-in-Chosen-clause-ok c =
 
 pub returns-in-Ask-clause-ok : goal.returns-in-Ask-clause-ok
 returns-in-Ask-clause-ok c = λ s is.
-    subst (λ (m : Message). TakesInMemory c.args.member.now c.args.self.now (told_by c.args.made.now) (told_by c.tell.new.made) s (taking (place_at c.args.member.now) c.args.from m s)) (sym c.in-Ask.is)
+    subst (λ (m : Message). TakesInMemory c.args.member.now c.args.self.now (told_by c.args.made.now) (told_by c.tell_chosen.new.made) s (taking (place_at c.args.member.now) c.args.from m s)) (sym c.in-Ask.is)
     (record {
-      takes = record { turn = telling c.args.from c.in-Ask.slot s; rule = refl; taken = c.tell.ensures.taken s is };
+      takes = record { turn = telling c.args.from c.in-Ask.slot s; rule = refl; taken = c.tell_chosen.ensures.taken s is };
       keeps = record { store = refl; begun = refl; stands = λ stands. stands };
     })
 

@@ -56,8 +56,8 @@ ask-requires-clause-frame_bytes g c =
     let left = c.close_call.ensures.left _ 0 0 1 taken in
     omega (arith, left.bytes)
 
-pub returns-in-Ok-close-clause-left : goal.returns-in-Ok-close-clause-left
-returns-in-Ok-close-clause-left g c need left =
+pub returns-in-Ok-close_call-clause-left : goal.returns-in-Ok-close_call-clause-left
+returns-in-Ok-close_call-clause-left g c need left =
     let k = commands_in c.args.message.now in
     let m = c.args.most in
     let taken = c.take_message.ensures.left need 1 (0 + m) (1 + FRAMES_OF_A_CLOSE * m) (message_left c.args.self.now.running c.see.new.self c.args.made.now need k m c.see.ensures.rest left) in
@@ -69,17 +69,17 @@ returns-in-Err-clause-works g c s honest is =
     take_failed g.D.Disk c.args.member.now s c.args.from c.args.message.now c.args.self.now _ c.take_message.new.self (told_by c.args.made.now) (told_by c.take_message.new.made) c.in-Err.fault refl is.unbegun
     (c.in-Err.ensures.works (seeing c.args.message.now s) honest there)
 
-pub returns-in-Err-close-clause-works : goal.returns-in-Err-close-clause-works
-returns-in-Err-close-clause-works g c s honest is =
+pub returns-in-Err-close_call-clause-works : goal.returns-in-Err-close_call-clause-works
+returns-in-Err-close_call-clause-works g c s honest is =
     let there = seen_up g.D.Disk c.args.member.now s c.args.message.now c.args.self.now c.see.new.self is (c.see.ensures.runs c.args.member.now s is.running) in
     let first = c.in-Ok.ensures.works (seeing c.args.message.now s) honest there in
-    close_failed g.D.Disk c.args.member.now s c.args.from c.args.message.now c.args.self.now _ c.take_message.new.self c.close_call.new.self (told_by c.args.made.now) (told_by c.take_message.new.made) (told_by c.close_call.new.made) c.in-Err-close.fault refl first
-    (c.in-Err-close.ensures.works first.turn.after honest first.now)
+    close_failed g.D.Disk c.args.member.now s c.args.from c.args.message.now c.args.self.now _ c.take_message.new.self c.close_call.new.self (told_by c.args.made.now) (told_by c.take_message.new.made) (told_by c.close_call.new.made) c.in-Err-close_call.fault refl first
+    (c.in-Err-close_call.ensures.works first.turn.after honest first.now)
 
-pub returns-in-Ok-close-clause-works : goal.returns-in-Ok-close-clause-works
-returns-in-Ok-close-clause-works g c s honest is =
+pub returns-in-Ok-close_call-clause-works : goal.returns-in-Ok-close_call-clause-works
+returns-in-Ok-close_call-clause-works g c s honest is =
     let there = seen_up g.D.Disk c.args.member.now s c.args.message.now c.args.self.now c.see.new.self is (c.see.ensures.runs c.args.member.now s is.running) in
     let first = c.in-Ok.ensures.works (seeing c.args.message.now s) honest there in
-    let second = c.in-Ok-close.ensures.works first.turn.after honest first.now in
+    let second = c.in-Ok-close_call.ensures.works first.turn.after honest first.now in
     message_took g.D.Disk c.args.member.now s c.args.from c.args.message.now c.args.self.now _ c.take_message.new.self c.close_call.new.self (told_by c.args.made.now) (told_by c.take_message.new.made) (told_by c.close_call.new.made) (told_by c.ask.new.made) refl first second
     c.ask.ensures.taken

@@ -60,8 +60,8 @@ invariant_of-self-2 g c =
     let at : get_or nodes (node_of e) old ≡ old = subst (λ i. get_or nodes i old ≡ old) c.node-number.ensures (sym c.index_mut.ensures.value) in
     let less = node_in now.config nodes e now.count c.requires in
     let ample : answer ≡ Err fault.OutOfMemory → ⊥ = search rules in
-    let all = record_gained nodes e c.node-number.result c.index.result.now c.index-2.result.now old c.running-is_up.result c.front-front.result c.make_place.new.self.all now.recording.all c.take.new.self.all c.give-answer.new.made
-    c.begins-begins.result answer c.node-number.ensures less c.index.ensures c.index-2.ensures c.index_mut.ensures.value c.running-is_up.ensures.value c.front-front.ensures.value c.take.ensures.all c.begins-begins.ensures
+    let all = record_gained nodes e c.node-number.result c.index.result.now c.index-2.result.now old c.running-is_up.result c.front-front.result c.make_place.new.self.all now.recording.all c.put_call.new.self.all c.give-answer.new.made
+    c.begins-begins.result answer c.node-number.ensures less c.index.ensures c.index-2.ensures c.index_mut.ensures.value c.running-is_up.ensures.value c.front-front.ensures.value c.put_call.ensures.all c.begins-begins.ensures
     c.make_place.ensures.all in
     rw (c.node-number.ensures, all) record {
       count = length-set nodes (node_of e) new ∙ now.count;
@@ -74,11 +74,11 @@ returns-clause-stepped g c =
     let now = c.args.self.now in let nodes = now.nodes.items in let e = c.args.event.now in
     let old = c.index_mut.result.now in let answer = c.give-answer.result in
     let ample : answer ≡ Err fault.OutOfMemory → ⊥ = search rules in
-    let all = record_gained nodes e c.node-number.result c.index.result.now c.index-2.result.now old c.running-is_up.result c.front-front.result c.make_place.new.self.all now.recording.all c.take.new.self.all c.give-answer.new.made
+    let all = record_gained nodes e c.node-number.result c.index.result.now c.index-2.result.now old c.running-is_up.result c.front-front.result c.make_place.new.self.all now.recording.all c.put_call.new.self.all c.give-answer.new.made
     c.begins-begins.result answer c.node-number.ensures (node_in now.config nodes e now.count c.requires) c.index.ensures c.index-2.ensures c.index_mut.ensures.value c.running-is_up.ensures.value c.front-front.ensures.value
-    c.take.ensures.all c.begins-begins.ensures c.make_place.ensures.all in
+    c.put_call.ensures.all c.begins-begins.ensures c.make_place.ensures.all in
     stepped_to g.D.Disk _ _ e answer old c.give-answer.new.node c.give-answer.new.made c.node-number.result c.node-number.ensures refl refl now.count c.requires c.index_mut.ensures.value refl
-    c.give-answer.ensures.given (call answer ample all c.take.ensures.last)
+    c.give-answer.ensures.given (call answer ample all c.put_call.ensures.last)
 
 pub returns-clause-begun : goal.returns-clause-begun
 returns-clause-begun g c =
@@ -97,5 +97,5 @@ returns-clause-shows g c =
     let now = c.args.self.now in let nodes = now.nodes.items in let e = c.args.event.now in let node = c.index_mut.result.now in
     let at : get_or nodes (node_of e) node ≡ node = subst (λ i. get_or nodes i node ≡ node) c.node-number.ensures (sym c.index_mut.ensures.value) in
     let most = most_at (most_by e) (view_of now) (node_of e) node (node_in now.config nodes e now.count c.requires) at in
-    more_shown (most_shown_for (view_of now) e) now.recording.all c.make_place.new.self.all c.take.new.self.all (node_of e) _ c.give-answer.new.made c.begins-begins.result
-    c.take.ensures.all c.make_place.ensures.all (subst (λ (m : MostShown). ShowsWithin m nothing_told c.give-answer.new.made) most c.give-answer.ensures.shows)
+    more_shown (most_shown_for (view_of now) e) now.recording.all c.make_place.new.self.all c.put_call.new.self.all (node_of e) _ c.give-answer.new.made c.begins-begins.result
+    c.put_call.ensures.all c.make_place.ensures.all (subst (λ (m : MostShown). ShowsWithin m nothing_told c.give-answer.new.made) most c.give-answer.ensures.shows)

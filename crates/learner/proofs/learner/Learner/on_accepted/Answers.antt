@@ -16,8 +16,8 @@ returns-in_err-reserve_at-clause-full c =
 
 pub returns-clause-answers : goal.returns-clause-answers
 returns-clause-answers c =
-    answers_less 1 c.self.inside c.hear.new.cells.items c.self.view_is (c.hear.ensures.len ∙ c.reserve_at.ensures.len)
-    (λ place within. let kept = c.reserve_at.ensures.kept place in let taken = c.hear.ensures.taken place in omega (arith, kept, taken))
+    answers_less 1 c.self.inside c.hear_answer.new.cells.items c.self.view_is (c.hear_answer.ensures.len ∙ c.reserve_at.ensures.len)
+    (λ place within. let kept = c.reserve_at.ensures.kept place in let taken = c.hear_answer.ensures.taken place in omega (arith, kept, taken))
 
 pub returns-then-not-is_open-clause-answer : goal.returns-then-not-is_open-clause-answer
 returns-then-not-is_open-clause-answer c = search rules

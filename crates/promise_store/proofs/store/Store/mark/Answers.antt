@@ -38,21 +38,21 @@ returns-in-Ok-clause-counts g c = (c.in-Ok.ensures.appended Old New refl).counts
 
 pub returns-in-Err-clause-leaves_err : goal.returns-in-Err-clause-leaves_err
 returns-in-Err-clause-leaves_err g c head held keeps =
-    subst (Leaves g.D.Disk head held held) (sym c.close.ensures) ((c.in-Err.ensures.appended Old New refl).leaves head held (subst (λ (s : Stage). KeepsAt g.D.Disk s head held c.args.self) c.in-Old.is keeps))
+    subst (Leaves g.D.Disk head held held) (sym c.into_disk.ensures) ((c.in-Err.ensures.appended Old New refl).leaves head held (subst (λ (s : Stage). KeepsAt g.D.Disk s head held c.args.self) c.in-Old.is keeps))
 
 pub returns-in-Err-clause-during_err : goal.returns-in-Err-clause-during_err
 returns-in-Err-clause-during_err g c head held keeps =
-    subst (LeavesDuring g.D.Disk head held held (disk_of c.args.self)) (sym c.close.ensures) ((c.in-Err.ensures.appended Old New refl).any_moment head held (subst (λ (s : Stage). KeepsAt g.D.Disk s head held c.args.self) c.in-Old.is keeps))
+    subst (LeavesDuring g.D.Disk head held held (disk_of c.args.self)) (sym c.into_disk.ensures) ((c.in-Err.ensures.appended Old New refl).any_moment head held (subst (λ (s : Stage). KeepsAt g.D.Disk s head held c.args.self) c.in-Old.is keeps))
 
 pub returns-in-Err-clause-begun_err : goal.returns-in-Err-clause-begun_err
-returns-in-Err-clause-begun_err g c = subst (λ d. g.D.Disk.begun d ≡ g.D.Disk.begun (disk_of c.args.self)) (sym c.close.ensures) (c.in-Err.ensures.appended Old New refl).begun
+returns-in-Err-clause-begun_err g c = subst (λ d. g.D.Disk.begun d ≡ g.D.Disk.begun (disk_of c.args.self)) (sym c.into_disk.ensures) (c.in-Err.ensures.appended Old New refl).begun
 
 pub returns-in-Err-clause-counts_err : goal.returns-in-Err-clause-counts_err
-returns-in-Err-clause-counts_err g c = subst (λ d. g.D.Disk.count (disk_of c.args.self) ≤ g.D.Disk.count d) (sym c.close.ensures) (c.in-Err.ensures.appended Old New refl).counts
+returns-in-Err-clause-counts_err g c = subst (λ d. g.D.Disk.count (disk_of c.args.self) ≤ g.D.Disk.count d) (sym c.into_disk.ensures) (c.in-Err.ensures.appended Old New refl).counts
 
 pub returns-in-Err-clause-failed : goal.returns-in-Err-clause-failed
 returns-in-Err-clause-failed g c is =
-    subst (λ d. Rose (g.D.Disk.count (disk_of c.args.self)) (g.D.Disk.count d)) (sym c.close.ensures) ((c.in-Err.ensures.appended Old New refl).failed (ap Err is)).0
+    subst (λ d. Rose (g.D.Disk.count (disk_of c.args.self)) (g.D.Disk.count d)) (sym c.into_disk.ensures) ((c.in-Err.ensures.appended Old New refl).failed (ap Err is)).0
 
 pub returns-in-Err-clause-only : goal.returns-in-Err-clause-only
 returns-in-Err-clause-only g c =

@@ -7,7 +7,7 @@ pub returns-in-Ok-clause-given : goal.returns-in-Ok-clause-given
 returns-in-Ok-clause-given g c = (_, c.in-Ok.ensures.logged, inl (rw c.in-Log.is refl), λ seat. inl refl)
 
 pub returns-in-Seat-clause-given : goal.returns-in-Seat-clause-given
-returns-in-Seat-clause-given g c = elim c.tell.ensures.told [
+returns-in-Seat-clause-given g c = elim c.tell_line.ensures.told [
   | inl (told, same) ↦ (_, told, inl (rw c.in-Seat.is refl), λ seat. inl (ap (λ (places : List Place). slice_get places seat) same))
   | inr (same, away, leave) ↦ (
     [],
