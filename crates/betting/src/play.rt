@@ -117,7 +117,7 @@ impl Play {
         &self.game
     }
 
-    /// The number of players, 2 to 10.
+    /// The number of players of its game, 2 to 10: with its bounds, for callers that have a play in hand.
     pub fn players(&self) -> usize
         ensures value { result ≡ self.now.game.players }
         ensures least { 2 ≤ result }
@@ -154,7 +154,7 @@ impl Play {
         folded[position]
     }
 
-    /// How many positions haven't given the hand up.
+    /// How many positions haven't given the hand up. The totals count them; here it is said of the actions.
     pub fn unfolded(&self) -> usize
         ensures { result ≡ unfolded_count self.now.game (history self.now) }
     {
@@ -241,7 +241,7 @@ impl Play {
         }
     }
 
-    /// Why the position to act may not raise at all.
+    /// Why the position to act may not raise at all: what the totals say, said of the actions.
     fn no_raise(&self, position: usize) -> Option<ActFault>
         requires { position < self.now.game.players }
         ensures { result ≡ no_raise self.now.game (history self.now) position }
@@ -249,7 +249,7 @@ impl Play {
         self.totals.no_raise(&self.game, position)
     }
 
-    /// The least and the greatest amount of a raise of the position to act.
+    /// The least and the greatest amount of a raise of the position to act: what the totals say, said of the actions.
     fn raise_ends(&self, position: usize) -> (u32, u32)
         requires { position < self.now.game.players }
         ensures least { result.0 ≡ least_raise self.now.game (history self.now) position }

@@ -61,7 +61,8 @@ impl Entries {
         self.list.iter().any(|entry| entry.key.is_nolimit())
     }
 
-    /// Adds an entry of a key that isn't set yet.
+    /// Adds an entry of a key that isn't set yet. This is the only way to add one: so the list keeps what holds of
+    /// entries.
     pub(crate) fn push(&mut self, entry: Entry)
         requires new_key { is_set self.old entry.key ≡ false }
         requires fitting { IsTrue (list_all (fits entry.key) entry.values.items) }

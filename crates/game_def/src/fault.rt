@@ -17,7 +17,7 @@ pub struct GameFault {
 }
 
 impl GameFault {
-    /// The fault's number, 10 to 19.
+    /// The fault's number, 10 to 19: that of its kind, so that each fault of the repository has a `code`.
     pub fn code(&self) -> u8
         ensures { result ≡ code_of self.now.kind }
     {

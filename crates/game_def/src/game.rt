@@ -87,7 +87,7 @@ impl GameDef {
             .fold(0, |greatest, blind| greatest.max(*blind))
     }
 
-    /// Whether raises are of a fixed size.
+    /// Whether raises are of a fixed size. It keeps the sizes to this file: `raise_size` gives them.
     pub fn is_limit(&self) -> bool
         ensures { IsTrue result ↔ IsSome self.now.raise_sizes }
     {

@@ -43,6 +43,8 @@ fn read_all(text: &[u8]) -> Result<GameDef, GameFault>
 /// 19 `RepeatedKey`, 13 `BadNumber`, 14 `WrongCount` in this order; then 11 `NoEnd`; then, of the whole
 /// file, 15 `Unsupported` (a required key), 14 `WrongCount`, 15 `Unsupported` (a first position above the
 /// number of players), 16 `NoBlind`, 17 `StackBelowBlind`, 18 `NoRaiseSize`.
+///
+/// `read_all` does the work, by the steps of its definition; here stands what they mean, which is proved of the definition.
 pub fn read(text: &[u8]) -> Result<GameDef, GameFault>
     // What is read is a game file of its game.
     ensures found { IfOk result (λ game. IsGameFile text.now game) }

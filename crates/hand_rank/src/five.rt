@@ -44,6 +44,8 @@ type RankCounts = [u8; 13];
 /// The value of five cards, by the rule of poker: straight flush, four of a kind, full house, flush,
 /// straight, three of a kind, two pairs, pair, high card. A2345 is the lowest straight, with the five
 /// as its top.
+///
+/// `value_of_slice` for callers of this crate, whose cards are five by their type.
 pub fn value_of_five(cards: &[Card; 5]) -> HandValue
     ensures { result ≡ worth_of_five cards.now }
 {

@@ -60,7 +60,7 @@ impl RankSet {
         self.bits == 0
     }
 
-    /// The highest rank; of the empty set the two.
+    /// The highest rank; of the empty set the two. It keeps the bits to this file.
     pub(crate) fn highest(self) -> u8
         ensures highest { 0 < self.bits → IsHighest self.bits result }
         ensures range { result < 13 }

@@ -8,14 +8,14 @@ use crate::key::Key;
 use toml::value::Array;
 use toml::{Table, Value};
 
-/// What stands at a key.
+/// What stands at a key, said by `Key` and not by its text.
 pub(crate) fn at(table: &Table, key: Key) -> Option<&Value>
     ensures { option_map (λ value. view value.now) result ≡ entry_at key (table_view table.now) }
 {
     table.get(key.text())
 }
 
-/// The text that a value is.
+/// The text that a value is: `as_str`, said both ways, as the readers of each key want it.
 pub(crate) fn text_of(value: &Value) -> Option<&str>
     ensures { MatchOption result (IsAbsent (λ text. view value.now ≡ string text)) (λ text. view value.now ≡ string text.now) }
 {
@@ -32,7 +32,7 @@ pub(crate) fn number_of(value: &Value) -> Option<u64>
     }
 }
 
-/// The items of the array that a value is.
+/// The items of the array that a value is: `as_array`, said both ways, as the readers of each key want it.
 pub(crate) fn array_of(value: &Value) -> Option<&Array>
     ensures { MatchOption result (IsAbsent (λ items. view value.now ≡ array items)) (λ items. view value.now ≡ array (array_view items.now)) }
 {

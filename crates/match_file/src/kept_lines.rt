@@ -55,7 +55,8 @@ fn read_line<'a>(text: &'a [u8], word: &[u8]) -> Option<(&'a [u8], &'a [u8])>
     }
 }
 
-/// What stands behind these bytes; none where others stand in front.
+/// What stands behind these bytes; none where others stand in front. It is `strip_prefix`, said both ways, as a front
+/// and what is behind it.
 fn after<'a>(text: &'a [u8], front: &[u8]) -> Option<&'a [u8]>
     ensures found { IfSome result (λ behind. text.now ≡ front.now ++ behind.now) }
     ensures only { (behind : List ℕ) → text.now ≡ front.now ++ behind → IsSomeAnd result (λ rest. rest.now ≡ behind) }

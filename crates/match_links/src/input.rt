@@ -31,7 +31,7 @@ impl Input {
         self.bytes.len() >= PIECE || first_line_feed(&self.bytes).is_some()
     }
 
-    /// Whether nothing came that isn't read yet.
+    /// Whether nothing came that isn't read yet. It keeps the bytes to this file.
     pub(crate) fn is_empty(&self) -> bool
         ensures { result ≡ is_empty self.now.bytes.items }
     {

@@ -196,7 +196,8 @@ impl MemoryLinks {
         Ok(links)
     }
 
-    /// Puts a connection of a seat to a node behind those that wait there. It sends these bytes, and ends.
+    /// Puts a connection of a seat to a node behind those that wait there. It sends these bytes, and ends. The list of
+    /// callers keeps it; a link says of the call that nothing passed by it.
     pub fn call(&mut self, node: u8, seat: u8, bytes: &[u8]) -> Result<(), AllocError>
         ensures { passed_of self.new ≡ passed_of self.old }
     {

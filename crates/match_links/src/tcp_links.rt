@@ -105,7 +105,8 @@ impl<'a> TcpLinks<'a> {
         self.failed
     }
 
-    /// The port of a seat at a node; both are below their counts.
+    /// The port of a seat at a node; both are below their counts. For who calls the seats: the
+    /// numbers are private.
     pub fn seat_port(&self, node: u8, seat: u8) -> u16
         ensures { node < self.now.numbers.nodes → seat < self.now.numbers.players
             → result ≡ self.now.numbers.first + node * self.now.numbers.players + seat }

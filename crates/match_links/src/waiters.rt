@@ -77,12 +77,12 @@ impl Waiters {
         }
     }
 
-    /// Takes out the last one, whatever it sent.
+    /// Takes out the last one, whatever it sent: to end each at the port's close. It keeps the list to this file.
     pub(crate) fn pop(&mut self) -> Option<Held> {
         self.all.pop()
     }
 
-    /// Lets go of all.
+    /// Lets go of all. It keeps the list to this file.
     pub(crate) fn clear(&mut self)
         ensures { self.new.all.items ≡ [] }
     {

@@ -14,7 +14,7 @@ pub struct LogFault {
 }
 
 impl LogFault {
-    /// The fault's number, 45 to 49.
+    /// The fault's number, 45 to 49: that of its kind, so that each fault of the repository has a `code`.
     pub fn code(&self) -> u8
         ensures { result ≡ code_of self.now.kind }
     {

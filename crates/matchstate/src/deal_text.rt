@@ -10,6 +10,8 @@ use card_core::limits::PLAYERS;
 
 /// The deal that a text of all its cards says, as `TdAs|8hTc/2c8c3h/9c/Kh`, for 2 to 10 players: the hole
 /// cards by position with `|` between them, then `/` and the cards for flop, turn and river.
+///
+/// It is `read_shown` of the whole board: then the text is that of one deal alone, and that is said here.
 pub fn read_deal(bytes: &[u8], players: usize) -> Option<Deal>
     requires least { 2 ≤ players }
     requires most { players ≤ 10 }

@@ -18,6 +18,9 @@ const LONGEST_LINE: usize = MOST_LINE;
 /// Bytes of a stream that come in any pieces and are taken line by line.
 ///
 /// Contracts see the bytes that weren't taken yet, in order, and the room for more.
+///
+/// The queue stays private, so that bytes leave it as whole lines alone, or all at once; a call that only passes
+/// something on to it is there for that.
 #[derive(Drop)]
 pub(crate) struct LineBuffer {
     queue: ByteQueue,
@@ -42,7 +45,7 @@ impl LineBuffer {
     }
 
     /// Takes the next piece of the stream, of any length. An `Err` changes nothing; it comes only where
-    /// `reserve` would have to grow the buffer.
+    /// `reserve` would have to grow the buffer. The queue takes it.
     pub(crate) fn feed(&mut self, piece: &[u8]) -> Result<(), AllocError>
         ensures ok { OnOk result (self.new.waiting ≡ self.old.waiting ++ piece.now) }
         ensures room { self.old.room ≤ self.new.room + length piece.now }
@@ -53,7 +56,7 @@ impl LineBuffer {
     }
 
     /// Makes room for so many bytes more, so that `feed_reserved` takes no memory for them. An `Err`
-    /// changes nothing.
+    /// changes nothing. The queue makes it.
     pub(crate) fn reserve(&mut self, more: usize) -> Result<(), AllocError>
         ensures ok { OnOk result (more ≤ self.new.room) }
         ensures waiting { self.new.waiting ≡ self.old.waiting }
@@ -64,7 +67,7 @@ impl LineBuffer {
         self.queue.reserve(more)
     }
 
-    /// Takes the next piece of the stream into room that was reserved for it.
+    /// Takes the next piece of the stream into room that was reserved for it. The queue takes it.
     pub(crate) fn feed_reserved(&mut self, piece: &[u8])
         requires { length piece.now ≤ self.old.room }
         ensures waiting { self.new.waiting ≡ self.old.waiting ++ piece.now }
@@ -114,14 +117,14 @@ impl LineBuffer {
         }
     }
 
-    /// The bytes that weren't taken yet.
+    /// The bytes that weren't taken yet: the queue's.
     fn waiting(&self) -> &[u8]
         ensures { result.now ≡ self.now.waiting }
     {
         self.queue.waiting()
     }
 
-    /// Drops all bytes.
+    /// Drops all bytes of the queue.
     pub(crate) fn clear(&mut self)
         ensures waiting { self.new.waiting ≡ [] }
         ensures room { self.old.room ≤ self.new.room }

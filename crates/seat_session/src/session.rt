@@ -68,7 +68,8 @@ impl Session {
         matches!(self.phase, Phase::Closed(_))
     }
 
-    /// How many line feeds wait: each answer takes one at least, but for an answer that closes the session.
+    /// How many line feeds wait: each answer takes one at least, but for an answer that closes the session. The buffer
+    /// counts them; it is private.
     pub fn line_feeds(&self) -> usize
         ensures { result ≡ line_feeds self.now.standing.waiting }
     {
@@ -93,7 +94,7 @@ impl Session {
     }
 
     /// Makes room for so many bytes more, so that `feed_reserved` takes no memory for them. An `Err`
-    /// changes nothing.
+    /// changes nothing. The buffer makes it; it is private.
     pub fn reserve(&mut self, more: usize) -> Result<(), AllocError>
         ensures ok { OnOk result (more ≤ self.new.room) }
         ensures room { self.old.room ≤ self.new.room }

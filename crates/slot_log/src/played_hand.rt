@@ -39,7 +39,7 @@ impl PlayedHand {
         }
     }
 
-    /// Takes an action that is allowed.
+    /// Takes an action that is allowed: `Play::take_action`, said of the hand, whose deal stays.
     pub(crate) fn act(&mut self, action: Action)
         requires { CanAct self.old.play.game (history self.old.play) action }
         ensures deal { self.new.deal ≡ self.old.deal }

@@ -88,7 +88,7 @@ impl SlotLog {
         &self.below
     }
 
-    /// How many commands are known beyond the front.
+    /// How many commands are known beyond the front. It keeps the list of them to this file.
     pub fn ahead(&self) -> usize
         ensures { result ≡ length self.now.log.beyond }
     {

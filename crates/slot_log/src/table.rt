@@ -312,7 +312,7 @@ impl Table {
 
     /// Makes room for so many hands: the next that many calls of `apply` don't want memory.
     ///
-    /// An `Err` comes only where memory was refused; then nothing has changed.
+    /// An `Err` comes only where memory was refused; then nothing has changed. It keeps the list of hands to this file.
     pub fn reserve(&mut self, hands: usize) -> Result<(), AllocError>
         ensures room { OnOk result (hands ≤ self.new.room) }
         ensures kept { self.old.room ≤ self.new.room }
