@@ -4,11 +4,11 @@ ghost use Rattle.paxos_wire.specs.Fits.{IsMessage};
 ghost use Rattle.paxos_wire.specs.Faults.{reading};
 ghost use Rattle.paxos_wire.specs.Stream.{needed, IsPartial, IsInFront, IsFaulty, Takes};
 
-use crate::decoding::message_of_frame;
 use crate::fault::FrameFault;
 use crate::limits::{LEAST_LENGTH, LENGTH_BYTES, MOST_LENGTH};
 use crate::message::Message;
 use crate::message_room::MessageRoom;
+use crate::read_frames::message_of_frame;
 use byte_queue::ByteQueue;
 use byteorder::{BigEndian, ByteOrder};
 use std::alloc::{AllocError, Global};

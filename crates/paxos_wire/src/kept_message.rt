@@ -1,11 +1,11 @@
 ghost use Rattle.std.specs.Prelude.{◌≡◌, IfOk};
 ghost use Rattle.paxos_wire.specs.Fits.{IsMessage};
 
-use crate::decoding::message_of_frame;
-use crate::encoding::encode;
 use crate::laws::frames_read_back;
 use crate::message::Message;
 use crate::message_room::MessageRoom;
+use crate::read_frames::message_of_frame;
+use crate::write_frames::encode;
 use std::alloc::{AllocError, Global};
 use std::marker::Model;
 

@@ -1,5 +1,0 @@
-use Rattle.std.proofs.Common.{rules}
-use Rattle.paxos_wire.proofs.bytes.ballot_bytes.Goals as goal
-
-pub returns : goal.returns
-returns c = search rules

@@ -1,5 +1,0 @@
-use Rattle.std.proofs.Common.{rules}
-use Rattle.paxos_wire.proofs.commands.cards_of.Goals as goal
-
-pub from_number-requires : goal.from_number-requires
-from_number-requires c = search rules

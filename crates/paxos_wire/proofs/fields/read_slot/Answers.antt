@@ -1,8 +1,0 @@
-use Rattle.std.proofs.Common.{rules}
-use Rattle.paxos_wire.proofs.fields.read_slot.Goals as goal
-
-pub returns-clause-below : goal.returns-clause-below
-returns-clause-below c = search rules
-
-pub returns-clause-exact : goal.returns-clause-exact
-returns-clause-exact c = search rules

@@ -1,0 +1,5 @@
+use Rattle.std.proofs.Common.{rules}
+use Rattle.paxos_wire.proofs.write_numbers.ballot_bytes.Goals as goal
+
+pub returns : goal.returns
+returns c = search rules

@@ -1,0 +1,5 @@
+use Rattle.std.proofs.Common.{rules}
+use Rattle.paxos_wire.proofs.write_records.write_ballot_reserved.Goals as goal
+
+pub returns-clause-text : goal.returns-clause-text
+returns-clause-text c = search rules
