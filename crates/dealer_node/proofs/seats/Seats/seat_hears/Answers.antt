@@ -8,7 +8,7 @@ use Rattle.dealer_node.specs.Members.{place_at}
 use Rattle.dealer_node.specs.SeatsInside.{AreOwn}
 use Rattle.dealer_node.specs.Seated.{Seated, IsSeatedAt}
 use Rattle.dealer_node.proofs.Seating.{piece_turn, own_still, can_hear}
-use Rattle.dealer_node.proofs.seats.Seats.session_hears.Goals as goal
+use Rattle.dealer_node.proofs.seats.Seats.seat_hears.Goals as goal
 
 pub session_hears-kept-requires-clause-session : goal.session_hears-kept-requires-clause-session
 session_hears-kept-requires-clause-session c = λ session found.
