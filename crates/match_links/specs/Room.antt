@@ -1,5 +1,5 @@
 -- For how much more there is room without further memory.
-use Rattle.std.specs.Prelude.{ℕ, ◌+◌, ◌-◌, ◌≤◌, ◌<◌, min, List, length, map, vec_len, vec_capacity, Vec, Bool, true, false, Result, Ok, Err}
+use Rattle.std.specs.Prelude.{ℕ, ◌+◌, ◌-◌, ◌≤◌, ◌<◌, min, List, [], length, map, vec_len, vec_capacity, Vec, Bool, true, false, Result, Ok, Err}
 use Rattle.std.specs.Global.{Global}
 use Rattle.std.proofs.Common.{get_or}
 use Rattle.match_links.specs.declared.limits.TheConstants.{FRAME}
@@ -11,6 +11,14 @@ use Rattle.match_links.specs.declared.memory_links.Told as line
 -- of lines that were told, and of rooms that are ready: for how many lines more
 abbrev pub line_room : Vec line.Told Global → Vec Blank Global → ℕ
 line_room told blanks = min (vec_capacity told - vec_len told) (vec_len blanks)
+
+-- what stands in each log
+abbrev pub log_texts : List (Vec ℕ Global) → List (List ℕ)
+log_texts logs = map (λ log. log.items) logs
+
+-- what stands in the log of this number
+abbrev pub log_text : List (Vec ℕ Global) → ℕ → List ℕ
+log_text logs node = get_or (log_texts logs) node []
 
 -- of a log: for how many bytes more
 abbrev pub byte_room : Vec ℕ Global → ℕ

@@ -16,7 +16,7 @@ use Rattle.slot_log.specs.Hand.{Hand}
 use Rattle.slot_log.specs.Dealer.{hands_of}
 use Rattle.slot_log.specs.declared.command.Command.TheVariants.{Deal, Act}
 use Rattle.card_core.specs.Deal.{IsDeal}
-use Rattle.matchstate.specs.Cards.{cards_text, deal_text, AreSeen, AreSeenOf}
+use Rattle.matchstate.specs.Cards.{cards_text, seen_counts, shown_text, deal_text, AreSeen, AreSeenOf}
 use Rattle.matchstate.specs.ActionText.{IsActionText}
 use Rattle.matchstate.specs.View.{View, sees, is_showdown, seat_of, position_of, view_of}
 use Rattle.matchstate.specs.Line.{Fields, HasFields, line, line_text}
@@ -80,6 +80,12 @@ two_cards = refl
 
 first_deal_text : deal_text 2 first_deal ≡ codes "TdAs|8hTc/2c8c3h/9c/Kh"
 first_deal_text = refl
+
+first_deal_up_to_the_flop : shown_text 2 1 first_deal ≡ codes "TdAs|8hTc/2c8c3h"
+first_deal_up_to_the_flop = refl
+
+counts_where_the_second_of_three_is_seen : seen_counts 3 (λ position. eqb position 1) ≡ 0 ∷ 2 ∷ 0 ∷ []
+counts_where_the_second_of_three_is_seen = refl
 
 deal_of_three_text : deal_text 3 deal_of_three ≡ codes "2c3d|4c5d|6c7d/TsJsQs/Ks/As"
 deal_of_three_text = refl

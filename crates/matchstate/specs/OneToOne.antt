@@ -1,11 +1,11 @@
 -- Texts that say one thing only.
-use Rattle.std.specs.Prelude.{◌≡◌, ℕ, List, Bool, take}
+use Rattle.std.specs.Prelude.{◌≡◌, ℕ, List, Bool}
 use Rattle.game_def.specs.Game.{Game, IsGame}
 use Rattle.card_core.specs.Deal.{IsDeal}
 use Rattle.betting.specs.declared.action.Action.{Action}
 use Rattle.betting.specs.Legal.{Legal}
 use Rattle.betting.specs.Text.{text}
-use Rattle.matchstate.specs.Cards.{cards_field, holes_of, boards_of, deal_text, AreSeen, AreInPlace}
+use Rattle.matchstate.specs.Cards.{cards_field, holes_of, board_shown, shown_text, deal_text, AreSeen, AreInPlace}
 
 -- legal plays of one game with one betting text are the same
 abbrev pub BettingTextsAreOneToOne : Type 0
@@ -27,8 +27,8 @@ SeenFieldsAreOneToOne = (players : ℕ) (sees : ℕ → Bool) (rounds : ℕ) (ho
 -- deals whose hole cards and board of so many later rounds have one text have the same there
 abbrev pub ShownDealsAreOneToOne : Type 0
 ShownDealsAreOneToOne = (players rounds : ℕ) (first second : List ℕ) → IsDeal players first → IsDeal players second
-    → cards_field (holes_of players first) (take rounds (boards_of first)) ≡ cards_field (holes_of players second) (take rounds (boards_of second))
-    → (holes_of players first ≡ holes_of players second) × (take rounds (boards_of first) ≡ take rounds (boards_of second))
+    → shown_text players rounds first ≡ shown_text players rounds second
+    → (holes_of players first ≡ holes_of players second) × (board_shown rounds first ≡ board_shown rounds second)
 
 -- deals with one text are the same
 abbrev pub DealTextsAreOneToOne : Type 0

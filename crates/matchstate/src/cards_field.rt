@@ -1,8 +1,8 @@
-ghost use Rattle.std.specs.Prelude.{◌≡◌, ℕ, ◌+◌, ◌*◌, ◌<◌, ◌≤◌, ◌++◌, ◌∷◌, [], map, take, length, vec_len, vec_capacity, List, Some, None, drop, IfSome, IsSomeAnd, if◌then◌else◌};
-ghost use Rattle.std.specs.List.{flat_map, join_by, AllByRecursion, concat, range_with_len};
+ghost use Rattle.std.specs.Prelude.{◌≡◌, ℕ, ◌+◌, ◌*◌, ◌<◌, ◌≤◌, ◌++◌, ◌∷◌, [], map, length, vec_len, vec_capacity, List, Some, None, drop, IfSome, IsSomeAnd, if◌then◌else◌};
+ghost use Rattle.std.specs.List.{AllByRecursion};
 ghost use Rattle.std.specs.Option.{option_to_list};
-ghost use Rattle.matchstate.specs.Cards.{cards_text, cards_field};
-ghost use Rattle.matchstate.specs.SeenCards.{hole_in, holes_in, boards_in, seen_at, separator, AreCounted};
+ghost use Rattle.matchstate.specs.Cards.{cards_text, holes_text, board_text, cards_field, seen_counts, AreOfPack};
+ghost use Rattle.matchstate.specs.SeenCards.{hole_in, first_holes, holes_in, boards_in, seen_at, separator, AreCounted};
 
 use crate::bytes::{after_byte, put};
 use crate::cards::{put_cards, read_cards};
@@ -31,7 +31,7 @@ pub(crate) fn put_seen(out: &mut Vec<u8>, players: usize, seen: &SeenCards)
 fn put_holes(out: &mut Vec<u8>, players: usize, holes: &[Option<[Card; 2]>; PLAYERS])
     requires players { players ≤ 10 }
     requires room { vec_len out.old + 50 ≤ vec_capacity out.old }
-    ensures items { out.new.items ≡ out.old.items ++ join_by cards_text (124 ∷ []) (map hole_in (take players holes.now)) }
+    ensures items { out.new.items ≡ out.old.items ++ holes_text (first_holes players holes.now) }
     ensures len { vec_len out.new ≤ vec_len out.old + 50 }
     ensures capacity { vec_capacity out.old ≤ vec_capacity out.new }
 {
@@ -59,7 +59,7 @@ fn put_hole(out: &mut Vec<u8>, hole: &Option<[Card; 2]>)
 fn put_street<const N: usize>(out: &mut Vec<u8>, street: &Option<[Card; N]>)
     requires most { N ≤ 3 }
     requires room { vec_len out.old + (2 * N + 1) ≤ vec_capacity out.old }
-    ensures items { out.new.items ≡ out.old.items ++ flat_map (λ cards. 47 ∷ cards_text cards) (option_to_list street.now) }
+    ensures items { out.new.items ≡ out.old.items ++ board_text (option_to_list street.now) }
     ensures len { vec_len out.new ≤ vec_len out.old + (2 * N + 1) }
     ensures capacity { vec_capacity out.old ≤ vec_capacity out.new }
 {
@@ -109,11 +109,11 @@ fn read_holes(
 ) -> Option<([Option<[Card; 2]>; PLAYERS], usize)>
     requires { players ≤ 10 }
     ensures within { IfSome result (λ found. found.1 ≤ length bytes.now) }
-    ensures found { IfSome result (λ found. bytes.now ≡ join_by cards_text (124 ∷ []) (map hole_in (take players found.0)) ++ drop found.1 bytes.now) }
-    ensures counts { IfSome result (λ found. map length (map hole_in (take players found.0)) ≡ map (λ position. if seen_at sees.now position then 2 else 0) (range_with_len 0 players)) }
-    ensures pack { IfSome result (λ found. AllByRecursion (λ card. card < 52) (concat (map hole_in (take players found.0)))) }
-    ensures only { (holes : List (List ℕ)) (behind : List ℕ) → map length holes ≡ map (λ position. if seen_at sees.now position then 2 else 0) (range_with_len 0 players) → AllByRecursion (λ card. card < 52) (concat holes) → bytes.now ≡ join_by cards_text (124 ∷ []) holes ++ behind
-        → IsSomeAnd result (λ found. (map hole_in (take players found.0) ≡ holes) × (drop found.1 bytes.now ≡ behind)) }
+    ensures found { IfSome result (λ found. bytes.now ≡ holes_text (first_holes players found.0) ++ drop found.1 bytes.now) }
+    ensures counts { IfSome result (λ found. map length (first_holes players found.0) ≡ seen_counts players (seen_at sees.now)) }
+    ensures pack { IfSome result (λ found. AreOfPack (first_holes players found.0)) }
+    ensures only { (holes : List (List ℕ)) (behind : List ℕ) → map length holes ≡ seen_counts players (seen_at sees.now) → AreOfPack holes → bytes.now ≡ holes_text holes ++ behind
+        → IsSomeAnd result (λ found. (first_holes players found.0 ≡ holes) × (drop found.1 bytes.now ≡ behind)) }
 {
     let mut holes = [None; PLAYERS];
     let mut rest = bytes;
@@ -166,10 +166,10 @@ fn read_hole(bytes: &[u8], seen: bool) -> Option<Option<[Card; 2]>>
 fn read_street<const N: usize>(bytes: &[u8], begun: bool) -> Option<(Option<[Card; N]>, usize)>
     requires { N ≤ 3 }
     ensures within { IfSome result (λ found. found.1 ≤ length bytes.now) }
-    ensures found { IfSome result (λ found. bytes.now ≡ flat_map (λ cards. 47 ∷ cards_text cards) (option_to_list found.0) ++ drop found.1 bytes.now) }
+    ensures found { IfSome result (λ found. bytes.now ≡ board_text (option_to_list found.0) ++ drop found.1 bytes.now) }
     ensures counts { IfSome result (λ found. map length (option_to_list found.0) ≡ (if begun then N ∷ [] else [])) }
-    ensures pack { IfSome result (λ found. AllByRecursion (λ card. card < 52) (concat (option_to_list found.0))) }
-    ensures only { (street : List (List ℕ)) (behind : List ℕ) → map length street ≡ (if begun then N ∷ [] else []) → AllByRecursion (λ card. card < 52) (concat street) → bytes.now ≡ flat_map (λ cards. 47 ∷ cards_text cards) street ++ behind
+    ensures pack { IfSome result (λ found. AreOfPack (option_to_list found.0)) }
+    ensures only { (street : List (List ℕ)) (behind : List ℕ) → map length street ≡ (if begun then N ∷ [] else []) → AreOfPack street → bytes.now ≡ board_text street ++ behind
         → IsSomeAnd result (λ found. (option_to_list found.0 ≡ street) × (drop found.1 bytes.now ≡ behind)) }
 {
     if begun {

@@ -1,6 +1,6 @@
-ghost use Rattle.std.specs.Prelude.{◌≡◌, ℕ, ◌≤◌, List, Some, IfSome, IsSomeAnd, take};
+ghost use Rattle.std.specs.Prelude.{◌≡◌, ℕ, ◌≤◌, List, Some, IfSome, IsSomeAnd};
 ghost use Rattle.card_core.specs.Deal.{IsDeal};
-ghost use Rattle.matchstate.specs.Cards.{cards_field, holes_of, boards_of, deal_text};
+ghost use Rattle.matchstate.specs.Cards.{holes_of, board_shown, shown_text, deal_text};
 
 use crate::cards_field::read_seen;
 use crate::seen_cards::gather;
@@ -30,8 +30,8 @@ pub fn read_shown(bytes: &[u8], players: usize, rounds: usize) -> Option<Deal>
     requires most { players ≤ 10 }
     requires rounds { rounds ≤ 3 }
     ensures deal { IfSome result (λ deal. IsDeal players deal) }
-    ensures found { IfSome result (λ deal. bytes.now ≡ cards_field (holes_of players deal) (take rounds (boards_of deal))) }
-    ensures only { (deal : List ℕ) → IsDeal players deal → bytes.now ≡ cards_field (holes_of players deal) (take rounds (boards_of deal)) → IsSomeAnd result (λ found. (holes_of players found ≡ holes_of players deal) × (take rounds (boards_of found) ≡ take rounds (boards_of deal))) }
+    ensures found { IfSome result (λ deal. bytes.now ≡ shown_text players rounds deal) }
+    ensures only { (deal : List ℕ) → IsDeal players deal → bytes.now ≡ shown_text players rounds deal → IsSomeAnd result (λ found. (holes_of players found ≡ holes_of players deal) × (board_shown rounds found ≡ board_shown rounds deal)) }
 {
     let seen = read_seen(bytes, players, &[true; PLAYERS], rounds)?;
     let (mut cards, count) = gather(&seen, players);
