@@ -8,7 +8,7 @@ use Rattle.slot_log.specs.declared.slot_fault.SlotFault.TheVariants.{Conflict}
 use Rattle.slot_log.specs.Slots.{front, known_at}
 use Rattle.protocol_model.specs.Messages.{Accepted}
 use Rattle.learner.specs.Same.{is_same}
-use Rattle.learner.specs.Tallies.{is_quorum, is_of, nodes_for, with_node, is_completed}
+use Rattle.learner.specs.Tallies.{is_of, nodes_for, with_node, is_completed}
 use Rattle.learner.specs.Learning.{Learned, new_learned, is_open, hearing, answer_to, believing, answer_to_chosen}
 use Rattle.learner.specs.Counted.{CountsFrom, CountsAll}
 
@@ -53,21 +53,6 @@ unfolding is_same
 fold_for_another = refl
 
 -- ---- nodes
-
-pub two_of_three : is_quorum 3 (true ∷ false ∷ true ∷ false ∷ false ∷ false ∷ false ∷ []) ≡ true
-two_of_three = refl
-
-pub two_of_four : is_quorum 4 (true ∷ false ∷ true ∷ false ∷ false ∷ false ∷ false ∷ []) ≡ false
-two_of_four = refl
-
-pub two_of_five : is_quorum 5 (true ∷ false ∷ true ∷ false ∷ false ∷ false ∷ false ∷ []) ≡ false
-two_of_five = refl
-
-pub three_of_seven : is_quorum 7 (true ∷ false ∷ true ∷ false ∷ false ∷ true ∷ false ∷ []) ≡ false
-three_of_seven = refl
-
-pub four_of_seven : is_quorum 7 (true ∷ false ∷ true ∷ false ∷ false ∷ true ∷ true ∷ []) ≡ true
-four_of_seven = refl
 
 -- node 1 answers again
 pub counted_once : with_node (ballot 1 0) call 1 (with_node (ballot 1 0) call 1 []) ≡ with_node (ballot 1 0) call 1 []

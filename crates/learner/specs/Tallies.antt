@@ -1,22 +1,10 @@
 -- What is counted at a slot: for each ballot and command, the nodes that accepted it.
-use Rattle.std.specs.Prelude.{ℕ, ◌+◌, ◌*◌, ◌==◌, Bool, true, false, not, nat_lt, if◌then◌else◌, List, [], ◌∷◌, replicate, slice_index_or, slice_set}
-use Rattle.paxos_wire.specs.declared.limits.TheConstants.{NODES}
+use Rattle.std.specs.Prelude.{ℕ, ◌+◌, ◌==◌, Bool, true, false, not, if◌then◌else◌, List, [], ◌∷◌, slice_set}
 use Rattle.paxos_wire.specs.declared.ballot.Ballot.{Ballot}
 use Rattle.slot_log.specs.declared.command.Command.{Command}
-use Rattle.protocol_model.specs.Quorums.{count}
+pub use Rattle.paxos_wire.specs.NodeSets.{has, no_nodes, is_quorum}
 use Rattle.learner.specs.declared.tally.Tally.{Tally}
 use Rattle.learner.specs.Same.{is_same}
-
--- the node is among these; marks stand by node
-abbrev pub has : List Bool → ℕ → Bool
-has nodes node = slice_index_or nodes node false
-
-abbrev pub no_nodes : List Bool
-no_nodes = replicate NODES false
-
--- more than half of the n nodes are among these
-abbrev pub is_quorum : ℕ → List Bool → Bool
-is_quorum n nodes = nat_lt n (2 * count (has nodes) n)
 
 -- the tally is of this command in this ballot
 unfoldable pub is_of : Ballot → Command → Tally → Bool

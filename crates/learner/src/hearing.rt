@@ -7,9 +7,9 @@ ghost use Rattle.learner.specs.CommandRuns.{tells, hearing_each, chosen_each, is
 ghost use Rattle.learner.specs.Learning.{is_open, is_other, known_with, tallies_at, emptied, answer_to, hearing, answer_to_chosen, believing};
 
 use crate::chosen::Chosen;
-use crate::tally::{self, PLACES, Tally};
-use paxos_wire::Ballot;
+use crate::tally::{self, Tally};
 use paxos_wire::limits::{NODES, WINDOW};
+use paxos_wire::{Ballot, NodeSet};
 use slot_log::limits::SLOTS;
 use slot_log::{Command, SlotFault, SlotLog};
 use std::alloc::{AllocError, Global};
@@ -48,7 +48,8 @@ pub(crate) fn is_open(log: &SlotLog, slot: u32) -> bool
     front <= slot && slot < front + WINDOW as u32 && slot < SLOTS
 }
 
-/// Lets a command be known at a slot, for which there is room, unless another is.
+/// Lets a command be known at a slot, for which there is room, unless another is: `put_reserved` of the log, whose contract
+/// is told here in the words of a learner.
 fn put(log: &mut SlotLog, slot: u32, command: Command) -> Result<(), SlotFault>
     requires room { 1 ≤ log.old.room }
     requires slot { slot < SLOTS }
@@ -86,7 +87,7 @@ pub(crate) fn reserve_at(cells: &mut Vec<Vec<Tally>>, slot: u32) -> Result<(), A
 }
 
 /// Which nodes' answers were counted of an open slot, for a command in a ballot.
-fn answered_at(cells: &[Vec<Tally>], ballot: Ballot, slot: u32, command: &Command) -> [bool; PLACES]
+fn answered_at(cells: &[Vec<Tally>], ballot: Ballot, slot: u32, command: &Command) -> NodeSet
     requires { length cells.now ≡ WINDOW }
     ensures { result ≡ nodes_for ballot command.now (tallies_at (tallies_in cells.now) slot) }
 {

@@ -1,13 +1,9 @@
-ghost use Rattle.std.specs.Prelude.{◌≡◌, ℕ, ◌+◌, ◌<◌, ◌≤◌, ◌++◌, ◌∷◌, length, true, replicate, slice_set, slice_get, vec_len, vec_capacity};
-ghost use Rattle.protocol_model.specs.Quorums.{count};
-ghost use Rattle.learner.specs.Tallies.{has, is_quorum, is_of, skipped, nodes_for, with_node, is_completed};
+ghost use Rattle.std.specs.Prelude.{◌≡◌, ◌+◌, ◌<◌, ◌≤◌, length, vec_len, vec_capacity};
+ghost use Rattle.learner.specs.Tallies.{is_of, skipped, nodes_for, with_node, is_completed};
 
-use paxos_wire::Ballot;
 use paxos_wire::limits::NODES;
+use paxos_wire::{Ballot, NodeSet};
 use slot_log::Command;
-
-/// One place for each node that there may be.
-pub(crate) const PLACES: usize = NODES as usize;
 
 /// Which nodes accepted a command at a slot in a ballot.
 #[derive(Clone, Copy, Debug, Drop)]
@@ -16,8 +12,8 @@ pub struct Tally {
     pub(crate) ballot: Ballot,
     /// What was accepted.
     pub(crate) command: Command,
-    /// By node: whether it accepted it.
-    pub(crate) nodes: [bool; PLACES],
+    /// Who accepted it.
+    pub(crate) nodes: NodeSet,
 }
 
 /// Whether a tally counts the nodes that accepted this command in this ballot.
@@ -43,38 +39,24 @@ fn skipped(tallies: &[Tally], ballot: Ballot, command: &Command) -> usize
     tallies.len()
 }
 
-/// Whether more than half of the nodes are among these.
-fn is_quorum(nodes: u8, among: &[bool; PLACES]) -> bool
-    requires { nodes ≤ NODES }
-    ensures { result ≡ is_quorum nodes among.now }
-{
-    let mut counted: usize = 0;
-    for node in 0..nodes as usize {
-        if among[node] {
-            counted += 1;
-        }
-    }
-    (nodes as usize) < 2 * counted
-}
-
 /// Whether one more node makes more than half of the nodes of what wasn't.
-pub(crate) fn is_completed(nodes: u8, among: &[bool; PLACES], from: u8) -> bool
+pub(crate) fn is_completed(nodes: u8, among: &NodeSet, from: u8) -> bool
     requires few { nodes ≤ NODES }
     requires from { from < nodes }
     ensures { result ≡ is_completed nodes among.now from }
 {
     let mut with_one_more = *among;
-    with_one_more[from as usize] = true;
-    !is_quorum(nodes, among) && is_quorum(nodes, &with_one_more)
+    with_one_more.add(from);
+    !among.is_quorum(nodes) && with_one_more.is_quorum(nodes)
 }
 
 /// Which nodes accepted this command in this ballot.
-pub(crate) fn nodes_for(tallies: &[Tally], ballot: Ballot, command: &Command) -> [bool; PLACES]
+pub(crate) fn nodes_for(tallies: &[Tally], ballot: Ballot, command: &Command) -> NodeSet
     ensures { result ≡ nodes_for ballot command.now tallies.now }
 {
     let place = skipped(tallies, ballot, command);
     if place == tallies.len() {
-        [false; PLACES]
+        NodeSet::empty()
     } else {
         tallies[place].nodes
     }
@@ -90,8 +72,8 @@ pub(crate) fn count(tallies: &mut Vec<Tally>, ballot: Ballot, command: &Command,
 {
     let place = skipped(tallies, ballot, command);
     if place == tallies.len() {
-        let mut nodes = [false; PLACES];
-        nodes[from as usize] = true;
+        let mut nodes = NodeSet::empty();
+        nodes.add(from);
         tallies.push_reserved(Tally {
             ballot,
             command: *command,
@@ -100,5 +82,5 @@ pub(crate) fn count(tallies: &mut Vec<Tally>, ballot: Ballot, command: &Command,
         return;
     }
     let tally = &mut tallies[place];
-    tally.nodes[from as usize] = true;
+    tally.nodes.add(from);
 }

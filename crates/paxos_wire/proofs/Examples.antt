@@ -1,5 +1,5 @@
 -- Frames as they are written byte for byte, and bytes that are none.
-use Rattle.std.proofs.Common.{◌≡◌, ℕ, zero, suc, ◌+◌, length, replicate, true, false, nat_eq, lit<, lit≤, List, [], ◌∷◌, Some, None, Ok, Err, refl, rules, codes, arith, inl, inr}
+use Rattle.std.proofs.Common.{◌≡◌, ℕ, zero, suc, ◌+◌, length, replicate, true, false, nat_eq, lit<, lit≤, Bool, List, [], ◌∷◌, Some, None, Ok, Err, refl, rules, codes, arith, inl, inr}
 use Rattle.std.specs.List.{IsDistinct}
 use Rattle.std.proofs.lemmas.Map.Keys.{apart_from_distinct}
 use Rattle.std.specs.Fmt.{digits}
@@ -12,6 +12,7 @@ use Rattle.paxos_wire.specs.declared.entry.Entry.{Entry}
 use Rattle.paxos_wire.specs.declared.fault.FrameFault.TheVariants.{TooShort, TooLong, BadVersion, BadKind, BadBody}
 use Rattle.paxos_wire.specs.declared.message.Message.TheVariants.{Prepare, Promise, Refuse, Accept, Accepted, Chosen, Ask, Forward}
 use Rattle.paxos_wire.specs.declared.version.Version.TheVariants.{Old, New}
+use Rattle.paxos_wire.specs.NodeSets.{count, has, no_nodes, is_quorum}
 use Rattle.paxos_wire.specs.Versions.{version_byte, nodes_in, is_version, version_of}
 use Rattle.paxos_wire.specs.Fits.{IsBallot, IsSlot, AreDealt, IsCommand, MayGoOn, Rise, IsSingle, IsMessage, IsCommandRun, IsOld}
 use Rattle.paxos_wire.specs.Spelling.{ballot_text, slot_text, action_text, command_text, run_text, entry_text, entries_text, frame_of, frame, old_frame, IsText}
@@ -21,6 +22,49 @@ use Rattle.paxos_wire.specs.Stream.{needed, IsPartial, IsInFront, IsFaulty, Take
 use Rattle.paxos_wire.specs.Order.{is_below, is_same_ballot}
 use Rattle.paxos_wire.specs.Lines.{fault_code, fault_line, message_line}
 use Rattle.paxos_wire.proofs.StreamLaws.{in_front}
+
+-- ---- sets of nodes
+
+abbrev three_nodes : List Bool
+three_nodes = true ∷ false ∷ true ∷ false ∷ false ∷ true ∷ false ∷ []
+
+pub third_node : has three_nodes 2 ≡ true
+third_node = refl
+
+pub second_node : has three_nodes 1 ≡ false
+second_node = refl
+
+-- there is no node 7
+pub no_node_7 : has three_nodes 7 ≡ false
+no_node_7 = refl
+
+pub two_among_the_first_five : count (has three_nodes) 5 ≡ 2
+two_among_the_first_five = refl
+
+pub three_among_seven : count (has three_nodes) 7 ≡ 3
+three_among_seven = refl
+
+pub nobody_of_seven : count (has no_nodes) 7 ≡ 0
+nobody_of_seven = refl
+
+pub two_of_three : is_quorum 3 (true ∷ false ∷ true ∷ false ∷ false ∷ false ∷ false ∷ []) ≡ true
+two_of_three = refl
+
+pub two_of_four : is_quorum 4 (true ∷ false ∷ true ∷ false ∷ false ∷ false ∷ false ∷ []) ≡ false
+two_of_four = refl
+
+pub two_of_five : is_quorum 5 (true ∷ false ∷ true ∷ false ∷ false ∷ false ∷ false ∷ []) ≡ false
+two_of_five = refl
+
+pub three_of_seven : is_quorum 7 (true ∷ false ∷ true ∷ false ∷ false ∷ true ∷ false ∷ []) ≡ false
+three_of_seven = refl
+
+pub four_of_seven : is_quorum 7 (true ∷ false ∷ true ∷ false ∷ false ∷ true ∷ true ∷ []) ≡ true
+four_of_seven = refl
+
+-- nobody is no quorum, of one node either
+pub none_of_one : is_quorum 1 no_nodes ≡ false
+none_of_one = refl
 
 -- ---- ballots: by round, then by node
 

@@ -1,6 +1,7 @@
 pub mod EntriesInside
 pub mod CommandsInside
 pub mod Versions
+pub mod NodeSets
 pub mod Fits
 pub mod Spelling
 pub mod Kinds

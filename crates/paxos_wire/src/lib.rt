@@ -17,6 +17,7 @@
 //! - `entry`, `entries`: what was accepted at a slot, and what a Promise tells of, owned or borrowed.
 //! - `command_list`: commands for slots that follow one another, owned or borrowed.
 //! - `message`: the messages; `message_room`: where the lists of one that is read stand; `kept_message`: one that is kept.
+//! - `node_set`: which nodes said something, and whether more than half of all did.
 //! - `fault`: why bytes are no frame, 50 to 54, the first in the order that `specs/Faults.antt` states.
 //!
 //! Its bytes (`docs/FORMATS.md` has them all in a table), from the smallest text to the largest, each file on those before
@@ -50,6 +51,7 @@ mod laws;
 pub mod limits;
 mod message;
 mod message_room;
+mod node_set;
 mod print_messages;
 mod read_command_bytes;
 mod read_entries;
@@ -80,6 +82,7 @@ pub use laws::{
 };
 pub use message::Message;
 pub use message_room::MessageRoom;
+pub use node_set::NodeSet;
 pub use read_frames::decode;
 pub use read_records::{read_ballot, read_command, read_commands, read_slot};
 pub use read_streams::read_stream;

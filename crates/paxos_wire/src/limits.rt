@@ -10,6 +10,9 @@ pub const OLD_VERSION: u8 = 1;
 /// Nodes are numbered from 0 to one below this.
 pub const NODES: u8 = 7;
 
+/// One place for each node that there may be.
+pub const PLACES: usize = NODES as usize;
+
 /// In the old version they are numbered from 0 to one below this.
 pub const OLD_NODES: u8 = 5;
 

@@ -69,7 +69,7 @@ pub(crate) fn message_of_frame<'a>(
 /// 4096), 54 `BadBody` (another count of bytes than the length says), 52 `BadVersion` (neither 1 nor 2), 53 `BadKind`, 54 `BadBody`
 /// (a value out of its range, a byte left over or missing).
 pub fn decode<'a>(bytes: &[u8], room: &'a mut MessageRoom) -> Result<Message<'a>, FrameFault>
-    // What is read has this text.
+    // It is the public form of `message_of_frame`, whose one clause is `exact`. What is read has this text.
     ensures found { IfOk result (λ m. IsMessage m × IsText m bytes.now) }
     // What has this text is read.
     ensures only { (m : Message) → IsMessage m → IsText m bytes.now → result ≡ Ok m }

@@ -58,7 +58,7 @@ pub(crate) fn read_short_below(bytes: &[u8], limit: u16) -> Option<(u16, &[u8])>
     }
 }
 
-/// A slot, and the bytes after it.
+/// A slot, which is a number of four bytes below 4,000,000, and the bytes after it.
 pub(crate) fn read_slot(bytes: &[u8]) -> Option<(u32, &[u8])>
     ensures below { IfSome result (λ x. x.0 < SLOTS) }
     ensures exact { Gives (λ x. (x.0, x.1.now)) result (below_at 4 SLOTS bytes.now) }

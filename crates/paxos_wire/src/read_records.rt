@@ -1,6 +1,7 @@
-//! Ballots, slots and commands by themselves, read from the front of bytes as they stand in the records of a journal. The
-//! readers of frames read the same, and here their calls have the contracts that the crates above need: what is read is
-//! what was written.
+//! Ballots, slots and commands by themselves, read from the front of bytes as they stand in the records of a journal.
+//!
+//! They are the public forms of what frames are read by, with what the crates above need of them: what is read is what was
+//! written, and what was written is read.
 
 ghost use Rattle.std.specs.Prelude.{◌≡◌, ◌+◌, ◌≤◌, ◌++◌, length, ◌<◌, IsSome, IfSome, ℕ, List, IsSomeAnd};
 ghost use Rattle.std.specs.List.{flat_map, AllByRecursion};

@@ -1,4 +1,7 @@
 //! Ballots and commands by themselves, written behind other bytes as they stand in the records of a journal.
+//!
+//! The reserved ones are the public forms of what frames are written by. They want numbers in their ranges, so that what
+//! is written reads back.
 
 ghost use Rattle.std.specs.Prelude.{◌≡◌, ◌+◌, ◌≤◌, ◌++◌, length, OnOk, IsOk, OnErr};
 ghost use Rattle.std.specs.Vec.{vec_len, vec_capacity};

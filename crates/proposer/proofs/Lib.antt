@@ -1,5 +1,6 @@
 pub mod Greatest
 pub mod Safe
+pub mod Promised
 pub mod Alone
 pub mod Kept
 pub mod Examples

@@ -1,18 +1,15 @@
 ghost use Rattle.std.specs.Prelude.{◌≡◌, ℕ, ◌+◌, ◌-◌, ◌++◌, ◌<◌, ◌≤◌, length, is_some, None, IsTrue};
-ghost use Rattle.protocol_model.specs.Quorums.{count};
+ghost use Rattle.paxos_wire.specs.NodeSets.{has};
 ghost use Rattle.proposer.specs.Told.{better, best_in};
 ghost use Rattle.proposer.specs.CommandRuns.{may_follow, told_commands, commands_at, run_by, marked_places, with_marks, waiting_by};
-ghost use Rattle.proposer.specs.Campaigns.{is_covered, greatest_told, promise_by, has_quorum, is_outbid, with_promise, new_campaign, proposal_by, with_mark};
+ghost use Rattle.proposer.specs.Campaigns.{is_covered, greatest_told, has_promised, has_quorum, with_promise, new_campaign, proposal_by, with_mark};
 
 use crate::accept::Accept;
 use crate::accept_run::AcceptRun;
 use crate::fault::ProposeFault;
-use paxos_wire::limits::{NODES, SLOTS, WINDOW};
-use paxos_wire::{Ballot, CommandList, Commands, Entries, Entry};
+use paxos_wire::limits::{NODES, PLACES, SLOTS, WINDOW};
+use paxos_wire::{Ballot, CommandList, Commands, Entries, Entry, NodeSet};
 use slot_log::Command;
-
-/// One place for each node that there may be.
-const PLACES: usize = NODES as usize;
 
 /// A ballot that a proposer began: what it was promised in it, and where it proposed.
 #[derive(Drop)]
@@ -71,25 +68,26 @@ impl Campaign {
         }
     }
 
+    /// Those of so many nodes whose promises were counted.
+    fn promised(&self, nodes: u8) -> NodeSet
+        requires { nodes ≤ NODES }
+        ensures { (node : ℕ) → node < nodes → has result node ≡ has_promised self.now node }
+    {
+        let mut promised = NodeSet::empty();
+        for node in 0..nodes {
+            if self.promises[node as usize].is_some() {
+                promised.add(node);
+            }
+        }
+        promised
+    }
+
     /// Whether more than half of the nodes promised it.
     pub fn has_quorum(&self, nodes: u8) -> bool
         requires { nodes ≤ NODES }
         ensures { result ≡ has_quorum nodes self.now }
     {
-        let mut promised: usize = 0;
-        for node in 0..nodes as usize {
-            if self.promises[node].is_some() {
-                promised += 1;
-            }
-        }
-        (nodes as usize) < 2 * promised
-    }
-
-    /// Whether the ballot that was promised is above it.
-    pub fn is_outbid(&self, promised: Ballot) -> bool
-        ensures { result ≡ is_outbid (Some self.now) promised }
-    {
-        self.ballot.is_below(promised)
+        self.promised(nodes).is_quorum(nodes)
     }
 
     /// Counts a promise: of this ballot and first slot, the first of its node, while no quorum has promised.

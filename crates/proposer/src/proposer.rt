@@ -98,7 +98,7 @@ impl Proposer {
         ensures { self.new ≡ refused self.old promised }
     {
         let outbid = match &self.campaign {
-            Some(campaign) => campaign.is_outbid(promised),
+            Some(campaign) => campaign.ballot.is_below(promised),
             None => false,
         };
         if outbid {

@@ -1,16 +1,12 @@
 -- Quorums, what they promised and what they chose.
-use Rattle.std.specs.Prelude.{◌≡◌, ℕ, zero, suc, ◌+◌, ◌*◌, ◌<◌, Bool, true, if◌then◌else◌, List, [], ◌∷◌, length}
+use Rattle.std.specs.Prelude.{◌≡◌, ℕ, ◌*◌, ◌<◌, Bool, true, List, [], ◌∷◌, length}
 use Rattle.paxos_wire.specs.declared.ballot.Ballot.{Ballot}
 use Rattle.slot_log.specs.declared.command.Command.{Command}
 use Rattle.protocol_model.specs.Sets.{In}
 use Rattle.protocol_model.specs.Ballots.{AtMost}
 use Rattle.paxos_wire.specs.declared.entry.Entry.{Entry}
+pub use Rattle.paxos_wire.specs.NodeSets.{count}
 use Rattle.protocol_model.specs.Messages.{Vote, entry_of, Message, Covers, Promise, Accepted}
-
--- how many of the first n nodes are in the set
-abbrev pub count : (ℕ → Bool) → ℕ → ℕ
-count set zero = 0
-count set (suc n) = if set n then 1 + count set n else count set n
 
 -- more than half of the n nodes; nodes are counted, not messages
 abbrev pub IsQuorum : ℕ → (ℕ → Bool) → Type 0

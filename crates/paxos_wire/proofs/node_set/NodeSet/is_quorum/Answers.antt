@@ -1,5 +1,5 @@
 use Rattle.std.proofs.Common.{rules}
-use Rattle.learner.proofs.tally.is_quorum.Goals as goal
+use Rattle.paxos_wire.proofs.node_set.NodeSet.is_quorum.Goals as goal
 
 pub returns : goal.returns
 returns c = search rules
