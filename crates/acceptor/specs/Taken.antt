@@ -1,6 +1,8 @@
 -- What a call makes of an acceptor's store, however it ends.
 use Rattle.std.specs.Prelude.{◌≡◌, ◌⊎◌, ℕ, ◌≤◌, true, List, [], ◌∷◌, ◌++◌, Option, Result, IsTrue, IsNone, IfSome, IsErrOf, IfOk, IfErr, OnOk, MatchResult}
+use Rattle.paxos_wire.specs.declared.ballot.Ballot.{Ballot}
 use Rattle.protocol_model.specs.Stores as model
+use Rattle.protocol_model.specs.Votes.{is_voted}
 use Rattle.promise_store.specs.declared.disk.Disk.{Ghosts}
 use Rattle.promise_store.specs.declared.store.Store.{Store}
 use Rattle.promise_store.specs.declared.fault.StoreFault.{StoreFault}
@@ -56,6 +58,11 @@ module _ {D : Type 0} (g : Ghosts D) where
     -- 64 comes of nothing else, and nothing changes then
     pub opened : IsErrOf result Closed → IsNone refusal × (is_closed before ≡ true) × IsAsBefore g before after
     pub only : IfErr result (λ fault. IsFault fault ⊎ (fault ≡ OutOfMemory))
+
+  -- where a store has a vote of this ballot at the slot, and an honest disk, the disk is only read
+  abbrev pub OnlyReadsWhereVoted : Ballot → ℕ → Store D → Store D → Type 0
+  OnlyReadsWhereVoted ballot slot before after = (head : List ℕ) (held : model.Store) → Keeps g head held before → IsTrue g.is_honest
+      → is_voted held ballot slot ≡ true → OnlyReads g (disk_of before) (disk_of after)
 
   -- what was read of a store, which keeps what it kept
   pub record Read {T : Type 0} (answer : model.Store → T) (before after : Store D) (result : Result T StoreFault) : Type 0 where

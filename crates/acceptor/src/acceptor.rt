@@ -1,9 +1,8 @@
-ghost use Rattle.std.specs.Prelude.{◌≡◌, ◌⊎◌, true, ◌+◌, ◌<◌, ◌≤◌, ℕ, length, List, IsTrue, IsOk, OnOk, IfOk, IsErrOf};
+ghost use Rattle.std.specs.Prelude.{◌≡◌, ◌⊎◌, ◌+◌, ◌<◌, ◌≤◌, ℕ, length, List, IsTrue, IsOk, OnOk, IfOk, IsErrOf};
 ghost use Rattle.paxos_wire.specs.Fits.{IsBallot, IsSlot, IsInRange, IsCommandRun};
 ghost use Rattle.protocol_model.specs.Ballots.{no_ballot};
 ghost use Rattle.protocol_model.specs.Stores as model;
-ghost use Rattle.protocol_model.specs.Votes.{is_voted};
-ghost use Rattle.promise_store.specs.Room.{promised_in, room, ShowSame};
+ghost use Rattle.promise_store.specs.Room.{promised_in, ShowSame};
 ghost use Rattle.acceptor.specs.Answers.{answer_to_prepare, refusal_of_prepare, prepared, AnswersPrepare, answer_to_accept, refusal_of_accept, accepted, AnswersAccept, answer_to_run, refusal_of_run, accepted_run, AnswersRun};
 
 use crate::answers::{AcceptAnswer, PrepareAnswer, RunAnswer};
@@ -26,9 +25,8 @@ pub struct Acceptor<D: Disk> {
 impl<D: Disk> Acceptor<D> {
     ghost use Rattle.promise_store.specs.Keeping.{disk_of, held_of, Keeps};
     ghost use Rattle.promise_store.specs.Appended.{IsAsBefore};
-    ghost use Rattle.promise_store.specs.Settled.{OnlyReads};
-    ghost use Rattle.acceptor.specs.Stored.{store_of};
-    ghost use Rattle.acceptor.specs.Taken.{Taken, NeedsStore};
+    ghost use Rattle.acceptor.specs.Stored.{store_of, room_in};
+    ghost use Rattle.acceptor.specs.Taken.{Taken, NeedsStore, OnlyReadsWhereVoted};
 
     /// The acceptor with this store, which was created or opened.
     pub fn new(store: Store<D>) -> Acceptor<D>
@@ -53,7 +51,7 @@ impl<D: Disk> Acceptor<D> {
         self.store.held().promised()
     }
 
-    /// Hands the disk back, with what the store kept on it.
+    /// Hands the disk back, with what the store kept on it. The store is private.
     pub fn into_disk(self) -> D
         ensures { result ≡ disk_of (store_of self) }
     {
@@ -61,11 +59,11 @@ impl<D: Disk> Acceptor<D> {
     }
 
     /// Makes room for accepting at so many slots more, so that `on_accept_reserved` takes no memory. An `Err` changes
-    /// nothing but the room.
+    /// nothing but the room. The store makes it; it is private.
     pub fn reserve(&mut self, slots: usize) -> Result<(), AllocError>
-        ensures room { OnOk result (slots ≤ room (held_of (store_of self.new))) }
-        ensures succeeds { slots ≤ room (held_of (store_of self.old)) → IsOk result }
-        ensures more { room (held_of (store_of self.old)) ≤ room (held_of (store_of self.new)) }
+        ensures room { OnOk result (slots ≤ room_in self.new) }
+        ensures succeeds { slots ≤ room_in self.old → IsOk result }
+        ensures more { room_in self.old ≤ room_in self.new }
         ensures same { IsAsBefore D.Disk (store_of self.old) (store_of self.new) }
         ensures shows { ShowSame (held_of (store_of self.old)) (held_of (store_of self.new)) }
     {
@@ -83,7 +81,7 @@ impl<D: Disk> Acceptor<D> {
         ensures taken { Taken D.Disk (answer_to_prepare ballot slot) (prepared ballot) (store_of self.old) (store_of self.new) result }
         ensures needs { NeedsStore D.Disk (refusal_of_prepare ballot slot (promised_in (held_of (store_of self.old)))) (store_of self.old) (store_of self.new) result }
         ensures fits { IfOk result (AnswersPrepare ballot slot) }
-        ensures room { room (held_of (store_of self.new)) ≡ room (held_of (store_of self.old)) }
+        ensures room { room_in self.new ≡ room_in self.old }
         ensures memory { IsErrOf result StoreFault.OutOfMemory → ⊥ }
     {
         records_are_moves();
@@ -120,11 +118,11 @@ impl<D: Disk> Acceptor<D> {
         requires slot { IsSlot slot }
         requires command { IsInRange command }
         ensures taken { Taken D.Disk (answer_to_accept ballot slot command) (accepted ballot slot command) (store_of self.old) (store_of self.new) result }
-        ensures stored { (head : List ℕ) (held : model.Store) → Keeps D.Disk head held (store_of self.old) → IsTrue D.is_honest → is_voted held ballot slot ≡ true → OnlyReads D.Disk (disk_of (store_of self.old)) (disk_of (store_of self.new)) }
+        ensures stored { OnlyReadsWhereVoted D.Disk ballot slot (store_of self.old) (store_of self.new) }
         ensures needs { NeedsStore D.Disk (refusal_of_accept ballot slot (promised_in (held_of (store_of self.old)))) (store_of self.old) (store_of self.new) result }
         ensures fits { IfOk result (AnswersAccept ballot slot) }
-        ensures room { room (held_of (store_of self.old)) ≤ room (held_of (store_of self.new)) + 1 }
-        ensures full { IsErrOf result StoreFault.OutOfMemory → room (held_of (store_of self.old)) ≡ 0 }
+        ensures room { room_in self.old ≤ room_in self.new + 1 }
+        ensures full { IsErrOf result StoreFault.OutOfMemory → room_in self.old ≡ 0 }
     {
         self.reserve(1)?;
         self.on_accept_reserved(ballot, slot, command)
@@ -140,12 +138,12 @@ impl<D: Disk> Acceptor<D> {
         requires ballot { IsBallot ballot }
         requires slot { IsSlot slot }
         requires command { IsInRange command }
-        requires room { 1 ≤ room (held_of (store_of self.old)) }
+        requires room { 1 ≤ room_in self.old }
         ensures taken { Taken D.Disk (answer_to_accept ballot slot command) (accepted ballot slot command) (store_of self.old) (store_of self.new) result }
-        ensures stored { (head : List ℕ) (held : model.Store) → Keeps D.Disk head held (store_of self.old) → IsTrue D.is_honest → is_voted held ballot slot ≡ true → OnlyReads D.Disk (disk_of (store_of self.old)) (disk_of (store_of self.new)) }
+        ensures stored { OnlyReadsWhereVoted D.Disk ballot slot (store_of self.old) (store_of self.new) }
         ensures needs { NeedsStore D.Disk (refusal_of_accept ballot slot (promised_in (held_of (store_of self.old)))) (store_of self.old) (store_of self.new) result }
         ensures fits { IfOk result (AnswersAccept ballot slot) }
-        ensures room { room (held_of (store_of self.old)) ≤ room (held_of (store_of self.new)) + 1 }
+        ensures room { room_in self.old ≤ room_in self.new + 1 }
         ensures memory { IsErrOf result StoreFault.OutOfMemory → ⊥ }
     {
         records_are_moves();
@@ -191,11 +189,11 @@ impl<D: Disk> Acceptor<D> {
         requires ballot { IsBallot ballot }
         requires run { IsCommandRun slot commands.now }
         ensures taken { Taken D.Disk (answer_to_run ballot slot commands.now) (accepted_run ballot slot commands.now) (store_of self.old) (store_of self.new) result }
-        ensures stored { (head : List ℕ) (held : model.Store) → Keeps D.Disk head held (store_of self.old) → IsTrue D.is_honest → is_voted held ballot slot ≡ true → OnlyReads D.Disk (disk_of (store_of self.old)) (disk_of (store_of self.new)) }
+        ensures stored { OnlyReadsWhereVoted D.Disk ballot slot (store_of self.old) (store_of self.new) }
         ensures needs { NeedsStore D.Disk (refusal_of_run ballot slot (promised_in (held_of (store_of self.old)))) (store_of self.old) (store_of self.new) result }
         ensures fits { IfOk result (AnswersRun ballot slot commands.now) }
-        ensures room { room (held_of (store_of self.old)) ≤ room (held_of (store_of self.new)) + length commands.now }
-        ensures full { IsErrOf result StoreFault.OutOfMemory → room (held_of (store_of self.old)) < length commands.now }
+        ensures room { room_in self.old ≤ room_in self.new + length commands.now }
+        ensures full { IsErrOf result StoreFault.OutOfMemory → room_in self.old < length commands.now }
     {
         self.reserve(commands.len())?;
         self.on_accept_run_reserved(ballot, slot, commands, told)
@@ -211,12 +209,12 @@ impl<D: Disk> Acceptor<D> {
     ) -> Result<RunAnswer<'a>, StoreFault>
         requires ballot { IsBallot ballot }
         requires run { IsCommandRun slot commands.now }
-        requires room { length commands.now ≤ room (held_of (store_of self.old)) }
+        requires room { length commands.now ≤ room_in self.old }
         ensures taken { Taken D.Disk (answer_to_run ballot slot commands.now) (accepted_run ballot slot commands.now) (store_of self.old) (store_of self.new) result }
-        ensures stored { (head : List ℕ) (held : model.Store) → Keeps D.Disk head held (store_of self.old) → IsTrue D.is_honest → is_voted held ballot slot ≡ true → OnlyReads D.Disk (disk_of (store_of self.old)) (disk_of (store_of self.new)) }
+        ensures stored { OnlyReadsWhereVoted D.Disk ballot slot (store_of self.old) (store_of self.new) }
         ensures needs { NeedsStore D.Disk (refusal_of_run ballot slot (promised_in (held_of (store_of self.old)))) (store_of self.old) (store_of self.new) result }
         ensures fits { IfOk result (AnswersRun ballot slot commands.now) }
-        ensures room { room (held_of (store_of self.old)) ≤ room (held_of (store_of self.new)) + length commands.now }
+        ensures room { room_in self.old ≤ room_in self.new + length commands.now }
         ensures memory { IsErrOf result StoreFault.OutOfMemory → ⊥ }
     {
         records_are_moves();

@@ -17,7 +17,7 @@ use paxos_wire::{Ballot, CommandList, Commands, Entries, Entry};
 use promise_store::{Disk, Held, Store, StoreFault};
 use slot_log::Command;
 
-/// Reads what was accepted at a slot.
+/// Reads what was accepted at a slot: `Store::entry`, said as the readers here say what they read.
 fn vote_at<D: Disk>(
     store: &mut Store<D>,
     slot: u32,

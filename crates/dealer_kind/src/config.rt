@@ -136,7 +136,7 @@ impl Config {
         self.hands
     }
 
-    /// How many nodes there are, 3, 5 or 7.
+    /// How many nodes there are, 3, 5 or 7: each has a source of deals. It keeps the sources to this file.
     pub fn nodes(&self) -> usize
         ensures value { result ≡ length self.now.sources }
         ensures nodes { HasNodes result }

@@ -1,6 +1,6 @@
 -- The two writes of an append, each had on the disk before the next call.
 use Rattle.std.proofs.Common.{◌≡◌, inl, inr, ⊎_elim, ℕ, ◌+◌, ◌≤◌, List, [], ◌∷◌, ◌++◌, length, sym, ◌∙◌, ap, subst, arith}
-use Rattle.std.specs.Prelude.{IsTrue, Some, Result, Ok, Err, OnOk}
+use Rattle.std.specs.Prelude.{◌↔◌, IsTrue, Some, Result, Ok, Err, OnOk}
 use Rattle.promise_store.specs.declared.disk.Disk.{Ghosts}
 use Rattle.promise_store.specs.Disks.{Torn, Holds, Only, During, TornFrom}
 use Rattle.promise_store.specs.declared.records.Record.{Record}
@@ -8,7 +8,7 @@ use Rattle.promise_store.specs.Records.{IsRecord, record_text}
 use Rattle.promise_store.specs.declared.stage.Stage.{Stage}
 use Rattle.promise_store.specs.Stages.{head_of, stage_after}
 use Rattle.promise_store.specs.Journals.{IsJournal, IsJournalOf, gate_behind, IsEither}
-use Rattle.promise_store.specs.Settled.{IsSettled}
+use Rattle.promise_store.specs.Settled.{IsSettled, IsAddition}
 use Rattle.promise_store.proofs.Journals.{one_journal}
 use Rattle.promise_store.proofs.Stages.{same_gate}
 use Rattle.promise_store.proofs.Writes.{within, torn_behind, IsStaged, staged_by, staged_long, gate_torn, gate_written, place_push}
@@ -18,6 +18,14 @@ pub goes_on : (past between since : ℕ → List ℕ → Type 0) (P Q R : List �
     → ((image : List ℕ) → P image → R image) → ((image : List ℕ) → Q image → R image) → During past since R
 goes_on past between since P Q R first second p q t image left =
     ⊎_elim (λ earlier. ⊎_elim (λ was. inl was) (λ now. inr (p image now)) (first t image earlier)) (λ now. inr (q image now)) (second t image left)
+
+-- what is said of an addition is said of its four parts, one by one
+pub addition_by_parts : {D : Type 0} (g : Ghosts D) (first last next : Stage) (head : List ℕ) (records : List Record) (r : Record) (gate : ℕ) (text : List ℕ) (disk : D) (This : Type 0)
+    → (IsAddition g first last next head records r gate text disk → This) ↔ (IsSettled g first last head records gate disk → stage_after last r ≡ Some next → IsRecord r → text ≡ record_text r ++ 0 ∷ [] → This)
+addition_by_parts g first last next head records r gate text disk This = (
+  λ of settled follows is_record text_is. of (record { settled = settled; follows = follows; is_record = is_record; text_is = text_is }),
+  λ of is. of is.settled is.follows is.is_record is.text_is,
+)
 
 module _ {D : Type 0} (g : Ghosts D) (honest : (disk : D) (image : List ℕ) → g.images disk image → IsTrue g.is_honest)
     (first last next : Stage) (head : List ℕ) (records : List Record) (r : Record) (follows : stage_after last r ≡ Some next) (fits : IsRecord r)

@@ -1,6 +1,6 @@
 -- An opening that appends what changes nothing.
 use Rattle.std.proofs.Common.{◌≡◌, ◌⊎◌, inl, inr, ℕ, ◌≤◌, List, ◌∙◌, subst, arith}
-use Rattle.std.specs.Prelude.{IsTrue, Result, Ok, Err, IfOk, IfErr}
+use Rattle.std.specs.Prelude.{◌↔◌, IsTrue, Result, Ok, Err, IfOk, IfErr}
 use Rattle.promise_store.specs.declared.disk.Disk.{Ghosts}
 use Rattle.promise_store.specs.declared.store.Store.{Store}
 use Rattle.promise_store.specs.declared.stage.Stage.{Stage}
@@ -12,7 +12,13 @@ use Rattle.promise_store.specs.declared.records.Record.{Record}
 use Rattle.promise_store.specs.declared.stage.Stage.TheVariants.{New}
 use Rattle.promise_store.specs.Stages.{marked}
 use Rattle.promise_store.specs.Journals.{IsJournalOf}
+use Rattle.promise_store.specs.Opening.{disk_behind, IsMarked}
 use Rattle.promise_store.specs.Keeping.{disk_of, KeepsAt, Keeps, Leaves, LeavesDuring, IsOpenedAt, IsOpened, Reopens}
+
+-- what is said of the disk behind an opening is said of the store's, and of the one that is handed back
+pub behind_each : {D : Type 0} (This : D → Type 0) (result : Result (Store D) (D × StoreFault)) → This (disk_behind result) ↔ IfOk result (λ store. This (disk_of store)) × IfErr result (λ refused. This refused.0)
+behind_each This (Ok store) = (λ this. (this, tt), λ both. both.0)
+behind_each This (Err refused) = (λ this. (tt, this), λ both. both.1)
 
 -- a disk that was only read stands for what it stood for
 pub only_read : {D : Type 0} (g : Ghosts D) (head : List ℕ) (before after : D) → OnlyReads g before after → Reopens g head before after
@@ -54,30 +60,22 @@ module _ {D : Type 0} (g : Ghosts D) (head : List ℕ) (stage : Stage) (a : D) (
       ];
     }
 
-  pub on_ok : (result : Result (Store D) (D × StoreFault)) → ((held : model.Store) → KeepsAt g stage head held b → IfOk result (λ after. Leaves g head held held (disk_of after)))
-      → ((held : model.Store) → KeepsAt g stage head held b → IfOk result (λ after. LeavesDuring g head held held (disk_of b) (disk_of after)))
-      → IfOk result (λ after. g.begun (disk_of after) ≡ g.begun (disk_of b)) → IfOk result (λ after. g.count (disk_of b) ≤ g.count (disk_of after))
-      → IfOk result (λ after. Reopens g head a (disk_of after))
-  on_ok (Ok after) leaves during begun counts = reopens_by (disk_of after) leaves during begun counts
-  on_ok (Err x) leaves during begun counts = tt
+  pub on_ok : (result : Result (Store D) (D × StoreFault)) → IsMarked g stage b result → IfOk result (λ after. Reopens g head a (disk_of after))
+  on_ok (Ok after) is_marked = reopens_by (disk_of after) (is_marked.leaves head) (is_marked.during head) is_marked.begun is_marked.counts
+  on_ok (Err x) is_marked = tt
 
-  pub on_err : (result : Result (Store D) (D × StoreFault)) → ((held : model.Store) → KeepsAt g stage head held b → IfErr result (λ x. Leaves g head held held x.0))
-      → ((held : model.Store) → KeepsAt g stage head held b → IfErr result (λ x. LeavesDuring g head held held (disk_of b) x.0))
-      → IfErr result (λ x. g.begun x.0 ≡ g.begun (disk_of b)) → IfErr result (λ x. g.count (disk_of b) ≤ g.count x.0)
-      → IfErr result (λ x. Reopens g head a x.0)
-  on_err (Ok after) leaves during begun counts = tt
-  on_err (Err x) leaves during begun counts = reopens_by x.0 leaves during begun counts
+  pub on_err : (result : Result (Store D) (D × StoreFault)) → IsMarked g stage b result → IfErr result (λ x. Reopens g head a x.0)
+  on_err (Ok after) is_marked = tt
+  on_err (Err x) is_marked = reopens_by x.0 (is_marked.leaves head) (is_marked.during head) is_marked.begun is_marked.counts
 
-  pub keeps_either : (result : Result (Store D) (D × StoreFault)) (old new : model.Store) → IsTrue g.is_honest → Leaves g head old new a
-      → ((held : model.Store) → KeepsAt g stage head held b → IfOk result (λ after. Keeps g head held after))
+  pub keeps_either : (result : Result (Store D) (D × StoreFault)) (old new : model.Store) → IsTrue g.is_honest → Leaves g head old new a → IsMarked g stage b result
       → IfOk result (λ after. Keeps g head old after ⊎ Keeps g head new after)
-  keeps_either (Ok after) old new honest left keeps = elim (either old new honest left) [ inl k ↦ inl (keeps old k) | inr k ↦ inr (keeps new k) ]
-  keeps_either (Err x) old new honest left keeps = tt
+  keeps_either (Ok after) old new honest left is_marked = elim (either old new honest left) [ inl k ↦ inl (is_marked.keeps head old k) | inr k ↦ inr (is_marked.keeps head new k) ]
+  keeps_either (Err x) old new honest left is_marked = tt
 
-  pub opened_by : (result : Result (Store D) (D × StoreFault)) → IsOpenedAt g stage head a b → ((held : model.Store) → KeepsAt g stage head held b → IfOk result (λ after. Keeps g head held after))
-      → IfOk result (λ after. IsOpened g head a after)
-  opened_by (Ok after) opened keeps = record { held = opened.held; keeps = keeps opened.held opened.keeps; stands = opened.stands }
-  opened_by (Err x) opened keeps = tt
+  pub opened_by : (result : Result (Store D) (D × StoreFault)) → IsOpenedAt g stage head a b → IsMarked g stage b result → IfOk result (λ after. IsOpened g head a after)
+  opened_by (Ok after) opened is_marked = record { held = opened.held; keeps = is_marked.keeps head opened.held opened.keeps; stands = opened.stands }
+  opened_by (Err x) opened is_marked = tt
 
 -- the journal that an opening leaves
 pub marked_journal : {D : Type 0} (g : Ghosts D) (first stage last : Stage) (head : List ℕ) (records : List Record) (result : Result (Store D) (D × StoreFault)) → IsTrue g.is_honest → stage ≡ last

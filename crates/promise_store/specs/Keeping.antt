@@ -38,9 +38,17 @@ module _ {D : Type 0} (g : Ghosts D) where
   abbrev pub Keeps : List ℕ → model.Store → Store D → Type 0
   Keeps head held store = KeepsAt New head held store
 
+  -- this of whatever store of the model the store keeps
+  abbrev pub ForKept : Store D → (List ℕ → model.Store → Type 0) → Type 0
+  ForKept store This = (head : List ℕ) (held : model.Store) → Keeps head held store → This head held
+
   -- each image stands for the one store of the model or for the other
   abbrev pub Leaves : List ℕ → model.Store → model.Store → D → Type 0
   Leaves head old new disk = Within (λ image. StandsFor head image old ⊎ StandsFor head image new) (g.images disk)
+
+  -- this of whatever two stores an honest disk stands for one of, as one that a crash left
+  abbrev pub ForEither : List ℕ → D → (model.Store → model.Store → Type 0) → Type 0
+  ForEither head disk This = (old new : model.Store) → IsTrue g.is_honest → Leaves head old new disk → This old new
 
   -- each image at each moment from the one disk on does, or was an image before
   abbrev pub LeavesDuring : List ℕ → model.Store → model.Store → D → D → Type 0

@@ -15,8 +15,10 @@ pub mod Settled
 pub mod Reading
 pub mod Keeping
 pub mod Appended
+pub mod Asking
 pub mod Shown
 pub mod Refusals
+pub mod Opening
 pub mod Laws
 pub mod FaultText
 pub mod NoDisk

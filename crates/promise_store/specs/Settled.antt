@@ -1,10 +1,11 @@
 -- What a disk keeps of a journal, and what calls make of it.
-use Rattle.std.specs.Prelude.{◌≡◌, ℕ, ◌≤◌, List, IsTrue}
+use Rattle.std.specs.Prelude.{◌≡◌, ℕ, ◌≤◌, List, [], ◌∷◌, ◌++◌, Some, Result, IsTrue, OnOk}
 use Rattle.promise_store.specs.declared.disk.Disk.{Ghosts}
 use Rattle.promise_store.specs.declared.records.Record.{Record}
 use Rattle.promise_store.specs.Disks.{Only, During, Within}
 use Rattle.promise_store.specs.declared.stage.Stage.{Stage}
-use Rattle.promise_store.specs.Stages.{head_of}
+use Rattle.promise_store.specs.Stages.{head_of, stage_after}
+use Rattle.promise_store.specs.Records.{IsRecord, record_text}
 use Rattle.promise_store.specs.Journals.{IsJournalOf, gate_behind, IsEither}
 
 module _ {D : Type 0} (g : Ghosts D) where
@@ -29,3 +30,17 @@ module _ {D : Type 0} (g : Ghosts D) where
   -- each image at each moment from the one disk on does, or was an image before
   abbrev pub LeavesRecordsDuring : List ℕ → List Record → List Record → D → D → Type 0
   LeavesRecordsDuring head old new before after = During (g.since before) (g.since after) (IsEither head old new)
+
+  -- the text is that of a record, with a shut gate behind it, which may stand next at this gate of a settled disk
+  pub record IsAddition (first last next : Stage) (head : List ℕ) (records : List Record) (r : Record) (gate : ℕ) (text : List ℕ) (disk : D) : Type 0 where
+    pub settled : IsSettled first last head records gate disk
+    pub follows : stage_after last r ≡ Some next
+    pub is_record : IsRecord r
+    pub text_is : text ≡ record_text r ++ 0 ∷ []
+
+  -- the record was written: after Ok the disk has it behind the others; at each moment of the call, and behind it, whatever
+  -- it answered, each image stands for the records that were there or for those with the one
+  pub record IsWritten {T E : Type 0} (first next : Stage) (head : List ℕ) (records : List Record) (r : Record) (gate : ℕ) (before after : D) (result : Result T E) : Type 0 where
+    pub ok : OnOk result (IsSettled first next head (records ++ r ∷ []) gate after)
+    pub any_moment : LeavesRecordsDuring head records (records ++ r ∷ []) before after
+    pub leaves : LeavesRecords head records (records ++ r ∷ []) after

@@ -1,12 +1,10 @@
 //! The four calls of an append.
 
-ghost use Rattle.std.specs.Prelude.{◌≡◌, ◌∷◌, ◌++◌, [], ◌+◌, ◌≤◌, ℕ, List, Some, length, IsTrue, OnOk};
+ghost use Rattle.std.specs.Prelude.{◌≡◌, ◌+◌, ◌≤◌, ℕ, List, length, IsTrue, OnOk};
 ghost use Rattle.promise_store.specs.declared.records.Record.{Record};
 ghost use Rattle.promise_store.specs.declared.stage.Stage.{Stage};
-ghost use Rattle.promise_store.specs.Stages.{stage_after};
 ghost use Rattle.promise_store.specs.Disks.{Holds, TornFrom, Within, Only, During, Counts};
-ghost use Rattle.promise_store.specs.Records.{IsRecord, record_text};
-ghost use Rattle.promise_store.specs.Settled.{IsSettled, LeavesRecords, LeavesRecordsDuring};
+ghost use Rattle.promise_store.specs.Settled.{IsAddition, IsWritten};
 
 use crate::disk::{Disk, DiskFault};
 
@@ -29,12 +27,8 @@ pub fn write_through<D: Disk>(disk: &mut D, at: usize, bytes: &[u8]) -> Result<(
 /// no record, so until the last call the journal is the one before; and from then on the record is whole, also where it
 /// is one of 64 commands: one gate stands before all of it.
 pub fn write_record<D: Disk>(disk: &mut D, gate: usize, text: &[u8]) -> Result<(), DiskFault>
-    ensures ok { (first last next : Stage) (head : List ℕ) (records : List Record) (r : Record) → IsSettled D.Disk first last head records gate disk.old → stage_after last r ≡ Some next → IsRecord r → text.now ≡ record_text r ++ 0 ∷ []
-        → OnOk result (IsSettled D.Disk first next head (records ++ r ∷ []) (gate + length text.now) disk.new) }
-    ensures any_moment { (first last next : Stage) (head : List ℕ) (records : List Record) (r : Record) → IsSettled D.Disk first last head records gate disk.old → stage_after last r ≡ Some next → IsRecord r → text.now ≡ record_text r ++ 0 ∷ []
-        → LeavesRecordsDuring D.Disk head records (records ++ r ∷ []) disk.old disk.new }
-    ensures leaves { (first last next : Stage) (head : List ℕ) (records : List Record) (r : Record) → IsSettled D.Disk first last head records gate disk.old → stage_after last r ≡ Some next → IsRecord r → text.now ≡ record_text r ++ 0 ∷ []
-        → LeavesRecords D.Disk head records (records ++ r ∷ []) disk.new }
+    ensures written { (first last next : Stage) (head : List ℕ) (records : List Record) (r : Record) → IsAddition D.Disk first last next head records r gate text.now disk.old
+        → IsWritten D.Disk first next head records r (gate + length text.now) disk.old disk.new result }
     ensures begun { D.begun disk.new ≡ D.begun disk.old }
     ensures failed { Counts result (D.count disk.old) (D.count disk.new) }
 {

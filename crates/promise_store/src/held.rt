@@ -49,14 +49,16 @@ impl Held {
         self.promised
     }
 
-    /// Where the entry of a slot stands, and its ballot; `None` where nothing was accepted there.
+    /// Where the entry of a slot stands, and its ballot; `None` where nothing was accepted there. It keeps the index to this
+    /// crate.
     pub fn find(&self, slot: u32) -> Option<Placed>
         ensures { result ≡ placed_in self.now slot }
     {
         find(&self.entries, slot)
     }
 
-    /// Makes room for so many entries more. An `Err` changes nothing but the room.
+    /// Makes room for so many entries more. An `Err` changes nothing but the room. It keeps the index to this file, and
+    /// what the index says stays.
     pub(crate) fn reserve(&mut self, additional: usize) -> Result<(), AllocError>
         ensures room { OnOk result (additional ≤ room self.new) }
         ensures more { room self.old ≤ room self.new }

@@ -71,14 +71,14 @@ impl MemoryDisk {
         })
     }
 
-    /// What a read gives.
+    /// What a read gives: what the medium has, which is private.
     pub fn bytes(&self) -> &[u8]
         ensures { result.now ≡ seen_of (medium_of self.now) }
     {
         self.medium.bytes()
     }
 
-    /// All calls that changed the file, or what a crash may leave of it.
+    /// All calls that changed the file, or what a crash may leave of it: those that the medium noted.
     pub fn calls(&self) -> &[Call]
         ensures { result.now ≡ calls_of (medium_of self.now) }
     {

@@ -52,7 +52,7 @@ impl OnceDisk {
         }
     }
 
-    /// What a read gives.
+    /// What a read gives: what the medium has, which is private.
     pub fn bytes(&self) -> &[u8]
         ensures { result.now ≡ seen_of (medium_of self.now) }
     {

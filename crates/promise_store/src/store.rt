@@ -1,6 +1,6 @@
 //! What an acceptor may never forget, on a disk.
 
-ghost use Rattle.std.specs.Prelude.{◌≡◌, ◌≢◌, ◌⊎◌, ◌↔◌, ◌∷◌, ◌++◌, [], ◌+◌, ◌<◌, ◌≤◌, ℕ, List, Some, Ok, true, false, length, IsTrue, IsErrOf, IsOk, IfOk, IfErr, IfSome, OnOk};
+ghost use Rattle.std.specs.Prelude.{◌≡◌, ◌≢◌, ◌⊎◌, ◌∷◌, ◌++◌, [], ◌+◌, ◌<◌, ◌≤◌, ℕ, List, Some, Ok, true, false, length, IsTrue, IsErrOf, IsOk, IfOk, IfErr, IfSome, OnOk};
 ghost use Rattle.paxos_wire.specs.Fits.{IsBallot, IsSlot, IsInRange, IsCommandRun, IsEntry};
 ghost use Rattle.protocol_model.specs.Stores as model;
 ghost use Rattle.promise_store.specs.Disks.{Rose, TornFrom, Within};
@@ -57,9 +57,11 @@ impl<D: Disk + Drop> Drop for Store<D> {
 impl<D: Disk> Store<D> {
     ghost use Rattle.promise_store.specs.Holding.{stored, StandsFor};
     ghost use Rattle.promise_store.specs.Settled.{OnlyReads, IsSettled};
-    ghost use Rattle.promise_store.specs.Keeping.{disk_of, is_closed, held_of, KeepsAt, Keeps, Leaves, LeavesDuring, IsOpenedAt, IsOpened, Reopens};
+    ghost use Rattle.promise_store.specs.Keeping.{disk_of, is_closed, held_of, Keeps, ForKept, ForEither, IsOpened, Reopens};
     ghost use Rattle.promise_store.specs.Refusals.{Refuses};
+    ghost use Rattle.promise_store.specs.Opening.{disk_behind, WhereNew, IsStoreRead, IsMarked};
     ghost use Rattle.promise_store.specs.Appended.{IsAsBefore, AppendedAt, Appended};
+    ghost use Rattle.promise_store.specs.Asking.{IsAsking};
     ghost use Rattle.promise_store.specs.Shown.{vote_pair, vote_ballot, placed_ballot, pair_ballot};
     ghost use Rattle.promise_store.specs.Room.{room, promised_in, placed_in, AreWithinRanges, room_for, ShowSame};
     ghost use Rattle.protocol_model.specs.Backing.{IsWithinPromise};
@@ -79,8 +81,7 @@ impl<D: Disk> Store<D> {
         ensures new { IfOk result (λ store. IsTrue D.is_honest → IsJournalOf New New (header node nodes) (D.seen (disk_of store)) []) }
         ensures failed { IfErr result (λ x. (x.1 ≡ StoreFault.Disk) × Rose (D.count disk) (D.count x.0)) }
         ensures torn { IfErr result (λ x. Within (TornFrom 0 9 (D.images disk)) (D.images x.0)) }
-        ensures begun { IfOk result (λ store. D.begun (disk_of store) ≡ D.begun disk) }
-        ensures begun_err { IfErr result (λ x. D.begun x.0 ≡ D.begun disk) }
+        ensures begun { D.begun (disk_behind result) ≡ D.begun disk }
         ensures counts { IfOk result (λ store. D.count (disk_of store) ≡ D.count disk) }
         ensures counts_err { IfErr result (λ x. D.count disk ≤ D.count x.0) }
     {
@@ -107,10 +108,8 @@ impl<D: Disk> Store<D> {
         ensures opened { IfOk result (λ store. IsOpened D.Disk (header node nodes) disk store) }
         ensures refused { IsTrue D.is_honest → IfErr result (λ x. Refuses (header node nodes) (D.seen disk) x.1) }
         // A disk that stands for one of two stores, as one that a crash left, is opened as the one that it has.
-        ensures either { (old new : model.Store) → IsTrue D.is_honest → Leaves D.Disk (header node nodes) old new disk
-            → IfOk result (λ store. Keeps D.Disk (header node nodes) old store ⊎ Keeps D.Disk (header node nodes) new store) }
-        ensures sound { (old new : model.Store) → IsTrue D.is_honest → Leaves D.Disk (header node nodes) old new disk
-            → IfErr result (λ x. (x.1 ≡ StoreFault.Disk) ⊎ (x.1 ≡ StoreFault.OutOfMemory)) }
+        ensures either { ForEither D.Disk (header node nodes) disk (λ old new. IfOk result (λ store. Keeps D.Disk (header node nodes) old store ⊎ Keeps D.Disk (header node nodes) new store)) }
+        ensures sound { ForEither D.Disk (header node nodes) disk (λ old new. IfErr result (λ x. (x.1 ≡ StoreFault.Disk) ⊎ (x.1 ≡ StoreFault.OutOfMemory))) }
         // At each moment each image stands for what it stood for.
         ensures settles { IfOk result (λ store. Reopens D.Disk (header node nodes) disk (disk_of store)) }
         ensures settles_err { IfErr result (λ x. Reopens D.Disk (header node nodes) disk x.0) }
@@ -119,10 +118,8 @@ impl<D: Disk> Store<D> {
         ensures marks { IsTrue D.is_honest → (first last : Stage) (records : List Record) → IsJournalOf first last (header node nodes) (D.seen disk) records
             → IfOk result (λ store. IsJournalOf first New (header node nodes) (D.seen (disk_of store)) (marked last records)) }
         // One that goes on with version 2 is only read.
-        ensures quiet { IsTrue D.is_honest → (first : Stage) (records : List Record) → IsJournalOf first New (header node nodes) (D.seen disk) records
-            → IfOk result (λ store. OnlyReads D.Disk disk (disk_of store)) }
-        ensures quiet_err { IsTrue D.is_honest → (first : Stage) (records : List Record) → IsJournalOf first New (header node nodes) (D.seen disk) records
-            → IfErr result (λ x. OnlyReads D.Disk disk x.0) }
+        ensures quiet { WhereNew D.Disk (header node nodes) disk (IfOk result (λ store. OnlyReads D.Disk disk (disk_of store))) }
+        ensures quiet_err { WhereNew D.Disk (header node nodes) disk (IfErr result (λ x. OnlyReads D.Disk disk x.0)) }
         // So is each that is refused, but where the disk failed.
         ensures unwritten { IfErr result (λ x. x.1 ≢ StoreFault.Disk → OnlyReads D.Disk disk x.0) }
         ensures failed { IfErr result (λ x. x.1 ≡ StoreFault.Disk → Rose (D.count disk) (D.count x.0)) }
@@ -157,18 +154,7 @@ impl<D: Disk> Store<D> {
         node: u8,
         nodes: u8,
     ) -> Result<(Store<D>, Stage), (D, StoreFault)>
-        ensures opened { IfOk result (λ x. IsOpenedAt D.Disk x.1 (header node nodes) disk x.0) }
-        ensures refused { IsTrue D.is_honest → IfErr result (λ x. Refuses (header node nodes) (D.seen disk) x.1) }
-        ensures either { (old new : model.Store) → IsTrue D.is_honest → Leaves D.Disk (header node nodes) old new disk
-            → IfOk result (λ x. KeepsAt D.Disk x.1 (header node nodes) old x.0 ⊎ KeepsAt D.Disk x.1 (header node nodes) new x.0) }
-        ensures sound { (old new : model.Store) → IsTrue D.is_honest → Leaves D.Disk (header node nodes) old new disk
-            → IfErr result (λ x. (x.1 ≡ StoreFault.Disk) ⊎ (x.1 ≡ StoreFault.OutOfMemory)) }
-        ensures read { IsTrue D.is_honest → (first last : Stage) (records : List Record) → IsJournalOf first last (header node nodes) (D.seen disk) records
-            → IfOk result (λ x. (x.1 ≡ last) × IsSettled D.Disk first last (header node nodes) records x.0.gate x.0.disk) }
-        ensures is_open { IfOk result (λ x. is_closed x.0 ≡ false) }
-        ensures reads { IfOk result (λ x. OnlyReads D.Disk disk (disk_of x.0)) }
-        ensures reads_err { IfErr result (λ x. OnlyReads D.Disk disk x.0) }
-        ensures failed { IfErr result (λ x. x.1 ≡ StoreFault.Disk → Rose (D.count disk) (D.count x.0)) }
+        ensures { IsStoreRead D.Disk (header node nodes) disk result }
     {
         journals_have_one_reading();
         match read_journal(alloc, &mut disk, node, nodes) {
@@ -188,20 +174,7 @@ impl<D: Disk> Store<D> {
     /// Has the store go on with version 2, by a record behind the others where they are of version 1. With a fault the
     /// disk is handed back.
     fn mark(mut self, stage: Stage) -> Result<Store<D>, (D, StoreFault)>
-        ensures keeps { (head : List ℕ) (held : model.Store) → KeepsAt D.Disk stage head held self → IfOk result (λ after. Keeps D.Disk head held after) }
-        ensures leaves { (head : List ℕ) (held : model.Store) → KeepsAt D.Disk stage head held self → IfOk result (λ after. Leaves D.Disk head held held (disk_of after)) }
-        ensures leaves_err { (head : List ℕ) (held : model.Store) → KeepsAt D.Disk stage head held self → IfErr result (λ x. Leaves D.Disk head held held x.0) }
-        ensures during { (head : List ℕ) (held : model.Store) → KeepsAt D.Disk stage head held self → IfOk result (λ after. LeavesDuring D.Disk head held held (disk_of self) (disk_of after)) }
-        ensures during_err { (head : List ℕ) (held : model.Store) → KeepsAt D.Disk stage head held self → IfErr result (λ x. LeavesDuring D.Disk head held held (disk_of self) x.0) }
-        ensures marks { (first : Stage) (head : List ℕ) (records : List Record) → IsSettled D.Disk first stage head records self.gate self.disk
-            → IfOk result (λ after. IsSettled D.Disk first New head (marked stage records) after.gate after.disk) }
-        ensures quiet { stage ≡ New → result ≡ Ok self }
-        ensures begun { IfOk result (λ after. D.begun (disk_of after) ≡ D.begun (disk_of self)) }
-        ensures begun_err { IfErr result (λ x. D.begun x.0 ≡ D.begun (disk_of self)) }
-        ensures counts { IfOk result (λ after. D.count (disk_of self) ≤ D.count (disk_of after)) }
-        ensures counts_err { IfErr result (λ x. D.count (disk_of self) ≤ D.count x.0) }
-        ensures failed { IfErr result (λ x. x.1 ≡ StoreFault.Disk → Rose (D.count (disk_of self)) (D.count x.0)) }
-        ensures only { IfErr result (λ x. (x.1 ≡ StoreFault.Disk) ⊎ (is_closed self ≡ true)) }
+        ensures { IsMarked D.Disk stage self result }
     {
         what_is_kept_is_left::<D>();
         match stage {
@@ -233,7 +206,7 @@ impl<D: Disk> Store<D> {
         self.closed
     }
 
-    /// How many calls of its disk have failed; it stays at its last value.
+    /// How many calls of its disk have failed; it stays at its last value. The disk counts them.
     pub fn failures(&self) -> u64
         ensures { result ≡ D.count (disk_of self.now) }
     {
@@ -250,17 +223,17 @@ impl<D: Disk> Store<D> {
     /// What the store holds: the promised ballot, and where each slot's entry stands.
     pub fn held(&self) -> &Held
         ensures value { result.now ≡ held_of self.now }
-        ensures promise { (head : List ℕ) (held : model.Store) → Keeps D.Disk head held self.now → IsTrue D.is_honest → promised_in result.now ≡ held.promise }
-        ensures votes { (head : List ℕ) (held : model.Store) → Keeps D.Disk head held self.now → IsTrue D.is_honest
-            → (slot : ℕ) → placed_ballot (placed_in result.now slot) ≡ vote_ballot (held.votes slot) }
-        ensures within { (head : List ℕ) (held : model.Store) → Keeps D.Disk head held self.now → IsWithinPromise held }
+        ensures promise { ForKept D.Disk self.now (λ head held. IsTrue D.is_honest → promised_in result.now ≡ held.promise) }
+        ensures votes { ForKept D.Disk self.now (λ head held. IsTrue D.is_honest → (slot : ℕ) → placed_ballot (placed_in result.now slot) ≡ vote_ballot (held.votes slot)) }
+        ensures within { ForKept D.Disk self.now (λ head held. IsWithinPromise held) }
         // On any disk, also one that isn't honest.
         ensures ranges { AreWithinRanges result.now }
     {
         &self.held
     }
 
-    /// Makes room for so many entries more, so that accepting them takes no memory. An `Err` changes nothing.
+    /// Makes room for so many entries more, so that accepting them takes no memory. An `Err` changes nothing. What is
+    /// held makes it; said is that the store keeps what it kept.
     pub fn reserve(&mut self, additional: usize) -> Result<(), AllocError>
         ensures room { OnOk result (additional ≤ room (held_of self.new)) }
         ensures succeeds { additional ≤ room (held_of self.old) → IsOk result }
@@ -365,17 +338,8 @@ impl<D: Disk> Store<D> {
     ///
     /// Refused are 64 at a closed store, and 63 where the disk failed; 62 never where the disk is honest.
     pub fn entry(&mut self, slot: u32) -> Result<Option<(Ballot, Command)>, StoreFault>
-        ensures found { (head : List ℕ) (held : model.Store) → Keeps D.Disk head held self.old → IsTrue D.is_honest
-            → IfOk result (λ found. found ≡ vote_pair (held.votes slot)) }
-        ensures keeps { (head : List ℕ) (held : model.Store) → Keeps D.Disk head held self.old → OnOk result (Keeps D.Disk head held self.new) }
-        ensures sound { (head : List ℕ) (held : model.Store) → Keeps D.Disk head held self.old → IsTrue D.is_honest → IfErr result (λ fault. fault ≡ StoreFault.Disk) }
-        ensures reads { OnlyReads D.Disk (disk_of self.old) (disk_of self.new) }
-        ensures held { held_of self.new ≡ held_of self.old }
-        ensures failed { IsErrOf result StoreFault.Disk → Rose (D.count (disk_of self.old)) (D.count (disk_of self.new)) × (is_closed self.new ≡ true) }
-        ensures closed { IsErrOf result StoreFault.Closed ↔ (is_closed self.old ≡ true) }
-        ensures stays { (IsErrOf result StoreFault.Disk → ⊥) → is_closed self.new ≡ is_closed self.old }
-        ensures as_before { IsErrOf result StoreFault.Closed → IsAsBefore D.Disk self.old self.new }
-        ensures only { IfErr result (λ fault. (fault ≡ StoreFault.Disk) ⊎ ((fault ≡ StoreFault.Closed) ⊎ (fault ≡ StoreFault.BadRecord))) }
+        ensures found { ForKept D.Disk self.old (λ head held. IsTrue D.is_honest → IfOk result (λ found. found ≡ vote_pair (held.votes slot))) }
+        ensures asking { IsAsking D.Disk self.old self.new result }
         // On any disk, also one that isn't honest: found is what the index shows.
         ensures shown { IfOk result (λ found. pair_ballot found ≡ placed_ballot (placed_in (held_of self.old) slot)) }
         ensures range { IfOk result (λ found. IfSome found (λ vote. IsEntry (record { slot = slot; ballot = vote.0; command = vote.1 }))) }

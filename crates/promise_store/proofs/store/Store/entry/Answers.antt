@@ -17,13 +17,23 @@ returns-in-Ok-clause-found g c head held keeps honest =
     let read = c.in-Ok.ensures.found honest small entry.0 entry.2.rest entry.2.is entry.2.text in
     ap (λ (command : Command). Some (placed.ballot, command)) read ∙ sym (ap vote_pair (ap (λ s. s.votes c.args.slot) keeps.is ∙ entry.1))
 
-pub returns-after-matches-clause-sound : goal.returns-after-matches-clause-sound
-returns-after-matches-clause-sound g c head held keeps honest =
-    let store = c.args.self.now in
-    let placed = c.in-Some.placed in
-    let entry = indexed head (g.D.Disk.seen store.disk) keeps.records (keeps.first, New, keeps.settled.journal honest) c.args.slot store.held placed (keeps.indexes honest) (sym c.find.ensures ∙ c.in-Some.is) in
-    let small : placed.place + placed.inside < 2 ^ 64 = omega (arith, entry.2.within, g.met.D.Disk.is_small store.disk honest) in
-    c.in-Err.ensures.found honest small entry.0 entry.2.rest entry.2.is entry.2.text
+pub returns-after-matches-clause-asking : goal.returns-after-matches-clause-asking
+returns-after-matches-clause-asking g c = record {
+  keeps = search rules;
+  reads = search rules;
+  held = search rules;
+  sound = λ head held keeps honest.
+      let store = c.args.self.now in
+      let placed = c.in-Some.placed in
+      let entry = indexed head (g.D.Disk.seen store.disk) keeps.records (keeps.first, New, keeps.settled.journal honest) c.args.slot store.held placed (keeps.indexes honest) (sym c.find.ensures ∙ c.in-Some.is) in
+      let small : placed.place + placed.inside < 2 ^ 64 = omega (arith, entry.2.within, g.met.D.Disk.is_small store.disk honest) in
+      c.in-Err.ensures.found honest small entry.0 entry.2.rest entry.2.is entry.2.text;
+  failed = search rules;
+  stays = search rules;
+  closed = search rules;
+  as_before = search rules;
+  only = search rules;
+}
 
 pub returns-in-Ok-clause-range : goal.returns-in-Ok-clause-range
 returns-in-Ok-clause-range g c =
@@ -38,6 +48,3 @@ returns-in-Ok-clause-range g c =
 
 pub returns-in-Ok-clause-shown : goal.returns-in-Ok-clause-shown
 returns-in-Ok-clause-shown g c = ap placed_ballot (sym (sym c.find.ensures ∙ c.in-Some.is))
-
-pub returns-in_default-clause-failed : goal.returns-in_default-clause-failed
-returns-in_default-clause-failed g c = search rules

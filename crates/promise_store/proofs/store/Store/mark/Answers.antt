@@ -1,10 +1,11 @@
-use Rattle.std.proofs.Common.{◌≡◌, ◌⊎◌, ◌≤◌, inl, inr, List, Err, refl, sym, ap, subst, true}
+use Rattle.std.proofs.Common.{◌≡◌, ◌⊎◌, ◌≤◌, ℕ, inl, inr, List, Err, refl, sym, ◌∙◌, ap, subst, arith, true}
 use Rattle.std.specs.Prelude.{IsErrOf}
 use Rattle.promise_store.specs.declared.records.Record.{Record}
 use Rattle.promise_store.specs.declared.stage.Stage.{Stage}
 use Rattle.promise_store.specs.declared.stage.Stage.TheVariants.{Old, New}
 use Rattle.promise_store.specs.declared.fault.StoreFault.{StoreFault}
 use Rattle.promise_store.specs.declared.fault.StoreFault.TheVariants.{Disk, Closed, OutOfMemory}
+use Rattle.protocol_model.specs.Stores as model
 use Rattle.promise_store.specs.Disks.{Rose}
 use Rattle.promise_store.specs.Stages.{marked}
 use Rattle.promise_store.specs.Settled.{IsSettled}
@@ -16,45 +17,60 @@ only_so fault closed memory (inl disk) = inl disk
 only_so fault closed memory (inr (inl is)) = inr (closed is)
 only_so fault closed memory (inr (inr is)) = absurd (memory is)
 
-pub returns-in-Ok-clause-keeps : goal.returns-in-Ok-clause-keeps
-returns-in-Ok-clause-keeps g c head held keeps = (c.in-Ok.ensures.appended Old New refl).ok head held (subst (λ (s : Stage). KeepsAt g.D.Disk s head held c.args.self) c.in-Old.is keeps)
+IsNew : Stage → Type 0
+IsNew Old = ⊥
+IsNew New = Unit {0}
 
-pub returns-in-Ok-clause-leaves : goal.returns-in-Ok-clause-leaves
-returns-in-Ok-clause-leaves g c head held keeps = (c.in-Ok.ensures.appended Old New refl).leaves head held (subst (λ (s : Stage). KeepsAt g.D.Disk s head held c.args.self) c.in-Old.is keeps)
+old_is_not_new : (stage : Stage) → stage ≡ Old → stage ≡ New → ⊥
+unfolding IsNew
+old_is_not_new stage old new = subst IsNew (sym new ∙ old) tt
 
-pub returns-in-Ok-clause-during : goal.returns-in-Ok-clause-during
-returns-in-Ok-clause-during g c head held keeps = (c.in-Ok.ensures.appended Old New refl).any_moment head held (subst (λ (s : Stage). KeepsAt g.D.Disk s head held c.args.self) c.in-Old.is keeps)
+pub returns-in-New : goal.returns-in-New
+returns-in-New g c =
+    let is_new = c.in-New.is in
+    let same = λ (head : List ℕ) (held : model.Store) (keeps : KeepsAt g.D.Disk c.args.stage head held c.args.self). subst (λ (s : Stage). KeepsAt g.D.Disk s head held c.args.self) is_new keeps in
+    record {
+      keeps = same;
+      leaves = λ head held keeps. c.what_is_kept_is_left.ensures head held c.args.self (same head held keeps);
+      during = λ head held keeps t image is. inl is;
+      marks = λ first head records settled. subst (λ (s : Stage). IsSettled g.D.Disk first New head (marked s records) c.args.self.gate c.args.self.disk) (sym is_new) (subst (λ (s : Stage). IsSettled g.D.Disk first s head records c.args.self.gate c.args.self.disk) is_new settled);
+      quiet = λ new. refl;
+      failed = tt;
+      only = tt;
+      begun = refl;
+      counts = omega arith;
+    }
 
-pub returns-in-Ok-clause-marks : goal.returns-in-Ok-clause-marks
-returns-in-Ok-clause-marks g c first head records settled =
-    subst (λ (s : Stage). IsSettled g.D.Disk first New head (marked s records) c.append.new.self.gate c.append.new.self.disk) (sym c.in-Old.is)
-    (c.in-Ok.ensures.settled first Old New head records refl (subst (λ (s : Stage). IsSettled g.D.Disk first s head records c.args.self.gate c.args.self.disk) c.in-Old.is settled))
+pub returns-in-Ok : goal.returns-in-Ok
+returns-in-Ok g c =
+    let appended = c.in-Ok.ensures.appended Old New refl in
+    let is_old = λ (head : List ℕ) (held : model.Store) (keeps : KeepsAt g.D.Disk c.args.stage head held c.args.self). subst (λ (s : Stage). KeepsAt g.D.Disk s head held c.args.self) c.in-Old.is keeps in
+    record {
+      keeps = λ head held keeps. appended.ok head held (is_old head held keeps);
+      leaves = λ head held keeps. appended.leaves head held (is_old head held keeps);
+      during = λ head held keeps. appended.any_moment head held (is_old head held keeps);
+      marks = λ first head records settled.
+          subst (λ (s : Stage). IsSettled g.D.Disk first New head (marked s records) c.append.new.self.gate c.append.new.self.disk) (sym c.in-Old.is)
+          (c.in-Ok.ensures.settled first Old New head records refl (subst (λ (s : Stage). IsSettled g.D.Disk first s head records c.args.self.gate c.args.self.disk) c.in-Old.is settled));
+      quiet = λ new. absurd (old_is_not_new c.args.stage c.in-Old.is new);
+      failed = tt;
+      only = tt;
+      begun = appended.begun;
+      counts = appended.counts;
+    }
 
-pub returns-in-Ok-clause-begun : goal.returns-in-Ok-clause-begun
-returns-in-Ok-clause-begun g c = (c.in-Ok.ensures.appended Old New refl).begun
-
-pub returns-in-Ok-clause-counts : goal.returns-in-Ok-clause-counts
-returns-in-Ok-clause-counts g c = (c.in-Ok.ensures.appended Old New refl).counts
-
-pub returns-in-Err-clause-leaves_err : goal.returns-in-Err-clause-leaves_err
-returns-in-Err-clause-leaves_err g c head held keeps =
-    subst (Leaves g.D.Disk head held held) (sym c.into_disk.ensures) ((c.in-Err.ensures.appended Old New refl).leaves head held (subst (λ (s : Stage). KeepsAt g.D.Disk s head held c.args.self) c.in-Old.is keeps))
-
-pub returns-in-Err-clause-during_err : goal.returns-in-Err-clause-during_err
-returns-in-Err-clause-during_err g c head held keeps =
-    subst (LeavesDuring g.D.Disk head held held (disk_of c.args.self)) (sym c.into_disk.ensures) ((c.in-Err.ensures.appended Old New refl).any_moment head held (subst (λ (s : Stage). KeepsAt g.D.Disk s head held c.args.self) c.in-Old.is keeps))
-
-pub returns-in-Err-clause-begun_err : goal.returns-in-Err-clause-begun_err
-returns-in-Err-clause-begun_err g c = subst (λ d. g.D.Disk.begun d ≡ g.D.Disk.begun (disk_of c.args.self)) (sym c.into_disk.ensures) (c.in-Err.ensures.appended Old New refl).begun
-
-pub returns-in-Err-clause-counts_err : goal.returns-in-Err-clause-counts_err
-returns-in-Err-clause-counts_err g c = subst (λ d. g.D.Disk.count (disk_of c.args.self) ≤ g.D.Disk.count d) (sym c.into_disk.ensures) (c.in-Err.ensures.appended Old New refl).counts
-
-pub returns-in-Err-clause-failed : goal.returns-in-Err-clause-failed
-returns-in-Err-clause-failed g c is =
-    subst (λ d. Rose (g.D.Disk.count (disk_of c.args.self)) (g.D.Disk.count d)) (sym c.into_disk.ensures) ((c.in-Err.ensures.appended Old New refl).failed (ap Err is)).0
-
-pub returns-in-Err-clause-only : goal.returns-in-Err-clause-only
-returns-in-Err-clause-only g c =
+pub returns-in-Err : goal.returns-in-Err
+returns-in-Err g c =
     let appended = c.in-Err.ensures.appended Old New refl in
-    only_so c.in-Err.fault (λ is. appended.closed.0 (ap Err is)) (λ is. c.in-Err.ensures.memory (ap Err is)) appended.only
+    let is_old = λ (head : List ℕ) (held : model.Store) (keeps : KeepsAt g.D.Disk c.args.stage head held c.args.self). subst (λ (s : Stage). KeepsAt g.D.Disk s head held c.args.self) c.in-Old.is keeps in
+    record {
+      keeps = λ head held keeps. tt;
+      leaves = λ head held keeps. subst (Leaves g.D.Disk head held held) (sym c.into_disk.ensures) (appended.leaves head held (is_old head held keeps));
+      during = λ head held keeps. subst (LeavesDuring g.D.Disk head held held (disk_of c.args.self)) (sym c.into_disk.ensures) (appended.any_moment head held (is_old head held keeps));
+      marks = λ first head records settled. tt;
+      quiet = λ new. absurd (old_is_not_new c.args.stage c.in-Old.is new);
+      failed = λ is. subst (λ d. Rose (g.D.Disk.count (disk_of c.args.self)) (g.D.Disk.count d)) (sym c.into_disk.ensures) (appended.failed (ap Err is)).0;
+      only = only_so c.in-Err.fault (λ is. appended.closed.0 (ap Err is)) (λ is. c.in-Err.ensures.memory (ap Err is)) appended.only;
+      begun = subst (λ d. g.D.Disk.begun d ≡ g.D.Disk.begun (disk_of c.args.self)) (sym c.into_disk.ensures) appended.begun;
+      counts = subst (λ d. g.D.Disk.count (disk_of c.args.self) ≤ g.D.Disk.count d) (sym c.into_disk.ensures) appended.counts;
+    }

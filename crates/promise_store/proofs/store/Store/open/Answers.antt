@@ -12,28 +12,24 @@ use Rattle.promise_store.proofs.store.Store.open.Goals as goal
 
 pub returns-in-Ok-clause-either : goal.returns-in-Ok-clause-either
 returns-in-Ok-clause-either g c old new honest left =
-    keeps_either g.D.Disk (header c.args.node c.args.nodes) c.in-Ok.stage c.args.disk c.in-Ok.store c.in-Ok.ensures.reads (λ o n h l. c.in-Ok.ensures.either o n h l) c.mark.result old new honest left
-    (λ held k. c.mark.ensures.keeps (header c.args.node c.args.nodes) held k)
+    keeps_either g.D.Disk (header c.args.node c.args.nodes) c.in-Ok.stage c.args.disk c.in-Ok.store c.in-Ok.ensures.reads (λ o n h l. c.in-Ok.ensures.either o n h l) c.mark.result old new honest left c.mark.ensures
 
 pub returns-in-Ok-clause-settles : goal.returns-in-Ok-clause-settles
 returns-in-Ok-clause-settles g c =
     let head = header c.args.node c.args.nodes in
-    on_ok g.D.Disk head c.in-Ok.stage c.args.disk c.in-Ok.store c.in-Ok.ensures.reads (λ o n h l. c.in-Ok.ensures.either o n h l) c.mark.result
-    (λ held k. c.mark.ensures.leaves head held k) (λ held k. c.mark.ensures.during head held k) c.mark.ensures.begun c.mark.ensures.counts
+    on_ok g.D.Disk head c.in-Ok.stage c.args.disk c.in-Ok.store c.in-Ok.ensures.reads (λ o n h l. c.in-Ok.ensures.either o n h l) c.mark.result c.mark.ensures
 
 pub returns-in-Ok-clause-settles_err : goal.returns-in-Ok-clause-settles_err
 returns-in-Ok-clause-settles_err g c =
     let head = header c.args.node c.args.nodes in
-    on_err g.D.Disk head c.in-Ok.stage c.args.disk c.in-Ok.store c.in-Ok.ensures.reads (λ o n h l. c.in-Ok.ensures.either o n h l) c.mark.result
-    (λ held k. c.mark.ensures.leaves_err head held k) (λ held k. c.mark.ensures.during_err head held k) c.mark.ensures.begun_err c.mark.ensures.counts_err
+    on_err g.D.Disk head c.in-Ok.stage c.args.disk c.in-Ok.store c.in-Ok.ensures.reads (λ o n h l. c.in-Ok.ensures.either o n h l) c.mark.result c.mark.ensures
 
 pub returns-in-Err-clause-settles_err : goal.returns-in-Err-clause-settles_err
 returns-in-Err-clause-settles_err g c = only_read g.D.Disk (header c.args.node c.args.nodes) c.args.disk c.in-Err.failed.0 c.in-Err.ensures.reads_err
 
 pub returns-in-Ok-clause-opened : goal.returns-in-Ok-clause-opened
 returns-in-Ok-clause-opened g c =
-    opened_by g.D.Disk (header c.args.node c.args.nodes) c.in-Ok.stage c.args.disk c.in-Ok.store c.in-Ok.ensures.reads (λ o n h l. c.in-Ok.ensures.either o n h l) c.mark.result c.in-Ok.ensures.opened
-    (λ held k. c.mark.ensures.keeps (header c.args.node c.args.nodes) held k)
+    opened_by g.D.Disk (header c.args.node c.args.nodes) c.in-Ok.stage c.args.disk c.in-Ok.store c.in-Ok.ensures.reads (λ o n h l. c.in-Ok.ensures.either o n h l) c.mark.result c.in-Ok.ensures.opened c.mark.ensures
 
 pub returns-in-Ok-clause-marks : goal.returns-in-Ok-clause-marks
 returns-in-Ok-clause-marks g c honest first last records journal =
