@@ -1,12 +1,11 @@
 -- What holds of what is answered to a run of proposals, and of what is stored of it.
-use Rattle.std.proofs.Common.{ℕ, zero, suc, ◌≡◌, ◌+◌, ◌<◌, ◌≤◌, ◌⊎◌, inl, inr, Bool, true, false, not, Option, Some, None, List, [], ◌∷◌, slice_get, refl, sym, ◌∙◌, ap, subst, arith, if◌then◌else◌}
-use Rattle.std.proofs.lemmas.Bool.{eq-eqb}
+use Rattle.std.proofs.Common.{ℕ, zero, suc, ◌≡◌, ◌+◌, ◌<◌, ◌≤◌, ◌⊎◌, inl, inr, Bool, true, false, Option, Some, None, List, [], ◌∷◌, slice_get, refl, sym, ◌∙◌, ap, subst, arith, if◌then◌else◌}
 use Rattle.std.proofs.lemmas.Option.{same_Some}
 use Rattle.paxos_wire.specs.declared.ballot.Ballot.{Ballot}
 use Rattle.paxos_wire.specs.Order.{is_below, is_same_ballot}
 use Rattle.slot_log.specs.declared.command.Command.{Command}
 use Rattle.protocol_model.specs.Sets.{In}
-use Rattle.protocol_model.specs.Ballots.{Below, AtMost}
+use Rattle.protocol_model.specs.Ballots.{Below}
 use Rattle.protocol_model.specs.Messages.{Vote, Message}
 use Rattle.protocol_model.specs.Stores.{Store, voted, Append, unchanged}
 use Rattle.protocol_model.specs.Frames.{proposals}

@@ -1,8 +1,7 @@
-use Rattle.std.proofs.Common.{◌≡◌, ℕ, ◌+◌, ◌<◌, ◌≤◌, List, [], ◌∷◌, ◌++◌, Option, length, take, drop, get_or, refl, sym, ◌∙◌, ap, subst, arith, take-append-drop}
+use Rattle.std.proofs.Common.{◌≡◌, ℕ, ◌+◌, ◌<◌, List, [], ◌∷◌, ◌++◌, Option, length, take, drop, get_or, refl, sym, ◌∙◌, ap, subst, arith, take-append-drop}
 use Rattle.std.proofs.lemmas.List.{take_more, drop_more, length-take-le}
 use Rattle.slot_log.specs.declared.command.Command.{Command}
-use Rattle.paxos_wire.specs.Fits.{IsBallot, IsSlot}
-use Rattle.paxos_wire.specs.declared.ballot.Ballot.{Ballot}
+use Rattle.paxos_wire.specs.Fits.{IsBallot}
 use Rattle.promise_store.specs.declared.placed.Placed.{Placed}
 use Rattle.promise_store.specs.Index.{found}
 use Rattle.promise_store.specs.Holding.{Kept, next_at, placed_of, with_votes}

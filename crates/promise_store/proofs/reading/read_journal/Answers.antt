@@ -1,11 +1,10 @@
 use Rattle.std.proofs.lemmas.Grind.{common_steps}
-use Rattle.std.proofs.Common.{◌≡◌, ◌∙◌, ◌<◌, List, ℕ, length, length-append, drop, take, sym, ap, subst, arith, rules}
+use Rattle.std.proofs.Common.{◌≡◌, ◌∙◌, ◌<◌, List, ℕ, length, length-append, drop, take, sym, ap, subst, arith}
 use Rattle.std.specs.Prelude.{IsTrue}
-use Rattle.promise_store.specs.declared.stage.Stage.{Stage}
 use Rattle.promise_store.specs.Stages.{head_of}
 use Rattle.promise_store.specs.Journals.{header, gated, IsJournalOf, OpensFrom}
 use Rattle.promise_store.proofs.Stages.{head_long}
-use Rattle.promise_store.proofs.Opening.{read_whole, front_head, no_journal, no_head}
+use Rattle.promise_store.proofs.Opening.{read_whole, front_head, no_journal}
 use Rattle.promise_store.proofs.Storing.{on_both, refused_by}
 use Rattle.promise_store.proofs.reading.read_journal.Goals as goal
 

@@ -1,6 +1,4 @@
-use Rattle.std.proofs.Common.{◌≡◌, ◌⊎◌, ◌≤◌, ℕ, inl, inr, List, Err, refl, sym, ◌∙◌, ap, subst, arith, true}
-use Rattle.std.specs.Prelude.{IsErrOf}
-use Rattle.promise_store.specs.declared.records.Record.{Record}
+use Rattle.std.proofs.Common.{◌≡◌, ◌⊎◌, ◌≤◌, ℕ, inl, inr, List, Err, refl, sym, ◌∙◌, ap, subst, arith}
 use Rattle.promise_store.specs.declared.stage.Stage.{Stage}
 use Rattle.promise_store.specs.declared.stage.Stage.TheVariants.{Old, New}
 use Rattle.promise_store.specs.declared.fault.StoreFault.{StoreFault}
@@ -9,7 +7,7 @@ use Rattle.protocol_model.specs.Stores as model
 use Rattle.promise_store.specs.Disks.{Rose}
 use Rattle.promise_store.specs.Stages.{marked}
 use Rattle.promise_store.specs.Settled.{IsSettled}
-use Rattle.promise_store.specs.Keeping.{disk_of, is_closed, KeepsAt, Leaves, LeavesDuring}
+use Rattle.promise_store.specs.Keeping.{disk_of, KeepsAt, Leaves, LeavesDuring}
 use Rattle.promise_store.proofs.store.Store.mark.Goals as goal
 
 only_so : {P : Type 0} (fault : StoreFault) → (fault ≡ Closed → P) → (fault ≡ OutOfMemory → ⊥) → (fault ≡ Disk) ⊎ ((fault ≡ Closed) ⊎ (fault ≡ OutOfMemory)) → (fault ≡ Disk) ⊎ P

@@ -1,4 +1,4 @@
-use Rattle.std.proofs.Common.{refl, rules}
+use Rattle.std.proofs.Common.{refl}
 use Rattle.promise_store.specs.declared.stage.Stage.TheVariants.{New}
 use Rattle.promise_store.proofs.store.Store.promise.Goals as goal
 

@@ -3,7 +3,7 @@ use Rattle.std.specs.Prelude.{IsTrue}
 use Rattle.promise_store.specs.declared.store.Store.{Store}
 use Rattle.protocol_model.specs.Stores as model
 use Rattle.promise_store.specs.Stages.{head_of}
-use Rattle.promise_store.specs.Journals.{header, IsJournal, IsJournalOf, gate_behind}
+use Rattle.promise_store.specs.Journals.{header, IsJournalOf, gate_behind}
 use Rattle.promise_store.specs.Holding.{holding, store_of, StandsFor}
 use Rattle.promise_store.specs.Keeping.{KeepsAt}
 use Rattle.promise_store.proofs.Opening.{no_refusal}
