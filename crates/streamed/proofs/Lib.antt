@@ -11,3 +11,4 @@ pub mod Examples
 pub mod OneCut
 pub mod OneSaying
 pub mod OneOutput
+mod Bundles

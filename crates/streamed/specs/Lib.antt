@@ -5,6 +5,7 @@ pub mod Further
 pub mod Answer
 pub mod Script
 pub mod Running
+pub mod Taking
 pub mod Ending
 pub mod Outcome
 pub mod Verdict

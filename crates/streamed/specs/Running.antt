@@ -40,3 +40,13 @@ pub record Begins (game : Game) (count : ℕ) (log : Option (List ℕ)) (start :
   pub missing : List ℕ
   pub front_shown : output ≡ shown ++ missing
   pub written : Appends start now shown
+
+-- taking these bytes brings a script further: what was read and answered before them is so with them
+abbrev pub GoesOn : List ℕ → Running → Running → Option (List ℕ) → Option (List ℕ) → Type 0
+GoesOn bytes old new held held_after = (game : Game) (count : ℕ) (log start : Option (List ℕ)) (seen : List ℕ) → Shows game count log start seen old held
+    → Shows game count log start (seen ++ bytes) new held_after
+
+-- taking them failed: of what is to be written with them a beginning is written
+abbrev pub BreaksOff : List ℕ → Running → Option (List ℕ) → Option (List ℕ) → Type 0
+BreaksOff bytes old held held_after = (game : Game) (count : ℕ) (log start : Option (List ℕ)) (seen : List ℕ) → Shows game count log start seen old held
+    → Begins game count log start (seen ++ bytes) held_after

@@ -1,14 +1,11 @@
-ghost use Rattle.std.specs.Prelude.{◌≡◌, ℕ, List, [], ◌∷◌, ◌++◌, ◌≤◌, ◌<◌, length, IsSome, IsNone, IfSome, IfNone, OnOk, codes, take, Option as Maybe};
+ghost use Rattle.std.specs.Prelude.{◌≡◌, ℕ, List, [], ◌∷◌, ◌++◌, ◌≤◌, ◌<◌, length, IsSome, IsNone, IfSome, IfNone, OnOk, codes, take};
 ghost use Rattle.std.specs.Option.{ForSome};
 ghost use Rattle.matchstate.specs.Line.{newest_text};
-ghost use Rattle.game_def.specs.Game.{Game};
 ghost use Rattle.betting.specs.Fault.{fault_text};
-ghost use Rattle.betting.specs.declared.action.Action.{Action};
 ghost use Rattle.slot_log.specs.declared.command.Command.{Command as Order};
 ghost use Rattle.streamed.specs.Names.{IsNamesLine};
-ghost use Rattle.streamed.specs.Further.{further_lines as lines_further, printed, printed_header};
-ghost use Rattle.streamed.specs.Answer.{Says, ComesInTurn, Tells, answer, lines_for, line_for, refusal, bad_script};
-ghost use Rattle.streamed.specs.declared.script_line.ScriptLine.{ScriptLine as Said};
+ghost use Rattle.streamed.specs.Further.{printed, printed_header};
+ghost use Rattle.streamed.specs.Answer.{Says, ComesInTurn, lines_for, line_for, refusal, bad_script};
 
 use crate::game_word::GameWord;
 use crate::script_line::ScriptLine;
@@ -34,6 +31,7 @@ pub(crate) struct Dealing<'a> {
 
 impl<'a> Dealing<'a> {
     ghost use Rattle.streamed.specs.Running.{Stands};
+    ghost use Rattle.streamed.specs.Taking.{TellsIt, TellsNoDeal, TellsNoAct, TellsNoAway, TakesIt, AnswersIt, IsSameMatch, further_of};
 
     /// A match of so many hands, 1 to 10000, before the script's first line. With a word for its game the
     /// log is printed.
@@ -93,8 +91,8 @@ impl<'a> Dealing<'a> {
 
     /// What a line tells the dealer.
     fn read_command(&self, line: &[u8]) -> Option<Command>
-        ensures found { IfSome result (λ command. Tells self.now.table.game self.now.table.hands line.now command) }
-        ensures none { IfNone result ((command : Order) → ¬ (Tells self.now.table.game self.now.table.hands line.now command)) }
+        ensures found { IfSome result (TellsIt self.now line.now) }
+        ensures none { IfNone result ((command : Order) → ¬ (TellsIt self.now line.now command)) }
     {
         match self.read_new_deal(line) {
             Some(command) => Some(command),
@@ -104,9 +102,9 @@ impl<'a> Dealing<'a> {
 
     /// What a line tells for the player to act of the newest hand.
     fn read_turn(&self, line: &[u8]) -> Option<Command>
-        ensures found { IfSome result (λ command. Tells self.now.table.game self.now.table.hands line.now command) }
-        ensures no_act { IfNone result ((hand index : ℕ) (action : Action) → ¬ (Tells self.now.table.game self.now.table.hands line.now (Command.Act hand index action))) }
-        ensures no_away { IfNone result ((hand index : ℕ) → ¬ (Tells self.now.table.game self.now.table.hands line.now (Command.Away hand index))) }
+        ensures found { IfSome result (TellsIt self.now line.now) }
+        ensures no_act { IfNone result (TellsNoAct self.now line.now) }
+        ensures no_away { IfNone result (TellsNoAway self.now line.now) }
     {
         match self.read_away(line) {
             Some(command) => Some(command),
@@ -116,8 +114,8 @@ impl<'a> Dealing<'a> {
 
     /// The next hand's deal.
     fn read_new_deal(&self, line: &[u8]) -> Option<Command>
-        ensures found { IfSome result (λ command. Tells self.now.table.game self.now.table.hands line.now command) }
-        ensures none { IfNone result ((hand : ℕ) (deal : List ℕ) → ¬ (Tells self.now.table.game self.now.table.hands line.now (Command.Deal hand deal))) }
+        ensures found { IfSome result (TellsIt self.now line.now) }
+        ensures none { IfNone result (TellsNoDeal self.now line.now) }
     {
         let text = line.strip_prefix(b"deal ")?;
         let deal = read_deal(text, self.table.game().players())?;
@@ -129,8 +127,8 @@ impl<'a> Dealing<'a> {
 
     /// That the player to act of the newest hand is played for.
     fn read_away(&self, line: &[u8]) -> Option<Command>
-        ensures found { IfSome result (λ command. Tells self.now.table.game self.now.table.hands line.now command) }
-        ensures none { IfNone result ((hand index : ℕ) → ¬ (Tells self.now.table.game self.now.table.hands line.now (Command.Away hand index))) }
+        ensures found { IfSome result (TellsIt self.now line.now) }
+        ensures none { IfNone result (TellsNoAway self.now line.now) }
     {
         match line {
             b"away" => self.next_away(),
@@ -140,7 +138,7 @@ impl<'a> Dealing<'a> {
 
     /// The command by which the player to act of the newest hand is played for; none before the first deal.
     fn next_away(&self) -> Option<Command>
-        ensures found { IfSome result (λ command. Tells self.now.table.game self.now.table.hands (codes "away") command) }
+        ensures found { IfSome result (TellsIt self.now (codes "away")) }
         ensures none { IfNone result (length self.now.table.hands ≡ 0) }
     {
         let hand = self.table.dealt().checked_sub(1)?;
@@ -154,8 +152,8 @@ impl<'a> Dealing<'a> {
 
     /// The next action of the newest hand.
     fn read_act(&self, line: &[u8]) -> Option<Command>
-        ensures found { IfSome result (λ command. Tells self.now.table.game self.now.table.hands line.now command) }
-        ensures none { IfNone result ((hand index : ℕ) (action : Action) → ¬ (Tells self.now.table.game self.now.table.hands line.now (Command.Act hand index action))) }
+        ensures found { IfSome result (TellsIt self.now line.now) }
+        ensures none { IfNone result (TellsNoAct self.now line.now) }
     {
         let hand = self.table.dealt().checked_sub(1)?;
         let play = self.table.play(hand)?;
@@ -174,8 +172,8 @@ impl<'a> Dealing<'a> {
         out: &mut Vec<u8>,
     ) -> Result<(), AllocError>
         requires { ComesInTurn self.old.table.game.players self.old.names said }
-        ensures stands { OnOk result ((game : Game) (count : ℕ) (log : Maybe (List ℕ)) (before : List Said) → Stands game count log before self.old → Stands game count log (said ∷ before) self.new) }
-        ensures answered { OnOk result ((game : Game) (count : ℕ) (log : Maybe (List ℕ)) (before : List Said) → Stands game count log before self.old → out.new.items ≡ out.old.items ++ answer game count log before said) }
+        ensures stands { OnOk result (TakesIt said self.old self.new) }
+        ensures answered { OnOk result (AnswersIt said self.old out.old.items out.new.items) }
     {
         match said {
             ScriptLine::Names(names) => self.take_names(names, out),
@@ -188,8 +186,8 @@ impl<'a> Dealing<'a> {
     fn take_names(&mut self, names: SeatNames, out: &mut Vec<u8>) -> Result<(), AllocError>
         requires first { IsNone self.old.names }
         requires seated { length names ≡ self.old.table.game.players }
-        ensures stands { (game : Game) (count : ℕ) (log : Maybe (List ℕ)) (before : List Said) → Stands game count log before self.old → Stands game count log (ScriptLine.Names names ∷ before) self.new }
-        ensures answered { OnOk result ((game : Game) (count : ℕ) (log : Maybe (List ℕ)) (before : List Said) → Stands game count log before self.old → out.new.items ≡ out.old.items ++ answer game count log before (ScriptLine.Names names)) }
+        ensures stands { TakesIt (ScriptLine.Names names) self.old self.new }
+        ensures answered { OnOk result (AnswersIt (ScriptLine.Names names) self.old out.old.items out.new.items) }
     {
         self.names = Some(names);
         self.put_header(out)
@@ -197,9 +195,7 @@ impl<'a> Dealing<'a> {
 
     /// Appends the log's header where the log is printed.
     fn put_header(&mut self, out: &mut Vec<u8>) -> Result<(), AllocError>
-        ensures table { self.new.table ≡ self.old.table }
-        ensures names { self.new.names ≡ self.old.names }
-        ensures log { self.new.log ≡ self.old.log }
+        ensures same { IsSameMatch self.old self.new }
         ensures some { 1 ≤ self.old.table.count }
         ensures ok { OnOk result (out.new.items ≡ out.old.items ++ printed_header self.old.log self.old.table.count) }
     {
@@ -217,8 +213,8 @@ impl<'a> Dealing<'a> {
     /// Takes a command, and appends the answer to it.
     fn take_command(&mut self, command: &Command, out: &mut Vec<u8>) -> Result<(), AllocError>
         requires { IsSome self.old.names }
-        ensures stands { OnOk result ((game : Game) (count : ℕ) (log : Maybe (List ℕ)) (before : List Said) → Stands game count log before self.old → Stands game count log (ScriptLine.Told command.now ∷ before) self.new) }
-        ensures answered { OnOk result ((game : Game) (count : ℕ) (log : Maybe (List ℕ)) (before : List Said) → Stands game count log before self.old → out.new.items ≡ out.old.items ++ answer game count log before (ScriptLine.Told command.now)) }
+        ensures stands { OnOk result (TakesIt (ScriptLine.Told command.now) self.old self.new) }
+        ensures answered { OnOk result (AnswersIt (ScriptLine.Told command.now) self.old out.old.items out.new.items) }
     {
         match self.table.apply(command)? {
             Effect::None(reason) => put_refusal(out, reason),
@@ -228,10 +224,8 @@ impl<'a> Dealing<'a> {
 
     /// Appends each seat's line, and the log's further lines where the log is printed.
     fn put_effect(&mut self, out: &mut Vec<u8>) -> Result<(), AllocError>
-        ensures table { self.new.table ≡ self.old.table }
-        ensures names { self.new.names ≡ self.old.names }
-        ensures log { self.new.log ≡ self.old.log }
-        ensures ok { OnOk result (out.new.items ≡ out.old.items ++ (lines_for self.old.table.game self.old.table.hands ++ printed self.old.log (lines_further self.old.table.game self.old.table.count self.old.names self.old.table.hands))) }
+        ensures same { IsSameMatch self.old self.new }
+        ensures ok { OnOk result (out.new.items ≡ out.old.items ++ (lines_for self.old.table.game self.old.table.hands ++ printed self.old.log (further_of self.old))) }
     {
         self.put_lines(out)?;
         self.put_further(out)
@@ -239,10 +233,8 @@ impl<'a> Dealing<'a> {
 
     /// Appends the log's further lines where the log is printed.
     fn put_further(&mut self, out: &mut Vec<u8>) -> Result<(), AllocError>
-        ensures table { self.new.table ≡ self.old.table }
-        ensures names { self.new.names ≡ self.old.names }
-        ensures log { self.new.log ≡ self.old.log }
-        ensures ok { OnOk result (out.new.items ≡ out.old.items ++ printed self.old.log (lines_further self.old.table.game self.old.table.count self.old.names self.old.table.hands)) }
+        ensures same { IsSameMatch self.old self.new }
+        ensures ok { OnOk result (out.new.items ≡ out.old.items ++ printed self.old.log (further_of self.old)) }
     {
         if self.log.is_none() {
             return Ok(());
@@ -253,10 +245,8 @@ impl<'a> Dealing<'a> {
 
     /// Writes the log's further lines after a command that took effect: none while a hand runs.
     fn write_further(&mut self) -> Result<(), AllocError>
-        ensures table { self.new.table ≡ self.old.table }
-        ensures names { self.new.names ≡ self.old.names }
-        ensures log { self.new.log ≡ self.old.log }
-        ensures ok { OnOk result (self.new.further.items ≡ lines_further self.old.table.game self.old.table.count self.old.names self.old.table.hands) }
+        ensures same { IsSameMatch self.old self.new }
+        ensures ok { OnOk result (self.new.further.items ≡ further_of self.old) }
     {
         self.further.clear();
         let Some(names) = &self.names else {

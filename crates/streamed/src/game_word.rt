@@ -36,7 +36,7 @@ impl<'a> GameWord<'a> {
         }
     }
 
-    /// The word's bytes.
+    /// The word's bytes. The field itself is private, so that every word has the form.
     pub fn as_bytes(&self) -> &[u8]
         ensures value { result.now ≡ self.now }
         ensures form { IsGameWord self.now }

@@ -1,7 +1,5 @@
-ghost use Rattle.std.specs.Prelude.{◌≡◌, ◌≤◌, ℕ, List, [], ◌∷◌, ◌++◌, OnOk, OnErr, Option as Maybe};
-ghost use Rattle.game_def.specs.Game.{Game};
-ghost use Rattle.streamed.specs.Running.{Shows, Begins};
-ghost use Rattle.std.specs.Io.KnownBytes.{Appends};
+ghost use Rattle.std.specs.Prelude.{◌≤◌, ℕ, List, [], ◌∷◌, OnOk, OnErr, Option as Maybe};
+ghost use Rattle.streamed.specs.Running.{Shows, GoesOn, BreaksOff};
 
 use crate::dealing::Dealing;
 use crate::game_word::GameWord;
@@ -43,10 +41,8 @@ impl<'a> Running<'a> {
 
     /// Takes the next piece of the script, and writes the answer to each line that it ends.
     pub(crate) fn take_piece<W: Write>(&mut self, piece: &[u8], writer: &mut W) -> Result<(), Stop>
-        ensures ok { OnOk result ((game : Game) (count : ℕ) (log start : Maybe (List ℕ)) (seen : List ℕ) →
-            Shows game count log start seen self.old (W.contents writer.old) → Shows game count log start (seen ++ piece.now) self.new (W.contents writer.new)) }
-        ensures err { OnErr result ((game : Game) (count : ℕ) (log start : Maybe (List ℕ)) (seen : List ℕ) →
-            Shows game count log start seen self.old (W.contents writer.old) → Begins game count log start (seen ++ piece.now) (W.contents writer.new)) }
+        ensures ok { OnOk result (GoesOn piece.now self.old self.new (W.contents writer.old) (W.contents writer.new)) }
+        ensures err { OnErr result (BreaksOff piece.now self.old (W.contents writer.old) (W.contents writer.new)) }
     {
         for byte in piece {
             self.take_byte(*byte, writer)?;
@@ -56,10 +52,8 @@ impl<'a> Running<'a> {
 
     /// Takes the next byte.
     fn take_byte<W: Write>(&mut self, byte: u8, writer: &mut W) -> Result<(), Stop>
-        ensures ok { OnOk result ((game : Game) (count : ℕ) (log start : Maybe (List ℕ)) (seen : List ℕ) →
-            Shows game count log start seen self.old (W.contents writer.old) → Shows game count log start (seen ++ byte ∷ []) self.new (W.contents writer.new)) }
-        ensures err { OnErr result ((game : Game) (count : ℕ) (log start : Maybe (List ℕ)) (seen : List ℕ) →
-            Shows game count log start seen self.old (W.contents writer.old) → Begins game count log start (seen ++ byte ∷ []) (W.contents writer.new)) }
+        ensures ok { OnOk result (GoesOn (byte ∷ []) self.old self.new (W.contents writer.old) (W.contents writer.new)) }
+        ensures err { OnErr result (BreaksOff (byte ∷ []) self.old (W.contents writer.old) (W.contents writer.new)) }
     {
         if byte == b'\n' {
             self.end_line(writer)
@@ -71,10 +65,8 @@ impl<'a> Running<'a> {
 
     /// Takes a line feed: writes the answer to the line that it ends.
     fn end_line<W: Write>(&mut self, writer: &mut W) -> Result<(), Stop>
-        ensures ok { OnOk result ((game : Game) (count : ℕ) (log start : Maybe (List ℕ)) (seen : List ℕ) →
-            Shows game count log start seen self.old (W.contents writer.old) → Shows game count log start (seen ++ 10 ∷ []) self.new (W.contents writer.new)) }
-        ensures err { OnErr result ((game : Game) (count : ℕ) (log start : Maybe (List ℕ)) (seen : List ℕ) →
-            Shows game count log start seen self.old (W.contents writer.old) → Begins game count log start (seen ++ 10 ∷ []) (W.contents writer.new)) }
+        ensures ok { OnOk result (GoesOn (10 ∷ []) self.old self.new (W.contents writer.old) (W.contents writer.new)) }
+        ensures err { OnErr result (BreaksOff (10 ∷ []) self.old (W.contents writer.old) (W.contents writer.new)) }
     {
         let said = self.dealing.read(&self.line);
         self.line.clear();

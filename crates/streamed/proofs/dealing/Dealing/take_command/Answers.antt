@@ -31,7 +31,7 @@ returns-in_default c =
     let fits = fitting t.game t.count t.hands c.args.command.now _ a.effect c.in_default.not-None in
     let after : (game : Game) (count : ℕ) (log : Option (List ℕ)) (before : List ScriptLine) → Stands game count log before c.args.self.now → Stands game count log (Told c.args.command.now ∷ before) c.put_effect.new.self =
     λ game count log before stands. stands_after game count log before c.args.self.now c.put_effect.new.self c.args.command.now c.requires
-    (ap (λ (m : Match). m.game) e.table ∙ a.game) (ap (λ (m : Match). m.count) e.table ∙ a.count) (ap (λ (m : Match). m.hands) e.table ∙ a.hands) e.names e.log stands in
+    (ap (λ (m : Match). m.game) e.same.table ∙ a.game) (ap (λ (m : Match). m.count) e.same.table ∙ a.count) (ap (λ (m : Match). m.hands) e.same.table ∙ a.hands) e.same.names e.same.log stands in
     record {
       stands = on_ok c.put_effect.result _ after;
       answered = on_ok_weaker c.put_effect.result
