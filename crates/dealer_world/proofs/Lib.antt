@@ -20,6 +20,7 @@ mod Keeping
 mod Conflicts
 mod CalmRun
 mod Ruled
+mod Calling
 mod Giving
 mod Advancing
 mod Showing

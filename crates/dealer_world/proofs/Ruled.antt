@@ -207,7 +207,7 @@ fault_is a b is = ap fault_in is
 pub err_is : (a b : NodeFault) (answer : Result (Unit {0}) NodeFault) → answer ≡ Err a → answer ≡ Err b → a ≡ b
 err_is a b answer is_a is_b = fault_is (Err a) (Err b) (sym is_a ∙ is_b)
 
-same_after : (place : Place) (s : Standing) (called : Call) (after : Standing) (frames : List Outgoing) (shown : List Shown) (faults : List SeatFault)
+pub same_after : (place : Place) (s : Standing) (called : Call) (after : Standing) (frames : List Outgoing) (shown : List Shown) (faults : List SeatFault)
     (answer : Result (Unit {0}) NodeFault) → answer ≡ Err fault.OutOfMemory
     → (ends : Ends place s called after frames shown) → Answered place s called after frames shown ends faults answer → after ≡ s
 same_after place s called after frames shown faults answer none (took turn rule a b c) (told, ok) = absurd (let e : Ok tt ≡ Err fault.OutOfMemory = sym ok ∙ none in cc)

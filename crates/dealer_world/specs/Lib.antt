@@ -20,6 +20,7 @@ pub mod Runs
 pub mod RuleRuns
 pub mod CalmRun
 pub mod Stepping
+pub mod Calling
 pub mod Shows
 pub mod Ruling
 pub mod Viewing

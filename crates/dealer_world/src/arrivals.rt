@@ -37,6 +37,8 @@ pub struct Arrival<'a> {
 }
 
 /// All that reached running nodes from outside, in order, in one buffer. Bytes that reach several nodes are kept once.
+///
+/// The rows that it is kept in stay private, as does their mark: so what it does is what they do, said of arrivals.
 #[derive(Drop)]
 pub struct Arrivals {
     rows: SharedRows<Came>,

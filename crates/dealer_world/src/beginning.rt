@@ -25,8 +25,9 @@ fn created<D: Disk + Drop>(
     Ok(node)
 }
 
-/// A node over the store that a disk has. The disk is synced, so that a crash leaves what it reads.
-fn reopened<D: Disk + Drop>(
+/// A node over the store that a disk has; it is down. The disk is synced, so that a crash leaves what it reads, and begun
+/// anew.
+pub fn reopened<D: Disk + Drop>(
     alloc: Global,
     config: &Config,
     number: usize,

@@ -39,14 +39,20 @@ use dealer_node::{MostShown, Node, NodeFault, Out, is_out_of_memory};
 use promise_store::Disk;
 use std::alloc::{AllocError, Global};
 
-/// Gives an event to its node.
-fn give<D: Disk + Drop>(node: &mut Node<D>, event: &Event, made: &mut Out) -> Result<(), NodeFault>
+/// Gives an event to this node, which the caller sees to be the event's. What the node sends, shows and tells stands in
+/// `made`, which is empty before; by a fault it still is.
+pub fn give<D: Disk + Drop>(
+    node: &mut Node<D>,
+    event: &Event,
+    made: &mut Out,
+) -> Result<(), NodeFault>
     requires within { IsFor (member_in node.old).nodes (member_in node.old).setting.game.players event.now }
     requires nothing { made.old ≡ nothing_told }
     ensures given { IsGiven D.Disk event.now node.old node.new made.new result }
     ensures up { (s : Standing) → IsSeen D.Disk node.old s → runs node.old ≡ s.up }
     ensures shows { ShowsWithin (most_by event.now node.old) nothing_told made.new }
 {
+    // For `up` alone: what it answers is what the node is seen as.
     let _up = node.running();
     match event {
         Event::Frame { from, bytes, .. } => node.on_frame(*from as usize, bytes, made),
@@ -308,7 +314,7 @@ impl<D: Disk + Drop> Cluster<D> {
         &self.config
     }
 
-    /// How many nodes there are.
+    /// How many nodes there are: those of the match. What is asked of a node's number is said by this count.
     pub fn node_count(&self) -> usize
         ensures { result ≡ length (view_of self.now).config.sources }
     {
@@ -339,6 +345,9 @@ impl<D: Disk + Drop> Cluster<D> {
     {
         self.nodes[number].most_shown_by(bytes)
     }
+
+    // The record is read through the functions below alone: how it is kept (`Recording`) is no part of what a cluster is,
+    // so the readers of it that callers need stand here again, over the cluster's view.
 
     /// What the last call made; empty where it was answered by a fault. A call that found no memory isn't counted.
     pub fn last(&self) -> &Out

@@ -20,6 +20,8 @@ pub struct Frame<'a> {
 }
 
 /// Frames in order of sending, in one buffer. Bytes that go to several nodes are kept once.
+///
+/// The rows that it is kept in stay private, as does their mark: so what it does is what they do, said of frames.
 #[derive(Drop)]
 pub struct Frames {
     rows: SharedRows<Way>,

@@ -14,13 +14,16 @@ ghost use Rattle.protocol_model.specs.Worlds.{World, Reached};
 ghost use Rattle.dealer_world.specs.Given.{Given};
 ghost use Rattle.dealer_world.specs.RecordLaws.{OldFramesSayTheSame, LinesOfRecordsAgree, AlikeListsShowTheSame, CompleteLogsAreMatchLogs};
 ghost use Rattle.dealer_world.specs.CalmRun.{RoundsMoveOn, FreshClustersAreCalm};
+ghost use Rattle.dealer_world.specs.Calling.{EventsAreCalls, VainEventsAreNone, FrontsAreSeen, BrokenEventsAreCalls};
 ghost use Rattle.dealer_world.specs.RuleRuns.{RunsShowOneList, RunsAreBacked, RunsSendToNodes, RunsNeverConflict};
 
 use dealer_kind::laws::{deals_are_owned_acts_are_said_and_aways_are_ordered, owners_may_widen};
+use dealer_node::laws::seen_as_one;
 use deck_draw::laws::draws_are_deals;
 use matchstate::laws::{agree, beginnings_are_alike};
 use node_rules::laws::{calls_are_sound, calm_rounds_move, refusals_have_reasons};
 use paxos_wire::old_frames_read_back;
+use promise_store::Disk;
 use protocol_model::laws::{
     backing_lasts, chains_reach, known_is_chosen, one_dealer as protocol_one_dealer,
     owners_may_change,
@@ -159,4 +162,15 @@ pub fn fresh_clusters_are_calm()
     ensures { FreshClustersAreCalm }
 {
     calm_rounds_move();
+}
+
+/// An event that was given to a node is one call of it by the rules, and none where there was no memory. One that broke
+/// off in the middle of its append is a call that failed.
+pub fn events_are_calls<D: Disk + Drop>()
+    ensures calls { EventsAreCalls D.Disk }
+    ensures none { VainEventsAreNone D.Disk }
+    ensures broken { BrokenEventsAreCalls }
+    ensures front { FrontsAreSeen D.Disk }
+{
+    seen_as_one::<D>();
 }

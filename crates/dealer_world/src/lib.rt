@@ -13,6 +13,9 @@
 //! The record is read by numbers, without memory: `frame`, all that was sent; `arrival`, what reached running nodes;
 //! `piece`, all lines and log lines in the order in which they were shown; `starts`, each of which began a log; and
 //! `last`, what the last call made. `put_log` joins the log of a start; it alone asks for memory.
+//!
+//! `reopened` and `give`, of which opening and stepping are made, are there too for whoever has one node of a match alone,
+//! and `laws::events_are_calls` says what a call of that node is by its rules.
 #![tactic(auto)]
 
 mod arrivals;
@@ -30,8 +33,9 @@ mod starts;
 mod stopped;
 
 pub use arrivals::{Arrival, Arrivals, What};
+pub use beginning::reopened;
 pub use begun::Begun;
-pub use cluster::Cluster;
+pub use cluster::{Cluster, give};
 pub use event::Event;
 pub use frames::{Frame, Frames};
 pub use shown::{Piece, Shown};

@@ -25,6 +25,8 @@ pub struct Piece<'a> {
 }
 
 /// All that was shown, in order, in one buffer.
+///
+/// The rows that it is kept in stay private, as does their mark: so what it does is what they do, said of pieces.
 #[derive(Drop)]
 pub struct Shown {
     rows: Rows<Label>,
