@@ -227,21 +227,21 @@ calm_same : (place : Place) (a b : ℕ → Standing) (i : ℕ) (members : List �
 calm_same place a b i members commands same calm = record {
   of_node = calm.of_node;
   quorum = calm.quorum;
-  among = calm.among;
+  member = calm.member;
   up = λ k h. ap (λ (s : Standing). s.up) (sym (same k h)) ∙ calm.up k h;
-  round_left = subst (λ (s : Standing). (ballot_after i s).round < 2 ^ 32) (same i calm.among) calm.round_left;
-  slot_left = subst (λ (s : Standing). front_of s < SLOTS) (same i calm.among) calm.slot_left;
+  round_left = subst (λ (s : Standing). (ballot_after i s).round < 2 ^ 32) (same i calm.member) calm.round_left;
+  slot_left = subst (λ (s : Standing). front_of s < SLOTS) (same i calm.member) calm.slot_left;
   unpromised = λ k h. subst (λ (s : Standing). Below s.store.promise (ballot_after i (b i))) (same k h)
-      (subst (λ (s : Standing). Below (a k).store.promise (ballot_after i s)) (same i calm.among) (calm.unpromised k h));
-  goes_on = ap (is_over place) (sym (same i calm.among)) ∙ calm.goes_on;
+      (subst (λ (s : Standing). Below (a k).store.promise (ballot_after i s)) (same i calm.member) (calm.unpromised k h));
+  goes_on = ap (is_over place) (sym (same i calm.member)) ∙ calm.goes_on;
   value = elim calm.value [
-    | inl told ↦ inl (subst (λ (s : Standing). IsToldCommandRun b members (front_of s) commands) (same i calm.among) (told_same a b members (front_of (a i)) commands same told))
+    | inl told ↦ inl (subst (λ (s : Standing). IsToldCommandRun b members (front_of s) commands) (same i calm.member) (told_same a b members (front_of (a i)) commands same told))
     | inr own ↦ inr (
       own.0,
       own.1,
       (
-        subst (λ (s : Standing). IsUnheld b members (front_of s)) (same i calm.among) (unheld_same a b members (front_of (a i)) same own.2.0),
-        ap (own_value place) (sym (same i calm.among)) ∙ own.2.1,
+        subst (λ (s : Standing). IsUnheld b members (front_of s)) (same i calm.member) (unheld_same a b members (front_of (a i)) same own.2.0),
+        ap (own_value place) (sym (same i calm.member)) ∙ own.2.1,
       ),
     )
   ];
@@ -349,7 +349,7 @@ module _ {D : Type 0} (g : Ghosts D) where
 
   -- ---- all events
 
-  -- where a run of a round's events has come to, with no disk of a among failing
+  -- where a run of a round's events has come to, with no disk of a member failing
   record Moved (plan : Plan) (standings : List Standing) (old : View (Node D)) (ys : List calm.Event) (new : View (Node D)) : Type 0 where
     after : List Standing
     seen : AreSeen g new.nodes after
@@ -448,13 +448,13 @@ module _ {D : Type 0} (g : Ghosts D) where
       one (get_or old.nodes k d) (standings k) (standing_at plan state k) honest (seen k d h)
       (seen_at g old.nodes ruled.standings k d (stopped (place_of plan k) empty_store empty_store) within ruled.seen) (calm_now.up k h))) in
       let calm_then = calm_same (place_of plan i) standings (standing_at plan state) i members commands same calm_now in
-      let split_then : round (standing_at plan state) i members commands ≡ first ++ rest = sym (round_same standings (standing_at plan state) i members commands calm_now.among same) ∙ whole in
+      let split_then : round (standing_at plan state) i members commands ≡ first ++ rest = sym (round_same standings (standing_at plan state) i members commands calm_now.member same) ∙ whole in
       let inside : AllIn members first =
-      (λ y h. round_in (standing_at plan state) i members commands calm_now.among y (subst (λ (l : List calm.Event). In y l) (sym split_then) (in_first first rest y h))) in
+      (λ y h. round_in (standing_at plan state) i members commands calm_now.member y (subst (λ (l : List calm.Event). In y l) (sym split_then) (in_first first rest y h))) in
       let m = ran_on n members plan ruled.standings old new events first count low ran are inside each ruled.seen honest up sound in
       let moved = law plan.setting n before plan.sources state (state_of m.after new) i members commands first rest ruled.runs unforged calm_then split_then m.takes in
-      let within : i < length new.nodes = subst (λ (k : ℕ). i < k) (sym (m.count ∙ count)) (low i calm_now.among) in
-      let front_is : front_of (standing_at plan state i) ≡ front_of (standings i) = ap (λ (x : Standing). front_of x) (sym (same i calm_now.among)) in
+      let within : i < length new.nodes = subst (λ (k : ℕ). i < k) (sym (m.count ∙ count)) (low i calm_now.member) in
+      let front_is : front_of (standing_at plan state i) ≡ front_of (standings i) = ap (λ (x : Standing). front_of x) (sym (same i calm_now.member)) in
       let s : Standing = standing_at plan (state_of m.after new) i in (
         moved.0,
         λ all d.
