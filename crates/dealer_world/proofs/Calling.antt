@@ -1,11 +1,10 @@
 -- An event that was given to a node is a call of it by the rules.
-use Rattle.std.proofs.Common.{◌≡◌, ◌∙◌, inr, [], Bool, true, Result, Err, IsTrue, refl, ap, sym, subst}
+use Rattle.std.proofs.Common.{◌≡◌, ◌∙◌, inr, [], Bool, refl, ap, sym, subst}
 use Rattle.promise_store.specs.declared.disk.Disk.{Ghosts}
 use Rattle.node_rules.specs.Standings.{Place, Standing, front_of}
 use Rattle.node_rules.specs.Called.{Ends, failed}
 use Rattle.node_rules.specs.Rules.{standing_after}
 use Rattle.dealer_node.specs.Nodes.{Node}
-use Rattle.dealer_node.specs.declared.fault.NodeFault.TheVariants as fault
 use Rattle.dealer_node.specs.Members.{place_at}
 use Rattle.dealer_node.specs.Seeing.{member_in, runs, front_in, IsSeen}
 use Rattle.dealer_node.specs.Taking.{Answered}
