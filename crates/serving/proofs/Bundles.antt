@@ -26,7 +26,7 @@ use Rattle.serving.specs.Turning.{Tells, turn_of}
 
 -- ---- of a desk
 
-module _ {L : Type 0} {links : OfLinks L} (old new : Desk L links) where
+module _ {L : Type 0} (links : OfLinks L) (old new : Desk L) where
   abbrev MakesNoCall : Type 0
   MakesNoCall = IsKept old.progress new.progress × (new.last_node ≡ old.last_node) × (new.last_fault ≡ old.last_fault)
 
@@ -42,10 +42,10 @@ module _ {L : Type 0} {links : OfLinks L} (old new : Desk L links) where
       × Gives (places_in new.progress.places) pieces old.shown new.shown given
       × OnlyLeave (to_give pieces old.shown new.shown) given (places_in old.progress.places) (places_in new.progress.places)
 
-  gives_is : (pieces : List Piece) → GivesOn pieces old new → GivesThese pieces
+  gives_is : (pieces : List Piece) → GivesOn links pieces old new → GivesThese pieces
   gives_is pieces is = (is.given, is.passed, is.gives, is.leave)
 
-  gives_of : (pieces : List Piece) → GivesThese pieces → GivesOn pieces old new
+  gives_of : (pieces : List Piece) → GivesThese pieces → GivesOn links pieces old new
   gives_of pieces (given, passed, gives, leave) = record { given = given; passed = passed; gives = gives; leave = leave }
 
   abbrev GivesThis : Piece → Type 0
@@ -53,19 +53,19 @@ module _ {L : Type 0} {links : OfLinks L} (old new : Desk L links) where
       (given : List Passage) × (links.passed new.links ≡ links.passed old.links ++ given) × IsGiven (places_in new.progress.places) piece given
       × OnlyLeave (given_as piece ∷ []) given (places_in old.progress.places) (places_in new.progress.places)
 
-  piece_is : (piece : Piece) → GivesPiece piece old new → GivesThis piece
+  piece_is : (piece : Piece) → GivesPiece links piece old new → GivesThis piece
   piece_is piece is = (is.given, is.passed, is.is_given, is.leave)
 
-  piece_of : (piece : Piece) → GivesThis piece → GivesPiece piece old new
+  piece_of : (piece : Piece) → GivesThis piece → GivesPiece links piece old new
   piece_of piece (given, passed, is_given, leave) = record { given = given; passed = passed; is_given = is_given; leave = leave }
 
   abbrev GivesNone : Type 0
   GivesNone = (links.passed new.links ≡ links.passed old.links) × (places_in new.progress.places ≡ places_in old.progress.places)
 
-  none_is : GivesNothing old new → GivesNone
+  none_is : GivesNothing links old new → GivesNone
   none_is is = (is.passed, is.stay)
 
-  none_of : GivesNone → GivesNothing old new
+  none_of : GivesNone → GivesNothing links old new
   none_of (passed, stay) = record { passed = passed; stay = stay }
 
 -- ---- of a server

@@ -9,3 +9,5 @@ mod GivingExamples
 mod Turns
 mod Covering
 mod Staying
+mod Bundles
+mod Outside

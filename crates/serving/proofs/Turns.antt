@@ -21,7 +21,7 @@ use Rattle.serving.specs.Dues.{IsNext, TakesNext, SentNothing}
 use Rattle.serving.specs.Served.{Served}
 use Rattle.dealer_node.specs.declared.fault.NodeFault.TheVariants as fault
 use Rattle.dealer_world.specs.Events.{node_of}
-use Rattle.serving.specs.Giving.{Gives as GivesOn, taken, to_give}
+use Rattle.serving.specs.Giving.{Gives as GivesPieces, taken, to_give}
 use Rattle.serving.specs.Going.{IsKept, OnlyLeave, piece_after}
 use Rattle.serving.specs.Placed.{places_in}
 use Rattle.serving.specs.Turned.{Went, Gave, Ends, Mends, Passes}
@@ -82,7 +82,7 @@ abbrev pub passes_from : {N : Type 0} (took : List Passage) (between old new : S
 passes_from took between old new shown passed passes = record {
   given = passes.given;
   passed = passes.passed ∙ ap (λ (ps : List Passage). ps ++ passes.given) passed ∙ append_assoc old.passed took passes.given;
-  gives = subst (λ (k : ℕ). GivesOn (places_in new.progress.places) new.view.all.shown k new.shown passes.given) shown passes.gives;
+  gives = subst (λ (k : ℕ). GivesPieces (places_in new.progress.places) new.view.all.shown k new.shown passes.given) shown passes.gives;
 }
 
 -- nothing passed
@@ -90,7 +90,7 @@ pub passes_none : {N : Type 0} (old new : Served N) → new.passed ≡ old.passe
 passes_none old new passed shown within = record {
   given = [];
   passed = passed ∙ sym (append-nil old.passed);
-  gives = subst (λ (k : ℕ). GivesOn (places_in new.progress.places) new.view.all.shown k new.shown []) shown
+  gives = subst (λ (k : ℕ). GivesPieces (places_in new.progress.places) new.view.all.shown k new.shown []) shown
       (gives_none (places_in new.progress.places) new.view.all.shown new.shown within);
 }
 

@@ -11,6 +11,7 @@ pub mod Giving
 pub mod Turned
 pub mod Repairs
 pub mod Going
+pub mod Desks
 pub mod Served
 pub mod Serving
 pub mod Waits

@@ -1,10 +1,12 @@
 -- What a turn does.
-use Rattle.std.specs.Prelude.{◌≡◌, ◌⊎◌, ℕ, Bool, true, List, [], ◌++◌, Some, None, Result, Ok, Err, OnOk}
+use Rattle.std.specs.Prelude.{◌≡◌, ◌⊎◌, ℕ, Bool, true, List, [], ◌++◌, map, Some, None, Result, Ok, Err, OnOk}
 use Rattle.promise_store.specs.declared.disk.Disk.{Ghosts}
 use Rattle.dealer_node.specs.Nodes.{Node}
 use Rattle.dealer_node.specs.declared.fault.NodeFault.{NodeFault}
 use Rattle.dealer_node.specs.declared.fault.NodeFault.TheVariants as fault
+use Rattle.dealer_node.specs.Seeing.{begun_of}
 use Rattle.dealer_world.specs.Events.{node_of}
+use Rattle.dealer_world.specs.Promise.{IsPromised, HasNoForged}
 use Rattle.dealer_world.specs.Stepping.{View, Stepped}
 use Rattle.serving.specs.declared.progress.Progress.{Progress}
 use Rattle.serving.specs.declared.waiting.Waiting.{Waiting}
@@ -52,7 +54,20 @@ pub record Opens {N : Type 0} (nodes : ℕ) (before : List Passage) (new : Serve
   pub all_given : HasGivenAll new
   pub unread : new.piece ≡ []
 
+-- a turn whose event was answered so was ended by this answer: what wasn't given yet was given to its readers, or the first pieces of it
+pub record Closes {N : Type 0} (waiting : Waiting) (called : Result (Unit {0}) NodeFault) (old : Served N) (answer : Result Turn ServeFault) (new : Served N) : Type 0 where
+  pub passes : Passes [] old new
+  pub ends : OnOk answer (Ends called waiting (to_give new.view.all.shown old.shown new.shown) passes.given old.progress new.progress)
+  pub all_given : OnOk answer (HasGivenAll new)
+  pub tells : Tells (turn_of waiting.number waiting.seat waiting.event) waiting.event called answer
+
 module _ {D : Type 0} (g : Ghosts D) where
+  -- what is promised of a cluster's record is so still: no frame is forged anew, and each node has begun what it had
+  pub record KeepsPromise (old new : View (Node D)) : Type 0 where
+    pub promised : IsPromised g new
+    pub unforged : HasNoForged old → HasNoForged new
+    pub begun : map (begun_of g) new.nodes ≡ map (begun_of g) old.nodes
+
   -- what is known after an event was given and answered so, and so much of what was to be given was
   pub record Went (view : View (Node D)) (waiting : Waiting) (called : Result (Unit {0}) NodeFault) (lines given : List Passage) (old new : Progress) : Type 0 where
     pub settled : Progress

@@ -1,5 +1,6 @@
 -- What a turn of the server makes of its cluster.
 use Rattle.std.specs.Prelude.{◌≡◌, ℕ, Option, Some, None, Result, Ok, Err, Bool, true, false, List, slice_get}
+use Rattle.std.specs.Option.{ForSome}
 use Rattle.dealer_kind.specs.Plans.{Plan}
 use Rattle.dealer_node.specs.declared.fault.NodeFault.{NodeFault}
 use Rattle.dealer_node.specs.declared.fault.NodeFault.TheVariants as fault
@@ -92,6 +93,10 @@ IsTakenUp what Over = IsTaken what None
 -- an event of the match that may be given to the cluster as it is; a frame is one that was sent
 abbrev pub IsWaiting : {N : Type 0} → View N → Waiting → Type 0
 IsWaiting view waiting = IsForMatch view.config waiting.event × IsSent view.all.sent waiting.number waiting.event
+
+-- so is the event that was taken up, if one was
+abbrev pub IsOfMatch : {N : Type 0} → View N → Taking → Type 0
+IsOfMatch view taking = ForSome (event_in taking) (λ waiting. IsWaiting view waiting)
 
 -- a server goes on where the call was taken, where a frame was lost since its node is down, and where a store failed (for the first time)
 abbrev pub goes_on : Event → Result (Unit {0}) NodeFault → Bool

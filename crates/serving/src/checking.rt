@@ -1,14 +1,13 @@
 //! Whether events are of a match.
 
 ghost use Rattle.std.specs.Prelude.{◌≡◌, ◌<◌, ◌↔◌, IsTrue, IfOk, IfErr};
-ghost use Rattle.std.specs.Option.{ForSome};
 ghost use Rattle.dealer_world.specs.Viewing.{view_of};
 ghost use Rattle.dealer_world.specs.Promise.{IsForMatch};
-ghost use Rattle.serving.specs.Turning.{IsFrameless, IsWaiting, IsOutside, IsForDue, IsTakenUp, event_in};
+ghost use Rattle.serving.specs.Turning.{IsFrameless, IsOfMatch, IsOutside, IsForDue, IsTakenUp};
+ghost use Rattle.serving.specs.declared.due.Due.{Due};
 ghost use Rattle.serving.specs.declared.waiting.Taking.TheVariants.{Gives};
 ghost use Rattle.serving.specs.declared.serve_fault.ServeFault.TheVariants.{LinkFailed};
 
-use crate::due::Due;
 use crate::serve_fault::ServeFault;
 use crate::waiting::{Taking, Waiting};
 use dealer_world::{Cluster, Event};
@@ -32,22 +31,19 @@ pub(crate) fn is_for<D: Disk + Drop>(cluster: &Cluster<D>, event: &Event) -> boo
     }
 }
 
-/// An event that is no frame, for what is due, as it is to be given to a cluster of its match; the seat is that of an
-/// order, else 0.
+/// An event that is no frame, as it is to be given to a cluster of its match for whatever it is due; the seat is that of
+/// an order, else 0.
 pub(crate) fn checked<D: Disk + Drop>(
     cluster: &Cluster<D>,
-    due: Due,
     seat: u8,
     event: Event,
 ) -> Result<Taking, ServeFault>
     requires frameless { IsFrameless event }
-    requires due { IsForDue due 0 seat event }
     ensures event { IfOk result (λ taking. taking ≡ Gives (record { event = event; number = 0; seat = seat })) }
-    ensures due { IfOk result (IsTakenUp due) }
-    ensures waiting { IfOk result (λ taking. ForSome (event_in taking) (λ waiting. IsWaiting (view_of cluster.now) waiting)) }
-    ensures fault { IfErr result (λ fault. (fault ≡ LinkFailed) × IsOutside (view_of cluster.now).config due) }
+    ensures due { (due : Due) → IsForDue due 0 seat event → IfOk result (IsTakenUp due) }
+    ensures waiting { IfOk result (IsOfMatch (view_of cluster.now)) }
+    ensures fault { (due : Due) → IsForDue due 0 seat event → IfErr result (λ fault. (fault ≡ LinkFailed) × IsOutside (view_of cluster.now).config due) }
 {
-    let _ = due;
     if is_for(cluster, &event) {
         Ok(Taking::Gives(Waiting {
             event,

@@ -1,16 +1,15 @@
-ghost use Rattle.std.specs.Prelude.{◌≡◌, ◌≤◌, ◌⊎◌, ◌++◌, List, [], ◌∷◌, length, replicate, slice_get, Some, OnOk, OnErr, IfErr};
+ghost use Rattle.std.specs.Prelude.{◌≡◌, ◌≤◌, length, replicate, OnOk, OnErr, IfErr};
 ghost use Rattle.dealer_world.specs.Events.{node_of};
 ghost use Rattle.dealer_world.specs.KeptShown.{piece_by};
 ghost use Rattle.dealer_world.specs.Viewing.{view_of};
-ghost use Rattle.match_links.specs.Passages.{Passage, Told};
 ghost use Rattle.seat_session.specs.Fault.{closes as closes_session};
-ghost use Rattle.serving.specs.Giving.{Gives, IsGiven, counted, given_as, to_give};
-ghost use Rattle.serving.specs.Going.{Settled, IsKept, OnlyLeave, closes, ends_in_line_feed, leaves};
+ghost use Rattle.serving.specs.Giving.{counted};
+ghost use Rattle.serving.specs.Going.{Settled, closes, ends_in_line_feed, leaves};
 ghost use Rattle.serving.specs.Outing.{outages_in};
 ghost use Rattle.serving.specs.Placed.{places_in};
 ghost use Rattle.serving.specs.Turning.{turn_of};
 ghost use Rattle.std.specs.List.{list_any};
-ghost use Rattle.serving.specs.declared.place.Place.TheVariants.{Awaited, Seated};
+ghost use Rattle.serving.specs.declared.place.Place.TheVariants.{Awaited};
 ghost use Rattle.serving.specs.declared.serve_fault.ServeFault.TheVariants.{LogFailed};
 
 use crate::outages::Outages;
@@ -50,6 +49,8 @@ impl<L: Links + Drop> Drop for Desk<L> {
 }
 
 impl<L: Links + Drop> Desk<L> {
+    ghost use Rattle.serving.specs.Desks.{CallsNone, GivesOn, GivesPiece, GivesNothing, TellsLine};
+
     /// Nothing is done yet; so many seats are awaited.
     pub(crate) fn new(links: L, outages: Outages, absent: Absent, seats: usize) -> Desk<L>
         requires { seats ≤ 10 }
@@ -107,12 +108,8 @@ impl<L: Links + Drop> Desk<L> {
     /// A seat that doesn't take a line leaves.
     pub(crate) fn show<D: Disk + Drop>(&mut self, cluster: &Cluster<D>) -> Result<(), ServeFault>
         requires { self.old.shown ≤ length (view_of cluster.now).all.shown }
-        ensures kept { IsKept self.old.progress self.new.progress }
-        ensures called { self.new.last_node ≡ self.old.last_node }
-        ensures refused { self.new.last_fault ≡ self.old.last_fault }
-        ensures given { (given : List Passage) × (L.passed self.new.links ≡ L.passed self.old.links ++ given)
-            × Gives (places_in self.new.progress.places) (view_of cluster.now).all.shown self.old.shown self.new.shown given
-            × OnlyLeave (to_give (view_of cluster.now).all.shown self.old.shown self.new.shown) given (places_in self.old.progress.places) (places_in self.new.progress.places) }
+        ensures uncalled { CallsNone self.old self.new }
+        ensures given { GivesOn L.Links (view_of cluster.now).all.shown self.old self.new }
         ensures all_given { OnOk result (self.new.shown ≡ counted (view_of cluster.now).all.shown) }
         ensures fault { IfErr result (λ fault. fault ≡ LogFailed) }
     {
@@ -128,15 +125,10 @@ impl<L: Links + Drop> Desk<L> {
 
     /// Gives a piece to its reader. A seat that doesn't take its line leaves.
     fn hand_on(&mut self, piece: Piece<'_>) -> Result<(), ServeFault>
-        ensures kept { IsKept self.old.progress self.new.progress }
+        ensures uncalled { CallsNone self.old self.new }
         ensures shown { self.new.shown ≡ self.old.shown }
-        ensures called { self.new.last_node ≡ self.old.last_node }
-        ensures refused { self.new.last_fault ≡ self.old.last_fault }
-        ensures given { let one = piece_by piece.entry.node piece.entry.start piece.entry.reader piece.entry.text.now in
-            OnOk result ((given : List Passage) × (L.passed self.new.links ≡ L.passed self.old.links ++ given) × IsGiven (places_in self.new.progress.places) one given
-            × OnlyLeave (given_as one ∷ []) given (places_in self.old.progress.places) (places_in self.new.progress.places)) }
-        ensures failed { OnErr result (L.passed self.new.links ≡ L.passed self.old.links) }
-        ensures stay { OnErr result (places_in self.new.progress.places ≡ places_in self.old.progress.places) }
+        ensures given { OnOk result (GivesPiece L.Links (piece_by piece.entry.node piece.entry.start piece.entry.reader piece.entry.text.now) self.old self.new) }
+        ensures failed { OnErr result (GivesNothing L.Links self.old self.new) }
         ensures fault { IfErr result (λ fault. fault ≡ LogFailed) }
     {
         match piece.reader {
@@ -153,15 +145,11 @@ impl<L: Links + Drop> Desk<L> {
 
     /// Sends a line to a seat that has a connection to the node. A seat that doesn't take it leaves.
     fn tell_line(&mut self, node: u8, seat: usize, line: &[u8])
-        ensures kept { IsKept self.old.progress self.new.progress }
+        ensures uncalled { CallsNone self.old self.new }
         ensures shown { self.new.shown ≡ self.old.shown }
-        ensures called { self.new.last_node ≡ self.old.last_node }
-        ensures refused { self.new.last_fault ≡ self.old.last_fault }
-        ensures told { ((L.passed self.new.links ≡ L.passed self.old.links ++ Told node seat line.now ∷ []) × (places_in self.new.progress.places ≡ places_in self.old.progress.places))
-            ⊎ ((L.passed self.new.links ≡ L.passed self.old.links) × (slice_get (places_in self.new.progress.places) seat ≡ Some (Seated node) → ⊥)
-            × OnlyLeave (Told node seat line.now ∷ []) [] (places_in self.old.progress.places) (places_in self.new.progress.places)) }
+        ensures told { TellsLine L.Links node seat line.now self.old self.new }
     {
-        if !self.progress.is_seated(seat, node) {
+        if !self.progress.places.is_seated(seat, node) {
             return;
         }
         if self.links.write(node, seat as u8, line).is_err() {

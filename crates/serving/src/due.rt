@@ -32,6 +32,8 @@ pub enum Due {
 /// The first that is due of these: a node whose store failed is stopped and started; a seat that leaves is dropped; the
 /// next seat is greeted; all is over; a frame is delivered; an outage ends or begins; the match goes on. It is over
 /// only where the match is over at every running node.
+///
+/// This is `first_due` for those outside, with what they need beside it: what `Over` says of the nodes.
 pub fn next_due(known: &Known<'_>) -> Due
     requires nodes { length known.now.nodes.now ≤ NODES }
     requires seats { length known.now.places.now ≤ 10 }
@@ -41,6 +43,7 @@ pub fn next_due(known: &Known<'_>) -> Due
     first_due(known)
 }
 
+/// The first that is due, in this order.
 fn first_due(known: &Known<'_>) -> Due
     requires nodes { length known.now.nodes.now ≤ NODES }
     requires seats { length known.now.places.now ≤ 10 }

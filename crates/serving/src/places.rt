@@ -28,7 +28,7 @@ impl Places {
         Places { all }
     }
 
-    /// Where each is.
+    /// Where each is. The list itself is private: it has ten at most, and changes by what happens to seats alone.
     pub(crate) fn as_slice(&self) -> &[Place]
         ensures value { result.now ≡ places_in self.now }
         ensures few { length result.now ≤ 10 }

@@ -1,4 +1,4 @@
-ghost use Rattle.std.specs.Prelude.{◌≡◌, ◌≤◌, ◌<◌, ◌+◌, ◌-◌, ◌^◌, min, replicate, set, slice_get, Some, IsTrue, ◌↔◌};
+ghost use Rattle.std.specs.Prelude.{◌≡◌, ◌≤◌, ◌+◌, ◌-◌, ◌^◌, min, replicate, set, slice_get, Some};
 ghost use Rattle.std.specs.Option.{option_map};
 ghost use Rattle.dealer_world.specs.Viewing.{view_of};
 ghost use Rattle.dealer_world.specs.declared.event.Event.TheVariants.{Stop as Stopping, Drop as Dropping};
@@ -24,7 +24,8 @@ pub(crate) struct Progress {
     outages: Outages,
     /// What is done about seats that were dropped.
     absent: Absent,
-    places: Places,
+    /// Where each seat is.
+    pub(crate) places: Places,
     /// How many seats were greeted.
     greeted: usize,
     /// How many commands the lowest running node had applied, at most so far.
@@ -77,21 +78,6 @@ impl Progress {
         }
     }
 
-    /// Where a seat is.
-    pub(crate) fn place(&self, seat: usize) -> Option<Place>
-        ensures { result ≡ slice_get (places_in self.now.places) seat }
-    {
-        self.places.at(seat)
-    }
-
-    /// Whether a seat has a connection to this node.
-    pub(crate) fn is_seated(&self, seat: usize, node: u8) -> bool
-        ensures value { IsTrue result ↔ (slice_get (places_in self.now.places) seat ≡ Some (Seated node)) }
-        ensures few { IsTrue result → seat < 10 }
-    {
-        self.places.is_seated(seat, node)
-    }
-
     /// A seat leaves a node: its connection ended or failed, or its session was closed.
     pub(crate) fn leave(&mut self, seat: usize, node: u8)
         ensures kept { IsKept self.old self.new }
@@ -122,7 +108,7 @@ impl Progress {
         })
     }
 
-    /// The next frame, where one is left to deliver.
+    /// The next frame, where one is left to deliver. How many were delivered is known here alone.
     pub(crate) fn frame<'a, D: Disk + Drop>(&self, cluster: &'a Cluster<D>) -> Option<Frame<'a>>
         ensures { option_map (λ frame. frame_by frame.from frame.to frame.bytes.now) result ≡ slice_get (view_of cluster.now).all.sent self.now.delivered }
     {

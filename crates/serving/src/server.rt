@@ -5,14 +5,14 @@ ghost use Rattle.dealer_world.specs.Promise.{IsPromised, HasNoForged};
 ghost use Rattle.dealer_node.specs.Seeing.{begun_of};
 ghost use Rattle.dealer_world.specs.Events.{node_of};
 ghost use Rattle.serving.specs.Dues.{TakesNext, IsAwaited};
-ghost use Rattle.serving.specs.Giving.{taken, to_give};
+ghost use Rattle.serving.specs.Giving.{taken};
 ghost use Rattle.serving.specs.Going.{piece_after};
 ghost use Rattle.serving.specs.Most.{frame_by, frame_of_turn, CoversTurn};
 ghost use Rattle.serving.specs.Outing.{outages_in};
 ghost use Rattle.serving.specs.Placed.{places_in};
-ghost use Rattle.serving.specs.Turned.{Turned, Gave, FailsAt, Ends, Mends, Passes, HasGivenAll, Opens};
+ghost use Rattle.serving.specs.Turned.{Turned, KeepsPromise, Gave, FailsAt, Closes, Mends, Opens};
 ghost use Rattle.serving.specs.Waits.{waits_prop};
-ghost use Rattle.serving.specs.Turning.{Tells, turn_of, goes_on, fault_in, event_in, IsWaiting};
+ghost use Rattle.serving.specs.Turning.{goes_on, fault_in, event_in, IsOfMatch, IsWaiting};
 ghost use Rattle.serving.specs.declared.place.Place.TheVariants.{Awaited};
 ghost use Rattle.serving.specs.declared.serve_fault.ServeFault.TheVariants.{LogFailed};
 
@@ -95,7 +95,7 @@ fn keep_piece(kept: &mut Vec<u8>, given: Waiting)
 }
 
 impl<D: Disk + Drop, L: Links + Drop> Server<D, L> {
-    ghost use Rattle.serving.specs.Serving.{served_of};
+    ghost use Rattle.serving.specs.Serving.{served_of, IsStill};
 
     /// Serves a cluster over these links: each node's log is emptied, and gets what the node's log has. All seats are
     /// awaited at node 0; one that is dropped later is awaited at the next node, or played for to the end.
@@ -147,11 +147,18 @@ impl<D: Disk + Drop, L: Links + Drop> Server<D, L> {
         ensures begun { map (begun_of D.Disk) (view_of self.new.cluster).nodes ≡ map (begun_of D.Disk) (view_of self.old.cluster).nodes }
     {
         // Before anything is taken or given: what the turn then carries and shows finds its room.
-        let most = most_shown(&self.cluster, self.next_frame());
+        let most = self.most_of_turn();
         if self.desk.links.reserve(most.pieces, most.bytes).is_err() {
             return Err(ServeFault::Node(NodeFault::OutOfMemory));
         }
-        self.take_turn(most)
+        self.take_turn()
+    }
+
+    /// How much the next turn shows at most.
+    fn most_of_turn(&self) -> MostShown
+        ensures { CoversTurn (view_of self.now.cluster) self.now.desk.progress self.now.waiting result }
+    {
+        most_shown(&self.cluster, self.next_frame())
     }
 
     /// The frame that the next turn may bring to a node.
@@ -164,15 +171,11 @@ impl<D: Disk + Drop, L: Links + Drop> Server<D, L> {
         }
     }
 
-    /// The same where the links have made room for so much.
-    fn take_turn(&mut self, most: MostShown) -> Result<Turn, ServeFault>
-        requires { CoversTurn (view_of self.old.cluster) self.old.desk.progress self.old.waiting most }
+    /// The same once the links have made room.
+    fn take_turn(&mut self) -> Result<Turn, ServeFault>
         ensures turned { Turned D.Disk (served_of self.old) result (served_of self.new) }
-        ensures promised { IsPromised D.Disk (view_of self.new.cluster) }
-        ensures unforged { HasNoForged (view_of self.old.cluster) → HasNoForged (view_of self.new.cluster) }
-        ensures begun { map (begun_of D.Disk) (view_of self.new.cluster).nodes ≡ map (begun_of D.Disk) (view_of self.old.cluster).nodes }
+        ensures promise { KeepsPromise D.Disk (view_of self.old.cluster) (view_of self.new.cluster) }
     {
-        let _ = most;
         match self.take_waiting()? {
             Taking::Gives(waiting) => self.give(waiting),
             Taking::Waits { seat, node } => Ok(Turn::Waits { seat, node }),
@@ -185,17 +188,14 @@ impl<D: Disk + Drop, L: Links + Drop> Server<D, L> {
 
     /// Takes the event that is to be given next: one that found no memory, or a new one.
     fn take_waiting(&mut self) -> Result<Taking, ServeFault>
-        ensures same { self.new.cluster ≡ self.old.cluster }
+        ensures still { IsStill self.old self.new }
         ensures progress { self.new.desk.progress ≡ self.old.desk.progress }
         ensures shown { self.new.desk.shown ≡ self.old.desk.shown }
-        ensures called { self.new.desk.last_node ≡ self.old.desk.last_node }
-        ensures refused { self.new.desk.last_fault ≡ self.old.desk.last_fault }
-        ensures piece { self.new.last_piece ≡ self.old.last_piece }
         ensures taken { self.new.waiting ≡ None }
         ensures passed { IfOk result (λ taking. L.passed self.new.desk.links ≡ L.passed self.old.desk.links ++ taken self.old.waiting (event_in taking)) }
         ensures failed { OnErr result (L.passed self.new.desk.links ≡ L.passed self.old.desk.links) }
         ensures next { IfOk result (TakesNext D.Disk (view_of self.old.cluster) self.old.desk.progress self.old.waiting) }
-        ensures waiting { IfOk result (λ taking. ForSome (event_in taking) (λ event. IsWaiting (view_of self.old.cluster) event)) }
+        ensures waiting { IfOk result (IsOfMatch (view_of self.old.cluster)) }
         ensures fault { IfErr result (λ fault. (self.old.waiting ≡ None) × FailsAt D.Disk (served_of self.old) fault) }
     {
         match self.waiting.take() {
@@ -232,15 +232,9 @@ impl<D: Disk + Drop, L: Links + Drop> Server<D, L> {
         waiting: &Waiting,
         answer: Result<(), NodeFault>,
     ) -> Result<Turn, ServeFault>
-        ensures same { self.new.cluster ≡ self.old.cluster }
+        ensures still { IsStill self.old self.new }
         ensures waiting { self.new.waiting ≡ self.old.waiting }
-        ensures piece { self.new.last_piece ≡ self.old.last_piece }
-        ensures called { self.new.desk.last_node ≡ self.old.desk.last_node }
-        ensures refused { self.new.desk.last_fault ≡ self.old.desk.last_fault }
-        ensures passes { (passes : Passes [] (served_of self.old) (served_of self.new)) × OnOk result (Ends answer waiting.now
-            (to_give (view_of self.new.cluster).all.shown self.old.desk.shown self.new.desk.shown) passes.given self.old.desk.progress self.new.desk.progress) }
-        ensures all_given { OnOk result (HasGivenAll (served_of self.new)) }
-        ensures tells { Tells (turn_of waiting.now.number waiting.now.seat waiting.now.event) waiting.now.event answer result }
+        ensures closes { Closes waiting.now answer (served_of self.old) result (served_of self.new) }
     {
         match answer {
             Ok(()) => {
@@ -253,15 +247,9 @@ impl<D: Disk + Drop, L: Links + Drop> Server<D, L> {
 
     /// Ends a turn whose event was refused, where the server goes on.
     fn mend(&mut self, waiting: &Waiting, fault: NodeFault) -> Result<Turn, ServeFault>
-        ensures same { self.new.cluster ≡ self.old.cluster }
+        ensures still { IsStill self.old self.new }
         ensures waiting { self.new.waiting ≡ self.old.waiting }
-        ensures piece { self.new.last_piece ≡ self.old.last_piece }
-        ensures called { self.new.desk.last_node ≡ self.old.desk.last_node }
-        ensures refused { self.new.desk.last_fault ≡ self.old.desk.last_fault }
-        ensures passes { (passes : Passes [] (served_of self.old) (served_of self.new)) × OnOk result (Ends (Err fault) waiting.now
-            (to_give (view_of self.new.cluster).all.shown self.old.desk.shown self.new.desk.shown) passes.given self.old.desk.progress self.new.desk.progress) }
-        ensures all_given { OnOk result (HasGivenAll (served_of self.new)) }
-        ensures tells { Tells (turn_of waiting.now.number waiting.now.seat waiting.now.event) waiting.now.event (Err fault) result }
+        ensures closes { Closes waiting.now (Err fault) (served_of self.old) result (served_of self.new) }
     {
         if !goes_on(&waiting.event, Err(fault)) || !self.mends(&waiting.event, fault) {
             return Err(ServeFault::Node(fault));
@@ -272,13 +260,10 @@ impl<D: Disk + Drop, L: Links + Drop> Server<D, L> {
 
     /// Whether a fault needs nothing, or a node's store failed for the first time.
     fn mends(&mut self, event: &Event, fault: NodeFault) -> bool
-        ensures same { self.new.cluster ≡ self.old.cluster }
+        ensures still { IsStill self.old self.new }
         ensures waiting { self.new.waiting ≡ self.old.waiting }
-        ensures piece { self.new.last_piece ≡ self.old.last_piece }
         ensures passed { L.passed self.new.desk.links ≡ L.passed self.old.desk.links }
         ensures shown { self.new.desk.shown ≡ self.old.desk.shown }
-        ensures called { self.new.desk.last_node ≡ self.old.desk.last_node }
-        ensures refused { self.new.desk.last_fault ≡ self.old.desk.last_fault }
         ensures mended { Mends fault (node_of event.now) self.old.desk.progress result self.new.desk.progress }
     {
         match fault {
@@ -327,7 +312,7 @@ impl<D: Disk + Drop, L: Links + Drop> Server<D, L> {
     pub fn place(&self, seat: usize) -> Option<Place>
         ensures { result ≡ slice_get (places_in (served_of self.now).progress.places) seat }
     {
-        self.desk.progress.place(seat)
+        self.desk.progress.places.at(seat)
     }
 
     /// Which seat the next turn will await at which node, if any.

@@ -6,7 +6,7 @@ ghost use Rattle.dealer_node.specs.declared.fault.NodeFault.TheVariants.{OutOfMe
 ghost use Rattle.dealer_world.specs.Viewing.{view_of};
 ghost use Rattle.match_links.specs.Passages.{Emptied};
 ghost use Rattle.serving.specs.Giving.{taken_for, taken_by, taken_from, all_emptied};
-ghost use Rattle.serving.specs.Turning.{IsFrameless, IsWaiting, IsForDue, IsTakenUp, MayFail, event_in};
+ghost use Rattle.serving.specs.Turning.{IsFrameless, IsOfMatch, IsForDue, IsTakenUp, MayFail, event_in};
 ghost use Rattle.serving.specs.declared.due.Due.TheVariants.{Await, Read, Deliver};
 ghost use Rattle.serving.specs.declared.serve_fault.ServeFault.TheVariants.{LinkFailed, LogFailed, Node as OfNode};
 
@@ -31,24 +31,24 @@ pub(crate) fn take_due<D: Disk + Drop, L: Links + Drop>(
     due: Due,
 ) -> Result<Taking, ServeFault>
     ensures due { IfOk result (IsTakenUp due) }
-    ensures waiting { IfOk result (λ taking. ForSome (event_in taking) (λ waiting. IsWaiting (view_of cluster.now) waiting)) }
+    ensures waiting { IfOk result (IsOfMatch (view_of cluster.now)) }
     ensures taken { IfOk result (λ taking. L.passed links.new ≡ L.passed links.old ++ taken_by (event_in taking)) }
     ensures failed { OnErr result (L.passed links.new ≡ L.passed links.old) }
     ensures fault { IfErr result (MayFail (view_of cluster.now).config due) }
 {
     match due {
-        Due::Stop(node) => checked(cluster, due, 0, Event::Stop { node, pick: 0 }),
+        Due::Stop(node) => checked(cluster, 0, Event::Stop { node, pick: 0 }),
         Due::Start(node) => {
-            let start = checked(cluster, due, 0, Event::Start { node })?;
+            let start = checked(cluster, 0, Event::Start { node })?;
             prepare(links, node)?;
             Ok(start)
         }
-        Due::Drop { seat, node } => checked(cluster, due, 0, Event::Drop { node, seat }),
+        Due::Drop { seat, node } => checked(cluster, 0, Event::Drop { node, seat }),
         Due::Await { seat, node } => accept_of(links, cluster, node, seat),
         Due::Read { seat, node } => read_of(alloc, links, cluster, node, seat),
         Due::Deliver(number) => carry(alloc, links, cluster, number),
-        Due::Away { seat, node } => checked(cluster, due, seat, Event::Away { node }),
-        Due::Tick(node) => checked(cluster, due, 0, Event::Tick { node }),
+        Due::Away { seat, node } => checked(cluster, seat, Event::Away { node }),
+        Due::Tick(node) => checked(cluster, 0, Event::Tick { node }),
         Due::Over => Ok(Taking::Over),
     }
 }
@@ -110,14 +110,13 @@ fn accept_of<D: Disk + Drop, L: Links + Drop>(
     seat: u8,
 ) -> Result<Taking, ServeFault>
     ensures due { IfOk result (IsTakenUp (Await seat node)) }
-    ensures waiting { IfOk result (λ taking. ForSome (event_in taking) (λ waiting. IsWaiting (view_of cluster.now) waiting)) }
+    ensures waiting { IfOk result (IsOfMatch (view_of cluster.now)) }
     ensures taken { IfOk result (λ taking. L.passed links.new ≡ L.passed links.old ++ taken_by (event_in taking)) }
     ensures failed { OnErr result (L.passed links.new ≡ L.passed links.old) }
     ensures fault { IfErr result (MayFail (view_of cluster.now).config (Await seat node)) }
 {
     // Looked at before the link is: who is seated there is then never lost.
-    let due = Due::Await { seat, node };
-    let _ = checked(cluster, due, 0, Event::Drop { node, seat })?;
+    let _ = checked(cluster, 0, Event::Drop { node, seat })?;
     match accept(links, node, seat)? {
         Some(event) => Ok(Taking::Gives(Waiting {
             event,
@@ -153,14 +152,13 @@ fn read_of<D: Disk + Drop, L: Links + Drop>(
     seat: u8,
 ) -> Result<Taking, ServeFault>
     ensures due { IfOk result (IsTakenUp (Read seat node)) }
-    ensures waiting { IfOk result (λ taking. ForSome (event_in taking) (λ waiting. IsWaiting (view_of cluster.now) waiting)) }
+    ensures waiting { IfOk result (IsOfMatch (view_of cluster.now)) }
     ensures taken { IfOk result (λ taking. L.passed links.new ≡ L.passed links.old ++ taken_by (event_in taking)) }
     ensures failed { OnErr result (L.passed links.new ≡ L.passed links.old) }
     ensures fault { IfErr result (MayFail (view_of cluster.now).config (Read seat node)) }
 {
     // Looked at before the link is: what it gives is then never lost.
-    let due = Due::Read { seat, node };
-    let _ = checked(cluster, due, 0, Event::Drop { node, seat })?;
+    let _ = checked(cluster, 0, Event::Drop { node, seat })?;
     match read(alloc, links, node, seat)? {
         Some(event) => Ok(Taking::Gives(Waiting {
             event,
@@ -207,7 +205,7 @@ fn carry<D: Disk + Drop, L: Links + Drop>(
     ensures same { L.passed links.new ≡ L.passed links.old }
     ensures taken { IfOk result (λ taking. taken_by (event_in taking) ≡ []) }
     ensures due { IfOk result (IsTakenUp (Deliver number)) }
-    ensures waiting { IfOk result (λ taking. ForSome (event_in taking) (λ waiting. IsWaiting (view_of cluster.now) waiting)) }
+    ensures waiting { IfOk result (IsOfMatch (view_of cluster.now)) }
     ensures fault { IfErr result (λ fault. (fault ≡ LinkFailed) ⊎ (fault ≡ OfNode OutOfMemory)) }
 {
     let Some(frame) = cluster.frame(number) else {

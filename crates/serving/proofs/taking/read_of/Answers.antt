@@ -7,7 +7,8 @@ use Rattle.dealer_world.specs.declared.event.Event.{Event}
 use Rattle.dealer_world.specs.declared.event.Event.TheVariants as event
 use Rattle.serving.specs.declared.due.Due.TheVariants.{Read}
 use Rattle.serving.specs.declared.waiting.Waiting.{Waiting}
-use Rattle.serving.specs.Turning.{IsForDue, IsWaiting}
+use Rattle.serving.specs.Turning.{IsForDue, IsWaiting, MayFail}
+use Rattle.serving.proofs.Outside.{may_fail}
 use Rattle.serving.proofs.taking.read_of.Goals as goal
 
 -- what is read of a seat is of the match where its drop is
@@ -30,3 +31,10 @@ returns-in-Some-clause-waiting g c = λ w is.
     let dropped : IsForMatch view.config drop.event = (rw c.in_ok-checked.ensures.event at c.in_ok-checked.ensures.waiting drop refl).0 in
     let due : IsForDue (Read c.args.seat c.args.node) 0 0 e = search rules in
     subst (IsWaiting view) (same_Some _ _ is) (of_match_too view c.args.seat c.args.node e due dropped)
+
+pub returns-in_err-checked-clause-fault : goal.returns-in_err-checked-clause-fault
+returns-in_err-checked-clause-fault g c =
+    let what = Read c.args.seat c.args.node in
+    let plan = (view_of c.args.cluster.now).config in
+    let fails : MayFail plan what c.in_err-checked.field-0.0 = may_fail plan what _ (c.in_err-checked.ensures.fault what (refl, refl)) in
+    search rules

@@ -41,27 +41,28 @@ invariant_of-self-2-clause-shown g c =
 pub returns-clause-gave : goal.returns-clause-gave
 returns-clause-gave g c =
     let ample : c.step-answer.result ≡ Err fault.OutOfMemory → ⊥ = search rules in
-    let closed = c.close_turn-turn.ensures.passes in
+    let closed = c.close_turn-turn.ensures.closes in
+    let still = c.close_turn-turn.ensures.still in
     let now = view_of c.close_turn-turn.new.self.cluster in
     let shown = c.close_turn-turn.new.self.desk.shown in
     let passes = passes_from [] _ (served_of c.args.self.now) (served_of c.close_turn-turn.new.self) c.settle_event.ensures.shown
-    (c.settle_event.ensures.passed ∙ sym (append-nil _)) closed.0 in
+    (c.settle_event.ensures.passed ∙ sym (append-nil _)) closed.passes in
     record {
       called = c.step-answer.result;
       of_match = c.requires;
-      stepped = rw c.close_turn-turn.ensures.same c.step-answer.ensures.stepped;
-      tells = c.close_turn-turn.ensures.tells;
+      stepped = rw still.cluster c.step-answer.ensures.stepped;
+      tells = closed.tells;
       again = λ none. absurd (ample none);
       given = λ _. c.close_turn-turn.ensures.waiting;
-      passes = record { given = closed.0.given; passed = passes.passed; gives = passes.gives };
+      passes = record { given = closed.passes.given; passed = passes.passed; gives = passes.gives };
       went = on_ok_weaker c.close_turn-turn.result (λ ends. record {
         settled = c.settle_event.new.self.progress;
-        settles = rw c.close_turn-turn.ensures.same c.settle_event.ensures.settled;
-        ends = subst (λ (k : ℕ). Ends c.step-answer.result c.args.waiting (to_give now.all.shown k shown) closed.0.given c.settle_event.new.self.progress c.close_turn-turn.new.self.desk.progress)
+        settles = rw still.cluster c.settle_event.ensures.settled;
+        ends = subst (λ (k : ℕ). Ends c.step-answer.result c.args.waiting (to_give now.all.shown k shown) closed.passes.given c.settle_event.new.self.progress c.close_turn-turn.new.self.desk.progress)
             c.settle_event.ensures.shown ends;
-      }) closed.1;
-      all_given = c.close_turn-turn.ensures.all_given;
-      refused = c.close_turn-turn.ensures.refused ∙ (c.settle_event.ensures.refused ∙ search rules);
-      named = λ _. c.close_turn-turn.ensures.called ∙ c.settle_event.ensures.called;
-      piece = λ _. c.keep_piece.ensures ∙ ap (λ (kept : Vec ℕ Global). piece_after c.args.waiting.event kept.items) c.close_turn-turn.ensures.piece;
+      }) closed.ends;
+      all_given = closed.all_given;
+      refused = still.refused ∙ (c.settle_event.ensures.refused ∙ search rules);
+      named = λ _. still.called ∙ c.settle_event.ensures.called;
+      piece = λ _. c.keep_piece.ensures ∙ ap (λ (kept : Vec ℕ Global). piece_after c.args.waiting.event kept.items) still.piece;
     }

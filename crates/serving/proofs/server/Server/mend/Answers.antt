@@ -9,8 +9,8 @@ use Rattle.serving.specs.Turned.{Mends}
 use Rattle.serving.proofs.Turns.{mended_ends}
 use Rattle.serving.proofs.server.Server.mend.Goals as goal
 
-pub returns-clause-passes : goal.returns-clause-passes
-returns-clause-passes g c =
+pub returns-clause-closes : goal.returns-clause-closes
+returns-clause-closes g c =
     let w = c.args.waiting.now in
     let old = c.args.self.now.desk.progress in
     let between = c.mends.new.self.desk.progress in
@@ -20,11 +20,14 @@ returns-clause-passes g c =
     let given = c.show.ensures.given in
     let shown = c.mends.ensures.shown in
     let mended : Mends c.args.fault (node_of w.event) old true between = search rules in
-    let leave = subst (λ (k : ℕ). OnlyLeave (to_give pieces k to) given.0 (places_in between.places) (places_in new.places)) shown given.3 in (
-      record {
-        given = given.0;
-        passed = given.1 ∙ ap (λ (ps : List Passage). ps ++ given.0) c.mends.ensures.passed;
-        gives = subst (λ (k : ℕ). Gives (places_in new.places) pieces k to given.0) shown given.2;
-      },
-      mended_ends c.args.fault w (to_give pieces c.args.self.now.desk.shown to) given.0 old between new mended c.show.ensures.kept leave,
-    )
+    let leave = subst (λ (k : ℕ). OnlyLeave (to_give pieces k to) given.given (places_in between.places) (places_in new.places)) shown given.leave in
+    record {
+      passes = record {
+        given = given.given;
+        passed = given.passed ∙ ap (λ (ps : List Passage). ps ++ given.given) c.mends.ensures.passed;
+        gives = subst (λ (k : ℕ). Gives (places_in new.places) pieces k to given.given) shown given.gives;
+      };
+      ends = mended_ends c.args.fault w (to_give pieces c.args.self.now.desk.shown to) given.given old between new mended c.show.ensures.uncalled.kept leave;
+      all_given = search rules;
+      tells = search rules;
+    }

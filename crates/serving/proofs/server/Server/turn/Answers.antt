@@ -1,9 +1,6 @@
-use Rattle.std.proofs.Common.{List, Option, inl, refl, ap, subst}
+use Rattle.std.proofs.Common.{List, inl, refl, ap, subst}
 use Rattle.dealer_node.specs.Nodes.{Node}
-use Rattle.dealer_world.specs.Records.{Frame}
-use Rattle.dealer_world.specs.Viewing.{view_of}
 use Rattle.match_links.specs.Passages.{Passage}
-use Rattle.serving.specs.Most.{CoversSome}
 use Rattle.serving.specs.Served.{Served}
 use Rattle.serving.specs.Serving.{served_of}
 use Rattle.serving.specs.Turned.{Turned}
@@ -15,15 +12,14 @@ returns-then-is_err-clause-turned g c =
     let now = served_of c.args.self.now in
     inl (ap (λ (ps : List Passage). record now { passed = ps }) c.reserve.ensures, inl refl)
 
--- the room is for the frame that comes next
-pub take_turn-requires : goal.take_turn-requires
-take_turn-requires g c = (
-  c.most_shown-most.ensures.each,
-  subst (λ (frame : Option Frame). CoversSome (view_of c.args.self.now.cluster) frame c.most_shown-most.result) c.next_frame.ensures c.most_shown-most.ensures.frame,
-)
-
 pub returns-clause-turned : goal.returns-clause-turned
 returns-clause-turned g c =
     let now = served_of c.args.self.now in
     subst (λ (before : Served (Node g.row.D.Denot)). Turned g.D.Disk before c.take_turn.result (served_of c.take_turn.new.self)) (ap (λ (ps : List Passage). record now { passed = ps }) c.reserve.ensures)
     c.take_turn.ensures.turned
+
+pub returns-clause-unforged : goal.returns-clause-unforged
+returns-clause-unforged g c = c.take_turn.ensures.promise.unforged
+
+pub returns-clause-begun : goal.returns-clause-begun
+returns-clause-begun g c = c.take_turn.ensures.promise.begun
