@@ -10,7 +10,8 @@ use std::alloc::Global;
 use std::process::Abort;
 use std::test::Fail;
 
-/// Node 0 of three.
+/// Node 0 of three. Each call of it stands in one function here: what a contract says is read anew wherever its call
+/// stands.
 #[derive(Drop)]
 pub(crate) struct Peer {
     pub(crate) node: Node<OnceDisk>,

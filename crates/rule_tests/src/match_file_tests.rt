@@ -40,7 +40,7 @@ port = 2000
 outage = [{node = 0, at = 1, back = 5}, {node = 1, at = 5}]
 ";
 
-/// The file of a text, or what is told of it.
+/// The file of a text, or what is told of it. Here alone `MatchFile::read` is called, so that its contract is read once.
 fn file(alloc: Global, text: &[u8]) -> Result<MatchFile, MatchFault> {
     MatchFile::read(alloc, text)
 }
