@@ -1,0 +1,142 @@
+-- Deeds of nodes and orders of them, on values.
+use Rattle.std.proofs.Common.{◌≡◌, ◌≢◌, ℕ, ◌==◌, if◌then◌else◌, inl, inr, true, false, List, [], ◌∷◌, length, Ok, Err, refl, ap, sym, subst, arith, take}
+use Rattle.promise_store.specs.declared.disk.Disk.{Ghosts}
+use Rattle.promise_store.specs.Journals.{header}
+use Rattle.promise_store.specs.Holding.{StandsFor}
+use Rattle.protocol_model.specs.Stores.{Store, empty_store}
+use Rattle.node_rules.specs.Standings.{Place, started}
+use Rattle.node_rules.specs.Calls.{Stop}
+use Rattle.dealer_node.specs.Nodes.{Node}
+use Rattle.dealer_node.specs.declared.fault.NodeFault.TheVariants as fault
+use Rattle.dealer_node.specs.Outs.{nothing_told}
+use Rattle.dealer_node.specs.Seeing.{images_of}
+use Rattle.dealer_world.specs.declared.event.Event.TheVariants as event
+use Rattle.dealer_world.specs.Records.{Frame, Delivered, Ordered, Arrival}
+use Rattle.dealer_world.specs.Calls.{nothing_made}
+use Rattle.dealer_world.specs.Unforged.{IsAmong, IsUnforged}
+use Rattle.stations.specs.Deeds.{Deed, Did, new_at, Doing, deeds_of, IsOrder, record_of}
+use Rattle.stations.specs.Stations.{Look, place_in, deed_by, Gains, nothing, call, IsLeft, died, broke_off}
+use Rattle.stations.specs.Lives.{IsProcess, at_rest, MayHaveDone, new_store, IsHistoryOf}
+use Rattle.stations.proofs.Dying.{stops_down}
+
+-- ---- orders of deeds
+
+abbrev frame : Frame
+frame = record { from = 0; to = 1; bytes = 7 ∷ [] }
+
+-- node 0 sends a frame, and node 1 gets it
+abbrev sends : Deed
+sends = record { arrived = []; made = record { frames = frame ∷ []; texts = []; began = false } }
+
+abbrev gets : Deed
+gets = record { arrived = Delivered frame ∷ []; made = nothing_made }
+
+abbrev by : ℕ → Deed → Doing
+by node deed = record { node = node; deed = deed }
+
+abbrev in_order : List Doing
+in_order = by 1 gets ∷ by 0 sends ∷ []
+
+abbrev out_of_order : List Doing
+out_of_order = by 0 sends ∷ by 1 gets ∷ []
+
+abbrev histories : ℕ → List Deed
+histories i = if i == 0 then sends ∷ [] else gets ∷ []
+
+own_deeds : deeds_of in_order 0 ≡ sends ∷ []
+own_deeds = refl
+
+and_those_of_the_other : deeds_of in_order 1 ≡ gets ∷ []
+and_those_of_the_other = refl
+
+none_of_a_third : deeds_of in_order 2 ≡ []
+none_of_a_third = refl
+
+a_deed_that_is_left_out : IsOrder 2 histories (by 0 sends ∷ []) → ⊥
+a_deed_that_is_left_out order = let none : [] ≡ gets ∷ [] = order.each 1 (omega arith) in cc
+
+a_deed_that_nobody_did : IsOrder 2 histories (by 1 died ∷ in_order) → ⊥
+a_deed_that_nobody_did order = let more : died ∷ gets ∷ [] ≡ gets ∷ [] = order.each 1 (omega arith) in cc
+
+one_that_is_done_by_no_node : IsOrder 2 histories (by 2 died ∷ in_order) → ⊥
+one_that_is_done_by_no_node order = let few = order.nodes (by 2 died) (inl refl) in omega arith
+
+the_frame_was_sent_before : IsUnforged (record_of in_order).sent (record_of in_order).delivered
+the_frame_was_sent_before arrival there = elim there [
+  | inl is ↦ subst (λ (a : Arrival). IsAmong (take a.sent_before (frame ∷ [])) a.what) (sym is) (inl refl)
+  | inr none ↦ absurd none
+]
+
+a_frame_that_came_before_it_was_sent : IsUnforged (record_of out_of_order).sent (record_of out_of_order).delivered → ⊥
+a_frame_that_came_before_it_was_sent unforged = unforged (record { what = Delivered frame; sent_before = 0 }) (inl refl)
+
+-- ---- what a call was
+
+-- an order that reached a node that ran, with the front that it met
+abbrev ordered : Deed
+ordered = record { arrived = Ordered 1 3 ∷ []; made = nothing_made }
+
+what_an_order_was : deed_by true 3 (event.Away 1) nothing_told (Ok tt) ≡ ordered
+what_an_order_was = refl
+
+-- also where it was refused
+a_refused_order_came_too : deed_by true 3 (event.Away 1) nothing_told (Err fault.NothingToAct) ≡ ordered
+a_refused_order_came_too = refl
+
+nothing_comes_to_a_node_that_is_down : deed_by false 3 (event.Away 1) nothing_told (Err fault.Down) ≡ died
+nothing_comes_to_a_node_that_is_down = refl
+
+a_start_begins : (deed_by false 0 (event.Start 1) nothing_told (Ok tt)).made.began ≡ true
+a_start_begins = refl
+
+a_refused_start_does_not : (deed_by false 0 (event.Start 1) nothing_told (Err fault.Conflict)).made.began ≡ false
+a_refused_start_does_not = refl
+
+-- of a call that broke off what it brought came, with the front that it met
+what_broke_off : broke_off 3 (event.Away 1) ≡ ordered
+what_broke_off = refl
+
+a_refused_growth_kept_as_a_deed : Gains true 0 (event.Tick 1) nothing_told (Err fault.OutOfMemory) [] (died ∷ []) → ⊥
+a_refused_growth_kept_as_a_deed (nothing none same) = cc
+a_refused_growth_kept_as_a_deed (call ample more) = ample refl
+
+a_deed_of_a_fault_left_out : Gains true 0 (event.Tick 1) nothing_told (Err fault.Spent) [] [] → ⊥
+a_deed_of_a_fault_left_out (nothing none same) = cc
+a_deed_of_a_fault_left_out (call ample more) = cc
+
+-- ---- what a node did
+
+-- a process that opened its store and died before it was started
+one_that_did_nothing : (place : Place) → Did place (new_at place) (died ∷ []) (new_at place)
+one_that_did_nothing place = (new_at place, refl, (Stop, stops_down place (new_at place) refl))
+
+one_that_runs_and_was_never_started : (place : Place) (found : Store) → Did place (new_at place) [] (started place found) → ⊥
+one_that_runs_and_was_never_started place found did = let e : true ≡ false = ap (λ s. s.up) did in cc
+
+-- ---- processes of a node
+
+longer : {A : Type 0} (first : A) (list : List A) → first ∷ list ≢ list
+longer first list same = let e = ap length same in omega (arith, e)
+
+module _ {D : Type 0} (g : Ghosts D) (place : Place) (file : List ℕ) where
+  module _ (is : StandsFor (header place.node place.nodes) file empty_store) where
+    a_new_store_has_no_history : IsHistoryOf g place file (new_store file is) []
+    a_new_store_has_no_history = refl
+
+    what_was_done_before_there_was_a_store : IsHistoryOf g place file (new_store file is) (died ∷ []) → ⊥
+    what_was_done_before_there_was_a_store done = cc
+
+    -- its next process goes on from nothing done
+    and_leaves_what_it_is : IsLeft place file []
+    and_leaves_what_it_is = record { s = new_at place; did = refl; down = refl; held = inl is }
+
+  module _ (look : Look (Node D)) where
+    a_process_with_another_deal : (hand : ℕ) → (place_in look).deals hand ≢ place.deals hand → IsProcess g place file look → ⊥
+    a_process_with_another_deal hand differs is = differs (ap (λ (p : Place). p.deals hand) is.placed)
+
+    a_process_of_another_node : look.number ≢ place.node → IsProcess g place file look → ⊥
+    a_process_of_another_node differs is = differs (ap (λ (p : Place). p.node) is.placed)
+
+    a_death_that_is_left_out : (left : List ℕ) (is : IsProcess g place file look) (image : images_of g look.node left)
+        → MayHaveDone g place file left (at_rest look is image) look.deeds → ⊥
+    a_death_that_is_left_out left is image done = longer died look.deeds (sym done)

@@ -1,0 +1,6 @@
+mod Joining
+mod Acting
+mod Dying
+mod Living
+mod Walks
+mod Examples

@@ -1,0 +1,77 @@
+//! What holds of nodes in processes of their own: each law is the contract of a function that does nothing.
+
+ghost use Rattle.std.specs.Prelude.{map, option_map};
+ghost use Rattle.stations.specs.Joining.{ProcessesShowOneList, ProcessesAreBacked, ProcessesSendToNodes, ProcessesNeverConflict};
+ghost use Rattle.stations.specs.Stations.{DeathsAtRestAreDeeds, DeathsInsideAreDeeds};
+ghost use Rattle.stations.specs.Lives.{LivesAreDeeds, StationsShowOneList};
+ghost use Rattle.stations.specs.Looking.{look_of};
+
+use crate::station::Station;
+use dealer_node::laws::{images_are_seen, moments_pass, seen_as_one};
+use dealer_world::laws::{
+    events_are_calls, runs_are_backed, runs_never_conflict, runs_send_to_nodes, runs_show_one_list,
+};
+use promise_store::Disk;
+
+/// One list of chosen commands is behind all lines and logs of all processes of a match, over all their deaths and
+/// starts: where what each node did was by the rules, and where there is an order of all that was done in which each frame
+/// had been sent before it came.
+pub fn processes_show_one_list()
+    ensures { ProcessesShowOneList }
+{
+    runs_show_one_list();
+}
+
+/// And what each node said by its frames both stores back that its next process may find.
+pub fn processes_are_backed()
+    ensures { ProcessesAreBacked }
+{
+    runs_are_backed();
+}
+
+/// And each frame goes from a node of the match to another.
+pub fn processes_send_to_nodes()
+    ensures { ProcessesSendToNodes }
+{
+    runs_send_to_nodes();
+}
+
+/// And no call of a process finds another command known at a slot where one was chosen: 95 never comes.
+pub fn processes_never_conflict()
+    ensures { ProcessesNeverConflict }
+{
+    runs_never_conflict();
+}
+
+/// What a process leaves that dies, at whatever moment, is what the next process of its node goes on from: as after a
+/// stop, or as after a call that broke off in its append. A start that breaks off while it opens the store is such a call
+/// too, also where it was about to open a store of version 1.
+pub fn deaths_are_deeds<D: Disk + Drop>()
+    ensures rest { DeathsAtRestAreDeeds D.Disk }
+    ensures inside { DeathsInsideAreDeeds D.Disk }
+{
+    images_are_seen::<D>();
+    moments_pass::<D>();
+    seen_as_one::<D>();
+    events_are_calls::<D>();
+}
+
+/// The processes that a node had, one after another, the first over a new store, each next over what the one before left:
+/// what they did, together, is by the rules of the node, and the last of them left what these lead to.
+pub fn lives_are_deeds<D: Disk + Drop>()
+    ensures { LivesAreDeeds D.Disk }
+{
+    deaths_are_deeds::<D>();
+}
+
+/// One list of chosen commands is behind all lines and logs of the stations of a match and of all earlier processes of
+/// their nodes, over honest disks: what each node did has a history, as its processes ended, and for each order of these
+/// histories in which each frame had been sent before it came there is the one list.
+///
+/// `None` stands for a node that has no process now.
+pub fn stations_show_one_list<D: Disk + Drop>(_stations: &[Option<Station<D>>])
+    ensures { StationsShowOneList D.Disk (map (option_map look_of) _stations.now) }
+{
+    lives_are_deeds::<D>();
+    processes_show_one_list();
+}

@@ -1,0 +1,16 @@
+//! The nodes of a match in processes of their own: what each did, and what holds of all together.
+//!
+//! A process has one `Station`: `open` goes on from the store that its disk has, `step` gives an event to its node, and what
+//! the node makes of it is for the process to hand on. For clauses alone it keeps all that the node did (`specs/Deeds.antt`).
+//!
+//! `laws` says what follows for all processes together, however often each was killed and began again: one list of chosen
+//! commands is behind all that they showed, as of a cluster in one process. Its premises are that disks keep their word,
+//! that a node has one process at a time and one source of deals, and that the calls of all processes have an order, as by
+//! one clock, in which each frame had been sent before it came.
+#![tactic(auto)]
+
+mod deeds;
+pub mod laws;
+mod station;
+
+pub use station::Station;
