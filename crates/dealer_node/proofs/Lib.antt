@@ -29,5 +29,6 @@ pub mod Handled
 pub mod Within
 pub mod Most
 mod MostExamples
+mod Examples
 pub mod AsOne
 pub mod Own

@@ -1,10 +1,11 @@
 -- How a node is seen as a standing.
-use Rattle.std.specs.Prelude.{◌≡◌, ℕ, List, Option, Some, None, [], Bool, true, false, Result, Err}
+use Rattle.std.specs.Prelude.{◌≡◌, ◌==◌, if◌then◌else◌, ℕ, List, Option, Some, None, [], Bool, true, false, Result, Err}
 use Rattle.promise_store.specs.declared.disk.Disk.{Ghosts}
 use Rattle.promise_store.specs.Keeping.{disk_of, Leaves}
 use Rattle.acceptor.specs.Stored.{store_of}
 use Rattle.node_rules.specs.Standings.{Standing, stopped}
 use Rattle.slot_log.specs.Slots.{front}
+use Rattle.paxos_wire.specs.declared.ballot.Ballot.{Ballot}
 use Rattle.dealer_node.specs.Nodes.{Node}
 use Rattle.dealer_node.specs.declared.fault.NodeFault.{NodeFault}
 use Rattle.dealer_node.specs.declared.fault.NodeFault.TheVariants as fault
@@ -49,6 +50,10 @@ module _ {D : Type 0} where
   settled (Err (fault.Store why)) node = downed node
   settled (Err fault.Conflict) node = downed node
   settled other node = node
+
+-- a ballot that was promised; none is of round 0
+abbrev pub promised_ballot : Ballot → Option Ballot
+promised_ballot ballot = if ballot.round == 0 then None else Some ballot
 
 module _ {D : Type 0} (g : Ghosts D) where
   -- a node that is down knows nothing, and each image of its disk stands for one of two stores

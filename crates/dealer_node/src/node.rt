@@ -1,4 +1,4 @@
-ghost use Rattle.std.specs.Prelude.{◌≡◌, ℕ, ◌<◌, ◌≤◌, true, false, List, [], Option, IsTrue, IsErr, Ok, Err, IfOk, IfErr, IfSome, OnOk, length, option_map};
+ghost use Rattle.std.specs.Prelude.{◌≡◌, ℕ, ◌<◌, ◌≤◌, true, false, List, [], Option, IsTrue, IsErr, Ok, Err, IfOk, IfErr, IfSome, OnOk, is_some, length, option_map};
 ghost use Rattle.protocol_model.specs.Stores.{Store as Kept, empty_store};
 ghost use Rattle.node_rules.specs.Standings.{Standing, applied, front_of, place_of, stopped};
 ghost use Rattle.node_rules.specs.Showing.{is_connected as is_talk_ready};
@@ -23,6 +23,7 @@ use crate::rooms::Rooms;
 use crate::starting::{open, ready};
 use crate::up::Up;
 use dealer_kind::Config;
+use paxos_wire::Ballot;
 use promise_store::laws::what_is_kept_is_left;
 use promise_store::{Disk, Store};
 use slot_log::{Command, Table};
@@ -82,7 +83,7 @@ impl<D: Disk> Model for Node<D> {
 }
 
 impl<D: Disk + Drop> Node<D> {
-    ghost use Rattle.dealer_node.specs.Seeing.{member_in, runs, front_in, disk_in, IsSeen, begun_of, bytes_of, failures_of, images_of, since_of, downed, settled};
+    ghost use Rattle.dealer_node.specs.Seeing.{member_in, runs, front_in, disk_in, IsSeen, begun_of, bytes_of, failures_of, images_of, since_of, promised_ballot, downed, settled};
     ghost use Rattle.promise_store.specs.Refusals.{Refuses};
     ghost use Rattle.dealer_node.specs.Working.{head_of};
     ghost use Rattle.dealer_node.specs.Most.{most_shown_of, most_shown_by};
@@ -361,6 +362,28 @@ impl<D: Disk + Drop> Node<D> {
         match &self.up {
             None => &self.blank,
             Some(up) => &up.running.table,
+        }
+    }
+
+    /// The ballot that the node has promised; none before the first, and while the node is down.
+    pub fn promised(&self) -> Option<Ballot>
+        ensures seen { (s : Standing) → IsTrue D.is_honest → IsSeen D.Disk self.now s → s.up ≡ true → result ≡ promised_ballot s.store.promise }
+        ensures down { runs self.now ≡ false → result ≡ None }
+    {
+        match &self.up {
+            None => None,
+            Some(up) => up.promised(),
+        }
+    }
+
+    /// Whether the node prepares or leads the ballot that it has promised. One that is down doesn't.
+    pub fn campaigns(&self) -> bool
+        ensures seen { (s : Standing) → IsSeen D.Disk self.now s → result ≡ is_some s.campaign }
+        ensures down { runs self.now ≡ false → result ≡ false }
+    {
+        match &self.up {
+            None => false,
+            Some(up) => up.running.campaigns(),
         }
     }
 

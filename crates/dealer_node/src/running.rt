@@ -1,4 +1,4 @@
-ghost use Rattle.std.specs.Prelude.{◌≡◌, ◌+◌, ◌*◌, ◌≤◌, ◌<◌, length, Ok, IfOk, IfSome, OnOk, vec_len, vec_capacity};
+ghost use Rattle.std.specs.Prelude.{◌≡◌, ◌+◌, ◌*◌, ◌≤◌, ◌<◌, length, Ok, IfOk, IfSome, OnOk, is_some, vec_len, vec_capacity};
 ghost use Rattle.paxos_wire.specs.declared.limits.TheConstants.{SLOTS};
 ghost use Rattle.slot_log.specs.Slots.{front};
 ghost use Rattle.protocol_model.specs.Stores.{Store};
@@ -98,6 +98,13 @@ impl Running {
         ensures most { result ≤ SLOTS }
     {
         self.learner.log().front()
+    }
+
+    /// Whether it prepares or leads a ballot.
+    pub(crate) fn campaigns(&self) -> bool
+        ensures { result ≡ is_some self.now.proposer.campaign }
+    {
+        self.proposer.ballot().is_some()
     }
 
     /// Whether a seat is connected: its session is ready.

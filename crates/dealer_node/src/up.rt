@@ -1,5 +1,12 @@
+ghost use Rattle.std.specs.Prelude.{◌≡◌, IsTrue};
+ghost use Rattle.node_rules.specs.Standings.{Standing};
+ghost use Rattle.dealer_node.specs.Members.{Membership};
+ghost use Rattle.dealer_node.specs.Seeing.{promised_ballot};
+ghost use Rattle.dealer_node.specs.Working.{IsUp};
+
 use crate::running::Running;
 use acceptor::Acceptor;
+use paxos_wire::Ballot;
 use promise_store::Disk;
 
 /// What a node has while it runs: its acceptor, over its disk, and what it holds in memory.
@@ -10,4 +17,24 @@ use promise_store::Disk;
 pub(crate) struct Up<D: Disk> {
     pub(crate) acceptor: Acceptor<D>,
     pub(crate) running: Running,
+}
+
+/// A ballot that was promised: none is of round 0.
+fn promised_ballot(ballot: Ballot) -> Option<Ballot>
+    ensures { result ≡ promised_ballot ballot }
+{
+    if ballot.round == 0 {
+        None
+    } else {
+        Some(ballot)
+    }
+}
+
+impl<D: Disk + Drop> Up<D> {
+    /// The ballot that its store has promised; none before the first.
+    pub(crate) fn promised(&self) -> Option<Ballot>
+        ensures { (member : Membership) (s : Standing) → IsTrue D.is_honest → IsUp D.Disk member self.now s → result ≡ promised_ballot s.store.promise }
+    {
+        promised_ballot(self.acceptor.promised())
+    }
 }
