@@ -8,7 +8,7 @@ ghost use Rattle.proposer.specs.CommandRuns.{IsBounded};
 ghost use Rattle.node_rules.specs.Standings.{Standing};
 ghost use Rattle.node_rules.specs.Accepting.{preparing, accepting, voting};
 ghost use Rattle.node_rules.specs.Proposing.{closing};
-ghost use Rattle.dealer_node.specs.Members.{place_at};
+ghost use Rattle.dealer_node.specs.Members.{Membership, place_at};
 ghost use Rattle.dealer_node.specs.Outs.{told_by};
 ghost use Rattle.dealer_node.specs.declared.limits.TheConstants.{FRAMES_TO_ALL, FRAMES_OF_A_CLOSE, FRAMES_OF_AN_ANSWER, FRAME_BYTES_OF_AN_ANSWER};
 ghost use Rattle.dealer_node.specs.declared.made.Need.{Need as Needs};
@@ -36,27 +36,24 @@ impl<D: Disk + Drop> Up<D> {
     /// is refused.
     pub(crate) fn prepare(
         &mut self,
-        member: &Member,
         from: u8,
         ballot: Ballot,
         slot: u32,
         made: &mut Made,
     ) -> Result<(), NodeFault>
-        requires at { IsAt member.now self.old.running }
         requires ballot { IsBallot ballot }
         requires slot { IsSlot slot }
         requires texts { FRAMES_OF_AN_ANSWER ≤ made.old.frames.text_room }
         requires bytes { FRAME_BYTES_OF_AN_ANSWER ≤ made.old.frames.byte_room }
-        ensures works { (s : Standing) → IsTrue D.is_honest → IsUp D.Disk member.now self.old s
-            → Works D.Disk member.now s (Ok (preparing from ballot slot s)) self.old self.new (told_by made.old) (told_by made.new) result }
+        ensures works { (member : Membership) (s : Standing) → IsTrue D.is_honest → IsUp D.Disk member self.old s
+            → Works D.Disk member s (Ok (preparing from ballot slot s)) self.old self.new (told_by made.old) (told_by made.new) result }
         ensures goes_on { GoesOn D.Disk self.old self.new result }
         ensures only { IsOfPart result }
-        ensures at { IsAt member.now self.new.running }
+        ensures at { (member : Membership) → IsAt member self.old.running → IsAt member self.new.running }
         ensures bounded { (most : ℕ) → IsBounded self.old.running.proposer most → IsBounded self.new.running.proposer most }
         ensures room { store_room self.old ≤ store_room self.new + 1 }
         ensures left { (need : Needs) (answers commands frames : ℕ) → HasLeft self.old.running made.old need (answers + 1) (commands + 1) (frames + (FRAMES_OF_AN_ANSWER + FRAMES_TO_ALL)) → HasLeft self.new.running made.new need answers commands frames }
     {
-        let _ = member;
         let _promised = self.acceptor.promised();
         match self.acceptor.on_prepare(ballot, slot) {
             Ok(answer) => {
@@ -216,7 +213,7 @@ impl<D: Disk + Drop> Up<D> {
     {
         let _ = most;
         // The own deal is drawn only where something may be proposed.
-        if !self.running.is_leading(member) {
+        if !self.running.proposer.is_leading() {
             return Ok(());
         }
         match self.running.proposal(member, &mut lists.proposed) {

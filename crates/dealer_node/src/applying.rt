@@ -5,7 +5,7 @@ ghost use Rattle.node_rules.specs.Applying.{Scene, kept, taking, taking_all};
 ghost use Rattle.slot_log.specs.declared.command.Command.{Command as Order};
 ghost use Rattle.slot_log.specs.Hand.{Hand};
 ghost use Rattle.slot_log.specs.Dealer.{effect_of, reason_of};
-ghost use Rattle.dealer_kind.specs.Kind.{hands_after};
+ghost use Rattle.dealer_kind.specs.Kind.{Setting, hands_after};
 ghost use Rattle.dealer_node.specs.declared.reader.Reader.{Reader as Reads};
 ghost use Rattle.dealer_node.specs.Texts.{Marked, byte_total};
 ghost use Rattle.dealer_node.specs.Turned.{talks};
@@ -19,11 +19,10 @@ use seat_session::Session;
 use slot_log::{Command, Effect, Table};
 
 /// Forgets an act that waits and doesn't fit.
-fn forget(pending: &mut Option<Command>, member: &Member, table: &Table)
-    ensures kept { (applied : List Order) → IsTableOf member.now.setting applied table.now → pending.new ≡ kept member.now.setting applied pending.old }
+fn forget(pending: &mut Option<Command>, table: &Table)
+    ensures kept { (setting : Setting) (applied : List Order) → IsTableOf setting applied table.now → pending.new ≡ kept setting applied pending.old }
     ensures act { IfSome pending.old (λ command. IsInRange command) → IfSome pending.new (λ command. IsInRange command) }
 {
-    let _ = member;
     if let Some(act) = pending {
         if !table.fits(act) {
             *pending = None;
@@ -67,7 +66,7 @@ fn apply_command(
 {
     let took = took_effect(table.apply_reserved(command));
     show_news(shown, took, member, table, sessions);
-    forget(pending, member, table);
+    forget(pending, table);
 }
 
 /// Applies commands in order, for all of which there is room.

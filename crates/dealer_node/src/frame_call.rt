@@ -28,7 +28,8 @@ use paxos_wire::{FrameFault, Message, MessageRoom, decode};
 use promise_store::Disk;
 use std::alloc::Global;
 
-/// What the bytes of a frame say. The lists of a message stand in the room.
+/// What the bytes of a frame say, and that a message which was read has a frame, as all that takes it asks. The lists of a
+/// message stand in the room.
 fn read<'a>(bytes: &[u8], room: &'a mut MessageRoom) -> Result<Message<'a>, FrameFault>
     ensures value { result ≡ reading bytes.now }
     ensures message { IfOk result (λ message. IsMessage message) }

@@ -6,7 +6,7 @@ ghost use Rattle.paxos_wire.specs.declared.limits.TheConstants.{MOST_SINGLE_FRAM
 ghost use Rattle.node_rules.specs.Standings.{Standing};
 ghost use Rattle.node_rules.specs.Rules.{taking, asking, on_message};
 ghost use Rattle.proposer.specs.CommandRuns.{IsBounded};
-ghost use Rattle.dealer_node.specs.Members.{place_at};
+ghost use Rattle.dealer_node.specs.Members.{Membership, place_at};
 ghost use Rattle.dealer_node.specs.Outs.{told_by};
 ghost use Rattle.dealer_node.specs.declared.limits.TheConstants.{FRAMES_TO_ALL, ANSWERS_OF_A_CALL, FRAMES_OF_AN_ANSWER};
 ghost use Rattle.dealer_node.specs.Rooms.{Grows};
@@ -25,18 +25,18 @@ use paxos_wire::{CommandList, Message};
 use promise_store::Disk;
 
 /// Asks a node that speaks of a slot above the front, in a Prepare, an Accept or an Accepted, for what was chosen.
-fn ask(running: &Running, member: &Member, from: u8, message: &Message, made: &mut Made)
+fn ask(running: &Running, from: u8, message: &Message, made: &mut Made)
     requires message { IsMessage message.now }
     requires frames { 1 ≤ made.old.frames.text_room }
     requires frame_bytes { MOST_SINGLE_FRAME ≤ made.old.frames.byte_room }
-    ensures taken { (s : Standing) → IsRunning member.now running.now s → IsTaken member.now running.now (told_by made.old) (told_by made.new) (asking from message.now s) }
+    ensures taken { (member : Membership) (s : Standing) → IsRunning member running.now s → IsTaken member running.now (told_by made.old) (told_by made.new) (asking from message.now s) }
     ensures frames { Grows made.old.frames made.new.frames 1 MOST_SINGLE_FRAME }
     ensures rest { made.new ≡ record made.old { frames = made.new.frames } }
 {
     match message {
         Message::Prepare { slot, .. }
         | Message::Accept { slot, .. }
-        | Message::Accepted { slot, .. } => running.ask_above(member, from, *slot, made),
+        | Message::Accepted { slot, .. } => running.ask_above(from, *slot, made),
         Message::Promise { .. }
         | Message::Refuse { .. }
         | Message::Chosen { .. }
@@ -76,7 +76,7 @@ impl<D: Disk + Drop> Up<D> {
             → HasLeft self.new.running made.new need answers more frames }
     {
         match message {
-            Message::Prepare { ballot, slot } => self.prepare(member, from, *ballot, *slot, made),
+            Message::Prepare { ballot, slot } => self.prepare(from, *ballot, *slot, made),
             Message::Accept {
                 ballot,
                 slot,
@@ -132,7 +132,7 @@ impl<D: Disk + Drop> Up<D> {
             Ok(()) => match self.close_call(member, most, lists, made) {
                 Err(fault) => Err(fault),
                 Ok(()) => {
-                    ask(&self.running, member, from, message, made);
+                    ask(&self.running, from, message, made);
                     Ok(())
                 }
             },

@@ -1,12 +1,16 @@
-ghost use Rattle.std.specs.Prelude.{◌≡◌, ◌+◌, ◌*◌, ◌≤◌, ◌<◌, ◌++◌, ◌&&◌, false, map, is_none, if◌then◌else◌, [], Ok, Err, Some, None, IfSome, vec_len, vec_capacity};
+ghost use Rattle.std.specs.Prelude.{◌≡◌, Option, ◌+◌, ◌*◌, ◌≤◌, ◌<◌, ◌++◌, ◌&&◌, false, map, is_none, if◌then◌else◌, [], Ok, Err, Some, None, IfSome, vec_len, vec_capacity};
 ghost use Rattle.std.specs.Option.{ForSome};
 ghost use Rattle.slot_log.specs.Dealer.{reason_of};
+ghost use Rattle.slot_log.specs.Hand.{Match};
+ghost use Rattle.slot_log.specs.declared.command.Command.{Command as Order};
+ghost use Rattle.paxos_wire.specs.declared.ballot.Ballot.{Ballot as Vow};
 ghost use Rattle.paxos_wire.specs.Fits.{MayGoOn, IsInRange};
 ghost use Rattle.paxos_wire.specs.declared.limits.TheConstants.{MOST_SINGLE_FRAME};
 ghost use Rattle.paxos_wire.specs.declared.message.Message.TheVariants.{Forward as Forwarding};
 ghost use Rattle.seat_session.specs.Feeds.{line_feeds};
 ghost use Rattle.seat_session.specs.Session.{is_closed};
 ghost use Rattle.seat_session.specs.declared.said.Said.TheVariants.{Ready as SaidReady, Act as SaidAct};
+ghost use Rattle.node_rules.specs.Standings.{Place};
 ghost use Rattle.node_rules.specs.Sending.{one};
 ghost use Rattle.node_rules.specs.Seats.{is_others};
 ghost use Rattle.dealer_node.specs.Outs.{told_by};
@@ -63,29 +67,16 @@ fn forward(frames: &mut Texts<u8>, member: &Member, promised: Ballot, act: &Comm
 }
 
 /// A seat that gets ready is shown its line.
-fn take_ready(
-    seat: usize,
-    member: &Member,
-    promised: Ballot,
-    table: &Table,
-    pending: &Option<Command>,
-    made: &mut Made,
-)
-    requires game { table.now.game ≡ member.now.setting.game }
+fn take_ready(seat: usize, table: &Table, made: &mut Made)
     requires seat { seat < table.now.game.players }
     requires texts { 1 ≤ made.old.shown.text_room }
     requires bytes { 4096 ≤ made.old.shown.byte_room }
-    ensures taken { TakesAnswer (place_at member.now) table.now promised seat (Ok SaidReady) pending.now pending.now (told_by made.old) (told_by made.new) }
+    ensures taken { (place : Place) (promised : Vow) (pending : Option Order) → table.now.game ≡ place.setting.game
+        → TakesAnswer place table.now promised seat (Ok SaidReady) pending pending (told_by made.old) (told_by made.new) }
     ensures shown { Grows made.old.shown made.new.shown 1 4096 }
     ensures rest { made.new ≡ record made.old { shown = made.new.shown } }
 {
-    show_line(
-        &mut made.shown,
-        member,
-        table,
-        seat,
-        &BettingText::newest(table),
-    );
+    show_line(&mut made.shown, table, seat, &BettingText::newest(table));
 }
 
 /// An act waits where it fits and none does, and goes on to the node whose ballot was promised, where that is another.
@@ -110,17 +101,10 @@ pub(crate) fn take_act(
 }
 
 /// A fault is told.
-fn take_fault(
-    fault: SessionFault,
-    seat: usize,
-    member: &Member,
-    promised: Ballot,
-    table: &Table,
-    pending: &Option<Command>,
-    made: &mut Made,
-)
+fn take_fault(fault: SessionFault, seat: usize, made: &mut Made)
     requires { vec_len made.old.faults < vec_capacity made.old.faults }
-    ensures taken { TakesAnswer (place_at member.now) table.now promised seat (Err fault) pending.now pending.now (told_by made.old) (told_by made.new) }
+    ensures taken { (place : Place) (table : Match) (promised : Vow) (pending : Option Order)
+        → TakesAnswer place table promised seat (Err fault) pending pending (told_by made.old) (told_by made.new) }
     ensures faults { Tells made.old made.new 1 }
     ensures rest { made.new ≡ record made.old { faults = made.new.faults } }
 {
@@ -152,7 +136,7 @@ fn take_said(
     ensures act { IfSome pending.old (λ command. IsInRange command) → IfSome pending.new (λ command. IsInRange command) }
 {
     match said {
-        Said::Ready => take_ready(seat, member, promised, table, pending, made),
+        Said::Ready => take_ready(seat, table, made),
         Said::Act(act) => take_act(act, member, promised, table, pending, made),
     }
 }
@@ -184,7 +168,7 @@ fn take_answer(
 {
     match said {
         Ok(said) => take_said(said, seat, member, promised, table, pending, made),
-        Err(fault) => take_fault(*fault, seat, member, promised, table, pending, made),
+        Err(fault) => take_fault(*fault, seat, made),
     }
 }
 

@@ -12,7 +12,7 @@ ghost use Rattle.dealer_node.specs.declared.reader.Reader.{Reader as Reads};
 ghost use Rattle.dealer_node.specs.Texts.{Marked};
 ghost use Rattle.dealer_node.specs.declared.limits.TheConstants.{FRAMES_OF_AN_ANSWER, FRAME_BYTES_OF_AN_ANSWER};
 ghost use Rattle.dealer_node.specs.Scenes.{IsScene};
-ghost use Rattle.dealer_node.specs.Members.{place_at};
+ghost use Rattle.dealer_node.specs.Members.{Membership, place_at};
 ghost use Rattle.dealer_node.specs.Outs.{told_by};
 ghost use Rattle.dealer_node.specs.Rooms.{Grows};
 ghost use Rattle.dealer_node.specs.Running.{IsRunning, IsTaken, TakesTurn, IsAt, AreInRange, GoesOn, CanLearn, Learns};
@@ -181,14 +181,13 @@ impl Running {
     }
 
     /// Asks a node for more where the front came from a slot to a multiple of 64 at which there is a slot.
-    fn ask_on(&self, member: &Member, from: u8, before: u32, made: &mut Made)
+    fn ask_on(&self, from: u8, before: u32, made: &mut Made)
         requires frames { 1 ≤ made.old.frames.text_room }
         requires frame_bytes { MOST_SINGLE_FRAME ≤ made.old.frames.byte_room }
-        ensures taken { (s : Standing) → IsRunning member.now self.now s → IsTaken member.now self.now (told_by made.old) (told_by made.new) (asking_on from before s) }
+        ensures taken { (member : Membership) (s : Standing) → IsRunning member self.now s → IsTaken member self.now (told_by made.old) (told_by made.new) (asking_on from before s) }
         ensures frames { Grows made.old.frames made.new.frames 1 MOST_SINGLE_FRAME }
         ensures rest { made.new ≡ record made.old { frames = made.new.frames } }
     {
-        let _ = member;
         let front = self.front();
         if before < front && front % WINDOW as u32 == 0 && front < SLOTS {
             ask(&mut made.frames, from, front);
@@ -222,35 +221,33 @@ impl Running {
     {
         let before = self.front();
         self.take_chosen(member, slot, command, made)?;
-        self.ask_on(member, from, before, made);
+        self.ask_on(from, before, made);
         Ok(())
     }
 
     /// Tells a node what was chosen at the slots that it asks for: 64 at most.
-    pub(crate) fn tell_chosen(&self, member: &Member, from: u8, slot: u32, made: &mut Made)
-        requires at { IsAt member.now self.now }
+    pub(crate) fn tell_chosen(&self, from: u8, slot: u32, made: &mut Made)
         requires slot { IsSlot slot }
+        requires commands { AreInRange self.now.learner.learned.log }
         requires frames { FRAMES_OF_AN_ANSWER ≤ made.old.frames.text_room }
         requires frame_bytes { FRAME_BYTES_OF_AN_ANSWER ≤ made.old.frames.byte_room }
-        ensures taken { (s : Standing) → IsRunning member.now self.now s → IsTaken member.now self.now (told_by made.old) (told_by made.new) (telling from slot s) }
+        ensures taken { (member : Membership) (s : Standing) → IsRunning member self.now s → IsTaken member self.now (told_by made.old) (told_by made.new) (telling from slot s) }
         ensures frames { Grows made.old.frames made.new.frames FRAMES_OF_AN_ANSWER FRAME_BYTES_OF_AN_ANSWER }
         ensures rest { made.new ≡ record made.old { frames = made.new.frames } }
     {
-        let _ = member;
         let slots = told_slots(self.learner.log(), slot);
         send_chosen(&mut made.frames, from, self.learner.log(), slot, slots);
     }
 
     /// Asks a node that speaks of a slot above the front for what was chosen from the front on.
-    pub(crate) fn ask_above(&self, member: &Member, from: u8, slot: u32, made: &mut Made)
+    pub(crate) fn ask_above(&self, from: u8, slot: u32, made: &mut Made)
         requires slot { IsSlot slot }
         requires frames { 1 ≤ made.old.frames.text_room }
         requires frame_bytes { MOST_SINGLE_FRAME ≤ made.old.frames.byte_room }
-        ensures taken { (s : Standing) → IsRunning member.now self.now s → IsTaken member.now self.now (told_by made.old) (told_by made.new) (asking_above from slot s) }
+        ensures taken { (member : Membership) (s : Standing) → IsRunning member self.now s → IsTaken member self.now (told_by made.old) (told_by made.new) (asking_above from slot s) }
         ensures frames { Grows made.old.frames made.new.frames 1 MOST_SINGLE_FRAME }
         ensures rest { made.new ≡ record made.old { frames = made.new.frames } }
     {
-        let _ = member;
         let front = self.front();
         if front < slot {
             ask(&mut made.frames, from, front);

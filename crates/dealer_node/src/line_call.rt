@@ -133,7 +133,7 @@ impl<D: Disk + Drop> Up<D> {
         ensures room_out { IfOk result (λ ready. HasRoom out.new (line_need self.new.running ready.1 most)) }
         ensures bytes { OnOk result (HasRoomAt self.new.running.seats seat (length bytes.now)) }
     {
-        let Some(limit) = self.running.most_answers(seat, bytes) else {
+        let Some(limit) = self.running.seats.most_answers(seat, bytes) else {
             return Err(NodeFault::OutOfMemory);
         };
         let Some(need) = line_need(&self.running, limit, most) else {

@@ -1,5 +1,6 @@
 ghost use Rattle.std.specs.Prelude.{◌≡◌, ◌+◌, ◌*◌, ◌≤◌, ◌<◌, ◌++◌, ◌∷◌, [], length, map, if◌then◌else◌};
 ghost use Rattle.matchstate.specs.Line.{newest_text};
+ghost use Rattle.dealer_kind.specs.Kind.{Setting};
 ghost use Rattle.node_rules.specs.Showing.{is_connected, seat_line, seat_lines, log_piece, news, header};
 ghost use Rattle.dealer_node.specs.Texts.{byte_total};
 ghost use Rattle.dealer_node.specs.Turned.{printed, talk_of, talks};
@@ -25,17 +26,15 @@ pub(crate) fn is_connected(session: &Option<Session>) -> bool
 /// Shows a seat its line; nothing before the first deal. This is the betting text of the newest hand.
 pub(crate) fn show_line(
     shown: &mut Texts<Reader>,
-    member: &Member,
     table: &Table,
     seat: usize,
     betting: &BettingText,
 )
-    requires game { table.now.game ≡ member.now.setting.game }
     requires seat { seat < table.now.game.players }
     requires betting { betting.now ≡ newest_text table.now.game table.now.hands }
     requires texts { 1 ≤ shown.old.text_room }
     requires bytes { 4096 ≤ shown.old.byte_room }
-    ensures texts { shown.new.texts ≡ shown.old.texts ++ map printed (seat_line member.now.setting table.now.hands seat) }
+    ensures texts { (setting : Setting) → table.now.game ≡ setting.game → shown.new.texts ≡ shown.old.texts ++ map printed (seat_line setting table.now.hands seat) }
     ensures text_room { shown.old.text_room ≤ shown.new.text_room + 1 }
     ensures byte_room { shown.old.byte_room ≤ shown.new.byte_room + 4096 }
     ensures len { length shown.new.texts ≤ length shown.old.texts + 1 }
@@ -54,17 +53,11 @@ pub(crate) fn show_line(
 }
 
 /// Shows each connected seat its line, in order of seats.
-pub(crate) fn show_lines(
-    shown: &mut Texts<Reader>,
-    member: &Member,
-    table: &Table,
-    sessions: &[Option<Session>],
-)
-    requires game { table.now.game ≡ member.now.setting.game }
+pub(crate) fn show_lines(shown: &mut Texts<Reader>, table: &Table, sessions: &[Option<Session>])
     requires seats { length sessions.now ≡ table.now.game.players }
     requires texts { length sessions.now ≤ shown.old.text_room }
     requires bytes { 4096 * length sessions.now ≤ shown.old.byte_room }
-    ensures texts { shown.new.texts ≡ shown.old.texts ++ map printed (seat_lines member.now.setting table.now.hands 0 (talks sessions.now)) }
+    ensures texts { (setting : Setting) → table.now.game ≡ setting.game → shown.new.texts ≡ shown.old.texts ++ map printed (seat_lines setting table.now.hands 0 (talks sessions.now)) }
     ensures text_room { shown.old.text_room ≤ shown.new.text_room + length sessions.now }
     ensures byte_room { shown.old.byte_room ≤ shown.new.byte_room + 4096 * length sessions.now }
     ensures len { length shown.new.texts ≤ length shown.old.texts + length sessions.now }
@@ -73,7 +66,7 @@ pub(crate) fn show_lines(
     let betting = BettingText::newest(table);
     for (seat, session) in sessions.iter().enumerate() {
         if is_connected(session) {
-            show_line(shown, member, table, seat, &betting);
+            show_line(shown, table, seat, &betting);
         }
     }
 }
@@ -123,7 +116,7 @@ pub(crate) fn show_news(
 {
     if took {
         table.game().limits();
-        show_lines(shown, member, table, sessions);
+        show_lines(shown, table, sessions);
         show_log(shown, member, table);
     }
 }

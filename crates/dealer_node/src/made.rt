@@ -78,7 +78,7 @@ impl Made {
         append_reserved(&mut self.faults, &mut other.faults);
     }
 
-    /// The same of what isn't kept for another call.
+    /// The same of what isn't kept for another call: it is moved in, so that its owner has nothing to let go.
     pub(crate) fn append_owned(&mut self, mut other: Made)
         requires { HasRoomFor self.old other }
         ensures { told_by self.new ≡ both_told (told_by self.old) (told_by other) }

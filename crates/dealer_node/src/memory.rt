@@ -56,7 +56,7 @@ impl Running {
                 slot,
                 entries,
             } => {
-                self.count_promise(member, from, *ballot, *slot, entries.list());
+                self.count_promise(from, *ballot, *slot, entries.list());
                 Ok(())
             }
             Message::Refuse { promised, .. } => {
@@ -70,11 +70,11 @@ impl Running {
             } => self.count_votes(member, from, *ballot, *slot, commands.as_slice(), made),
             Message::Chosen { slot, command } => self.believe(member, from, *slot, *command, made),
             Message::Ask { slot } => {
-                self.tell_chosen(member, from, *slot, made);
+                self.tell_chosen(from, *slot, made);
                 Ok(())
             }
             Message::Forward { command } => {
-                self.take_over(member, command);
+                self.take_over(command);
                 Ok(())
             }
             Message::Prepare { .. } | Message::Accept { .. } => unreachable!(),

@@ -406,7 +406,7 @@ impl<D: Disk + Drop> Node<D> {
     {
         match &self.up {
             None => false,
-            Some(up) => up.running.is_connected(seat),
+            Some(up) => up.running.seats.is_connected(seat),
         }
     }
 

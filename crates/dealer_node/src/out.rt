@@ -8,7 +8,8 @@ use crate::seat_fault::SeatFault;
 use std::alloc::Global;
 use std::marker::Model;
 
-/// Where the calls of nodes put what they send, show and tell, each behind what stands there.
+/// Where the calls of nodes put what they send, show and tell, each behind what stands there: what a call makes, as the
+/// crates above see it.
 ///
 /// Contracts see the frames, each with the node that it goes to; what is shown, in one order, each text with its
 /// reader; and the faults in what seats sent.

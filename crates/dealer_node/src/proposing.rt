@@ -3,7 +3,7 @@ ghost use Rattle.std.specs.List.{AllByRecursion};
 ghost use Rattle.paxos_wire.specs.Fits.{IsBallot, IsCommandRun, IsEntry};
 ghost use Rattle.paxos_wire.specs.declared.limits.TheConstants.{SLOTS, MOST_SINGLE_FRAME};
 ghost use Rattle.slot_log.specs.Slots.{front};
-ghost use Rattle.proposer.specs.Campaigns.{next_ballot, counting, leads};
+ghost use Rattle.proposer.specs.Campaigns.{next_ballot, counting, is_leading};
 ghost use Rattle.proposer.specs.CommandRuns.{IsBounded};
 ghost use Rattle.node_rules.specs.Standings.{Standing, idle, front_of};
 ghost use Rattle.protocol_model.specs.Votes.{told_by as told_by_store};
@@ -18,7 +18,7 @@ use crate::member::Member;
 use crate::running::Running;
 use crate::seen_ballot::higher;
 use crate::sending::send_to_others;
-use crate::values::{is_over, own_value};
+use crate::values::own_value;
 use paxos_wire::limits::{SLOTS, WINDOW};
 use paxos_wire::{Ballot, CommandList, Entries, Message};
 use proposer::AcceptRun;
@@ -26,10 +26,10 @@ use proposer::laws::command_runs_are_bounded;
 
 impl Running {
     /// Whether the match is over.
-    pub(crate) fn is_over(&self, member: &Member) -> bool
-        ensures { (s : Standing) → IsRunning member.now self.now s → result ≡ is_over (place_at member.now) s }
+    pub(crate) fn is_over(&self) -> bool
+        ensures { (member : Membership) (s : Standing) → IsRunning member self.now s → result ≡ is_over (place_at member) s }
     {
-        is_over(member, &self.table)
+        self.table.over()
     }
 
     /// Whether no round is above those seen, that of the ballot that the store has promised among them, or no slot is
@@ -76,28 +76,20 @@ impl Running {
         }
     }
 
-    /// Counts a promise of a node, with what it tells.
-    pub(crate) fn count_promise(
-        &mut self,
-        member: &Member,
-        from: u8,
-        ballot: Ballot,
-        slot: u32,
-        told: &Entries,
-    )
-        requires at { IsAt member.now self.old }
-        requires from { from < member.now.nodes }
+    /// Counts a promise of a node, with what it tells: the proposer's call, as the rule that it carries out.
+    pub(crate) fn count_promise(&mut self, from: u8, ballot: Ballot, slot: u32, told: &Entries)
+        requires from { from < self.old.proposer.nodes }
         requires told { AllByRecursion IsEntry told.now }
-        ensures runs { (s : Standing) → IsRunning member.now self.old s → IsRunning member.now self.new (counting_promise (place_at member.now) from ballot slot told.now s).after }
-        ensures at { IsAt member.now self.new }
+        ensures runs { (member : Membership) (s : Standing) → IsAt member self.old → IsRunning member self.old s
+            → IsRunning member self.new (counting_promise (place_at member) from ballot slot told.now s).after }
+        ensures at { (member : Membership) → IsAt member self.old → IsAt member self.new }
         ensures counts { self.new.proposer ≡ counting self.old.proposer from ballot slot told.now }
         ensures rest { self.new ≡ record self.old { proposer = self.new.proposer } }
     {
-        let _ = member;
         self.proposer.on_promise(from, ballot, slot, told);
     }
 
-    /// Gives a ballot up that is outbid.
+    /// Gives a ballot up that is outbid: the proposer's call, as the rule that it carries out.
     pub(crate) fn hear_refusal(&mut self, promised: Ballot)
         ensures runs { (member : Membership) (s : Standing) → IsRunning member self.old s → IsRunning member self.new (hearing_refusal promised s).after }
         ensures at { (member : Membership) → IsAt member self.old → IsAt member self.new }
@@ -107,7 +99,7 @@ impl Running {
         self.proposer.on_refuse(promised);
     }
 
-    /// Leads no longer, nor prepares.
+    /// Leads no longer, nor prepares: the proposer's call, as the rule that it carries out.
     pub(crate) fn turn_idle(&mut self)
         ensures runs { (member : Membership) (s : Standing) → IsRunning member self.old s → IsRunning member self.new (idle s) }
         ensures at { (member : Membership) → IsAt member self.old → IsAt member self.new }
@@ -153,15 +145,6 @@ impl Running {
         }
     }
 
-    /// Whether a quorum promised the ballot that the node began.
-    pub(crate) fn is_leading(&self, member: &Member) -> bool
-        requires { IsAt member.now self.now }
-        ensures { result ≡ leads member.now.nodes self.now.proposer.campaign }
-    {
-        let _ = member;
-        self.proposer.is_leading()
-    }
-
     /// What a node that leads proposes from its front on, once at a slot in a ballot, where one is left; it is marked as
     /// proposed. Outside of the slots that its ballot covers the node leads no longer.
     fn propose<'a>(&mut self, member: &Member, room: &'a mut CommandList) -> Option<AcceptRun<'a>>
@@ -193,7 +176,7 @@ impl Running {
         room: &'a mut CommandList,
     ) -> Option<AcceptRun<'a>>
         requires at { IsAt member.now self.old }
-        requires leading { leads member.now.nodes self.old.proposer.campaign ≡ true }
+        requires leading { is_leading self.old.proposer ≡ true }
         ensures closes { (s : Standing) → IsRunning member.now self.old s → Closes member.now self.new s result }
         ensures fits { IfSome result (λ made. IsBallot made.ballot × IsCommandRun made.slot made.commands) }
         ensures bounded { (most : ℕ) → IsBounded self.old.proposer most → IfSome result (λ made. length made.commands ≤ most) }

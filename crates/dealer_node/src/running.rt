@@ -6,7 +6,6 @@ ghost use Rattle.node_rules.specs.Standings.{Standing, started};
 ghost use Rattle.node_rules.specs.Rules.{seeing};
 ghost use Rattle.node_rules.specs.Turns.{sending};
 ghost use Rattle.node_rules.specs.Seats.{session_at, connecting, dropping, pending_act, forwarding, taking_over};
-ghost use Rattle.node_rules.specs.Showing.{is_connected as is_talk_ready};
 ghost use Rattle.dealer_node.specs.Members.{Membership, place_at};
 ghost use Rattle.dealer_node.specs.Outs.{told_by};
 ghost use Rattle.dealer_node.specs.declared.limits.TheConstants.{COMMANDS_OF_A_CALL, MOST_FRAMES_OF_A_MESSAGE};
@@ -107,14 +106,6 @@ impl Running {
         self.proposer.ballot().is_some()
     }
 
-    /// Whether a seat is connected: its session is ready.
-    pub(crate) fn is_connected(&self, seat: usize) -> bool
-        requires { seat < length self.now.seats.talks }
-        ensures { result ≡ is_talk_ready (session_at self.now.seats.talks seat) }
-    {
-        self.seats.is_connected(seat)
-    }
-
     /// How many commands are applied at most once so many more are known.
     pub(crate) fn most_applied(&self, commands: usize) -> usize
         requires { commands ≤ COMMANDS_OF_A_CALL }
@@ -173,7 +164,7 @@ impl Running {
         self.seen = seen_in(self.seen, message);
     }
 
-    /// Begins a seat's session anew.
+    /// Begins a seat's session anew: the sessions' call, as the rule that it carries out.
     pub(crate) fn connect(&mut self, alloc: Global, seat: usize)
         requires { seat < length self.old.seats.talks }
         ensures runs { (member : Membership) (s : Standing) → IsRunning member self.old s → IsRunning member self.new (connecting seat s).after }
@@ -182,7 +173,7 @@ impl Running {
         self.seats.connect(alloc, seat);
     }
 
-    /// Drops a seat's session.
+    /// Drops a seat's session: the sessions' call, as the rule that it carries out.
     pub(crate) fn drop_seat(&mut self, seat: usize)
         requires { seat < length self.old.seats.talks }
         ensures runs { (member : Membership) (s : Standing) → IsRunning member self.old s → IsRunning member self.new (dropping seat s).after }
@@ -191,15 +182,8 @@ impl Running {
         self.seats.drop_seat(seat);
     }
 
-    /// How many answers a piece of a seat's bytes may be given, and one more: none where no number is so great.
-    pub(crate) fn most_answers(&self, seat: usize, piece: &[u8]) -> Option<usize>
-        requires { seat < length self.now.seats.talks }
-        ensures { IfSome result (λ limit. feeds_with (session_at self.now.seats.talks seat) piece.now < limit) }
-    {
-        self.seats.most_answers(seat, piece)
-    }
-
-    /// Makes room for so many bytes more of a seat. An `Err` changes room alone.
+    /// Makes room for so many bytes more of a seat: the sessions' call, by which nothing else changes of what runs. An `Err`
+    /// changes room alone.
     pub(crate) fn reserve_bytes(&mut self, seat: usize, more: usize) -> Result<(), AllocError>
         requires { seat < length self.old.seats.talks }
         ensures same { (member : Membership) (s : Standing) → IsRunning member self.old s → IsRunning member self.new s }
@@ -212,7 +196,8 @@ impl Running {
     }
 
     /// Takes a piece of a seat's bytes, for which there is room, as for all answers to it: one more at most than line
-    /// feeds wait and come. The ballot is the one that the node's store has promised.
+    /// feeds wait and come: the sessions' call, as the rule that it carries out. The ballot is the one that the node's store
+    /// has promised.
     pub(crate) fn hear_piece(
         &mut self,
         member: &Member,
@@ -251,8 +236,9 @@ impl Running {
         );
     }
 
-    /// Takes what an order means: it waits where nothing does, and goes on to the node whose ballot was promised, where
-    /// that is another. The ballot is the one that the node's store has promised.
+    /// Takes what an order means, as an act that a seat says is taken, and as the rule has it: it waits where nothing does,
+    /// and goes on to the node whose ballot was promised, where that is another. The ballot is the one that the node's store
+    /// has promised.
     pub(crate) fn play_for(
         &mut self,
         member: &Member,
@@ -275,12 +261,11 @@ impl Running {
     }
 
     /// Lets an act that another node hands on wait, where it fits and none does.
-    pub(crate) fn take_over(&mut self, member: &Member, act: &Command)
-        ensures runs { (s : Standing) → IsRunning member.now self.old s → IsRunning member.now self.new (taking_over (place_at member.now) act.now s).after }
-        ensures at { IsAt member.now self.old → IsAt member.now self.new }
+    pub(crate) fn take_over(&mut self, act: &Command)
+        ensures runs { (member : Membership) (s : Standing) → IsRunning member self.old s → IsRunning member self.new (taking_over (place_at member) act.now s).after }
+        ensures at { (member : Membership) → IsAt member self.old → IsAt member self.new }
         ensures rest { self.new ≡ record self.old { pending = self.new.pending } }
     {
-        let _ = member;
         wait(&mut self.pending, &self.table, act);
     }
 }

@@ -86,7 +86,7 @@ impl<D: Disk + Drop> Up<D> {
         ensures shows { ShowsWithin (most_after (most_applied self.old.running)) (told_by out.old) (told_by out.new) }
     {
         let promised = self.acceptor.promised();
-        let over = self.running.is_over(member);
+        let over = self.running.is_over();
         if !over && self.running.is_spent(promised) {
             return Err(NodeFault::Spent);
         }

@@ -2,7 +2,7 @@ ghost use Rattle.std.specs.Prelude.{◌≡◌, ◌&&◌, not, IfSome};
 ghost use Rattle.paxos_wire.specs.Fits.{IsInRange};
 ghost use Rattle.slot_log.specs.Dealer.{is_match_over, is_running};
 ghost use Rattle.node_rules.specs.Standings.{Standing, applied};
-ghost use Rattle.node_rules.specs.Proposing.{own_value, is_over};
+ghost use Rattle.node_rules.specs.Proposing.{own_value};
 ghost use Rattle.dealer_node.specs.Members.{place_at};
 ghost use Rattle.dealer_node.specs.Scenes.{IsTableOf};
 
@@ -38,12 +38,4 @@ pub(crate) fn own_value(
         }
     }
     *pending
-}
-
-/// Whether the match is over.
-pub(crate) fn is_over(member: &Member, table: &Table) -> bool
-    ensures { (s : Standing) → IsTableOf (place_at member.now).setting (applied s) table.now → result ≡ is_over (place_at member.now) s }
-{
-    let _ = member;
-    table.over()
 }

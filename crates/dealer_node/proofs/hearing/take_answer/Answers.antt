@@ -15,4 +15,4 @@ returns-in-Ok-clause-taken c =
 pub returns-in-Err-clause-taken : goal.returns-in-Err-clause-taken
 returns-in-Err-clause-taken c =
     subst (λ (said : Result Said SessionFault). TakesAnswer (place_at c.args.member.now) c.args.table.now c.args.promised c.args.seat said c.args.pending.now c.args.pending.now (told_by c.args.made.now) (told_by c.take_fault.new.made))
-    (sym c.in-Err.is) c.take_fault.ensures.taken
+    (sym c.in-Err.is) (c.take_fault.ensures.taken (place_at c.args.member.now) c.args.table.now c.args.promised c.args.pending.now)

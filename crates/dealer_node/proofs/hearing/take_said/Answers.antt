@@ -9,7 +9,7 @@ use Rattle.dealer_node.proofs.hearing.take_said.Goals as goal
 pub returns-in-Ready-clause-taken : goal.returns-in-Ready-clause-taken
 returns-in-Ready-clause-taken c =
     subst (λ (said : Said). TakesAnswer (place_at c.args.member.now) c.args.table.now c.args.promised c.args.seat (Ok said) c.args.pending.now c.args.pending.now (told_by c.args.made.now) (told_by c.take_ready.new.made))
-    (sym c.in-Ready.is) c.take_ready.ensures.taken
+    (sym c.in-Ready.is) (c.take_ready.ensures.taken (place_at c.args.member.now) c.args.promised c.args.pending.now c.requires.game)
 
 pub returns-in-Act-clause-taken : goal.returns-in-Act-clause-taken
 returns-in-Act-clause-taken c =

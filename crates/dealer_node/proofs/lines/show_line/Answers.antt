@@ -17,8 +17,8 @@ pub invariant_of-shown : goal.invariant_of-shown
 invariant_of-shown c = (put_line c).0
 
 pub returns-clause-texts : goal.returns-clause-texts
-returns-clause-texts c =
-    (put_line c).1 ∙ ap (λ p. c.args.shown.now.texts ++ p) (line_printed c.args.member.now.setting c.args.table.now.game c.args.table.now.hands c.args.seat c.requires.game (omega (arith, c.dealt.ensures.value, c.if-dealt-eq0.false)))
+returns-clause-texts c = λ setting same.
+    (put_line c).1 ∙ ap (λ p. c.args.shown.now.texts ++ p) (line_printed setting c.args.table.now.game c.args.table.now.hands c.args.seat same (omega (arith, c.dealt.ensures.value, c.if-dealt-eq0.false)))
 
 pub returns-clause-len : goal.returns-clause-len
 returns-clause-len c = omega (arith, (put_line c).2)

@@ -15,7 +15,7 @@ returns-clause-ok c = λ s is.
     let first = c.in_ok-take_chosen.ensures.ok s is in
     let asks : Standing → Turn = λ told. asking_on c.args.from (front_of s) told in
     let before : c.front-before.result ≡ front_of s = c.front-before.ensures.value ∙ ap (λ (l : Learned). front l.log) is.learned in
-    let asked = subst (λ (n : ℕ). IsTaken c.args.member.now c.take_chosen.new.self (told_by c.take_chosen.new.made) (told_by c.ask_on.new.made) (asking_on c.args.from n first.turn.after)) before (c.ask_on.ensures.taken first.turn.after first.taken.runs) in
+    let asked = subst (λ (n : ℕ). IsTaken c.args.member.now c.take_chosen.new.self (told_by c.take_chosen.new.made) (told_by c.ask_on.new.made) (asking_on c.args.from n first.turn.after)) before (c.ask_on.ensures.taken c.args.member.now first.turn.after first.taken.runs) in
     record {
       turn = joined first.turn (asks first.turn.after);
       rule = ap (λ (r : Result Turn Refusal). and_then r (λ told. Ok (asks told))) first.rule;

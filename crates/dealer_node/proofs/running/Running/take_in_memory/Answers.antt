@@ -24,7 +24,7 @@ returns-in-Promise-clause-ok c = λ s is.
     let place = place_at c.args.member.now in
     subst (λ (m : Message). TakesInMemory c.args.member.now c.count_promise.new.self (told_by c.args.made.now) (told_by c.args.made.now) s (taking place c.args.from m s)) (sym c.in-Promise.is)
     (still_taken c.args.member.now c.count_promise.new.self s (counting_promise place c.args.from c.in-Promise.ballot c.in-Promise.slot c.in-Promise.entries s).after (told_by c.args.made.now)
-    (subst (λ (es : List Entry). IsRunning c.args.member.now c.count_promise.new.self (counting_promise place c.args.from c.in-Promise.ballot c.in-Promise.slot es s).after) c.list.ensures (c.count_promise.ensures.runs s is)) (counted_keeps place.nodes s c.args.from c.in-Promise.ballot c.in-Promise.slot c.in-Promise.entries))
+    (subst (λ (es : List Entry). IsRunning c.args.member.now c.count_promise.new.self (counting_promise place c.args.from c.in-Promise.ballot c.in-Promise.slot es s).after) c.list.ensures (c.count_promise.ensures.runs c.args.member.now s c.requires.at is)) (counted_keeps place.nodes s c.args.from c.in-Promise.ballot c.in-Promise.slot c.in-Promise.entries))
 
 pub returns-in-Refuse-clause-ok : goal.returns-in-Refuse-clause-ok
 returns-in-Refuse-clause-ok c = λ s is.
@@ -64,7 +64,7 @@ pub returns-in-Ask-clause-ok : goal.returns-in-Ask-clause-ok
 returns-in-Ask-clause-ok c = λ s is.
     subst (λ (m : Message). TakesInMemory c.args.member.now c.args.self.now (told_by c.args.made.now) (told_by c.tell_chosen.new.made) s (taking (place_at c.args.member.now) c.args.from m s)) (sym c.in-Ask.is)
     (record {
-      takes = record { turn = telling c.args.from c.in-Ask.slot s; rule = refl; taken = c.tell_chosen.ensures.taken s is };
+      takes = record { turn = telling c.args.from c.in-Ask.slot s; rule = refl; taken = c.tell_chosen.ensures.taken c.args.member.now s is };
       keeps = record { store = refl; begun = refl; stands = λ stands. stands };
     })
 
@@ -73,7 +73,7 @@ returns-in-Forward-clause-ok c = λ s is.
     let place = place_at c.args.member.now in
     subst (λ (m : Message). TakesInMemory c.args.member.now c.take_over.new.self (told_by c.args.made.now) (told_by c.args.made.now) s (taking place c.args.from m s)) (sym c.in-Forward.is)
     (still_taken c.args.member.now c.take_over.new.self s (taking_over place c.in-Forward.command s).after (told_by c.args.made.now)
-    (c.take_over.ensures.runs s is) (record { store = refl; begun = refl; stands = λ stands. stands }))
+    (c.take_over.ensures.runs c.args.member.now s is) (record { store = refl; begun = refl; stands = λ stands. stands }))
 
 -- a promise is counted, or rightly passed over
 pub returns-in-Promise-clause-bounded : goal.returns-in-Promise-clause-bounded
@@ -100,3 +100,6 @@ returns-in-Ask-clause-bounded c = λ most bounded. subst (λ (m : Message). IsBo
 pub returns-in-Forward-clause-bounded : goal.returns-in-Forward-clause-bounded
 returns-in-Forward-clause-bounded c = λ most bounded.
     subst (λ (r : Running). IsBounded r.proposer most) (sym c.take_over.ensures.rest) (subst (λ (m : Message). IsBoundedBehind c.args.self.now.proposer m most) c.in-Forward.is bounded)
+
+pub returns-in-Forward-clause-at : goal.returns-in-Forward-clause-at
+returns-in-Forward-clause-at c = c.take_over.ensures.at c.args.member.now c.requires.at

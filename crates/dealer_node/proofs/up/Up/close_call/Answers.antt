@@ -1,4 +1,5 @@
-use Rattle.std.proofs.Common.{◌+◌, ◌*◌, length, sym, ◌∙◌, arith}
+use Rattle.std.proofs.Common.{◌+◌, ◌*◌, length, ap, sym, ◌∙◌, arith}
+use Rattle.proposer.specs.Campaigns.{leads}
 use Rattle.dealer_node.specs.declared.limits.TheConstants.{FRAMES_OF_A_CLOSE}
 use Rattle.dealer_node.specs.Outs.{told_by}
 use Rattle.dealer_node.proofs.Left.{fewer_left, less_left}
@@ -28,7 +29,7 @@ returns-then-not-is_leading-clause-left g c need answers more frames left =
 pub returns-then-not-is_leading-clause-works : goal.returns-then-not-is_leading-clause-works
 returns-then-not-is_leading-clause-works g c s honest is =
     close_rests g.D.Disk c.args.member.now s c.args.self.now c.args.self.now.running (told_by c.args.made.now) is
-    (close_unled c.args.member.now c.args.self.now.running s c.requires.at is.running (sym c.is_leading.ensures ∙ c.if-not-is_leading.true))
+    (close_unled c.args.member.now c.args.self.now.running s c.requires.at is.running (ap (λ n. leads n c.args.self.now.running.proposer.campaign) (sym c.requires.at.nodes) ∙ (sym c.is_leading.ensures ∙ c.if-not-is_leading.true)))
 
 pub returns-in-Some-clause-works : goal.returns-in-Some-clause-works
 returns-in-Some-clause-works g c s honest is =

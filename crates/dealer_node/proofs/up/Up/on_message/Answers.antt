@@ -82,4 +82,4 @@ returns-in-Ok-close_call-clause-works g c s honest is =
     let first = c.in-Ok.ensures.works (seeing c.args.message.now s) honest there in
     let second = c.in-Ok-close_call.ensures.works first.turn.after honest first.now in
     message_took g.D.Disk c.args.member.now s c.args.from c.args.message.now c.args.self.now _ c.take_message.new.self c.close_call.new.self (told_by c.args.made.now) (told_by c.take_message.new.made) (told_by c.close_call.new.made) (told_by c.ask.new.made) refl first second
-    c.ask.ensures.taken
+    (c.ask.ensures.taken c.args.member.now)

@@ -34,7 +34,7 @@ pub returns-in_err-tick-clause-handles : goal.returns-in_err-tick-clause-handles
 returns-in_err-tick-clause-handles g c = λ s honest is.
     let place = place_at c.args.member.now in
     let outcome = and_then (ticking place s) (closing place) in
-    let worked = c.in_err-tick.ensures.works s honest (c.in_ok-made.ensures.unmoved.up c.args.member.now s is) (c.promised-promised.ensures.kept (head_of c.args.member.now) s.store is.keeps honest) (c.is_over-over.ensures s is.running) in
+    let worked = c.in_err-tick.ensures.works s honest (c.in_ok-made.ensures.unmoved.up c.args.member.now s is) (c.promised-promised.ensures.kept (head_of c.args.member.now) s.store is.keeps honest) (c.is_over-over.ensures c.args.member.now s is.running) in
     let same : c.from_residual-in_err-tick.result ≡ Err c.in_err-tick.field-0.0 = err_is c.from_residual-in_err-tick.result c.in_err-tick.field-0.0 c.from_residual-in_err-tick.ensures.1 in
     let A : Result (Unit {0}) NodeFault → Type 0 = λ a. HandlesCall g.D.Disk c.args.member.now s Tick c.args.self.now c.tick.new.self (told_by c.args.out.now) (told_by c.ready.new.out) a in
     subst A (sym same)
@@ -49,7 +49,7 @@ pub returns-clause-handles : goal.returns-clause-handles
 returns-clause-handles g c = λ s honest is.
     let place = place_at c.args.member.now in
     let outcome = and_then (ticking place s) (closing place) in
-    let worked = c.in_ok-tick.ensures.works s honest (c.in_ok-made.ensures.unmoved.up c.args.member.now s is) (c.promised-promised.ensures.kept (head_of c.args.member.now) s.store is.keeps honest) (c.is_over-over.ensures s is.running) in
+    let worked = c.in_ok-tick.ensures.works s honest (c.in_ok-made.ensures.unmoved.up c.args.member.now s is) (c.promised-promised.ensures.kept (head_of c.args.member.now) s.store is.keeps honest) (c.is_over-over.ensures c.args.member.now s is.running) in
     inr (
       outcome,
       refl,

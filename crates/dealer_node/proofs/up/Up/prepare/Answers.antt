@@ -6,30 +6,30 @@ use Rattle.dealer_node.proofs.Stored.{prepare_promised, prepare_refused, prepare
 use Rattle.dealer_node.proofs.up.Up.prepare.Goals as goal
 
 pub returns-then-send_prepare_answer-clause-at : goal.returns-then-send_prepare_answer-clause-at
-returns-then-send_prepare_answer-clause-at g c = c.turn_idle.ensures.at c.args.member.now c.requires.at
+returns-then-send_prepare_answer-clause-at g c = λ member at. c.turn_idle.ensures.at member at
 
 pub returns-then-send_prepare_answer-clause-works : goal.returns-then-send_prepare_answer-clause-works
-returns-then-send_prepare_answer-clause-works g c s honest is =
+returns-then-send_prepare_answer-clause-works g c member s honest is =
     let t = c.in-Ok.ensures.taken in
-    let done = t.ok (head_of c.args.member.now) s.store is.keeps honest in
-    prepare_promised g.D.Disk c.args.member.now s c.args.from c.args.ballot c.args.slot c.args.self.now _ c.in-Ok.answer (told_by c.args.made.now) c.send_prepare_answer.new.frames.texts is done.0 done.1
-    (t.any_moment (head_of c.args.member.now) s.store is.keeps honest) (c.turn_idle.ensures.runs c.args.member.now s is.running) (sym c.if-send_prepare_answer.ensures.promised) c.send_prepare_answer.ensures.texts c.send_prepare_answer.ensures.fits
+    let done = t.ok (head_of member) s.store is.keeps honest in
+    prepare_promised g.D.Disk member s c.args.from c.args.ballot c.args.slot c.args.self.now _ c.in-Ok.answer (told_by c.args.made.now) c.send_prepare_answer.new.frames.texts is done.0 done.1
+    (t.any_moment (head_of member) s.store is.keeps honest) (c.turn_idle.ensures.runs member s is.running) (sym c.if-send_prepare_answer.ensures.promised) c.send_prepare_answer.ensures.texts c.send_prepare_answer.ensures.fits
 
 pub returns-else-send_prepare_answer-clause-works : goal.returns-else-send_prepare_answer-clause-works
-returns-else-send_prepare_answer-clause-works g c s honest is =
+returns-else-send_prepare_answer-clause-works g c member s honest is =
     let t = c.in-Ok.ensures.taken in
-    let done = t.ok (head_of c.args.member.now) s.store is.keeps honest in
-    prepare_refused g.D.Disk c.args.member.now s c.args.from c.args.ballot c.args.slot c.args.self.now _ c.in-Ok.answer (told_by c.args.made.now) c.send_prepare_answer.new.frames.texts is done.0 done.1
-    (t.any_moment (head_of c.args.member.now) s.store is.keeps honest) refl (sym c.if-send_prepare_answer.ensures.promised)
+    let done = t.ok (head_of member) s.store is.keeps honest in
+    prepare_refused g.D.Disk member s c.args.from c.args.ballot c.args.slot c.args.self.now _ c.in-Ok.answer (told_by c.args.made.now) c.send_prepare_answer.new.frames.texts is done.0 done.1
+    (t.any_moment (head_of member) s.store is.keeps honest) refl (sym c.if-send_prepare_answer.ensures.promised)
     (prepare_unread g.D.Disk c.args.ballot c.args.slot c.promised-promised.result s.store.promise (store_of c.args.self.now.acceptor) (store_of c.on_prepare.new.self) (Ok c.in-Ok.answer)
-    c.promised-promised.ensures.value (c.promised-promised.ensures.kept (head_of c.args.member.now) s.store is.keeps honest) c.in-Ok.ensures.needs)
+    c.promised-promised.ensures.value (c.promised-promised.ensures.kept (head_of member) s.store is.keeps honest) c.in-Ok.ensures.needs)
     c.send_prepare_answer.ensures.texts c.send_prepare_answer.ensures.fits
 
 pub returns-in-Err-clause-works : goal.returns-in-Err-clause-works
-returns-in-Err-clause-works g c s honest is =
+returns-in-Err-clause-works g c member s honest is =
     let t = c.in-Err.ensures.taken in
-    fails_by g.D.Disk c.args.member.now s _ c.args.self.now _ (told_by c.args.made.now) (told_by c.args.made.now) c.in-Err.fault (is_disk g.D.Disk c.in-Err.fault (t.only (head_of c.args.member.now) s.store is.keeps honest) (λ e. c.in-Err.ensures.memory (ap Err e)))
-    (prepare_failed g.D.Disk c.args.member.now s c.args.from c.args.ballot c.args.slot c.args.self.now _ is (t.leaves (head_of c.args.member.now) s.store is.keeps honest) (t.any_moment (head_of c.args.member.now) s.store is.keeps honest))
+    fails_by g.D.Disk member s _ c.args.self.now _ (told_by c.args.made.now) (told_by c.args.made.now) c.in-Err.fault (is_disk g.D.Disk c.in-Err.fault (t.only (head_of member) s.store is.keeps honest) (λ e. c.in-Err.ensures.memory (ap Err e)))
+    (prepare_failed g.D.Disk member s c.args.from c.args.ballot c.args.slot c.args.self.now _ is (t.leaves (head_of member) s.store is.keeps honest) (t.any_moment (head_of member) s.store is.keeps honest))
 
 pub returns-in-Err-clause-only : goal.returns-in-Err-clause-only
 returns-in-Err-clause-only g c = of_store g.D.Disk c.in-Err.fault c.in-Err.ensures.needs.only (λ e. c.in-Err.ensures.memory (ap Err e))

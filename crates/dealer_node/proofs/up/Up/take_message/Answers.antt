@@ -37,3 +37,6 @@ returns-in-Prepare-clause-bounded g c = λ most bounded.
 pub returns-in-Accept-clause-bounded : goal.returns-in-Accept-clause-bounded
 returns-in-Accept-clause-bounded g c = λ most bounded.
     c.accept.ensures.bounded most (subst (λ (m : Message). IsBoundedBehind c.args.self.now.running.proposer m most) c.in-Accept.is bounded)
+
+pub returns-in-Prepare-clause-at : goal.returns-in-Prepare-clause-at
+returns-in-Prepare-clause-at g c = c.prepare.ensures.at c.args.member.now c.requires.at
