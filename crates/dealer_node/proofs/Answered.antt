@@ -1,8 +1,9 @@
 -- One answer of a session is taken.
-use Rattle.std.proofs.Common.{◌≡◌, ℕ, List, [], ◌∷◌, ◌++◌, ap, sym, ◌∙◌, subst}
+use Rattle.std.proofs.Common.{◌≡◌, ℕ, ◌+◌, ◌≤◌, List, [], ◌∷◌, ◌++◌, refl, ap, sym, ◌∙◌, subst, arith, length}
 use Rattle.std.specs.Prelude.{map, Option, Some, is_none, Ok, Err, ◌&&◌, if◌then◌else◌}
 use Rattle.paxos_wire.specs.declared.ballot.Ballot.{Ballot}
 use Rattle.paxos_wire.specs.declared.message.Message.TheVariants.{Forward}
+use Rattle.paxos_wire.specs.declared.limits.TheConstants.{MOST_SINGLE_FRAME}
 use Rattle.slot_log.specs.Hand.{Match}
 use Rattle.slot_log.specs.Dealer.{reason_of}
 use Rattle.slot_log.specs.declared.command.Command.{Command}
@@ -16,7 +17,9 @@ use Rattle.node_rules.specs.Turns.{sending}
 use Rattle.node_rules.specs.Seats.{answering, is_others, pending_act, forwarding}
 use Rattle.dealer_node.specs.declared.reader.Reader.{Reader}
 use Rattle.dealer_node.specs.declared.seat_fault.SeatFault.{SeatFault}
-use Rattle.dealer_node.specs.Texts.{Marked}
+use Rattle.dealer_node.specs.declared.made.Made.{Made}
+use Rattle.dealer_node.specs.Texts.{Marked, Written}
+use Rattle.dealer_node.specs.Rooms.{Grows, Tells, Makes, piece_need}
 use Rattle.dealer_node.specs.Outs.{Told}
 use Rattle.dealer_node.specs.Turned.{framed, printed}
 use Rattle.dealer_node.specs.Fitting.{AreMessages}
@@ -56,3 +59,23 @@ fault_taken place table promised seat fault pending told faults e = λ turn befo
     let one : SeatFault = record { seat = seat; fault = fault } in
     heard_more place table promised turn (answering place seat (Err fault) turn.after) pending pending before told (told_with told.frames told.shown faults) is is.hands is.promise is.waits
     (faults_more told faults (one ∷ []) e) no_messages
+
+-- ---- what it makes
+
+same_grows : {T : Type 0} (old : Written T) (texts bytes : ℕ) → Grows old old texts bytes
+same_grows old texts bytes = record { text_room = omega arith; byte_room = omega arith; len = omega arith; size = omega arith }
+
+pub ready_makes : (old new : Made) → Grows old.shown new.shown 1 4096 → new ≡ record old { shown = new.shown } → Makes old new (piece_need 1)
+ready_makes old new shown rest =
+    subst (λ (m : Made). Makes old m (piece_need 1)) (sym rest)
+    (record { frames = same_grows old.frames 1 MOST_SINGLE_FRAME; shown = shown; faults = record { len = omega arith; capacity = refl } })
+
+pub act_makes : (old new : Made) → Grows old.frames new.frames 1 MOST_SINGLE_FRAME → new ≡ record old { frames = new.frames } → Makes old new (piece_need 1)
+act_makes old new frames rest =
+    subst (λ (m : Made). Makes old m (piece_need 1)) (sym rest)
+    (record { frames = frames; shown = same_grows old.shown 1 4096; faults = record { len = omega arith; capacity = refl } })
+
+pub fault_makes : (old new : Made) → Tells old new 1 → new ≡ record old { faults = new.faults } → Makes old new (piece_need 1)
+fault_makes old new faults rest =
+    subst (λ (m : Made). Makes old m (piece_need 1)) (sym rest)
+    (record { frames = same_grows old.frames 1 MOST_SINGLE_FRAME; shown = same_grows old.shown 1 4096; faults = record { len = faults.len; capacity = faults.capacity } })

@@ -40,10 +40,11 @@ use Rattle.dealer_node.specs.Rooms.{Grows}
 use Rattle.dealer_node.specs.Outs.{Told}
 use Rattle.dealer_node.specs.Members.{Membership, place_at}
 use Rattle.dealer_node.specs.Running.{IsRunning, IsTaken, CanLearn, ahead_of}
-use Rattle.dealer_node.specs.Calling.{frames_behind}
+use Rattle.dealer_node.specs.Calling.{commands_in, frames_behind, CanTake}
 use Rattle.dealer_node.specs.Working.{disk_under, ComesTo, IsDone, IsUp, Took, Failed, Works, HasLeft}
 use Rattle.node_rules.proofs.Asked.{asked_on, asked_same}
-use Rattle.dealer_node.proofs.Left.{left_beside, less_left, sent_left}
+use Rattle.dealer_node.proofs.Left.{left_beside, less_left, less_learn, sent_left}
+use Rattle.dealer_node.proofs.Within.{call_learn}
 use Rattle.dealer_node.proofs.Worked.{OneAppends, same_turn, done_behind, then_works, first_failed, works_from}
 use Rattle.dealer_node.proofs.Stored.{telling_keeps, telling_done}
 
@@ -233,7 +234,7 @@ module _ {D : Type 0} (g : Ghosts D) where
 -- ---- room
 
 -- so much is left, whatever was needed
-pub left_of : (running : Running) (made : Made) (answers commands frames : ℕ) → CanLearn running made answers commands → frames ≤ made.frames.text_room → MOST_SINGLE_FRAME * frames ≤ made.frames.byte_room
+left_of : (running : Running) (made : Made) (answers commands frames : ℕ) → CanLearn running made answers commands → frames ≤ made.frames.text_room → MOST_SINGLE_FRAME * frames ≤ made.frames.byte_room
     → HasLeft running made (record {
       frames = length made.frames.texts + frames;
       frame_bytes = byte_total made.frames.texts + MOST_SINGLE_FRAME * frames;
@@ -272,3 +273,22 @@ pub asked_left : (running : Running) (earlier later : Made) (need : Need) (answe
 asked_left running earlier later need answers commands frames rest grows left =
     subst (λ (m : Made). HasLeft running m need answers commands frames) (sym rest)
     (sent_left running earlier later.frames need answers commands frames (frames + 1) 1 1 (omega arith) (omega arith) grows left)
+
+module _ {D : Type 0} (up : Up D) (made : Made) (message : Message) (most : ℕ) (can : CanTake up made message most) where
+  -- there is room for all of a message's call, whatever was made before
+  pub taking_left : HasLeft up.running made (record {
+    frames = length made.frames.texts + frames_behind (commands_in message) most;
+    frame_bytes = byte_total made.frames.texts + MOST_SINGLE_FRAME * frames_behind (commands_in message) most;
+    texts = length made.shown.texts + 11 * (ahead_of up.running + (commands_in message + most));
+    text_bytes = byte_total made.shown.texts + 45716 * (ahead_of up.running + (commands_in message + most));
+    faults = vec_len made.faults;
+  }) ANSWERS_OF_A_CALL (commands_in message + most) (frames_behind (commands_in message) most)
+  taking_left =
+      left_of up.running made ANSWERS_OF_A_CALL (commands_in message + most) (frames_behind (commands_in message) most)
+      (call_learn up made ANSWERS_OF_A_CALL (commands_in message + most) (frames_behind (commands_in message) most) can.room) can.room.shown.frames can.room.shown.frame_bytes
+
+  -- and for what it tells, once its ballots were seen
+  pub seen_learn : (seen : Running) → seen ≡ record up.running { seen = seen.seen } → CanLearn seen made 1 (commands_in message)
+  seen_learn seen rest =
+      let all = message_left up.running seen made _ (commands_in message) most rest taking_left in
+      less_learn seen made 1 (commands_in message) (1 + 1) (0 + most + commands_in message) (omega arith) (omega arith) all.learn

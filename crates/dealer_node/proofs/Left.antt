@@ -9,7 +9,7 @@ use Rattle.dealer_node.specs.declared.made.Made.{Made}
 use Rattle.dealer_node.specs.declared.made.Need.{Need}
 use Rattle.dealer_node.specs.Texts.{Written}
 use Rattle.dealer_node.specs.Rooms.{Grows}
-use Rattle.dealer_node.specs.Running.{Learns}
+use Rattle.dealer_node.specs.Running.{Learns, CanLearn}
 use Rattle.dealer_node.specs.Working.{HasLeft}
 
 -- the frames of so many commands to all others take no more bytes than those of one command each
@@ -96,3 +96,19 @@ sent_left running earlier new need answers commands frames more texts many less 
   bytes_shown = left.bytes_shown;
   faults_told = left.faults_told;
 }
+
+-- less is to be learned
+pub less_learn : (running : Running) (made : Made) (answers commands counted known : ℕ) → answers ≤ counted → commands ≤ known → CanLearn running made counted known → CanLearn running made answers commands
+less_learn running made answers commands counted known less few learn = record {
+  counted = omega (arith, learn.counted, less);
+  known = omega (arith, learn.known, few);
+  table = omega (arith, learn.table, few);
+  texts = omega (arith, learn.texts, few);
+  bytes = omega (arith, learn.bytes, few);
+}
+
+-- fewer commands, by another ballot
+pub fewer_learn : (old new : Running) (made : Made) (answers commands known : ℕ) → commands ≤ known → new ≡ record old { proposer = new.proposer } → CanLearn old made answers known → CanLearn new made answers commands
+fewer_learn old new made answers commands known few rest learn =
+    let less = less_learn old made answers commands answers known (omega arith) few learn in
+    subst (λ (r : Running). CanLearn r made answers commands) (sym rest) (record { counted = less.counted; known = less.known; table = less.table; texts = less.texts; bytes = less.bytes })

@@ -30,5 +30,6 @@ pub mod Within
 pub mod Most
 mod MostExamples
 mod Examples
+mod BundledExamples
 pub mod AsOne
 pub mod Own

@@ -4,11 +4,12 @@ use Rattle.paxos_wire.specs.declared.limits.TheConstants.{MOST_SINGLE_FRAME}
 use Rattle.paxos_wire.specs.declared.message.Message.{Message}
 use Rattle.paxos_wire.specs.declared.message.Message.TheVariants as message
 use Rattle.promise_store.specs.declared.disk.Disk.{Ghosts}
+use Rattle.proposer.specs.CommandRuns.{IsBounded}
 use Rattle.node_rules.specs.Standings.{Standing}
 use Rattle.node_rules.specs.Turns.{Turn, Refusal}
 use Rattle.node_rules.specs.Calls.{Call}
 use Rattle.node_rules.specs.Rules.{IsTurnUp}
-use Rattle.dealer_node.specs.declared.limits.TheConstants.{FRAMES_TO_ALL, FRAMES_OF_A_CLOSE, FRAMES_OF_AN_ANSWER}
+use Rattle.dealer_node.specs.declared.limits.TheConstants.{FRAMES_TO_ALL, ANSWERS_OF_A_CALL, FRAMES_OF_A_CLOSE, FRAMES_OF_AN_ANSWER}
 use Rattle.dealer_node.specs.declared.up.Up.{Up}
 use Rattle.dealer_node.specs.declared.running.Running.{Running}
 use Rattle.dealer_node.specs.declared.made.Made.{Made}
@@ -17,7 +18,7 @@ use Rattle.dealer_node.specs.declared.fault.NodeFault.{NodeFault}
 use Rattle.dealer_node.specs.declared.fault.NodeFault.TheVariants as fault
 use Rattle.dealer_node.specs.Outs.{Told, HasRoom}
 use Rattle.dealer_node.specs.Members.{Membership, place_at}
-use Rattle.dealer_node.specs.Running.{ahead_of}
+use Rattle.dealer_node.specs.Running.{ahead_of, IsBoundedBehind}
 use Rattle.dealer_node.specs.Working.{disk_under, store_room, IsUp}
 use Rattle.dealer_node.specs.Handling.{Stays, Handles}
 
@@ -68,6 +69,14 @@ frames_behind commands most = FRAMES_OF_AN_ANSWER + FRAMES_TO_ALL * commands + F
 abbrev pub frame_need : Running → ℕ → ℕ → Need
 frame_need running commands most = need_of running (commands + most) (frames_behind commands most)
 
+-- of what runs the room alone has changed: to count and to apply commands
+pub record ChangesRoomAlone (old new : Running) : Type 0 where
+  pub seats : new.seats ≡ old.seats
+  pub ahead : ahead_of new ≡ ahead_of old
+  pub learned : new.learner.learned ≡ old.learner.learned
+  pub seen : new.seen ≡ old.seen
+  pub proposer : new.proposer ≡ old.proposer
+
 module _ {D : Type 0} where
   -- there is room for so much, to count so many answers with so many commands in all, and to store as many votes
   pub record HasCallRoom (up : Up D) (made : Made) (need : Need) (answers commands : ℕ) : Type 0 where
@@ -76,6 +85,17 @@ module _ {D : Type 0} where
     pub known : commands ≤ up.running.learner.commands
     pub table : ahead_of up.running + commands ≤ up.running.table.room
     pub store : commands ≤ store_room up
+
+  -- the close of a call proposes no more commands than so many, one at least, and there is room for all that the call needs by then
+  pub record CanClose (up : Up D) (made : Made) (need : ℕ → Need) (most : ℕ) : Type 0 where
+    pub some : 1 ≤ most
+    pub bounded : IsBounded up.running.proposer most
+    pub room : HasCallRoom up made (need most) 1 most
+
+  -- behind this message the close proposes no more commands than so many, and there is room for all that a call with the message needs by then
+  pub record CanTake (up : Up D) (made : Made) (message : Message) (most : ℕ) : Type 0 where
+    pub bounded : IsBoundedBehind up.running.proposer message most
+    pub room : HasCallRoom up made (frame_need up.running (commands_in message) most) ANSWERS_OF_A_CALL (commands_in message + most)
 
 module _ {D : Type 0} (g : Ghosts D) where
   -- room alone has changed

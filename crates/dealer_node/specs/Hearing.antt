@@ -1,7 +1,8 @@
 -- What a seat's bytes do at a node, as the rules have it.
-use Rattle.std.specs.Prelude.{◌≡◌, ℕ, ◌+◌, ◌≤◌, ◌<◌, false, List, Option, Some, None, Result, Ok, Err, length}
+use Rattle.std.specs.Prelude.{◌≡◌, ℕ, ◌+◌, ◌≤◌, ◌<◌, false, List, Option, Some, None, Result, Ok, Err, length, vec_len, vec_capacity}
 use Rattle.paxos_wire.specs.declared.ballot.Ballot.{Ballot}
 use Rattle.paxos_wire.specs.Fits.{MayGoOn, IsInRange}
+use Rattle.paxos_wire.specs.declared.limits.TheConstants.{MOST_SINGLE_FRAME}
 use Rattle.slot_log.specs.Hand.{Match}
 use Rattle.slot_log.specs.declared.command.Command.{Command}
 use Rattle.seat_session.specs.Feeds.{line_feeds}
@@ -9,9 +10,12 @@ use Rattle.seat_session.specs.Session.{Standing as Talk, Conversation, with_piec
 use Rattle.seat_session.specs.declared.said.Said.{Said}
 use Rattle.seat_session.specs.declared.said.Said.TheVariants.{Ready, Act}
 use Rattle.seat_session.specs.declared.session_fault.SessionFault.{SessionFault}
+use Rattle.dealer_kind.specs.Kind.{Setting}
 use Rattle.node_rules.specs.Standings.{Place, applied}
 use Rattle.node_rules.specs.Turns.{Turn, sending, joined}
 use Rattle.node_rules.specs.Seats.{pending_act, forwarding, answering, answering_all, Drains, left}
+use Rattle.dealer_node.specs.declared.made.Made.{Made}
+use Rattle.dealer_node.specs.Rooms.{Makes, piece_need}
 use Rattle.dealer_node.specs.Outs.{Told, both_told}
 use Rattle.dealer_node.specs.Turned.{told_of, talk_of}
 use Rattle.dealer_node.specs.Fitting.{AreMessages}
@@ -22,6 +26,24 @@ abbrev pub IsForwardable : Result Said SessionFault → Type 0
 IsForwardable (Ok Ready) = Unit {0}
 IsForwardable (Ok (Act command)) = MayGoOn command × IsInRange command
 IsForwardable (Err fault) = Unit {0}
+
+-- the table is that of the match, and this is one of its seats
+pub record IsSeatOf (setting : Setting) (table : Match) (seat : ℕ) : Type 0 where
+  pub game : table.game ≡ setting.game
+  pub within : seat < table.game.players
+
+-- there is room for all that this answer may make: a frame, a fault, and where the seat gets ready its line
+pub record HasAnswerRoom (said : Result Said SessionFault) (made : Made) : Type 0 where
+  pub frames : 1 ≤ made.frames.text_room
+  pub frame_bytes : MOST_SINGLE_FRAME ≤ made.frames.byte_room
+  pub texts : said ≡ Ok Ready → 1 ≤ made.shown.text_room
+  pub text_bytes : said ≡ Ok Ready → 4096 ≤ made.shown.byte_room
+  pub faults : vec_len made.faults < vec_capacity made.faults
+
+-- no more was made than of one answer, and nothing is shown where the seat doesn't get ready
+pub record MakesAnswer (said : Result Said SessionFault) (old new : Made) : Type 0 where
+  pub makes : Makes old new (piece_need 1)
+  pub still : (said ≡ Ok Ready → ⊥) → new.shown ≡ old.shown
 
 -- the table, the promise, the act that waits, and what was made behind other things, are those of a turn, whose messages have frames
 pub record IsHeard (place : Place) (table : Match) (promised : Ballot) (turn : Turn) (pending : Option Command) (before now : Told) : Type 0 where

@@ -22,5 +22,6 @@ pub mod Nodes
 pub mod NodeInside
 pub mod Seeing
 pub mod Taking
+pub mod Opening
 pub mod Calling
 pub mod Most

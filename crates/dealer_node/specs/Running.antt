@@ -1,5 +1,5 @@
 -- What runs at a node, as the rules see it.
-use Rattle.std.specs.Prelude.{◌≡◌, ℕ, ◌+◌, ◌-◌, ◌*◌, ◌^◌, ◌≤◌, ◌==◌, ◌||◌, Bool, true, nat_le, if◌then◌else◌, length, List, ◌++◌, Option, Some, None, IfSome, Result, Ok}
+use Rattle.std.specs.Prelude.{◌≡◌, ℕ, ◌+◌, ◌-◌, ◌*◌, ◌^◌, ◌≤◌, ◌==◌, ◌||◌, Bool, true, nat_le, if◌then◌else◌, length, List, ◌++◌, Option, Some, None, IfSome, Result, Ok, Err}
 use Rattle.std.specs.List.{AllByRecursion}
 use Rattle.paxos_wire.specs.declared.limits.TheConstants.{SLOTS}
 use Rattle.paxos_wire.specs.declared.ballot.Ballot.{Ballot}
@@ -13,7 +13,7 @@ use Rattle.proposer.specs.declared.campaign.Campaign.{Campaign}
 use Rattle.proposer.specs.Campaigns.{Proposing, leads, promise_by, counting}
 use Rattle.proposer.specs.CommandRuns.{most_commands, IsBounded}
 use Rattle.node_rules.specs.Standings.{Place, Standing, applied}
-use Rattle.node_rules.specs.Turns.{Turn, Refusal, still}
+use Rattle.node_rules.specs.Turns.{Turn, Refusal, Conflict, still}
 use Rattle.node_rules.specs.Proposing.{higher, proposing, closing}
 use Rattle.node_rules.specs.Seats.{session_at, HearsPiece}
 use Rattle.dealer_node.specs.declared.made.Made.{Made}
@@ -48,6 +48,18 @@ pub record TakesTurn (member : Membership) (running : Running) (earlier later : 
   pub turn : Turn
   pub rule : outcome ≡ Ok turn
   pub taken : IsTaken member running earlier later turn
+
+-- whatever it is seen as, the turn of the rule was taken, by which nothing changes of what runs
+abbrev pub TakesBeside : (Standing → Turn) → Running → Told → Told → Type 0
+TakesBeside rule running earlier later = (member : Membership) (s : Standing) → IsRunning member running s → IsTaken member running earlier later (rule s)
+
+-- whatever it is seen as, the outcome of the rule is a turn, and that was taken
+abbrev pub TakesRule : Membership → (Standing → Result Turn Refusal) → Running → Running → Told → Told → Type 0
+TakesRule member rule old new earlier later = (s : Standing) → IsRunning member old s → TakesTurn member new earlier later (rule s)
+
+-- whatever it is seen as, by the rule another command is known at a slot
+abbrev pub ClashesBy : Membership → (Standing → Result Turn Refusal) → Running → Type 0
+ClashesBy member rule old = (s : Standing) → IsRunning member old s → rule s ≡ Err (Conflict s.store)
 
 -- a turn of a piece of a seat's bytes was taken
 pub record TakesPiece (member : Membership) (running : Running) (earlier later : Told) (seat : ℕ) (piece : List ℕ) (s : Standing) : Type 0 where

@@ -1,5 +1,5 @@
 -- What a part of a call makes of a node that runs, however it ends.
-use Rattle.std.specs.Prelude.{◌≡◌, ℕ, ◌⊎◌, ◌+◌, ◌*◌, ◌≤◌, length, vec_len, List, IfSome, Result, Ok, Err}
+use Rattle.std.specs.Prelude.{◌≡◌, ℕ, ◌⊎◌, ◌+◌, ◌*◌, ◌≤◌, length, vec_len, List, IfSome, IsTrue, Result, Ok, Err}
 use Rattle.promise_store.specs.declared.disk.Disk.{Ghosts}
 use Rattle.promise_store.specs.declared.fault.StoreFault.TheVariants.{Disk}
 use Rattle.promise_store.specs.Disks.{Rose}
@@ -14,9 +14,11 @@ use Rattle.paxos_wire.specs.declared.message.Message.TheVariants as frame
 use Rattle.protocol_model.specs.Sets.{In}
 use Rattle.protocol_model.specs.Stores.{Store}
 use Rattle.proposer.specs.declared.campaign.Campaign.{Campaign}
+use Rattle.proposer.specs.CommandRuns.{IsBounded}
 use Rattle.node_rules.specs.Standings.{Standing}
 use Rattle.node_rules.specs.Sending.{Frame}
 use Rattle.node_rules.specs.Turns.{Turn, Refusal, Conflict}
+use Rattle.dealer_node.specs.declared.limits.TheConstants.{FRAMES_OF_A_CLOSE}
 use Rattle.dealer_node.specs.declared.up.Up.{Up}
 use Rattle.dealer_node.specs.declared.running.Running.{Running}
 use Rattle.dealer_node.specs.declared.made.Made.{Made}
@@ -118,6 +120,11 @@ module _ {D : Type 0} (g : Ghosts D) where
   Works member s outcome before after earlier later (Err fault.Conflict) = Clashed member s outcome before after
   Works member s outcome before after earlier later (Err other) = ⊥
 
+  -- it carries out the rule, whatever the node is seen as
+  abbrev pub Follows : Membership → (Standing → Result Turn Refusal) → Up D → Up D → Told → Told → Result (Unit {0}) NodeFault → Type 0
+  Follows member rule before after earlier later answer =
+      (s : Standing) → IsTrue g.is_honest → IsUp member before s → Works member s (rule s) before after earlier later answer
+
   -- what holds whatever the disk is
   pub record GoesOn (before after : Up D) (answer : Result (Unit {0}) NodeFault) : Type 0 where
     pub begun : g.begun (disk_under after) ≡ g.begun (disk_under before)
@@ -137,3 +144,17 @@ pub record HasLeft (running : Running) (made : Made) (need : Need) (answers comm
   pub texts_shown : length made.shown.texts + 11 * (ahead_of running + commands) ≤ need.texts
   pub bytes_shown : byte_total made.shown.texts + 45716 * (ahead_of running + commands) ≤ need.text_bytes
   pub faults_told : vec_len made.faults ≤ need.faults
+
+-- the room to count so many answers, with so many commands in all, and for so many frames: no more of it is gone, whatever else is left
+abbrev pub Spends : Running → Running → Made → Made → ℕ → ℕ → ℕ → Type 0
+Spends old new earlier later answers commands frames =
+    (need : Need) (counted known sent : ℕ) → HasLeft old earlier need (counted + answers) (known + commands) (sent + frames) → HasLeft new later need counted known sent
+
+module _ {D : Type 0} where
+  -- the close of a call proposes no more commands than so many, and there is room for them: to store, to learn and to tell
+  pub record HasCloseRoom (up : Up D) (made : Made) (most : ℕ) : Type 0 where
+    pub bounded : IsBounded up.running.proposer most
+    pub store : most ≤ store_room up
+    pub learn : CanLearn up.running made 1 most
+    pub texts : FRAMES_OF_A_CLOSE * most ≤ made.frames.text_room
+    pub bytes : MOST_SINGLE_FRAME * (FRAMES_OF_A_CLOSE * most) ≤ made.frames.byte_room

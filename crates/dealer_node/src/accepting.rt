@@ -8,13 +8,12 @@ ghost use Rattle.proposer.specs.CommandRuns.{IsBounded};
 ghost use Rattle.node_rules.specs.Standings.{Standing};
 ghost use Rattle.node_rules.specs.Accepting.{preparing, accepting, voting};
 ghost use Rattle.node_rules.specs.Proposing.{closing};
+ghost use Rattle.dealer_node.specs.Rooms.{HasSpace};
 ghost use Rattle.dealer_node.specs.Members.{Membership, place_at};
 ghost use Rattle.dealer_node.specs.Outs.{told_by};
 ghost use Rattle.dealer_node.specs.declared.limits.TheConstants.{FRAMES_TO_ALL, FRAMES_OF_A_CLOSE, FRAMES_OF_AN_ANSWER, FRAME_BYTES_OF_AN_ANSWER};
-ghost use Rattle.dealer_node.specs.declared.made.Need.{Need as Needs};
-ghost use Rattle.dealer_node.specs.Running.{IsAt, CanLearn, Learns, proposed_by};
-ghost use Rattle.dealer_node.specs.Rooms.{Grows};
-ghost use Rattle.dealer_node.specs.Working.{HasLeft, IsOfPart};
+ghost use Rattle.dealer_node.specs.Running.{IsAt, CanLearn, proposed_by};
+ghost use Rattle.dealer_node.specs.Working.{Spends, IsOfPart};
 
 use crate::answering::{accepted_commands, send_prepare_answer, send_refusal};
 use crate::fault::NodeFault;
@@ -30,7 +29,7 @@ use protocol_model::laws::command_runs_are_moves;
 use slot_log::Command;
 
 impl<D: Disk + Drop> Up<D> {
-    ghost use Rattle.dealer_node.specs.Working.{IsUp, Works, GoesOn, store_room};
+    ghost use Rattle.dealer_node.specs.Working.{IsUp, Works, Follows, GoesOn, store_room, HasCloseRoom};
 
     /// Answers a Prepare: a ballot above the one that was promised is promised, and the node leads no longer; any other
     /// is refused.
@@ -43,16 +42,14 @@ impl<D: Disk + Drop> Up<D> {
     ) -> Result<(), NodeFault>
         requires ballot { IsBallot ballot }
         requires slot { IsSlot slot }
-        requires texts { FRAMES_OF_AN_ANSWER ≤ made.old.frames.text_room }
-        requires bytes { FRAME_BYTES_OF_AN_ANSWER ≤ made.old.frames.byte_room }
-        ensures works { (member : Membership) (s : Standing) → IsTrue D.is_honest → IsUp D.Disk member self.old s
-            → Works D.Disk member s (Ok (preparing from ballot slot s)) self.old self.new (told_by made.old) (told_by made.new) result }
+        requires space { HasSpace made.old.frames FRAMES_OF_AN_ANSWER FRAME_BYTES_OF_AN_ANSWER }
+        ensures works { (member : Membership) → Follows D.Disk member (λ s. Ok (preparing from ballot slot s)) self.old self.new (told_by made.old) (told_by made.new) result }
         ensures goes_on { GoesOn D.Disk self.old self.new result }
         ensures only { IsOfPart result }
         ensures at { (member : Membership) → IsAt member self.old.running → IsAt member self.new.running }
         ensures bounded { (most : ℕ) → IsBounded self.old.running.proposer most → IsBounded self.new.running.proposer most }
         ensures room { store_room self.old ≤ store_room self.new + 1 }
-        ensures left { (need : Needs) (answers commands frames : ℕ) → HasLeft self.old.running made.old need (answers + 1) (commands + 1) (frames + (FRAMES_OF_AN_ANSWER + FRAMES_TO_ALL)) → HasLeft self.new.running made.new need answers commands frames }
+        ensures left { Spends self.old.running self.new.running made.old made.new 1 1 (FRAMES_OF_AN_ANSWER + FRAMES_TO_ALL) }
     {
         let _promised = self.acceptor.promised();
         match self.acceptor.on_prepare(ballot, slot) {
@@ -82,8 +79,7 @@ impl<D: Disk + Drop> Up<D> {
         requires run { IsCommandRun slot commands.now }
         requires store { length commands.now ≤ store_room self.old }
         requires learn { CanLearn self.old.running made.old 1 (length commands.now) }
-        requires texts { FRAMES_TO_ALL ≤ made.old.frames.text_room }
-        requires bytes { MOST_SINGLE_FRAME * (FRAMES_TO_ALL * length commands.now) ≤ made.old.frames.byte_room }
+        requires space { HasSpace made.old.frames FRAMES_TO_ALL (MOST_SINGLE_FRAME * (FRAMES_TO_ALL * length commands.now)) }
         ensures works { (s : Standing) → IsTrue D.is_honest → IsUp D.Disk member.now self.old s
             → is_below ballot s.store.promise ≡ false → IfSome s.campaign (λ campaign. campaign.ballot ≡ ballot)
             → Works D.Disk member.now s (voting (place_at member.now) ballot slot commands.now s) self.old self.new (told_by made.old) (told_by made.new) result }
@@ -92,8 +88,7 @@ impl<D: Disk + Drop> Up<D> {
         ensures at { IsAt member.now self.new.running }
         ensures proposer { self.new.running.proposer ≡ self.old.running.proposer }
         ensures room { store_room self.old ≤ store_room self.new + length commands.now }
-        ensures left { (need : Needs) (answers more frames : ℕ) → HasLeft self.old.running made.old need (answers + 1) (more + length commands.now) (frames + FRAMES_TO_ALL * length commands.now)
-            → HasLeft self.new.running made.new need answers more frames }
+        ensures left { Spends self.old.running self.new.running made.old made.new 1 (length commands.now) (FRAMES_TO_ALL * length commands.now) }
     {
         let _nodes = member.nodes();
         command_runs_are_moves();
@@ -131,18 +126,14 @@ impl<D: Disk + Drop> Up<D> {
         requires run { IsCommandRun slot commands.now }
         requires store { length commands.now ≤ store_room self.old }
         requires learn { CanLearn self.old.running made.old 1 (length commands.now) }
-        requires texts { FRAMES_OF_AN_ANSWER ≤ made.old.frames.text_room }
-        requires bytes { MOST_SINGLE_FRAME * (FRAMES_OF_AN_ANSWER + FRAMES_TO_ALL * length commands.now) ≤ made.old.frames.byte_room }
-        ensures works { (s : Standing) → IsTrue D.is_honest → IsUp D.Disk member.now self.old s
-            → Works D.Disk member.now s (accepting (place_at member.now) from ballot slot commands.now s) self.old self.new (told_by made.old) (told_by made.new) result }
+        requires space { HasSpace made.old.frames FRAMES_OF_AN_ANSWER (MOST_SINGLE_FRAME * (FRAMES_OF_AN_ANSWER + FRAMES_TO_ALL * length commands.now)) }
+        ensures works { Follows D.Disk member.now (accepting (place_at member.now) from ballot slot commands.now) self.old self.new (told_by made.old) (told_by made.new) result }
         ensures goes_on { GoesOn D.Disk self.old self.new result }
         ensures only { IsOfPart result }
         ensures at { IsAt member.now self.new.running }
         ensures bounded { (most : ℕ) → IsBounded self.old.running.proposer most → IsBounded self.new.running.proposer most }
         ensures room { store_room self.old ≤ store_room self.new + length commands.now }
-        ensures left { (need : Needs) (answers more frames : ℕ)
-            → HasLeft self.old.running made.old need (answers + 1) (more + length commands.now) (frames + (FRAMES_OF_AN_ANSWER + FRAMES_TO_ALL * length commands.now))
-            → HasLeft self.new.running made.new need answers more frames }
+        ensures left { Spends self.old.running self.new.running made.old made.new 1 (length commands.now) (FRAMES_OF_AN_ANSWER + FRAMES_TO_ALL * length commands.now) }
     {
         let promised = self.acceptor.promised();
         if ballot.is_below(promised) {
@@ -166,16 +157,13 @@ impl<D: Disk + Drop> Up<D> {
         requires run { IsCommandRun proposal.now.slot proposal.now.commands }
         requires store { length proposal.now.commands ≤ store_room self.old }
         requires learn { CanLearn self.old.running made.old 1 (length proposal.now.commands) }
-        requires texts { FRAMES_OF_A_CLOSE ≤ made.old.frames.text_room }
-        requires bytes { MOST_SINGLE_FRAME * (FRAMES_OF_A_CLOSE * length proposal.now.commands) ≤ made.old.frames.byte_room }
+        requires space { HasSpace made.old.frames FRAMES_OF_A_CLOSE (MOST_SINGLE_FRAME * (FRAMES_OF_A_CLOSE * length proposal.now.commands)) }
         ensures works { (s : Standing) → IsTrue D.is_honest → IsUp D.Disk member.now self.old s → proposal.now.ballot ≡ s.store.promise
             → Works D.Disk member.now s (proposed_by (place_at member.now) (Some proposal.now) s) self.old self.new (told_by made.old) (told_by made.new) result }
         ensures goes_on { GoesOn D.Disk self.old self.new result }
         ensures only { IsOfPart result }
         ensures at { IsAt member.now self.new.running }
-        ensures left { (need : Needs) (answers more frames : ℕ)
-            → HasLeft self.old.running made.old need (answers + 1) (more + length proposal.now.commands) (frames + FRAMES_OF_A_CLOSE * length proposal.now.commands)
-            → HasLeft self.new.running made.new need answers more frames }
+        ensures left { Spends self.old.running self.new.running made.old made.new 1 (length proposal.now.commands) (FRAMES_OF_A_CLOSE * length proposal.now.commands) }
     {
         let commands = proposal.commands.as_slice();
         send_proposal(
@@ -188,30 +176,21 @@ impl<D: Disk + Drop> Up<D> {
         self.vote(member, proposal.ballot, proposal.slot, commands, told, made)
     }
 
-    /// The end of each call: a node that leads proposes from its front on, once at a slot in a ballot. There is room for so
-    /// many commands as it proposes at most.
+    /// The end of each call: a node that leads proposes from its front on, once at a slot in a ballot.
     pub(crate) fn close_call(
         &mut self,
         member: &Member,
-        most: usize,
         lists: &mut Lists,
         made: &mut Made,
     ) -> Result<(), NodeFault>
         requires at { IsAt member.now self.old.running }
-        requires bounded { IsBounded self.old.running.proposer most }
-        requires store { most ≤ store_room self.old }
-        requires learn { CanLearn self.old.running made.old 1 most }
-        requires texts { FRAMES_OF_A_CLOSE * most ≤ made.old.frames.text_room }
-        requires bytes { MOST_SINGLE_FRAME * (FRAMES_OF_A_CLOSE * most) ≤ made.old.frames.byte_room }
-        ensures works { (s : Standing) → IsTrue D.is_honest → IsUp D.Disk member.now self.old s
-            → Works D.Disk member.now s (closing (place_at member.now) s) self.old self.new (told_by made.old) (told_by made.new) result }
+        requires room { (most : ℕ) × HasCloseRoom self.old made.old most }
+        ensures works { Follows D.Disk member.now (closing (place_at member.now)) self.old self.new (told_by made.old) (told_by made.new) result }
         ensures goes_on { GoesOn D.Disk self.old self.new result }
         ensures only { IsOfPart result }
         ensures at { IsAt member.now self.new.running }
-        ensures left { (need : Needs) (answers more frames : ℕ) → HasLeft self.old.running made.old need (answers + 1) (more + most) (frames + FRAMES_OF_A_CLOSE * most)
-            → HasLeft self.new.running made.new need answers more frames }
+        ensures left { (most : ℕ) → IsBounded self.old.running.proposer most → Spends self.old.running self.new.running made.old made.new 1 most (FRAMES_OF_A_CLOSE * most) }
     {
-        let _ = most;
         // The own deal is drawn only where something may be proposed.
         if !self.running.proposer.is_leading() {
             return Ok(());

@@ -1,9 +1,9 @@
-ghost use Rattle.std.specs.Prelude.{◌≡◌, ◌+◌, ◌≤◌, ◌++◌, map, option_map};
+ghost use Rattle.std.specs.Prelude.{◌≡◌, ◌+◌, ◌++◌, map, option_map};
 ghost use Rattle.paxos_wire.specs.Fits.{Fits, IsBallot, IsSlot, AreEntries};
 ghost use Rattle.paxos_wire.specs.declared.limits.TheConstants.{MOST_FRAME, MOST_SINGLE_FRAME};
 ghost use Rattle.paxos_wire.specs.declared.message.Message.TheVariants.{Promise as Promising, Refuse as Refusing};
 ghost use Rattle.node_rules.specs.Sending.{one};
-ghost use Rattle.dealer_node.specs.Rooms.{Grows};
+ghost use Rattle.dealer_node.specs.Rooms.{HasSpace, Grows};
 ghost use Rattle.dealer_node.specs.Turned.{framed};
 ghost use Rattle.dealer_node.specs.Answering.{message_of, is_promise, accepted_in};
 ghost use Rattle.dealer_node.specs.Fitting.{AreMessages};
@@ -25,8 +25,7 @@ pub(crate) fn send_promise(
     requires ballot { IsBallot ballot }
     requires slot { IsSlot slot }
     requires entries { AreEntries slot entries.now }
-    requires texts { 1 ≤ frames.old.text_room }
-    requires bytes { MOST_FRAME ≤ frames.old.byte_room }
+    requires space { HasSpace frames.old 1 MOST_FRAME }
     ensures texts { frames.new.texts ≡ frames.old.texts ++ map framed (one to (Promising ballot slot entries.now)) }
     ensures grows { Grows frames.old frames.new 1 MOST_FRAME }
     ensures fits { AreMessages (one to (Promising ballot slot entries.now)) }
@@ -51,8 +50,7 @@ pub(crate) fn send_refusal(
     requires ballot { IsBallot ballot }
     requires slot { IsSlot slot }
     requires promised { IsBallot promised }
-    requires texts { 1 ≤ frames.old.text_room }
-    requires bytes { MOST_SINGLE_FRAME ≤ frames.old.byte_room }
+    requires space { HasSpace frames.old 1 MOST_SINGLE_FRAME }
     ensures texts { frames.new.texts ≡ frames.old.texts ++ map framed (one to (Refusing ballot slot promised)) }
     ensures grows { Grows frames.old frames.new 1 MOST_SINGLE_FRAME }
     ensures fits { AreMessages (one to (Refusing ballot slot promised)) }
@@ -69,8 +67,7 @@ pub(crate) fn send_refusal(
 /// Sends a node what the acceptor answers its Prepare with, and tells whether that is a promise.
 pub(crate) fn send_prepare_answer(frames: &mut Texts<u8>, to: u8, answer: &PrepareAnswer) -> bool
     requires fits { Fits (message_of answer.now) }
-    requires texts { 1 ≤ frames.old.text_room }
-    requires bytes { MOST_FRAME ≤ frames.old.byte_room }
+    requires space { HasSpace frames.old 1 MOST_FRAME }
     ensures promised { result ≡ is_promise answer.now }
     ensures texts { frames.new.texts ≡ frames.old.texts ++ map framed (one to (message_of answer.now)) }
     ensures grows { Grows frames.old frames.new 1 MOST_FRAME }

@@ -1,15 +1,15 @@
-ghost use Rattle.std.specs.Prelude.{◌≡◌, ℕ, ◌+◌, ◌*◌, ◌≤◌, List, length, is_none, IfSome};
+ghost use Rattle.std.specs.Prelude.{◌≡◌, ℕ, ◌+◌, ◌*◌, ◌≤◌, List, length, is_none};
 ghost use Rattle.game_def.specs.Game.{Game};
-ghost use Rattle.paxos_wire.specs.Fits.{IsInRange};
 ghost use Rattle.node_rules.specs.Applying.{Scene, kept, taking, taking_all};
 ghost use Rattle.slot_log.specs.declared.command.Command.{Command as Order};
 ghost use Rattle.slot_log.specs.Hand.{Hand};
 ghost use Rattle.slot_log.specs.Dealer.{effect_of, reason_of};
-ghost use Rattle.dealer_kind.specs.Kind.{Setting, hands_after};
+ghost use Rattle.dealer_kind.specs.Kind.{Setting};
+ghost use Rattle.dealer_node.specs.Rooms.{HasSpace, Grows};
 ghost use Rattle.dealer_node.specs.declared.reader.Reader.{Reader as Reads};
-ghost use Rattle.dealer_node.specs.Texts.{Marked, byte_total};
+ghost use Rattle.dealer_node.specs.Texts.{Marked};
 ghost use Rattle.dealer_node.specs.Turned.{talks};
-ghost use Rattle.dealer_node.specs.Scenes.{IsScene, IsTableOf};
+ghost use Rattle.dealer_node.specs.Scenes.{IsScene, IsTableOf, IsTableAt, StaysInRange};
 
 use crate::lines::show_news;
 use crate::member::Member;
@@ -21,7 +21,7 @@ use slot_log::{Command, Effect, Table};
 /// Forgets an act that waits and doesn't fit.
 fn forget(pending: &mut Option<Command>, table: &Table)
     ensures kept { (setting : Setting) (applied : List Order) → IsTableOf setting applied table.now → pending.new ≡ kept setting applied pending.old }
-    ensures act { IfSome pending.old (λ command. IsInRange command) → IfSome pending.new (λ command. IsInRange command) }
+    ensures act { StaysInRange pending.old pending.new }
 {
     if let Some(act) = pending {
         if !table.fits(act) {
@@ -47,22 +47,16 @@ fn apply_command(
     command: &Command,
     shown: &mut Texts<Reader>,
 )
-    requires game { table.old.game ≡ member.now.setting.game }
-    requires count { table.old.count ≡ member.now.setting.title.hands }
-    requires seats { length sessions.now ≡ table.old.game.players }
+    requires played { IsTableAt member.now.setting (length sessions.now) table.old }
     requires room { 1 ≤ table.old.room }
-    requires texts { 11 ≤ shown.old.text_room }
-    requires bytes { 45716 ≤ shown.old.byte_room }
+    requires space { HasSpace shown.old 11 45716 }
     ensures scene { (scene : Scene) (before : List (Marked Reads)) → IsScene member.now.setting scene table.old pending.old before shown.old.texts
         → IsScene member.now.setting (taking member.now.setting (talks sessions.now) command.now scene) table.new pending.new before shown.new.texts }
     ensures game { table.new.game ≡ table.old.game }
     ensures count { table.new.count ≡ table.old.count }
     ensures room { table.old.room ≤ table.new.room + 1 }
-    ensures text_room { shown.old.text_room ≤ shown.new.text_room + 11 }
-    ensures byte_room { shown.old.byte_room ≤ shown.new.byte_room + 45716 }
-    ensures len { length shown.new.texts ≤ length shown.old.texts + 11 }
-    ensures size { byte_total shown.new.texts ≤ byte_total shown.old.texts + 45716 }
-    ensures act { IfSome pending.old (λ command. IsInRange command) → IfSome pending.new (λ command. IsInRange command) }
+    ensures grows { Grows shown.old shown.new 11 45716 }
+    ensures act { StaysInRange pending.old pending.new }
 {
     let took = took_effect(table.apply_reserved(command));
     show_news(shown, took, member, table, sessions);
@@ -78,22 +72,16 @@ pub(crate) fn apply_commands(
     commands: &[Command],
     shown: &mut Texts<Reader>,
 )
-    requires game { table.old.game ≡ member.now.setting.game }
-    requires count { table.old.count ≡ member.now.setting.title.hands }
-    requires seats { length sessions.now ≡ table.old.game.players }
+    requires played { IsTableAt member.now.setting (length sessions.now) table.old }
     requires room { length commands.now ≤ table.old.room }
-    requires texts { 11 * length commands.now ≤ shown.old.text_room }
-    requires bytes { 45716 * length commands.now ≤ shown.old.byte_room }
+    requires space { HasSpace shown.old (11 * length commands.now) (45716 * length commands.now) }
     ensures scene { (scene : Scene) (before : List (Marked Reads)) → IsScene member.now.setting scene table.old pending.old before shown.old.texts
         → IsScene member.now.setting (taking_all member.now.setting (talks sessions.now) commands.now scene) table.new pending.new before shown.new.texts }
     ensures game { table.new.game ≡ table.old.game }
     ensures count { table.new.count ≡ table.old.count }
     ensures room { table.old.room ≤ table.new.room + length commands.now }
-    ensures text_room { shown.old.text_room ≤ shown.new.text_room + 11 * length commands.now }
-    ensures byte_room { shown.old.byte_room ≤ shown.new.byte_room + 45716 * length commands.now }
-    ensures len { length shown.new.texts ≤ length shown.old.texts + 11 * length commands.now }
-    ensures size { byte_total shown.new.texts ≤ byte_total shown.old.texts + 45716 * length commands.now }
-    ensures act { IfSome pending.old (λ command. IsInRange command) → IfSome pending.new (λ command. IsInRange command) }
+    ensures grows { Grows shown.old shown.new (11 * length commands.now) (45716 * length commands.now) }
+    ensures act { StaysInRange pending.old pending.new }
 {
     for command in commands {
         apply_command(table, pending, member, sessions, command, shown);

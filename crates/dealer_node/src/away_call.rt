@@ -1,8 +1,7 @@
 //! The call of an order that the player to act is played for: what a node that runs does then.
 
-ghost use Rattle.std.specs.Prelude.{◌≡◌, ◌≤◌, Ok, Some, IsTrue, IsErr};
+ghost use Rattle.std.specs.Prelude.{◌≡◌, ℕ, ◌≤◌, Ok, Some, IsTrue, IsErr};
 ghost use Rattle.paxos_wire.specs.declared.limits.TheConstants.{WINDOW};
-ghost use Rattle.proposer.specs.CommandRuns.{IsBounded};
 ghost use Rattle.seat_session.specs.declared.said.Said.TheVariants.{Act as SaidAct};
 ghost use Rattle.node_rules.specs.Standings.{Standing};
 ghost use Rattle.node_rules.specs.Turns.{and_then};
@@ -41,31 +40,29 @@ fn away_need(running: &Running, most: usize) -> Need
 
 impl<D: Disk + Drop> Up<D> {
     ghost use Rattle.dealer_node.specs.Working.{IsUp, Works, GoesOn};
-    ghost use Rattle.dealer_node.specs.Calling.{HasCallRoom, HandlesCall};
+    ghost use Rattle.dealer_node.specs.Calling.{CanClose, HandlesCall};
 
     /// Takes an order that means this, into room that was made, and closes the call.
     fn play_for(
         &mut self,
         member: &Member,
         act: &Command,
-        most: usize,
         lists: &mut Lists,
         made: &mut Made,
     ) -> Result<(), NodeFault>
         requires at { IsAt member.now self.old.running }
         requires act { IsForwardable (Ok (SaidAct act.now)) }
-        requires bounded { IsBounded self.old.running.proposer most }
-        requires room { HasCallRoom self.old made.old (away_need self.old.running most) 1 most }
+        requires room { (most : ℕ) × CanClose self.old made.old (away_need self.old.running) most }
         ensures works { (s : Standing) → IsTrue D.is_honest → IsUp D.Disk member.now self.old s → away_at (place_at member.now) s ≡ Some act.now
             → Works D.Disk member.now s (and_then (ordering (place_at member.now) s) (closing (place_at member.now))) self.old self.new (told_by made.old) (told_by made.new) result }
         ensures goes_on { GoesOn D.Disk self.old self.new result }
         ensures only { IsOfPart result }
         ensures at { IsAt member.now self.new.running }
-        ensures within { told_by made.old ≡ nothing_told → IsWithin made.new (away_need self.old.running most) }
+        ensures within { (most : ℕ) → CanClose self.old made.old (away_need self.old.running) most → told_by made.old ≡ nothing_told → IsWithin made.new (away_need self.old.running most) }
     {
         let promised = self.acceptor.promised();
         self.running.play_for(member, promised, act, made);
-        self.close_call(member, most, lists, made)
+        self.close_call(member, lists, made)
     }
 
     /// Lets the command that plays for the player to act wait where nothing does, hands it on, and closes the call; 96
@@ -94,7 +91,7 @@ impl<D: Disk + Drop> Up<D> {
         let most = self.running.most_proposed();
         let need = away_need(&self.running, most);
         let mut made = self.ready(alloc, rooms.made.take(), 1, most, &need, out)?;
-        self.play_for(member, &act, most, &mut rooms.lists, &mut made)?;
+        self.play_for(member, &act, &mut rooms.lists, &mut made)?;
         out.append(&mut made);
         rooms.made = Some(made);
         Ok(())

@@ -1,4 +1,4 @@
-ghost use Rattle.std.specs.Prelude.{◌≡◌, ◌+◌, ◌-◌, ◌*◌, ◌≤◌, ◌<◌, ◌++◌, ℕ, map, min, Some, length};
+ghost use Rattle.std.specs.Prelude.{◌≡◌, ◌+◌, ◌-◌, ◌*◌, ◌≤◌, ◌<◌, ◌++◌, ℕ, map, min, Some};
 ghost use Rattle.paxos_wire.specs.Fits.{IsInRange, IsSlot};
 ghost use Rattle.paxos_wire.specs.declared.limits.TheConstants.{MOST_SINGLE_FRAME};
 ghost use Rattle.paxos_wire.specs.declared.message.Message.TheVariants.{Ask as Asking};
@@ -6,7 +6,7 @@ ghost use Rattle.slot_log.specs.Slots.{front, known_at};
 ghost use Rattle.slot_log.specs.declared.command.Command.{Command as Order};
 ghost use Rattle.node_rules.specs.Sending.{one};
 ghost use Rattle.node_rules.specs.Learning.{next_window, telling_from};
-ghost use Rattle.dealer_node.specs.Rooms.{Grows};
+ghost use Rattle.dealer_node.specs.Rooms.{HasSpace, Grows};
 ghost use Rattle.dealer_node.specs.Turned.{framed};
 ghost use Rattle.dealer_node.specs.Fitting.{AreMessages};
 
@@ -17,10 +17,9 @@ use paxos_wire::{Message, frame_len};
 use slot_log::SlotLog;
 
 /// Asks a node for what was chosen from a slot on.
-pub(crate) fn ask(frames: &mut Texts<u8>, to: u8, slot: u32)
+pub(crate) fn send_ask(frames: &mut Texts<u8>, to: u8, slot: u32)
     requires slot { IsSlot slot }
-    requires texts { 1 ≤ frames.old.text_room }
-    requires bytes { MOST_SINGLE_FRAME ≤ frames.old.byte_room }
+    requires space { HasSpace frames.old 1 MOST_SINGLE_FRAME }
     ensures texts { frames.new.texts ≡ frames.old.texts ++ map framed (one to (Asking slot)) }
     ensures fits { AreMessages (one to (Asking slot)) }
     ensures grows { Grows frames.old frames.new 1 MOST_SINGLE_FRAME }
@@ -47,8 +46,7 @@ pub(crate) fn told_slots(log: &SlotLog, slot: u32) -> u32
 fn tell_slot(frames: &mut Texts<u8>, to: u8, log: &SlotLog, slot: u32)
     requires slot { IsSlot slot }
     requires commands { (command : Order) → known_at log.now.log slot ≡ Some command → IsInRange command }
-    requires texts { 1 ≤ frames.old.text_room }
-    requires bytes { MOST_SINGLE_FRAME ≤ frames.old.byte_room }
+    requires space { HasSpace frames.old 1 MOST_SINGLE_FRAME }
     ensures texts { frames.new.texts ≡ frames.old.texts ++ map framed (telling_from log.now.log to slot 1) }
     ensures fits { AreMessages (telling_from log.now.log to slot 1) }
     ensures grows { Grows frames.old frames.new 1 MOST_SINGLE_FRAME }
@@ -70,8 +68,7 @@ fn tell_slot(frames: &mut Texts<u8>, to: u8, log: &SlotLog, slot: u32)
 pub(crate) fn send_chosen(frames: &mut Texts<u8>, to: u8, log: &SlotLog, slot: u32, slots: u32)
     requires slots { slot + slots ≤ SLOTS }
     requires commands { (one : ℕ) (command : Order) → known_at log.now.log one ≡ Some command → IsInRange command }
-    requires texts { slots ≤ frames.old.text_room }
-    requires bytes { MOST_SINGLE_FRAME * slots ≤ frames.old.byte_room }
+    requires space { HasSpace frames.old slots (MOST_SINGLE_FRAME * slots) }
     ensures texts { frames.new.texts ≡ frames.old.texts ++ map framed (telling_from log.now.log to slot slots) }
     ensures fits { AreMessages (telling_from log.now.log to slot slots) }
     ensures grows { Grows frames.old frames.new slots (MOST_SINGLE_FRAME * slots) }

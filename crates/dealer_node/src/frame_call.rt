@@ -1,16 +1,13 @@
 //! The call with a frame: what a node that runs does with its bytes.
 
-ghost use Rattle.std.specs.Prelude.{◌≡◌, ◌+◌, ◌≤◌, ◌<◌, IfOk, OnOk, IsTrue, IsErr};
+ghost use Rattle.std.specs.Prelude.{◌≡◌, ◌+◌, ◌≤◌, ◌<◌, IfOk, IsTrue, IsErr};
 ghost use Rattle.paxos_wire.specs.Fits.{IsMessage};
 ghost use Rattle.paxos_wire.specs.Faults.{reading};
 ghost use Rattle.node_rules.specs.Standings.{Standing};
 ghost use Rattle.node_rules.specs.Calls.{Frame as Letter};
-ghost use Rattle.node_rules.specs.Rules.{on_message};
-ghost use Rattle.dealer_node.specs.Outs.{told_by, nothing_told};
-ghost use Rattle.dealer_node.specs.Members.{place_at};
-ghost use Rattle.dealer_node.specs.Running.{IsAt, IsBoundedBehind};
-ghost use Rattle.dealer_node.specs.Working.{IsOfPart};
-ghost use Rattle.dealer_node.specs.Handling.{IsWithin, AnswersUp};
+ghost use Rattle.dealer_node.specs.Outs.{told_by};
+ghost use Rattle.dealer_node.specs.Running.{IsAt};
+ghost use Rattle.dealer_node.specs.Handling.{AnswersUp};
 ghost use Rattle.dealer_node.specs.Calling.{commands_in, frame_need};
 ghost use Rattle.dealer_node.specs.declared.limits.TheConstants.{ANSWERS_OF_A_CALL};
 ghost use Rattle.paxos_wire.specs.declared.limits.TheConstants.{WINDOW};
@@ -21,7 +18,7 @@ use crate::limits::{ANSWERS_OF_A_CALL, FRAMES_OF_A_CLOSE, FRAMES_OF_AN_ANSWER, F
 use crate::made::{Made, Need};
 use crate::member::Member;
 use crate::most_shown::{MostShown, most_after};
-use crate::rooms::{Lists, Rooms};
+use crate::rooms::Rooms;
 use crate::running::Running;
 use crate::up::Up;
 use paxos_wire::{FrameFault, Message, MessageRoom, decode};
@@ -73,8 +70,8 @@ fn frame_need(running: &Running, commands: usize, most: usize) -> Need
 }
 
 impl<D: Disk + Drop> Up<D> {
-    ghost use Rattle.dealer_node.specs.Working.{IsUp, Works, GoesOn};
-    ghost use Rattle.dealer_node.specs.Calling.{HasCallRoom, HandlesCall};
+    ghost use Rattle.dealer_node.specs.Working.{IsUp, GoesOn};
+    ghost use Rattle.dealer_node.specs.Calling.{HandlesCall};
 
     /// How much the call of a frame of these bytes shows at most.
     pub(crate) fn most_shown_by(&self, bytes: &[u8]) -> MostShown
@@ -85,31 +82,6 @@ impl<D: Disk + Drop> Up<D> {
             Ok(message) => most_shown_behind(&self.running, &message),
             Err(_) => self.running.most_shown(),
         }
-    }
-
-    /// Takes a message of another node, into room that was made.
-    fn message(
-        &mut self,
-        member: &Member,
-        from: u8,
-        message: &Message,
-        most: usize,
-        lists: &mut Lists,
-        made: &mut Made,
-    ) -> Result<(), NodeFault>
-        requires at { IsAt member.now self.old.running }
-        requires from { from < member.now.nodes }
-        requires message { IsMessage message.now }
-        requires bounded { IsBoundedBehind self.old.running.proposer message.now most }
-        requires room { HasCallRoom self.old made.old (frame_need self.old.running (commands_in message.now) most) ANSWERS_OF_A_CALL (commands_in message.now + most) }
-        ensures works { (s : Standing) → IsTrue D.is_honest → IsUp D.Disk member.now self.old s
-            → Works D.Disk member.now s (on_message (place_at member.now) from message.now s) self.old self.new (told_by made.old) (told_by made.new) result }
-        ensures goes_on { GoesOn D.Disk self.old self.new result }
-        ensures only { IsOfPart result }
-        ensures at { IsAt member.now self.new.running }
-        ensures within { told_by made.old ≡ nothing_told → OnOk result (IsWithin made.new (frame_need self.old.running (commands_in message.now) most)) }
-    {
-        self.on_message(member, from, message, most, lists, made)
     }
 
     /// Takes the bytes of a frame of another node, and closes the call. What it makes goes to `out` at the end, where it
@@ -148,7 +120,7 @@ impl<D: Disk + Drop> Up<D> {
                     &need,
                     out,
                 )?;
-                self.message(member, from, &message, most, &mut rooms.lists, &mut made)?;
+                self.on_message(member, from, &message, &mut rooms.lists, &mut made)?;
                 out.append(&mut made);
                 rooms.made = Some(made);
                 Ok(())

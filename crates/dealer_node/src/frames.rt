@@ -1,19 +1,18 @@
 //! What a node that runs does with a message of another node.
 
-ghost use Rattle.std.specs.Prelude.{◌≡◌, ℕ, ◌+◌, ◌*◌, ◌≤◌, ◌<◌, IsTrue, OnOk};
+ghost use Rattle.std.specs.Prelude.{◌≡◌, ℕ, ◌+◌, ◌*◌, ◌≤◌, ◌<◌, OnOk};
 ghost use Rattle.paxos_wire.specs.Fits.{IsMessage};
 ghost use Rattle.paxos_wire.specs.declared.limits.TheConstants.{MOST_SINGLE_FRAME};
-ghost use Rattle.node_rules.specs.Standings.{Standing};
-ghost use Rattle.node_rules.specs.Rules.{taking, asking, on_message};
+ghost use Rattle.node_rules.specs.Rules.{taking, on_message};
 ghost use Rattle.proposer.specs.CommandRuns.{IsBounded};
-ghost use Rattle.dealer_node.specs.Members.{Membership, place_at};
-ghost use Rattle.dealer_node.specs.Outs.{told_by};
-ghost use Rattle.dealer_node.specs.declared.limits.TheConstants.{FRAMES_TO_ALL, ANSWERS_OF_A_CALL, FRAMES_OF_AN_ANSWER};
-ghost use Rattle.dealer_node.specs.Rooms.{Grows};
-ghost use Rattle.dealer_node.specs.declared.made.Need.{Need as Needs};
-ghost use Rattle.dealer_node.specs.Running.{IsRunning, IsTaken, IsBoundedBehind, IsAt, CanLearn};
-ghost use Rattle.dealer_node.specs.Calling.{commands_in, frames_behind};
-ghost use Rattle.dealer_node.specs.Working.{HasLeft, IsOfPart};
+ghost use Rattle.dealer_node.specs.Members.{place_at};
+ghost use Rattle.dealer_node.specs.Outs.{told_by, nothing_told};
+ghost use Rattle.dealer_node.specs.declared.limits.TheConstants.{FRAMES_TO_ALL, FRAMES_OF_AN_ANSWER};
+ghost use Rattle.dealer_node.specs.Rooms.{HasSpace};
+ghost use Rattle.dealer_node.specs.Running.{IsBoundedBehind, IsAt, CanLearn};
+ghost use Rattle.dealer_node.specs.Handling.{IsWithin};
+ghost use Rattle.dealer_node.specs.Calling.{commands_in, frame_need};
+ghost use Rattle.dealer_node.specs.Working.{Spends, IsOfPart};
 
 use crate::fault::NodeFault;
 use crate::made::Made;
@@ -24,29 +23,9 @@ use crate::up::Up;
 use paxos_wire::{CommandList, Message};
 use promise_store::Disk;
 
-/// Asks a node that speaks of a slot above the front, in a Prepare, an Accept or an Accepted, for what was chosen.
-fn ask(running: &Running, from: u8, message: &Message, made: &mut Made)
-    requires message { IsMessage message.now }
-    requires frames { 1 ≤ made.old.frames.text_room }
-    requires frame_bytes { MOST_SINGLE_FRAME ≤ made.old.frames.byte_room }
-    ensures taken { (member : Membership) (s : Standing) → IsRunning member running.now s → IsTaken member running.now (told_by made.old) (told_by made.new) (asking from message.now s) }
-    ensures frames { Grows made.old.frames made.new.frames 1 MOST_SINGLE_FRAME }
-    ensures rest { made.new ≡ record made.old { frames = made.new.frames } }
-{
-    match message {
-        Message::Prepare { slot, .. }
-        | Message::Accept { slot, .. }
-        | Message::Accepted { slot, .. } => running.ask_above(from, *slot, made),
-        Message::Promise { .. }
-        | Message::Refuse { .. }
-        | Message::Chosen { .. }
-        | Message::Ask { .. }
-        | Message::Forward { .. } => return,
-    }
-}
-
 impl<D: Disk + Drop> Up<D> {
-    ghost use Rattle.dealer_node.specs.Working.{IsUp, Works, GoesOn, store_room};
+    ghost use Rattle.dealer_node.specs.Working.{Follows, GoesOn, store_room};
+    ghost use Rattle.dealer_node.specs.Calling.{CanTake};
 
     /// What each message asks of a node.
     fn take_message(
@@ -62,18 +41,14 @@ impl<D: Disk + Drop> Up<D> {
         requires message { IsMessage message.now }
         requires store { commands_in message.now ≤ store_room self.old }
         requires learn { CanLearn self.old.running made.old 1 (commands_in message.now) }
-        requires texts { FRAMES_OF_AN_ANSWER ≤ made.old.frames.text_room }
-        requires bytes { MOST_SINGLE_FRAME * (FRAMES_OF_AN_ANSWER + FRAMES_TO_ALL * commands_in message.now) ≤ made.old.frames.byte_room }
-        ensures works { (s : Standing) → IsTrue D.is_honest → IsUp D.Disk member.now self.old s
-            → Works D.Disk member.now s (taking (place_at member.now) from message.now s) self.old self.new (told_by made.old) (told_by made.new) result }
+        requires space { HasSpace made.old.frames FRAMES_OF_AN_ANSWER (MOST_SINGLE_FRAME * (FRAMES_OF_AN_ANSWER + FRAMES_TO_ALL * commands_in message.now)) }
+        ensures works { Follows D.Disk member.now (taking (place_at member.now) from message.now) self.old self.new (told_by made.old) (told_by made.new) result }
         ensures goes_on { GoesOn D.Disk self.old self.new result }
         ensures only { IsOfPart result }
         ensures at { IsAt member.now self.new.running }
         ensures bounded { (most : ℕ) → IsBoundedBehind self.old.running.proposer message.now most → IsBounded self.new.running.proposer most }
         ensures room { store_room self.old ≤ store_room self.new + commands_in message.now }
-        ensures left { (need : Needs) (answers more frames : ℕ)
-            → HasLeft self.old.running made.old need (answers + 1) (more + commands_in message.now) (frames + (FRAMES_OF_AN_ANSWER + FRAMES_TO_ALL * commands_in message.now))
-            → HasLeft self.new.running made.new need answers more frames }
+        ensures left { Spends self.old.running self.new.running made.old made.new 1 (commands_in message.now) (FRAMES_OF_AN_ANSWER + FRAMES_TO_ALL * commands_in message.now) }
     {
         match message {
             Message::Prepare { ballot, slot } => self.prepare(from, *ballot, *slot, made),
@@ -99,40 +74,33 @@ impl<D: Disk + Drop> Up<D> {
         }
     }
 
-    /// Takes a message of another node, and closes the call; last it asks for what it doesn't know. There is room for so
-    /// many commands as the close proposes at most.
+    /// Takes a message of another node, into room that was made, and closes the call; last it asks for what it doesn't know.
     pub(crate) fn on_message(
         &mut self,
         member: &Member,
         from: u8,
         message: &Message,
-        most: usize,
         lists: &mut Lists,
         made: &mut Made,
     ) -> Result<(), NodeFault>
         requires at { IsAt member.now self.old.running }
         requires from { from < member.now.nodes }
         requires message { IsMessage message.now }
-        requires bounded { IsBoundedBehind self.old.running.proposer message.now most }
-        requires store { commands_in message.now + most ≤ store_room self.old }
-        requires learn { CanLearn self.old.running made.old ANSWERS_OF_A_CALL (commands_in message.now + most) }
-        requires texts { frames_behind (commands_in message.now) most ≤ made.old.frames.text_room }
-        requires bytes { MOST_SINGLE_FRAME * frames_behind (commands_in message.now) most ≤ made.old.frames.byte_room }
-        ensures works { (s : Standing) → IsTrue D.is_honest → IsUp D.Disk member.now self.old s
-            → Works D.Disk member.now s (on_message (place_at member.now) from message.now s) self.old self.new (told_by made.old) (told_by made.new) result }
+        requires room { (most : ℕ) × CanTake self.old made.old message.now most }
+        ensures works { Follows D.Disk member.now (on_message (place_at member.now) from message.now) self.old self.new (told_by made.old) (told_by made.new) result }
         ensures goes_on { GoesOn D.Disk self.old self.new result }
         ensures only { IsOfPart result }
         ensures at { IsAt member.now self.new.running }
-        ensures left { (need : Needs) → HasLeft self.old.running made.old need ANSWERS_OF_A_CALL (commands_in message.now + most) (frames_behind (commands_in message.now) most)
-            → OnOk result (HasLeft self.new.running made.new need 0 0 0) }
+        ensures within { (most : ℕ) → CanTake self.old made.old message.now most → told_by made.old ≡ nothing_told
+            → OnOk result (IsWithin made.new (frame_need self.old.running (commands_in message.now) most)) }
     {
         self.running.see(message);
         match self.take_message(member, from, message, &mut lists.told, made) {
             Err(fault) => Err(fault),
-            Ok(()) => match self.close_call(member, most, lists, made) {
+            Ok(()) => match self.close_call(member, lists, made) {
                 Err(fault) => Err(fault),
                 Ok(()) => {
-                    ask(&self.running, from, message, made);
+                    self.running.ask_behind(from, message, made);
                     Ok(())
                 }
             },

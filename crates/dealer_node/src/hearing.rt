@@ -1,9 +1,9 @@
-ghost use Rattle.std.specs.Prelude.{◌≡◌, Option, ◌+◌, ◌*◌, ◌≤◌, ◌<◌, ◌++◌, ◌&&◌, false, map, is_none, if◌then◌else◌, [], Ok, Err, Some, None, IfSome, vec_len, vec_capacity};
+ghost use Rattle.std.specs.Prelude.{◌≡◌, Option, ◌+◌, ◌*◌, ◌<◌, ◌++◌, ◌&&◌, false, map, is_none, if◌then◌else◌, [], Ok, Err, Some, None, IfSome, vec_len, vec_capacity};
 ghost use Rattle.std.specs.Option.{ForSome};
 ghost use Rattle.slot_log.specs.Dealer.{reason_of};
 ghost use Rattle.slot_log.specs.Hand.{Match};
 ghost use Rattle.slot_log.specs.declared.command.Command.{Command as Order};
-ghost use Rattle.paxos_wire.specs.declared.ballot.Ballot.{Ballot as Vow};
+ghost use Rattle.paxos_wire.specs.declared.ballot.Ballot.{Ballot as Number};
 ghost use Rattle.paxos_wire.specs.Fits.{MayGoOn, IsInRange};
 ghost use Rattle.paxos_wire.specs.declared.limits.TheConstants.{MOST_SINGLE_FRAME};
 ghost use Rattle.paxos_wire.specs.declared.message.Message.TheVariants.{Forward as Forwarding};
@@ -13,12 +13,13 @@ ghost use Rattle.seat_session.specs.declared.said.Said.TheVariants.{Ready as Sai
 ghost use Rattle.node_rules.specs.Standings.{Place};
 ghost use Rattle.node_rules.specs.Sending.{one};
 ghost use Rattle.node_rules.specs.Seats.{is_others};
-ghost use Rattle.dealer_node.specs.Outs.{told_by};
+ghost use Rattle.dealer_node.specs.Outs.{told_by, HasRoom};
 ghost use Rattle.dealer_node.specs.Members.{place_at};
 ghost use Rattle.dealer_node.specs.Turned.{framed};
 ghost use Rattle.dealer_node.specs.Fitting.{AreMessages};
-ghost use Rattle.dealer_node.specs.Rooms.{Grows, Tells};
-ghost use Rattle.dealer_node.specs.Hearing.{IsForwardable, TakesAct, TakesAnswer, Hears, HearsPiece, CanHear};
+ghost use Rattle.dealer_node.specs.Scenes.{StaysInRange};
+ghost use Rattle.dealer_node.specs.Rooms.{HasSpace, Grows, Tells, Makes, piece_need};
+ghost use Rattle.dealer_node.specs.Hearing.{IsSeatOf, IsForwardable, HasAnswerRoom, MakesAnswer, TakesAct, TakesAnswer, Hears, HearsPiece, CanHear};
 
 use crate::lines::show_line;
 use crate::made::Made;
@@ -35,7 +36,7 @@ use slot_log::{Command, Table};
 /// Lets an act wait where it fits and none does.
 pub(crate) fn wait(pending: &mut Option<Command>, table: &Table, act: &Command)
     ensures value { pending.new ≡ (if is_none pending.old && is_none (reason_of table.now.game table.now.count table.now.hands act.now) then Some act.now else pending.old) }
-    ensures act { IfSome pending.old (λ command. IsInRange command) → IfSome pending.new (λ command. IsInRange command) }
+    ensures act { StaysInRange pending.old pending.new }
 {
     if pending.is_none() && table.fits(act) {
         *pending = Some(*act);
@@ -53,8 +54,7 @@ fn is_others(member: &Member, promised: Ballot) -> bool
 fn forward(frames: &mut Texts<u8>, member: &Member, promised: Ballot, act: &Command)
     requires act { MayGoOn act.now }
     requires numbers { IsInRange act.now }
-    requires texts { 1 ≤ frames.old.text_room }
-    requires bytes { MOST_SINGLE_FRAME ≤ frames.old.byte_room }
+    requires space { HasSpace frames.old 1 MOST_SINGLE_FRAME }
     ensures texts { frames.new.texts ≡ frames.old.texts ++ map framed (if is_others (place_at member.now) promised then one promised.node (Forwarding act.now) else []) }
     ensures fits { AreMessages (if is_others (place_at member.now) promised then one promised.node (Forwarding act.now) else []) }
     ensures grows { Grows frames.old frames.new 1 MOST_SINGLE_FRAME }
@@ -69,9 +69,8 @@ fn forward(frames: &mut Texts<u8>, member: &Member, promised: Ballot, act: &Comm
 /// A seat that gets ready is shown its line.
 fn take_ready(seat: usize, table: &Table, made: &mut Made)
     requires seat { seat < table.now.game.players }
-    requires texts { 1 ≤ made.old.shown.text_room }
-    requires bytes { 4096 ≤ made.old.shown.byte_room }
-    ensures taken { (place : Place) (promised : Vow) (pending : Option Order) → table.now.game ≡ place.setting.game
+    requires space { HasSpace made.old.shown 1 4096 }
+    ensures taken { (place : Place) (promised : Number) (pending : Option Order) → table.now.game ≡ place.setting.game
         → TakesAnswer place table.now promised seat (Ok SaidReady) pending pending (told_by made.old) (told_by made.new) }
     ensures shown { Grows made.old.shown made.new.shown 1 4096 }
     ensures rest { made.new ≡ record made.old { shown = made.new.shown } }
@@ -89,56 +88,25 @@ pub(crate) fn take_act(
     made: &mut Made,
 )
     requires act { IsForwardable (Ok (SaidAct act.now)) }
-    requires texts { 1 ≤ made.old.frames.text_room }
-    requires bytes { MOST_SINGLE_FRAME ≤ made.old.frames.byte_room }
+    requires space { HasSpace made.old.frames 1 MOST_SINGLE_FRAME }
     ensures taken { TakesAct (place_at member.now) table.now promised act.now pending.old pending.new (told_by made.old) (told_by made.new) }
     ensures frames { Grows made.old.frames made.new.frames 1 MOST_SINGLE_FRAME }
     ensures rest { made.new ≡ record made.old { frames = made.new.frames } }
-    ensures act { IfSome pending.old (λ command. IsInRange command) → IfSome pending.new (λ command. IsInRange command) }
+    ensures act { StaysInRange pending.old pending.new }
 {
     wait(pending, table, act);
     forward(&mut made.frames, member, promised, act);
 }
 
-/// A fault is told.
+/// A fault is kept for a note; the seat itself is told nothing.
 fn take_fault(fault: SessionFault, seat: usize, made: &mut Made)
     requires { vec_len made.old.faults < vec_capacity made.old.faults }
-    ensures taken { (place : Place) (table : Match) (promised : Vow) (pending : Option Order)
+    ensures taken { (place : Place) (table : Match) (promised : Number) (pending : Option Order)
         → TakesAnswer place table promised seat (Err fault) pending pending (told_by made.old) (told_by made.new) }
     ensures faults { Tells made.old made.new 1 }
     ensures rest { made.new ≡ record made.old { faults = made.new.faults } }
 {
     made.faults.push_reserved(SeatFault { seat, fault });
-}
-
-/// Takes what a seat says.
-fn take_said(
-    said: &Said,
-    seat: usize,
-    member: &Member,
-    promised: Ballot,
-    table: &Table,
-    pending: &mut Option<Command>,
-    made: &mut Made,
-)
-    requires game { table.now.game ≡ member.now.setting.game }
-    requires seat { seat < table.now.game.players }
-    requires act { IsForwardable (Ok said.now) }
-    requires frames { 1 ≤ made.old.frames.text_room }
-    requires frame_bytes { MOST_SINGLE_FRAME ≤ made.old.frames.byte_room }
-    requires texts { said.now ≡ SaidReady → 1 ≤ made.old.shown.text_room }
-    requires text_bytes { said.now ≡ SaidReady → 4096 ≤ made.old.shown.byte_room }
-    ensures taken { TakesAnswer (place_at member.now) table.now promised seat (Ok said.now) pending.old pending.new (told_by made.old) (told_by made.new) }
-    ensures frames { Grows made.old.frames made.new.frames 1 MOST_SINGLE_FRAME }
-    ensures shown { Grows made.old.shown made.new.shown 1 4096 }
-    ensures still { (said.now ≡ SaidReady → ⊥) → made.new.shown ≡ made.old.shown }
-    ensures faults { made.new.faults ≡ made.old.faults }
-    ensures act { IfSome pending.old (λ command. IsInRange command) → IfSome pending.new (λ command. IsInRange command) }
-{
-    match said {
-        Said::Ready => take_ready(seat, table, made),
-        Said::Act(act) => take_act(act, member, promised, table, pending, made),
-    }
 }
 
 /// Takes an answer of a seat's session.
@@ -151,23 +119,18 @@ fn take_answer(
     pending: &mut Option<Command>,
     made: &mut Made,
 )
-    requires game { table.now.game ≡ member.now.setting.game }
-    requires seat { seat < table.now.game.players }
+    requires sits { IsSeatOf member.now.setting table.now seat }
     requires act { IsForwardable said.now }
-    requires frames { 1 ≤ made.old.frames.text_room }
-    requires frame_bytes { MOST_SINGLE_FRAME ≤ made.old.frames.byte_room }
-    requires texts { said.now ≡ Ok SaidReady → 1 ≤ made.old.shown.text_room }
-    requires text_bytes { said.now ≡ Ok SaidReady → 4096 ≤ made.old.shown.byte_room }
-    requires faults { vec_len made.old.faults < vec_capacity made.old.faults }
+    requires room { HasAnswerRoom said.now made.old }
     ensures taken { TakesAnswer (place_at member.now) table.now promised seat said.now pending.old pending.new (told_by made.old) (told_by made.new) }
-    ensures frames { Grows made.old.frames made.new.frames 1 MOST_SINGLE_FRAME }
-    ensures shown { Grows made.old.shown made.new.shown 1 4096 }
-    ensures still { (said.now ≡ Ok SaidReady → ⊥) → made.new.shown ≡ made.old.shown }
-    ensures faults { Tells made.old made.new 1 }
-    ensures act { IfSome pending.old (λ command. IsInRange command) → IfSome pending.new (λ command. IsInRange command) }
+    ensures makes { MakesAnswer said.now made.old made.new }
+    ensures act { StaysInRange pending.old pending.new }
 {
     match said {
-        Ok(said) => take_said(said, seat, member, promised, table, pending, made),
+        Ok(said) => match said {
+            Said::Ready => take_ready(seat, table, made),
+            Said::Act(act) => take_act(act, member, promised, table, pending, made),
+        },
         Err(fault) => take_fault(*fault, seat, made),
     }
 }
@@ -182,21 +145,14 @@ fn drain(
     pending: &mut Option<Command>,
     made: &mut Made,
 )
-    requires game { table.now.game ≡ member.now.setting.game }
-    requires seat { session.old.seat < table.now.game.players }
+    requires sits { IsSeatOf member.now.setting table.now session.old.seat }
     requires stays { is_closed session.old.standing.phase ≡ false }
     requires limit { line_feeds session.old.standing.waiting < limit }
-    requires frames { limit ≤ made.old.frames.text_room }
-    requires frame_bytes { MOST_SINGLE_FRAME * limit ≤ made.old.frames.byte_room }
-    requires texts { 1 ≤ made.old.shown.text_room }
-    requires text_bytes { 4096 ≤ made.old.shown.byte_room }
-    requires faults { vec_len made.old.faults + limit ≤ vec_capacity made.old.faults }
+    requires room { HasRoom made.old (piece_need limit) }
     ensures hears { Hears (place_at member.now) table.now promised session.old.seat session.old.standing session.new.standing pending.old pending.new (told_by made.old) (told_by made.new) }
     ensures seat { session.new.seat ≡ session.old.seat }
-    ensures frames { Grows made.old.frames made.new.frames limit (MOST_SINGLE_FRAME * limit) }
-    ensures shown { Grows made.old.shown made.new.shown 1 4096 }
-    ensures faults { Tells made.old made.new limit }
-    ensures act { IfSome pending.old (λ command. IsInRange command) → IfSome pending.new (λ command. IsInRange command) }
+    ensures makes { Makes made.old made.new (piece_need limit) }
+    ensures act { StaysInRange pending.old pending.new }
 {
     answers_take_lines();
     ready_comes_first();
@@ -233,21 +189,14 @@ pub(crate) fn session_hears(
     pending: &mut Option<Command>,
     made: &mut Made,
 ) -> Option<Session>
-    requires game { table.now.game ≡ member.now.setting.game }
-    requires seat { seat < table.now.game.players }
+    requires sits { IsSeatOf member.now.setting table.now seat }
     requires session { ForSome session (λ s. CanHear seat piece.now limit s) }
-    requires frames { limit ≤ made.old.frames.text_room }
-    requires frame_bytes { MOST_SINGLE_FRAME * limit ≤ made.old.frames.byte_room }
-    requires texts { 1 ≤ made.old.shown.text_room }
-    requires text_bytes { 4096 ≤ made.old.shown.byte_room }
-    requires faults { vec_len made.old.faults + limit ≤ vec_capacity made.old.faults }
+    requires room { HasRoom made.old (piece_need limit) }
     ensures hears { HearsPiece (place_at member.now) table.now promised seat piece.now session result pending.old pending.new (told_by made.old) (told_by made.new) }
     ensures own { IfSome result (λ s. s.seat ≡ seat) }
     ensures stays { IfSome result (λ s. is_closed s.standing.phase ≡ false) }
-    ensures frames { Grows made.old.frames made.new.frames limit (MOST_SINGLE_FRAME * limit) }
-    ensures shown { Grows made.old.shown made.new.shown 1 4096 }
-    ensures faults { Tells made.old made.new limit }
-    ensures act { IfSome pending.old (λ command. IsInRange command) → IfSome pending.new (λ command. IsInRange command) }
+    ensures makes { Makes made.old made.new (piece_need limit) }
+    ensures act { StaysInRange pending.old pending.new }
 {
     pieces_add_lines();
     let mut session = session?;

@@ -1,24 +1,22 @@
-ghost use Rattle.std.specs.Prelude.{◌≡◌, ◌+◌, ◌-◌, ◌*◌, ◌≤◌, ◌<◌, List, length, drop, reverse, OnOk, OnErr, IsOk, IsErr, Err, IfSome};
+ghost use Rattle.std.specs.Prelude.{◌≡◌, ◌+◌, ◌-◌, ◌*◌, ◌≤◌, ◌<◌, List, length, drop, reverse, OnOk, OnErr, IsOk, IsErr, Err};
 ghost use Rattle.paxos_wire.specs.Fits.{IsInRange, IsSlot, IsCommandRun};
 ghost use Rattle.paxos_wire.specs.declared.limits.TheConstants.{MOST_SINGLE_FRAME};
 ghost use Rattle.slot_log.specs.Slots.{front};
 ghost use Rattle.learner.specs.Learning.{answer_to_chosen, believing as with_chosen};
 ghost use Rattle.learner.specs.CommandRuns.{answer_to_run, hearing_run};
-ghost use Rattle.node_rules.specs.Standings.{Standing};
 ghost use Rattle.node_rules.specs.Applying.{Scene, taking_all};
-ghost use Rattle.node_rules.specs.Turns.{Conflict as Conflicting};
-ghost use Rattle.node_rules.specs.Learning.{learning, counting_votes, asking_on, believing, telling, asking_above};
+ghost use Rattle.node_rules.specs.Learning.{learning, counting_votes, believing, telling};
 ghost use Rattle.dealer_node.specs.declared.reader.Reader.{Reader as Reads};
 ghost use Rattle.dealer_node.specs.Texts.{Marked};
 ghost use Rattle.dealer_node.specs.declared.limits.TheConstants.{FRAMES_OF_AN_ANSWER, FRAME_BYTES_OF_AN_ANSWER};
-ghost use Rattle.dealer_node.specs.Scenes.{IsScene};
-ghost use Rattle.dealer_node.specs.Members.{Membership, place_at};
+ghost use Rattle.dealer_node.specs.Scenes.{IsScene, IsTableAt, StaysInRange};
+ghost use Rattle.dealer_node.specs.Members.{place_at};
 ghost use Rattle.dealer_node.specs.Outs.{told_by};
-ghost use Rattle.dealer_node.specs.Rooms.{Grows};
-ghost use Rattle.dealer_node.specs.Running.{IsRunning, IsTaken, TakesTurn, IsAt, AreInRange, GoesOn, CanLearn, Learns};
+ghost use Rattle.dealer_node.specs.Rooms.{HasSpace, Grows};
+ghost use Rattle.dealer_node.specs.Running.{TakesBeside, TakesRule, ClashesBy, IsAt, AreInRange, GoesOn, CanLearn, Learns};
 
 use crate::applying::apply_commands;
-use crate::chosen_frames::{ask, send_chosen, told_slots};
+use crate::chosen_frames::{send_chosen, told_slots};
 use crate::made::Made;
 use crate::member::Member;
 use crate::reader::Reader;
@@ -26,7 +24,6 @@ use crate::running::Running;
 use crate::texts::Texts;
 use learner::Learner;
 use paxos_wire::Ballot;
-use paxos_wire::limits::{SLOTS, WINDOW};
 use slot_log::laws::{commands_are_kept, front_is_first_hole, fronts_go_on, one_more_is_known};
 use slot_log::{Command, SlotFault, SlotLog};
 
@@ -97,19 +94,16 @@ impl Running {
     /// Applies the commands from a slot on that the front has passed.
     fn apply_from(&mut self, from: u32, member: &Member, shown: &mut Texts<Reader>)
         requires from { from ≤ front self.old.learner.learned.log }
-        requires game { self.old.table.game ≡ member.now.setting.game }
-        requires count { self.old.table.count ≡ member.now.setting.title.hands }
-        requires seats { length self.old.seats.talks ≡ member.now.setting.game.players }
+        requires played { IsTableAt member.now.setting (length self.old.seats.talks) self.old.table }
         requires room { front self.old.learner.learned.log ≤ from + self.old.table.room }
-        requires texts { 11 * (front self.old.learner.learned.log - from) ≤ shown.old.text_room }
-        requires bytes { 45716 * (front self.old.learner.learned.log - from) ≤ shown.old.byte_room }
+        requires space { HasSpace shown.old (11 * (front self.old.learner.learned.log - from)) (45716 * (front self.old.learner.learned.log - from)) }
         ensures scene { (scene : Scene) (before : List (Marked Reads)) → IsScene member.now.setting scene self.old.table self.old.pending before shown.old.texts
             → IsScene member.now.setting (taking_all member.now.setting self.old.seats.talks (drop from (reverse self.old.learner.learned.log.below)) scene) self.new.table self.new.pending before shown.new.texts }
         ensures game { self.new.table.game ≡ self.old.table.game }
         ensures count { self.new.table.count ≡ self.old.table.count }
         ensures room { self.old.table.room + from ≤ self.new.table.room + front self.old.learner.learned.log }
         ensures shown { Grows shown.old shown.new (11 * (front self.old.learner.learned.log - from)) (45716 * (front self.old.learner.learned.log - from)) }
-        ensures act { IfSome self.old.pending (λ command. IsInRange command) → IfSome self.new.pending (λ command. IsInRange command) }
+        ensures act { StaysInRange self.old.pending self.new.pending }
         ensures rest { self.new ≡ record self.old { table = self.new.table; pending = self.new.pending } }
     {
         apply_commands(
@@ -138,10 +132,8 @@ impl Running {
         requires from { from < member.now.nodes }
         requires run { IsCommandRun slot commands.now }
         requires room { CanLearn self.old made.old 1 (length commands.now) }
-        ensures ok { OnOk result ((s : Standing) → IsRunning member.now self.old s
-            → TakesTurn member.now self.new (told_by made.old) (told_by made.new) (counting_votes (place_at member.now) from ballot slot commands.now s)) }
-        ensures err { OnErr result ((s : Standing) → IsRunning member.now self.old s
-            → counting_votes (place_at member.now) from ballot slot commands.now s ≡ Err (Conflicting s.store)) }
+        ensures ok { OnOk result (TakesRule member.now (counting_votes (place_at member.now) from ballot slot commands.now) self.old self.new (told_by made.old) (told_by made.new)) }
+        ensures err { OnErr result (ClashesBy member.now (counting_votes (place_at member.now) from ballot slot commands.now) self.old) }
         ensures at { IsAt member.now self.new }
         ensures proposer { self.new.proposer ≡ self.old.proposer }
         ensures learns { Learns (length commands.now) self.old self.new made.old made.new }
@@ -165,10 +157,8 @@ impl Running {
         requires at { IsAt member.now self.old }
         requires command { IsInRange command }
         requires room { CanLearn self.old made.old 0 1 }
-        ensures ok { OnOk result ((s : Standing) → IsRunning member.now self.old s
-            → TakesTurn member.now self.new (told_by made.old) (told_by made.new) (learning (place_at member.now) (answer_to_chosen s.learned.log slot command) (with_chosen s.learned slot command) s)) }
-        ensures err { OnErr result ((s : Standing) → IsRunning member.now self.old s
-            → learning (place_at member.now) (answer_to_chosen s.learned.log slot command) (with_chosen s.learned slot command) s ≡ Err (Conflicting s.store)) }
+        ensures ok { OnOk result (TakesRule member.now (λ s. learning (place_at member.now) (answer_to_chosen s.learned.log slot command) (with_chosen s.learned slot command) s) self.old self.new (told_by made.old) (told_by made.new)) }
+        ensures err { OnErr result (ClashesBy member.now (λ s. learning (place_at member.now) (answer_to_chosen s.learned.log slot command) (with_chosen s.learned slot command) s) self.old) }
         ensures at { IsAt member.now self.new }
         ensures proposer { self.new.proposer ≡ self.old.proposer }
         ensures learns { Learns 1 self.old self.new made.old made.new }
@@ -178,20 +168,6 @@ impl Running {
         hear_chosen(&mut self.learner, slot, command)?;
         self.apply_from(front, member, &mut made.shown);
         Ok(())
-    }
-
-    /// Asks a node for more where the front came from a slot to a multiple of 64 at which there is a slot.
-    fn ask_on(&self, from: u8, before: u32, made: &mut Made)
-        requires frames { 1 ≤ made.old.frames.text_room }
-        requires frame_bytes { MOST_SINGLE_FRAME ≤ made.old.frames.byte_room }
-        ensures taken { (member : Membership) (s : Standing) → IsRunning member self.now s → IsTaken member self.now (told_by made.old) (told_by made.new) (asking_on from before s) }
-        ensures frames { Grows made.old.frames made.new.frames 1 MOST_SINGLE_FRAME }
-        ensures rest { made.new ≡ record made.old { frames = made.new.frames } }
-    {
-        let front = self.front();
-        if before < front && front % WINDOW as u32 == 0 && front < SLOTS {
-            ask(&mut made.frames, from, front);
-        }
     }
 
     /// Takes a node's word that a command was chosen at a slot, applies what the front then passes, and asks that node
@@ -207,12 +183,9 @@ impl Running {
         requires at { IsAt member.now self.old }
         requires command { IsInRange command }
         requires room { CanLearn self.old made.old 0 1 }
-        requires frames { 1 ≤ made.old.frames.text_room }
-        requires frame_bytes { MOST_SINGLE_FRAME ≤ made.old.frames.byte_room }
-        ensures ok { OnOk result ((s : Standing) → IsRunning member.now self.old s
-            → TakesTurn member.now self.new (told_by made.old) (told_by made.new) (believing (place_at member.now) from slot command s)) }
-        ensures err { OnErr result ((s : Standing) → IsRunning member.now self.old s
-            → believing (place_at member.now) from slot command s ≡ Err (Conflicting s.store)) }
+        requires space { HasSpace made.old.frames 1 MOST_SINGLE_FRAME }
+        ensures ok { OnOk result (TakesRule member.now (believing (place_at member.now) from slot command) self.old self.new (told_by made.old) (told_by made.new)) }
+        ensures err { OnErr result (ClashesBy member.now (believing (place_at member.now) from slot command) self.old) }
         ensures at { IsAt member.now self.new }
         ensures proposer { self.new.proposer ≡ self.old.proposer }
         ensures learns { Learns 1 self.old self.new made.old made.new }
@@ -229,28 +202,12 @@ impl Running {
     pub(crate) fn tell_chosen(&self, from: u8, slot: u32, made: &mut Made)
         requires slot { IsSlot slot }
         requires commands { AreInRange self.now.learner.learned.log }
-        requires frames { FRAMES_OF_AN_ANSWER ≤ made.old.frames.text_room }
-        requires frame_bytes { FRAME_BYTES_OF_AN_ANSWER ≤ made.old.frames.byte_room }
-        ensures taken { (member : Membership) (s : Standing) → IsRunning member self.now s → IsTaken member self.now (told_by made.old) (told_by made.new) (telling from slot s) }
+        requires space { HasSpace made.old.frames FRAMES_OF_AN_ANSWER FRAME_BYTES_OF_AN_ANSWER }
+        ensures taken { TakesBeside (telling from slot) self.now (told_by made.old) (told_by made.new) }
         ensures frames { Grows made.old.frames made.new.frames FRAMES_OF_AN_ANSWER FRAME_BYTES_OF_AN_ANSWER }
         ensures rest { made.new ≡ record made.old { frames = made.new.frames } }
     {
         let slots = told_slots(self.learner.log(), slot);
         send_chosen(&mut made.frames, from, self.learner.log(), slot, slots);
-    }
-
-    /// Asks a node that speaks of a slot above the front for what was chosen from the front on.
-    pub(crate) fn ask_above(&self, from: u8, slot: u32, made: &mut Made)
-        requires slot { IsSlot slot }
-        requires frames { 1 ≤ made.old.frames.text_room }
-        requires frame_bytes { MOST_SINGLE_FRAME ≤ made.old.frames.byte_room }
-        ensures taken { (member : Membership) (s : Standing) → IsRunning member self.now s → IsTaken member self.now (told_by made.old) (told_by made.new) (asking_above from slot s) }
-        ensures frames { Grows made.old.frames made.new.frames 1 MOST_SINGLE_FRAME }
-        ensures rest { made.new ≡ record made.old { frames = made.new.frames } }
-    {
-        let front = self.front();
-        if front < slot {
-            ask(&mut made.frames, from, front);
-        }
     }
 }

@@ -23,6 +23,7 @@
 mod accepting;
 mod answering;
 mod applying;
+mod asking;
 mod away_call;
 mod chosen_frames;
 mod fault;

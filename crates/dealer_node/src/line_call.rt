@@ -1,16 +1,15 @@
 //! The call with a piece of a seat's bytes: what a node that runs does with it.
 
-ghost use Rattle.std.specs.Prelude.{◌≡◌, ◌*◌, ◌≤◌, ◌<◌, length, IsTrue, IsErr, IfOk, IfErr, IfSome, OnOk};
+ghost use Rattle.std.specs.Prelude.{◌≡◌, ℕ, ◌*◌, ◌≤◌, ◌<◌, length, IsTrue, IsErr, IfOk, IfErr, IfSome, OnOk};
 ghost use Rattle.node_rules.specs.Standings.{Standing};
 ghost use Rattle.node_rules.specs.Calls.{Line as Piece};
 ghost use Rattle.node_rules.specs.Seats.{session_at};
 ghost use Rattle.dealer_node.specs.Outs.{told_by, nothing_told, HasRoom};
 ghost use Rattle.dealer_node.specs.Members.{Membership};
-ghost use Rattle.dealer_node.specs.Rooms.{Grows, Tells};
+ghost use Rattle.dealer_node.specs.Rooms.{piece_need, Makes};
 ghost use Rattle.dealer_node.specs.Seated.{feeds_with, HasRoomAt};
 ghost use Rattle.dealer_node.specs.Running.{IsAt, ahead_of};
 ghost use Rattle.paxos_wire.specs.declared.limits.TheConstants.{WINDOW};
-ghost use Rattle.proposer.specs.CommandRuns.{IsBounded};
 ghost use Rattle.dealer_node.specs.Working.{IsOfPart};
 ghost use Rattle.dealer_node.specs.Handling.{IsWithin, AnswersUp};
 ghost use Rattle.dealer_node.specs.Calling.{line_need};
@@ -48,7 +47,7 @@ fn line_need(running: &Running, limit: usize, most: usize) -> Option<Need>
 
 impl<D: Disk + Drop> Up<D> {
     ghost use Rattle.dealer_node.specs.Working.{IsUp, GoesOn};
-    ghost use Rattle.dealer_node.specs.Calling.{Unmoved, HasCallRoom, HandlesCall};
+    ghost use Rattle.dealer_node.specs.Calling.{Unmoved, HasCallRoom, CanClose, HandlesCall};
     ghost use Rattle.dealer_node.specs.Lines.{HearsLine, WorksLine};
 
     /// Takes a piece of a seat's bytes, as for fewer answers than these.
@@ -58,23 +57,19 @@ impl<D: Disk + Drop> Up<D> {
         seat: usize,
         piece: &[u8],
         limit: usize,
-        most: usize,
         made: &mut Made,
     )
         requires at { IsAt member.now self.old.running }
         requires seat { seat < member.now.setting.game.players }
         requires bytes { HasRoomAt self.old.running.seats seat (length piece.now) }
         requires limit { feeds_with (session_at self.old.running.seats.talks seat) piece.now < limit }
-        requires room { HasCallRoom self.old made.old (line_need self.old.running limit most) 1 most }
+        requires room { HasRoom made.old (piece_need limit) }
         ensures heard { (s : Standing) → IsTrue D.is_honest → IsUp D.Disk member.now self.old s
             → HearsLine D.Disk member.now s seat piece.now self.old self.new (told_by made.old) (told_by made.new) }
         ensures at { IsAt member.now self.new.running }
-        ensures frames { Grows made.old.frames made.new.frames limit (MOST_SINGLE_FRAME * limit) }
-        ensures shown { Grows made.old.shown made.new.shown 1 4096 }
-        ensures faults { Tells made.old made.new limit }
+        ensures makes { Makes made.old made.new (piece_need limit) }
         ensures rest { self.new ≡ record self.old { running = record self.old.running { pending = self.new.running.pending; seats = self.new.running.seats } } }
     {
-        let _ = most;
         let promised = self.acceptor.promised();
         self.running
             .hear_piece(member, promised, seat, piece, limit, made);
@@ -87,7 +82,6 @@ impl<D: Disk + Drop> Up<D> {
         seat: usize,
         piece: &[u8],
         limit: usize,
-        most: usize,
         lists: &mut Lists,
         made: &mut Made,
     ) -> Result<(), NodeFault>
@@ -95,17 +89,17 @@ impl<D: Disk + Drop> Up<D> {
         requires seat { seat < member.now.setting.game.players }
         requires bytes { HasRoomAt self.old.running.seats seat (length piece.now) }
         requires limit { feeds_with (session_at self.old.running.seats.talks seat) piece.now < limit }
-        requires bounded { IsBounded self.old.running.proposer most }
-        requires room { HasCallRoom self.old made.old (line_need self.old.running limit most) 1 most }
+        requires room { (most : ℕ) × CanClose self.old made.old (line_need self.old.running limit) most }
         ensures works { (s : Standing) → IsTrue D.is_honest → IsUp D.Disk member.now self.old s
             → WorksLine D.Disk member.now s seat piece.now self.old self.new (told_by made.old) (told_by made.new) result }
         ensures goes_on { GoesOn D.Disk self.old self.new result }
         ensures only { IsOfPart result }
         ensures at { IsAt member.now self.new.running }
-        ensures within { told_by made.old ≡ nothing_told → IsWithin made.new (line_need self.old.running limit most) }
+        ensures within { (most : ℕ) → CanClose self.old made.old (line_need self.old.running limit) most → told_by made.old ≡ nothing_told
+            → IsWithin made.new (line_need self.old.running limit most) }
     {
-        self.hear_piece(member, seat, piece, limit, most, made);
-        self.close_call(member, most, lists, made)
+        self.hear_piece(member, seat, piece, limit, made);
+        self.close_call(member, lists, made)
     }
 
     /// Makes all room that a piece of a seat's bytes may need, where the close proposes no more commands than so many, and
@@ -167,15 +161,7 @@ impl<D: Disk + Drop> Up<D> {
         let most = self.running.most_proposed();
         let earlier = rooms.made.take();
         let (mut made, limit) = self.ready_line(alloc, seat, bytes, most, earlier, out)?;
-        self.line(
-            member,
-            seat,
-            bytes,
-            limit,
-            most,
-            &mut rooms.lists,
-            &mut made,
-        )?;
+        self.line(member, seat, bytes, limit, &mut rooms.lists, &mut made)?;
         out.append(&mut made);
         rooms.made = Some(made);
         Ok(())

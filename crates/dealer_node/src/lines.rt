@@ -2,7 +2,9 @@ ghost use Rattle.std.specs.Prelude.{◌≡◌, ◌+◌, ◌*◌, ◌≤◌, ◌<
 ghost use Rattle.matchstate.specs.Line.{newest_text};
 ghost use Rattle.dealer_kind.specs.Kind.{Setting};
 ghost use Rattle.node_rules.specs.Showing.{is_connected, seat_line, seat_lines, log_piece, news, header};
+ghost use Rattle.dealer_node.specs.Rooms.{HasSpace, Grows};
 ghost use Rattle.dealer_node.specs.Texts.{byte_total};
+ghost use Rattle.dealer_node.specs.Scenes.{IsTableAt};
 ghost use Rattle.dealer_node.specs.Turned.{printed, talk_of, talks};
 
 use crate::member::Member;
@@ -32,13 +34,9 @@ pub(crate) fn show_line(
 )
     requires seat { seat < table.now.game.players }
     requires betting { betting.now ≡ newest_text table.now.game table.now.hands }
-    requires texts { 1 ≤ shown.old.text_room }
-    requires bytes { 4096 ≤ shown.old.byte_room }
+    requires space { HasSpace shown.old 1 4096 }
     ensures texts { (setting : Setting) → table.now.game ≡ setting.game → shown.new.texts ≡ shown.old.texts ++ map printed (seat_line setting table.now.hands seat) }
-    ensures text_room { shown.old.text_room ≤ shown.new.text_room + 1 }
-    ensures byte_room { shown.old.byte_room ≤ shown.new.byte_room + 4096 }
-    ensures len { length shown.new.texts ≤ length shown.old.texts + 1 }
-    ensures size { byte_total shown.new.texts ≤ byte_total shown.old.texts + 4096 }
+    ensures grows { Grows shown.old shown.new 1 4096 }
 {
     if table.dealt() == 0 {
         return;
@@ -55,13 +53,9 @@ pub(crate) fn show_line(
 /// Shows each connected seat its line, in order of seats.
 pub(crate) fn show_lines(shown: &mut Texts<Reader>, table: &Table, sessions: &[Option<Session>])
     requires seats { length sessions.now ≡ table.now.game.players }
-    requires texts { length sessions.now ≤ shown.old.text_room }
-    requires bytes { 4096 * length sessions.now ≤ shown.old.byte_room }
+    requires space { HasSpace shown.old (length sessions.now) (4096 * length sessions.now) }
     ensures texts { (setting : Setting) → table.now.game ≡ setting.game → shown.new.texts ≡ shown.old.texts ++ map printed (seat_lines setting table.now.hands 0 (talks sessions.now)) }
-    ensures text_room { shown.old.text_room ≤ shown.new.text_room + length sessions.now }
-    ensures byte_room { shown.old.byte_room ≤ shown.new.byte_room + 4096 * length sessions.now }
-    ensures len { length shown.new.texts ≤ length shown.old.texts + length sessions.now }
-    ensures size { byte_total shown.new.texts ≤ byte_total shown.old.texts + 4096 * length sessions.now }
+    ensures grows { Grows shown.old shown.new (length sessions.now) (4096 * length sessions.now) }
 {
     let betting = BettingText::newest(table);
     for (seat, session) in sessions.iter().enumerate() {
@@ -75,13 +69,9 @@ pub(crate) fn show_lines(shown: &mut Texts<Reader>, table: &Table, sessions: &[O
 pub(crate) fn show_log(shown: &mut Texts<Reader>, member: &Member, table: &Table)
     requires game { table.now.game ≡ member.now.setting.game }
     requires count { table.now.count ≡ member.now.setting.title.hands }
-    requires texts { 1 ≤ shown.old.text_room }
-    requires bytes { 4756 ≤ shown.old.byte_room }
+    requires space { HasSpace shown.old 1 4756 }
     ensures texts { shown.new.texts ≡ shown.old.texts ++ map printed (log_piece member.now.setting table.now.hands) }
-    ensures text_room { shown.old.text_room ≤ shown.new.text_room + 1 }
-    ensures byte_room { shown.old.byte_room ≤ shown.new.byte_room + 4756 }
-    ensures len { length shown.new.texts ≤ length shown.old.texts + 1 }
-    ensures size { byte_total shown.new.texts ≤ byte_total shown.old.texts + 4756 }
+    ensures grows { Grows shown.old shown.new 1 4756 }
 {
     if table.running() {
         return;
@@ -103,16 +93,10 @@ pub(crate) fn show_news(
     table: &Table,
     sessions: &[Option<Session>],
 )
-    requires game { table.now.game ≡ member.now.setting.game }
-    requires count { table.now.count ≡ member.now.setting.title.hands }
-    requires seats { length sessions.now ≡ table.now.game.players }
-    requires texts { 11 ≤ shown.old.text_room }
-    requires bytes { 45716 ≤ shown.old.byte_room }
+    requires played { IsTableAt member.now.setting (length sessions.now) table.now }
+    requires space { HasSpace shown.old 11 45716 }
     ensures texts { shown.new.texts ≡ shown.old.texts ++ map printed (if took then news member.now.setting (talks sessions.now) table.now.hands else []) }
-    ensures text_room { shown.old.text_room ≤ shown.new.text_room + 11 }
-    ensures byte_room { shown.old.byte_room ≤ shown.new.byte_room + 45716 }
-    ensures len { length shown.new.texts ≤ length shown.old.texts + 11 }
-    ensures size { byte_total shown.new.texts ≤ byte_total shown.old.texts + 45716 }
+    ensures grows { Grows shown.old shown.new 11 45716 }
 {
     if took {
         table.game().limits();
@@ -123,8 +107,7 @@ pub(crate) fn show_news(
 
 /// Shows the log its header.
 pub(crate) fn show_header(shown: &mut Texts<Reader>, member: &Member)
-    requires texts { 1 ≤ shown.old.text_room }
-    requires bytes { 263 ≤ shown.old.byte_room }
+    requires space { HasSpace shown.old 1 263 }
     ensures texts { shown.new.texts ≡ shown.old.texts ++ map printed (header member.now.setting ∷ []) }
     ensures len { length shown.new.texts ≤ length shown.old.texts + 1 }
     ensures size { byte_total shown.new.texts ≤ byte_total shown.old.texts + 263 }

@@ -1,18 +1,16 @@
-ghost use Rattle.std.specs.Prelude.{◌≡◌, ℕ, ◌+◌, ◌*◌, ◌≤◌, ◌<◌, OnOk, OnErr, IsTrue, Err};
+ghost use Rattle.std.specs.Prelude.{◌≡◌, ℕ, ◌+◌, ◌*◌, ◌<◌, OnOk, OnErr, Err};
 ghost use Rattle.paxos_wire.specs.Fits.{IsMessage};
 ghost use Rattle.node_rules.specs.Standings.{Standing};
-ghost use Rattle.node_rules.specs.Turns.{Conflict as Conflicting};
 ghost use Rattle.node_rules.specs.Rules.{taking};
-ghost use Rattle.dealer_node.specs.declared.made.Need.{Need as Needs};
 ghost use Rattle.dealer_node.specs.Members.{place_at};
 ghost use Rattle.dealer_node.specs.Outs.{told_by};
 ghost use Rattle.dealer_node.specs.declared.limits.TheConstants.{FRAMES_TO_ALL, FRAMES_OF_AN_ANSWER, FRAME_BYTES_OF_AN_ANSWER};
-ghost use Rattle.dealer_node.specs.Rooms.{Grows};
+ghost use Rattle.dealer_node.specs.Rooms.{HasSpace, Grows};
 ghost use Rattle.proposer.specs.CommandRuns.{IsBounded};
-ghost use Rattle.dealer_node.specs.Running.{IsRunning, IsBoundedBehind, IsAt, CanLearn, Learns};
+ghost use Rattle.dealer_node.specs.Running.{IsRunning, IsBoundedBehind, IsAt, CanLearn, ClashesBy, Learns};
 ghost use Rattle.dealer_node.specs.Memory.{IsOfMemory, TakesInMemory};
 ghost use Rattle.dealer_node.specs.Calling.{commands_in};
-ghost use Rattle.dealer_node.specs.Working.{HasLeft, IsOfPart};
+ghost use Rattle.dealer_node.specs.Working.{Spends, IsOfPart};
 
 use crate::fault::NodeFault;
 use crate::made::Made;
@@ -38,12 +36,10 @@ impl Running {
         requires message { IsMessage message.now }
         requires memory { IsOfMemory message.now }
         requires learn { CanLearn self.old made.old 1 (commands_in message.now) }
-        requires texts { FRAMES_OF_AN_ANSWER ≤ made.old.frames.text_room }
-        requires bytes { FRAME_BYTES_OF_AN_ANSWER ≤ made.old.frames.byte_room }
+        requires space { HasSpace made.old.frames FRAMES_OF_AN_ANSWER FRAME_BYTES_OF_AN_ANSWER }
         ensures ok { OnOk result ((s : Standing) → IsRunning member.now self.old s
             → TakesInMemory member.now self.new (told_by made.old) (told_by made.new) s (taking (place_at member.now) from message.now s)) }
-        ensures err { OnErr result ((s : Standing) → IsRunning member.now self.old s
-            → taking (place_at member.now) from message.now s ≡ Err (Conflicting s.store)) }
+        ensures err { OnErr result (ClashesBy member.now (taking (place_at member.now) from message.now) self.old) }
         ensures at { IsAt member.now self.new }
         ensures bounded { (most : ℕ) → IsBoundedBehind self.old.proposer message.now most → IsBounded self.new.proposer most }
         ensures learns { Learns (commands_in message.now) self.old self.new made.old made.new }
@@ -83,7 +79,7 @@ impl Running {
 }
 
 impl<D: Disk + Drop> Up<D> {
-    ghost use Rattle.dealer_node.specs.Working.{IsUp, Works, GoesOn};
+    ghost use Rattle.dealer_node.specs.Working.{Follows, GoesOn};
 
     /// Takes a message of another node that asks nothing of the store.
     pub(crate) fn take_in_memory(
@@ -98,16 +94,14 @@ impl<D: Disk + Drop> Up<D> {
         requires message { IsMessage message.now }
         requires memory { IsOfMemory message.now }
         requires learn { CanLearn self.old.running made.old 1 (commands_in message.now) }
-        requires texts { FRAMES_OF_AN_ANSWER ≤ made.old.frames.text_room }
-        requires bytes { FRAME_BYTES_OF_AN_ANSWER ≤ made.old.frames.byte_room }
-        ensures works { (s : Standing) → IsTrue D.is_honest → IsUp D.Disk member.now self.old s
-            → Works D.Disk member.now s (taking (place_at member.now) from message.now s) self.old self.new (told_by made.old) (told_by made.new) result }
+        requires space { HasSpace made.old.frames FRAMES_OF_AN_ANSWER FRAME_BYTES_OF_AN_ANSWER }
+        ensures works { Follows D.Disk member.now (taking (place_at member.now) from message.now) self.old self.new (told_by made.old) (told_by made.new) result }
         ensures goes_on { GoesOn D.Disk self.old self.new result }
         ensures only { IsOfPart result }
         ensures same { self.new.acceptor ≡ self.old.acceptor }
         ensures at { IsAt member.now self.new.running }
         ensures bounded { (most : ℕ) → IsBoundedBehind self.old.running.proposer message.now most → IsBounded self.new.running.proposer most }
-        ensures left { (need : Needs) (answers more frames : ℕ) → HasLeft self.old.running made.old need (answers + 1) (more + commands_in message.now) (frames + (FRAMES_OF_AN_ANSWER + FRAMES_TO_ALL * commands_in message.now)) → HasLeft self.new.running made.new need answers more frames }
+        ensures left { Spends self.old.running self.new.running made.old made.new 1 (commands_in message.now) (FRAMES_OF_AN_ANSWER + FRAMES_TO_ALL * commands_in message.now) }
     {
         match self.running.take_in_memory(member, from, message, made) {
             Ok(()) => Ok(()),

@@ -10,7 +10,7 @@ ghost use Rattle.protocol_model.specs.Votes.{told_by as told_by_store};
 ghost use Rattle.node_rules.specs.Proposing.{higher, is_over, beginning, counting_promise, hearing_refusal};
 ghost use Rattle.dealer_node.specs.Members.{Membership, place_at};
 ghost use Rattle.dealer_node.specs.Outs.{told_by};
-ghost use Rattle.dealer_node.specs.Rooms.{Grows};
+ghost use Rattle.dealer_node.specs.Rooms.{HasSpace, Grows};
 ghost use Rattle.dealer_node.specs.Running.{IsRunning, IsTaken, Closes, most_proposed, most_proposed_behind, IsBoundedBehind, IsAt, is_spent_at};
 
 use crate::made::Made;
@@ -52,8 +52,7 @@ impl Running {
         requires at { IsAt member.now self.old }
         requires unspent { is_spent_at self.old promised ≡ false }
         requires told { AllByRecursion IsEntry told.now }
-        requires frames { member.now.nodes ≤ made.old.frames.text_room }
-        requires frame_bytes { MOST_SINGLE_FRAME * member.now.nodes ≤ made.old.frames.byte_room }
+        requires space { HasSpace made.old.frames member.now.nodes (MOST_SINGLE_FRAME * member.now.nodes) }
         ensures ballot { result ≡ next_ballot member.now.node (higher self.old.seen promised) }
         ensures taken { (s : Standing) → IsRunning member.now self.old s → told.now ≡ told_by_store s.store (front_of s)
             → IsTaken member.now self.new (told_by made.old) (told_by made.new) (beginning (place_at member.now) result s) }

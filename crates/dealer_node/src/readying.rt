@@ -26,7 +26,7 @@ fn emptied(alloc: Global, earlier: Option<Made>) -> Made
 
 impl<D: Disk + Drop> Up<D> {
     ghost use Rattle.dealer_node.specs.Working.{store_room};
-    ghost use Rattle.dealer_node.specs.Calling.{Unmoved, HasCallRoom};
+    ghost use Rattle.dealer_node.specs.Calling.{Unmoved, ChangesRoomAlone, HasCallRoom};
 
     /// Makes room to count so many answers more, with so many commands in all, and for as many votes in the store. An `Err`
     /// changes room alone.
@@ -34,11 +34,7 @@ impl<D: Disk + Drop> Up<D> {
         requires { commands ≤ COMMANDS_OF_A_CALL }
         ensures unmoved { Unmoved D.Disk self.old self.new }
         ensures at { (member : Membership) → IsAt member self.old.running → IsAt member self.new.running }
-        ensures seats { self.new.running.seats ≡ self.old.running.seats }
-        ensures ahead { ahead_of self.new.running ≡ ahead_of self.old.running }
-        ensures learned { self.new.running.learner.learned ≡ self.old.running.learner.learned }
-        ensures seen { self.new.running.seen ≡ self.old.running.seen }
-        ensures proposer { self.new.running.proposer ≡ self.old.running.proposer }
+        ensures alone { ChangesRoomAlone self.old.running self.new.running }
         ensures answers { OnOk result (answers ≤ self.new.running.learner.answers) }
         ensures commands { OnOk result (commands ≤ self.new.running.learner.commands) }
         ensures table { OnOk result (ahead_of self.new.running + commands ≤ self.new.running.table.room) }
@@ -62,11 +58,7 @@ impl<D: Disk + Drop> Up<D> {
         requires { commands ≤ COMMANDS_OF_A_CALL }
         ensures unmoved { Unmoved D.Disk self.old self.new }
         ensures at { (member : Membership) → IsAt member self.old.running → IsAt member self.new.running }
-        ensures seats { self.new.running.seats ≡ self.old.running.seats }
-        ensures ahead { ahead_of self.new.running ≡ ahead_of self.old.running }
-        ensures learned { self.new.running.learner.learned ≡ self.old.running.learner.learned }
-        ensures seen { self.new.running.seen ≡ self.old.running.seen }
-        ensures proposer { self.new.running.proposer ≡ self.old.running.proposer }
+        ensures alone { ChangesRoomAlone self.old.running self.new.running }
         ensures same { told_by out.new ≡ told_by out.old }
         ensures nothing { IfOk result (λ made. told_by made ≡ nothing_told) }
         ensures room { IfOk result (λ made. HasCallRoom self.new made need.now answers commands) }

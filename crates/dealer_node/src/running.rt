@@ -1,4 +1,4 @@
-ghost use Rattle.std.specs.Prelude.{◌≡◌, ◌+◌, ◌*◌, ◌≤◌, ◌<◌, length, Ok, IfOk, IfSome, OnOk, is_some, vec_len, vec_capacity};
+ghost use Rattle.std.specs.Prelude.{◌≡◌, ◌+◌, ◌*◌, ◌≤◌, ◌<◌, length, Ok, IfOk, OnOk, is_some};
 ghost use Rattle.paxos_wire.specs.declared.limits.TheConstants.{SLOTS};
 ghost use Rattle.slot_log.specs.Slots.{front};
 ghost use Rattle.protocol_model.specs.Stores.{Store};
@@ -7,9 +7,9 @@ ghost use Rattle.node_rules.specs.Rules.{seeing};
 ghost use Rattle.node_rules.specs.Turns.{sending};
 ghost use Rattle.node_rules.specs.Seats.{session_at, connecting, dropping, pending_act, forwarding, taking_over};
 ghost use Rattle.dealer_node.specs.Members.{Membership, place_at};
-ghost use Rattle.dealer_node.specs.Outs.{told_by};
+ghost use Rattle.dealer_node.specs.Outs.{told_by, HasRoom};
 ghost use Rattle.dealer_node.specs.declared.limits.TheConstants.{COMMANDS_OF_A_CALL, MOST_FRAMES_OF_A_MESSAGE};
-ghost use Rattle.dealer_node.specs.Rooms.{Grows, Tells};
+ghost use Rattle.dealer_node.specs.Rooms.{HasSpace, Grows, Makes, piece_need};
 ghost use Rattle.dealer_node.specs.Seated.{feeds_with, HasRoomAt};
 ghost use Rattle.seat_session.specs.declared.said.Said.TheVariants.{Act as SaidAct};
 ghost use Rattle.dealer_node.specs.Hearing.{IsForwardable};
@@ -209,19 +209,13 @@ impl Running {
     )
         requires at { IsAt member.now self.old }
         requires seat { seat < member.now.setting.game.players }
-        requires room { HasRoomAt self.old.seats seat (length piece.now) }
+        requires bytes { HasRoomAt self.old.seats seat (length piece.now) }
         requires limit { feeds_with (session_at self.old.seats.talks seat) piece.now < limit }
-        requires frames { limit ≤ made.old.frames.text_room }
-        requires frame_bytes { MOST_SINGLE_FRAME * limit ≤ made.old.frames.byte_room }
-        requires texts { 1 ≤ made.old.shown.text_room }
-        requires text_bytes { 4096 ≤ made.old.shown.byte_room }
-        requires faults { vec_len made.old.faults + limit ≤ vec_capacity made.old.faults }
+        requires room { HasRoom made.old (piece_need limit) }
         ensures taken { (s : Standing) → IsRunning member.now self.old s → s.store.promise ≡ promised
             → TakesPiece member.now self.new (told_by made.old) (told_by made.new) seat piece.now s }
         ensures at { IsAt member.now self.new }
-        ensures frames { Grows made.old.frames made.new.frames limit (MOST_SINGLE_FRAME * limit) }
-        ensures shown { Grows made.old.shown made.new.shown 1 4096 }
-        ensures faults { Tells made.old made.new limit }
+        ensures makes { Makes made.old made.new (piece_need limit) }
         ensures rest { self.new ≡ record self.old { pending = self.new.pending; seats = self.new.seats } }
     {
         self.seats.seat_hears(
@@ -248,8 +242,7 @@ impl Running {
     )
         requires at { IsAt member.now self.old }
         requires act { IsForwardable (Ok (SaidAct act.now)) }
-        requires texts { 1 ≤ made.old.frames.text_room }
-        requires bytes { MOST_SINGLE_FRAME ≤ made.old.frames.byte_room }
+        requires space { HasSpace made.old.frames 1 MOST_SINGLE_FRAME }
         ensures taken { (s : Standing) → IsRunning member.now self.old s → s.store.promise ≡ promised
             → IsTaken member.now self.new (told_by made.old) (told_by made.new) (sending (forwarding (place_at member.now) act.now s) (pending_act (place_at member.now) act.now s)) }
         ensures at { IsAt member.now self.new }

@@ -1,13 +1,13 @@
-ghost use Rattle.std.specs.Prelude.{◌≡◌, ◌+◌, ◌*◌, ◌≤◌, ◌<◌, length, replicate, None, Some, slice_set, IfOk, IfSome, OnOk, vec_len, vec_capacity};
-ghost use Rattle.paxos_wire.specs.declared.limits.TheConstants.{MOST_SINGLE_FRAME};
-ghost use Rattle.paxos_wire.specs.Fits.{IsInRange};
+ghost use Rattle.std.specs.Prelude.{◌≡◌, ◌≤◌, ◌<◌, length, replicate, None, Some, slice_set, IfOk, IfSome, OnOk};
 ghost use Rattle.seat_session.specs.Session.{fresh};
 ghost use Rattle.node_rules.specs.Standings.{Standing};
 ghost use Rattle.node_rules.specs.Showing.{is_connected as is_talk_ready};
 ghost use Rattle.node_rules.specs.Seats.{session_at};
-ghost use Rattle.dealer_node.specs.Outs.{told_by};
+ghost use Rattle.dealer_node.specs.Outs.{told_by, HasRoom};
 ghost use Rattle.dealer_node.specs.Members.{place_at};
-ghost use Rattle.dealer_node.specs.Rooms.{Grows, Tells};
+ghost use Rattle.dealer_node.specs.Rooms.{Makes, piece_need};
+ghost use Rattle.dealer_node.specs.Scenes.{StaysInRange};
+ghost use Rattle.dealer_node.specs.Hearing.{IsSeatOf};
 ghost use Rattle.dealer_node.specs.Turned.{talks};
 ghost use Rattle.dealer_node.specs.Seated.{without_room, feeds_with, HasRoomAt, IsSeatedAt, PieceTurn};
 
@@ -131,23 +131,16 @@ impl Seats {
         pending: &mut Option<Command>,
         made: &mut Made,
     )
-        requires game { table.now.game ≡ member.now.setting.game }
+        requires sits { IsSeatOf member.now.setting table.now seat }
         requires seats { length self.old.talks ≡ table.now.game.players }
-        requires seat { seat < table.now.game.players }
-        requires room { HasRoomAt self.old seat (length piece.now) }
+        requires bytes { HasRoomAt self.old seat (length piece.now) }
         requires limit { feeds_with (session_at self.old.talks seat) piece.now < limit }
-        requires frames { limit ≤ made.old.frames.text_room }
-        requires frame_bytes { MOST_SINGLE_FRAME * limit ≤ made.old.frames.byte_room }
-        requires texts { 1 ≤ made.old.shown.text_room }
-        requires text_bytes { 4096 ≤ made.old.shown.byte_room }
-        requires faults { vec_len made.old.faults + limit ≤ vec_capacity made.old.faults }
+        requires room { HasRoom made.old (piece_need limit) }
         ensures heard { (s : Standing) → IsSeatedAt (place_at member.now) self.old.talks table.now promised pending.old s
             → PieceTurn (place_at member.now) seat piece.now s table.now promised self.new.talks pending.new (told_by made.old) (told_by made.new) }
         ensures len { length self.new.talks ≡ length self.old.talks }
-        ensures frames { Grows made.old.frames made.new.frames limit (MOST_SINGLE_FRAME * limit) }
-        ensures shown { Grows made.old.shown made.new.shown 1 4096 }
-        ensures faults { Tells made.old made.new limit }
-        ensures act { IfSome pending.old (λ command. IsInRange command) → IfSome pending.new (λ command. IsInRange command) }
+        ensures makes { Makes made.old made.new (piece_need limit) }
+        ensures act { StaysInRange pending.old pending.new }
     {
         let session = self.sessions[seat].take();
         let kept = session_hears(

@@ -1,13 +1,11 @@
-ghost use Rattle.std.specs.Prelude.{◌≡◌, ◌≢◌, ◌⊎◌, ◌+◌, ◌≤◌, ℕ, length, IsTrue, IfOk, IfErr};
+ghost use Rattle.std.specs.Prelude.{◌≡◌, ◌⊎◌, ◌+◌, ◌≤◌, length, IsTrue, IfOk, IfErr};
 ghost use Rattle.protocol_model.specs.Stores.{Store as Kept};
 ghost use Rattle.node_rules.specs.Standings.{started};
 ghost use Rattle.node_rules.specs.Rules.{asking_all, starting};
 ghost use Rattle.promise_store.specs.Disks.{Rose};
 ghost use Rattle.promise_store.specs.Holding.{StandsFor};
-ghost use Rattle.promise_store.specs.Settled.{OnlyReads};
 ghost use Rattle.promise_store.specs.Keeping.{disk_of, Keeps, Leaves, Reopens};
 ghost use Rattle.acceptor.specs.Stored.{store_of};
-ghost use Rattle.promise_store.specs.Refusals.{Refuses};
 ghost use Rattle.promise_store.specs.declared.fault.StoreFault.{StoreFault as Fault};
 ghost use Rattle.promise_store.specs.declared.fault.StoreFault.TheVariants.{Disk as DiskFailed};
 ghost use Rattle.dealer_node.specs.Members.{place_at};
@@ -18,8 +16,9 @@ ghost use Rattle.dealer_node.specs.Turned.{told_of};
 ghost use Rattle.dealer_node.specs.Fitting.{AreMessages};
 ghost use Rattle.dealer_node.specs.Running.{IsRunning, IsAt};
 ghost use Rattle.dealer_node.specs.Working.{head_of, disk_under};
-ghost use Rattle.dealer_node.specs.Starting.{GoesOnNew, MarksJournal, Starts, StaysDown, Finds};
+ghost use Rattle.dealer_node.specs.Starting.{Starts, StaysDown, Finds};
 ghost use Rattle.dealer_node.specs.Taking.{IsOfStart};
+ghost use Rattle.dealer_node.specs.Opening.{MarksDisk, RefusesDisk};
 
 use crate::fault::NodeFault;
 use crate::limits::{FRAME_BYTES_TO_ALL, FRAMES_TO_ALL};
@@ -107,13 +106,9 @@ fn open_store<D: Disk>(
         → IfErr result (λ x. (x.1 ≡ NodeFault.OutOfMemory) ⊎ (x.1 ≡ NodeFault.Store DiskFailed)) }
     ensures reopens { IfOk result (λ acceptor. Reopens D.Disk (head_of member.now) disk (disk_of (store_of acceptor))) }
     ensures reopens_err { IfErr result (λ x. Reopens D.Disk (head_of member.now) disk x.0) }
-    ensures marks { IsTrue D.is_honest → IfOk result (λ acceptor. MarksJournal (head_of member.now) (D.seen disk) (D.seen (disk_of (store_of acceptor)))) }
-    ensures quiet { IsTrue D.is_honest → GoesOnNew (head_of member.now) (D.seen disk) → IfOk result (λ acceptor. OnlyReads D.Disk disk (disk_of (store_of acceptor))) }
-    ensures quiet_err { IsTrue D.is_honest → GoesOnNew (head_of member.now) (D.seen disk) → IfErr result (λ x. OnlyReads D.Disk disk x.0) }
-    ensures unwritten { IfErr result (λ x. x.1 ≢ NodeFault.Store DiskFailed → OnlyReads D.Disk disk x.0) }
+    ensures marks { IfOk result (λ acceptor. MarksDisk D.Disk member.now disk (disk_of (store_of acceptor))) }
+    ensures refuses { IfErr result (λ x. RefusesDisk D.Disk member.now disk x.0 x.1) }
     ensures rose { IfErr result (λ x. x.1 ≡ NodeFault.Store DiskFailed → Rose (D.count disk) (D.count x.0)) }
-    ensures faults { IfErr result (λ x. IsOfStart x.1) }
-    ensures finds { IsTrue D.is_honest → IfErr result (λ x. (why : Fault) → x.1 ≡ NodeFault.Store why → Refuses (head_of member.now) (D.seen disk) why) }
 {
     match Store::open(alloc, disk, member.node(), member.nodes()) {
         Ok(store) => Ok(Acceptor::new(store)),
@@ -139,13 +134,9 @@ pub(crate) fn open<D: Disk + Drop>(
     ensures stands { IsTrue D.is_honest → IfOk result (λ up. Finds D.Disk member.now disk up) }
     ensures reopens { IfOk result (λ up. Reopens D.Disk (head_of member.now) disk (disk_under up)) }
     ensures reopens_err { IfErr result (λ x. Reopens D.Disk (head_of member.now) disk x.0) }
-    ensures marks { IsTrue D.is_honest → IfOk result (λ up. MarksJournal (head_of member.now) (D.seen disk) (D.seen (disk_under up))) }
-    ensures quiet { IsTrue D.is_honest → GoesOnNew (head_of member.now) (D.seen disk) → IfOk result (λ up. OnlyReads D.Disk disk (disk_under up)) }
-    ensures quiet_err { IsTrue D.is_honest → GoesOnNew (head_of member.now) (D.seen disk) → IfErr result (λ x. OnlyReads D.Disk disk x.0) }
-    ensures unwritten { IfErr result (λ x. x.1 ≢ NodeFault.Store DiskFailed → OnlyReads D.Disk disk x.0) }
+    ensures marks { IfOk result (λ up. MarksDisk D.Disk member.now disk (disk_under up)) }
+    ensures refuses { IfErr result (λ x. RefusesDisk D.Disk member.now disk x.0 x.1) }
     ensures rose { IfErr result (λ x. x.1 ≡ NodeFault.Store DiskFailed → Rose (D.count disk) (D.count x.0)) }
-    ensures faults_err { IfErr result (λ x. IsOfStart x.1) }
-    ensures finds { IsTrue D.is_honest → IfErr result (λ x. (why : Fault) → x.1 ≡ NodeFault.Store why → Refuses (head_of member.now) (D.seen disk) why) }
     ensures at { IfOk result (λ up. IsAt member.now up.running) }
     ensures frames { Grows made.old.frames made.new.frames FRAMES_TO_ALL FRAME_BYTES_TO_ALL }
     ensures texts { length made.new.shown.texts ≤ length made.old.shown.texts + 1 }

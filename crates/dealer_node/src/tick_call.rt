@@ -1,8 +1,7 @@
 //! The call of a tick: what a node that runs does then.
 
-ghost use Rattle.std.specs.Prelude.{◌≡◌, ◌≤◌, false, IsTrue, IsErr};
+ghost use Rattle.std.specs.Prelude.{◌≡◌, ℕ, ◌≤◌, false, IsTrue, IsErr};
 ghost use Rattle.paxos_wire.specs.declared.limits.TheConstants.{WINDOW};
-ghost use Rattle.proposer.specs.CommandRuns.{IsBounded};
 ghost use Rattle.node_rules.specs.Standings.{Standing};
 ghost use Rattle.node_rules.specs.Turns.{and_then};
 ghost use Rattle.node_rules.specs.Calls.{Tick};
@@ -36,7 +35,7 @@ fn close_need(running: &Running, most: usize) -> Need
 
 impl<D: Disk + Drop> Up<D> {
     ghost use Rattle.dealer_node.specs.Working.{IsUp, Works, GoesOn};
-    ghost use Rattle.dealer_node.specs.Calling.{HasCallRoom, HandlesCall};
+    ghost use Rattle.dealer_node.specs.Calling.{CanClose, HandlesCall};
 
     /// Begins a ballot, into room that was made, unless the match is over.
     fn tick(
@@ -44,24 +43,21 @@ impl<D: Disk + Drop> Up<D> {
         member: &Member,
         promised: Ballot,
         over: bool,
-        most: usize,
         lists: &mut Lists,
         made: &mut Made,
     ) -> Result<(), NodeFault>
         requires at { IsAt member.now self.old.running }
         requires unspent { over ≡ false → is_spent_at self.old.running promised ≡ false }
-        requires some { 1 ≤ most }
-        requires bounded { IsBounded self.old.running.proposer most }
-        requires room { HasCallRoom self.old made.old (close_need self.old.running most) 1 most }
+        requires room { (most : ℕ) × CanClose self.old made.old (close_need self.old.running) most }
         ensures works { (s : Standing) → IsTrue D.is_honest → IsUp D.Disk member.now self.old s → promised ≡ s.store.promise → over ≡ is_over (place_at member.now) s
             → Works D.Disk member.now s (and_then (ticking (place_at member.now) s) (closing (place_at member.now))) self.old self.new (told_by made.old) (told_by made.new) result }
         ensures goes_on { GoesOn D.Disk self.old self.new result }
         ensures only { IsOfPart result }
         ensures at { IsAt member.now self.new.running }
-        ensures within { told_by made.old ≡ nothing_told → IsWithin made.new (close_need self.old.running most) }
+        ensures within { (most : ℕ) → CanClose self.old made.old (close_need self.old.running) most → told_by made.old ≡ nothing_told → IsWithin made.new (close_need self.old.running most) }
     {
         if over {
-            self.close_call(member, most, lists, made)
+            self.close_call(member, lists, made)
         } else {
             self.begin(member, promised, made)
         }
@@ -93,7 +89,7 @@ impl<D: Disk + Drop> Up<D> {
         let most = self.running.most_proposed();
         let need = close_need(&self.running, most);
         let mut made = self.ready(alloc, rooms.made.take(), 1, most, &need, out)?;
-        self.tick(member, promised, over, most, &mut rooms.lists, &mut made)?;
+        self.tick(member, promised, over, &mut rooms.lists, &mut made)?;
         out.append(&mut made);
         rooms.made = Some(made);
         Ok(())

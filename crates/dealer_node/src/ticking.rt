@@ -1,6 +1,6 @@
 //! A tick: a node begins a ballot.
 
-ghost use Rattle.std.specs.Prelude.{◌≡◌, ℕ, ◌+◌, ◌*◌, ◌≤◌, false, IsTrue};
+ghost use Rattle.std.specs.Prelude.{◌≡◌, ℕ, ◌+◌, ◌*◌, false, IsTrue};
 ghost use Rattle.paxos_wire.specs.Fits.{Fits, IsBallot};
 ghost use Rattle.paxos_wire.specs.declared.limits.TheConstants.{MOST_SINGLE_FRAME};
 ghost use Rattle.paxos_wire.specs.declared.ballot.Ballot.{Ballot as Number};
@@ -13,7 +13,7 @@ ghost use Rattle.node_rules.specs.Proposing.{higher, is_over, beginning, ticking
 ghost use Rattle.dealer_node.specs.Members.{place_at};
 ghost use Rattle.dealer_node.specs.Outs.{told_by};
 ghost use Rattle.dealer_node.specs.declared.limits.TheConstants.{FRAMES_TO_ALL};
-ghost use Rattle.dealer_node.specs.Rooms.{Grows};
+ghost use Rattle.dealer_node.specs.Rooms.{HasSpace, Grows};
 ghost use Rattle.dealer_node.specs.Answering.{message_of};
 ghost use Rattle.dealer_node.specs.Running.{IsRunning, IsTaken, IsAt, is_spent_at};
 ghost use Rattle.dealer_node.specs.declared.made.Need.{Need as Needs};
@@ -54,8 +54,7 @@ fn begin_promised(
     requires at { IsAt member.now running.old }
     requires unspent { is_spent_at running.old promised ≡ false }
     requires told { Fits (message_of answer.now) }
-    requires frames { member.now.nodes ≤ made.old.frames.text_room }
-    requires frame_bytes { MOST_SINGLE_FRAME * member.now.nodes ≤ made.old.frames.byte_room }
+    requires space { HasSpace made.old.frames member.now.nodes (MOST_SINGLE_FRAME * member.now.nodes) }
     ensures taken { (s : Standing) (ballot : Number) (slot : ℕ) → IsRunning member.now running.old s → answer.now ≡ Promising ballot slot (told_by_store s.store (front_of s))
         → IsTaken member.now running.new (told_by made.old) (told_by made.new) (beginning (place_at member.now) (next_ballot member.now.node (higher running.old.seen promised)) s) }
     ensures at { IsAt member.now running.new }
@@ -83,8 +82,7 @@ impl<D: Disk + Drop> Up<D> {
     ) -> Result<(), NodeFault>
         requires at { IsAt member.now self.old.running }
         requires unspent { is_spent_at self.old.running promised ≡ false }
-        requires texts { FRAMES_TO_ALL ≤ made.old.frames.text_room }
-        requires bytes { MOST_SINGLE_FRAME * FRAMES_TO_ALL ≤ made.old.frames.byte_room }
+        requires space { HasSpace made.old.frames FRAMES_TO_ALL (MOST_SINGLE_FRAME * FRAMES_TO_ALL) }
         ensures works { (s : Standing) → IsTrue D.is_honest → IsUp D.Disk member.now self.old s → promised ≡ s.store.promise → is_over (place_at member.now) s ≡ false
             → Works D.Disk member.now s (and_then (ticking (place_at member.now) s) (closing (place_at member.now))) self.old self.new (told_by made.old) (told_by made.new) result }
         ensures goes_on { GoesOn D.Disk self.old self.new result }

@@ -1,16 +1,14 @@
-ghost use Rattle.std.specs.Prelude.{◌≡◌, ◌+◌, ◌*◌, ◌≤◌, ◌++◌, length, map, OnOk, OnErr, Err};
+ghost use Rattle.std.specs.Prelude.{◌≡◌, ◌+◌, ◌*◌, ◌++◌, length, map, OnOk, OnErr, Err};
 ghost use Rattle.paxos_wire.specs.declared.message.Message.TheVariants.{Accept as Proposing, Accepted as Accepting};
 ghost use Rattle.node_rules.specs.Sending.{to_others};
 ghost use Rattle.dealer_node.specs.Turned.{framed};
 ghost use Rattle.dealer_node.specs.Fitting.{AreMessages};
 ghost use Rattle.paxos_wire.specs.Fits.{IsBallot, IsCommandRun};
 ghost use Rattle.paxos_wire.specs.declared.limits.TheConstants.{MOST_SINGLE_FRAME};
-ghost use Rattle.node_rules.specs.Standings.{Standing};
-ghost use Rattle.node_rules.specs.Turns.{Conflict as Conflicting};
 ghost use Rattle.dealer_node.specs.Members.{place_at};
 ghost use Rattle.dealer_node.specs.Outs.{told_by};
-ghost use Rattle.dealer_node.specs.Rooms.{Grows};
-ghost use Rattle.dealer_node.specs.Running.{IsRunning, TakesTurn, IsAt, CanLearn, Learns};
+ghost use Rattle.dealer_node.specs.Rooms.{HasSpace, Grows};
+ghost use Rattle.dealer_node.specs.Running.{TakesRule, ClashesBy, IsAt, CanLearn, Learns};
 ghost use Rattle.dealer_node.specs.Voting.{telling_votes};
 ghost use Rattle.dealer_node.specs.declared.limits.TheConstants.{FRAMES_TO_ALL};
 
@@ -33,8 +31,7 @@ fn send_accepted(
 )
     requires ballot { IsBallot ballot }
     requires run { IsCommandRun slot commands.now }
-    requires texts { FRAMES_TO_ALL ≤ frames.old.text_room }
-    requires bytes { MOST_SINGLE_FRAME * (FRAMES_TO_ALL * length commands.now) ≤ frames.old.byte_room }
+    requires space { HasSpace frames.old FRAMES_TO_ALL (MOST_SINGLE_FRAME * (FRAMES_TO_ALL * length commands.now)) }
     ensures texts { frames.new.texts ≡ frames.old.texts ++ map framed (to_others (place_at member.now) (Accepting ballot slot commands.now)) }
     ensures fits { AreMessages (to_others (place_at member.now) (Accepting ballot slot commands.now)) }
     ensures grows { Grows frames.old frames.new FRAMES_TO_ALL (MOST_SINGLE_FRAME * (FRAMES_TO_ALL * length commands.now)) }
@@ -59,8 +56,7 @@ pub(crate) fn send_proposal(
 )
     requires ballot { IsBallot ballot }
     requires run { IsCommandRun slot commands.now }
-    requires texts { FRAMES_TO_ALL ≤ frames.old.text_room }
-    requires bytes { MOST_SINGLE_FRAME * (FRAMES_TO_ALL * length commands.now) ≤ frames.old.byte_room }
+    requires space { HasSpace frames.old FRAMES_TO_ALL (MOST_SINGLE_FRAME * (FRAMES_TO_ALL * length commands.now)) }
     ensures texts { frames.new.texts ≡ frames.old.texts ++ map framed (to_others (place_at member.now) (Proposing ballot slot commands.now)) }
     ensures fits { AreMessages (to_others (place_at member.now) (Proposing ballot slot commands.now)) }
     ensures grows { Grows frames.old frames.new FRAMES_TO_ALL (MOST_SINGLE_FRAME * (FRAMES_TO_ALL * length commands.now)) }
@@ -89,12 +85,9 @@ impl Running {
         requires ballot { IsBallot ballot }
         requires run { IsCommandRun slot commands.now }
         requires room { CanLearn self.old made.old 1 (length commands.now) }
-        requires texts { FRAMES_TO_ALL ≤ made.old.frames.text_room }
-        requires bytes { MOST_SINGLE_FRAME * (FRAMES_TO_ALL * length commands.now) ≤ made.old.frames.byte_room }
-        ensures ok { OnOk result ((s : Standing) → IsRunning member.now self.old s
-            → TakesTurn member.now self.new (told_by made.old) (told_by made.new) (telling_votes (place_at member.now) ballot slot commands.now s)) }
-        ensures err { OnErr result ((s : Standing) → IsRunning member.now self.old s
-            → telling_votes (place_at member.now) ballot slot commands.now s ≡ Err (Conflicting s.store)) }
+        requires space { HasSpace made.old.frames FRAMES_TO_ALL (MOST_SINGLE_FRAME * (FRAMES_TO_ALL * length commands.now)) }
+        ensures ok { OnOk result (TakesRule member.now (telling_votes (place_at member.now) ballot slot commands.now) self.old self.new (told_by made.old) (told_by made.new)) }
+        ensures err { OnErr result (ClashesBy member.now (telling_votes (place_at member.now) ballot slot commands.now) self.old) }
         ensures at { IsAt member.now self.new }
         ensures proposer { self.new.proposer ≡ self.old.proposer }
         ensures learns { Learns (length commands.now) self.old self.new made.old made.new }

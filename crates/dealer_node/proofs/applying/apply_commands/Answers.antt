@@ -15,10 +15,10 @@ loop-command-preserved c = record {
   game = c.apply_command.ensures.game ∙ c.loop-command.invariant.game;
   count = c.apply_command.ensures.count ∙ c.loop-command.invariant.count;
   room = omega arith;
-  text_room = omega arith;
-  byte_room = omega arith;
-  len = omega arith;
-  size = omega arith;
+  text_room = omega (arith, c.apply_command.ensures.grows.text_room);
+  byte_room = omega (arith, c.apply_command.ensures.grows.byte_room);
+  len = omega (arith, c.apply_command.ensures.grows.len);
+  size = omega (arith, c.apply_command.ensures.grows.size);
   act = λ within. c.apply_command.ensures.act (c.loop-command.invariant.act within);
 }
 
@@ -27,3 +27,10 @@ returns-clause-scene c = λ scene before is.
     goes_to c.args.member.now.setting (talks c.args.sessions.now) (drop c.loop-command.command-index c.args.commands.now)
     (taking_all c.args.member.now.setting (talks c.args.sessions.now) c.args.commands.now scene) c.loop-command.table c.loop-command.pending before c.loop-command.shown.texts
     (at_drop_all (λ (xs : List Command). xs) c.args.commands.now c.loop-command.command-index (omega arith)) (c.loop-command.invariant.scene scene before is)
+
+pub apply_command-requires-clause-played : goal.apply_command-requires-clause-played
+apply_command-requires-clause-played c = record {
+  game = c.loop-command.invariant.game ∙ c.requires.played.game;
+  count = c.loop-command.invariant.count ∙ c.requires.played.count;
+  seats = c.requires.played.seats;
+}

@@ -7,10 +7,10 @@ use Rattle.dealer_node.proofs.hearing.session_hears.Goals as goal
 pub feed_reserved-requires : goal.feed_reserved-requires
 feed_reserved-requires c = (c.requires.session c.in_ok-session.session c.in_ok-session.was).room
 
-pub drain-requires-clause-seat : goal.drain-requires-clause-seat
-drain-requires-clause-seat c =
+pub drain-requires-clause-sits : goal.drain-requires-clause-sits
+drain-requires-clause-sits c =
     let can = c.requires.session c.in_ok-session.session c.in_ok-session.was in
-    omega (arith, c.feed_reserved.ensures.seat, can.own, c.requires.seat)
+    record { game = c.requires.sits.game; within = omega (arith, c.feed_reserved.ensures.seat, can.own, c.requires.sits.within) }
 
 pub drain-requires-clause-stays : goal.drain-requires-clause-stays
 drain-requires-clause-stays c =

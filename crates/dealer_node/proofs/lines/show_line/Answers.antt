@@ -20,9 +20,10 @@ pub returns-clause-texts : goal.returns-clause-texts
 returns-clause-texts c = λ setting same.
     (put_line c).1 ∙ ap (λ p. c.args.shown.now.texts ++ p) (line_printed setting c.args.table.now.game c.args.table.now.hands c.args.seat same (omega (arith, c.dealt.ensures.value, c.if-dealt-eq0.false)))
 
-pub returns-clause-len : goal.returns-clause-len
-returns-clause-len c = omega (arith, (put_line c).2)
-
-pub returns-clause-size : goal.returns-clause-size
-returns-clause-size c =
-    omega (arith, (put_line c).3, added c.shown.inside.bytes c.seat_line_reserved.new.out _ 4096 c.seat_line_reserved.ensures.items c.seat_line_reserved.ensures.len)
+pub returns-clause-grows : goal.returns-clause-grows
+returns-clause-grows c = record {
+  text_room = omega (arith, ap (λ (w : Written Reader). w.text_room) c.shown.view_is);
+  byte_room = omega (arith, ap (λ (w : Written Reader). w.byte_room) c.shown.view_is);
+  len = omega (arith, (put_line c).2);
+  size = omega (arith, (put_line c).3, added c.shown.inside.bytes c.seat_line_reserved.new.out _ 4096 c.seat_line_reserved.ensures.items c.seat_line_reserved.ensures.len);
+}

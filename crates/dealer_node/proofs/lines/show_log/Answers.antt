@@ -20,9 +20,10 @@ pub returns-clause-texts : goal.returns-clause-texts
 returns-clause-texts c =
     (put_log c).1 ∙ ap (λ p. c.args.shown.now.texts ++ p) (log_printed c.args.member.now.setting c.args.table.now.game c.args.table.now.count c.names.result.now c.args.table.now.hands c.requires.game c.requires.count c.names.ensures.value (sym c.running.ensures ∙ c.if-running.false))
 
-pub returns-clause-len : goal.returns-clause-len
-returns-clause-len c = omega (arith, (put_log c).2)
-
-pub returns-clause-size : goal.returns-clause-size
-returns-clause-size c =
-    omega (arith, (put_log c).3, added c.shown.inside.bytes c.further_lines_reserved.new.out _ 4756 c.further_lines_reserved.ensures.items c.further_lines_reserved.ensures.len)
+pub returns-clause-grows : goal.returns-clause-grows
+returns-clause-grows c = record {
+  text_room = omega (arith, ap (λ (w : Written Reader). w.text_room) c.shown.view_is);
+  byte_room = omega (arith, ap (λ (w : Written Reader). w.byte_room) c.shown.view_is);
+  len = omega (arith, (put_log c).2);
+  size = omega (arith, (put_log c).3, added c.shown.inside.bytes c.further_lines_reserved.new.out _ 4756 c.further_lines_reserved.ensures.items c.further_lines_reserved.ensures.len);
+}

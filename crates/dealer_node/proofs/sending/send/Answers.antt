@@ -16,8 +16,5 @@ invariant_of-frames c = (put_frame c).0
 pub returns-clause-texts : goal.returns-clause-texts
 returns-clause-texts c = (put_frame c).1
 
-pub returns-clause-len : goal.returns-clause-len
-returns-clause-len c = (put_frame c).2
-
-pub returns-clause-size : goal.returns-clause-size
-returns-clause-size c = (put_frame c).3
+pub returns-clause-grows : goal.returns-clause-grows
+returns-clause-grows c = record { text_room = omega (arith, ap (λ (w : Written ℕ). w.text_room) c.frames.view_is); byte_room = omega (arith, ap (λ (w : Written ℕ). w.byte_room) c.frames.view_is); len = omega (arith, (put_frame c).2); size = omega (arith, (put_frame c).3) }

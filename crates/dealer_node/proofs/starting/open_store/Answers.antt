@@ -41,13 +41,6 @@ returns-in-Err-clause-refused g c = λ old new honest leaves.
       | inr memory ↦ inl (c.fault_of.ensures.memory memory)
     ]
 
-pub returns-in-Err-clause-finds : goal.returns-in-Err-clause-finds
-returns-in-Err-clause-finds g c = λ honest why is.
-    let same = heads c.args.member.now c.node.result c.nodes.result c.node.ensures.value c.nodes.ensures.value in
-    let R : List ℕ → Type 0 = λ h. Refuses h (g.D.Disk.seen c.args.disk) why in
-    let F : StoreFault → Type 0 = λ f. Refuses (header c.node.result c.nodes.result) (g.D.Disk.seen c.args.disk) f in
-    subst R same (subst F (c.fault_of.ensures.only why is) (c.in-Err.ensures.refused honest))
-
 pub returns-in-Ok-clause-reopens : goal.returns-in-Ok-clause-reopens
 returns-in-Ok-clause-reopens g c =
     let same = heads c.args.member.now c.node.result c.nodes.result c.node.ensures.value c.nodes.ensures.value in
@@ -61,24 +54,30 @@ returns-in-Err-clause-reopens_err g c =
     subst (λ (h : List ℕ). Reopens g.D.Disk h c.args.disk c.in-Err.disk) same c.in-Err.ensures.settles_err
 
 pub returns-in-Ok-clause-marks : goal.returns-in-Ok-clause-marks
-returns-in-Ok-clause-marks g c = λ honest.
-    let same = heads c.args.member.now c.node.result c.nodes.result c.node.ensures.value c.nodes.ensures.value in
-    let M : List ℕ → Type 0 = λ h. MarksJournal h (g.D.Disk.seen c.args.disk) (g.D.Disk.seen (disk_of (store_of c.new.result))) in
-    let J : Journal g.row.D.Denot → Type 0 = λ st. MarksJournal (header c.node.result c.nodes.result) (g.D.Disk.seen c.args.disk) (g.D.Disk.seen (disk_of st)) in
-    subst M same (subst J (sym c.new.ensures) (c.in-Ok.ensures.marks honest))
+returns-in-Ok-clause-marks g c = record {
+  marks = λ honest.
+      let same = heads c.args.member.now c.node.result c.nodes.result c.node.ensures.value c.nodes.ensures.value in
+      let M : List ℕ → Type 0 = λ h. MarksJournal h (g.D.Disk.seen c.args.disk) (g.D.Disk.seen (disk_of (store_of c.new.result))) in
+      let J : Journal g.row.D.Denot → Type 0 = λ st. MarksJournal (header c.node.result c.nodes.result) (g.D.Disk.seen c.args.disk) (g.D.Disk.seen (disk_of st)) in
+      subst M same (subst J (sym c.new.ensures) (c.in-Ok.ensures.marks honest));
+  quiet = λ honest goes_on.
+      let same = heads c.args.member.now c.node.result c.nodes.result c.node.ensures.value c.nodes.ensures.value in
+      let there = subst (λ (h : List ℕ). GoesOnNew h (g.D.Disk.seen c.args.disk)) (sym same) goes_on in
+      let J : Journal g.row.D.Denot → Type 0 = λ st. OnlyReads g.D.Disk c.args.disk (disk_of st) in
+      subst J (sym c.new.ensures) (c.in-Ok.ensures.quiet honest there.0 there.1 there.2);
+}
 
-pub returns-in-Ok-clause-quiet : goal.returns-in-Ok-clause-quiet
-returns-in-Ok-clause-quiet g c = λ honest goes_on.
-    let same = heads c.args.member.now c.node.result c.nodes.result c.node.ensures.value c.nodes.ensures.value in
-    let there = subst (λ (h : List ℕ). GoesOnNew h (g.D.Disk.seen c.args.disk)) (sym same) goes_on in
-    let J : Journal g.row.D.Denot → Type 0 = λ st. OnlyReads g.D.Disk c.args.disk (disk_of st) in
-    subst J (sym c.new.ensures) (c.in-Ok.ensures.quiet honest there.0 there.1 there.2)
-
-pub returns-in-Err-clause-quiet_err : goal.returns-in-Err-clause-quiet_err
-returns-in-Err-clause-quiet_err g c = λ honest goes_on.
-    let same = heads c.args.member.now c.node.result c.nodes.result c.node.ensures.value c.nodes.ensures.value in
-    let there = subst (λ (h : List ℕ). GoesOnNew h (g.D.Disk.seen c.args.disk)) (sym same) goes_on in
-    c.in-Err.ensures.quiet_err honest there.0 there.1 there.2
-
-pub returns-in-Err-clause-unwritten : goal.returns-in-Err-clause-unwritten
-returns-in-Err-clause-unwritten g c = λ other. c.in-Err.ensures.unwritten (λ failed. other (c.fault_of.ensures.disk failed))
+pub returns-in-Err-clause-refuses : goal.returns-in-Err-clause-refuses
+returns-in-Err-clause-refuses g c = record {
+  of_start = c.fault_of.ensures.of_start;
+  finds = λ honest why is.
+      let same = heads c.args.member.now c.node.result c.nodes.result c.node.ensures.value c.nodes.ensures.value in
+      let R : List ℕ → Type 0 = λ h. Refuses h (g.D.Disk.seen c.args.disk) why in
+      let F : StoreFault → Type 0 = λ f. Refuses (header c.node.result c.nodes.result) (g.D.Disk.seen c.args.disk) f in
+      subst R same (subst F (c.fault_of.ensures.only why is) (c.in-Err.ensures.refused honest));
+  unwritten = λ other. c.in-Err.ensures.unwritten (λ failed. other (c.fault_of.ensures.disk failed));
+  quiet = λ honest goes_on.
+      let same = heads c.args.member.now c.node.result c.nodes.result c.node.ensures.value c.nodes.ensures.value in
+      let there = subst (λ (h : List ℕ). GoesOnNew h (g.D.Disk.seen c.args.disk)) (sym same) goes_on in
+      c.in-Err.ensures.quiet_err honest there.0 there.1 there.2;
+}

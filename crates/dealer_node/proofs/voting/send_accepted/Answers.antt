@@ -1,4 +1,4 @@
-use Rattle.std.proofs.Common.{◌≡◌, List, ap, subst, arith}
+use Rattle.std.proofs.Common.{◌≡◌, ◌*◌, ◌≤◌, List, ap, subst, arith}
 use Rattle.paxos_wire.specs.Fits.{most_bytes}
 use Rattle.paxos_wire.specs.declared.message.Message.TheVariants.{Accepted}
 use Rattle.slot_log.specs.declared.command.Command.{Command}
@@ -9,12 +9,13 @@ use Rattle.dealer_node.proofs.Left.{run_bytes}
 use Rattle.dealer_node.proofs.Voted.{messages_to}
 use Rattle.dealer_node.proofs.voting.send_accepted.Goals as goal
 
-pub send_to_others-requires-clause-bytes : goal.send_to_others-requires-clause-bytes
-send_to_others-requires-clause-bytes c =
+pub send_to_others-requires-clause-space : goal.send_to_others-requires-clause-space
+send_to_others-requires-clause-space c =
     let bytes : most_bytes (Accepted c.args.ballot c.args.slot c.new.result) ≡ most_bytes (Accepted c.args.ballot c.args.slot c.args.commands.now) =
     ap (λ (cs : List Command). most_bytes (Accepted c.args.ballot c.args.slot cs)) c.new.ensures in
     let most = run_bytes c.args.commands.now c.nodes-nodes.result c.requires.run.least c.nodes-nodes.ensures.most in
-    rw bytes (omega (arith, most, c.requires.bytes))
+    let room : most_bytes (Accepted c.args.ballot c.args.slot c.new.result) * c.nodes-nodes.result ≤ c.args.frames.now.byte_room = rw bytes (omega (arith, most, c.requires.space.byte_room)) in
+    record { text_room = omega (arith, c.nodes-nodes.ensures.most, c.requires.space.text_room); byte_room = room }
 
 pub returns-clause-fits : goal.returns-clause-fits
 returns-clause-fits c =
@@ -26,11 +27,11 @@ returns-clause-grows c =
     let bytes : most_bytes (Accepted c.args.ballot c.args.slot c.new.result) ≡ most_bytes (Accepted c.args.ballot c.args.slot c.args.commands.now) =
     ap (λ (cs : List Command). most_bytes (Accepted c.args.ballot c.args.slot cs)) c.new.ensures in
     let most = run_bytes c.args.commands.now c.nodes-nodes.result c.requires.run.least c.nodes-nodes.ensures.most in
-    let room = rw bytes at c.send_to_others.ensures.byte_room in
-    let size = rw bytes at c.send_to_others.ensures.size in
+    let room = rw bytes at c.send_to_others.ensures.grows.byte_room in
+    let size = rw bytes at c.send_to_others.ensures.grows.size in
     record {
-      text_room = omega (arith, c.send_to_others.ensures.text_room, c.nodes-nodes.ensures.most);
+      text_room = omega (arith, c.send_to_others.ensures.grows.text_room, c.nodes-nodes.ensures.most);
       byte_room = omega (arith, room, most);
-      len = omega (arith, c.send_to_others.ensures.len, c.nodes-nodes.ensures.most);
+      len = omega (arith, c.send_to_others.ensures.grows.len, c.nodes-nodes.ensures.most);
       size = omega (arith, size, most);
     }

@@ -51,17 +51,17 @@ returns-in_err-running-clause-disk g c =
 pub returns-in-Ok-clause-disk : goal.returns-in-Ok-clause-disk
 returns-in-Ok-clause-disk g c =
     started_opens g.D.Disk c.args.self.now c.self.inside c.in-Some.disk c.take.new.self c.in-Ok.up c.self.view_is (sym c.is_some.ensures ∙ c.if-is_some.false)
-    (sym c.take.ensures.value ∙ c.in-Some.is) c.in-Ok.ensures.reopens c.in-Ok.ensures.marks c.in-Ok.ensures.quiet
+    (sym c.take.ensures.value ∙ c.in-Some.is) c.in-Ok.ensures.reopens c.in-Ok.ensures.marks.marks c.in-Ok.ensures.marks.quiet
 
 pub returns-in-Err-clause-disk : goal.returns-in-Err-clause-disk
 returns-in-Err-clause-disk g c =
     unstarted_opens g.D.Disk c.args.self.now c.self.inside c.in-Some.disk c.in-Err.disk c.in-Err.fault c.self.view_is (sym c.is_some.ensures ∙ c.if-is_some.false)
-    (sym c.take.ensures.value ∙ c.in-Some.is) c.in-Err.ensures.reopens_err c.in-Err.ensures.quiet_err c.in-Err.ensures.unwritten
+    (sym c.take.ensures.value ∙ c.in-Some.is) c.in-Err.ensures.reopens_err c.in-Err.ensures.refuses.quiet c.in-Err.ensures.refuses.unwritten
 
 pub returns-in-Err-clause-refused : goal.returns-in-Err-clause-refused
 returns-in-Err-clause-refused g c = λ honest why is.
     refused_at g.D.Disk c.args.self.now c.self.inside c.in-Some.disk why c.self.view_is (sym c.is_some.ensures ∙ c.if-is_some.false) (sym c.take.ensures.value ∙ c.in-Some.is)
-    (c.in-Err.ensures.finds honest why (err_of c.in-Err.fault (fault.Store why) is))
+    (c.in-Err.ensures.refuses.finds honest why (err_of c.in-Err.fault (fault.Store why) is))
 
 pub returns-then-is_some-clause-shows : goal.returns-then-is_some-clause-shows
 returns-then-is_some-clause-shows g c = none_shown (most_shown_of c.args.self.now) c.args.out.now c.args.out.now refl
@@ -77,3 +77,6 @@ pub returns-in-Ok-clause-shows : goal.returns-in-Ok-clause-shows
 returns-in-Ok-clause-shows g c =
     start_shown (most_shown_of c.args.self.now) c.in_ok-running.made c.open.new.made c.args.out.now (told_by c.ready.new.out) (told_by c.append_owned.new.self) c.in_ok-running.ensures.nothing
     c.append_owned.ensures (c.ready.ensures.same ∙ c.out.view_is) c.in-Ok.ensures.texts c.in-Ok.ensures.text_bytes (omega arith) (omega arith)
+
+pub returns-in-Err-clause-faults : goal.returns-in-Err-clause-faults
+returns-in-Err-clause-faults g c = c.in-Err.ensures.refuses.of_start

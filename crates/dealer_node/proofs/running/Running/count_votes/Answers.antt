@@ -16,3 +16,6 @@ returns-clause-ok c = λ s is.
       taken = applied_taken c.args.member.now c.args.self.now c.apply_from.new.self c.hear_votes.new.learner c.front-front.result s (hears s.learned) (told_by c.args.made.now) c.apply_from.new.shown.texts (length c.args.commands.now) is
           c.front-front.ensures.value (c.hear_votes.ensures.learned ∙ ap hears is.learned) c.hear_votes.ensures.goes_on c.apply_from.ensures.scene c.apply_from.ensures.rest;
     }
+
+pub apply_from-requires-clause-played : goal.apply_from-requires-clause-played
+apply_from-requires-clause-played c = record { game = c.requires.at.game; count = c.requires.at.count; seats = c.requires.at.seats }

@@ -15,3 +15,6 @@ returns-clause-ok c = λ s is.
       taken = applied_taken c.args.member.now c.args.self.now c.apply_from.new.self c.hear_chosen.new.learner c.front-front.result s (believes s.learned) (told_by c.args.made.now) c.apply_from.new.shown.texts 1 is
           c.front-front.ensures.value (c.hear_chosen.ensures.learned ∙ ap believes is.learned) c.hear_chosen.ensures.goes_on c.apply_from.ensures.scene c.apply_from.ensures.rest;
     }
+
+pub apply_from-requires-clause-played : goal.apply_from-requires-clause-played
+apply_from-requires-clause-played c = record { game = c.requires.at.game; count = c.requires.at.count; seats = c.requires.at.seats }

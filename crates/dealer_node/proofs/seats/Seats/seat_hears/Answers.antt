@@ -13,14 +13,14 @@ use Rattle.dealer_node.proofs.seats.Seats.seat_hears.Goals as goal
 pub session_hears-kept-requires-clause-session : goal.session_hears-kept-requires-clause-session
 session_hears-kept-requires-clause-session c = λ session found.
     let items = c.self.inside.sessions.items in
-    let here : c.args.seat < length items = omega (arith, ap (λ (v : Seated). length v.talks) c.self.view_is, length-map items talk_of, c.requires.seats, c.requires.seat) in
+    let here : c.args.seat < length items = omega (arith, ap (λ (v : Seated). length v.talks) c.self.view_is, length-map items talk_of, c.requires.seats, c.requires.sits.within) in
     can_hear items c.args.seat c.args.piece.now c.args.limit c.args.self.now session (ap (λ (v : Seated). v.talks) c.self.view_is) (ap (λ (v : Seated). v.rooms) c.self.view_is) c.self.invariant.kept
-    (get_or_default items c.args.seat None _ here ∙ (sym c.index_mut.ensures.value ∙ (sym c.take-session.ensures.value ∙ found))) c.requires.room c.requires.limit
+    (get_or_default items c.args.seat None _ here ∙ (sym c.index_mut.ensures.value ∙ (sym c.take-session.ensures.value ∙ found))) c.requires.bytes c.requires.limit
 
 pub invariant_of-self : goal.invariant_of-self
 invariant_of-self c =
     let items = c.self.inside.sessions.items in
-    let here : c.args.seat < length items = omega (arith, ap (λ (v : Seated). length v.talks) c.self.view_is, length-map items talk_of, c.requires.seats, c.requires.seat) in
+    let here : c.args.seat < length items = omega (arith, ap (λ (v : Seated). length v.talks) c.self.view_is, length-map items talk_of, c.requires.seats, c.requires.sits.within) in
     record {
       kept = subst AreOwn (sym (set-set items c.args.seat c.take-session.new.self c.session_hears-kept.result))
           (own_still items c.args.seat c.session_hears-kept.result here c.self.invariant.kept (λ one found. (
@@ -32,7 +32,7 @@ invariant_of-self c =
 pub returns-clause-heard : goal.returns-clause-heard
 returns-clause-heard c = λ s stands.
     let items = c.self.inside.sessions.items in
-    let here : c.args.seat < length items = omega (arith, ap (λ (v : Seated). length v.talks) c.self.view_is, length-map items talk_of, c.requires.seats, c.requires.seat) in
+    let here : c.args.seat < length items = omega (arith, ap (λ (v : Seated). length v.talks) c.self.view_is, length-map items talk_of, c.requires.seats, c.requires.sits.within) in
     let twice = set-set items c.args.seat c.take-session.new.self c.session_hears-kept.result in
     piece_turn (place_at c.args.member.now) c.args.table.now c.args.promised c.args.seat c.args.piece.now items c.take-session.result c.session_hears-kept.result c.args.pending.now c.session_hears-kept.new.pending _ _
     (talks (set (set items c.args.seat c.take-session.new.self) c.args.seat c.session_hears-kept.result)) s

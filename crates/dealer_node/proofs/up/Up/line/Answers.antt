@@ -1,12 +1,9 @@
-use Rattle.std.proofs.Common.{◌+◌, ◌*◌, ap, sym, subst, arith}
-use Rattle.proposer.specs.Campaigns.{Proposing}
-use Rattle.proposer.specs.CommandRuns.{IsBounded}
+use Rattle.std.proofs.Common.{◌+◌, ◌*◌, arith}
 use Rattle.dealer_node.specs.declared.limits.TheConstants.{FRAMES_OF_A_CLOSE}
-use Rattle.dealer_node.specs.declared.up.Up.{Up}
 use Rattle.dealer_node.specs.Outs.{told_by}
 use Rattle.dealer_node.proofs.Left.{less_left}
 use Rattle.dealer_node.proofs.Heard.{line_works}
-use Rattle.dealer_node.proofs.Within.{left_within, line_left}
+use Rattle.dealer_node.proofs.Within.{left_within, line_left, line_room}
 use Rattle.dealer_node.specs.Calling.{line_need}
 use Rattle.dealer_node.proofs.up.Up.line.Goals as goal
 
@@ -17,15 +14,28 @@ returns-clause-works g c = λ s honest is.
     heard (c.close_call.ensures.works heard.took.turn.after honest heard.took.now)
 
 pub returns-clause-within : goal.returns-clause-within
-returns-clause-within g c = λ nothing.
-    let m = c.args.most in
-    let need = line_need c.args.self.now.running c.args.limit m in
+returns-clause-within g c = λ most can nothing.
+    let need = line_need c.args.self.now.running c.args.limit most in
     left_within c.close_call.new.self.running c.close_call.new.made need
-    (c.close_call.ensures.left need 0 0 0
-    (less_left c.hear_piece.new.self.running c.hear_piece.new.made need 1 (0 + m) (0 + FRAMES_OF_A_CLOSE * m) 1 m (FRAMES_OF_A_CLOSE * m) (omega arith) (omega arith) (omega arith)
-    (line_left c.args.self.now c.hear_piece.new.self c.args.made.now c.hear_piece.new.made c.args.limit m nothing c.requires.room c.hear_piece.ensures.frames c.hear_piece.ensures.shown c.hear_piece.ensures.faults c.hear_piece.ensures.rest)))
+    (c.close_call.ensures.left most (line_room c.args.self.now c.hear_piece.new.self c.args.made.now c.hear_piece.new.made c.args.limit most can c.hear_piece.ensures.makes c.hear_piece.ensures.rest).bounded need 0 0 0
+    (less_left c.hear_piece.new.self.running c.hear_piece.new.made need 1 (0 + most) (0 + FRAMES_OF_A_CLOSE * most) 1 most (FRAMES_OF_A_CLOSE * most) (omega arith) (omega arith) (omega arith)
+    (line_left c.args.self.now c.hear_piece.new.self c.args.made.now c.hear_piece.new.made c.args.limit most nothing can.room c.hear_piece.ensures.makes c.hear_piece.ensures.rest)))
 
--- what was heard changes no ballot
-pub close_call-requires-clause-bounded : goal.close_call-requires-clause-bounded
-close_call-requires-clause-bounded g c =
-    subst (λ (p : Proposing). IsBounded p c.args.most) (sym (ap (λ (u : Up _). u.running.proposer) c.hear_piece.ensures.rest)) c.requires.bounded
+pub hear_piece-requires-clause-room : goal.hear_piece-requires-clause-room
+hear_piece-requires-clause-room g c =
+    let shown = c.requires.room.1.room.shown in
+    record {
+      frames = omega (arith, shown.frames);
+      frame_bytes = omega (arith, shown.frame_bytes);
+      texts = omega (arith, shown.texts);
+      text_bytes = omega (arith, shown.text_bytes);
+      faults = shown.faults;
+    }
+
+-- what was heard changes no ballot, and leaves room for the close
+pub close_call-requires-clause-room : goal.close_call-requires-clause-room
+close_call-requires-clause-room g c =
+    let room = c.requires.room in (
+      room.0,
+      line_room c.args.self.now c.hear_piece.new.self c.args.made.now c.hear_piece.new.made c.args.limit room.0 room.1 c.hear_piece.ensures.makes c.hear_piece.ensures.rest,
+    )

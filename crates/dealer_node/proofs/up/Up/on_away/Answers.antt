@@ -1,17 +1,18 @@
-use Rattle.std.proofs.Common.{◌≡◌, ◌∙◌, ap, sym, subst, refl, inr, Result, Ok, Err, arith}
+use Rattle.std.proofs.Common.{rules, ◌≡◌, ◌∙◌, ap, sym, subst, refl, inr, Result, Ok, Err, arith}
 use Rattle.node_rules.specs.Turns.{and_then}
 use Rattle.node_rules.specs.Proposing.{closing}
 use Rattle.node_rules.specs.Seats.{ordering}
 use Rattle.node_rules.specs.Calls.{Away}
 use Rattle.dealer_node.specs.declared.fault.NodeFault.{NodeFault}
 use Rattle.dealer_node.specs.Members.{place_at}
-use Rattle.dealer_node.specs.Outs.{Told, told_by, both_told}
-use Rattle.dealer_node.specs.Calling.{HandlesCall, away_need}
+use Rattle.dealer_node.specs.Outs.{Told, told_by, both_told, HasRoom}
+use Rattle.dealer_node.specs.Calling.{HasCallRoom, CanClose, HandlesCall, away_need}
 use Rattle.proposer.specs.Campaigns.{Proposing}
 use Rattle.proposer.specs.CommandRuns.{IsBounded}
 use Rattle.dealer_node.specs.Most.{most_after, most_applied}
 use Rattle.dealer_node.proofs.Heard.{err_is, works_over}
 use Rattle.dealer_node.proofs.Ordered.{meant_by_table, meant_goes_on, order_refused}
+use Rattle.dealer_node.proofs.Within.{room_for}
 use Rattle.dealer_node.proofs.Most.{none_shown, made_shown}
 use Rattle.dealer_node.proofs.up.Up.on_away.Goals as goal
 
@@ -76,9 +77,36 @@ returns-in_err-play_for-clause-shows g c = none_shown (most_after (most_applied 
 
 pub returns-clause-shows : goal.returns-clause-shows
 returns-clause-shows g c =
+    let most = c.most_proposed-most.result in
+    let room : HasCallRoom c.ready.new.self c.in_ok-made.made (away_need c.ready.new.self.running most) 1 most = search rules in
+    let can : CanClose c.ready.new.self c.in_ok-made.made (away_need c.ready.new.self.running) most = record {
+      some = c.most_proposed-most.ensures.least;
+      bounded = subst (λ (p : Proposing). IsBounded p most) (sym c.in_ok-made.ensures.alone.proposer) c.most_proposed-most.ensures.bounded;
+      room = room;
+    } in
     made_shown (most_after (most_applied c.args.self.now.running)) (away_need c.ready.new.self.running c.most_proposed-most.result) c.play_for.new.made (told_by c.args.out.now) (told_by c.ready.new.out) (told_by c.append.new.self)
-    c.append.ensures c.in_ok-made.ensures.same (c.in_ok-play_for.ensures.within c.in_ok-made.ensures.nothing) (omega (arith, c.in_ok-made.ensures.ahead, c.most_proposed-most.ensures.value)) (omega (arith, c.in_ok-made.ensures.ahead, c.most_proposed-most.ensures.value))
+    c.append.ensures c.in_ok-made.ensures.same (c.in_ok-play_for.ensures.within c.most_proposed-most.result can c.in_ok-made.ensures.nothing) (omega (arith, c.in_ok-made.ensures.alone.ahead, c.most_proposed-most.ensures.value)) (omega (arith, c.in_ok-made.ensures.alone.ahead, c.most_proposed-most.ensures.value))
 
-pub play_for-requires-clause-bounded : goal.play_for-requires-clause-bounded
-play_for-requires-clause-bounded g c =
-    subst (λ (p : Proposing). IsBounded p c.most_proposed-most.result) (sym c.in_ok-made.ensures.proposer) c.most_proposed-most.ensures.bounded
+-- how many commands the close proposes at most, and the room for that
+pub play_for-requires-clause-room : goal.play_for-requires-clause-room
+play_for-requires-clause-room g c =
+    let room : HasCallRoom c.ready.new.self c.in_ok-made.made (away_need c.ready.new.self.running c.most_proposed-most.result) 1 c.most_proposed-most.result = search rules in (
+      c.most_proposed-most.result,
+      record {
+        some = c.most_proposed-most.ensures.least;
+        bounded = subst (λ (p : Proposing). IsBounded p c.most_proposed-most.result) (sym c.in_ok-made.ensures.alone.proposer) c.most_proposed-most.ensures.bounded;
+        room = room;
+      },
+    )
+
+pub append-requires : goal.append-requires
+append-requires g c =
+    let most = c.most_proposed-most.result in
+    let room : HasCallRoom c.ready.new.self c.in_ok-made.made (away_need c.ready.new.self.running most) 1 most = search rules in
+    let out : HasRoom c.ready.new.out (away_need c.ready.new.self.running most) = search rules in
+    let can : CanClose c.ready.new.self c.in_ok-made.made (away_need c.ready.new.self.running) most = record {
+      some = c.most_proposed-most.ensures.least;
+      bounded = subst (λ (p : Proposing). IsBounded p most) (sym c.in_ok-made.ensures.alone.proposer) c.most_proposed-most.ensures.bounded;
+      room = room;
+    } in
+    room_for c.ready.new.out c.play_for.new.made (away_need c.ready.new.self.running most) out (c.in_ok-play_for.ensures.within most can c.in_ok-made.ensures.nothing)

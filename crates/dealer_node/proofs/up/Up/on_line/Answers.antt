@@ -1,16 +1,17 @@
-use Rattle.std.proofs.Common.{◌≡◌, ◌∙◌, ap, sym, subst, refl, inr, Result, Ok, Err, arith}
+use Rattle.std.proofs.Common.{rules, ◌≡◌, ◌∙◌, ap, sym, subst, refl, inr, Result, Ok, Err, arith}
 use Rattle.node_rules.specs.Turns.{and_then}
 use Rattle.node_rules.specs.Proposing.{closing}
 use Rattle.node_rules.specs.Calls.{Line}
 use Rattle.dealer_node.specs.declared.fault.NodeFault.{NodeFault}
 use Rattle.dealer_node.specs.Members.{place_at}
-use Rattle.dealer_node.specs.Outs.{Told, told_by, both_told}
-use Rattle.dealer_node.specs.Calling.{HandlesCall}
+use Rattle.dealer_node.specs.Outs.{Told, told_by, both_told, HasRoom}
+use Rattle.dealer_node.specs.Calling.{HasCallRoom, CanClose, HandlesCall}
 use Rattle.dealer_node.proofs.Heard.{err_is, works_over}
 use Rattle.proposer.specs.Campaigns.{Proposing}
 use Rattle.proposer.specs.CommandRuns.{IsBounded}
 use Rattle.dealer_node.specs.Most.{most_after, most_applied}
 use Rattle.dealer_node.specs.Calling.{line_need}
+use Rattle.dealer_node.proofs.Within.{room_for}
 use Rattle.dealer_node.proofs.Most.{none_shown, made_shown}
 use Rattle.dealer_node.proofs.up.Up.on_line.Goals as goal
 
@@ -53,9 +54,36 @@ returns-in_err-line-clause-shows g c = none_shown (most_after (most_applied c.ar
 
 pub returns-clause-shows : goal.returns-clause-shows
 returns-clause-shows g c =
+    let most = c.most_proposed-most.result in
+    let room : HasCallRoom c.ready_line.new.self c.in_ok-made.made (line_need c.ready_line.new.self.running c.in_ok-made.limit most) 1 most = search rules in
+    let can : CanClose c.ready_line.new.self c.in_ok-made.made (line_need c.ready_line.new.self.running c.in_ok-made.limit) most = record {
+      some = c.most_proposed-most.ensures.least;
+      bounded = subst (λ (p : Proposing). IsBounded p most) (sym c.in_ok-made.ensures.proposer) c.most_proposed-most.ensures.bounded;
+      room = room;
+    } in
     made_shown (most_after (most_applied c.args.self.now.running)) (line_need c.ready_line.new.self.running c.in_ok-made.limit c.most_proposed-most.result) c.line.new.made (told_by c.args.out.now) (told_by c.ready_line.new.out) (told_by c.append.new.self)
-    c.append.ensures c.in_ok-made.ensures.same (c.in_ok-line.ensures.within c.in_ok-made.ensures.nothing) (omega (arith, c.in_ok-made.ensures.ahead, c.most_proposed-most.ensures.value)) (omega (arith, c.in_ok-made.ensures.ahead, c.most_proposed-most.ensures.value))
+    c.append.ensures c.in_ok-made.ensures.same (c.in_ok-line.ensures.within c.most_proposed-most.result can c.in_ok-made.ensures.nothing) (omega (arith, c.in_ok-made.ensures.ahead, c.most_proposed-most.ensures.value)) (omega (arith, c.in_ok-made.ensures.ahead, c.most_proposed-most.ensures.value))
 
-pub line-requires-clause-bounded : goal.line-requires-clause-bounded
-line-requires-clause-bounded g c =
-    subst (λ (p : Proposing). IsBounded p c.most_proposed-most.result) (sym c.in_ok-made.ensures.proposer) c.most_proposed-most.ensures.bounded
+-- how many commands the close proposes at most, and the room for that
+pub line-requires-clause-room : goal.line-requires-clause-room
+line-requires-clause-room g c =
+    let room : HasCallRoom c.ready_line.new.self c.in_ok-made.made (line_need c.ready_line.new.self.running c.in_ok-made.limit c.most_proposed-most.result) 1 c.most_proposed-most.result = search rules in (
+      c.most_proposed-most.result,
+      record {
+        some = c.most_proposed-most.ensures.least;
+        bounded = subst (λ (p : Proposing). IsBounded p c.most_proposed-most.result) (sym c.in_ok-made.ensures.proposer) c.most_proposed-most.ensures.bounded;
+        room = room;
+      },
+    )
+
+pub append-requires : goal.append-requires
+append-requires g c =
+    let most = c.most_proposed-most.result in
+    let room : HasCallRoom c.ready_line.new.self c.in_ok-made.made (line_need c.ready_line.new.self.running c.in_ok-made.limit most) 1 most = search rules in
+    let out : HasRoom c.ready_line.new.out (line_need c.ready_line.new.self.running c.in_ok-made.limit most) = c.in_ok-made.ensures.room_out in
+    let can : CanClose c.ready_line.new.self c.in_ok-made.made (line_need c.ready_line.new.self.running c.in_ok-made.limit) most = record {
+      some = c.most_proposed-most.ensures.least;
+      bounded = subst (λ (p : Proposing). IsBounded p most) (sym c.in_ok-made.ensures.proposer) c.most_proposed-most.ensures.bounded;
+      room = room;
+    } in
+    room_for c.ready_line.new.out c.line.new.made (line_need c.ready_line.new.self.running c.in_ok-made.limit most) out (c.in_ok-line.ensures.within most can c.in_ok-made.ensures.nothing)

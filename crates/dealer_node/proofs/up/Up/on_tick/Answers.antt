@@ -4,14 +4,15 @@ use Rattle.node_rules.specs.Proposing.{ticking, closing}
 use Rattle.node_rules.specs.Calls.{Tick}
 use Rattle.dealer_node.specs.declared.fault.NodeFault.{NodeFault}
 use Rattle.dealer_node.specs.Members.{place_at}
-use Rattle.dealer_node.specs.Outs.{Told, told_by, both_told}
+use Rattle.dealer_node.specs.Outs.{Told, told_by, both_told, HasRoom}
 use Rattle.dealer_node.specs.Working.{head_of}
-use Rattle.dealer_node.specs.Calling.{HandlesCall}
+use Rattle.dealer_node.specs.Calling.{HasCallRoom, CanClose, HandlesCall}
 use Rattle.dealer_node.proofs.Heard.{err_is, works_over, spent_over}
 use Rattle.proposer.specs.Campaigns.{Proposing}
 use Rattle.proposer.specs.CommandRuns.{IsBounded}
 use Rattle.dealer_node.specs.Most.{most_after, most_applied}
 use Rattle.dealer_node.specs.Calling.{close_need}
+use Rattle.dealer_node.proofs.Within.{room_for}
 use Rattle.dealer_node.proofs.Most.{none_shown, made_shown}
 use Rattle.dealer_node.proofs.up.Up.on_tick.Goals as goal
 use Rattle.dealer_node.proofs.up.Up.on_tick.Goals.{else-not-over-via-then-not-over+else-is_spent, else-not-over-via-else-not-over}
@@ -24,7 +25,7 @@ tick-requires-clause-at g c = c.ready.ensures.at c.args.member.now c.requires
 
 pub tick-requires-clause-unspent : goal.tick-requires-clause-unspent
 tick-requires-clause-unspent g c = λ running.
-    let same = spent_over c.args.self.now.running c.ready.new.self.running c.promised-promised.result c.ready.ensures.seen c.ready.ensures.learned in
+    let same = spent_over c.args.self.now.running c.ready.new.self.running c.promised-promised.result c.ready.ensures.alone.seen c.ready.ensures.alone.learned in
     elim c.else-not-over.branch [
       | else-not-over-via-then-not-over+else-is_spent w ↦ same ∙ (sym w.is_spent.ensures ∙ w.if-is_spent.false)
       | else-not-over-via-else-not-over w ↦ absurd (true≢false (sym w.if-not-over.false ∙ running))
@@ -71,9 +72,36 @@ returns-in_err-tick-clause-shows g c = none_shown (most_after (most_applied c.ar
 
 pub returns-clause-shows : goal.returns-clause-shows
 returns-clause-shows g c =
+    let most = c.most_proposed-most.result in
+    let room : HasCallRoom c.ready.new.self c.in_ok-made.made (close_need c.ready.new.self.running most) 1 most = search rules in
+    let can : CanClose c.ready.new.self c.in_ok-made.made (close_need c.ready.new.self.running) most = record {
+      some = c.most_proposed-most.ensures.least;
+      bounded = subst (λ (p : Proposing). IsBounded p most) (sym c.in_ok-made.ensures.alone.proposer) c.most_proposed-most.ensures.bounded;
+      room = room;
+    } in
     made_shown (most_after (most_applied c.args.self.now.running)) (close_need c.ready.new.self.running c.most_proposed-most.result) c.tick.new.made (told_by c.args.out.now) (told_by c.ready.new.out) (told_by c.append.new.self)
-    c.append.ensures c.in_ok-made.ensures.same (c.in_ok-tick.ensures.within c.in_ok-made.ensures.nothing) (omega (arith, c.in_ok-made.ensures.ahead, c.most_proposed-most.ensures.value)) (omega (arith, c.in_ok-made.ensures.ahead, c.most_proposed-most.ensures.value))
+    c.append.ensures c.in_ok-made.ensures.same (c.in_ok-tick.ensures.within c.most_proposed-most.result can c.in_ok-made.ensures.nothing) (omega (arith, c.in_ok-made.ensures.alone.ahead, c.most_proposed-most.ensures.value)) (omega (arith, c.in_ok-made.ensures.alone.ahead, c.most_proposed-most.ensures.value))
 
-pub tick-requires-clause-bounded : goal.tick-requires-clause-bounded
-tick-requires-clause-bounded g c =
-    subst (λ (p : Proposing). IsBounded p c.most_proposed-most.result) (sym c.in_ok-made.ensures.proposer) c.most_proposed-most.ensures.bounded
+-- how many commands the close proposes at most, and the room for that
+pub tick-requires-clause-room : goal.tick-requires-clause-room
+tick-requires-clause-room g c =
+    let room : HasCallRoom c.ready.new.self c.in_ok-made.made (close_need c.ready.new.self.running c.most_proposed-most.result) 1 c.most_proposed-most.result = search rules in (
+      c.most_proposed-most.result,
+      record {
+        some = c.most_proposed-most.ensures.least;
+        bounded = subst (λ (p : Proposing). IsBounded p c.most_proposed-most.result) (sym c.in_ok-made.ensures.alone.proposer) c.most_proposed-most.ensures.bounded;
+        room = room;
+      },
+    )
+
+pub append-requires : goal.append-requires
+append-requires g c =
+    let most = c.most_proposed-most.result in
+    let room : HasCallRoom c.ready.new.self c.in_ok-made.made (close_need c.ready.new.self.running most) 1 most = search rules in
+    let out : HasRoom c.ready.new.out (close_need c.ready.new.self.running most) = search rules in
+    let can : CanClose c.ready.new.self c.in_ok-made.made (close_need c.ready.new.self.running) most = record {
+      some = c.most_proposed-most.ensures.least;
+      bounded = subst (λ (p : Proposing). IsBounded p most) (sym c.in_ok-made.ensures.alone.proposer) c.most_proposed-most.ensures.bounded;
+      room = room;
+    } in
+    room_for c.ready.new.out c.tick.new.made (close_need c.ready.new.self.running most) out (c.in_ok-tick.ensures.within most can c.in_ok-made.ensures.nothing)

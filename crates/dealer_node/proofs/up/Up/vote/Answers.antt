@@ -36,10 +36,10 @@ tell_votes-requires-clause-room g c =
       bytes = omega (arith, room.bytes, short);
     }
 
-pub tell_votes-requires-clause-bytes : goal.tell_votes-requires-clause-bytes
-tell_votes-requires-clause-bytes g c =
+pub tell_votes-requires-clause-space : goal.tell_votes-requires-clause-space
+tell_votes-requires-clause-space g c =
     let short = (told_run c.args.ballot c.args.slot c.args.commands.now c.in-Some.stored.now c.in-Ok.answer c.in-Ok.ensures.fits (rw c.in-Some.is at c.accepted_commands.ensures)).1 in
-    omega (arith, c.requires.bytes, short)
+    record { text_room = c.requires.space.text_room; byte_room = omega (arith, c.requires.space.byte_room, short) }
 
 pub returns-in-Ok-tell_votes-clause-left : goal.returns-in-Ok-tell_votes-clause-left
 returns-in-Ok-tell_votes-clause-left g c need answers more frames =
