@@ -14,6 +14,8 @@ use Rattle.proposer.specs.Campaigns.{Proposing, leads, promise_by, counting}
 use Rattle.proposer.specs.CommandRuns.{most_commands, IsBounded}
 use Rattle.node_rules.specs.Standings.{Place, Standing, applied}
 use Rattle.node_rules.specs.Turns.{Turn, Refusal, Conflict, still}
+use Rattle.learner.specs.Learning.{answer_to_chosen, believing}
+use Rattle.node_rules.specs.Learning.{learning}
 use Rattle.node_rules.specs.Proposing.{higher, proposing, closing}
 use Rattle.node_rules.specs.Seats.{session_at, HearsPiece}
 use Rattle.dealer_node.specs.declared.made.Made.{Made}
@@ -60,6 +62,10 @@ TakesRule member rule old new earlier later = (s : Standing) → IsRunning membe
 -- whatever it is seen as, by the rule another command is known at a slot
 abbrev pub ClashesBy : Membership → (Standing → Result Turn Refusal) → Running → Type 0
 ClashesBy member rule old = (s : Standing) → IsRunning member old s → rule s ≡ Err (Conflict s.store)
+
+-- a node's word that a command was chosen at a slot is taken, and what the front then passes is applied
+abbrev pub learning_chosen : Place → ℕ → Command → Standing → Result Turn Refusal
+learning_chosen place slot command s = learning place (answer_to_chosen s.learned.log slot command) (believing s.learned slot command) s
 
 -- a turn of a piece of a seat's bytes was taken
 pub record TakesPiece (member : Membership) (running : Running) (earlier later : Told) (seat : ℕ) (piece : List ℕ) (s : Standing) : Type 0 where
@@ -151,6 +157,10 @@ pub record IsAt (member : Membership) (running : Running) : Type 0 where
 -- how many commands are known beyond the front
 abbrev pub ahead_of : Running → ℕ
 ahead_of running = length running.learner.learned.log.beyond
+
+-- how many commands from this slot on the front has passed
+abbrev pub passed_from : Running → ℕ → ℕ
+passed_from running slot = front running.learner.learned.log - slot
 
 -- there is room to count so many answers more, which have so many commands in all, and to apply these and all that are known beyond the front
 pub record CanLearn (running : Running) (made : Made) (answers commands : ℕ) : Type 0 where

@@ -27,6 +27,11 @@ pub record IsScene (setting : Setting) (scene : Scene) (table : Match) (pending 
   pub waits : pending ≡ scene.pending
   pub shown : texts ≡ before ++ map printed scene.shown
 
+-- whatever scene table, act and texts are of, they are of the one that the rule makes of it then
+abbrev pub PlaysOn : Setting → (Scene → Scene) → Match → Option Command → List (Marked Reader) → Match → Option Command → List (Marked Reader) → Type 0
+PlaysOn setting rule table pending texts later waits more =
+    (scene : Scene) (before : List (Marked Reader)) → IsScene setting scene table pending before texts → IsScene setting (rule scene) later waits before more
+
 -- the act that waits has its numbers within their ranges, where the one that waited had
 abbrev pub StaysInRange : Option Command → Option Command → Type 0
 StaysInRange waited waits = IfSome waited (λ command. IsInRange command) → IfSome waits (λ command. IsInRange command)

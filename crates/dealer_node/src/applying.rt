@@ -1,15 +1,13 @@
 ghost use Rattle.std.specs.Prelude.{◌≡◌, ℕ, ◌+◌, ◌*◌, ◌≤◌, List, length, is_none};
 ghost use Rattle.game_def.specs.Game.{Game};
-ghost use Rattle.node_rules.specs.Applying.{Scene, kept, taking, taking_all};
+ghost use Rattle.node_rules.specs.Applying.{kept, taking, taking_all};
 ghost use Rattle.slot_log.specs.declared.command.Command.{Command as Order};
 ghost use Rattle.slot_log.specs.Hand.{Hand};
 ghost use Rattle.slot_log.specs.Dealer.{effect_of, reason_of};
 ghost use Rattle.dealer_kind.specs.Kind.{Setting};
 ghost use Rattle.dealer_node.specs.Rooms.{HasSpace, Grows};
-ghost use Rattle.dealer_node.specs.declared.reader.Reader.{Reader as Reads};
-ghost use Rattle.dealer_node.specs.Texts.{Marked};
 ghost use Rattle.dealer_node.specs.Turned.{talks};
-ghost use Rattle.dealer_node.specs.Scenes.{IsScene, IsTableOf, IsTableAt, StaysInRange};
+ghost use Rattle.dealer_node.specs.Scenes.{IsTableOf, IsTableAt, PlaysOn, StaysInRange};
 
 use crate::lines::show_news;
 use crate::member::Member;
@@ -50,8 +48,7 @@ fn apply_command(
     requires played { IsTableAt member.now.setting (length sessions.now) table.old }
     requires room { 1 ≤ table.old.room }
     requires space { HasSpace shown.old 11 45716 }
-    ensures scene { (scene : Scene) (before : List (Marked Reads)) → IsScene member.now.setting scene table.old pending.old before shown.old.texts
-        → IsScene member.now.setting (taking member.now.setting (talks sessions.now) command.now scene) table.new pending.new before shown.new.texts }
+    ensures scene { PlaysOn member.now.setting (taking member.now.setting (talks sessions.now) command.now) table.old pending.old shown.old.texts table.new pending.new shown.new.texts }
     ensures game { table.new.game ≡ table.old.game }
     ensures count { table.new.count ≡ table.old.count }
     ensures room { table.old.room ≤ table.new.room + 1 }
@@ -75,8 +72,7 @@ pub(crate) fn apply_commands(
     requires played { IsTableAt member.now.setting (length sessions.now) table.old }
     requires room { length commands.now ≤ table.old.room }
     requires space { HasSpace shown.old (11 * length commands.now) (45716 * length commands.now) }
-    ensures scene { (scene : Scene) (before : List (Marked Reads)) → IsScene member.now.setting scene table.old pending.old before shown.old.texts
-        → IsScene member.now.setting (taking_all member.now.setting (talks sessions.now) commands.now scene) table.new pending.new before shown.new.texts }
+    ensures scene { PlaysOn member.now.setting (taking_all member.now.setting (talks sessions.now) commands.now) table.old pending.old shown.old.texts table.new pending.new shown.new.texts }
     ensures game { table.new.game ≡ table.old.game }
     ensures count { table.new.count ≡ table.old.count }
     ensures room { table.old.room ≤ table.new.room + length commands.now }

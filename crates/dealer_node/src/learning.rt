@@ -1,19 +1,17 @@
-ghost use Rattle.std.specs.Prelude.{◌≡◌, ◌+◌, ◌-◌, ◌*◌, ◌≤◌, ◌<◌, List, length, drop, reverse, OnOk, OnErr, IsOk, IsErr, Err};
+ghost use Rattle.std.specs.Prelude.{◌≡◌, ◌+◌, ◌-◌, ◌*◌, ◌≤◌, ◌<◌, length, drop, reverse, OnOk, OnErr, IsOk, IsErr, Err};
 ghost use Rattle.paxos_wire.specs.Fits.{IsInRange, IsSlot, IsCommandRun};
 ghost use Rattle.paxos_wire.specs.declared.limits.TheConstants.{MOST_SINGLE_FRAME};
 ghost use Rattle.slot_log.specs.Slots.{front};
 ghost use Rattle.learner.specs.Learning.{answer_to_chosen, believing as with_chosen};
 ghost use Rattle.learner.specs.CommandRuns.{answer_to_run, hearing_run};
-ghost use Rattle.node_rules.specs.Applying.{Scene, taking_all};
-ghost use Rattle.node_rules.specs.Learning.{learning, counting_votes, believing, telling};
-ghost use Rattle.dealer_node.specs.declared.reader.Reader.{Reader as Reads};
-ghost use Rattle.dealer_node.specs.Texts.{Marked};
+ghost use Rattle.node_rules.specs.Applying.{taking_all};
+ghost use Rattle.node_rules.specs.Learning.{counting_votes, believing, telling};
 ghost use Rattle.dealer_node.specs.declared.limits.TheConstants.{FRAMES_OF_AN_ANSWER, FRAME_BYTES_OF_AN_ANSWER};
-ghost use Rattle.dealer_node.specs.Scenes.{IsScene, IsTableAt, StaysInRange};
+ghost use Rattle.dealer_node.specs.Scenes.{IsTableAt, PlaysOn, StaysInRange};
 ghost use Rattle.dealer_node.specs.Members.{place_at};
 ghost use Rattle.dealer_node.specs.Outs.{told_by};
 ghost use Rattle.dealer_node.specs.Rooms.{HasSpace, Grows};
-ghost use Rattle.dealer_node.specs.Running.{TakesBeside, TakesRule, ClashesBy, IsAt, AreInRange, GoesOn, CanLearn, Learns};
+ghost use Rattle.dealer_node.specs.Running.{TakesBeside, TakesRule, ClashesBy, passed_from, learning_chosen, IsAt, AreInRange, GoesOn, CanLearn, Learns};
 
 use crate::applying::apply_commands;
 use crate::chosen_frames::{send_chosen, told_slots};
@@ -96,13 +94,13 @@ impl Running {
         requires from { from ≤ front self.old.learner.learned.log }
         requires played { IsTableAt member.now.setting (length self.old.seats.talks) self.old.table }
         requires room { front self.old.learner.learned.log ≤ from + self.old.table.room }
-        requires space { HasSpace shown.old (11 * (front self.old.learner.learned.log - from)) (45716 * (front self.old.learner.learned.log - from)) }
-        ensures scene { (scene : Scene) (before : List (Marked Reads)) → IsScene member.now.setting scene self.old.table self.old.pending before shown.old.texts
-            → IsScene member.now.setting (taking_all member.now.setting self.old.seats.talks (drop from (reverse self.old.learner.learned.log.below)) scene) self.new.table self.new.pending before shown.new.texts }
+        requires space { HasSpace shown.old (11 * passed_from self.old from) (45716 * passed_from self.old from) }
+        ensures scene { PlaysOn member.now.setting (taking_all member.now.setting self.old.seats.talks (drop from (reverse self.old.learner.learned.log.below)))
+            self.old.table self.old.pending shown.old.texts self.new.table self.new.pending shown.new.texts }
         ensures game { self.new.table.game ≡ self.old.table.game }
         ensures count { self.new.table.count ≡ self.old.table.count }
         ensures room { self.old.table.room + from ≤ self.new.table.room + front self.old.learner.learned.log }
-        ensures shown { Grows shown.old shown.new (11 * (front self.old.learner.learned.log - from)) (45716 * (front self.old.learner.learned.log - from)) }
+        ensures shown { Grows shown.old shown.new (11 * passed_from self.old from) (45716 * passed_from self.old from) }
         ensures act { StaysInRange self.old.pending self.new.pending }
         ensures rest { self.new ≡ record self.old { table = self.new.table; pending = self.new.pending } }
     {
@@ -157,8 +155,8 @@ impl Running {
         requires at { IsAt member.now self.old }
         requires command { IsInRange command }
         requires room { CanLearn self.old made.old 0 1 }
-        ensures ok { OnOk result (TakesRule member.now (λ s. learning (place_at member.now) (answer_to_chosen s.learned.log slot command) (with_chosen s.learned slot command) s) self.old self.new (told_by made.old) (told_by made.new)) }
-        ensures err { OnErr result (ClashesBy member.now (λ s. learning (place_at member.now) (answer_to_chosen s.learned.log slot command) (with_chosen s.learned slot command) s) self.old) }
+        ensures ok { OnOk result (TakesRule member.now (learning_chosen (place_at member.now) slot command) self.old self.new (told_by made.old) (told_by made.new)) }
+        ensures err { OnErr result (ClashesBy member.now (learning_chosen (place_at member.now) slot command) self.old) }
         ensures at { IsAt member.now self.new }
         ensures proposer { self.new.proposer ≡ self.old.proposer }
         ensures learns { Learns 1 self.old self.new made.old made.new }

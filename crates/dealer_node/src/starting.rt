@@ -4,7 +4,7 @@ ghost use Rattle.node_rules.specs.Standings.{started};
 ghost use Rattle.node_rules.specs.Rules.{asking_all, starting};
 ghost use Rattle.promise_store.specs.Disks.{Rose};
 ghost use Rattle.promise_store.specs.Holding.{StandsFor};
-ghost use Rattle.promise_store.specs.Keeping.{disk_of, Keeps, Leaves, Reopens};
+ghost use Rattle.promise_store.specs.Keeping.{disk_of, Keeps, ForEither, Reopens};
 ghost use Rattle.acceptor.specs.Stored.{store_of};
 ghost use Rattle.promise_store.specs.declared.fault.StoreFault.{StoreFault as Fault};
 ghost use Rattle.promise_store.specs.declared.fault.StoreFault.TheVariants.{Disk as DiskFailed};
@@ -99,11 +99,9 @@ fn open_store<D: Disk>(
     member: &Member,
     disk: D,
 ) -> Result<Acceptor<D>, (D, NodeFault)>
-    ensures opened { (old new : Kept) → IsTrue D.is_honest → Leaves D.Disk (head_of member.now) old new disk
-        → IfOk result (λ acceptor. Keeps D.Disk (head_of member.now) old (store_of acceptor) ⊎ Keeps D.Disk (head_of member.now) new (store_of acceptor)) }
+    ensures opened { ForEither D.Disk (head_of member.now) disk (λ old new. IfOk result (λ acceptor. Keeps D.Disk (head_of member.now) old (store_of acceptor) ⊎ Keeps D.Disk (head_of member.now) new (store_of acceptor))) }
     ensures stands { IsTrue D.is_honest → IfOk result (λ acceptor. (held : Kept) × StandsFor (head_of member.now) (D.seen disk) held × Keeps D.Disk (head_of member.now) held (store_of acceptor)) }
-    ensures refused { (old new : Kept) → IsTrue D.is_honest → Leaves D.Disk (head_of member.now) old new disk
-        → IfErr result (λ x. (x.1 ≡ NodeFault.OutOfMemory) ⊎ (x.1 ≡ NodeFault.Store DiskFailed)) }
+    ensures refused { ForEither D.Disk (head_of member.now) disk (λ old new. IfErr result (λ x. (x.1 ≡ NodeFault.OutOfMemory) ⊎ (x.1 ≡ NodeFault.Store DiskFailed))) }
     ensures reopens { IfOk result (λ acceptor. Reopens D.Disk (head_of member.now) disk (disk_of (store_of acceptor))) }
     ensures reopens_err { IfErr result (λ x. Reopens D.Disk (head_of member.now) disk x.0) }
     ensures marks { IfOk result (λ acceptor. MarksDisk D.Disk member.now disk (disk_of (store_of acceptor))) }
@@ -127,10 +125,8 @@ pub(crate) fn open<D: Disk + Drop>(
     requires runs { (found : Kept) → IsRunning member.now running (started (place_at member.now) found) }
     requires at { IsAt member.now running }
     requires room { HasRoom made.old START }
-    ensures starts { (store begun : Kept) → IsTrue D.is_honest → Leaves D.Disk (head_of member.now) store begun disk
-        → IfOk result (λ up. Starts D.Disk member.now store begun disk up (told_by made.old) (told_by made.new)) }
-    ensures stays { (store begun : Kept) → IsTrue D.is_honest → Leaves D.Disk (head_of member.now) store begun disk
-        → IfErr result (λ x. StaysDown D.Disk member.now store begun disk x.0 x.1) }
+    ensures starts { ForEither D.Disk (head_of member.now) disk (λ store begun. IfOk result (λ up. Starts D.Disk member.now store begun disk up (told_by made.old) (told_by made.new))) }
+    ensures stays { ForEither D.Disk (head_of member.now) disk (λ store begun. IfErr result (λ x. StaysDown D.Disk member.now store begun disk x.0 x.1)) }
     ensures stands { IsTrue D.is_honest → IfOk result (λ up. Finds D.Disk member.now disk up) }
     ensures reopens { IfOk result (λ up. Reopens D.Disk (head_of member.now) disk (disk_under up)) }
     ensures reopens_err { IfErr result (λ x. Reopens D.Disk (head_of member.now) disk x.0) }
