@@ -12,6 +12,7 @@ use Rattle.slot_log.specs.Hand.{Match}
 use Rattle.seat_session.specs.declared.said.Said.{Said}
 use Rattle.seat_session.specs.declared.said.Said.TheVariants.{Ready}
 use Rattle.seat_session.specs.declared.session_fault.SessionFault.{SessionFault}
+use Rattle.learner.specs.Learning.{Learning}
 use Rattle.proposer.specs.CommandRuns.{IsBounded}
 use Rattle.dealer_kind.specs.Kind.{Setting}
 use Rattle.dealer_node.specs.declared.limits.TheConstants.{ANSWERS_OF_A_CALL, FRAMES_OF_A_CLOSE}
@@ -26,7 +27,7 @@ use Rattle.dealer_node.specs.Rooms.{HasSpace, Grows, Tells, Makes, piece_need}
 use Rattle.dealer_node.specs.Scenes.{IsTableAt}
 use Rattle.dealer_node.specs.Hearing.{IsSeatOf, HasAnswerRoom, MakesAnswer}
 use Rattle.dealer_node.specs.declared.running.Running.{Running}
-use Rattle.dealer_node.specs.Running.{ahead_of, CanLearn, IsBoundedBehind}
+use Rattle.dealer_node.specs.Running.{ahead_of, AreInRange, GoesOn, HearsUpTo, CanLearn, IsBoundedBehind}
 use Rattle.dealer_node.specs.Working.{head_of, store_room, HasCloseRoom}
 use Rattle.dealer_node.specs.Calling.{commands_in, frame_need, HasCallRoom, ChangesRoomAlone, CanClose, CanTake}
 use Rattle.dealer_node.specs.Starting.{GoesOnNew, MarksJournal}
@@ -86,6 +87,19 @@ answer_makes said old new (makes, still) = record { makes = makes; still = still
 
 in_answer_makes : (said : Answer) (old new : Made) → MakesAnswer said old new → Makes old new (piece_need 1) × ((said ≡ Ok Ready → ⊥) → new.shown ≡ old.shown)
 in_answer_makes said old new answers = (answers.makes, answers.still)
+
+-- ---- what a learner heard
+
+abbrev Heard_up_to : ℕ → ℕ → Learning → Learning → Type 0
+Heard_up_to answers commands old new =
+    (new.learned.nodes ≡ old.learned.nodes)
+    × ((old.answers ≤ new.answers + answers) × ((old.commands ≤ new.commands + commands) × (GoesOn old.learned.log new.learned.log commands × AreInRange new.learned.log)))
+
+hears_of : (answers commands : ℕ) (old new : Learning) → Heard_up_to answers commands old new → HearsUpTo answers commands old new
+hears_of answers commands old new (nodes, (counted, (known, (goes_on, in_range)))) = record { nodes = nodes; counted = counted; known = known; goes_on = goes_on; in_range = in_range }
+
+in_hears : (answers commands : ℕ) (old new : Learning) → HearsUpTo answers commands old new → Heard_up_to answers commands old new
+in_hears answers commands old new hears = (hears.nodes, (hears.counted, (hears.known, (hears.goes_on, hears.in_range))))
 
 -- ---- the close of a call
 

@@ -14,7 +14,7 @@ use Rattle.proposer.specs.Campaigns.{Proposing, leads, promise_by, counting}
 use Rattle.proposer.specs.CommandRuns.{most_commands, IsBounded}
 use Rattle.node_rules.specs.Standings.{Place, Standing, applied}
 use Rattle.node_rules.specs.Turns.{Turn, Refusal, Conflict, still}
-use Rattle.learner.specs.Learning.{answer_to_chosen, believing}
+use Rattle.learner.specs.Learning.{Learning, answer_to_chosen, believing}
 use Rattle.node_rules.specs.Learning.{learning}
 use Rattle.node_rules.specs.Proposing.{higher, proposing, closing}
 use Rattle.node_rules.specs.Seats.{session_at, HearsPiece}
@@ -139,6 +139,14 @@ pub record GoesOn (old new : Log) (commands : ℕ) : Type 0 where
   pub below : new.below ≡ later ++ old.below
   pub fronts : front old ≤ front new
   pub count : front new + length new.beyond ≤ front old + length old.beyond + commands
+
+-- no more answers were counted than these, with no more commands in all; the log went on, and all that it knows has its numbers within their ranges
+pub record HearsUpTo (answers commands : ℕ) (old new : Learning) : Type 0 where
+  pub nodes : new.learned.nodes ≡ old.learned.nodes
+  pub counted : old.answers ≤ new.answers + answers
+  pub known : old.commands ≤ new.commands + commands
+  pub goes_on : GoesOn old.learned.log new.learned.log commands
+  pub in_range : AreInRange new.learned.log
 
 -- it runs at this member, and all that it may send has its numbers within their ranges
 pub record IsAt (member : Membership) (running : Running) : Type 0 where

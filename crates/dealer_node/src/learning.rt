@@ -11,7 +11,7 @@ ghost use Rattle.dealer_node.specs.Scenes.{IsTableAt, PlaysOn, StaysInRange};
 ghost use Rattle.dealer_node.specs.Members.{place_at};
 ghost use Rattle.dealer_node.specs.Outs.{told_by};
 ghost use Rattle.dealer_node.specs.Rooms.{HasSpace, Grows};
-ghost use Rattle.dealer_node.specs.Running.{TakesBeside, TakesRule, ClashesBy, passed_from, learning_chosen, IsAt, AreInRange, GoesOn, CanLearn, Learns};
+ghost use Rattle.dealer_node.specs.Running.{TakesBeside, TakesRule, ClashesBy, passed_from, learning_chosen, IsAt, AreInRange, HearsUpTo, CanLearn, Learns};
 
 use crate::applying::apply_commands;
 use crate::chosen_frames::{send_chosen, told_slots};
@@ -41,11 +41,7 @@ fn hear_votes(
     ensures ok { OnOk result (IsOk (answer_to_run learner.old.learned from ballot slot commands.now)) }
     ensures err { OnErr result (IsErr (answer_to_run learner.old.learned from ballot slot commands.now)) }
     ensures learned { learner.new.learned ≡ hearing_run learner.old.learned from ballot slot commands.now }
-    ensures nodes { learner.new.learned.nodes ≡ learner.old.learned.nodes }
-    ensures answers { learner.old.answers ≤ learner.new.answers + 1 }
-    ensures room { learner.old.commands ≤ learner.new.commands + length commands.now }
-    ensures goes_on { GoesOn learner.old.learned.log learner.new.learned.log (length commands.now) }
-    ensures commands { AreInRange learner.new.learned.log }
+    ensures hears { HearsUpTo 1 (length commands.now) learner.old learner.new }
 {
     learner.log().limits();
     one_more_is_known();
@@ -64,11 +60,7 @@ fn hear_chosen(learner: &mut Learner, slot: u32, command: Command) -> Result<(),
     ensures ok { OnOk result (IsOk (answer_to_chosen learner.old.learned.log slot command)) }
     ensures err { OnErr result (IsErr (answer_to_chosen learner.old.learned.log slot command)) }
     ensures learned { learner.new.learned ≡ with_chosen learner.old.learned slot command }
-    ensures nodes { learner.new.learned.nodes ≡ learner.old.learned.nodes }
-    ensures answers { learner.old.answers ≤ learner.new.answers }
-    ensures room { learner.old.commands ≤ learner.new.commands + 1 }
-    ensures goes_on { GoesOn learner.old.learned.log learner.new.learned.log 1 }
-    ensures commands { AreInRange learner.new.learned.log }
+    ensures hears { HearsUpTo 0 1 learner.old learner.new }
 {
     learner.log().limits();
     one_more_is_known();

@@ -14,7 +14,7 @@ returns-clause-ok c = λ s is.
       rule = learned_ok (place_at c.args.member.now) (answer_to_run s.learned c.args.from c.args.ballot c.args.slot c.args.commands.now) (hears s.learned) s
           (subst (λ (l : Learned). IsOk (answer_to_run l c.args.from c.args.ballot c.args.slot c.args.commands.now)) is.learned c.in_ok-hear_votes.ensures.ok);
       taken = applied_taken c.args.member.now c.args.self.now c.apply_from.new.self c.hear_votes.new.learner c.front-front.result s (hears s.learned) (told_by c.args.made.now) c.apply_from.new.shown.texts (length c.args.commands.now) is
-          c.front-front.ensures.value (c.hear_votes.ensures.learned ∙ ap hears is.learned) c.hear_votes.ensures.goes_on c.apply_from.ensures.scene c.apply_from.ensures.rest;
+          c.front-front.ensures.value (c.hear_votes.ensures.learned ∙ ap hears is.learned) c.hear_votes.ensures.hears.goes_on c.apply_from.ensures.scene c.apply_from.ensures.rest;
     }
 
 pub apply_from-requires-clause-played : goal.apply_from-requires-clause-played
