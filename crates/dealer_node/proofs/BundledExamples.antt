@@ -28,7 +28,8 @@ use Rattle.dealer_node.specs.Scenes.{IsTableAt}
 use Rattle.dealer_node.specs.Hearing.{IsSeatOf, HasAnswerRoom, MakesAnswer}
 use Rattle.dealer_node.specs.declared.running.Running.{Running}
 use Rattle.dealer_node.specs.Running.{ahead_of, AreInRange, GoesOn, HearsUpTo, CanLearn, IsBoundedBehind}
-use Rattle.dealer_node.specs.Working.{head_of, store_room, HasCloseRoom}
+use Rattle.dealer_node.specs.Working as part
+use Rattle.dealer_node.specs.Working.{head_of, store_room, IsOfPart, EndsPart, HasCloseRoom}
 use Rattle.dealer_node.specs.Calling.{commands_in, frame_need, HasCallRoom, ChangesRoomAlone, CanClose, CanTake}
 use Rattle.dealer_node.specs.Starting.{GoesOnNew, MarksJournal}
 use Rattle.dealer_node.specs.Taking.{IsOfStart}
@@ -143,9 +144,15 @@ alone_of old new (seats, (ahead, (learned, (seen, proposer)))) = record { seats 
 in_alone : (old new : Running) → ChangesRoomAlone old new → Room_alone old new
 in_alone old new alone = (alone.seats, (alone.ahead, (alone.learned, (alone.seen, alone.proposer))))
 
--- ---- a disk that was opened
+-- ---- the end of a part, and a disk that was opened
 
 module _ {D : Type 0} (g : Ghosts D) where
+  ends_of : (before after : Up D) (answer : Result (Unit {0}) NodeFault) → part.GoesOn g before after answer × IsOfPart answer → EndsPart g before after answer
+  ends_of before after answer (goes_on, only) = record { goes_on = goes_on; only = only }
+
+  in_ends : (before after : Up D) (answer : Result (Unit {0}) NodeFault) → EndsPart g before after answer → part.GoesOn g before after answer × IsOfPart answer
+  in_ends before after answer ends = (ends.goes_on, ends.only)
+
   abbrev Opened : Membership → D → D → Type 0
   Opened member before after =
       (IsTrue g.is_honest → MarksJournal (head_of member) (g.seen before) (g.seen after))

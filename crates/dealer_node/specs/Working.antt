@@ -131,6 +131,11 @@ module _ {D : Type 0} (g : Ghosts D) where
     pub counts : g.count (disk_under before) ≤ g.count (disk_under after)
     pub rose : answer ≡ Err (fault.Store Disk) → Rose (g.count (disk_under before)) (g.count (disk_under after))
 
+  -- how a part of a call ends, whatever the disk is
+  pub record EndsPart (before after : Up D) (answer : Result (Unit {0}) NodeFault) : Type 0 where
+    pub goes_on : GoesOn before after answer
+    pub only : IsOfPart answer
+
 -- ---- room
 
 -- there is room for so many answers more with so many commands in all, and for so many frames of one command each, as which a frame of several

@@ -13,7 +13,7 @@ ghost use Rattle.dealer_node.specs.Members.{Membership, place_at};
 ghost use Rattle.dealer_node.specs.Outs.{told_by};
 ghost use Rattle.dealer_node.specs.declared.limits.TheConstants.{FRAMES_TO_ALL, FRAMES_OF_A_CLOSE, FRAMES_OF_AN_ANSWER, FRAME_BYTES_OF_AN_ANSWER};
 ghost use Rattle.dealer_node.specs.Running.{IsAt, CanLearn, proposed_by};
-ghost use Rattle.dealer_node.specs.Working.{Spends, IsOfPart};
+ghost use Rattle.dealer_node.specs.Working.{Spends};
 
 use crate::answering::{accepted_commands, send_prepare_answer, send_refusal};
 use crate::fault::NodeFault;
@@ -29,7 +29,7 @@ use protocol_model::laws::command_runs_are_moves;
 use slot_log::Command;
 
 impl<D: Disk + Drop> Up<D> {
-    ghost use Rattle.dealer_node.specs.Working.{IsUp, Works, Follows, GoesOn, store_room, HasCloseRoom};
+    ghost use Rattle.dealer_node.specs.Working.{IsUp, Works, Follows, store_room, HasCloseRoom, EndsPart};
 
     /// Answers a Prepare: a ballot above the one that was promised is promised, and the node leads no longer; any other
     /// is refused.
@@ -44,8 +44,7 @@ impl<D: Disk + Drop> Up<D> {
         requires slot { IsSlot slot }
         requires space { HasSpace made.old.frames FRAMES_OF_AN_ANSWER FRAME_BYTES_OF_AN_ANSWER }
         ensures works { (member : Membership) → Follows D.Disk member (λ s. Ok (preparing from ballot slot s)) self.old self.new (told_by made.old) (told_by made.new) result }
-        ensures goes_on { GoesOn D.Disk self.old self.new result }
-        ensures only { IsOfPart result }
+        ensures ends { EndsPart D.Disk self.old self.new result }
         ensures at { (member : Membership) → IsAt member self.old.running → IsAt member self.new.running }
         ensures bounded { (most : ℕ) → IsBounded self.old.running.proposer most → IsBounded self.new.running.proposer most }
         ensures room { store_room self.old ≤ store_room self.new + 1 }
@@ -83,8 +82,7 @@ impl<D: Disk + Drop> Up<D> {
         ensures works { (s : Standing) → IsTrue D.is_honest → IsUp D.Disk member.now self.old s
             → is_below ballot s.store.promise ≡ false → IfSome s.campaign (λ campaign. campaign.ballot ≡ ballot)
             → Works D.Disk member.now s (voting (place_at member.now) ballot slot commands.now s) self.old self.new (told_by made.old) (told_by made.new) result }
-        ensures goes_on { GoesOn D.Disk self.old self.new result }
-        ensures only { IsOfPart result }
+        ensures ends { EndsPart D.Disk self.old self.new result }
         ensures at { IsAt member.now self.new.running }
         ensures proposer { self.new.running.proposer ≡ self.old.running.proposer }
         ensures room { store_room self.old ≤ store_room self.new + length commands.now }
@@ -128,8 +126,7 @@ impl<D: Disk + Drop> Up<D> {
         requires learn { CanLearn self.old.running made.old 1 (length commands.now) }
         requires space { HasSpace made.old.frames FRAMES_OF_AN_ANSWER (MOST_SINGLE_FRAME * (FRAMES_OF_AN_ANSWER + FRAMES_TO_ALL * length commands.now)) }
         ensures works { Follows D.Disk member.now (accepting (place_at member.now) from ballot slot commands.now) self.old self.new (told_by made.old) (told_by made.new) result }
-        ensures goes_on { GoesOn D.Disk self.old self.new result }
-        ensures only { IsOfPart result }
+        ensures ends { EndsPart D.Disk self.old self.new result }
         ensures at { IsAt member.now self.new.running }
         ensures bounded { (most : ℕ) → IsBounded self.old.running.proposer most → IsBounded self.new.running.proposer most }
         ensures room { store_room self.old ≤ store_room self.new + length commands.now }
@@ -160,8 +157,7 @@ impl<D: Disk + Drop> Up<D> {
         requires space { HasSpace made.old.frames FRAMES_OF_A_CLOSE (MOST_SINGLE_FRAME * (FRAMES_OF_A_CLOSE * length proposal.now.commands)) }
         ensures works { (s : Standing) → IsTrue D.is_honest → IsUp D.Disk member.now self.old s → proposal.now.ballot ≡ s.store.promise
             → Works D.Disk member.now s (proposed_by (place_at member.now) (Some proposal.now) s) self.old self.new (told_by made.old) (told_by made.new) result }
-        ensures goes_on { GoesOn D.Disk self.old self.new result }
-        ensures only { IsOfPart result }
+        ensures ends { EndsPart D.Disk self.old self.new result }
         ensures at { IsAt member.now self.new.running }
         ensures left { Spends self.old.running self.new.running made.old made.new 1 (length proposal.now.commands) (FRAMES_OF_A_CLOSE * length proposal.now.commands) }
     {
@@ -186,8 +182,7 @@ impl<D: Disk + Drop> Up<D> {
         requires at { IsAt member.now self.old.running }
         requires room { (most : ℕ) × HasCloseRoom self.old made.old most }
         ensures works { Follows D.Disk member.now (closing (place_at member.now)) self.old self.new (told_by made.old) (told_by made.new) result }
-        ensures goes_on { GoesOn D.Disk self.old self.new result }
-        ensures only { IsOfPart result }
+        ensures ends { EndsPart D.Disk self.old self.new result }
         ensures at { IsAt member.now self.new.running }
         ensures left { (most : ℕ) → IsBounded self.old.running.proposer most → Spends self.old.running self.new.running made.old made.new 1 most (FRAMES_OF_A_CLOSE * most) }
     {

@@ -12,7 +12,6 @@ ghost use Rattle.dealer_node.specs.Outs.{told_by, nothing_told};
 ghost use Rattle.dealer_node.specs.Members.{place_at};
 ghost use Rattle.dealer_node.specs.Hearing.{IsForwardable};
 ghost use Rattle.dealer_node.specs.Running.{IsAt};
-ghost use Rattle.dealer_node.specs.Working.{IsOfPart};
 ghost use Rattle.dealer_node.specs.Handling.{IsWithin, AnswersUp};
 ghost use Rattle.dealer_node.specs.Calling.{away_need};
 ghost use Rattle.dealer_node.specs.Most.{most_after, most_applied, ShowsWithin};
@@ -39,7 +38,7 @@ fn away_need(running: &Running, most: usize) -> Need
 }
 
 impl<D: Disk + Drop> Up<D> {
-    ghost use Rattle.dealer_node.specs.Working.{IsUp, Works, GoesOn};
+    ghost use Rattle.dealer_node.specs.Working.{IsUp, Works, GoesOn, EndsPart};
     ghost use Rattle.dealer_node.specs.Calling.{CanClose, HandlesCall};
 
     /// Takes an order that means this, into room that was made, and closes the call.
@@ -55,8 +54,7 @@ impl<D: Disk + Drop> Up<D> {
         requires room { (most : ℕ) × CanClose self.old made.old (away_need self.old.running) most }
         ensures works { (s : Standing) → IsTrue D.is_honest → IsUp D.Disk member.now self.old s → away_at (place_at member.now) s ≡ Some act.now
             → Works D.Disk member.now s (and_then (ordering (place_at member.now) s) (closing (place_at member.now))) self.old self.new (told_by made.old) (told_by made.new) result }
-        ensures goes_on { GoesOn D.Disk self.old self.new result }
-        ensures only { IsOfPart result }
+        ensures ends { EndsPart D.Disk self.old self.new result }
         ensures at { IsAt member.now self.new.running }
         ensures within { (most : ℕ) → CanClose self.old made.old (away_need self.old.running) most → told_by made.old ≡ nothing_told → IsWithin made.new (away_need self.old.running most) }
     {

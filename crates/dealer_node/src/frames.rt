@@ -12,7 +12,7 @@ ghost use Rattle.dealer_node.specs.Rooms.{HasSpace};
 ghost use Rattle.dealer_node.specs.Running.{IsBoundedBehind, IsAt, CanLearn};
 ghost use Rattle.dealer_node.specs.Handling.{IsWithin};
 ghost use Rattle.dealer_node.specs.Calling.{commands_in, frame_need};
-ghost use Rattle.dealer_node.specs.Working.{Spends, IsOfPart};
+ghost use Rattle.dealer_node.specs.Working.{Spends};
 
 use crate::fault::NodeFault;
 use crate::made::Made;
@@ -24,7 +24,7 @@ use paxos_wire::{CommandList, Message};
 use promise_store::Disk;
 
 impl<D: Disk + Drop> Up<D> {
-    ghost use Rattle.dealer_node.specs.Working.{Follows, GoesOn, store_room};
+    ghost use Rattle.dealer_node.specs.Working.{Follows, store_room, EndsPart};
     ghost use Rattle.dealer_node.specs.Calling.{CanTake};
 
     /// What each message asks of a node.
@@ -43,8 +43,7 @@ impl<D: Disk + Drop> Up<D> {
         requires learn { CanLearn self.old.running made.old 1 (commands_in message.now) }
         requires space { HasSpace made.old.frames FRAMES_OF_AN_ANSWER (MOST_SINGLE_FRAME * (FRAMES_OF_AN_ANSWER + FRAMES_TO_ALL * commands_in message.now)) }
         ensures works { Follows D.Disk member.now (taking (place_at member.now) from message.now) self.old self.new (told_by made.old) (told_by made.new) result }
-        ensures goes_on { GoesOn D.Disk self.old self.new result }
-        ensures only { IsOfPart result }
+        ensures ends { EndsPart D.Disk self.old self.new result }
         ensures at { IsAt member.now self.new.running }
         ensures bounded { (most : ℕ) → IsBoundedBehind self.old.running.proposer message.now most → IsBounded self.new.running.proposer most }
         ensures room { store_room self.old ≤ store_room self.new + commands_in message.now }
@@ -88,8 +87,7 @@ impl<D: Disk + Drop> Up<D> {
         requires message { IsMessage message.now }
         requires room { (most : ℕ) × CanTake self.old made.old message.now most }
         ensures works { Follows D.Disk member.now (on_message (place_at member.now) from message.now) self.old self.new (told_by made.old) (told_by made.new) result }
-        ensures goes_on { GoesOn D.Disk self.old self.new result }
-        ensures only { IsOfPart result }
+        ensures ends { EndsPart D.Disk self.old self.new result }
         ensures at { IsAt member.now self.new.running }
         ensures within { (most : ℕ) → CanTake self.old made.old message.now most → told_by made.old ≡ nothing_told
             → OnOk result (IsWithin made.new (frame_need self.old.running (commands_in message.now) most)) }

@@ -10,7 +10,6 @@ ghost use Rattle.dealer_node.specs.Rooms.{piece_need, Makes};
 ghost use Rattle.dealer_node.specs.Seated.{feeds_with, HasRoomAt};
 ghost use Rattle.dealer_node.specs.Running.{IsAt, ahead_of};
 ghost use Rattle.paxos_wire.specs.declared.limits.TheConstants.{WINDOW};
-ghost use Rattle.dealer_node.specs.Working.{IsOfPart};
 ghost use Rattle.dealer_node.specs.Handling.{IsWithin, AnswersUp};
 ghost use Rattle.dealer_node.specs.Calling.{line_need};
 ghost use Rattle.dealer_node.specs.Most.{most_after, most_applied, ShowsWithin};
@@ -46,7 +45,7 @@ fn line_need(running: &Running, limit: usize, most: usize) -> Option<Need>
 }
 
 impl<D: Disk + Drop> Up<D> {
-    ghost use Rattle.dealer_node.specs.Working.{IsUp, GoesOn};
+    ghost use Rattle.dealer_node.specs.Working.{IsUp, GoesOn, EndsPart};
     ghost use Rattle.dealer_node.specs.Calling.{Unmoved, HasCallRoom, CanClose, HandlesCall};
     ghost use Rattle.dealer_node.specs.Lines.{HearsLine, WorksLine};
 
@@ -92,8 +91,7 @@ impl<D: Disk + Drop> Up<D> {
         requires room { (most : ℕ) × CanClose self.old made.old (line_need self.old.running limit) most }
         ensures works { (s : Standing) → IsTrue D.is_honest → IsUp D.Disk member.now self.old s
             → WorksLine D.Disk member.now s seat piece.now self.old self.new (told_by made.old) (told_by made.new) result }
-        ensures goes_on { GoesOn D.Disk self.old self.new result }
-        ensures only { IsOfPart result }
+        ensures ends { EndsPart D.Disk self.old self.new result }
         ensures at { IsAt member.now self.new.running }
         ensures within { (most : ℕ) → CanClose self.old made.old (line_need self.old.running limit) most → told_by made.old ≡ nothing_told
             → IsWithin made.new (line_need self.old.running limit most) }

@@ -10,7 +10,7 @@ ghost use Rattle.proposer.specs.CommandRuns.{IsBounded};
 ghost use Rattle.dealer_node.specs.Running.{IsRunning, IsBoundedBehind, IsAt, CanLearn, ClashesBy, Learns};
 ghost use Rattle.dealer_node.specs.Memory.{IsOfMemory, TakesInMemory};
 ghost use Rattle.dealer_node.specs.Calling.{commands_in};
-ghost use Rattle.dealer_node.specs.Working.{Spends, IsOfPart};
+ghost use Rattle.dealer_node.specs.Working.{Spends};
 
 use crate::fault::NodeFault;
 use crate::made::Made;
@@ -79,7 +79,7 @@ impl Running {
 }
 
 impl<D: Disk + Drop> Up<D> {
-    ghost use Rattle.dealer_node.specs.Working.{Follows, GoesOn};
+    ghost use Rattle.dealer_node.specs.Working.{Follows, EndsPart};
 
     /// Takes a message of another node that asks nothing of the store.
     pub(crate) fn take_in_memory(
@@ -96,8 +96,7 @@ impl<D: Disk + Drop> Up<D> {
         requires learn { CanLearn self.old.running made.old 1 (commands_in message.now) }
         requires space { HasSpace made.old.frames FRAMES_OF_AN_ANSWER FRAME_BYTES_OF_AN_ANSWER }
         ensures works { Follows D.Disk member.now (taking (place_at member.now) from message.now) self.old self.new (told_by made.old) (told_by made.new) result }
-        ensures goes_on { GoesOn D.Disk self.old self.new result }
-        ensures only { IsOfPart result }
+        ensures ends { EndsPart D.Disk self.old self.new result }
         ensures same { self.new.acceptor ≡ self.old.acceptor }
         ensures at { IsAt member.now self.new.running }
         ensures bounded { (most : ℕ) → IsBoundedBehind self.old.running.proposer message.now most → IsBounded self.new.running.proposer most }

@@ -9,7 +9,6 @@ ghost use Rattle.node_rules.specs.Proposing.{is_over, ticking, closing};
 ghost use Rattle.dealer_node.specs.Outs.{told_by, nothing_told};
 ghost use Rattle.dealer_node.specs.Members.{place_at};
 ghost use Rattle.dealer_node.specs.Running.{IsAt, is_spent_at};
-ghost use Rattle.dealer_node.specs.Working.{IsOfPart};
 ghost use Rattle.dealer_node.specs.Handling.{IsWithin, AnswersUp};
 ghost use Rattle.dealer_node.specs.Calling.{close_need};
 ghost use Rattle.dealer_node.specs.Most.{most_after, most_applied, ShowsWithin};
@@ -34,7 +33,7 @@ fn close_need(running: &Running, most: usize) -> Need
 }
 
 impl<D: Disk + Drop> Up<D> {
-    ghost use Rattle.dealer_node.specs.Working.{IsUp, Works, GoesOn};
+    ghost use Rattle.dealer_node.specs.Working.{IsUp, Works, GoesOn, EndsPart};
     ghost use Rattle.dealer_node.specs.Calling.{CanClose, HandlesCall};
 
     /// Begins a ballot, into room that was made, unless the match is over.
@@ -51,8 +50,7 @@ impl<D: Disk + Drop> Up<D> {
         requires room { (most : ℕ) × CanClose self.old made.old (close_need self.old.running) most }
         ensures works { (s : Standing) → IsTrue D.is_honest → IsUp D.Disk member.now self.old s → promised ≡ s.store.promise → over ≡ is_over (place_at member.now) s
             → Works D.Disk member.now s (and_then (ticking (place_at member.now) s) (closing (place_at member.now))) self.old self.new (told_by made.old) (told_by made.new) result }
-        ensures goes_on { GoesOn D.Disk self.old self.new result }
-        ensures only { IsOfPart result }
+        ensures ends { EndsPart D.Disk self.old self.new result }
         ensures at { IsAt member.now self.new.running }
         ensures within { (most : ℕ) → CanClose self.old made.old (close_need self.old.running) most → told_by made.old ≡ nothing_told → IsWithin made.new (close_need self.old.running most) }
     {

@@ -17,7 +17,7 @@ ghost use Rattle.dealer_node.specs.Rooms.{HasSpace, Grows};
 ghost use Rattle.dealer_node.specs.Answering.{message_of};
 ghost use Rattle.dealer_node.specs.Running.{IsRunning, IsTaken, IsAt, is_spent_at};
 ghost use Rattle.dealer_node.specs.declared.made.Need.{Need as Needs};
-ghost use Rattle.dealer_node.specs.Working.{HasLeft, IsOfPart};
+ghost use Rattle.dealer_node.specs.Working.{HasLeft};
 
 use crate::fault::NodeFault;
 use crate::made::Made;
@@ -71,7 +71,7 @@ fn begin_promised(
 }
 
 impl<D: Disk + Drop> Up<D> {
-    ghost use Rattle.dealer_node.specs.Working.{IsUp, Works, GoesOn};
+    ghost use Rattle.dealer_node.specs.Working.{IsUp, Works, EndsPart};
 
     /// Begins the node's ballot of the round after all that it has seen: the store promises it, and the others are asked to.
     pub(crate) fn begin(
@@ -85,8 +85,7 @@ impl<D: Disk + Drop> Up<D> {
         requires space { HasSpace made.old.frames FRAMES_TO_ALL (MOST_SINGLE_FRAME * FRAMES_TO_ALL) }
         ensures works { (s : Standing) → IsTrue D.is_honest → IsUp D.Disk member.now self.old s → promised ≡ s.store.promise → is_over (place_at member.now) s ≡ false
             → Works D.Disk member.now s (and_then (ticking (place_at member.now) s) (closing (place_at member.now))) self.old self.new (told_by made.old) (told_by made.new) result }
-        ensures goes_on { GoesOn D.Disk self.old self.new result }
-        ensures only { IsOfPart result }
+        ensures ends { EndsPart D.Disk self.old self.new result }
         ensures at { IsAt member.now self.new.running }
         ensures left { (need : Needs) (answers commands frames : ℕ) → HasLeft self.old.running made.old need answers commands (frames + FRAMES_TO_ALL) → HasLeft self.new.running made.new need answers commands frames }
     {

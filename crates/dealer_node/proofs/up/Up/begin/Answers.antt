@@ -1,4 +1,4 @@
-use Rattle.std.proofs.Common.{◌≡◌, true, Ok, subst, Err, ap, sym, ◌∙◌}
+use Rattle.std.proofs.Common.{rules, ◌≡◌, true, Ok, subst, Err, ap, sym, ◌∙◌}
 use Rattle.slot_log.specs.Slots.{front}
 use Rattle.learner.specs.Learning.{Learned}
 use Rattle.paxos_wire.specs.Order.{is_below}
@@ -45,5 +45,8 @@ returns-in-Err-clause-works g c s honest is same over =
     (begin_failed g.D.Disk member s c.next_ballot-ballot.result c.args.self.now _ c.limits.ensures
     (tick_begins member running s c.args.promised is.running same over c.requires.unspent ∙ ap (λ (b : Ballot). Ok (beginning (place_at member) b s)) (sym e)) (ap (is_below s.store.promise) e ∙ above) (t.leaves (head_of member) s.store is.keeps honest) (t.any_moment (head_of member) s.store is.keeps honest))
 
-pub returns-in-Err-clause-only : goal.returns-in-Err-clause-only
-returns-in-Err-clause-only g c = of_store g.D.Disk c.in-Err.fault c.in-Err.ensures.needs.only (λ e. c.in-Err.ensures.memory (ap Err e))
+pub returns-in-Err-clause-ends : goal.returns-in-Err-clause-ends
+returns-in-Err-clause-ends g c = record {
+  goes_on = search rules;
+  only = of_store g.D.Disk c.in-Err.fault c.in-Err.ensures.needs.only (λ e. c.in-Err.ensures.memory (ap Err e));
+}

@@ -1,4 +1,4 @@
-use Rattle.std.proofs.Common.{Ok, Err, refl, ap, sym}
+use Rattle.std.proofs.Common.{rules, Ok, Err, refl, ap, sym}
 use Rattle.acceptor.specs.Stored.{store_of}
 use Rattle.dealer_node.specs.Outs.{told_by}
 use Rattle.dealer_node.specs.Working.{head_of}
@@ -31,8 +31,11 @@ returns-in-Err-clause-works g c member s honest is =
     fails_by g.D.Disk member s _ c.args.self.now _ (told_by c.args.made.now) (told_by c.args.made.now) c.in-Err.fault (is_disk g.D.Disk c.in-Err.fault (t.only (head_of member) s.store is.keeps honest) (λ e. c.in-Err.ensures.memory (ap Err e)))
     (prepare_failed g.D.Disk member s c.args.from c.args.ballot c.args.slot c.args.self.now _ is (t.leaves (head_of member) s.store is.keeps honest) (t.any_moment (head_of member) s.store is.keeps honest))
 
-pub returns-in-Err-clause-only : goal.returns-in-Err-clause-only
-returns-in-Err-clause-only g c = of_store g.D.Disk c.in-Err.fault c.in-Err.ensures.needs.only (λ e. c.in-Err.ensures.memory (ap Err e))
+pub returns-in-Err-clause-ends : goal.returns-in-Err-clause-ends
+returns-in-Err-clause-ends g c = record {
+  goes_on = search rules;
+  only = of_store g.D.Disk c.in-Err.fault c.in-Err.ensures.needs.only (λ e. c.in-Err.ensures.memory (ap Err e));
+}
 
 pub returns-then-send_prepare_answer-clause-bounded : goal.returns-then-send_prepare_answer-clause-bounded
 returns-then-send_prepare_answer-clause-bounded g c = λ most bounded. c.turn_idle.ensures.bounded most

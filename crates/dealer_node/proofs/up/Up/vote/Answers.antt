@@ -1,4 +1,4 @@
-use Rattle.std.proofs.Common.{◌≡◌, ◌≤◌, ℕ, List, length, Some, Err, ap, subst, ◌∙◌, arith}
+use Rattle.std.proofs.Common.{rules, ◌≡◌, ◌≤◌, ℕ, List, length, Some, Err, ap, subst, ◌∙◌, arith}
 use Rattle.paxos_wire.specs.Fits.{IsCommandRun}
 use Rattle.paxos_wire.specs.declared.ballot.Ballot.{Ballot}
 use Rattle.slot_log.specs.declared.command.Command.{Command}
@@ -81,5 +81,8 @@ returns-in-Err-clause-works g c s honest is above own =
     fails_by g.D.Disk c.args.member.now s _ c.args.self.now _ (told_by c.args.made.now) (told_by c.args.made.now) c.in-Err.fault (is_disk g.D.Disk c.in-Err.fault (t.only (head_of c.args.member.now) s.store is.keeps honest) (λ e. c.in-Err.ensures.memory (ap Err e)))
     (vote_failed g.D.Disk c.args.member.now s c.args.ballot c.args.slot c.args.commands.now c.args.self.now _ above (t.leaves (head_of c.args.member.now) s.store is.keeps honest) (t.any_moment (head_of c.args.member.now) s.store is.keeps honest))
 
-pub returns-in-Err-clause-only : goal.returns-in-Err-clause-only
-returns-in-Err-clause-only g c = of_store g.D.Disk c.in-Err.fault c.in-Err.ensures.needs.only (λ e. c.in-Err.ensures.memory (ap Err e))
+pub returns-in-Err-clause-ends : goal.returns-in-Err-clause-ends
+returns-in-Err-clause-ends g c = record {
+  goes_on = search rules;
+  only = of_store g.D.Disk c.in-Err.fault c.in-Err.ensures.needs.only (λ e. c.in-Err.ensures.memory (ap Err e));
+}
