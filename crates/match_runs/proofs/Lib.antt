@@ -10,3 +10,4 @@ mod Waiting
 mod Playing
 pub mod Scripting
 pub mod KeptLogs
+mod Bundles

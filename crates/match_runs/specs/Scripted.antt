@@ -28,3 +28,13 @@ pub record BeginsPlay (plan : Plan) (start : Option (List ℕ)) (read : List ℕ
   pub missing : List ℕ
   pub front_shown : output ≡ shown ++ missing
   pub written : Appends start now shown
+
+-- taking these bytes brings a script further: what was read and answered before them is so with them
+abbrev pub ReachesOn : List ℕ → Scripted → Scripted → Option (List ℕ) → Option (List ℕ) → Type 0
+ReachesOn bytes old new held held_after = (plan : Plan) (start : Option (List ℕ)) (seen : List ℕ) → Reaches plan start seen old held
+    → Reaches plan start (seen ++ bytes) new held_after
+
+-- taking them failed: of what is to be written with them a beginning is written
+abbrev pub BreaksPlay : List ℕ → Scripted → Option (List ℕ) → Option (List ℕ) → Type 0
+BreaksPlay bytes old held held_after = (plan : Plan) (start : Option (List ℕ)) (seen : List ℕ) → Reaches plan start seen old held
+    → BeginsPlay plan start (seen ++ bytes) held_after

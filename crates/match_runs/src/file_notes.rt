@@ -45,7 +45,8 @@ pub fn tell_made<W: Write>(alloc: Global, path: &str, notes: &mut W)
     tell_note(alloc, notes, &Note::Made(path));
 }
 
-/// Tells that nothing beside the stores says of which match they are.
+/// Tells that nothing beside the stores says of which match they are. As each of these it is the public form of one
+/// note, since `Note` is this crate's own.
 pub fn tell_not_kept<W: Write>(alloc: Global, notes: &mut W)
     ensures { IsNoted (note_line NotKept) (W.contents notes.old) (W.contents notes.new) }
 {

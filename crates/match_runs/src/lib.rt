@@ -1,13 +1,14 @@
 //! Runs of a match with all its nodes, over what a program gives them: `play` over a script, `serve` over links; and how
 //! each ends.
 //!
-//! `play_run` reads a script of nodes and writes what comes of each of its lines: it takes a match file and its game, and
-//! answers a `streamed::Ending`. `serve_run` takes the turns of a `serving::Server` until all is over or one is refused,
-//! and tells a writer of notes what happens: it makes a `Note` of it, and `tell` writes one. Why the system refused a file
-//! or a port is a `Cause`. A program that serves opens its files first, names them by `store_path` and `log_path` (the logs
-//! of earlier starts by `kept_log_path`), tells by `tell_ports` where its seats are awaited, and by `tell_file` and the like
-//! what it made and what was refused; an `Unserved` tells why it went no further. `Conclusion` is how any command ends: its
-//! exit status, and the last line that standard error gets. Nothing here opens a file or a socket.
+//! `play_run` reads a script of nodes and writes what comes of each of its lines: it takes a match file and its game,
+//! and answers a `streamed::Ending`. `serve_run` takes the turns of a `serving::Server` until all is over or one is
+//! refused, and tells a writer of notes what happens: it makes a `Note` of it, and `tell_note` writes one. Why the
+//! system refused a file or a port is a `Cause`. A program that serves opens its files first, names them by
+//! `store_path` and `log_path` (the logs of earlier starts by `kept_log_path`), tells by `tell_ports` where its seats
+//! are awaited, and by `tell_file` and the like what it made and what was refused; an `Unserved` tells why it went no
+//! further. `Conclusion` is how any command ends: its exit status, and the last line that standard error gets. Nothing
+//! here opens a file or a socket.
 //!
 //! The tests `answers_a_script_of_nodes` and `a_served_match_is_told_in_notes` of `command_tests` walk these ways.
 //! Faults: those of `streamed::Ending` and of `serving::ServeFault`.

@@ -39,7 +39,8 @@ pub fn stands_in(log: &[u8], kept: &[u8]) -> bool
     after(kept, log).is_some()
 }
 
-/// What stands behind these bytes; none where others stand in front.
+/// What stands behind these bytes; none where others stand in front: `strip_prefix`, with the contract that both callers
+/// above need.
 fn after<'a>(bytes: &'a [u8], front: &[u8]) -> Option<&'a [u8]>
     ensures found { IfSome result (λ behind. bytes.now ≡ front.now ++ behind.now) }
     ensures only { (behind : List ℕ) → bytes.now ≡ front.now ++ behind → IsSomeAnd result (λ rest. rest.now ≡ behind) }

@@ -1,7 +1,6 @@
-ghost use Rattle.std.specs.Prelude.{◌≡◌, ℕ, List, [], ◌∷◌, ◌++◌, IfOk, OnOk, OnErr, Option as Maybe, ◌⊎◌};
+ghost use Rattle.std.specs.Prelude.{◌≡◌, [], ◌∷◌, ◌++◌, IfOk, OnOk, OnErr, ◌⊎◌};
 ghost use Rattle.std.specs.Io.KnownBytes.{Keeps};
-ghost use Rattle.dealer_kind.specs.Plans.{Plan};
-ghost use Rattle.match_runs.specs.Scripted.{Reaches, BeginsPlay};
+ghost use Rattle.match_runs.specs.Scripted.{Reaches, ReachesOn, BeginsPlay, BreaksPlay};
 
 use dealer_kind::Config;
 use playing::Playing;
@@ -58,10 +57,8 @@ impl Scripted {
 
     /// Takes the next piece of the script, and writes the answer to each line that it ends.
     pub(crate) fn take_piece<W: Write>(&mut self, piece: &[u8], writer: &mut W) -> Result<(), Stop>
-        ensures ok { OnOk result ((plan : Plan) (start : Maybe (List ℕ)) (seen : List ℕ) →
-            Reaches plan start seen self.old (W.contents writer.old) → Reaches plan start (seen ++ piece.now) self.new (W.contents writer.new)) }
-        ensures err { OnErr result ((plan : Plan) (start : Maybe (List ℕ)) (seen : List ℕ) →
-            Reaches plan start seen self.old (W.contents writer.old) → BeginsPlay plan start (seen ++ piece.now) (W.contents writer.new)) }
+        ensures ok { OnOk result (ReachesOn piece.now self.old self.new (W.contents writer.old) (W.contents writer.new)) }
+        ensures err { OnErr result (BreaksPlay piece.now self.old (W.contents writer.old) (W.contents writer.new)) }
     {
         for byte in piece {
             self.take_byte(*byte, writer)?;
@@ -71,10 +68,8 @@ impl Scripted {
 
     /// Takes the next byte.
     fn take_byte<W: Write>(&mut self, byte: u8, writer: &mut W) -> Result<(), Stop>
-        ensures ok { OnOk result ((plan : Plan) (start : Maybe (List ℕ)) (seen : List ℕ) →
-            Reaches plan start seen self.old (W.contents writer.old) → Reaches plan start (seen ++ byte ∷ []) self.new (W.contents writer.new)) }
-        ensures err { OnErr result ((plan : Plan) (start : Maybe (List ℕ)) (seen : List ℕ) →
-            Reaches plan start seen self.old (W.contents writer.old) → BeginsPlay plan start (seen ++ byte ∷ []) (W.contents writer.new)) }
+        ensures ok { OnOk result (ReachesOn (byte ∷ []) self.old self.new (W.contents writer.old) (W.contents writer.new)) }
+        ensures err { OnErr result (BreaksPlay (byte ∷ []) self.old (W.contents writer.old) (W.contents writer.new)) }
     {
         if byte == b'\n' {
             self.end_line(writer)
@@ -86,10 +81,8 @@ impl Scripted {
 
     /// Takes a line feed: writes the answer to the line that it ends.
     fn end_line<W: Write>(&mut self, writer: &mut W) -> Result<(), Stop>
-        ensures ok { OnOk result ((plan : Plan) (start : Maybe (List ℕ)) (seen : List ℕ) →
-            Reaches plan start seen self.old (W.contents writer.old) → Reaches plan start (seen ++ 10 ∷ []) self.new (W.contents writer.new)) }
-        ensures err { OnErr result ((plan : Plan) (start : Maybe (List ℕ)) (seen : List ℕ) →
-            Reaches plan start seen self.old (W.contents writer.old) → BeginsPlay plan start (seen ++ 10 ∷ []) (W.contents writer.new)) }
+        ensures ok { OnOk result (ReachesOn (10 ∷ []) self.old self.new (W.contents writer.old) (W.contents writer.new)) }
+        ensures err { OnErr result (BreaksPlay (10 ∷ []) self.old (W.contents writer.old) (W.contents writer.new)) }
     {
         self.answer.clear();
         self.playing.answer(&self.line, &mut self.answer)?;
