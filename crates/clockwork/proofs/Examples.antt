@@ -1,0 +1,357 @@
+-- What is due, on values. Lengths of time are in microseconds.
+use Rattle.std.proofs.Common.{◌≡◌, ℕ, true, false, refl, inl, [], ◌∷◌, List, Option, Some, None, arith}
+use Rattle.clockwork.specs.declared.known.Beat.{Beat}
+use Rattle.clockwork.specs.declared.known.Link.{Link}
+use Rattle.clockwork.specs.declared.known.Link.TheVariants.{Closed, Open}
+use Rattle.clockwork.specs.declared.known.Peer.{Peer}
+use Rattle.clockwork.specs.declared.known.Known.{Known}
+use Rattle.clockwork.specs.declared.answer.Due.TheVariants.{Tick, Nothing}
+use Rattle.clockwork.specs.declared.standing.Standing.TheVariants.{Campaigns, Fresh, Led, Lost, Follows}
+use Rattle.clockwork.specs.Waits.{left, times, doubled, again}
+use Rattle.clockwork.specs.Presence.{trip, slowest, pace_of, lag_of, told, present, is_quorate, is_above, is_behind, can_help, one_can_help, behind_wait}
+use Rattle.clockwork.specs.Ranks.{is_before, rank_by_number, turn, comes_sooner, rank_behind, is_as_far, rank_as_far}
+use Rattle.clockwork.specs.Helping.{lag_within, lagging, has_passed, lagging_left, least_left, help_left, one_lags}
+use Rattle.clockwork.specs.Standings.{idle_since, lost_since, leader_lost, standing_to}
+use Rattle.clockwork.specs.Work.{has_work, is_reopened, steps_by_number, steps_behind, row_left, work_left}
+use Rattle.clockwork.specs.Dues.{due_in, behind_left, awaited, due_of}
+use Rattle.clockwork.specs.Laws.{LongAgo, HasWaited, IsReason, to_catch_up, for_a_peer, to_work, IsLinkPast, heard_again}
+
+-- ---- waits
+
+some_is_left : left 100 60 50 ≡ 10
+some_is_left = refl
+
+it_has_passed : left 100 50 50 ≡ 0
+it_has_passed = refl
+
+one_that_lies_ahead_begins_now : left 100 120 50 ≡ 50
+one_that_lies_ahead_begins_now = refl
+
+not_doubled_without_a_tick : doubled 1000000 0 8000000 ≡ 1000000
+unfolding times
+not_doubled_without_a_tick = refl
+
+doubled_for_each_tick : doubled 1000000 2 8000000 ≡ 4000000
+unfolding times
+doubled_for_each_tick = refl
+
+to_eight_seconds : doubled 1000000 200 8000000 ≡ 8000000
+unfolding times
+to_eight_seconds = refl
+
+but_never_shorter : doubled 3000000 1 2000000 ≡ 3000000
+unfolding times
+but_never_shorter = refl
+
+a_tick_that_moved_the_front_is_not_waited_for : again 100 (Some (record { last = 99; in_vain = 0 })) 1000000 8000000 ≡ 0
+a_tick_that_moved_the_front_is_not_waited_for = refl
+
+-- ---- who is present
+
+pace_is_a_second : pace_of 1000 ≡ 1000000
+unfolding pace_of
+pace_is_a_second = refl
+
+or_eight_times_the_slowest : pace_of 200000 ≡ 1600000
+unfolding pace_of
+or_eight_times_the_slowest = refl
+
+at_most_eight_seconds : pace_of 2000000 ≡ 8000000
+unfolding pace_of
+at_most_eight_seconds = refl
+
+lag_is_200_milliseconds : lag_of 1000 ≡ 200000
+unfolding lag_of
+lag_is_200_milliseconds = refl
+
+or_twice_the_slowest : lag_of 300000 ≡ 600000
+unfolding lag_of
+or_twice_the_slowest = refl
+
+-- a peer that told this front at a second
+abbrev beat_of : ℕ → Beat
+beat_of front = record { front = front; below = 1000000; leads = false; told = 1000000; over = false }
+
+abbrev heard_at : ℕ → Option Beat → Link
+heard_at heard beat = Open (record { opened = 500000; heard = heard; round_trip = Some 1000; unanswered = false; beat = beat })
+
+abbrev peer_at : ℕ → Link → Peer
+peer_at number link = record { number = number; accepted = None; link = link }
+
+a_trip_of_one_heard_lately : trip 5000000 (heard_at 4500000 None) ≡ 1000
+unfolding trip
+a_trip_of_one_heard_lately = refl
+
+none_of_one_silent_for_eight_seconds : trip 13000000 (heard_at 5000000 None) ≡ 0
+unfolding trip
+none_of_one_silent_for_eight_seconds = refl
+
+the_slowest_of_peers_and_calls : slowest 5000000 700 (peer_at 0 (Closed 0) ∷ peer_at 2 (heard_at 4500000 None) ∷ []) ≡ 1000
+unfolding slowest trip
+the_slowest_of_peers_and_calls = refl
+
+a_call_may_be_the_slowest : slowest 5000000 2000 (peer_at 2 (heard_at 4500000 None) ∷ []) ≡ 2000
+unfolding slowest trip
+a_call_may_be_the_slowest = refl
+
+heard_in_time : told 5000000 1000000 (heard_at 4000001 (Some (beat_of 7))) ≡ Some (beat_of 7)
+unfolding told
+heard_in_time = refl
+
+silent_for_too_long : told 5000000 1000000 (heard_at 4000000 (Some (beat_of 7))) ≡ None
+unfolding told
+silent_for_too_long = refl
+
+one_of_two_is_enough : is_quorate 5000000 1000000 (peer_at 0 (Closed 0) ∷ peer_at 2 (heard_at 5000000 (Some (beat_of 7))) ∷ []) ≡ true
+unfolding is_quorate present told
+one_of_two_is_enough = refl
+
+not_where_it_told_nothing : is_quorate 5000000 1000000 (peer_at 0 (Closed 0) ∷ peer_at 2 (heard_at 5000000 None) ∷ []) ≡ false
+unfolding is_quorate present told
+not_where_it_told_nothing = refl
+
+one_of_four_is_not : is_quorate 5000000 1000000 (peer_at 0 (Closed 0) ∷ peer_at 2 (heard_at 5000000 (Some (beat_of 7))) ∷ peer_at 3 (Closed 0) ∷ peer_at 4 (Closed 0) ∷ []) ≡ false
+unfolding is_quorate present told
+one_of_four_is_not = refl
+
+behind_a_greater_front : is_behind 5000000 1000000 6 (peer_at 2 (heard_at 5000000 (Some (beat_of 7))) ∷ []) ≡ true
+unfolding is_behind is_above told
+behind_a_greater_front = refl
+
+not_behind_its_own : is_behind 5000000 1000000 7 (peer_at 2 (heard_at 5000000 (Some (beat_of 7))) ∷ []) ≡ false
+unfolding is_behind is_above told
+not_behind_its_own = refl
+
+one_that_goes_on_can_help : can_help 6 (Some (beat_of 7)) ≡ true
+unfolding can_help
+one_that_goes_on_can_help = refl
+
+one_whose_match_is_over_cannot : can_help 6 (Some (record (beat_of 7) { over = true })) ≡ false
+unfolding can_help
+one_whose_match_is_over_cannot = refl
+
+two_seconds_where_one_can : behind_wait 5000000 1000000 6 (peer_at 2 (heard_at 5000000 (Some (beat_of 7))) ∷ []) ≡ 2000000
+unfolding one_can_help can_help told
+two_seconds_where_one_can = refl
+
+a_fifth_of_one_where_none_can : behind_wait 5000000 1000000 6 (peer_at 2 (heard_at 5000000 (Some (record (beat_of 7) { over = true }))) ∷ []) ≡ 200000
+unfolding one_can_help can_help told
+a_fifth_of_one_where_none_can = refl
+
+-- ---- ranks
+
+next_behind_the_leader : comes_sooner (Some (beat_of 7)) 1 2 0 ≡ true
+unfolding comes_sooner turn
+next_behind_the_leader = refl
+
+the_leader_comes_last : comes_sooner (Some (beat_of 7)) 1 1 0 ≡ false
+unfolding comes_sooner turn
+the_leader_comes_last = refl
+
+one_of_these_has_a_lower_number : rank_by_number 5000000 1000000 1 (peer_at 0 (heard_at 5000000 (Some (beat_of 7))) ∷ peer_at 2 (heard_at 5000000 (Some (beat_of 7))) ∷ []) ≡ 1
+unfolding rank_by_number is_before told
+one_of_these_has_a_lower_number = refl
+
+an_absent_one_is_not_counted : rank_by_number 5000000 1000000 1 (peer_at 0 (Closed 0) ∷ []) ≡ 0
+unfolding rank_by_number is_before told
+an_absent_one_is_not_counted = refl
+
+both_come_sooner_behind_the_second : rank_behind 5000000 1000000 1 1 (peer_at 0 (heard_at 5000000 (Some (beat_of 7))) ∷ peer_at 2 (heard_at 5000000 (Some (beat_of 7))) ∷ []) ≡ 2
+unfolding rank_behind comes_sooner turn told
+both_come_sooner_behind_the_second = refl
+
+none_comes_sooner_behind_the_first : rank_behind 5000000 1000000 0 1 (peer_at 0 (heard_at 5000000 (Some (beat_of 7))) ∷ peer_at 2 (heard_at 5000000 (Some (beat_of 7))) ∷ []) ≡ 0
+unfolding rank_behind comes_sooner turn told
+none_comes_sooner_behind_the_first = refl
+
+one_as_far_comes_before : rank_as_far 5000000 1000000 7 1 (peer_at 0 (heard_at 5000000 (Some (beat_of 7))) ∷ []) ≡ 1
+unfolding rank_as_far is_as_far told
+one_as_far_comes_before = refl
+
+one_that_lags_does_not : rank_as_far 5000000 1000000 7 1 (peer_at 0 (heard_at 5000000 (Some (beat_of 6))) ∷ []) ≡ 0
+unfolding rank_as_far is_as_far told
+one_that_lags_does_not = refl
+
+-- ---- lagging
+
+none_was_sent : lag_within 1000000 200000 None 6 ≡ Some 200000
+unfolding lag_within
+none_was_sent = refl
+
+one_below_its_front : lag_within 1000000 200000 (Some 5) 6 ≡ Some 200000
+unfolding lag_within
+one_below_its_front = refl
+
+one_at_its_front : lag_within 1000000 200000 (Some 6) 6 ≡ Some 1000000
+unfolding lag_within
+one_at_its_front = refl
+
+one_above_its_front_makes_it_ask : lag_within 1000000 200000 (Some 7) 6 ≡ None
+unfolding lag_within
+one_above_its_front_makes_it_ask = refl
+
+a_wait_runs_for_one_below : lagging 1000000 200000 7 None (Some (beat_of 6)) ≡ Some (record { since = 1000000; length = 200000 })
+unfolding lagging lag_within
+a_wait_runs_for_one_below = refl
+
+none_for_one_that_is_not : lagging 1000000 200000 7 None (Some (beat_of 7)) ≡ None
+unfolding lagging lag_within
+none_for_one_that_is_not = refl
+
+the_wait_has_passed : has_passed 1200000 (Some (record { since = 1000000; length = 200000 })) ≡ true
+unfolding has_passed
+the_wait_has_passed = refl
+
+it_has_not_yet : has_passed 1199999 (Some (record { since = 1000000; length = 200000 })) ≡ false
+unfolding has_passed
+it_has_not_yet = refl
+
+the_first_that_lags_is_helped : least_left 1100000 1000000 200000 7 0 (peer_at 0 (heard_at 1000000 (Some (beat_of 6))) ∷ peer_at 2 (heard_at 1000000 (Some (beat_of 7))) ∷ []) ≡ 100000
+unfolding least_left lagging_left lagging lag_within told
+the_first_that_lags_is_helped = refl
+
+a_look_where_none_lags : least_left 1100000 1000000 200000 7 0 (peer_at 2 (heard_at 1000000 (Some (beat_of 7))) ∷ []) ≡ 1000000
+unfolding least_left lagging_left lagging lag_within told
+a_look_where_none_lags = refl
+
+-- ---- all that is known: a process of node 1 of three at five seconds
+
+abbrev with_peers : Known → List Peer → Known
+with_peers any peers = record any {
+  time = 5000000;
+  number = 1;
+  peers = record any.peers { now = peers };
+  front = 7;
+  moved = 1000000;
+  promised = Some 0;
+  promised_since = 1000000;
+  campaigns = false;
+  was_led = true;
+  over = false;
+  hand_runs = true;
+  act_waits = false;
+  work_since = 1000000;
+  behind_since = 1000000;
+  ticks = None;
+  last_call = 1000;
+}
+
+abbrev lost : Known → Known
+lost any = with_peers any (peer_at 0 (Closed 4999000) ∷ peer_at 2 (heard_at 5000000 (Some (beat_of 7))) ∷ [])
+
+among_two : Known → Link → Known
+among_two any first = with_peers any (peer_at 0 first ∷ peer_at 2 (heard_at 5000000 (Some (beat_of 7))) ∷ [])
+
+it_campaigns : (any : Known) → standing_to (record (lost any) { campaigns = true }) 1000000 1 ≡ Campaigns
+unfolding standing_to
+it_campaigns any = refl
+
+nobody_has_led : (any : Known) → standing_to (record (lost any) { was_led = false }) 1000000 0 ≡ Fresh
+unfolding standing_to
+nobody_has_led any = refl
+
+it_led_itself : (any : Known) → standing_to (lost any) 1000000 1 ≡ Led
+unfolding standing_to
+it_led_itself any = refl
+
+its_leader_is_gone : (any : Known) → standing_to (lost any) 1000000 0 ≡ Lost 0 4999000
+unfolding standing_to leader_lost lost_since
+its_leader_is_gone any = refl
+
+its_leader_is_silent : (any : Known) → standing_to (among_two any (heard_at 3900000 (Some (record (beat_of 7) { leads = true })))) 1000000 0 ≡ Lost 0 4900000
+unfolding among_two standing_to leader_lost lost_since
+its_leader_is_silent any = refl
+
+its_leader_told_that_it_does_not_lead : (any : Known) → standing_to (among_two any (heard_at 5000000 (Some (beat_of 7)))) 1000000 0 ≡ Lost 0 1000000
+unfolding among_two standing_to leader_lost lost_since idle_since
+its_leader_told_that_it_does_not_lead any = refl
+
+it_follows : (any : Known) → standing_to (among_two any (heard_at 5000000 (Some (record (beat_of 7) { leads = true })))) 1000000 0 ≡ Follows 0
+unfolding among_two standing_to leader_lost lost_since idle_since
+it_follows any = refl
+
+an_act_is_work : (any : Known) → has_work (record (lost any) { act_waits = true }) ≡ true
+unfolding has_work
+an_act_is_work any = refl
+
+and_so_is_a_hand_to_deal : (any : Known) → has_work (record (lost any) { hand_runs = false }) ≡ true
+unfolding has_work
+and_so_is_a_hand_to_deal any = refl
+
+none_where_the_match_is_over : (any : Known) → has_work (record (lost any) { act_waits = true; over = true }) ≡ false
+unfolding has_work
+none_where_the_match_is_over any = refl
+
+it_opened_since_the_tick : is_reopened (Some (record { last = 499999; in_vain = 1 })) (Open (record { opened = 500000; heard = 500000; round_trip = None; unanswered = true; beat = None })) ≡ true
+unfolding is_reopened
+it_opened_since_the_tick = refl
+
+it_opened_before_the_tick : is_reopened (Some (record { last = 500000; in_vain = 1 })) (Open (record { opened = 500000; heard = 500000; round_trip = None; unanswered = true; beat = None })) ≡ false
+unfolding is_reopened
+it_opened_before_the_tick = refl
+
+nothing_is_owed : is_reopened None (heard_at 500000 None) ≡ false
+unfolding is_reopened
+nothing_is_owed = refl
+
+one_that_led_ticks_at_once : (any : Known) → row_left (lost any) 1000000 Led ≡ 0
+unfolding row_left
+one_that_led_ticks_at_once any = refl
+
+one_that_follows_waits : (any : Known) → row_left (record (lost any) { work_since = 4500000 }) 1000000 (Follows 2) ≡ 500000
+unfolding row_left steps_behind rank_behind comes_sooner turn told times
+one_that_follows_waits any = refl
+
+nothing_without_work : (any : Known) → due_of (lost any) ≡ Nothing 6000000
+unfolding due_of slowest trip pace_of is_quorate present told awaited is_behind is_above has_work help_left lag_of least_left lagging_left lagging rank_as_far is_as_far due_in
+nothing_without_work any = refl
+
+a_lost_leader_is_followed_at_once : (any : Known) → due_of (record (lost any) { act_waits = true }) ≡ Tick
+unfolding due_of slowest trip pace_of is_quorate present told awaited is_behind is_above has_work help_left lag_of least_left lagging_left lagging rank_as_far is_as_far due_in work_left standing_to leader_lost lost_since row_left
+a_lost_leader_is_followed_at_once any = refl
+
+not_without_a_quorum : (any : Known) → due_of (record (with_peers any (peer_at 0 (Closed 4999000) ∷ peer_at 2 (Closed 4999000) ∷ [])) { act_waits = true }) ≡ Nothing 6000000
+unfolding due_of slowest trip pace_of is_quorate present told due_in
+not_without_a_quorum any = refl
+
+one_that_is_behind_waits : (any : Known) → due_of (record (with_peers any (peer_at 0 (Closed 4999000) ∷ peer_at 2 (heard_at 5000000 (Some (beat_of 8))) ∷ [])) { act_waits = true; behind_since = 4900000 }) ≡ Nothing 6000000
+unfolding due_of slowest trip pace_of is_quorate present told awaited is_behind is_above behind_left one_can_help can_help steps_by_number rank_by_number is_before due_in
+one_that_is_behind_waits any = refl
+
+-- ---- the laws' words
+
+ticked_long_ago : LongAgo 100000 (Some (record { last = 95000; in_vain = 1 })) 5000
+ticked_long_ago = omega arith
+
+ticked_just_now : LongAgo 100000 (Some (record { last = 95001; in_vain = 1 })) 5000 → ⊥
+ticked_just_now late = omega arith
+
+past_moments : IsLinkPast 5000000 (heard_at 5000000 (Some (beat_of 7)))
+past_moments = (omega arith, (omega arith, omega arith))
+
+a_moment_that_lies_ahead : IsLinkPast 4000000 (heard_at 4000001 None) → ⊥
+a_moment_that_lies_ahead past = let first = past.0 in omega arith
+
+a_present_peer_is_heard_again : heard_again 5000000 1000000 (heard_at 4500000 None) ≡ heard_at 15000000 None
+a_present_peer_is_heard_again = refl
+
+one_that_is_silent_is_not : heard_again 5000000 1000000 (heard_at 4000000 None) ≡ heard_at 4000000 None
+one_that_is_silent_is_not = refl
+
+waited_for_the_doubled_time : (any : Known) → HasWaited (lost any) (Some (record { last = 3000000; in_vain = 1 })) 1000000 8000000
+unfolding times
+waited_for_the_doubled_time any = λ some. omega arith
+
+not_for_so_long : (any : Known) → HasWaited (lost any) (Some (record { last = 3000001; in_vain = 1 })) 1000000 8000000 → ⊥
+unfolding times
+not_for_so_long any waited = let long = waited (omega arith) in omega arith
+
+an_act_is_a_reason : (any : Known) → IsReason (record (lost any) { act_waits = true })
+unfolding is_behind is_above told has_work pace_of slowest trip
+an_act_is_a_reason any = to_work refl refl (inl tt)
+
+there_is_none_at_rest : (any : Known) → IsReason (lost any) → ⊥
+unfolding is_behind is_above told has_work pace_of slowest trip one_lags has_passed lagging lag_of
+there_is_none_at_rest any (to_catch_up is waited) = cc
+there_is_none_at_rest any (for_a_peer front is waited) = cc
+there_is_none_at_rest any (to_work front is waited) = cc

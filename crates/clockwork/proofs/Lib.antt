@@ -1,0 +1,4 @@
+pub mod Examples
+mod Lists
+mod Ticking
+mod Later

@@ -1,0 +1,153 @@
+-- Why a node ticks, and until when it doesn't.
+use Rattle.std.proofs.Common.{ℕ, ◌≡◌, ◌≢◌, ◌⊎◌, ◌+◌, ◌-◌, ◌*◌, ◌<◌, ◌≤◌, true, false, Option, Some, None, inl, inr, refl, arith}
+use Rattle.std.specs.Prelude.{min, max, ◌&&◌, ◌==◌}
+use Rattle.std.specs.List.{list_any}
+use Rattle.std.proofs.lemmas.Bool.{cases_Bool, cases_eq, and_parts, eqb-true, eqb-false, le-ltb}
+use Rattle.clockwork.specs.declared.known.Ticks.{Ticks}
+use Rattle.clockwork.specs.declared.known.Peer.{Peer}
+use Rattle.clockwork.specs.declared.known.Known.{Known}
+use Rattle.clockwork.specs.declared.helping.Wait.{Wait}
+use Rattle.clockwork.specs.declared.answer.Due.TheVariants.{Tick, Nothing}
+use Rattle.clockwork.specs.declared.standing.Standing.{Standing}
+use Rattle.clockwork.specs.declared.limits.TheConstants.{SPACE, LONGEST, MOST_HELP, STEP, LOOK}
+use Rattle.clockwork.specs.Waits.{left, doubled, again, spaced}
+use Rattle.clockwork.specs.Presence.{told, is_quorate}
+use Rattle.clockwork.specs.Ranks.{rank_as_far}
+use Rattle.clockwork.specs.Helping.{lagging, has_passed, lagging_left, least_left, help_left, one_lags}
+use Rattle.clockwork.specs.Standings.{standing, is_campaign}
+use Rattle.clockwork.specs.Work.{has_work, one_reopened, steps_by_number, row_left, work_left}
+use Rattle.clockwork.specs.Dues.{due_in, behind_left, awaited, pace_in, due_by, due_of}
+use Rattle.clockwork.specs.Laws.{quorate, behind, LongAgo, HasWaited, behind_wait_in, lag_in, IsReason, to_catch_up, for_a_peer, to_work}
+use Rattle.clockwork.proofs.Lists.{one_is_none}
+
+none_left : (wait past : ℕ) → wait - past ≡ 0 → wait ≤ past
+none_left wait past none = omega arith
+
+max_parts : (a b : ℕ) → max a b ≡ 0 → (a ≡ 0) × (b ≡ 0)
+max_parts a b none = (omega arith, omega arith)
+
+-- ---- what is due where so much is left
+
+pub tick_of_none : (time wait : ℕ) → wait ≡ 0 → due_in time wait ≡ Tick
+unfolding due_in
+tick_of_none time wait is = elim (cases_Bool (wait == 0)) [ inl so ↦ rw so refl | inr not_so ↦ absurd (eqb-false wait 0 not_so is) ]
+
+none_of_tick : (time wait : ℕ) → due_in time wait ≡ Tick → wait ≡ 0
+unfolding due_in
+none_of_tick time wait is = elim (cases_Bool (wait == 0)) [ inl so ↦ eqb-true wait 0 so | inr not_so ↦ let none = rw not_so at is in cc ]
+
+until_of : (time wait until : ℕ) → due_in time wait ≡ Nothing until → (time < until) × (until ≤ time + LOOK)
+unfolding due_in
+until_of time wait until is = elim (cases_Bool (wait == 0)) [
+  | inl so ↦ let none = rw so at is in absurd (cc)
+  | inr not_so ↦
+      let some : wait ≢ 0 = eqb-false wait 0 not_so in
+      let nothing = rw not_so at is in
+      let same : time + min wait LOOK ≡ until = cc in
+      (omega (arith, some), omega arith)
+]
+
+pub later_than_now : (known : Known) (until : ℕ) → due_of known ≡ Nothing until → (known.time < until) × (until ≤ known.time + LOOK)
+unfolding due_of
+later_than_now known until is = elim (cases_Bool (quorate known)) [
+  | inl so ↦ until_of known.time (max (awaited known (pace_in known)) (spaced known.time known.ticks)) until (rw so at is)
+  | inr not_so ↦ until_of known.time LOOK until (rw not_so at is)
+]
+
+-- ---- a tick
+
+ticks_by : (known : Known) (pace : ℕ) → due_by known pace ≡ Tick
+    → (is_quorate known.time pace known.peers.now ≡ true) × ((awaited known pace ≡ 0) × (spaced known.time known.ticks ≡ 0))
+ticks_by known pace is = elim (cases_Bool (is_quorate known.time pace known.peers.now)) [
+  | inl so ↦
+      let none : max (awaited known pace) (spaced known.time known.ticks) ≡ 0 = none_of_tick known.time _ (rw so at is) in
+      (so, max_parts (awaited known pace) (spaced known.time known.ticks) none)
+  | inr not_so ↦ let none : LOOK ≡ 0 = none_of_tick known.time LOOK (rw not_so at is) in absurd (omega arith)
+]
+
+pub tick_by : (known : Known) → due_of known ≡ Tick → (quorate known ≡ true) × ((awaited known (pace_in known) ≡ 0) × (spaced known.time known.ticks ≡ 0))
+unfolding due_of
+tick_by known is = ticks_by known (pace_in known) is
+
+pub long_ago : (time : ℕ) (ticks : Option Ticks) → spaced time ticks ≡ 0 → LongAgo time ticks SPACE
+long_ago time None none = tt
+long_ago time (Some ticks) none = none_left SPACE (time - ticks.last) none
+
+has_waited : (known : Known) (ticks : Option Ticks) (wait most : ℕ) → again known.time ticks wait most ≡ 0 → HasWaited known ticks wait most
+has_waited known None wait most none = tt
+has_waited known (Some ticks) wait most none = λ some. elim (cases_Bool (ticks.in_vain == 0)) [
+  | inl so ↦ let is = eqb-true ticks.in_vain 0 so in absurd (omega arith)
+  | inr not_so ↦ none_left (doubled wait ticks.in_vain most) (known.time - ticks.last) (rw not_so at none)
+]
+
+-- ---- a peer lags
+
+passed_of_none : (time more : ℕ) (wait : Option Wait) → lagging_left time more wait ≡ 0 → has_passed time wait ≡ true
+unfolding lagging_left has_passed
+passed_of_none time more None none = absurd (omega arith)
+passed_of_none time more (Some wait) none = rw (le-ltb (time - wait.since) wait.length (omega arith))
+
+least_of_none : (known : Known) (pace lag more : ℕ) → least_left known.time pace lag known.front more known.peers.now ≡ 0
+    → list_any (λ (peer : Peer). has_passed known.time (lagging pace lag known.front peer.accepted (told known.time pace peer.link))) known.peers.now ≡ true
+unfolding least_left
+least_of_none known pace lag more none =
+    one_is_none
+    (λ (peer : Peer). lagging_left known.time more (lagging pace lag known.front peer.accepted (told known.time pace peer.link)))
+    (λ (peer : Peer). has_passed known.time (lagging pace lag known.front peer.accepted (told known.time pace peer.link)))
+    (λ peer. passed_of_none known.time more (lagging pace lag known.front peer.accepted (told known.time pace peer.link)))
+    known.peers.now LOOK (omega arith) none
+
+lags_of_none : (known : Known) (pace : ℕ) → help_left known pace ≡ 0
+    → (one_lags known pace ≡ true) × HasWaited known known.ticks (lag_in known) MOST_HELP
+unfolding help_left one_lags
+lags_of_none known pace none =
+    let steps = STEP * rank_as_far known.time pace known.front known.number known.peers.now in
+    let both = max_parts (least_left known.time pace (lag_in known) known.front steps known.peers.now) (again known.time known.ticks (lag_in known) MOST_HELP) none in
+    (least_of_none known pace (lag_in known) steps both.0, has_waited known known.ticks (lag_in known) MOST_HELP both.1)
+
+-- ---- work
+
+work_of_none : (known : Known) (pace : ℕ) (stance : Standing) → work_left known pace stance ≡ 0
+    → HasWaited known known.ticks pace LONGEST ⊎ (one_reopened known ≡ true)
+unfolding work_left
+work_of_none known pace stance none = elim (cases_Bool (is_campaign stance && one_reopened known)) [
+  | inl so ↦ inr (and_parts (is_campaign stance) (one_reopened known) so).1
+  | inr not_so ↦
+      let both = max_parts (row_left known pace stance) (again known.time known.ticks pace LONGEST) (rw not_so at none) in
+      inl (has_waited known known.ticks pace LONGEST both.1)
+]
+
+-- ---- all reasons
+
+behind_of_none : (known : Known) → behind known ≡ true → behind_left known (pace_in known) ≡ 0 → IsReason known
+unfolding behind_left
+behind_of_none known is none =
+    let both = max_parts (left known.time (max known.behind_since known.moved) (behind_wait_in known + steps_by_number known (pace_in known))) (again known.time known.ticks (behind_wait_in known) LONGEST) none in
+    to_catch_up is (has_waited known known.ticks (behind_wait_in known) LONGEST both.1)
+
+cases_none : (a b : ℕ) → min a b ≡ 0 → (a ≡ 0) ⊎ (b ≡ 0)
+cases_none a b is = elim (cases_eq a 0) [ inl none ↦ inl none | inr some ↦ inr (omega (arith, some)) ]
+
+either_of_none : (known : Known) → behind known ≡ false → has_work known ≡ true
+    → min (help_left known (pace_in known)) (work_left known (pace_in known) (standing known (pace_in known) known.promised)) ≡ 0 → IsReason known
+either_of_none known isnt work none =
+    let pace = pace_in known in
+    elim (cases_none (help_left known pace) (work_left known pace (standing known pace known.promised)) none) [
+      | inl help ↦ let why = lags_of_none known pace help in for_a_peer isnt why.0 why.1
+      | inr rest ↦ to_work isnt work (work_of_none known pace (standing known pace known.promised) rest)
+    ]
+
+reason_of_none : (known : Known) → awaited known (pace_in known) ≡ 0 → IsReason known
+unfolding awaited
+reason_of_none known none = elim (cases_Bool (behind known)) [
+  | inl so ↦ behind_of_none known so (rw so at none)
+  | inr not_so ↦
+      let rest = rw not_so at none in
+      elim (cases_Bool (has_work known)) [
+        | inl work ↦ either_of_none known not_so work (rw work at rest)
+        | inr idle ↦ let why = lags_of_none known (pace_in known) (rw idle at rest) in for_a_peer not_so why.0 why.1
+      ]
+]
+
+pub why_it_ticks : (known : Known) → due_of known ≡ Tick → IsReason known
+why_it_ticks known is = reason_of_none known (tick_by known is).1.0

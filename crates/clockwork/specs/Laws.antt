@@ -1,0 +1,93 @@
+-- What holds of every tick, and that each tick that is needed comes.
+use Rattle.std.specs.Prelude.{◌≡◌, ◌⊎◌, ℕ, ◌+◌, ◌-◌, ◌<◌, ◌≤◌, Bool, true, false, if◌then◌else◌, nat_lt, length, map, Option, Some, None, IfSome, All}
+use Rattle.clockwork.specs.declared.known.Ticks.{Ticks}
+use Rattle.clockwork.specs.declared.known.Beat.{Beat}
+use Rattle.clockwork.specs.declared.known.Link.{Link}
+use Rattle.clockwork.specs.declared.known.Link.TheVariants.{Closed, Open}
+use Rattle.clockwork.specs.declared.known.Peer.{Peer}
+use Rattle.clockwork.specs.declared.known.Known.{Known}
+use Rattle.clockwork.specs.declared.answer.Due.TheVariants.{Tick}
+use Rattle.clockwork.specs.declared.limits.TheConstants.{LONGEST, MOST_HELP, MOST_PEERS}
+use Rattle.clockwork.specs.Waits.{doubled}
+use Rattle.clockwork.specs.Presence.{slowest, lag_of, is_quorate, is_behind, behind_wait}
+use Rattle.clockwork.specs.Work.{has_work, one_reopened}
+use Rattle.clockwork.specs.Helping.{one_lags}
+use Rattle.clockwork.specs.Dues.{pace_in, due_of}
+
+-- by all that is known
+abbrev pub quorate : Known → Bool
+quorate known = is_quorate known.time (pace_in known) known.peers.now
+
+abbrev pub behind : Known → Bool
+behind known = is_behind known.time (pace_in known) known.front known.peers.now
+
+abbrev pub lags : Known → Bool
+lags known = one_lags known (pace_in known)
+
+-- ---- every tick
+
+-- the last tick, if any, was so long ago at least
+abbrev pub LongAgo : ℕ → Option Ticks → ℕ → Type 0
+LongAgo time None wait = Unit {0}
+LongAgo time (Some ticks) wait = wait ≤ time - ticks.last
+
+-- where the front hasn't moved since the last tick, that was as long ago as this wait when doubled
+abbrev pub HasWaited : Known → Option Ticks → ℕ → ℕ → Type 0
+HasWaited known None wait most = Unit {0}
+HasWaited known (Some ticks) wait most = 0 < ticks.in_vain → doubled wait ticks.in_vain most ≤ known.time - ticks.last
+
+abbrev pub behind_wait_in : Known → ℕ
+behind_wait_in known = behind_wait known.time (pace_in known) known.front known.peers.now
+
+abbrev pub lag_in : Known → ℕ
+lag_in known = lag_of (slowest known.time known.last_call known.peers.now)
+
+-- why a node ticks, and after which doubled wait; where it has work, also because a connection opened since its last tick
+pub data IsReason (known : Known) : Type 0 where
+  to_catch_up : behind known ≡ true → HasWaited known known.ticks (behind_wait_in known) LONGEST → IsReason known
+  for_a_peer : behind known ≡ false → lags known ≡ true → HasWaited known known.ticks (lag_in known) MOST_HELP → IsReason known
+  to_work : behind known ≡ false → has_work known ≡ true → (HasWaited known known.ticks (pace_in known) LONGEST ⊎ (one_reopened known ≡ true)) → IsReason known
+
+-- ---- each tick that is needed
+
+-- what is known of a peer lies behind
+abbrev pub IsBeatPast : ℕ → Option Beat → Type 0
+IsBeatPast time None = Unit {0}
+IsBeatPast time (Some beat) = (beat.below ≤ time) × (beat.told ≤ time)
+
+abbrev pub IsLinkPast : ℕ → Link → Type 0
+IsLinkPast time (Closed since) = since ≤ time
+IsLinkPast time (Open connection) = (connection.heard ≤ time) × IsBeatPast time connection.beat
+
+-- no moment that is known lies ahead
+pub record IsPast (known : Known) : Type 0 where
+  pub moved : known.moved ≤ known.time
+  pub promised_since : known.promised_since ≤ known.time
+  pub work_since : known.work_since ≤ known.time
+  pub behind_since : known.behind_since ≤ known.time
+  pub ticks : IfSome known.ticks (λ ticks. ticks.last ≤ known.time)
+  pub peers : All (λ peer. IsLinkPast known.time peer.link) known.peers.now
+
+abbrev pub ten_seconds : ℕ
+ten_seconds = 10000000
+
+-- a peer that was heard within so long is heard again ten seconds later
+abbrev pub heard_again : ℕ → ℕ → Link → Link
+heard_again time pace (Closed since) = Closed since
+heard_again time pace (Open connection) =
+    if nat_lt (time - connection.heard) pace then Open (record connection { heard = time + ten_seconds }) else Open connection
+
+abbrev pub peer_later : ℕ → ℕ → Peer → Peer
+peer_later time pace peer = record peer { link = heard_again time pace peer.link }
+
+-- ten seconds later, when nothing else has come to be known but that the present peers are heard
+abbrev pub later : Known → Known
+later known = record known { time = known.time + ten_seconds; peers = record known.peers { now = map (peer_later known.time (pace_in known)) known.peers.now } }
+
+-- a tick is needed where there is work, a peer lags, or the node is behind
+abbrev pub IsNeeded : Known → Type 0
+IsNeeded known = (behind known ≡ true) ⊎ ((has_work known ≡ true) ⊎ (lags known ≡ true))
+
+-- where a quorate node needs a tick, one is due within ten seconds
+abbrev pub ComesInTime : Known → Type 0
+ComesInTime known = length known.peers.now ≤ MOST_PEERS → IsPast known → quorate known ≡ true → IsNeeded known → due_of (later known) ≡ Tick

@@ -1,0 +1,53 @@
+-- What is left until a node with work is to tick.
+use Rattle.std.specs.Prelude.{ℕ, ◌+◌, ◌*◌, max, Bool, true, false, not, ◌&&◌, ◌||◌, if◌then◌else◌, nat_lt, Option, Some, None}
+use Rattle.std.specs.List.{list_any}
+use Rattle.clockwork.specs.declared.known.Ticks.{Ticks}
+use Rattle.clockwork.specs.declared.known.Link.{Link}
+use Rattle.clockwork.specs.declared.known.Link.TheVariants.{Closed, Open}
+use Rattle.clockwork.specs.declared.known.Known.{Known}
+use Rattle.clockwork.specs.declared.standing.Standing.{Standing}
+use Rattle.clockwork.specs.declared.standing.Standing.TheVariants.{Campaigns, Fresh, Led, Lost, Follows}
+use Rattle.clockwork.specs.declared.limits.TheConstants.{STEP, LONGEST}
+use Rattle.clockwork.specs.Waits.{left, doubled, in_vain, again}
+use Rattle.clockwork.specs.Ranks.{rank_by_number, rank_behind}
+use Rattle.clockwork.specs.Standings.{is_campaign}
+
+-- the match isn't over, and an act waits or no hand runs
+unfoldable pub has_work : Known → Bool
+has_work known = not known.over && (known.act_waits || not known.hand_runs)
+
+-- after the last tick
+abbrev pub opened_since : Option Ticks → ℕ → Bool
+opened_since None opened = true
+opened_since (Some ticks) opened = nat_lt ticks.last opened
+
+-- since the last tick a connection opened to a peer that owes an answer from before
+unfoldable pub is_reopened : Option Ticks → Link → Bool
+is_reopened ticks (Closed since) = false
+is_reopened ticks (Open connection) = connection.unanswered && opened_since ticks connection.opened
+
+unfoldable pub one_reopened : Known → Bool
+one_reopened known = list_any (λ peer. is_reopened known.ticks peer.link) known.peers.now
+
+-- one step for each present peer that comes before the node: by number, or counted cyclically from behind a leader on
+unfoldable pub steps_by_number : Known → ℕ → ℕ
+steps_by_number known pace = STEP * rank_by_number known.time pace known.number known.peers.now
+
+unfoldable pub steps_behind : Known → ℕ → ℕ → ℕ
+steps_behind known pace leader = STEP * rank_behind known.time pace leader known.number known.peers.now
+
+-- by how it stands to the node whose ballot it has promised
+unfoldable pub row_left : Known → ℕ → Standing → ℕ
+row_left known pace Campaigns = left known.time (max known.work_since known.moved) (doubled pace (in_vain known.ticks) LONGEST)
+row_left known pace Fresh = left known.time known.work_since (steps_by_number known pace)
+row_left known pace Led = 0
+row_left known pace (Lost leader since) =
+    if known.act_waits then 0 else left known.time (max known.work_since since) (steps_behind known pace leader)
+row_left known pace (Follows leader) =
+    left known.time (max known.work_since (max known.moved known.promised_since)) (doubled pace (in_vain known.ticks) LONGEST + steps_behind known pace leader)
+
+-- at once where it campaigns and one who owes an answer from before is back; else not before the doubled wait
+unfoldable pub work_left : Known → ℕ → Standing → ℕ
+work_left known pace standing =
+    if is_campaign standing && one_reopened known then 0
+    else max (row_left known pace standing) (again known.time known.ticks pace LONGEST)

@@ -1,0 +1,96 @@
+ghost use Rattle.std.specs.Prelude.{◌≡◌, ◌+◌, ◌≤◌, ◌<◌, ℕ, true, length};
+ghost use Rattle.clockwork.specs.declared.answer.Due.TheVariants.{Tick, Nothing};
+ghost use Rattle.clockwork.specs.declared.limits.TheConstants.{SHORTEST, LONGEST, LATEST, MOST_PEERS, SPACE, LOOK};
+ghost use Rattle.clockwork.specs.Dues.{due_in, behind_left, awaited, pace_in, due_of};
+ghost use Rattle.clockwork.specs.Laws.{quorate, LongAgo, IsReason};
+
+use crate::answer::Due;
+use crate::helping::help_left;
+use crate::known::Known;
+use crate::limits::{LONGEST, LOOK};
+use crate::presence::{behind_wait, is_behind_by, is_quorate_by, pace};
+use crate::waits::{again, left, spaced};
+use crate::work::{has_work, steps_by_number, work_left};
+
+/// Whether a node is to tick, by what its process knows.
+///
+/// It ticks only where it and its present peers are more than half of all nodes, and where it has work, a peer lags, or it
+/// is behind; never within 5 milliseconds of its last tick, and after one in vain not before the doubled wait for that
+/// reason, unless it campaigns and a peer that owes an answer from before is back since then. Each such wait ends within
+/// ten seconds, as `laws::a_tick_comes_within_ten_seconds` says.
+pub fn due(known: &Known<'_>) -> Due
+    requires time { known.now.time ≤ LATEST }
+    requires peers { length known.now.peers.now ≤ MOST_PEERS }
+    ensures value { result ≡ due_of known.now }
+    ensures quorate { result ≡ Tick → quorate known.now ≡ true }
+    ensures reason { result ≡ Tick → IsReason known.now }
+    ensures spaced { result ≡ Tick → LongAgo known.now.time known.now.ticks SPACE }
+    ensures later { (until : ℕ) → result ≡ Nothing until → (known.now.time < until) × (until ≤ known.now.time + LOOK) }
+{
+    due_of(known)
+}
+
+#[tactic(auto, unfolding(crate::specs::Dues::due_of))]
+fn due_of(known: &Known<'_>) -> Due
+    requires time { known.now.time ≤ LATEST }
+    requires peers { length known.now.peers.now ≤ MOST_PEERS }
+    ensures { result ≡ due_of known.now }
+{
+    let pace = pace(known);
+    if is_quorate_by(known.time, pace, known.peers) {
+        let left = awaited(known, pace).max(spaced(known.time, known.ticks));
+        due_in(known.time, left)
+    } else {
+        due_in(known.time, LOOK)
+    }
+}
+
+/// A tick where nothing is left; else the next look.
+#[tactic(auto, unfolding(crate::specs::Dues::due_in))]
+fn due_in(time: u64, left: u64) -> Due
+    requires { time ≤ LATEST }
+    ensures { result ≡ due_in time left }
+{
+    if left == 0 {
+        Due::Tick
+    } else {
+        Due::Nothing {
+            until: time + left.min(LOOK),
+        }
+    }
+}
+
+/// What is left until a quorate node is to tick, by its reasons.
+#[tactic(auto, unfolding(crate::specs::Dues::awaited))]
+fn awaited(known: &Known<'_>, pace: u64) -> u64
+    requires time { known.now.time ≤ LATEST }
+    requires peers { length known.now.peers.now ≤ MOST_PEERS }
+    requires least { SHORTEST ≤ pace }
+    requires most { pace ≤ LONGEST }
+    ensures { result ≡ awaited known.now pace }
+{
+    if is_behind_by(known.time, pace, known.front, known.peers) {
+        return behind_left(known, pace);
+    }
+    let help = help_left(known, pace);
+    if has_work(known) {
+        help.min(work_left(known, pace))
+    } else {
+        help
+    }
+}
+
+/// What is left until a node that is behind is to tick.
+#[tactic(auto, unfolding(crate::specs::Dues::behind_left))]
+fn behind_left(known: &Known<'_>, pace: u64) -> u64
+    requires { length known.now.peers.now ≤ MOST_PEERS }
+    ensures { result ≡ behind_left known.now pace }
+{
+    let wait = behind_wait(known.time, pace, known.front, known.peers);
+    left(
+        known.time,
+        known.behind_since.max(known.moved),
+        wait + steps_by_number(known, pace),
+    )
+    .max(again(known.time, known.ticks, wait, LONGEST))
+}

@@ -1,0 +1,135 @@
+ghost use Rattle.std.specs.Prelude.{◌≡◌, ◌≤◌, length, IfSome};
+ghost use Rattle.clockwork.specs.declared.limits.TheConstants.{LONGEST, MOST_PEERS};
+ghost use Rattle.clockwork.specs.Presence.{told};
+ghost use Rattle.clockwork.specs.Helping.{lag_within, waits_since, lagging, lagging_left, least_left, help_left};
+
+use crate::known::{Beat, Known, Peer};
+use crate::limits::{LOOK, MOST_HELP, STEP};
+use crate::presence::{lag_of, slowest, told};
+use crate::ranks::rank_as_far;
+use crate::waits::{again, left};
+
+/// A wait since a moment.
+#[derive(Clone, Copy)]
+pub(crate) struct Wait {
+    pub(crate) since: u64,
+    pub(crate) length: u64,
+}
+
+/// How long a peer's front has been below this node's without having moved when the peer lags: `lag` where no repeat is at or above its
+/// front, `pace` where one is at its front. One above its front makes it ask, so that it doesn't lag.
+#[tactic(auto, unfolding(crate::specs::Helping::lag_within))]
+fn lag_within(pace: u64, lag: u64, accepted: Option<u32>, front: u32) -> Option<u64>
+    requires pace { pace ≤ LONGEST }
+    requires lag { lag ≤ LONGEST }
+    ensures value { result ≡ lag_within pace lag accepted front }
+    ensures most { IfSome result (λ wait. wait ≤ LONGEST) }
+{
+    match accepted {
+        Some(slot) => {
+            if slot < front {
+                Some(lag)
+            } else if slot == front {
+                Some(pace)
+            } else {
+                None
+            }
+        }
+        None => Some(lag),
+    }
+}
+
+/// A wait of this length since a moment, where there is one.
+fn waits_since(since: u64, length: Option<u64>) -> Option<Wait>
+    requires { IfSome length (λ length. length ≤ LONGEST) }
+    ensures value { result ≡ waits_since since length }
+    ensures most { IfSome result (λ wait. wait.length ≤ LONGEST) }
+{
+    match length {
+        Some(length) => Some(Wait { since, length }),
+        None => None,
+    }
+}
+
+/// The wait after which a peer lags, where one runs: it is present, its front is below this node's, and no repeat makes it
+/// ask.
+#[tactic(auto, unfolding(crate::specs::Helping::lagging))]
+fn lagging(
+    pace: u64,
+    lag: u64,
+    front: u32,
+    accepted: Option<u32>,
+    told: Option<Beat>,
+) -> Option<Wait>
+    requires pace { pace ≤ LONGEST }
+    requires lag { lag ≤ LONGEST }
+    ensures value { result ≡ lagging pace lag front accepted told }
+    ensures most { IfSome result (λ wait. wait.length ≤ LONGEST) }
+{
+    match told {
+        Some(beat) => {
+            if beat.front < front {
+                waits_since(beat.below, lag_within(pace, lag, accepted, beat.front))
+            } else {
+                None
+            }
+        }
+        None => None,
+    }
+}
+
+/// What is left of a wait that is so much longer; where none runs, the time until the next look.
+#[tactic(auto, unfolding(crate::specs::Helping::lagging_left))]
+fn lagging_left(time: u64, more: u64, wait: Option<Wait>) -> u64
+    requires more { more ≤ LONGEST }
+    requires length { IfSome wait (λ wait. wait.length ≤ LONGEST) }
+    ensures { result ≡ lagging_left time more wait }
+{
+    match wait {
+        Some(wait) => left(time, wait.since, wait.length + more),
+        None => LOOK,
+    }
+}
+
+/// What is left until this node is to tick for some peer that lags, by the peers alone.
+#[tactic(auto, unfolding(crate::specs::Helping::least_left))]
+fn least_left(time: u64, pace: u64, lag: u64, front: u32, more: u64, peers: &[Peer]) -> u64
+    requires pace { pace ≤ LONGEST }
+    requires lag { lag ≤ LONGEST }
+    requires more { more ≤ LONGEST }
+    ensures { result ≡ least_left time pace lag front more peers.now }
+{
+    peers.iter().fold(LOOK, |least, peer| {
+        least.min(peer_left(time, pace, lag, front, more, *peer))
+    })
+}
+
+fn peer_left(time: u64, pace: u64, lag: u64, front: u32, more: u64, peer: Peer) -> u64
+    requires pace { pace ≤ LONGEST }
+    requires lag { lag ≤ LONGEST }
+    requires more { more ≤ LONGEST }
+    ensures { result ≡ lagging_left time more (lagging pace lag front peer.accepted (told time pace peer.link)) }
+{
+    let wait = lagging(pace, lag, front, peer.accepted, told(time, pace, peer.link));
+    lagging_left(time, more, wait)
+}
+
+/// What is left until this node is to tick for a peer that lags.
+#[tactic(auto, unfolding(crate::specs::Helping::help_left))]
+pub(crate) fn help_left(known: &Known<'_>, pace: u64) -> u64
+    requires peers { length known.now.peers.now ≤ MOST_PEERS }
+    requires pace { pace ≤ LONGEST }
+    ensures { result ≡ help_left known.now pace }
+{
+    let lag = lag_of(slowest(known));
+    let rank = rank_as_far(known.time, pace, known.front, known.number, known.peers);
+    least_left(
+        known.time,
+        pace,
+        lag,
+        known.front,
+        STEP * rank as u64,
+        known.peers,
+    )
+    .max(again(known.time, known.ticks, lag, MOST_HELP))
+}

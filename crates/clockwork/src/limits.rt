@@ -1,0 +1,37 @@
+//! Lengths of time are whole microseconds.
+
+/// The latest moment that there may be: it lies more than a hundred thousand years ahead.
+pub const LATEST: u64 = 0x4000_0000_0000_0000;
+
+/// How many other nodes a match has at most.
+pub const MOST_PEERS: usize = 6;
+
+/// Two ticks of a process are at least so far apart.
+pub const SPACE: u64 = 5_000;
+
+/// Where several nodes may tick for one reason, each does so much later than the one before it.
+pub const STEP: u64 = 30_000;
+
+/// The least of what a node waits for answers, for another's lead, and until a silent peer counts as absent.
+pub const SHORTEST: u64 = 1_000_000;
+
+/// The most of these, also where they are doubled, and the most of every other wait for a tick but its steps.
+pub const LONGEST: u64 = 8_000_000;
+
+/// Between these two bounds, so many times as long as the slowest of the present peers and the node itself last took.
+pub const SLACK: u64 = 8;
+
+/// The least time for which the front of a peer has been below this node's without having moved when the peer lags.
+pub const LAG: u64 = 200_000;
+
+/// The most to which the wait between ticks for a peer that lags is doubled, unless the first was longer.
+pub const MOST_HELP: u64 = 2_000_000;
+
+/// How long a node that is behind waits where the match is over at all nodes that are ahead of it.
+pub const ALONE: u64 = 200_000;
+
+/// How long it waits where a node ahead of it may still tell it what it lacks.
+pub const BEHIND: u64 = 2_000_000;
+
+/// A process looks again after at most so long, whatever it waits for.
+pub const LOOK: u64 = 1_000_000;

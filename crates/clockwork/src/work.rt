@@ -1,0 +1,119 @@
+ghost use Rattle.std.specs.Prelude.{◌≡◌, ◌≤◌, length};
+ghost use Rattle.clockwork.specs.declared.limits.TheConstants.{SHORTEST, LONGEST, LATEST, MOST_PEERS};
+ghost use Rattle.clockwork.specs.Work.{has_work, opened_since, is_reopened, one_reopened, steps_by_number, steps_behind, row_left, work_left};
+ghost use Rattle.clockwork.specs.Standings.{standing};
+
+use crate::known::{Known, Link, Ticks};
+use crate::limits::{LONGEST, STEP};
+use crate::ranks::{rank_behind, rank_by_number};
+use crate::standing::{Standing, is_campaign, standing_of};
+use crate::waits::{again, doubled, in_vain, left};
+
+/// Whether a node has something to do: its match isn't over, and an act waits or no hand runs.
+#[tactic(auto, unfolding(crate::specs::Work::has_work))]
+pub fn has_work(known: &Known<'_>) -> bool
+    ensures { result ≡ has_work known.now }
+{
+    !known.over && (known.act_waits || !known.hand_runs)
+}
+
+/// Whether a moment comes after the last tick.
+fn opened_since(ticks: Option<Ticks>, opened: u64) -> bool
+    ensures { result ≡ opened_since ticks opened }
+{
+    match ticks {
+        Some(ticks) => ticks.last < opened,
+        None => true,
+    }
+}
+
+/// Whether a connection opened since the last tick to a peer that owes an answer from before.
+#[tactic(auto, unfolding(crate::specs::Work::is_reopened))]
+fn is_reopened(ticks: Option<Ticks>, link: Link) -> bool
+    ensures { result ≡ is_reopened ticks link }
+{
+    match link {
+        Link::Open(connection) => connection.unanswered && opened_since(ticks, connection.opened),
+        Link::Closed { .. } => false,
+    }
+}
+
+#[tactic(auto, unfolding(crate::specs::Work::one_reopened))]
+fn one_reopened(known: &Known<'_>) -> bool
+    ensures { result ≡ one_reopened known.now }
+{
+    let ticks = known.ticks;
+    known.peers.iter().any(|peer| is_reopened(ticks, peer.link))
+}
+
+/// What is left until a node with work is to tick for the first time, by how it stands to its leader.
+#[tactic(auto, unfolding(crate::specs::Work::row_left))]
+fn row_left(known: &Known<'_>, pace: u64, standing: Standing) -> u64
+    requires peers { length known.now.peers.now ≤ MOST_PEERS }
+    requires pace { pace ≤ LONGEST }
+    ensures { result ≡ row_left known.now pace standing }
+{
+    match standing {
+        Standing::Campaigns => left(
+            known.time,
+            known.work_since.max(known.moved),
+            doubled(pace, in_vain(known.ticks), LONGEST),
+        ),
+        Standing::Fresh => left(known.time, known.work_since, steps_by_number(known, pace)),
+        Standing::Led => 0,
+        Standing::Lost { leader, since } => {
+            if known.act_waits {
+                0
+            } else {
+                left(
+                    known.time,
+                    known.work_since.max(since),
+                    steps_behind(known, pace, leader),
+                )
+            }
+        }
+        Standing::Follows { leader } => left(
+            known.time,
+            known.work_since.max(known.moved.max(known.promised_since)),
+            doubled(pace, in_vain(known.ticks), LONGEST) + steps_behind(known, pace, leader),
+        ),
+    }
+}
+
+/// One step for each present peer with a lower number.
+#[tactic(auto, unfolding(crate::specs::Work::steps_by_number))]
+pub(crate) fn steps_by_number(known: &Known<'_>, pace: u64) -> u64
+    requires peers { length known.now.peers.now ≤ MOST_PEERS }
+    ensures value { result ≡ steps_by_number known.now pace }
+    ensures most { result ≤ LONGEST }
+{
+    STEP * rank_by_number(known.time, pace, known.number, known.peers) as u64
+}
+
+/// One step for each present peer that comes before the node, counted cyclically from behind a leader on.
+#[tactic(auto, unfolding(crate::specs::Work::steps_behind))]
+fn steps_behind(known: &Known<'_>, pace: u64, leader: u8) -> u64
+    requires peers { length known.now.peers.now ≤ MOST_PEERS }
+    ensures value { result ≡ steps_behind known.now pace leader }
+    ensures most { result ≤ LONGEST }
+{
+    STEP * rank_behind(known.time, pace, leader, known.number, known.peers) as u64
+}
+
+/// What is left until a node with work is to tick: at once where it campaigns and a connection opened since its last tick
+/// to a peer that owes an answer from before; else by how it stands to its leader, and after a tick in vain not before the
+/// doubled wait.
+#[tactic(auto, unfolding(crate::specs::Work::work_left))]
+pub(crate) fn work_left(known: &Known<'_>, pace: u64) -> u64
+    requires time { known.now.time ≤ LATEST }
+    requires peers { length known.now.peers.now ≤ MOST_PEERS }
+    requires least { SHORTEST ≤ pace }
+    requires most { pace ≤ LONGEST }
+    ensures { result ≡ work_left known.now pace (standing known.now pace known.now.promised) }
+{
+    let standing = standing_of(known, pace);
+    if is_campaign(standing) && one_reopened(known) {
+        return 0;
+    }
+    row_left(known, pace, standing).max(again(known.time, known.ticks, pace, LONGEST))
+}
