@@ -54,8 +54,9 @@ pub struct Ticks {
 pub struct Peer {
     /// Its number.
     pub number: u8,
-    /// The slot of the last Accepted that this process sent to it. That frame is sent again as long as the peer is below
-    /// this node's front; where the slot is above the peer's own front, it makes the peer ask for what it lacks.
+    /// The slot of the last Accepted that this process sent to it, of several the first. That frame is sent again as long
+    /// as the peer is below this node's front; where the slot is above the peer's own front, it makes the peer ask for what
+    /// it lacks.
     pub accepted: Option<u32>,
     /// The connection to it.
     pub link: Link,

@@ -1,0 +1,146 @@
+ghost use Rattle.std.specs.Prelude.{◌≤◌, ◌≡◌, length};
+ghost use Rattle.clockwork.specs.declared.limits.TheConstants.{LATEST};
+
+use clockwork::limits::LATEST;
+use clockwork::{Beat, Connection, Known, Link, Peer, Ticks};
+use std::alloc::{AllocError, Global};
+
+/// How many words of a line tell of the process itself, and of each peer.
+const OWN: usize = 16;
+
+const OF_A_PEER: usize = 13;
+
+/// The numbers of a line; what is none stands as none.
+pub fn numbers_of(alloc: Global, line: &str) -> Result<Vec<Option<u64>>, AllocError> {
+    let mut numbers = Vec::new(alloc);
+    for word in line.split(' ') {
+        numbers.push(word.parse().ok())?;
+    }
+    Ok(numbers)
+}
+
+/// Whether so many words tell of a process and of whole peers.
+pub fn is_whole(words: usize) -> bool {
+    words >= OWN && (words - OWN) % OF_A_PEER == 0
+}
+
+/// The number at a place, where there is one.
+fn optional(numbers: &[Option<u64>], place: usize) -> Option<u64> {
+    match numbers.get(place) {
+        Some(number) => *number,
+        None => None,
+    }
+}
+
+/// The number at a place; 0 where there is none.
+fn number(numbers: &[Option<u64>], place: usize) -> u64 {
+    optional(numbers, place).unwrap_or(0)
+}
+
+fn small(numbers: &[Option<u64>], place: usize) -> u32 {
+    number(numbers, place).min(0xFFFF_FFFF) as u32
+}
+
+fn byte(numbers: &[Option<u64>], place: usize) -> u8 {
+    number(numbers, place).min(0xFF) as u8
+}
+
+fn flag(numbers: &[Option<u64>], place: usize) -> bool {
+    number(numbers, place) != 0
+}
+
+/// What a process knows, by the first words of a line and its peers.
+pub fn known_of<'a>(numbers: &[Option<u64>], peers: &'a [Peer]) -> Known<'a>
+    ensures time { result.time ≤ LATEST }
+    ensures peers { result.peers.now ≡ peers.now }
+{
+    Known {
+        time: number(numbers, 0).min(LATEST),
+        number: byte(numbers, 1),
+        peers,
+        front: small(numbers, 2),
+        moved: number(numbers, 3),
+        promised: promised_of(numbers),
+        promised_since: number(numbers, 5),
+        campaigns: flag(numbers, 6),
+        was_led: flag(numbers, 7),
+        over: flag(numbers, 8),
+        hand_runs: flag(numbers, 9),
+        act_waits: flag(numbers, 10),
+        work_since: number(numbers, 11),
+        behind_since: number(numbers, 12),
+        ticks: ticks_of(numbers),
+        last_call: number(numbers, 15),
+    }
+}
+
+fn promised_of(numbers: &[Option<u64>]) -> Option<u8> {
+    match optional(numbers, 4) {
+        Some(_) => Some(byte(numbers, 4)),
+        None => None,
+    }
+}
+
+fn ticks_of(numbers: &[Option<u64>]) -> Option<Ticks> {
+    match optional(numbers, 13) {
+        Some(last) => Some(Ticks {
+            last,
+            in_vain: byte(numbers, 14),
+        }),
+        None => None,
+    }
+}
+
+/// The peers that the words behind those tell of.
+pub fn peers_of(alloc: Global, numbers: &[Option<u64>]) -> Result<Vec<Peer>, AllocError> {
+    let mut peers = Vec::new(alloc);
+    for words in numbers[OWN.min(numbers.len())..].chunks_exact(OF_A_PEER) {
+        peers.push(peer_of(words))?;
+    }
+    Ok(peers)
+}
+
+fn peer_of(words: &[Option<u64>]) -> Peer {
+    Peer {
+        number: byte(words, 0),
+        accepted: accepted_of(words),
+        link: link_of(words),
+    }
+}
+
+fn accepted_of(words: &[Option<u64>]) -> Option<u32> {
+    match optional(words, 1) {
+        Some(_) => Some(small(words, 1)),
+        None => None,
+    }
+}
+
+fn link_of(words: &[Option<u64>]) -> Link {
+    if flag(words, 2) {
+        Link::Open(Connection {
+            opened: number(words, 3),
+            heard: number(words, 4),
+            round_trip: optional(words, 5),
+            unanswered: flag(words, 6),
+            beat: beat_of(words),
+        })
+    } else {
+        Link::Closed {
+            since: number(words, 3),
+        }
+    }
+}
+
+fn beat_of(words: &[Option<u64>]) -> Option<Beat> {
+    if flag(words, 7) {
+        Some(Beat {
+            front: small(words, 8),
+            below: number(words, 9),
+            leads: flag(words, 10),
+            told: number(words, 11),
+            over: flag(words, 12),
+        })
+    } else {
+        None
+    }
+}

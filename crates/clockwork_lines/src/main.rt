@@ -1,0 +1,64 @@
+//! Answers lines of what processes know by what is due there, for a simulation of processes.
+//!
+//! A line has words with one blank between: numbers, or `-` for none. The first are `time number front moved promised
+//! promised_since campaigns was_led over hand_runs act_waits work_since behind_since last in_vain last_call`, as the
+//! fields of `Known` and its `Ticks`; a flag is 0 or 1. Then come those of each peer: `number accepted open since heard
+//! round_trip unanswered told front below leads told over`; `open` tells whether a connection is open, `since` when it
+//! opened or the last one ended, the first `told` whether a beat came.
+//!
+//! The answer is `tick`, or `nothing` and until when, and then three flags and a length of time: whether there is work,
+//! whether the node is behind, whether it is quorate, and its pace. A line of another length is answered by `-`.
+#![tactic(auto)]
+
+#[cfg(test)]
+mod due_tests;
+mod fields;
+#[cfg(test)]
+mod samples;
+
+ghost use Rattle.std.specs.Prelude.{◌≤◌, length};
+ghost use Rattle.clockwork.specs.declared.limits.TheConstants.{LATEST, MOST_PEERS};
+
+use clockwork::limits::MOST_PEERS;
+use clockwork::{Due, Known, Peer, due, has_work, is_behind, is_quorate, pace};
+use fields::{is_whole, known_of, numbers_of, peers_of};
+use std::io;
+
+fn main(rt: HostRuntime) -> io::Result<()> {
+    for line in rt.lines(rt.alloc()) {
+        print_answer(&rt, line?.as_str())?;
+    }
+    Ok(())
+}
+
+/// Answers a line; one of another form or with too many peers by `-`.
+fn print_answer(rt: &(impl Print + AllocGlobal), line: &str) -> io::Result<()> {
+    let numbers = numbers_of(rt.alloc(), line)?;
+    let peers = peers_of(rt.alloc(), &numbers)?;
+    if is_whole(numbers.len()) && peers.len() <= MOST_PEERS {
+        print_known(rt, &known_of(&numbers, &peers))
+    } else {
+        rt.println("-")
+    }
+}
+
+/// Prints what is due where this is known.
+fn print_known(rt: &impl Print, known: &Known<'_>) -> io::Result<()>
+    requires time { known.now.time ≤ LATEST }
+    requires peers { length known.now.peers.now ≤ MOST_PEERS }
+{
+    print_due(rt, due(known))?;
+    let work = u8::from(has_work(known));
+    let behind = u8::from(is_behind(known));
+    let quorate = u8::from(is_quorate(known));
+    let pace = pace(known);
+    println!(rt; "{work} {behind} {quorate} {pace}")
+}
+
+/// Prints whether a tick is due, with a blank behind it.
+fn print_due(rt: &impl Print, due: Due) -> io::Result<()> {
+    match due {
+        Due::Tick => rt.print("tick "),
+        Due::Nothing { until } => print!(rt; "nothing {until} "),
+    }
+}

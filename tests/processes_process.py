@@ -1,0 +1,520 @@
+"""A node in a process of its own, in simulated time, and its connections to the others.
+
+The node is one of tests/nodes. Times are in milliseconds here, and in whole microseconds for the program that says when
+the node ticks.
+
+A process does one thing at a time: it reads all that came, calls its node for at most 20 ms, with beats between, asks
+what is due, and waits. A connection is as TCP's: in order, nothing lost while it stands, what a cut holds up comes once it
+heals, and what is under way when it ends is lost.
+"""
+import importlib.machinery
+import importlib.util
+import sys
+from pathlib import Path
+
+TOP = Path(__file__).resolve().parent.parent
+sys.dont_write_bytecode = True
+
+
+def module_of(name):
+    loader = importlib.machinery.SourceFileLoader(name, str(TOP / "tests" / name))
+    module = importlib.util.module_from_spec(importlib.util.spec_from_loader(name, loader))
+    loader.exec_module(module)
+    return module
+
+
+nodes = module_of("nodes")
+
+# What a process does and waits for, in milliseconds.
+BEAT, HANGUP, REPEAT, TURN = 50.0, 300.0, 100.0, 20.0
+CALL, REDIAL, CONNECT, ASK_AGAIN = 0.02, 20.0, 500.0, 20.0
+END_READ, UNHEARD = 10.0, 10_000.0
+# How many frames wait for a connection.
+WAITING_FRAMES = 16
+
+
+def micros(moment):
+    return int(moment * 1000)
+
+
+class Stored(dict):
+    """What a node has accepted; counts what it stored."""
+
+    count = 0
+
+    def __setitem__(self, slot, entry):
+        self.count += 1
+        super().__setitem__(slot, entry)
+
+
+class Wire:
+    """A connection: two ways, each in order."""
+
+    def __init__(self, world, caller, called):
+        self.world, self.ends = world, (caller, called)
+        self.last, self.held, self.closed, self.broken = {}, {}, set(), False
+
+    def send(self, sender, what):
+        """Puts something on the way to the other end."""
+        a, b = self.ends
+        receiver = b if sender == a else a
+        if sender in self.closed:
+            return
+        if self.world.is_cut(sender, receiver) or self.held.get(sender):
+            self.held.setdefault(sender, []).append(what)
+            return
+        self.put(sender, receiver, what, self.world.way())
+
+    def put(self, sender, receiver, what, delay):
+        when = max(self.world.now + delay, self.last.get(sender, 0.0))
+        self.last[sender] = when
+        self.world.at(when, self.world.processes[receiver].arrive, (sender, self, what))
+
+    def heal(self):
+        """What was held up is sent again after a while."""
+        for sender, receiver in (self.ends, self.ends[::-1]):
+            if self.held.get(sender) and not self.world.is_cut(sender, receiver):
+                held, self.held[sender] = self.held[sender], []
+                again = self.world.random.random() * 200
+                for what in held:
+                    self.put(sender, receiver, what, again + self.world.way())
+
+    def close(self, end):
+        if end not in self.closed:
+            self.send(end, ("end",))
+            self.closed.add(end)
+
+    def reset(self):
+        """It ends at both ends, and what is under way is lost."""
+        if not self.closed:
+            self.broken = True
+            self.closed = set(self.ends)
+            for sender, receiver in (self.ends, self.ends[::-1]):
+                self.world.after(self.world.way(), self.world.processes[receiver].arrive, (sender, self, ("end",)))
+
+
+class Peer:
+    """What a process knows of another."""
+
+    def __init__(self, number, now):
+        self.number, self.accepted, self.over = number, None, False
+        self.wire, self.since, self.heard_ever = None, now, now
+        self.last, self.repeated, self.asked = None, -1e9, (None, -1e9)
+        self.waiting, self.owed, self.lost = [], None, None
+        self.dialled = None
+        self.clear()
+
+    def clear(self):
+        self.opened = self.heard = 0.0
+        self.trip, self.beat, self.unanswered = None, None, None
+        self.number_sent = self.number_got = 0
+        self.sent_at = {}
+
+
+class Process:
+    def __init__(self, world, number):
+        self.world, self.number = world, number
+        self.node = nodes.Node(world.match, number)
+        self.node.accepted = Stored()
+        self.up, self.life, self.ended, self.logs = False, 0, False, []
+
+    # A life.
+
+    def start(self):
+        if self.up or self.ended:
+            return
+        now = self.world.now
+        self.up, self.life = True, self.life + 1
+        self.peers = {j: Peer(j, now) for j in range(self.world.count) if j != self.number}
+        self.inbox, self.backlog, self.busy, self.paused = [], [], False, False
+        self.wake, self.moved, self.promised_since, self.began = None, now, now, now
+        self.work_since = self.behind_since = None
+        self.ticked, self.in_vain, self.last_call = None, 0, 0.0
+        self.was_led, self.unquorate, self.over_since, self.pace = False, None, None, 1000.0
+        self.next_beat, self.turn_began = now, now
+        self.log = []
+        self.logs.append(self.log)
+        self.until = now
+        self.tend()
+        self.call(self.node.start)
+
+    def die(self):
+        """Signal 9: what the process had is gone, and its connections end."""
+        if not self.up:
+            return
+        self.up = False
+        self.node.stop()
+        for peer in self.peers.values():
+            if peer.wire is not None:
+                peer.wire.close(self.number)
+            if peer.dialled is not None and peer.dialled is not True:
+                peer.dialled.close(self.number)
+        for bot in self.world.bots:
+            bot.drop_at(self.number)
+
+    def end(self):
+        """Status 0."""
+        self.ended = True
+        self.die()
+        self.world.went_on()
+
+    def pause(self, length):
+        """SIGSTOP, and after a while SIGCONT."""
+        if self.up and not self.paused:
+            self.paused = True
+            self.world.after(length, self.go_on, self.life, length)
+
+    def go_on(self, life, length):
+        if self.up and life == self.life:
+            self.paused = False
+            self.discount(length)
+            self.turn(life)
+
+    def discount(self, length):
+        """What went by isn't counted as silence."""
+        for peer in self.peers.values():
+            peer.heard = min(self.world.now, peer.heard + length)
+
+    # A turn: reads all, calls for a while, asks what is due, waits.
+
+    def arrive(self, item):
+        if not self.up or item[1] is not None and item[1].broken and item[2][0] != "end":
+            return
+        self.inbox.append(item)
+        if not self.busy and not self.paused and self.wake != self.world.now:
+            self.wake = self.world.now
+            self.world.at(self.world.now, self.turn, self.life)
+
+    def turn(self, life):
+        if not self.up or life != self.life or self.busy or self.paused:
+            return
+        self.turn_began = self.world.now
+        self.read()
+        self.tend()
+        self.step()
+
+    def read(self):
+        """What came over a connection is taken in order, and what came over those that are new after the ends of others."""
+        inbox, self.inbox = self.inbox, []
+        new = [wire for _, wire, what in inbox if what[0] == "hello"]
+        for sender, wire, what in sorted(inbox, key=lambda item: item[1] in new):
+            if sender is None:
+                self.backlog.append(what[1])
+            else:
+                getattr(self, "on_" + what[0])(self.peers[sender], wire, *what[1:])
+
+    def step(self):
+        """Calls the node with what came, for a while; then does what is due."""
+        if self.backlog and self.world.now - self.turn_began < TURN:
+            self.call(self.backlog.pop(0))
+        elif not self.tick_if_due():
+            self.rest()
+
+    def rest(self):
+        """Waits for what comes, or until a moment."""
+        if self.backlog or self.inbox:
+            self.wake = self.world.now
+            self.world.at(self.world.now, self.turn, self.life)
+        else:
+            self.wake = max(min(self.until, self.next_beat), self.world.now + 0.05)
+            self.world.at(self.wake, self.awake, self.life, self.wake)
+
+    def awake(self, life, when):
+        if self.up and life == self.life and self.wake == when:
+            self.turn(life)
+
+    # A call: it blocks the process, and what it made is handed on at its end.
+
+    def call(self, body):
+        node = self.node
+        promised, stored, front = node.promised, node.accepted.count, node.front
+        answer = body()
+        stores = (node.promised, node.accepted.count) != (promised, stored)
+        cost = CALL + (2 * self.world.sync() if stores else 0.0) + self.world.slowness(self.number)
+        self.busy = True
+        self.world.after(cost, self.called, self.life, answer, promised, front, cost)
+
+    def called(self, life, answer, promised, front, cost):
+        if not self.up or life != self.life:
+            return
+        if self.paused:
+            self.world.after(1.0, self.called, life, answer, promised, front, cost)
+            return
+        now, node = self.world.now, self.node
+        self.busy, self.last_call = False, cost
+        self.discount(cost)
+        if node.front != front:
+            self.moved, self.in_vain = now, 0
+            for peer in self.peers.values():
+                if peer.beat is not None and peer.beat["front"] >= front:
+                    peer.beat["below"] = now
+        if node.promised != promised:
+            self.promised_since = now
+            self.note_leader(node.promised[1])
+        self.hand_on(answer)
+        self.world.progressed(node.front)
+        self.beat_if_due()
+        if self.inbox and now - self.turn_began >= TURN:
+            self.turn(life)
+        else:
+            self.step()
+
+    def note_leader(self, leader):
+        """A promise to a ballot tells that its node campaigns."""
+        self.was_led = True
+        peer = self.peers.get(leader)
+        if peer is not None and peer.beat is not None and not peer.beat["leads"]:
+            peer.beat.update(leads=True, told=self.world.now)
+
+    def hand_on(self, answer):
+        frames, shown, _ = answer
+        for _, receiver, message in frames:
+            if self.world.writes(self, receiver, message):
+                self.send(self.peers[receiver], message)
+        for text in shown:
+            _, reader, line = text.split(" ", 2)
+            if reader == "L":
+                self.log.append(line)
+            else:
+                self.world.bots[int(reader)].told(self.number, line)
+
+    def send(self, peer, message):
+        """Gives a frame to a peer's connection, but an Ask that has just been put."""
+        if message[0] == nodes.ASK:
+            block, when = peer.asked
+            if block == message[1] // 64 and self.world.now - when < max(ASK_AGAIN, peer.trip or 0.0):
+                return
+            peer.asked = (message[1] // 64, self.world.now)
+        if message[0] == nodes.ACCEPTED:
+            peer.last, peer.accepted = message, message[2]
+        if message[0] in (nodes.PREPARE, nodes.ACCEPT):
+            peer.owed, peer.lost = message, None
+        if peer.wire is None:
+            peer.waiting = [*peer.waiting, message][-WAITING_FRAMES:]
+        else:
+            peer.wire.send(self.number, ("frame", message))
+
+    def repeat(self, peer):
+        if peer.last is not None:
+            peer.repeated = self.world.now
+            peer.wire.send(self.number, ("frame", peer.last))
+
+    # Connections.
+
+    def dial(self, j, life):
+        """The greater number dials, where it has no connection."""
+        peer = self.peers.get(j)
+        if not self.up or life != self.life or peer.wire is not None or peer.dialled is not None:
+            return
+        peer.dialled = True
+        world, other = self.world, self.world.processes[j]
+        if world.is_cut(self.number, j) or world.is_cut(j, self.number):
+            world.after(CONNECT, self.redial, j, life)
+        elif not other.up:
+            world.after(2 * world.way() + REDIAL, self.redial, j, life)
+        else:
+            world.after(2 * world.way(), self.connected, j, life)
+
+    def redial(self, j, life):
+        if self.up and life == self.life:
+            self.peers[j].dialled = None
+            self.dial(j, life)
+
+    def connected(self, j, life):
+        if not self.up or life != self.life:
+            return
+        peer = self.peers[j]
+        wire = Wire(self.world, self.number, j)
+        self.world.wires.append(wire)
+        peer.dialled = wire
+        wire.send(self.number, ("hello", self.life))
+        self.world.after(4 * self.pace, self.give_up, j, life, wire)
+
+    def give_up(self, j, life, wire):
+        """A Hello that isn't answered."""
+        if self.up and life == self.life and self.peers[j].dialled is wire:
+            wire.close(self.number)
+            self.redial(j, life)
+
+    def on_hello(self, peer, wire, life):
+        if peer.number < self.number:
+            if peer.dialled is wire:
+                peer.dialled = None
+                self.open(peer, wire)
+            return
+        if peer.wire is not None and self.world.now - peer.heard < self.pace:
+            wire.send(self.number, ("refused",))
+            wire.close(self.number)
+            return
+        if peer.wire is not None:
+            self.close(peer)
+        wire.send(self.number, ("hello", self.life))
+        self.open(peer, wire)
+
+    def on_refused(self, peer, wire):
+        if peer.dialled is wire:
+            wire.close(self.number)
+            self.world.after(REDIAL, self.redial, peer.number, self.life)
+
+    def open(self, peer, wire):
+        now = self.world.now
+        peer.clear()
+        peer.wire, peer.opened, peer.heard, peer.heard_ever, peer.unanswered = wire, now, now, now, peer.lost
+        peer.lost = None
+        self.beat(peer)
+        waiting, peer.waiting = peer.waiting, []
+        for message in waiting:
+            wire.send(self.number, ("frame", message))
+        self.repeat(peer)
+
+    def close(self, peer):
+        """The connection has ended, or is given up: what was sent and isn't answered may be lost."""
+        peer.wire.close(self.number)
+        peer.wire, peer.since = None, self.world.now
+        peer.lost, peer.unanswered = peer.owed, None
+        if peer.number < self.number:
+            self.world.after(REDIAL / 10, self.dial, peer.number, self.life)
+
+    def on_end(self, peer, wire):
+        if peer.wire is wire:
+            self.close(peer)
+        elif peer.dialled is wire:
+            wire.close(self.number)
+            self.world.after(REDIAL, self.redial, peer.number, self.life)
+        else:
+            wire.close(self.number)
+
+    def on_beat(self, peer, wire, number, got, front, leads, over):
+        if peer.wire is not wire:
+            return
+        now = self.world.now
+        peer.heard = peer.heard_ever = now
+        peer.number_got = number
+        if got in peer.sent_at:
+            peer.trip = now - peer.sent_at[got]
+            peer.sent_at = {k: when for k, when in peer.sent_at.items() if k > got}
+        beat = peer.beat or {"below": now, "told": now, "front": front, "leads": leads}
+        if beat["front"] != front or front >= self.node.front:
+            beat["below"] = now
+        if beat["leads"] != leads:
+            beat["told"] = now
+        peer.beat = {**beat, "front": front, "leads": leads, "over": over}
+        peer.over, self.was_led = peer.over or over, self.was_led or leads
+
+    def on_frame(self, peer, wire, message):
+        if peer.wire is not wire:
+            return
+        peer.heard = peer.heard_ever = self.world.now
+        if peer.owed is not None and message[0] in (nodes.PROMISE, nodes.ACCEPTED, nodes.REFUSE):
+            if message[1:3] == peer.owed[1:3]:
+                peer.owed = peer.lost = peer.unanswered = None
+        self.backlog.append(lambda: self.node.call(lambda: self.node.frame(peer.number, message)))
+
+    # What is done by time.
+
+    def tend(self):
+        now = self.world.now
+        for peer in self.peers.values():
+            if peer.wire is None:
+                self.dial(peer.number, self.life) if peer.number < self.number and peer.dialled is None else None
+            elif now - peer.heard > 4 * self.pace:
+                self.close(peer)
+            elif peer.beat and peer.beat["front"] < self.node.front and now - peer.repeated >= REPEAT:
+                self.repeat(peer)
+        self.beat_if_due()
+
+    def beat_if_due(self):
+        if self.world.now >= self.next_beat:
+            self.beat_all()
+
+    def beat_all(self):
+        self.next_beat = self.world.now + BEAT
+        for peer in self.peers.values():
+            if peer.wire is not None:
+                self.beat(peer)
+
+    def beat(self, peer):
+        peer.number_sent += 1
+        peer.sent_at[peer.number_sent] = self.world.now
+        state = (self.node.front, self.node.state != "idle", self.is_over())
+        peer.wire.send(self.number, ("beat", peer.number_sent, peer.number_got, *state))
+
+    def is_over(self):
+        return self.node.table.finished == self.world.match.hands
+
+    def owes(self, peer):
+        """Whether what was lost with a peer's last connection would still be answered to some use."""
+        lost, node = peer.unanswered, self.node
+        if lost is None or node.state == "idle" or lost[1] != node.ballot:
+            return False
+        return node.state == "preparing" if lost[0] == nodes.PREPARE else lost[2] >= node.front
+
+    def known(self):
+        """A line for the program."""
+        node, table = self.node, self.node.table
+        promised = "-" if node.promised == nodes.NONE else node.promised[1]
+        words = [micros(self.world.now), self.number, node.front, micros(self.moved), promised, micros(self.promised_since)]
+        words += [int(node.state != "idle"), int(self.was_led), int(self.is_over())]
+        words += [int(table.runs()), int(node.pending is not None)]
+        words += [micros(self.work_since or 0.0), micros(self.behind_since or 0.0)]
+        words += ["-" if self.ticked is None else micros(self.ticked), self.in_vain, micros(self.last_call)]
+        for peer in self.peers.values():
+            words += self.known_of(peer)
+        return words
+
+    def known_of(self, peer):
+        words = [peer.number, "-" if peer.accepted is None else peer.accepted]
+        if peer.wire is None:
+            return [*words, 0, micros(peer.since), *[0] * 9]
+        words += [1, micros(peer.opened), micros(peer.heard), "-" if peer.trip is None else micros(peer.trip), int(self.owes(peer))]
+        if peer.beat is None:
+            return [*words, *[0] * 6]
+        beat = peer.beat
+        return [*words, 1, beat["front"], micros(beat["below"]), int(beat["leads"]), micros(beat["told"]), int(beat["over"])]
+
+    def tick_if_due(self):
+        """Asks what is due; whether the node ticks."""
+        now = self.world.now
+        until, work, behind, quorate, self.pace = self.world.clock.ask(self.known())
+        is_new = (work and not behind) != (self.work_since is not None) or behind != (self.behind_since is not None)
+        if is_new:
+            self.work_since = (self.work_since or now) if work and not behind else None
+            self.behind_since = (self.behind_since or now) if behind else None
+            until, work, behind, quorate, self.pace = self.world.clock.ask(self.known())
+        self.until = until if until is not None else now
+        self.hang_up(quorate)
+        if self.ends():
+            self.end()
+            return True
+        if until is None:
+            self.ticked, self.in_vain = now, min(255, self.in_vain + 1)
+            self.was_led = True
+            self.world.ticks += 1
+            self.world.tell("tick", self.number, self.node.front, self.node.promised)
+            self.call(lambda: self.node.call(self.node.tick))
+            return True
+        return False
+
+    def hang_up(self, quorate):
+        """Without a quorum seats are sent elsewhere after a while."""
+        if quorate:
+            self.unquorate = None
+            return
+        self.unquorate = self.world.now if self.unquorate is None else self.unquorate
+        if self.world.now - self.unquorate >= HANGUP:
+            for bot in self.world.bots:
+                bot.drop_at(self.number)
+
+    def takes_seats(self):
+        return self.up and not (self.unquorate is not None and self.world.now - self.unquorate >= HANGUP)
+
+    def ends(self):
+        """The match is over here, its seats have read that, and each peer has told so too or hasn't been heard for long."""
+        if not self.is_over():
+            return False
+        now = self.world.now
+        if self.over_since is None:
+            self.over_since = now
+            self.beat_all()
+        is_read = now - self.over_since >= END_READ
+        return is_read and all(p.over or now - p.heard_ever >= UNHEARD for p in self.peers.values())

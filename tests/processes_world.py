@@ -1,0 +1,251 @@
+"""All of a simulated run: processes, wires, bots and faults.
+
+When a node ticks is asked of the program `clockwork_lines`, which answers by the crate `clockwork`. Times are in
+milliseconds.
+"""
+import heapq
+import random
+import subprocess
+
+from processes_process import TOP, Process, nodes
+
+# What bots take, in milliseconds, where a run doesn't say otherwise: a line's way, and how long they await one.
+LOCAL, BOT_PATIENCE = 0.05, 2000.0
+# A run fails where nothing goes on for so long.
+STUCK = 90_000.0
+
+
+class Clock:
+    """The program that answers what is due."""
+
+    def __init__(self, program):
+        self.program = subprocess.Popen([program], stdin=subprocess.PIPE, stdout=subprocess.PIPE)
+
+    def ask(self, words):
+        """When to tick, None for now; whether there is work, the node is behind, it is quorate; its pace."""
+        self.program.stdin.write((" ".join(map(str, words)) + "\n").encode())
+        self.program.stdin.flush()
+        answer = self.program.stdout.readline().split()
+        until = None if answer[0] == b"tick" else int(answer[1]) / 1000
+        work, behind, quorate, pace = answer[-4:]
+        return until, work == b"1", behind == b"1", quorate == b"1", int(pace) / 1000
+
+    def close(self):
+        self.program.stdin.close()
+        self.program.wait()
+
+
+class Match:
+    def __init__(self, count, hands):
+        self.name, self.word, self.hands, self.names = "sim", "l2.game", hands, ["alice", "bob"]
+        self.game = nodes.dealer.Game((TOP / "examples/l2.game").read_bytes())
+        self.sources = [{"seed": 7 + number} for number in range(count)]
+
+    header = nodes.Match.header
+    deal = nodes.Match.deal
+
+
+class Bot:
+    """A player: it dials the nodes in turn until one takes it, and answers whenever it is to act."""
+
+    def __init__(self, world, seat, at, stays):
+        self.world, self.seat, self.at, self.stays = world, seat, at, stays
+        self.up, self.life, self.answered = False, 0, 0
+
+    def sit_at(self, number):
+        """Goes to this node."""
+        self.up = False
+        self.life += 1
+        self.dial(number)
+
+    def dial(self, number):
+        self.at = number
+        process = self.world.processes[number]
+        if self.world.is_done():
+            return
+        if not process.takes_seats():
+            self.world.after(1.0, self.dial, number if self.stays and process.up else (number + 1) % self.world.count)
+            return
+        self.up, self.life = True, self.life + 1
+        self.world.after(4 * LOCAL, self.greet, self.life)
+
+    def is_at(self, life):
+        return self.up and life == self.life and self.world.processes[self.at].up
+
+    def give(self, body):
+        """Brings something to the process that the seat is at."""
+        process = self.world.processes[self.at]
+        process.arrive((None, None, ("line", lambda: process.node.call(body))))
+
+    def greet(self, life):
+        if self.is_at(life):
+            node, seat = self.world.processes[self.at].node, self.seat
+            self.give(lambda: node.sessions.update({seat: nodes.Session(seat)}))
+            self.give(lambda: node.hear(seat, b"VERSION:2.0.0\r"))
+
+    def drop_at(self, number):
+        if self.up and self.at == number:
+            self.up = False
+            self.world.after(LOCAL + 0.2, self.dial, (number + 1) % self.world.count)
+
+    def told(self, number, line):
+        if self.up and self.at == number:
+            self.world.after(LOCAL, self.hear, self.life, line)
+
+    def hear(self, life, line):
+        if not self.is_at(life):
+            return
+        self.answered += 1
+        _, position, hand, betting, _ = line.split(":")
+        then = nodes.walked(self.world.match.game, int(hand), nodes.dealer.CARDS[:9], betting)
+        if then is None or then.over or then.turn != int(position):
+            return
+        self.world.after(self.world.think(), self.say, life, line)
+
+    def say(self, life, line):
+        if not self.is_at(life):
+            return
+        session = nodes.Session(self.seat)
+        session.is_ready = True
+        table = self.world.processes[self.at].node.table
+        text = line + ":" + self.world.random.choice("cccrf")
+        if not isinstance(session.answer(table, text.encode() + b"\r"), bytes):
+            text = line + ":c"
+        node, seat = self.world.processes[self.at].node, self.seat
+        self.world.after(LOCAL, self.put, life, lambda: node.hear(seat, text.encode() + b"\r"))
+
+    def put(self, life, body):
+        if self.is_at(life):
+            self.give(body)
+            if not self.stays:
+                self.world.after(BOT_PATIENCE, self.doubt, life, self.answered)
+
+    def doubt(self, life, answered):
+        """No line follows an answer: elsewhere."""
+        if self.is_at(life) and answered == self.answered:
+            number, seat = self.at, self.seat
+            node = self.world.processes[number].node
+            self.give(lambda: node.sessions.pop(seat, None) and None)
+            self.drop_at(number)
+
+
+class World:
+    """All of a run. `options` are what a batch says of it, `faults` is called as the match goes on."""
+
+    def __init__(self, clock, seed, count=3, hands=20, way=0.05, sync=0.4, think=0.05, at=(0, 0), stays=False, verbose=False):
+        self.clock, self.random, self.count = clock, random.Random(seed), count
+        self.now, self.queue, self.events = 0.0, [], 0
+        self.way_ms, self.sync_ms, self.think_ms, self.verbose = way, sync, think, verbose
+        self.match = Match(count, hands)
+        self.wires, self.cuts, self.slow, self.gone = [], set(), {}, set()
+        self.processes = [Process(self, number) for number in range(count)]
+        self.bots = [Bot(self, seat, at[seat], stays) for seat in range(2)]
+        self.applied, self.last_applied, self.ticks = 0, 0.0, 0
+        self.fault_at, self.gaps, self.faults = None, [], 0
+        self.on_progress, self.writes = (lambda front: None), (lambda process, receiver, message: True)
+        self.held_until = 0.0
+
+    def way(self):
+        return self.way_ms * (1 + self.random.random())
+
+    def sync(self):
+        return self.sync_ms
+
+    def think(self):
+        return max(self.think_ms, self.held_until - self.now)
+
+    def slowness(self, number):
+        return self.slow.get(number, 0.0)
+
+    def at(self, when, what, *arguments):
+        self.events += 1
+        heapq.heappush(self.queue, (max(when, self.now), self.events, what, arguments))
+
+    def after(self, delay, what, *arguments):
+        self.at(self.now + delay, what, *arguments)
+
+    def tell(self, *words):
+        if self.verbose:
+            print(f"{self.now:10.2f}", *words)
+
+    # Wires.
+
+    def is_cut(self, a, b):
+        return (a, b) in self.cuts
+
+    def cut(self, pairs):
+        """Ordered pairs are cut: nothing comes through."""
+        self.cuts |= set(pairs)
+
+    def reset(self):
+        """All connections between processes end."""
+        for wire in self.wires:
+            wire.reset()
+
+    def heal(self, pairs=None):
+        self.cuts = set() if pairs is None else self.cuts - set(pairs)
+        self.wires = [wire for wire in self.wires if len(wire.closed) < 2]
+        for wire in self.wires:
+            wire.heal()
+
+    # How the match goes on.
+
+    def went_on(self):
+        self.last_applied = self.now
+
+    def progressed(self, front):
+        if front > self.applied:
+            self.applied = front
+            self.went_on()
+            if self.fault_at is not None:
+                self.gaps.append(self.now - self.fault_at)
+                self.fault_at = None
+            self.on_progress(front)
+
+    def fault(self):
+        """Something goes wrong now."""
+        self.faults += 1
+        self.fault_at = self.now
+
+    def kill(self, number, down=None, spares=True):
+        """Signal 9, and a start after a while, if ever. A process that has told that the match is over is spared: the others
+        may end before it is back, and then it finds nobody."""
+        if spares and self.processes[number].is_over():
+            return
+        self.tell("kill", number, down)
+        self.processes[number].die()
+        if down is None:
+            self.gone.add(number)
+        else:
+            self.after(down, self.processes[number].start)
+
+    def up(self):
+        return [process.number for process in self.processes if process.up]
+
+    def is_done(self):
+        return all(process.ended or process.number in self.gone for process in self.processes)
+
+    def run(self):
+        """Whether each process ended with 0; else what is stuck."""
+        for process in self.processes:
+            process.start()
+        for bot in self.bots:
+            bot.dial(bot.at)
+        while self.queue and not self.is_done():
+            self.now, _, what, arguments = heapq.heappop(self.queue)
+            what(*arguments)
+            if self.now - self.last_applied > STUCK:
+                return self.state()
+        return None if self.is_done() else self.state()
+
+    def state(self):
+        texts = []
+        for process in self.processes:
+            node = process.node
+            texts.append(f"{process.number}: up {process.up} ended {process.ended} front {node.front} {node.state} promised {node.promised} pending {node.pending is not None}")
+        return f"stuck at {self.now:.0f} ms with {self.applied} commands; " + "; ".join(texts)
+
+    def disagrees(self):
+        """Whether some process in some life logged what isn't a beginning of the longest log."""
+        logs = sorted((log for process in self.processes for log in process.logs), key=len)
+        return any(log != logs[-1][: len(log)] for log in logs)
