@@ -515,6 +515,7 @@ class Process:
         now = self.world.now
         if self.over_since is None:
             self.over_since = now
+            self.world.on_end()
             self.beat_all()
         is_read = now - self.over_since >= END_READ
         return is_read and all(p.over or now - p.heard_ever >= UNHEARD for p in self.peers.values())

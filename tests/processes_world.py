@@ -142,7 +142,7 @@ class World:
         self.bots = [Bot(self, seat, at[seat], stays) for seat in range(2)]
         self.applied, self.last_applied, self.ticks = 0, 0.0, 0
         self.fault_at, self.gaps, self.faults = None, [], 0
-        self.on_progress, self.writes = (lambda front: None), (lambda process, receiver, message: True)
+        self.on_progress, self.on_end, self.writes = (lambda front: None), (lambda: None), (lambda process, receiver, message: True)
         self.held_until = 0.0
 
     def way(self):
