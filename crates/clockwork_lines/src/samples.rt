@@ -143,7 +143,7 @@ pub const REST: Known<'static> = Known {
 };
 
 /// An act waits since so long ago.
-pub const fn acting(length: u64) -> Known<'static> {
+pub fn acting<'a>(length: u64) -> Known<'a> {
     Known {
         act_waits: true,
         work_since: ago(length),
@@ -152,7 +152,7 @@ pub const fn acting(length: u64) -> Known<'static> {
 }
 
 /// No hand runs since so long ago.
-pub const fn dealing(length: u64) -> Known<'static> {
+pub fn dealing<'a>(length: u64) -> Known<'a> {
     Known {
         hand_runs: false,
         work_since: ago(length),
@@ -161,7 +161,7 @@ pub const fn dealing(length: u64) -> Known<'static> {
 }
 
 /// It campaigns, and an act waits since so long ago.
-pub const fn campaigning(length: u64) -> Known<'static> {
+pub fn campaigning<'a>(length: u64) -> Known<'a> {
     Known {
         promised: Some(1),
         campaigns: true,
