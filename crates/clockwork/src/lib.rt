@@ -3,6 +3,12 @@
 //! A node moves a match on only where it is called, and a tick is the one call that begins a campaign. Whatever `due`
 //! answers, nothing that nodes promise can break; by it a match goes on soon after a process, a machine or a wire is lost,
 //! and not by many ballots at once.
+//!
+//! A process keeps a `Known`, and asks whenever something came, a connection opened or ended, or the moment of the last
+//! answer has come. By `has_work` and `is_behind` it knows when `work_since` and `behind_since` begin anew, by
+//! `is_quorate` whether it may keep its seats, by `pace` how long it hears out a silent connection. There are no faults.
+//!
+//! The tests of `clockwork_lines` have the rules row by row, and `tests/processes_sim` lets simulated processes tick by them.
 #![tactic(auto)]
 
 mod answer;
