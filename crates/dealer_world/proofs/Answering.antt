@@ -45,7 +45,7 @@ fault_of (Conflict store) e = (store, refl)
 fault_of NothingToAct e = absurd cc
 
 -- a call that was answered so was refused so
-refused_so : (place : Place) (s : Standing) (called : Call) (after : Standing) (frames : List Outgoing) (shown : List Shown) (faults : List SeatFault) (answer : Result (Unit {0}) NodeFault)
+pub refused_so : (place : Place) (s : Standing) (called : Call) (after : Standing) (frames : List Outgoing) (shown : List Shown) (faults : List SeatFault) (answer : Result (Unit {0}) NodeFault)
     → answer ≡ Err fault.Conflict → (ends : Ends place s called after frames shown) → Answered place s called after frames shown ends faults answer
     → (store : Store) × IsTurn place s called (Err (Conflict store))
 refused_so place s called after frames shown faults answer is (took turn rule a b c) (told, ok) = absurd (let e : Ok tt ≡ Err fault.Conflict = sym ok ∙ is in cc)

@@ -4,7 +4,7 @@ use Rattle.promise_store.specs.declared.disk.Disk.{Ghosts}
 use Rattle.protocol_model.specs.Stores.{Store}
 use Rattle.node_rules.specs.Standings.{Place, Standing, front_of, stopped}
 use Rattle.node_rules.specs.Calls.{Call}
-use Rattle.node_rules.specs.Turns.{Turn, Refusal}
+use Rattle.node_rules.specs.Turns.{Turn, Refusal, Conflict}
 use Rattle.node_rules.specs.Rules.{IsTurn, standing_after}
 use Rattle.dealer_node.specs.Nodes.{Node}
 use Rattle.dealer_node.specs.declared.fault.NodeFault.{NodeFault}
@@ -16,7 +16,7 @@ use Rattle.dealer_world.specs.declared.event.Event.{Event}
 use Rattle.dealer_world.specs.Calls.{nothing_made}
 use Rattle.dealer_world.specs.Events.{node_of, call_of, brought_by}
 use Rattle.dealer_world.specs.Recordings.{made_by}
-use Rattle.dealer_world.specs.Runs.{Ruled}
+use Rattle.dealer_world.specs.Runs.{IsSeated, arrived_at, Ruled}
 use Rattle.dealer_world.specs.Stepping.{IsFor, IsGiven, arrived_by_event, begins_by_event}
 
 module _ {D : Type 0} (g : Ghosts D) where
@@ -41,6 +41,20 @@ module _ {D : Type 0} (g : Ghosts D) where
   -- a node's front is that of what it is seen as
   abbrev pub FrontsAreSeen : Type 0
   FrontsAreSeen = (node : Node D) (s : Standing) → IsSeen g node s → front_in node ≡ front_of s
+
+module _ {D : Type 0} (g : Ghosts D) where
+  -- an event that met another command where one is known, as the rules have it
+  pub record IsConflict (place : Place) (e : Event) (s : Standing) (old : Node D) : Type 0 where
+    pub found : Store
+    pub store : Store
+    pub turn : IsTurn place s (call_of found e) (Err (Conflict store))
+    pub seated : IsSeated place.setting.game.players (call_of found e)
+    pub arrived : arrived_by_event (runs old) (front_in old) e ≡ arrived_at s.up place.node (front_of s) (call_of found e)
+
+  -- one that was answered by 95 did
+  abbrev pub ConflictsAreRefusals : Type 0
+  ConflictsAreRefusals = (place : Place) (e : Event) (s : Standing) (old new : Node D) (told : Told) → place_at (member_in old) ≡ place → node_of e ≡ place.node
+      → IsFor place.nodes place.setting.game.players e → IsTrue g.is_honest → IsSeen g old s → IsGiven g e old new told (Err fault.Conflict) → IsConflict place e s old
 
 -- an event of whose call the node didn't see the end, in the middle of its append: it is a call that failed, of which only what it brought is told
 abbrev pub BrokenEventsAreCalls : Type 0

@@ -14,7 +14,7 @@ ghost use Rattle.protocol_model.specs.Worlds.{World, Reached};
 ghost use Rattle.dealer_world.specs.Given.{Given};
 ghost use Rattle.dealer_world.specs.RecordLaws.{OldFramesSayTheSame, LinesOfRecordsAgree, AlikeListsShowTheSame, CompleteLogsAreMatchLogs};
 ghost use Rattle.dealer_world.specs.CalmRun.{RoundsMoveOn, FreshClustersAreCalm};
-ghost use Rattle.dealer_world.specs.Calling.{EventsAreCalls, VainEventsAreNone, FrontsAreSeen, BrokenEventsAreCalls};
+ghost use Rattle.dealer_world.specs.Calling.{EventsAreCalls, VainEventsAreNone, FrontsAreSeen, ConflictsAreRefusals, BrokenEventsAreCalls};
 ghost use Rattle.dealer_world.specs.RuleRuns.{RunsShowOneList, RunsAreBacked, RunsSendToNodes, RunsNeverConflict};
 
 use dealer_kind::laws::{deals_are_owned_acts_are_said_and_aways_are_ordered, owners_may_widen};
@@ -165,11 +165,12 @@ pub fn fresh_clusters_are_calm()
 }
 
 /// An event that was given to a node is one call of it by the rules, and none where there was no memory. One that broke
-/// off in the middle of its append is a call that failed.
+/// off in the middle of its append is a call that failed, and one that was answered by 95 is one that the rules refuse so.
 pub fn events_are_calls<D: Disk + Drop>()
     ensures calls { EventsAreCalls D.Disk }
     ensures none { VainEventsAreNone D.Disk }
     ensures broken { BrokenEventsAreCalls }
+    ensures conflict { ConflictsAreRefusals D.Disk }
     ensures front { FrontsAreSeen D.Disk }
 {
     seen_as_one::<D>();

@@ -1,9 +1,10 @@
 -- Deeds of nodes and orders of them, on values.
-use Rattle.std.proofs.Common.{◌≡◌, ◌≢◌, ℕ, ◌==◌, if◌then◌else◌, inl, inr, true, false, List, [], ◌∷◌, length, Ok, Err, refl, ap, sym, subst, arith, take}
+use Rattle.std.proofs.Common.{◌≡◌, ◌≢◌, ℕ, ◌==◌, if◌then◌else◌, inl, inr, true, false, List, [], ◌∷◌, length, Option, Ok, Err, refl, ap, sym, subst, arith, take}
 use Rattle.promise_store.specs.declared.disk.Disk.{Ghosts}
 use Rattle.promise_store.specs.Journals.{header}
 use Rattle.promise_store.specs.Holding.{StandsFor}
 use Rattle.protocol_model.specs.Stores.{Store, empty_store}
+use Rattle.dealer_kind.specs.Plans.{Plan}
 use Rattle.node_rules.specs.Standings.{Place, started}
 use Rattle.node_rules.specs.Calls.{Stop}
 use Rattle.dealer_node.specs.Nodes.{Node}
@@ -17,6 +18,7 @@ use Rattle.dealer_world.specs.Unforged.{IsAmong, IsUnforged}
 use Rattle.stations.specs.Deeds.{Deed, Did, new_at, Doing, deeds_of, IsOrder, record_of}
 use Rattle.stations.specs.Stations.{Look, place_in, deed_by, Gains, nothing, call, IsLeft, died, broke_off}
 use Rattle.stations.specs.Lives.{IsProcess, at_rest, MayHaveDone, new_store, IsHistoryOf}
+use Rattle.stations.specs.Together.{HaveLived, HaveHistories}
 use Rattle.stations.proofs.Dying.{stops_down}
 
 -- ---- orders of deeds
@@ -140,3 +142,15 @@ module _ {D : Type 0} (g : Ghosts D) (place : Place) (file : List ℕ) where
     a_death_that_is_left_out : (left : List ℕ) (is : IsProcess g place file look) (image : images_of g look.node left)
         → MayHaveDone g place file left (at_rest look is image) look.deeds → ⊥
     a_death_that_is_left_out left is image done = longer died look.deeds (sym done)
+
+  -- ---- all nodes
+
+  module _ (plan : Plan) where
+    no_node_has_no_history : HaveHistories g plan 0 [] tt []
+    no_node_has_no_history = refl
+
+    a_history_of_nobody : HaveHistories g plan 0 [] tt ((died ∷ []) ∷ []) → ⊥
+    a_history_of_nobody more = cc
+
+    a_node_without_a_history : (now : Option (Look (Node D))) (lived : HaveLived g plan 0 (now ∷ [])) → HaveHistories g plan 0 (now ∷ []) lived [] → ⊥
+    a_node_without_a_history now lived none = none

@@ -2,5 +2,6 @@ mod Joining
 mod Acting
 mod Dying
 mod Living
+mod Together
 mod Walks
 mod Examples

@@ -5,3 +5,4 @@ pub mod Stations
 pub mod Giving
 pub mod Looking
 pub mod Lives
+pub mod Together

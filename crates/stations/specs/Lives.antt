@@ -1,24 +1,18 @@
 -- The processes that a node had, one after another, and what they did together.
-use Rattle.std.specs.Prelude.{◌≡◌, ℕ, ◌+◌, ◌⊎◌, List, [], ◌∷◌, ◌++◌, length, Option, Some, None, Result, IsTrue}
-use Rattle.std.proofs.Common.{get_or}
+use Rattle.std.specs.Prelude.{◌≡◌, ℕ, ◌⊎◌, List, [], ◌∷◌, ◌++◌, Result, IsTrue}
 use Rattle.promise_store.specs.declared.disk.Disk.{Ghosts}
 use Rattle.promise_store.specs.Journals.{header}
 use Rattle.promise_store.specs.Holding.{StandsFor}
 use Rattle.protocol_model.specs.Stores.{empty_store}
-use Rattle.dealer_kind.specs.Kind.{Setting}
-use Rattle.dealer_kind.specs.Plans.{Plan, IsPlan}
-use Rattle.dealer_kind.specs.declared.source.Source.{Source}
-use Rattle.node_rules.specs.Standings.{Place, place_of}
+use Rattle.node_rules.specs.Standings.{Place}
 use Rattle.dealer_node.specs.Nodes.{Node}
 use Rattle.dealer_node.specs.declared.fault.NodeFault.{NodeFault}
 use Rattle.dealer_node.specs.Outs.{Told}
 use Rattle.dealer_node.specs.Seeing.{front_in, begun_of, images_of, since_of, moment_of}
 use Rattle.dealer_world.specs.declared.event.Event.{Event}
 use Rattle.dealer_world.specs.Events.{node_of}
-use Rattle.dealer_world.specs.RuleRuns.{plan_of}
 use Rattle.dealer_world.specs.Stepping.{IsFor, IsGiven}
-use Rattle.stations.specs.Deeds.{Deed, Doing}
-use Rattle.stations.specs.Joining.{IsTrueOrder, ShowOneList}
+use Rattle.stations.specs.Deeds.{Deed}
 use Rattle.stations.specs.Stations.{Look, place_in, Has, IsLeft, died, broke_off}
 
 module _ {D : Type 0} (g : Ghosts D) where
@@ -56,40 +50,3 @@ module _ {D : Type 0} (g : Ghosts D) where
   abbrev pub LivesAreDeeds : Type 0
   LivesAreDeeds = (place : Place) (file : List ℕ) (lives : Lives place file) → IsTrue g.is_honest
       → ∥ ((deeds : List Deed) × IsHistoryOf place file lives deeds × IsLeft place file deeds) ∥₁
-
-  -- ---- all nodes of a match, each with a process now or with none
-
-  -- the processes that the node at this place had before
-  pub record LivedBefore (place : Place) (look : Look (Node D)) : Type 0 where
-    pub at : place_in look ≡ place
-    pub lives : Lives place (begun_of g look.node)
-
-  abbrev pub HasLived : Place → Option (Look (Node D)) → Type 0
-  HasLived place None = (file : List ℕ) × Lives place file
-  HasLived place (Some look) = LivedBefore place look
-
-  abbrev pub HasHistory : (place : Place) (now : Option (Look (Node D))) → HasLived place now → List Deed → Type 0
-  HasHistory place None lived deeds = IsHistoryOf place lived.0 lived.1 deeds
-  HasHistory place (Some look) lived deeds = (before : List Deed) × IsHistoryOf place (begun_of g look.node) lived.lives before × (deeds ≡ look.deeds ++ before)
-
-  abbrev pub HaveLived : Plan → ℕ → List (Option (Look (Node D))) → Type 0
-  HaveLived plan i [] = Unit {0}
-  HaveLived plan i (now ∷ more) = HasLived (place_of plan i) now × HaveLived plan (i + 1) more
-
-  -- the histories of the nodes from this number on
-  abbrev pub HaveHistories : (plan : Plan) (i : ℕ) (all : List (Option (Look (Node D)))) → HaveLived plan i all → List (List Deed) → Type 0
-  HaveHistories plan i [] lived histories = histories ≡ []
-  HaveHistories plan i (now ∷ more) lived [] = ⊥
-  HaveHistories plan i (now ∷ more) lived (history ∷ histories) =
-      HasHistory (place_of plan i) now lived.0 history × HaveHistories plan (i + 1) more lived.1 histories
-
-  abbrev pub history_at : List (List Deed) → ℕ → List Deed
-  history_at histories i = get_or histories i []
-
-  -- whatever processes they had before, there are histories of the nodes, and where these have an order in which each frame had been sent before it came,
-  -- one list is behind all that they showed
-  abbrev pub StationsShowOneList : List (Option (Look (Node D))) → Type 0
-  StationsShowOneList stations = (setting : Setting) (sources : List Source) → IsPlan (plan_of setting sources) → length stations ≡ length sources → IsTrue g.is_honest
-      → (lived : HaveLived (plan_of setting sources) 0 stations)
-      → ∥ ((histories : List (List Deed)) × HaveHistories (plan_of setting sources) 0 stations lived histories
-      × ((all : List Doing) → IsTrueOrder (length sources) (history_at histories) all → ShowOneList setting sources all)) ∥₁

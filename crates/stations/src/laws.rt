@@ -3,7 +3,8 @@
 ghost use Rattle.std.specs.Prelude.{map, option_map};
 ghost use Rattle.stations.specs.Joining.{ProcessesShowOneList, ProcessesAreBacked, ProcessesSendToNodes, ProcessesNeverConflict};
 ghost use Rattle.stations.specs.Stations.{DeathsAtRestAreDeeds, DeathsInsideAreDeeds};
-ghost use Rattle.stations.specs.Lives.{LivesAreDeeds, StationsShowOneList};
+ghost use Rattle.stations.specs.Lives.{LivesAreDeeds};
+ghost use Rattle.stations.specs.Together.{StationsAreProcesses, StationsShowOneList, StationsNeverConflict};
 ghost use Rattle.stations.specs.Looking.{look_of};
 
 use crate::station::Station;
@@ -44,8 +45,8 @@ pub fn processes_never_conflict()
 }
 
 /// What a process leaves that dies, at whatever moment, is what the next process of its node goes on from: as after a
-/// stop, or as after a call that broke off in its append. A start that breaks off while it opens the store is such a call
-/// too, also where it was about to open a store of version 1.
+/// stop, or as after a call that broke off in its append. A start that breaks off while it opens the store is as a stop,
+/// also where it was about to open a store of version 1.
 pub fn deaths_are_deeds<D: Disk + Drop>()
     ensures rest { DeathsAtRestAreDeeds D.Disk }
     ensures inside { DeathsInsideAreDeeds D.Disk }
@@ -64,14 +65,30 @@ pub fn lives_are_deeds<D: Disk + Drop>()
     deaths_are_deeds::<D>();
 }
 
-/// One list of chosen commands is behind all lines and logs of the stations of a match and of all earlier processes of
-/// their nodes, over honest disks: what each node did has a history, as its processes ended, and for each order of these
-/// histories in which each frame had been sent before it came there is the one list.
+/// The stations of a match, with all earlier processes of their nodes, over honest disks, are processes of which the laws
+/// above speak: what each node did has a history, as its processes ended, and so it is for each order of these histories
+/// in which each frame had been sent before it came.
 ///
-/// `None` stands for a node that has no process now.
+/// `None` stands for a node that has no process now, here and below.
+pub fn stations_are_processes<D: Disk + Drop>(_stations: &[Option<Station<D>>])
+    ensures { StationsAreProcesses D.Disk (map (option_map look_of) _stations.now) }
+{
+    lives_are_deeds::<D>();
+}
+
+/// So one list of chosen commands is behind all lines and logs of the stations and of all earlier processes of their nodes.
 pub fn stations_show_one_list<D: Disk + Drop>(_stations: &[Option<Station<D>>])
     ensures { StationsShowOneList D.Disk (map (option_map look_of) _stations.now) }
 {
     lives_are_deeds::<D>();
     processes_show_one_list();
+}
+
+/// And no next call of a station, by which no frame is forged either, is answered by 95.
+pub fn stations_never_conflict<D: Disk + Drop>(_stations: &[Option<Station<D>>])
+    ensures { StationsNeverConflict D.Disk (map (option_map look_of) _stations.now) }
+{
+    lives_are_deeds::<D>();
+    events_are_calls::<D>();
+    processes_never_conflict();
 }

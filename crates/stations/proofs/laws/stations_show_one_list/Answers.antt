@@ -1,4 +1,4 @@
-use Rattle.stations.proofs.Living.{stations_show_one_list}
+use Rattle.stations.proofs.Together.{stations_show_one_list}
 use Rattle.stations.proofs.laws.stations_show_one_list.Goals as goal
 
 pub returns : goal.returns
