@@ -77,7 +77,7 @@ impl Waiters {
         }
     }
 
-    /// Takes out the last one, whatever it sent: to end each at the port's close. It keeps the list to this file.
+    /// Takes out the last one, whatever it sent, to be turned away. It keeps the list to this file.
     pub(crate) fn pop(&mut self) -> Option<Held> {
         self.all.pop()
     }

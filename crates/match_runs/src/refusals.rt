@@ -1,4 +1,4 @@
-//! How it is told that what a seat sent was refused.
+//! The note, on standard error, that what a seat sent was refused. The seat itself is told nothing.
 
 ghost use Rattle.std.specs.Prelude.{◌≡◌, ◌+◌, ◌<◌, ◌∷◌, ◌++◌, true, IfSome, IsNone, drop, length, take};
 ghost use Rattle.dealer_world.specs.Viewing.{view_of};

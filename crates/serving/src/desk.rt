@@ -69,7 +69,8 @@ impl<L: Links + Drop> Desk<L> {
         }
     }
 
-    /// What is known goes on after an event that was given to the cluster.
+    /// Notes what an event did that was given to the cluster, and closes at the links what it ended: the connection of a seat
+    /// that was dropped, the ports of a node that was stopped. A seat that is played for from now on is turned away.
     pub(crate) fn settle_event<D: Disk + Drop>(&mut self, cluster: &Cluster<D>, waiting: &Waiting)
         ensures settled { Settled D.Disk (view_of cluster.now) waiting.now.event (turn_of waiting.now.number waiting.now.seat waiting.now.event) self.old.progress self.new.progress }
         ensures passed { L.passed self.new.links ≡ L.passed self.old.links }
@@ -80,27 +81,27 @@ impl<L: Links + Drop> Desk<L> {
         self.last_node = waiting.event.node();
         self.progress.count_commands(cluster);
         match &waiting.event {
-            Event::Frame { .. } => self.progress.deliver(waiting.number),
+            Event::Frame { .. } => self.progress.note_delivered(waiting.number),
             Event::Line { node, seat, bytes } => {
-                self.progress.greet(*seat);
+                self.progress.note_greeted(*seat);
                 if leaves(*seat as usize, bytes, cluster.last().faults()) {
-                    self.progress.leave(*seat as usize, *node);
+                    self.progress.note_leaving(*seat as usize, *node);
                 }
             }
             Event::Tick { .. } | Event::Away { .. } => {}
-            Event::Connect { node, seat } => self.progress.seat(*seat, *node),
+            Event::Connect { node, seat } => self.progress.note_seated(*seat, *node),
             Event::Drop { node, seat } => {
                 self.links.hang_up(*node, *seat);
-                self.progress.greet(*seat);
+                self.progress.note_greeted(*seat);
                 if self.progress.drop_seat(cluster, *seat, *node) {
                     self.links.turn_away(*seat);
                 }
             }
             Event::Stop { node, .. } => {
                 self.links.close_node(*node);
-                self.progress.stop(cluster, *node);
+                self.progress.note_stopped(cluster, *node);
             }
-            Event::Start { node } => self.progress.start(*node),
+            Event::Start { node } => self.progress.note_started(*node),
         }
     }
 
@@ -153,7 +154,7 @@ impl<L: Links + Drop> Desk<L> {
             return;
         }
         if self.links.write(node, seat as u8, line).is_err() {
-            self.progress.leave(seat, node);
+            self.progress.note_leaving(seat, node);
         }
     }
 }

@@ -79,7 +79,7 @@ impl Progress {
     }
 
     /// A seat leaves a node: its connection ended or failed, or its session was closed.
-    pub(crate) fn leave(&mut self, seat: usize, node: u8)
+    pub(crate) fn note_leaving(&mut self, seat: usize, node: u8)
         ensures kept { IsKept self.old self.new }
         ensures places { places_in self.new.places ≡ set (places_in self.old.places) seat (Leaving node) }
     {
@@ -126,8 +126,8 @@ impl Progress {
         }
     }
 
-    /// Whether the node's store failed for the first time; then the node is to be stopped and started.
-    pub(crate) fn repairs(&mut self, node: u8) -> bool
+    /// Orders that a node whose store failed is stopped and started, where it failed for the first time; whether it did.
+    pub(crate) fn begin_repair(&mut self, node: u8) -> bool
         ensures { AsksRepair self.old node result self.new }
     {
         let place = (node as usize).min(NODES - 1);
@@ -140,7 +140,7 @@ impl Progress {
     }
 
     /// A connection of a seat was accepted at a node.
-    pub(crate) fn seat(&mut self, seat: u8, node: u8)
+    pub(crate) fn note_seated(&mut self, seat: u8, node: u8)
         ensures kept { IsKept self.old self.new }
         ensures places { places_in self.new.places ≡ set (places_in self.old.places) seat (Seated node) }
     {
@@ -148,14 +148,14 @@ impl Progress {
     }
 
     /// A frame was delivered.
-    pub(crate) fn deliver(&mut self, number: usize)
+    pub(crate) fn note_delivered(&mut self, number: usize)
         ensures { self.new ≡ record self.old { delivered = min (number + 1) (2 ^ 64 - 1) } }
     {
         self.delivered = number.saturating_add(1);
     }
 
     /// A node was stopped: its seats are awaited at the next one, or played for from there on as they were.
-    pub(crate) fn stop<D: Disk + Drop>(&mut self, cluster: &Cluster<D>, node: u8)
+    pub(crate) fn note_stopped<D: Disk + Drop>(&mut self, cluster: &Cluster<D>, node: u8)
         ensures same { IsSame self.old self.new }
         ensures delivered { self.new.delivered ≡ self.old.delivered }
         ensures repair { self.new.repair ≡ stopped node self.old.repair }
@@ -167,14 +167,14 @@ impl Progress {
     }
 
     /// A node was started.
-    pub(crate) fn start(&mut self, node: u8)
+    pub(crate) fn note_started(&mut self, node: u8)
         ensures { self.new ≡ record self.old { repair = started node self.old.repair } }
     {
         self.repair = started(self.repair, node);
     }
 
     /// A seat that was to be greeted is.
-    pub(crate) fn greet(&mut self, seat: u8)
+    pub(crate) fn note_greeted(&mut self, seat: u8)
         ensures { self.new ≡ record self.old { greeted = greeted_after seat self.old.greeted } }
     {
         if self.greeted == seat as usize {

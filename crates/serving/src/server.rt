@@ -241,25 +241,30 @@ impl<D: Disk + Drop, L: Links + Drop> Server<D, L> {
                 self.desk.show(&self.cluster)?;
                 Ok(waiting.turn())
             }
-            Err(fault) => self.mend(waiting, fault),
+            Err(fault) => self.close_refused_turn(waiting, fault),
         }
     }
 
-    /// Ends a turn whose event was refused, where the server goes on.
-    fn mend(&mut self, waiting: &Waiting, fault: NodeFault) -> Result<Turn, ServeFault>
+    /// Ends a turn whose event was refused, where the server can go on: what was shown before is given to its readers.
+    fn close_refused_turn(
+        &mut self,
+        waiting: &Waiting,
+        fault: NodeFault,
+    ) -> Result<Turn, ServeFault>
         ensures still { IsStill self.old self.new }
         ensures waiting { self.new.waiting ≡ self.old.waiting }
         ensures closes { Closes waiting.now (Err fault) (served_of self.old) result (served_of self.new) }
     {
-        if !goes_on(&waiting.event, Err(fault)) || !self.mends(&waiting.event, fault) {
+        if !goes_on(&waiting.event, Err(fault)) || !self.begin_repair_after(&waiting.event, fault) {
             return Err(ServeFault::Node(fault));
         }
         self.desk.show(&self.cluster)?;
         Ok(waiting.turn())
     }
 
-    /// Whether a fault needs nothing, or a node's store failed for the first time.
-    fn mends(&mut self, event: &Event, fault: NodeFault) -> bool
+    /// Orders the repair of a node whose store failed, which it gets once; whether the server can go on after the fault. Other
+    /// faults need nothing.
+    fn begin_repair_after(&mut self, event: &Event, fault: NodeFault) -> bool
         ensures still { IsStill self.old self.new }
         ensures waiting { self.new.waiting ≡ self.old.waiting }
         ensures passed { L.passed self.new.desk.links ≡ L.passed self.old.desk.links }
@@ -267,7 +272,7 @@ impl<D: Disk + Drop, L: Links + Drop> Server<D, L> {
         ensures mended { Mends fault (node_of event.now) self.old.desk.progress result self.new.desk.progress }
     {
         match fault {
-            NodeFault::Store(_) => self.desk.progress.repairs(event.node()),
+            NodeFault::Store(_) => self.desk.progress.begin_repair(event.node()),
             _ => true,
         }
     }

@@ -21,7 +21,7 @@ returns-then-is_err-clause-told g c =
     let places = places_in c.args.self.now.progress.places in
     let seated : slice_get places c.args.seat ≡ Some (Seated c.args.node) = c.is_seated.ensures.value.0 (search rules) in
     let left = one_leaves places c.args.seat c.args.node c.args.line.now seated in
-    let after = sym c.leave.ensures.places in
+    let after = sym c.note_leaving.ensures.places in
     inr (
       search rules,
       subst (λ (now : List Place). slice_get now c.args.seat ≡ Some (Seated c.args.node) → ⊥) after (no_longer_seated places c.args.seat c.args.node),

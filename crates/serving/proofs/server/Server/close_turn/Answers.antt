@@ -12,4 +12,4 @@ returns-in_ok-show-in-Ok-clause-closes g c =
     })
 
 pub returns-in-Err-clause-closes : goal.returns-in-Err-clause-closes
-returns-in-Err-clause-closes g c = rw c.in-Err.is c.mend.ensures.closes
+returns-in-Err-clause-closes g c = rw c.in-Err.is c.close_refused_turn.ensures.closes

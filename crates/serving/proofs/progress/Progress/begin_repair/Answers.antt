@@ -2,7 +2,7 @@ use Rattle.std.proofs.Common.{◌≡◌, ℕ, ◌-◌, true, false, Some, min, s
 use Rattle.match_links.specs.declared.limits.TheConstants.{NODES}
 use Rattle.serving.specs.declared.known.Repair.TheVariants as repair
 use Rattle.serving.specs.Going.{first, again}
-use Rattle.serving.proofs.progress.Progress.repairs.Goals as goal
+use Rattle.serving.proofs.progress.Progress.begin_repair.Goals as goal
 
 pub returns-then-self-place : goal.returns-then-self-place
 returns-then-self-place c =
