@@ -27,25 +27,29 @@ module _ {D : Type 0} (g : Ghosts D) where
     pub at : place_in look ≡ place
     pub lives : Lives g place (begun_of g look.node)
 
+  -- a node that has no process now had its last one, which left a file
   abbrev pub HasLived : Place → Option (Look (Node D)) → Type 0
   HasLived place None = (file : List ℕ) × Lives g place file
   HasLived place (Some look) = LivedBefore place look
 
+  -- what its processes did, with the present one's deeds the newest
   abbrev pub HasHistory : (place : Place) (now : Option (Look (Node D))) → HasLived place now → List Deed → Type 0
   HasHistory place None lived deeds = IsHistoryOf g place lived.0 lived.1 deeds
   HasHistory place (Some look) lived deeds = (before : List Deed) × IsHistoryOf g place (begun_of g look.node) lived.lives before × (deeds ≡ look.deeds ++ before)
 
+  -- the nodes from this number on
   abbrev pub HaveLived : Plan → ℕ → List (Option (Look (Node D))) → Type 0
   HaveLived plan i [] = Unit {0}
   HaveLived plan i (now ∷ more) = HasLived (place_of plan i) now × HaveLived plan (i + 1) more
 
-  -- the histories of the nodes from this number on
+  -- and a history of each
   abbrev pub HaveHistories : (plan : Plan) (i : ℕ) (all : List (Option (Look (Node D)))) → HaveLived plan i all → List (List Deed) → Type 0
   HaveHistories plan i [] lived histories = histories ≡ []
   HaveHistories plan i (now ∷ more) lived [] = ⊥
   HaveHistories plan i (now ∷ more) lived (history ∷ histories) =
       HasHistory (place_of plan i) now lived.0 history × HaveHistories plan (i + 1) more lived.1 histories
 
+  -- that of node i
   abbrev pub history_at : List (List Deed) → ℕ → List Deed
   history_at histories i = get_or histories i []
 
