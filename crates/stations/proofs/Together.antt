@@ -1,9 +1,12 @@
 -- All nodes of a match, each with a process now or with none.
-use Rattle.std.proofs.Common.{◌≡◌, ℕ, zero, suc, ◌+◌, ◌<◌, ◌∙◌, List, [], ◌∷◌, ◌++◌, length, map, Option, Some, None, get_or, IsTrue, refl, sym, subst, arith}
+use Rattle.std.proofs.Common.{◌≡◌, ℕ, zero, suc, ◌+◌, ◌<◌, ◌∙◌, ◌⊎◌, inl, inr, List, [], ◌∷◌, ◌++◌, length, map, Option, Some, None, get_or, IsTrue, refl, ap, sym, subst, arith}
 use Rattle.std.specs.Prelude.{option_map}
 use Rattle.std.proofs.Math.Logic.{∥∥₁_map, ∥∥₁_elim}
 use Rattle.std.proofs.lemmas.List.{length-map}
 use Rattle.promise_store.specs.declared.disk.Disk.{Ghosts}
+use Rattle.promise_store.specs.Journals.{header}
+use Rattle.promise_store.specs.Holding.{StandsFor}
+use Rattle.promise_store.specs.Laws.{IsBacked}
 use Rattle.dealer_kind.specs.Kind.{Setting}
 use Rattle.dealer_kind.specs.Plans.{Plan, IsPlan}
 use Rattle.dealer_kind.specs.declared.source.Source.{Source}
@@ -19,11 +22,12 @@ use Rattle.dealer_world.specs.Unforged.{IsUnforged}
 use Rattle.dealer_world.specs.Views.{placed_at}
 use Rattle.stations.specs.declared.station.Station.{Station}
 use Rattle.stations.specs.Deeds.{Deed, Did, new_at, Doing, record_of}
-use Rattle.stations.specs.Joining.{IsTrueOrder, AreProcesses, ProcessesShowOneList, ProcessesNeverConflict}
+use Rattle.stations.specs.Joining.{IsTrueOrder, AreProcesses, ProcessesShowOneList, ProcessesAreBacked, ProcessesNeverConflict}
 use Rattle.stations.specs.Stations.{Look, place_in, IsAt, IsLeft}
 use Rattle.stations.specs.Looking.{look_of}
 use Rattle.stations.specs.Lives.{LivesAreDeeds}
-use Rattle.stations.specs.Together.{HasLived, HasHistory, HaveLived, HaveHistories, history_at, StationsAreProcesses, StationsShowOneList, NoneConflicts, StationsNeverConflict}
+use Rattle.stations.specs.Together.{HasLived, HasHistory, HaveLived, HaveHistories, history_at, StationsAreProcesses, StationsShowOneList, NoneConflicts, StationsNeverConflict, AllAreBacked, StationsAreBacked}
+use Rattle.stations.proofs.Dying.{ImagesAreSeen}
 
 -- there are so many where one of this number is
 one_of : {A : Type 0} (list : List (Option A)) (i : ℕ) (one : A) → get_or list i None ≡ Some one → i < length list
@@ -107,17 +111,33 @@ module _ {D : Type 0} (g : Ghosts D) where
     are_processes : AreProcesses setting sources (history_at g histories) all
     are_processes = record { plan = is_plan; did = λ i less. (each_node i less).0; order = order }
 
+    -- a station of these is of a node of the match, which is where its deeds lead
+    within : (i : ℕ) (look : Look (Node D)) → get_or looks i None ≡ Some look → i < length sources
+    within i look is = let many = one_of looks i look is in omega (arith, many, count)
+
+    there_now : (i : ℕ) (look : Look (Node D)) → get_or looks i None ≡ Some look → ∥ IsThere (place_of (plan_of setting sources) i) look.node (get_or histories i []) ∥₁
+    there_now i look is =
+        subst (λ (one : Option (Look (Node D))). IsNow (place_of (plan_of setting sources) i) one (get_or histories i [])) is (each_node i (within i look is)).1
+
     none_conflicts : ConflictsAreRefusals g → ProcessesNeverConflict → IsTrue g.is_honest → NoneConflicts g looks setting sources (history_at g histories) all
     none_conflicts refusals law honest i look e new told at here is_for given unforged =
-        let place = place_of (plan_of setting sources) i in
-        let many = one_of looks i look at in
-        let less : i < length sources = omega (arith, many, count) in
-        let now = subst (λ (one : Option (Look (Node D))). IsNow place one (get_or histories i [])) at (each_node i less).1 in
-        ∥∥₁_elim now (hlevel) (λ there.
+        ∥∥₁_elim (there_now i look at) (hlevel) (λ there.
         let s = there.at.s in
-        let is = refusals place e s look.node new told there.placed here is_for honest there.at.seen given in
-        law setting sources (history_at g histories) all are_processes i s (call_of is.found e) is.store less there.at.did is.seated
+        let is = refusals (place_of (plan_of setting sources) i) e s look.node new told there.placed here is_for honest there.at.seen given in
+        law setting sources (history_at g histories) all are_processes i s (call_of is.found e) is.store (within i look at) there.at.did is.seated
         (subst (λ (arrived : List Arrived). IsUnforged (record_of all).sent ((record_of all).delivered ++ map (placed_at (length (record_of all).sent)) arrived)) is.arrived unforged) is.turn)
+
+    all_are_backed : ImagesAreSeen g → ProcessesAreBacked → AllAreBacked g looks setting sources (history_at g histories) all
+    all_are_backed images law i look image frame message at is sent from says =
+        ∥∥₁_elim (there_now i look at) (hlevel) (λ there.
+        let s = there.at.s in
+        ∥∥₁_map (law setting sources (history_at g histories) all are_processes i s (within i look at) there.at.did) (λ back.
+        let backs = back frame message sent from says in
+        elim (subst (λ (h : List ℕ). StandsFor h image s.store ⊎ StandsFor h image s.begun) (ap (λ (p : Place). header p.node p.nodes) there.placed) (images look.node s image there.at.seen is))
+        as (λ _. IsBacked (header i (length sources)) image message) [
+          | inl stands ↦ (s.store, stands, backs.0)
+          | inr stands ↦ (s.begun, stands, backs.1)
+        ]))
 
   pub stations_are_processes : LivesAreDeeds g → (stations : List (Option (Station D g))) → StationsAreProcesses g (map (option_map look_of) stations)
   stations_are_processes lives stations setting sources is_plan count honest lived =
@@ -134,3 +154,8 @@ module _ {D : Type 0} (g : Ghosts D) where
   stations_never_conflict lives refusals law stations setting sources is_plan count honest lived =
       ∥∥₁_map (all_nodes lives honest (plan_of setting sources) 0 stations lived)
       (λ so. (so.0, so.1, (λ all order. none_conflicts stations setting sources is_plan count so.0 so.2 all order refusals law honest)))
+
+  pub stations_are_backed : LivesAreDeeds g → ImagesAreSeen g → ProcessesAreBacked → (stations : List (Option (Station D g))) → StationsAreBacked g (map (option_map look_of) stations)
+  stations_are_backed lives images law stations setting sources is_plan count honest lived =
+      ∥∥₁_map (all_nodes lives honest (plan_of setting sources) 0 stations lived)
+      (λ so. (so.0, so.1, (λ all order. all_are_backed stations setting sources is_plan count so.0 so.2 all order images law)))

@@ -68,18 +68,26 @@ module _ {D : Type 0} (g : Ghosts D) where
   abbrev pub IsTrueTo : Place → Node D → List Deed → Type 0
   IsTrueTo place node deeds = (before : List Deed) → ∥ IsLeft place (begun_of g node) before ∥₁ → IsTrue g.is_honest → ∥ IsAt place node (deeds ++ before) ∥₁
 
-  -- what holds of every station
-  pub record Has (look : Look (Node D)) : Type 0 where
-    pub here : look.number < length look.config.sources
-    pub at_place : ∥ place_at (member_in look.node) ≡ place_in look ∥₁
-    pub true_to : IsTrueTo (place_in look) look.node look.deeds
-
   -- an event was given to the node, and its deeds are one more, or as many where there was no memory
   pub record Acts (e : Event) (told : Told) (answer : Result (Unit {0}) NodeFault) (old new : Look (Node D)) : Type 0 where
     pub config : new.config ≡ old.config
     pub number : new.number ≡ old.number
     pub given : IsGiven g e old.node new.node told answer
     pub gains : Gains (runs old.node) (front_in old.node) e told answer old.deeds new.deeds
+
+  -- a process of the node at this place that was opened on this file, and what the events that were given to it made of it: its deeds are those calls, and no
+  -- others
+  pub data Works (place : Place) (file : List ℕ) : Look (Node D) → Type 0 where
+    opened : (look : Look (Node D)) → place_in look ≡ place → begun_of g look.node ≡ file → look.deeds ≡ [] → Works place file look
+    acted : (old new : Look (Node D)) (e : Event) (told : Told) (answer : Result (Unit {0}) NodeFault) → Works place file old → node_of e ≡ place.node
+        → IsFor place.nodes place.setting.game.players e → Acts e told answer old new → Works place file new
+
+  -- what holds of every station
+  pub record Has (look : Look (Node D)) : Type 0 where
+    pub here : look.number < length look.config.sources
+    pub at_place : ∥ place_at (member_in look.node) ≡ place_in look ∥₁
+    pub true_to : IsTrueTo (place_in look) look.node look.deeds
+    pub works : ∥ Works (place_in look) (begun_of g look.node) look ∥₁
 
   -- ---- deaths
 

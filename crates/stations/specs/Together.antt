@@ -2,6 +2,10 @@
 use Rattle.std.specs.Prelude.{◌≡◌, ℕ, ◌+◌, List, [], ◌∷◌, ◌++◌, length, map, Option, Some, None, Err, IsTrue}
 use Rattle.std.proofs.Common.{get_or}
 use Rattle.promise_store.specs.declared.disk.Disk.{Ghosts}
+use Rattle.promise_store.specs.Journals.{header}
+use Rattle.promise_store.specs.Laws.{IsBacked}
+use Rattle.protocol_model.specs.Sets.{In}
+use Rattle.protocol_model.specs.Messages.{Message}
 use Rattle.dealer_kind.specs.Kind.{Setting}
 use Rattle.dealer_kind.specs.Plans.{Plan, IsPlan}
 use Rattle.dealer_kind.specs.declared.source.Source.{Source}
@@ -9,9 +13,10 @@ use Rattle.node_rules.specs.Standings.{Place, place_of}
 use Rattle.dealer_node.specs.Nodes.{Node}
 use Rattle.dealer_node.specs.declared.fault.NodeFault.TheVariants as fault
 use Rattle.dealer_node.specs.Outs.{Told}
-use Rattle.dealer_node.specs.Seeing.{runs, front_in, begun_of}
+use Rattle.dealer_node.specs.Seeing.{runs, front_in, begun_of, images_of}
 use Rattle.dealer_world.specs.declared.event.Event.{Event}
 use Rattle.dealer_world.specs.Events.{node_of}
+use Rattle.dealer_world.specs.Records.{Frame, said_by}
 use Rattle.dealer_world.specs.RuleRuns.{plan_of}
 use Rattle.dealer_world.specs.Stepping.{IsFor, IsGiven, arrived_by_event}
 use Rattle.dealer_world.specs.Unforged.{IsUnforged}
@@ -79,3 +84,11 @@ module _ {D : Type 0} (g : Ghosts D) where
 
   abbrev pub StationsNeverConflict : List (Option (Look (Node D))) → Type 0
   StationsNeverConflict stations = InEachOrder (NoneConflicts stations) stations
+
+  -- each image of a station's disk stands for a store that backs what its node said by its frames, in this process and before
+  abbrev pub AllAreBacked : List (Option (Look (Node D))) → Setting → List Source → (ℕ → List Deed) → List Doing → Type 0
+  AllAreBacked stations setting sources histories all = (i : ℕ) (look : Look (Node D)) (image : List ℕ) (frame : Frame) (message : Message) → get_or stations i None ≡ Some look
+      → images_of g look.node image → In frame (record_of all).sent → frame.from ≡ i → In message (said_by frame) → ∥ IsBacked (header i (length sources)) image message ∥₁
+
+  abbrev pub StationsAreBacked : List (Option (Look (Node D))) → Type 0
+  StationsAreBacked stations = InEachOrder (AllAreBacked stations) stations

@@ -4,7 +4,7 @@ ghost use Rattle.std.specs.Prelude.{map, option_map};
 ghost use Rattle.stations.specs.Joining.{ProcessesShowOneList, ProcessesAreBacked, ProcessesSendToNodes, ProcessesNeverConflict};
 ghost use Rattle.stations.specs.Stations.{DeathsAtRestAreDeeds, DeathsInsideAreDeeds};
 ghost use Rattle.stations.specs.Lives.{LivesAreDeeds};
-ghost use Rattle.stations.specs.Together.{StationsAreProcesses, StationsShowOneList, StationsNeverConflict};
+ghost use Rattle.stations.specs.Together.{StationsAreProcesses, StationsShowOneList, StationsAreBacked, StationsNeverConflict};
 ghost use Rattle.stations.specs.Looking.{look_of};
 
 use crate::station::Station;
@@ -82,6 +82,16 @@ pub fn stations_show_one_list<D: Disk + Drop>(_stations: &[Option<Station<D>>])
 {
     lives_are_deeds::<D>();
     processes_show_one_list();
+}
+
+/// And each image of a station's disk stands for a store that backs what its node said by its frames, in this process and
+/// in those before.
+pub fn stations_are_backed<D: Disk + Drop>(_stations: &[Option<Station<D>>])
+    ensures { StationsAreBacked D.Disk (map (option_map look_of) _stations.now) }
+{
+    lives_are_deeds::<D>();
+    images_are_seen::<D>();
+    processes_are_backed();
 }
 
 /// And no next call of a station, by which no frame is forged either, is answered by 95.

@@ -1,13 +1,13 @@
-ghost use Rattle.std.specs.Prelude.{◌≡◌, ◌<◌, [], length, IfOk, IfErr};
+ghost use Rattle.std.specs.Prelude.{◌≡◌, ◌<◌, false, [], length, IfOk, IfErr};
 ghost use Rattle.promise_store.specs.declared.disk.Disk.{Ghosts};
 ghost use Rattle.dealer_node.specs.Outs.{nothing_told};
 ghost use Rattle.dealer_node.specs.Members.{place_at};
-ghost use Rattle.dealer_node.specs.Seeing.{member_in, begun_of};
+ghost use Rattle.dealer_node.specs.Seeing.{member_in, runs, begun_of};
 ghost use Rattle.node_rules.specs.Standings.{place_of};
 ghost use Rattle.dealer_world.specs.Beginning.{IsOver, IsWant};
 ghost use Rattle.dealer_world.specs.Events.{node_of};
 ghost use Rattle.dealer_world.specs.Stepping.{IsFor};
-ghost use Rattle.stations.specs.Stations.{IsTrueTo, Acts, Has};
+ghost use Rattle.stations.specs.Stations.{IsTrueTo, Acts, Works, Has};
 
 use crate::deeds::{Deeds, Given};
 use dealer_kind::Config;
@@ -30,6 +30,7 @@ pub struct Station<D: Disk + Drop> {
     ghost here: { number < length config.sources },
     ghost at_place: { ∥ place_at (member_in node) ≡ place_of config number ∥₁ },
     ghost true_to: { IsTrueTo D.Disk (place_of config number) node deeds.items },
+    ghost works: { ∥ Works D.Disk (place_of config number) (begun_of D.Disk node) (record { config = config; number = number; node = node; deeds = deeds.items }) ∥₁ },
 }
 
 /// By hand, so that letting one go is one call for whoever owns it (docs/ARCHITECTURE.md, Habits).
@@ -56,6 +57,7 @@ impl<D: Disk + Drop> Station<D> {
         ensures config { IfOk result (λ made. (look_of made).config ≡ config) }
         ensures number { IfOk result (λ made. (look_of made).number ≡ number) }
         ensures deeds { IfOk result (λ made. (look_of made).deeds ≡ []) }
+        ensures down { IfOk result (λ made. runs (look_of made).node ≡ false) }
         ensures over { IfOk result (λ made. IsOver D.Disk disk (look_of made).node) }
         ensures failed { IfErr result IsWant }
     {
@@ -93,8 +95,9 @@ impl<D: Disk + Drop> Station<D> {
         answer
     }
 
-    /// What holds of every station: its node is at its place in the match, and whatever earlier processes of it did that
-    /// left what this one was begun on, what it did since is by the rules.
+    /// What holds of every station: its node is at its place in the match; its deeds are the calls that it made since it was
+    /// opened, and no others; and whatever earlier processes of it did that left what this one was begun on, what it did
+    /// since is by the rules.
     pub fn limits(&self)
         ensures { Has D.Disk (look_of self.now) }
     {
