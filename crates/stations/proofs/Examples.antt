@@ -1,24 +1,32 @@
 -- Deeds of nodes and orders of them, on values.
-use Rattle.std.proofs.Common.{◌≡◌, ◌≢◌, ℕ, ◌==◌, if◌then◌else◌, inl, inr, true, false, List, [], ◌∷◌, length, Option, Ok, Err, refl, ap, sym, subst, arith, take}
+use Rattle.std.proofs.Common.{◌≡◌, ◌≢◌, ℕ, zero, suc, ◌<◌, ◌++◌, map, ◌==◌, if◌then◌else◌, inl, inr, true, false, List, [], ◌∷◌, length, Option, Some, None, Ok, Err, refl, ap, sym, subst, arith, take}
 use Rattle.promise_store.specs.declared.disk.Disk.{Ghosts}
 use Rattle.promise_store.specs.Journals.{header}
 use Rattle.promise_store.specs.Holding.{StandsFor}
 use Rattle.protocol_model.specs.Stores.{Store, empty_store}
-use Rattle.dealer_kind.specs.Plans.{Plan}
-use Rattle.node_rules.specs.Standings.{Place, started}
-use Rattle.node_rules.specs.Calls.{Stop}
+use Rattle.dealer_kind.specs.Kind.{Setting}
+use Rattle.dealer_kind.specs.Plans.{Plan, IsPlan}
+use Rattle.dealer_kind.specs.declared.source.Source.{Source}
+use Rattle.node_rules.specs.Standings.{Place, place_of, started}
+use Rattle.node_rules.specs.Showing.{header as header_piece}
+use Rattle.node_rules.specs.Rules.{starting}
+use Rattle.node_rules.specs.Called.{took}
+use Rattle.node_rules.specs.Calls.{Start, Stop}
 use Rattle.dealer_node.specs.Nodes.{Node}
 use Rattle.dealer_node.specs.declared.fault.NodeFault.TheVariants as fault
 use Rattle.dealer_node.specs.Outs.{nothing_told}
-use Rattle.dealer_node.specs.Seeing.{images_of}
+use Rattle.dealer_node.specs.Seeing.{begun_of, images_of}
 use Rattle.dealer_world.specs.declared.event.Event.TheVariants as event
 use Rattle.dealer_world.specs.Records.{Frame, Delivered, Ordered, Arrival}
 use Rattle.dealer_world.specs.Calls.{nothing_made}
+use Rattle.dealer_world.specs.Runs.{text_by_rule}
+use Rattle.dealer_world.specs.RuleRuns.{plan_of}
 use Rattle.dealer_world.specs.Unforged.{IsAmong, IsUnforged}
 use Rattle.stations.specs.Deeds.{Deed, Did, new_at, Doing, deeds_of, IsOrder, record_of}
+use Rattle.stations.specs.Joining.{AreProcesses}
 use Rattle.stations.specs.Stations.{Look, place_in, deed_by, Gains, nothing, call, IsLeft, died, broke_off}
-use Rattle.stations.specs.Lives.{IsProcess, at_rest, MayHaveDone, new_store, IsHistoryOf}
-use Rattle.stations.specs.Together.{HaveLived, HaveHistories}
+use Rattle.stations.specs.Lives.{IsProcess, at_rest, MayHaveDone, new_store, one_more, IsHistoryOf}
+use Rattle.stations.specs.Together.{HasHistory, HaveLived, HaveHistories}
 use Rattle.stations.proofs.Dying.{stops_down}
 
 -- ---- orders of deeds
@@ -62,6 +70,19 @@ a_deed_that_nobody_did order = let more : died ∷ gets ∷ [] ≡ gets ∷ [] =
 
 one_that_is_done_by_no_node : IsOrder 2 histories (by 2 died ∷ in_order) → ⊥
 one_that_is_done_by_no_node order = let few = order.nodes (by 2 died) (inl refl) in omega arith
+
+-- a node's own deeds in another order than it did them
+own_order : ℕ → List Deed
+own_order i = if i == 0 then sends ∷ died ∷ [] else []
+
+-- how many frames the last of these deeds sent
+abbrev sent_last : List Deed → ℕ
+sent_last [] = 0
+sent_last (deed ∷ before) = length deed.made.frames
+
+its_own_deeds_in_another_order : IsOrder 1 own_order (by 0 died ∷ by 0 sends ∷ []) → ⊥
+unfolding own_order
+its_own_deeds_in_another_order order = let e : 0 ≡ 1 = ap sent_last (order.each 0 (omega arith)) in omega (arith, e)
 
 the_frame_was_sent_before : IsUnforged (record_of in_order).sent (record_of in_order).delivered
 the_frame_was_sent_before arrival there = elim there [
@@ -154,3 +175,74 @@ module _ {D : Type 0} (g : Ghosts D) (place : Place) (file : List ℕ) where
 
     a_node_without_a_history : (now : Option (Look (Node D))) (lived : HaveLived g plan 0 (now ∷ [])) → HaveHistories g plan 0 (now ∷ []) lived [] → ⊥
     a_node_without_a_history now lived none = none
+
+-- ---- a node that starts, and three of them
+
+abbrev starts : Place → Deed
+starts place = record { arrived = []; made = record { frames = []; texts = map text_by_rule (header_piece place.setting ∷ []); began = true } }
+
+one_that_starts : (place : Place) → Did place (new_at place) (starts place ∷ []) (started place empty_store)
+one_that_starts place = (
+  new_at place,
+  refl,
+  (
+    Start empty_store,
+    record {
+      frames = [];
+      shown = header_piece place.setting ∷ [];
+      ends = took (starting place empty_store) (inl refl, refl) refl refl refl;
+      seated = tt;
+      written = tt;
+      texts = refl;
+      keeps = (refl, refl);
+    },
+  ),
+)
+
+module _ (setting : Setting) (a b c : Source) (plan : IsPlan (plan_of setting (a ∷ b ∷ c ∷ []))) where
+  abbrev three : List Source
+  three = a ∷ b ∷ c ∷ []
+
+  abbrev start_of : ℕ → Deed
+  start_of i = starts (place_of (plan_of setting three) i)
+
+  abbrev all_start : List Doing
+  all_start = by 2 (start_of 2) ∷ by 1 (start_of 1) ∷ by 0 (start_of 0) ∷ []
+
+  each_starts : (i : ℕ) → i < 3 → deeds_of all_start i ≡ start_of i ∷ []
+  each_starts zero less = refl
+  each_starts (suc zero) less = refl
+  each_starts (suc (suc zero)) less = refl
+  each_starts (suc (suc (suc i))) less = absurd (omega (arith, less))
+
+  three_that_start : AreProcesses setting three (λ i. start_of i ∷ []) all_start
+  three_that_start = record {
+    plan = plan;
+    did = λ i less. ∣ (started (place_of (plan_of setting three) i) empty_store, one_that_starts (place_of (plan_of setting three) i)) ∣₁;
+    order = record {
+      order = record {
+        nodes = λ doing there. elim there [
+          | inl is ↦ subst (λ (d : Doing). d.node < 3) (sym is) (omega arith)
+          | inr (inl is) ↦ subst (λ (d : Doing). d.node < 3) (sym is) (omega arith)
+          | inr (inr (inl is)) ↦ subst (λ (d : Doing). d.node < 3) (sym is) (omega arith)
+          | inr (inr (inr none)) ↦ absurd none
+        ];
+        each = each_starts;
+      };
+      unforged = λ arrival there. absurd there;
+    };
+  }
+
+-- ---- the histories of nodes
+
+module _ {D : Type 0} (g : Ghosts D) (place : Place) where
+  -- what the first process did, and that it died, is what its node did
+  its_next_process : (file left : List ℕ) (new : StandsFor (header place.node place.nodes) file empty_store) (look : Look (Node D)) (is : IsProcess g place file look)
+      (image : images_of g look.node left) → look.deeds ≡ starts place ∷ []
+      → IsHistoryOf g place left (one_more file left (new_store file new) (at_rest look is image)) (died ∷ starts place ∷ [])
+  its_next_process file left new look is image did = ([], died ∷ look.deeds, refl, refl, ap (λ (own : List Deed). died ∷ (own ++ [])) (sym did))
+
+  what_its_present_process_did_is_left_out : (look : Look (Node D)) (at : place_in look ≡ place) (new : StandsFor (header place.node place.nodes) (begun_of g look.node) empty_store)
+      → look.deeds ≡ starts place ∷ [] → HasHistory g place (Some look) (record { at = at; lives = new_store (begun_of g look.node) new }) [] → ⊥
+  what_its_present_process_did_is_left_out look at new did (before, none, same) =
+      let more : [] ≡ starts place ∷ before = subst (λ (own : List Deed). [] ≡ own ++ before) did same in cc

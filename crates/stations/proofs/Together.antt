@@ -26,7 +26,7 @@ use Rattle.stations.specs.Joining.{IsTrueOrder, AreProcesses, ProcessesShowOneLi
 use Rattle.stations.specs.Stations.{Look, place_in, IsAt, IsLeft}
 use Rattle.stations.specs.Looking.{look_of}
 use Rattle.stations.specs.Lives.{LivesAreDeeds}
-use Rattle.stations.specs.Together.{HasLived, HasHistory, HaveLived, HaveHistories, history_at, StationsAreProcesses, StationsShowOneList, NoneConflicts, StationsNeverConflict, AllAreBacked, StationsAreBacked}
+use Rattle.stations.specs.Together.{HasLived, HasHistory, HaveLived, HaveHistories, history_at, NoneConflicts, AllAreBacked, ArePromised, StationsArePromised}
 use Rattle.stations.proofs.Dying.{ImagesAreSeen}
 
 -- there are so many where one of this number is
@@ -119,7 +119,7 @@ module _ {D : Type 0} (g : Ghosts D) where
     there_now i look is =
         subst (λ (one : Option (Look (Node D))). IsNow (place_of (plan_of setting sources) i) one (get_or histories i [])) is (each_node i (within i look is)).1
 
-    none_conflicts : ConflictsAreRefusals g → ProcessesNeverConflict → IsTrue g.is_honest → NoneConflicts g looks setting sources (history_at g histories) all
+    none_conflicts : ConflictsAreRefusals g → ProcessesNeverConflict → IsTrue g.is_honest → NoneConflicts g looks setting sources all
     none_conflicts refusals law honest i look e new told at here is_for given unforged =
         ∥∥₁_elim (there_now i look at) (hlevel) (λ there.
         let s = there.at.s in
@@ -127,7 +127,7 @@ module _ {D : Type 0} (g : Ghosts D) where
         law setting sources (history_at g histories) all are_processes i s (call_of is.found e) is.store (within i look at) there.at.did is.seated
         (subst (λ (arrived : List Arrived). IsUnforged (record_of all).sent ((record_of all).delivered ++ map (placed_at (length (record_of all).sent)) arrived)) is.arrived unforged) is.turn)
 
-    all_are_backed : ImagesAreSeen g → ProcessesAreBacked → AllAreBacked g looks setting sources (history_at g histories) all
+    all_are_backed : ImagesAreSeen g → ProcessesAreBacked → AllAreBacked g looks sources all
     all_are_backed images law i look image frame message at is sent from says =
         ∥∥₁_elim (there_now i look at) (hlevel) (λ there.
         let s = there.at.s in
@@ -139,23 +139,17 @@ module _ {D : Type 0} (g : Ghosts D) where
           | inr stands ↦ (s.begun, stands, backs.1)
         ]))
 
-  pub stations_are_processes : LivesAreDeeds g → (stations : List (Option (Station D g))) → StationsAreProcesses g (map (option_map look_of) stations)
-  stations_are_processes lives stations setting sources is_plan count honest lived =
-      ∥∥₁_map (all_nodes lives honest (plan_of setting sources) 0 stations lived)
-      (λ so. (so.0, so.1, (λ all order. are_processes stations setting sources is_plan count so.0 so.2 all order)))
+    are_promised : ImagesAreSeen g → ConflictsAreRefusals g → ProcessesShowOneList → ProcessesAreBacked → ProcessesNeverConflict → IsTrue g.is_honest
+        → ArePromised g looks setting sources (history_at g histories) all
+    are_promised images refusals shows backs law honest = record {
+      processes = are_processes;
+      list = shows setting sources (history_at g histories) all are_processes;
+      backed = all_are_backed images backs;
+      conflict = none_conflicts refusals law honest;
+    }
 
-  pub stations_show_one_list : LivesAreDeeds g → ProcessesShowOneList → (stations : List (Option (Station D g))) → StationsShowOneList g (map (option_map look_of) stations)
-  stations_show_one_list lives law stations setting sources is_plan count honest lived =
-      ∥∥₁_map (stations_are_processes lives stations setting sources is_plan count honest lived)
-      (λ so. (so.0, so.1, (λ all order. law setting sources (history_at g so.0) all (so.2 all order))))
-
-  pub stations_never_conflict : LivesAreDeeds g → ConflictsAreRefusals g → ProcessesNeverConflict → (stations : List (Option (Station D g)))
-      → StationsNeverConflict g (map (option_map look_of) stations)
-  stations_never_conflict lives refusals law stations setting sources is_plan count honest lived =
+  pub stations_are_promised : LivesAreDeeds g → ImagesAreSeen g → ConflictsAreRefusals g → ProcessesShowOneList → ProcessesAreBacked → ProcessesNeverConflict
+      → (stations : List (Option (Station D g))) → StationsArePromised g (map (option_map look_of) stations)
+  stations_are_promised lives images refusals shows backs law stations setting sources is_plan count honest lived =
       ∥∥₁_map (all_nodes lives honest (plan_of setting sources) 0 stations lived)
-      (λ so. (so.0, so.1, (λ all order. none_conflicts stations setting sources is_plan count so.0 so.2 all order refusals law honest)))
-
-  pub stations_are_backed : LivesAreDeeds g → ImagesAreSeen g → ProcessesAreBacked → (stations : List (Option (Station D g))) → StationsAreBacked g (map (option_map look_of) stations)
-  stations_are_backed lives images law stations setting sources is_plan count honest lived =
-      ∥∥₁_map (all_nodes lives honest (plan_of setting sources) 0 stations lived)
-      (λ so. (so.0, so.1, (λ all order. all_are_backed stations setting sources is_plan count so.0 so.2 all order images law)))
+      (λ so. (so.0, so.1, (λ all order. are_promised stations setting sources is_plan count so.0 so.2 all order images refusals shows backs law honest)))

@@ -68,27 +68,23 @@ module _ {D : Type 0} (g : Ghosts D) where
       → ∥ ((histories : List (List Deed)) × HaveHistories (plan_of setting sources) 0 stations lived histories
       × ((all : List Doing) → IsTrueOrder (length sources) (history_at histories) all → Holds setting sources (history_at histories) all)) ∥₁
 
-  -- they are processes of which the laws speak
-  abbrev pub StationsAreProcesses : List (Option (Look (Node D))) → Type 0
-  StationsAreProcesses = InEachOrder (λ setting sources histories all. AreProcesses setting sources histories all)
-
-  -- one list is behind all that they showed
-  abbrev pub StationsShowOneList : List (Option (Look (Node D))) → Type 0
-  StationsShowOneList = InEachOrder (λ setting sources histories all. ShowOneList setting sources all)
-
   -- 95 is the answer of no next call of a station, by which no frame is forged either
-  abbrev pub NoneConflicts : List (Option (Look (Node D))) → Setting → List Source → (ℕ → List Deed) → List Doing → Type 0
-  NoneConflicts stations setting sources histories all = (i : ℕ) (look : Look (Node D)) (e : Event) (new : Node D) (told : Told) → get_or stations i None ≡ Some look
+  abbrev pub NoneConflicts : List (Option (Look (Node D))) → Setting → List Source → List Doing → Type 0
+  NoneConflicts stations setting sources all = (i : ℕ) (look : Look (Node D)) (e : Event) (new : Node D) (told : Told) → get_or stations i None ≡ Some look
       → node_of e ≡ i → IsFor (length sources) setting.game.players e → IsGiven g e look.node new told (Err fault.Conflict)
       → IsUnforged (record_of all).sent ((record_of all).delivered ++ map (placed_at (length (record_of all).sent)) (arrived_by_event (runs look.node) (front_in look.node) e)) → ⊥
 
-  abbrev pub StationsNeverConflict : List (Option (Look (Node D))) → Type 0
-  StationsNeverConflict stations = InEachOrder (NoneConflicts stations) stations
-
   -- each image of a station's disk stands for a store that backs what its node said by its frames, in this process and before
-  abbrev pub AllAreBacked : List (Option (Look (Node D))) → Setting → List Source → (ℕ → List Deed) → List Doing → Type 0
-  AllAreBacked stations setting sources histories all = (i : ℕ) (look : Look (Node D)) (image : List ℕ) (frame : Frame) (message : Message) → get_or stations i None ≡ Some look
+  abbrev pub AllAreBacked : List (Option (Look (Node D))) → List Source → List Doing → Type 0
+  AllAreBacked stations sources all = (i : ℕ) (look : Look (Node D)) (image : List ℕ) (frame : Frame) (message : Message) → get_or stations i None ≡ Some look
       → images_of g look.node image → In frame (record_of all).sent → frame.from ≡ i → In message (said_by frame) → ∥ IsBacked (header i (length sources)) image message ∥₁
 
-  abbrev pub StationsAreBacked : List (Option (Look (Node D))) → Type 0
-  StationsAreBacked stations = InEachOrder (AllAreBacked stations) stations
+  -- what is promised of these histories in this order: they are processes of which the laws speak, and one list is behind all that they showed
+  pub record ArePromised (stations : List (Option (Look (Node D)))) (setting : Setting) (sources : List Source) (histories : ℕ → List Deed) (all : List Doing) : Type 0 where
+    pub processes : AreProcesses setting sources histories all
+    pub list : ShowOneList setting sources all
+    pub backed : AllAreBacked stations sources all
+    pub conflict : NoneConflicts stations setting sources all
+
+  abbrev pub StationsArePromised : List (Option (Look (Node D))) → Type 0
+  StationsArePromised stations = InEachOrder (ArePromised stations) stations

@@ -4,7 +4,7 @@ ghost use Rattle.std.specs.Prelude.{map, option_map};
 ghost use Rattle.stations.specs.Joining.{ProcessesShowOneList, ProcessesAreBacked, ProcessesSendToNodes, ProcessesNeverConflict};
 ghost use Rattle.stations.specs.Stations.{DeathsAtRestAreDeeds, DeathsInsideAreDeeds};
 ghost use Rattle.stations.specs.Lives.{LivesAreDeeds};
-ghost use Rattle.stations.specs.Together.{StationsAreProcesses, StationsShowOneList, StationsAreBacked, StationsNeverConflict};
+ghost use Rattle.stations.specs.Together.{StationsArePromised};
 ghost use Rattle.stations.specs.Looking.{look_of};
 
 use crate::station::Station;
@@ -37,7 +37,8 @@ pub fn processes_send_to_nodes()
     runs_send_to_nodes();
 }
 
-/// And no call of a process finds another command known at a slot where one was chosen: 95 never comes.
+/// And no next call of a process, by which no frame is forged either, finds another command known at a slot where one was
+/// chosen: 95 never comes.
 pub fn processes_never_conflict()
     ensures { ProcessesNeverConflict }
 {
@@ -65,40 +66,21 @@ pub fn lives_are_deeds<D: Disk + Drop>()
     deaths_are_deeds::<D>();
 }
 
-/// The stations of a match, with all earlier processes of their nodes, over honest disks, are processes of which the laws
-/// above speak: what each node did has a history, as its processes ended, and so it is for each order of these histories
-/// in which each frame had been sent before it came.
+/// The stations of a match, with all earlier processes of their nodes, over honest disks: what each node did has a history,
+/// as its processes ended, and in each order of these histories in which each frame had been sent before it came, all of
+/// this holds of the very same histories. They are processes of which the laws above speak. One list of chosen commands is
+/// behind all their lines and logs. Each image of a station's disk stands for a store that backs what its node said by its
+/// frames, in this process and in those before. And no next call of a station, by which no frame is forged either, is
+/// answered by 95.
 ///
-/// `None` stands for a node that has no process now, here and below.
-pub fn stations_are_processes<D: Disk + Drop>(_stations: &[Option<Station<D>>])
-    ensures { StationsAreProcesses D.Disk (map (option_map look_of) _stations.now) }
-{
-    lives_are_deeds::<D>();
-}
-
-/// So one list of chosen commands is behind all lines and logs of the stations and of all earlier processes of their nodes.
-pub fn stations_show_one_list<D: Disk + Drop>(_stations: &[Option<Station<D>>])
-    ensures { StationsShowOneList D.Disk (map (option_map look_of) _stations.now) }
-{
-    lives_are_deeds::<D>();
-    processes_show_one_list();
-}
-
-/// And each image of a station's disk stands for a store that backs what its node said by its frames, in this process and
-/// in those before.
-pub fn stations_are_backed<D: Disk + Drop>(_stations: &[Option<Station<D>>])
-    ensures { StationsAreBacked D.Disk (map (option_map look_of) _stations.now) }
+/// `None` stands for a node that has no process now.
+pub fn stations_are_promised<D: Disk + Drop>(_stations: &[Option<Station<D>>])
+    ensures { StationsArePromised D.Disk (map (option_map look_of) _stations.now) }
 {
     lives_are_deeds::<D>();
     images_are_seen::<D>();
-    processes_are_backed();
-}
-
-/// And no next call of a station, by which no frame is forged either, is answered by 95.
-pub fn stations_never_conflict<D: Disk + Drop>(_stations: &[Option<Station<D>>])
-    ensures { StationsNeverConflict D.Disk (map (option_map look_of) _stations.now) }
-{
-    lives_are_deeds::<D>();
     events_are_calls::<D>();
+    processes_show_one_list();
+    processes_are_backed();
     processes_never_conflict();
 }

@@ -72,8 +72,8 @@ impl<D: Disk + Drop> Station<D> {
 
     /// Gives an event to the node. What it sends, shows and tells stands in `made`, which is empty before.
     ///
-    /// The faults are those of the node. By 92 nothing has changed; by 91 and 95 the node is down, and 95 never comes where
-    /// the premises of `laws` hold. By every fault `made` is empty.
+    /// The faults are those of the node. Over disks that keep their word nothing has changed by 92, and the node is down by 91
+    /// and 95; 95 never comes where the premises of `laws` hold. By every fault `made` is empty.
     pub fn step(&mut self, event: &Event, made: &mut Out) -> Result<(), NodeFault>
         requires here { node_of event.now ≡ (look_of self.old).number }
         requires within { IsFor (length (look_of self.old).config.sources) (look_of self.old).config.setting.game.players event.now }
