@@ -1,5 +1,5 @@
 -- Deeds of nodes and orders of them, on values.
-use Rattle.std.proofs.Common.{◌≡◌, ◌≢◌, ℕ, zero, suc, ◌<◌, ◌++◌, map, ◌==◌, if◌then◌else◌, inl, inr, true, false, List, [], ◌∷◌, length, Option, Some, None, Ok, Err, refl, ap, sym, subst, arith, take}
+use Rattle.std.proofs.Common.{◌≡◌, ◌≢◌, ℕ, zero, suc, ◌<◌, ◌∙◌, ◌++◌, map, ◌==◌, if◌then◌else◌, inl, inr, true, false, Bool, List, [], ◌∷◌, length, Option, Some, Result, Ok, Err, refl, ap, sym, subst, arith, take}
 use Rattle.promise_store.specs.declared.disk.Disk.{Ghosts}
 use Rattle.promise_store.specs.Journals.{header}
 use Rattle.promise_store.specs.Holding.{StandsFor}
@@ -7,25 +7,30 @@ use Rattle.protocol_model.specs.Stores.{Store, empty_store}
 use Rattle.dealer_kind.specs.Kind.{Setting}
 use Rattle.dealer_kind.specs.Plans.{Plan, IsPlan}
 use Rattle.dealer_kind.specs.declared.source.Source.{Source}
-use Rattle.node_rules.specs.Standings.{Place, place_of, started}
-use Rattle.node_rules.specs.Showing.{header as header_piece}
+use Rattle.node_rules.specs.Standings.{Place, Standing, place_of, front_of, started}
+use Rattle.node_rules.specs.Sending.{Frame as Outgoing}
+use Rattle.node_rules.specs.Showing.{Piece as Shown, header as header_piece}
 use Rattle.node_rules.specs.Rules.{starting}
-use Rattle.node_rules.specs.Called.{took}
-use Rattle.node_rules.specs.Calls.{Start, Stop}
+use Rattle.node_rules.specs.Called.{Ends, took, refused, failed, unchanged}
+use Rattle.node_rules.specs.Calls.{Call, Start, Stop}
 use Rattle.dealer_node.specs.Nodes.{Node}
+use Rattle.dealer_node.specs.declared.fault.NodeFault.{NodeFault}
 use Rattle.dealer_node.specs.declared.fault.NodeFault.TheVariants as fault
-use Rattle.dealer_node.specs.Outs.{nothing_told}
-use Rattle.dealer_node.specs.Seeing.{begun_of, images_of}
+use Rattle.dealer_node.specs.Outs.{Told, nothing_told}
+use Rattle.dealer_node.specs.Seeing.{front_in, begun_of, images_of, since_of, moment_of}
+use Rattle.dealer_world.specs.declared.event.Event.{Event}
 use Rattle.dealer_world.specs.declared.event.Event.TheVariants as event
-use Rattle.dealer_world.specs.Records.{Frame, Delivered, Ordered, Arrival}
+use Rattle.dealer_world.specs.Records.{Frame, Arrived, Delivered, Ordered, Arrival}
 use Rattle.dealer_world.specs.Calls.{nothing_made}
-use Rattle.dealer_world.specs.Runs.{text_by_rule}
+use Rattle.dealer_world.specs.Events.{node_of}
+use Rattle.dealer_world.specs.Runs.{text_by_rule, arrived_at, Keeps}
 use Rattle.dealer_world.specs.RuleRuns.{plan_of}
+use Rattle.dealer_world.specs.Stepping.{IsFor, IsGiven}
 use Rattle.dealer_world.specs.Unforged.{IsAmong, IsUnforged}
 use Rattle.stations.specs.Deeds.{Deed, Did, new_at, Doing, deeds_of, IsOrder, record_of}
 use Rattle.stations.specs.Joining.{AreProcesses}
 use Rattle.stations.specs.Stations.{Look, place_in, deed_by, Gains, nothing, call, IsLeft, died, broke_off}
-use Rattle.stations.specs.Lives.{IsProcess, at_rest, MayHaveDone, new_store, one_more, IsHistoryOf}
+use Rattle.stations.specs.Lives.{IsProcess, Ended, at_rest, inside, MayHaveDone, new_store, one_more, IsHistoryOf}
 use Rattle.stations.specs.Together.{HasHistory, HaveLived, HaveHistories}
 use Rattle.stations.proofs.Dying.{stops_down}
 
@@ -136,6 +141,23 @@ one_that_did_nothing place = (new_at place, refl, (Stop, stops_down place (new_a
 one_that_runs_and_was_never_started : (place : Place) (found : Store) → Did place (new_at place) [] (started place found) → ⊥
 one_that_runs_and_was_never_started place found did = let e : true ≡ false = ap (λ s. s.up) did in cc
 
+nothing_arrives : (place : Place) (s after : Standing) (called : Call) (frames : List Outgoing) (shown : List Shown) (ends : Ends place s called after frames shown)
+    (arrived : List Arrived) (began : Bool) → s.up ≡ false → Keeps place s called after frames shown ends arrived began → arrived ≡ []
+nothing_arrives place s after called frames shown (took turn rule e f t) arrived began down keeps =
+    keeps.0 ∙ ap (λ up. arrived_at up place.node (front_of s) called) down
+nothing_arrives place s after called frames shown (refused refusal rule e f t) arrived began down keeps =
+    keeps.0 ∙ ap (λ up. arrived_at up place.node (front_of s) called) down
+nothing_arrives place s after called frames shown (failed outcome begun up rule b e f t) arrived began down keeps =
+    keeps.0 ∙ ap (λ up. arrived_at up place.node (front_of s) called) down
+nothing_arrives place s after called frames shown (unchanged e f t) arrived began down keeps = keeps.0
+
+-- so no call breaks off with what was brought to a node that was down
+an_order_that_came_to_a_node_that_was_down : (place : Place) (s : Standing) → Did place (new_at place) (broke_off 3 (event.Away 1) ∷ []) s → ⊥
+an_order_that_came_to_a_node_that_was_down place s (old, same, (called, ruled)) =
+    let none : Ordered 1 3 ∷ [] ≡ [] =
+    nothing_arrives place old s called ruled.frames ruled.shown ruled.ends (Ordered 1 3 ∷ []) false (ap (λ (was : Standing). was.up) same) ruled.keeps in
+    cc
+
 -- ---- processes of a node
 
 longer : {A : Type 0} (first : A) (list : List A) → first ∷ list ≢ list
@@ -164,11 +186,35 @@ module _ {D : Type 0} (g : Ghosts D) (place : Place) (file : List ℕ) where
         → MayHaveDone g place file left (at_rest look is image) look.deeds → ⊥
     a_death_that_is_left_out left is image done = longer died look.deeds (sym done)
 
+    -- a process that dies inside a call
+    module _ (left : List ℕ) (is : IsProcess g place file look) (e : Event) (new : Node D) (told : Told) (answer : Result (Unit {0}) NodeFault) (here : node_of e ≡ place.node)
+        (is_for : IsFor place.nodes place.setting.game.players e) (given : IsGiven g e look.node new told answer) (since : since_of g new (moment_of g look.node) left) where
+      abbrev dies : Ended g place file left
+      dies = inside look is e new told answer here is_for given since
+
+      what_it_brought_may_have_come : MayHaveDone g place file left dies (broke_off (front_in look.node) e ∷ look.deeds)
+      what_it_brought_may_have_come = inr refl
+
+      or_nothing_was_done : MayHaveDone g place file left dies (died ∷ look.deeds)
+      or_nothing_was_done = inl refl
+
+      a_frame_of_it_told : MayHaveDone g place file left dies (sends ∷ look.deeds) → ⊥
+      a_frame_of_it_told done = elim done [
+        | inl same ↦ let more : 1 ≡ 0 = ap sent_last same in omega (arith, more)
+        | inr same ↦ let more : 1 ≡ 0 = ap sent_last same in omega (arith, more)
+      ]
+
   -- ---- all nodes
 
   module _ (plan : Plan) where
     no_node_has_no_history : HaveHistories g plan 0 [] tt []
     no_node_has_no_history = refl
+
+    -- a node whose process is its first
+    one_node_and_its_history : (look : Look (Node D)) (at : place_in look ≡ place_of plan 0)
+        (new : StandsFor (header (place_of plan 0).node (place_of plan 0).nodes) (begun_of g look.node) empty_store)
+        → HaveHistories g plan 0 (Some look ∷ []) (record { at = at; lives = new_store (begun_of g look.node) new }, tt) ((look.deeds ++ []) ∷ [])
+    one_node_and_its_history look at new = (([], refl, refl), refl)
 
     a_history_of_nobody : HaveHistories g plan 0 [] tt ((died ∷ []) ∷ []) → ⊥
     a_history_of_nobody more = cc
