@@ -132,6 +132,10 @@ a_deed_of_a_fault_left_out : Gains true 0 (event.Tick 1) nothing_told (Err fault
 a_deed_of_a_fault_left_out (nothing none same) = cc
 a_deed_of_a_fault_left_out (call ample more) = cc
 
+a_deed_of_a_good_call_left_out : Gains true 0 (event.Tick 1) nothing_told (Ok tt) [] [] → ⊥
+a_deed_of_a_good_call_left_out (nothing none same) = cc
+a_deed_of_a_good_call_left_out (call ample more) = cc
+
 -- ---- what a node did
 
 -- a process that opened its store and died before it was started
@@ -141,6 +145,7 @@ one_that_did_nothing place = (new_at place, refl, (Stop, stops_down place (new_a
 one_that_runs_and_was_never_started : (place : Place) (found : Store) → Did place (new_at place) [] (started place found) → ⊥
 one_that_runs_and_was_never_started place found did = let e : true ≡ false = ap (λ s. s.up) did in cc
 
+-- nothing arrives at a node that is down
 nothing_arrives : (place : Place) (s after : Standing) (called : Call) (frames : List Outgoing) (shown : List Shown) (ends : Ends place s called after frames shown)
     (arrived : List Arrived) (began : Bool) → s.up ≡ false → Keeps place s called after frames shown ends arrived began → arrived ≡ []
 nothing_arrives place s after called frames shown (took turn rule e f t) arrived began down keeps =
