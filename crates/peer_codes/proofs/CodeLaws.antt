@@ -1,0 +1,109 @@
+-- Codes and seals: what is coded on a way is read on it, and nothing else is.
+use Rattle.std.proofs.Common.{◌≡◌, ℕ, zero, suc, ◌+◌, ◌-◌, ◌<◌, Bool, true, false, cond, ltb, leb, List, [], ◌∷◌, ◌++◌, length, take, drop, get_or, bit_xor, Result, Ok, Err, refl, sym, ap, ◌∙◌, arith, length-append}
+use Rattle.std.specs.Int.Bits.{xor_assoc, xor_self, xor_zero_r}
+use Rattle.std.specs.Str.{bytes_eq}
+use Rattle.std.proofs.lemmas.Bool.{le-ltb, lt-leb}
+use Rattle.std.proofs.lemmas.List.{take-append-drop, take_at, drop_at}
+use Rattle.std.proofs.lemmas.Slice.Eq.{bytes_eq-Decides}
+use Rattle.sha2.proofs.Facts256.{length-sha256}
+use Rattle.peer_codes.specs.declared.limits.TheConstants.{CODE_BYTES, LAST_NUMBER}
+use Rattle.peer_codes.specs.declared.fault.RecordFault.TheVariants.{BadLength}
+use Rattle.peer_codes.specs.declared.connection_fault.ConnectionFault.{ConnectionFault}
+use Rattle.peer_codes.specs.declared.connection_fault.ConnectionFault.TheVariants as faults
+use Rattle.peer_codes.specs.declared.kind.Kind.{Kind}
+use Rattle.peer_codes.specs.declared.way.Way.{Way}
+use Rattle.peer_codes.specs.Hmac.{hmac}
+use Rattle.peer_codes.specs.Codes.{pad, xored, masked, record_code, covered, sent_in, code_in, uncovered}
+
+-- ---- bytes with others
+
+pub xored_length : (xs ys : List ℕ) → length (xored xs ys) ≡ length xs
+xored_length [] ys = refl
+xored_length (x ∷ xs) [] = refl
+xored_length (x ∷ xs) (y ∷ ys) = ap suc (xored_length xs ys)
+
+xor_back : (x y : ℕ) → bit_xor (bit_xor x y) y ≡ x
+xor_back x y = xor_assoc x y y ∙ ap (λ (z : ℕ). bit_xor x z) (xor_self y) ∙ xor_zero_r x
+
+pub xored_back : (xs ys : List ℕ) → xored (xored xs ys) ys ≡ xs
+xored_back [] ys = refl
+xored_back (x ∷ xs) [] = refl
+xored_back (x ∷ xs) (y ∷ ys) = ap (λ (z : ℕ). z ∷ xored (xored xs ys) ys) (xor_back x y) ∙ ap (λ (zs : List ℕ). x ∷ zs) (xored_back xs ys)
+
+xored_one : (xs ys : List ℕ) (i : ℕ) → i < length xs → i < length ys → xored (take (suc i) xs) ys ≡ xored (take i xs) ys ++ bit_xor (get_or xs i 0) (get_or ys i 0) ∷ []
+xored_one [] ys i low enough = absurd (omega (arith, low))
+xored_one (x ∷ xs) [] i low enough = absurd (omega (arith, enough))
+xored_one (x ∷ xs) (y ∷ ys) zero low enough = refl
+xored_one (x ∷ xs) (y ∷ ys) (suc i) low enough = ap (λ (zs : List ℕ). bit_xor x y ∷ zs) (xored_one xs ys i (omega (arith, low)) (omega (arith, enough)))
+
+-- one byte more
+pub xored_more : (xs ys : List ℕ) (i : ℕ) → i < length xs → i < length ys → xored (take (i + 1) xs) ys ≡ xored (take i xs) ys ++ bit_xor (get_or xs i 0) (get_or ys i 0) ∷ []
+xored_more xs ys i low enough =
+    let next : i + 1 ≡ suc i = omega arith in
+    ap (λ (n : ℕ). xored (take n xs) ys) next ∙ xored_one xs ys i low enough
+
+-- ---- seals and codes
+
+pub masked_back : (way : Way) (bytes : List ℕ) → masked way (masked way bytes) ≡ bytes
+masked_back way bytes =
+    ap (λ (n : ℕ). xored (masked way bytes) (pad n way.seal).0) (xored_length bytes (pad (length bytes) way.seal).0)
+    ∙ xored_back bytes (pad (length bytes) way.seal).0
+
+pub hmac_length : (key message : List ℕ) → length (hmac key message) ≡ 32
+unfolding hmac
+hmac_length key message = length-sha256 _
+
+pub covered_length : (way : Way) (kind : Kind) (body : List ℕ) → length (covered way kind body) ≡ length body + CODE_BYTES
+covered_length way kind body =
+    let size : length (record_code way kind (masked way body)) ≡ CODE_BYTES = hmac_length _ _ in
+    let sent : length (masked way body) ≡ length body = xored_length body (pad (length body) way.seal).0 in
+    omega (arith, length-append (masked way body) (record_code way kind (masked way body)), size, sent)
+
+code_split : (sent code : List ℕ) → length code ≡ CODE_BYTES → (sent_in (sent ++ code) ≡ sent) × (code_in (sent ++ code) ≡ code)
+code_split sent code size =
+    let front : length (sent ++ code) - CODE_BYTES ≡ length sent = omega (arith, length-append sent code, size) in (
+      ap (λ (n : ℕ). take n (sent ++ code)) front ∙ take_at sent code (length sent) refl,
+      ap (λ (n : ℕ). drop n (sent ++ code)) front ∙ drop_at sent code (length sent) refl,
+    )
+
+three_tests : (a b c : Bool) (f g h : ConnectionFault) (x : List ℕ) → a ≡ false → b ≡ false → c ≡ true
+    → ◌≡◌ {A = Result (List ℕ) ConnectionFault} (cond a (Err f) (cond b (Err g) (cond c (Ok x) (Err h)))) (Ok x)
+three_tests a b c f g h x p q r = rw (p, q, r) refl
+
+-- what is coded on a way is read on it
+pub covered_again : (way : Way) (kind : Kind) (body : List ℕ) → way.number < LAST_NUMBER → uncovered way kind (covered way kind body) ≡ Ok body
+unfolding uncovered
+covered_again way kind body fits =
+    let sent : List ℕ = masked way body in
+    let code : List ℕ = record_code way kind sent in
+    let size : length code ≡ CODE_BYTES = hmac_length _ _ in
+    let split = code_split sent code size in
+    let number : leb LAST_NUMBER way.number ≡ false = lt-leb _ _ fits in
+    let long : ltb (length (sent ++ code)) CODE_BYTES ≡ false = le-ltb _ _ (omega (arith, length-append sent code, size)) in
+    let right : code_in (sent ++ code) ≡ record_code way kind (sent_in (sent ++ code)) = split.1 ∙ ap (λ (s : List ℕ). record_code way kind s) (sym split.0) in
+    let same : bytes_eq (code_in (sent ++ code)) (record_code way kind (sent_in (sent ++ code))) ≡ true = (bytes_eq-Decides (code_in (sent ++ code)) (record_code way kind (sent_in (sent ++ code)))).1 right in
+    three_tests _ _ _ faults.OutOfTurn (faults.Record BadLength) faults.WrongCode (masked way (sent_in (sent ++ code))) number long same
+    ∙ ap (λ (b : List ℕ). let r : Result (List ℕ) ConnectionFault = Ok b in r) (ap (masked way) split.0 ∙ masked_back way body)
+
+refused : (b : Bool) (f : ConnectionFault) (r : Result (List ℕ) ConnectionFault) (y : List ℕ) → cond b (Err f) r ≡ Ok y → (b ≡ false) × (r ≡ Ok y)
+refused true f r y e = absurd cc
+refused false f r y e = (refl, e)
+
+taken : (b : Bool) (f : ConnectionFault) (x y : List ℕ) → ◌≡◌ {A = Result (List ℕ) ConnectionFault} (cond b (Ok x) (Err f)) (Ok y) → (b ≡ true) × (x ≡ y)
+taken true f x y e = (refl, cc)
+taken false f x y e = absurd cc
+
+-- and nothing else is
+pub covered_is : (way : Way) (kind : Kind) (content body : List ℕ) → uncovered way kind content ≡ Ok body → content ≡ covered way kind body
+unfolding uncovered
+covered_is way kind content body e =
+    let right : Bool = bytes_eq (code_in content) (record_code way kind (sent_in content)) in
+    let last : Result (List ℕ) ConnectionFault = cond right (Ok (masked way (sent_in content))) (Err faults.WrongCode) in
+    let p = refused (leb LAST_NUMBER way.number) faults.OutOfTurn (cond (ltb (length content) CODE_BYTES) (Err (faults.Record BadLength)) last) body e in
+    let q = refused (ltb (length content) CODE_BYTES) (faults.Record BadLength) last body p.1 in
+    let r = taken right faults.WrongCode (masked way (sent_in content)) body q.1 in
+    let same : code_in content ≡ record_code way kind (sent_in content) = (bytes_eq-Decides (code_in content) (record_code way kind (sent_in content))).0 r.0 in
+    let sent : sent_in content ≡ masked way body = sym (ap (masked way) (sym r.1) ∙ masked_back way (sent_in content)) in
+    sym (take-append-drop (length content - CODE_BYTES) content)
+    ∙ ap (λ (c : List ℕ). sent_in content ++ c) same
+    ∙ ap (λ (s : List ℕ). s ++ record_code way kind s) sent

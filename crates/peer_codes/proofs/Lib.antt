@@ -1,0 +1,15 @@
+pub mod FieldLaws
+pub mod HelloLaws
+pub mod RecordLaws
+pub mod StreamLaws
+pub mod Mapping
+pub mod CodeLaws
+pub mod StepParts
+pub mod StepLaws
+pub mod HistoryLaws
+pub mod CallLaws
+pub mod TellingLaws
+pub mod ApartLaws
+pub mod Examples
+pub mod CodeExamples
+pub mod ConnectionExamples

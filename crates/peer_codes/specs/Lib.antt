@@ -1,0 +1,15 @@
+pub mod Kinds
+pub mod Fits
+pub mod Spelling
+pub mod Reading
+pub mod Faults
+pub mod Lines
+pub mod Hmac
+pub mod Codes
+pub mod Returned
+pub mod Steps
+pub mod Histories
+pub mod Telling
+pub mod Outgoings
+pub mod Connections
+pub mod Beginning

@@ -1,0 +1,23 @@
+-- What is to be written on a connection.
+use Rattle.std.specs.Prelude.{◌≡◌, ℕ, List, drop, Option, Some, None}
+use Rattle.peer_codes.specs.declared.records.Proof.{Proof}
+use Rattle.peer_codes.specs.declared.frame.Frame.{Frame}
+use Rattle.peer_codes.specs.declared.outgoing.Outgoing.{Outgoing}
+
+-- what of the record that was begun isn't written yet
+abbrev pub unwritten : Outgoing → List ℕ
+unwritten o = drop o.written o.begun.items
+
+-- a proof in place of one that isn't begun yet
+abbrev pub later : Option Proof → Option Proof → Option Proof
+later old None = old
+later old (Some proof) = Some proof
+
+-- the record with this text is begun
+abbrev pub with_begun : List ℕ → Outgoing → Outgoing
+with_begun text o = record { hello = o.hello; proof = o.proof; beat = o.beat; frame = o.frame; begun = record { items = text }; written = 0 }
+
+-- a frame waits, or it is given back where one does already
+abbrev pub Put : Option Frame → Frame → Outgoing → Outgoing → Option Frame → Type 0
+Put None frame old new back = (new ≡ record old { frame = Some frame }) × (back ≡ None)
+Put (Some other) frame old new back = (new ≡ old) × (back ≡ Some frame)

@@ -1,0 +1,267 @@
+ghost use Rattle.std.specs.Prelude.{◌≡◌, ◌≤◌, ◌<◌, ◌+◌, ◌++◌, [], true, length, drop, OnOk, OnErr};
+ghost use Rattle.peer_codes.specs.declared.limits.TheConstants.{LEAST_FRAME};
+ghost use Rattle.peer_codes.specs.declared.phase.Phase.TheVariants as phases;
+ghost use Rattle.peer_codes.specs.Outgoings.{unwritten, Put};
+ghost use Rattle.peer_codes.specs.Steps.{is_coded};
+ghost use Rattle.peer_codes.specs.Connections.{ReadsOrWaits, Next, answered, begun_on, begun_open, begun_coded, begun_first, begun_next};
+
+use crate::beat::Beat;
+use crate::connection_fault::ConnectionFault;
+use crate::event::Event;
+use crate::fault::RecordFault;
+use crate::frame::Frame;
+use crate::hello::Hello;
+use crate::hellos::Hellos;
+use crate::key::Key;
+use crate::kind::Kind;
+use crate::limits::LAST_NUMBER;
+use crate::outgoing::Outgoing;
+use crate::phase::{Phase, Ways};
+use crate::reading::front_end;
+use crate::records::Record;
+use crate::role::Role;
+use crate::step::{Step, front_step, ways_of};
+use crate::writing::{beat_bytes, record_bytes};
+use byte_queue::ByteQueue;
+use std::alloc::{AllocError, Global};
+use std::mem;
+
+/// A connection with codes, as a machine without sockets.
+///
+/// What comes is put in by `take_piece`, in any pieces, and comes out as events by `next`; the called then answers with its
+/// own Hello by `answer`. What is to be said is put in by `tell_beat` and `put_frame`, and comes out as bytes: `begin` begins the
+/// next record where none is unfinished, `unwritten` shows what of it isn't written yet, and `wrote` says how much was.
+/// So a frame is coded when its first byte is about to be written and no sooner: what waits is frames, and whoever
+/// keeps them may drop them.
+#[derive(Drop)]
+pub struct Connection {
+    key: Key,
+    phase: Phase,
+    /// What came and wasn't read yet.
+    came: ByteQueue,
+    out: Outgoing,
+}
+
+impl Connection {
+    /// The side that dialled, with its own Hello, which is to be written first; its nonce is to be new. Takes no memory.
+    /// A Hello that none may say, as of a node that there isn't, closes the other side by 122 `BadHello`.
+    pub fn call(alloc: Global, key: Key, own: Hello) -> Connection
+        requires { is_coded own.link ≡ true }
+        ensures phase { result.phase ≡ phases.Greeting (Some own) }
+        ensures key { result.key ≡ key }
+        ensures came { result.came.waiting ≡ [] }
+        ensures out { result.out ≡ record { hello = Some own; proof = None; beat = None; frame = None; begun = record { items = [] }; written = 0 } }
+    {
+        Connection {
+            key,
+            phase: Phase::Greeting(Some(own)),
+            came: ByteQueue::new(alloc),
+            out: Outgoing::new(Some(own)),
+        }
+    }
+
+    /// The side that was dialled. Takes no memory.
+    pub fn listen(alloc: Global, key: Key) -> Connection
+        ensures phase { result.phase ≡ phases.Greeting None }
+        ensures key { result.key ≡ key }
+        ensures came { result.came.waiting ≡ [] }
+        ensures out { result.out ≡ record { hello = None; proof = None; beat = None; frame = None; begun = record { items = [] }; written = 0 } }
+    {
+        Connection {
+            key,
+            phase: Phase::Greeting(None),
+            came: ByteQueue::new(alloc),
+            out: Outgoing::new(None),
+        }
+    }
+
+    /// Takes the next piece of what comes, of any length. An `Err`, for want of memory, changes nothing, and comes only
+    /// where there was no room.
+    pub fn take_piece(&mut self, piece: &[u8]) -> Result<(), AllocError>
+        ensures ok { OnOk result (self.new.came.waiting ≡ self.old.came.waiting ++ piece.now) }
+        ensures err { OnErr result (self.new ≡ self.old) }
+        ensures full { OnErr result (self.old.came.room < length piece.now) }
+        ensures room { self.old.came.room ≤ self.new.came.room + length piece.now }
+        ensures others { self.new ≡ record self.old { came = self.new.came } }
+    {
+        self.came.push(piece)
+    }
+
+    /// What stands in front of what came; `None` where it isn't whole.
+    fn read(&mut self) -> Option<Result<Event, ConnectionFault>>
+        ensures { ReadsOrWaits self.old result self.new }
+    {
+        let end = front_end(self.came.waiting())?;
+        let phase = mem::replace(&mut self.phase, Phase::Closed(ConnectionFault::OutOfTurn));
+        let step = front_step(&self.key, phase, &self.came.waiting()[..end]);
+        self.came.skip(end);
+        let Step {
+            phase,
+            proof,
+            event,
+        } = step;
+        self.phase = phase;
+        self.out.say_proof(proof);
+        Some(event)
+    }
+
+    /// What came next, or the fault that closed the connection, told again from then on.
+    ///
+    /// `None` where the record in front isn't whole, and where the called has to answer first. The fault is the first
+    /// of: 120 `BadLength` and 121 `BadKind` of the record in front, 126 `OutOfTurn` (a kind that may not come now, or no
+    /// number is left), 120 `BadLength` (a proof of another length, or no room for a code), and then 122 `BadHello`, 124
+    /// `WrongProof`, 125 `WrongCode`, or those of what stood under the seal.
+    pub fn next(&mut self) -> Option<Result<Event, ConnectionFault>>
+        ensures { Next self.old.phase self.old result self.new }
+    {
+        match &self.phase {
+            Phase::Asked(_) => None,
+            Phase::Closed(fault) => Some(Err(*fault)),
+            Phase::Refused => Some(Err(ConnectionFault::Record(RecordFault::BadHello))),
+            Phase::Greeting(_) => self.read(),
+            Phase::Proving(_, _) => self.read(),
+            Phase::Open(_) => self.read(),
+        }
+    }
+
+    /// The called answers with its own Hello, whose nonce is to be new, once it knows who calls. Where it refused the
+    /// caller's Hello by 122 `BadHello`, its own is said all the same, once and without a proof, so that the caller sees
+    /// why. Else nothing happens.
+    pub fn answer(&mut self, own: Hello)
+        requires { is_coded own.link ≡ true }
+        ensures { self.new ≡ answered self.old.phase own self.old }
+    {
+        if let Phase::Refused = &self.phase {
+            self.phase = Phase::Closed(ConnectionFault::Record(RecordFault::BadHello));
+            self.out.hello = Some(own);
+            return;
+        }
+        let Phase::Asked(caller) = &self.phase else {
+            return;
+        };
+        let hellos = Hellos {
+            caller: *caller,
+            called: own,
+        };
+        let theirs = hellos.proof(&self.key, Role::Caller);
+        let ways = ways_of(&self.key, Role::Called, Role::Caller, &hellos);
+        let proof = hellos.proof(&self.key, Role::Called);
+        self.phase = Phase::Proving(theirs, ways);
+        self.out.hello = Some(own);
+        self.out.proof = Some(proof);
+    }
+
+    /// This beat is to be said next, in place of one that isn't begun yet.
+    pub fn tell_beat(&mut self, beat: Beat)
+        ensures { self.new ≡ record self.old { out = record self.old.out { beat = Some beat } } }
+    {
+        self.out.beat = Some(beat);
+    }
+
+    /// This frame is to be said next, unless one waits already: then it is given back. What waits when a fault closes the
+    /// connection is never said.
+    pub fn put_frame(&mut self, frame: Frame) -> Option<Frame>
+        requires { LEAST_FRAME ≤ length frame.bytes.items }
+        ensures out { Put self.old.out.frame frame self.old.out self.new.out result }
+        ensures others { self.new ≡ record self.old { out = self.new.out } }
+    {
+        self.out.put_frame(frame)
+    }
+
+    /// Codes and begins the beat, or else the frame that waits.
+    fn begin_on(&mut self, ways: Ways)
+        requires { ways.writing.number < LAST_NUMBER }
+        ensures { self.new ≡ begun_on ways self.old.out.beat self.old.out.frame self.old.key self.old.came self.old.out }
+    {
+        let Ways {
+            reading,
+            mut writing,
+        } = ways;
+        if let Some(beat) = self.out.beat {
+            self.out.beat = None;
+            let text = writing.cover(Kind::Beat, beat_bytes(&beat).as_slice());
+            self.out.start(text);
+            self.phase = Phase::Open(Ways { reading, writing });
+            return;
+        }
+        match self.out.frame.take() {
+            Some(frame) => {
+                let text = writing.cover(Kind::Frame, frame.bytes.as_slice());
+                self.out.start(text);
+                self.phase = Phase::Open(Ways { reading, writing });
+            }
+            None => self.phase = Phase::Open(Ways { reading, writing }),
+        }
+    }
+
+    /// Codes and begins what waits, while numbers are left.
+    fn begin_open(&mut self, ways: Ways)
+        ensures { self.new ≡ begun_open ways self.old.key self.old.came self.old.out }
+    {
+        if !ways.writing.has_number() {
+            self.phase = Phase::Open(ways);
+            return;
+        }
+        self.begin_on(ways);
+    }
+
+    /// Codes and begins what waits, if the connection is open.
+    fn begin_coded(&mut self)
+        ensures { self.new ≡ begun_coded self.old.phase self.old.key self.old.came self.old.out }
+    {
+        let phase = mem::replace(&mut self.phase, Phase::Closed(ConnectionFault::OutOfTurn));
+        match phase {
+            Phase::Open(ways) => self.begin_open(ways),
+            Phase::Greeting(own) => self.phase = Phase::Greeting(own),
+            Phase::Asked(caller) => self.phase = Phase::Asked(caller),
+            Phase::Refused => self.phase = Phase::Refused,
+            Phase::Proving(theirs, ways) => self.phase = Phase::Proving(theirs, ways),
+            Phase::Closed(fault) => self.phase = Phase::Closed(fault),
+        }
+    }
+
+    /// Begins what is to be said first.
+    fn begin_first(&mut self)
+        ensures { self.new ≡ begun_first self.old.out.hello self.old.out.proof self.old }
+    {
+        if let Some(hello) = self.out.hello {
+            self.out.hello = None;
+            self.out.start(record_bytes(&Record::Hello(hello)));
+            return;
+        }
+        if let Some(proof) = self.out.proof {
+            self.out.proof = None;
+            self.out.start(record_bytes(&Record::Proof(proof)));
+            return;
+        }
+        self.begin_coded();
+    }
+
+    /// Begins the next record, where none is unfinished: this side's own Hello, its own proof, and where the connection
+    /// is open the beat and then the frame, coded now. Hello and proof are said also where a fault closed it meanwhile.
+    #[tactic(auto, unfolding(crate::specs::Connections::begun_next))]
+    pub fn begin(&mut self)
+        ensures { self.new ≡ begun_next self.old }
+    {
+        if !self.out.unwritten().is_empty() {
+            return;
+        }
+        self.begin_first();
+    }
+
+    /// What of the record that was begun isn't written yet.
+    pub fn unwritten(&self) -> &[u8]
+        ensures { result.now ≡ unwritten self.now.out }
+    {
+        self.out.unwritten()
+    }
+
+    /// So many bytes of it are written now.
+    pub fn wrote(&mut self, count: usize)
+        requires { count ≤ length (unwritten self.old.out) }
+        ensures unwritten { unwritten self.new.out ≡ drop count (unwritten self.old.out) }
+        ensures others { self.new ≡ record self.old { out = record self.old.out { written = self.new.out.written } } }
+    {
+        self.out.wrote(count);
+    }
+}

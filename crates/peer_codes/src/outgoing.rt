@@ -1,0 +1,108 @@
+//! What is to be written on a connection.
+
+ghost use Rattle.std.specs.Prelude.{◌≡◌, ◌≤◌, [], length, drop, None};
+ghost use Rattle.peer_codes.specs.Outgoings.{unwritten, later, with_begun, Put};
+
+use crate::beat::Beat;
+use crate::frame::Frame;
+use crate::hello::Hello;
+use crate::limits::MOST_RECORD;
+use crate::records::Proof;
+use arrayvec::ArrayVec;
+
+/// What is to be written on a connection: what is left of the record that was begun, and what waits behind it, none of
+/// it coded yet.
+#[derive(Drop)]
+pub struct Outgoing {
+    /// This side's own Hello.
+    pub(crate) hello: Option<Hello>,
+    /// This side's own proof.
+    pub(crate) proof: Option<Proof>,
+    /// The newest beat.
+    pub(crate) beat: Option<Beat>,
+    /// The next frame.
+    pub(crate) frame: Option<Frame>,
+    /// The record that was begun.
+    pub(crate) begun: ArrayVec<u8, MOST_RECORD>,
+    /// How many of its bytes are written.
+    pub(crate) written: usize,
+}
+
+/// A proof in place of one that isn't begun yet.
+fn later(earlier: Option<Proof>, given: Option<Proof>) -> Option<Proof>
+    ensures { result ≡ later earlier given }
+{
+    match given {
+        Some(proof) => Some(proof),
+        None => earlier,
+    }
+}
+
+impl Outgoing {
+    /// Nothing is to be written but this Hello, if it is given.
+    pub(crate) fn new(hello: Option<Hello>) -> Outgoing
+        ensures { result ≡ record { hello = hello; proof = None; beat = None; frame = None; begun = record { items = [] }; written = 0 } }
+    {
+        Outgoing {
+            hello,
+            proof: None,
+            beat: None,
+            frame: None,
+            begun: ArrayVec::new(),
+            written: 0,
+        }
+    }
+
+    /// This side's own proof, if it is given, is to be written.
+    pub(crate) fn say_proof(&mut self, proof: Option<Proof>)
+        ensures { self.new ≡ record self.old { proof = later self.old.proof proof } }
+    {
+        self.proof = later(self.proof, proof);
+    }
+
+    /// This frame is to be written next, unless one waits already: then it is given back.
+    pub(crate) fn put_frame(&mut self, frame: Frame) -> Option<Frame>
+        ensures { Put self.old.frame frame self.old self.new result }
+    {
+        match &self.frame {
+            Some(_) => Some(frame),
+            None => {
+                self.frame = Some(frame);
+                None
+            }
+        }
+    }
+
+    /// What of the record that was begun isn't written yet.
+    #[tactic(auto, using(std::proofs::lemmas::List::drop_all))]
+    pub(crate) fn unwritten(&self) -> &[u8]
+        ensures { result.now ≡ unwritten self.now }
+    {
+        let begun = self.begun.as_slice();
+        if self.written < begun.len() {
+            &begun[self.written..]
+        } else {
+            &[]
+        }
+    }
+
+    /// So many bytes of it are written now.
+    pub(crate) fn wrote(&mut self, count: usize)
+        requires { count ≤ length (unwritten self.old) }
+        ensures unwritten { unwritten self.new ≡ drop count (unwritten self.old) }
+        ensures others { self.new ≡ record self.old { written = self.new.written } }
+    {
+        if self.written >= self.begun.len() {
+            return;
+        }
+        self.written += count;
+    }
+
+    /// The record with this text is begun.
+    pub(crate) fn start(&mut self, text: ArrayVec<u8, MOST_RECORD>)
+        ensures { self.new ≡ with_begun text.items self.old }
+    {
+        self.begun = text;
+        self.written = 0;
+    }
+}

@@ -1,0 +1,240 @@
+//! What a record does to a connection.
+
+ghost use Rattle.std.specs.Prelude.{◌≡◌, ◌-◌, ◌≤◌, length};
+ghost use Rattle.peer_codes.specs.declared.kind.Kind.TheVariants as kind_of;
+ghost use Rattle.peer_codes.specs.declared.phase.Phase.TheVariants as phases;
+ghost use Rattle.peer_codes.specs.Codes.{uncovered};
+ghost use Rattle.peer_codes.specs.Steps.{closed, ways_of, only_coded, no_hello, greeted, on_greeting, on_proof, frame_heard, beat_heard, on_record, stepped, front_step};
+ghost use Rattle.peer_codes.specs.Reading.{hello_of};
+
+use crate::beat_reading::beat_of;
+use crate::connection_fault::ConnectionFault;
+use crate::event::Event;
+use crate::fault::RecordFault;
+use crate::frame::Frame;
+use crate::hello::{Hello, Link};
+use crate::hello_reading::hello_of;
+use crate::hellos::Hellos;
+use crate::hmac::is_same;
+use crate::key::Key;
+use crate::kind::Kind;
+use crate::limits::{CODE_BYTES, MOST_CONTENT, MOST_RECORD};
+use crate::phase::{Phase, Ways};
+use crate::reading::kind_in;
+use crate::records::Proof;
+use crate::role::Role;
+
+/// What a record does to a connection.
+#[derive(Drop)]
+pub(crate) struct Step {
+    pub(crate) phase: Phase,
+    /// This side's own proof, where it is to be written from now on.
+    pub(crate) proof: Option<Proof>,
+    pub(crate) event: Result<Event, ConnectionFault>,
+}
+
+/// The fault closes the connection.
+fn closed(fault: ConnectionFault) -> Step
+    ensures { result ≡ closed fault }
+{
+    Step {
+        phase: Phase::Closed(fault),
+        proof: None,
+        event: Err(fault),
+    }
+}
+
+/// Both ways, of the side in the first role.
+pub(crate) fn ways_of(key: &Key, own: Role, other: Role, hellos: &Hellos) -> Ways
+    ensures { result ≡ ways_of key.now.bytes own other hellos.now }
+{
+    Ways {
+        reading: hellos.way(key, other),
+        writing: hellos.way(key, own),
+    }
+}
+
+/// The Hello of a connection with codes that these bytes are.
+fn coded_hello(bytes: &[u8]) -> Option<Hello>
+    ensures { result ≡ only_coded (hello_of bytes.now) }
+{
+    match hello_of(bytes) {
+        Some(hello) => match hello.link {
+            Link::Plain => None,
+            Link::Coded(_) => Some(hello),
+        },
+        None => None,
+    }
+}
+
+/// No Hello of a connection with codes came.
+fn no_hello(own: Option<Hello>) -> Step
+    ensures { result ≡ no_hello own }
+{
+    let fault = ConnectionFault::Record(RecordFault::BadHello);
+    match own {
+        None => Step {
+            phase: Phase::Refused,
+            proof: None,
+            event: Err(fault),
+        },
+        Some(_) => closed(fault),
+    }
+}
+
+/// The other's Hello came, or bytes that are none.
+fn greeted(key: &Key, own: Option<Hello>, theirs: Option<Hello>) -> Step
+    ensures { result ≡ greeted key.now.bytes own theirs }
+{
+    let Some(theirs) = theirs else {
+        return no_hello(own);
+    };
+    let Some(own) = own else {
+        return Step {
+            phase: Phase::Asked(theirs),
+            proof: None,
+            event: Ok(Event::Greeted(theirs)),
+        };
+    };
+    let hellos = Hellos {
+        caller: own,
+        called: theirs,
+    };
+    Step {
+        phase: Phase::Proving(
+            hellos.proof(key, Role::Called),
+            ways_of(key, Role::Caller, Role::Called, &hellos),
+        ),
+        proof: Some(hellos.proof(key, Role::Caller)),
+        event: Ok(Event::Greeted(theirs)),
+    }
+}
+
+/// A record came before the other's Hello.
+fn on_greeting(key: &Key, own: Option<Hello>, kind: Kind, content: &[u8]) -> Step
+    ensures { result ≡ on_greeting key.now.bytes own kind content.now }
+{
+    match kind {
+        Kind::Hello => greeted(key, own, coded_hello(content)),
+        Kind::Proof => closed(ConnectionFault::OutOfTurn),
+        Kind::Frame => closed(ConnectionFault::OutOfTurn),
+        Kind::Beat => closed(ConnectionFault::OutOfTurn),
+    }
+}
+
+/// The proof that is awaited opens the connection.
+fn proved(theirs: Proof, ways: Ways, content: &[u8]) -> Step
+    ensures { result ≡ on_proof theirs ways kind_of.Proof content.now }
+{
+    if content.len() != CODE_BYTES {
+        return closed(ConnectionFault::Record(RecordFault::BadLength));
+    }
+    if !is_same(content, &theirs.code) {
+        return closed(ConnectionFault::WrongProof);
+    }
+    Step {
+        phase: Phase::Open(ways),
+        proof: None,
+        event: Ok(Event::Opened),
+    }
+}
+
+/// A record came before the other's proof.
+fn on_proof(theirs: Proof, ways: Ways, kind: Kind, content: &[u8]) -> Step
+    ensures { result ≡ on_proof theirs ways kind content.now }
+{
+    match kind {
+        Kind::Proof => proved(theirs, ways, content),
+        Kind::Hello => closed(ConnectionFault::OutOfTurn),
+        Kind::Frame => closed(ConnectionFault::OutOfTurn),
+        Kind::Beat => closed(ConnectionFault::OutOfTurn),
+    }
+}
+
+/// The connection stays open, and this came.
+fn heard(ways: Ways, event: Event) -> Step
+    ensures { result ≡ record { phase = phases.Open ways; proof = None; event = Ok event } }
+{
+    Step {
+        phase: Phase::Open(ways),
+        proof: None,
+        event: Ok(event),
+    }
+}
+
+/// A frame came, as far as its code is right.
+fn frame_heard(ways: Ways, content: &[u8]) -> Step
+    requires { length content.now ≤ MOST_CONTENT }
+    ensures { result ≡ frame_heard ways (length content.now - CODE_BYTES) (uncovered ways.reading kind_of.Frame content.now) }
+{
+    let Ways {
+        mut reading,
+        writing,
+    } = ways;
+    match reading.uncover(Kind::Frame, content) {
+        Ok(body) => match Frame::new(body.as_slice()) {
+            Some(frame) => heard(Ways { reading, writing }, Event::Frame(frame)),
+            None => closed(ConnectionFault::Record(RecordFault::BadLength)),
+        },
+        Err(fault) => closed(fault),
+    }
+}
+
+/// A beat came, as far as its code is right.
+fn beat_heard(ways: Ways, content: &[u8]) -> Step
+    requires { length content.now ≤ MOST_CONTENT }
+    ensures { result ≡ beat_heard ways (length content.now - CODE_BYTES) (uncovered ways.reading kind_of.Beat content.now) }
+{
+    let Ways {
+        mut reading,
+        writing,
+    } = ways;
+    match reading.uncover(Kind::Beat, content) {
+        Ok(body) => match beat_of(body.as_slice()) {
+            Ok(beat) => heard(Ways { reading, writing }, Event::Beat(beat)),
+            Err(fault) => closed(ConnectionFault::Record(fault)),
+        },
+        Err(fault) => closed(fault),
+    }
+}
+
+/// A record came on an open connection.
+fn on_record(ways: Ways, kind: Kind, content: &[u8]) -> Step
+    requires { length content.now ≤ MOST_CONTENT }
+    ensures { result ≡ on_record ways kind content.now }
+{
+    match kind {
+        Kind::Frame => frame_heard(ways, content),
+        Kind::Beat => beat_heard(ways, content),
+        Kind::Hello => closed(ConnectionFault::OutOfTurn),
+        Kind::Proof => closed(ConnectionFault::OutOfTurn),
+    }
+}
+
+/// What a record of this kind does.
+#[tactic(auto, unfolding(crate::specs::Steps::stepped))]
+fn stepped(key: &Key, phase: Phase, kind: Kind, content: &[u8]) -> Step
+    requires { length content.now ≤ MOST_CONTENT }
+    ensures { result ≡ stepped key.now.bytes phase kind content.now }
+{
+    match phase {
+        Phase::Greeting(own) => on_greeting(key, own, kind, content),
+        Phase::Asked(_) => closed(ConnectionFault::OutOfTurn),
+        Phase::Refused => closed(ConnectionFault::Record(RecordFault::BadHello)),
+        Phase::Proving(theirs, ways) => on_proof(theirs, ways, kind, content),
+        Phase::Open(ways) => on_record(ways, kind, content),
+        Phase::Closed(fault) => closed(fault),
+    }
+}
+
+/// What stands in front of the bytes that came does.
+#[tactic(auto, unfolding(crate::specs::Steps::front_step))]
+pub(crate) fn front_step(key: &Key, phase: Phase, front: &[u8]) -> Step
+    requires { length front.now ≤ MOST_RECORD }
+    ensures { result ≡ front_step key.now.bytes phase front.now }
+{
+    match kind_in(front) {
+        Ok(kind) => stepped(key, phase, kind, &front[5..]),
+        Err(fault) => closed(ConnectionFault::Record(fault)),
+    }
+}

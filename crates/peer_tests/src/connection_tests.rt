@@ -1,0 +1,404 @@
+//! Two sides of a connection that talk, and what is heard where something on the way is changed.
+
+ghost use Rattle.std.specs.Prelude.{◌≡◌, true};
+ghost use Rattle.peer_codes.specs.Steps.{is_coded};
+
+use crate::samples::{ASK, BEAT, assert_bytes, called, caller, key, with_nonce};
+use crate::vectors::{
+    CALLED_FRAME, CALLED_HELLO, CALLED_PROOF, CALLER_HELLO, CALLER_PROOF, FIRST_FRAME, PLAIN_HELLO,
+    THEN_BEAT, THEN_FRAME,
+};
+use peer_codes::{Connection, Event, Frame, Hello, Hellos, Record, Role, record_bytes};
+use std::alloc::{AllocError, Global};
+use std::process::Abort;
+use std::test::Fail;
+
+/// How often each came, and the number of the fault that closed the connection, or 0.
+#[derive(Clone, Copy, Debug, PartialEq, Eq)]
+struct Heard {
+    hellos: u8,
+    proofs: u8,
+    frames: u8,
+    beats: u8,
+    /// Hellos, frames and beats that nobody said.
+    others: u8,
+    fault: u8,
+}
+
+const NOTHING: Heard = Heard {
+    hellos: 0,
+    proofs: 0,
+    frames: 0,
+    beats: 0,
+    others: 0,
+    fault: 0,
+};
+
+/// The other's Hello came, and nothing else.
+fn greeted() -> Heard {
+    Heard {
+        hellos: 1,
+        ..NOTHING
+    }
+}
+
+/// The other's proof came, and nothing else.
+fn opened() -> Heard {
+    Heard {
+        proofs: 1,
+        ..NOTHING
+    }
+}
+
+/// This fault closed it, and nothing else came.
+fn closed_by(fault: u8) -> Heard {
+    Heard { fault, ..NOTHING }
+}
+
+/// What was heard, and this event.
+fn and_event(heard: Heard, event: &Event) -> Heard {
+    let mut heard = heard;
+    match event {
+        Event::Greeted(hello) if *hello == caller() || *hello == called() => {
+            heard.hellos = heard.hellos.saturating_add(1);
+        }
+        Event::Opened => heard.proofs = heard.proofs.saturating_add(1),
+        Event::Frame(frame) if frame.bytes.as_slice() == ASK.as_slice() => {
+            heard.frames = heard.frames.saturating_add(1);
+        }
+        Event::Beat(beat) if *beat == BEAT => heard.beats = heard.beats.saturating_add(1),
+        _ => heard.others = heard.others.saturating_add(1),
+    }
+    heard
+}
+
+/// Hears all that came, up to a fault; the called answers with this Hello.
+fn hear_all(side: &mut Connection, own: Hello) -> Heard
+    requires { is_coded own.link ≡ true }
+{
+    let mut heard = NOTHING;
+    for _ in 0..8 {
+        match side.next() {
+            None => return heard,
+            Some(Err(fault)) => {
+                heard.fault = fault.code();
+                return heard;
+            }
+            Some(Ok(event)) => heard = and_event(heard, &event),
+        }
+        side.answer(own);
+    }
+    heard
+}
+
+/// All that a side has to say at present.
+fn said(alloc: Global, side: &mut Connection) -> Result<Vec<u8>, AllocError> {
+    let mut out = Vec::new(alloc);
+    for _ in 0..4 {
+        side.begin();
+        let text = side.unwritten();
+        let count = text.len();
+        out.extend_from_slice(text)?;
+        side.wrote(count);
+    }
+    Ok(out)
+}
+
+/// So many bytes are written now, or all that there are.
+fn wrote(side: &mut Connection, most: usize) {
+    let count = side.unwritten().len().min(most);
+    side.wrote(count);
+}
+
+// What `assert_eq!` makes is proved anew wherever it stands, so it stands in the function below.
+
+/// The two are equal; where they aren't, both are printed.
+fn assert_heard(rt: &impl Abort, found: Heard, expected: Heard) {
+    assert_eq!(rt; found, expected);
+}
+
+/// The frame is to be said.
+fn put_ask(rt: &impl Abort, side: &mut Connection) {
+    match Frame::new(&ASK) {
+        Some(frame) => assert!(rt; side.put_frame(frame).is_none(), "another frame waits"),
+        None => assert!(rt; false, "no frame"),
+    }
+}
+
+/// All that the caller says in `the_caller_talks`.
+fn course(alloc: Global) -> Result<Vec<u8>, AllocError> {
+    let mut whole = Vec::new(alloc);
+    whole.extend_from_slice(&CALLER_HELLO)?;
+    whole.extend_from_slice(&CALLER_PROOF)?;
+    whole.extend_from_slice(&FIRST_FRAME)?;
+    whole.extend_from_slice(&THEN_BEAT)?;
+    whole.extend_from_slice(&THEN_FRAME)?;
+    Ok(whole)
+}
+
+/// All that the called says in `the_called_talks`.
+fn reply(alloc: Global) -> Result<Vec<u8>, AllocError> {
+    let mut whole = Vec::new(alloc);
+    whole.extend_from_slice(&CALLED_HELLO)?;
+    whole.extend_from_slice(&CALLED_PROOF)?;
+    whole.extend_from_slice(&CALLED_FRAME)?;
+    Ok(whole)
+}
+
+/// The caller, open to the called.
+fn open_caller(alloc: Global) -> Result<Connection, AllocError> {
+    let mut side = Connection::call(alloc, key(), caller());
+    let _own = said(alloc, &mut side)?;
+    side.take_piece(&CALLED_HELLO)?;
+    side.take_piece(&CALLED_PROOF)?;
+    let _heard = hear_all(&mut side, caller());
+    let _proof = said(alloc, &mut side)?;
+    Ok(side)
+}
+
+#[test]
+fn the_caller_talks(rt: HostRuntime) -> Result<(), Fail> {
+    let alloc = rt.alloc();
+    let mut side = Connection::call(alloc, key(), caller());
+    assert_bytes(&rt, said(alloc, &mut side)?.as_slice(), &CALLER_HELLO);
+    side.take_piece(&CALLED_HELLO)?;
+    assert_heard(&rt, hear_all(&mut side, caller()), greeted());
+    put_ask(&rt, &mut side);
+    assert_bytes(&rt, said(alloc, &mut side)?.as_slice(), &CALLER_PROOF);
+    side.take_piece(&CALLED_PROOF)?;
+    assert_heard(&rt, hear_all(&mut side, caller()), opened());
+    assert_bytes(&rt, said(alloc, &mut side)?.as_slice(), &FIRST_FRAME);
+    put_ask(&rt, &mut side);
+    side.tell_beat(BEAT);
+    side.begin();
+    // A beat goes before a frame, and nothing is coded while it is unfinished.
+    assert_bytes(&rt, side.unwritten(), &THEN_BEAT);
+    wrote(&mut side, 20);
+    side.begin();
+    assert_bytes(&rt, side.unwritten(), &THEN_BEAT[20..]);
+    wrote(&mut side, 32);
+    assert_bytes(&rt, said(alloc, &mut side)?.as_slice(), &THEN_FRAME);
+    Ok(())
+}
+
+#[test]
+fn the_called_talks(rt: HostRuntime) -> Result<(), Fail> {
+    let alloc = rt.alloc();
+    let mut side = Connection::listen(alloc, key());
+    assert_bytes(&rt, said(alloc, &mut side)?.as_slice(), &[]);
+    let whole = course(alloc)?;
+    for byte in whole.as_slice() {
+        side.take_piece(&[*byte])?;
+    }
+    let all = Heard {
+        hellos: 1,
+        proofs: 1,
+        frames: 2,
+        beats: 1,
+        ..NOTHING
+    };
+    assert_heard(&rt, hear_all(&mut side, called()), all);
+    put_ask(&rt, &mut side);
+    let told = said(alloc, &mut side)?;
+    assert_bytes(&rt, told.as_slice(), reply(alloc)?.as_slice());
+    Ok(())
+}
+
+/// What the called hears of the first so many bytes of `course`.
+fn heard_of(count: usize) -> Heard {
+    Heard {
+        hellos: u8::from(count >= 114),
+        proofs: u8::from(count >= 151),
+        frames: u8::from(count >= 198),
+        beats: u8::from(count >= 250),
+        ..NOTHING
+    }
+}
+
+/// The fault that a changed bit in this byte of `course` shows; 0 where a length then asks for more than comes.
+fn fault_of_change(place: usize) -> u8 {
+    match place {
+        2 | 116 | 153 | 200 | 252 => 0,
+        0 | 1 | 114 | 115 | 117 | 151 | 152 | 198 | 199 | 250 | 251 => 120,
+        3 | 5..=11 => 122,
+        4 | 118 => 126,
+        12..=150 => 124,
+        _ => 125,
+    }
+}
+
+/// With a bit of any one byte changed all before its record is heard and nothing behind it, and it is the first fault.
+/// From its thirteenth byte on the changed Hello is one that some node could say: then the proof is at fault.
+#[test]
+fn a_changed_byte_is_a_fault(rt: HostRuntime) -> Result<(), Fail> {
+    let alloc = rt.alloc();
+    let whole = course(alloc)?;
+    for place in 0..whole.len() {
+        let mut side = Connection::listen(alloc, key());
+        side.take_piece(&whole.as_slice()[..place])?;
+        side.take_piece(&[whole.as_slice()[place] ^ 1])?;
+        side.take_piece(&whole.as_slice()[place + 1..])?;
+        let heard = hear_all(&mut side, called());
+        let expected = Heard {
+            others: u8::from(place >= 12 && place < 114),
+            fault: fault_of_change(place),
+            ..heard_of(place)
+        };
+        assert_eq!(rt; heard, expected, "changed at {place}");
+    }
+    Ok(())
+}
+
+/// Wherever it is cut, a beginning of what was said is heard, and no fault.
+#[test]
+fn a_cut_is_waited_for(rt: HostRuntime) -> Result<(), Fail> {
+    let alloc = rt.alloc();
+    let whole = course(alloc)?;
+    for end in 0..whole.len() {
+        let mut side = Connection::listen(alloc, key());
+        side.take_piece(&whole.as_slice()[..end])?;
+        let heard = hear_all(&mut side, called());
+        assert_eq!(rt; heard, heard_of(end), "cut at {end}");
+    }
+    Ok(())
+}
+
+#[test]
+fn an_own_proof_that_comes_back_is_refused(rt: HostRuntime) -> Result<(), Fail> {
+    let alloc = rt.alloc();
+    let mut side = Connection::call(alloc, key(), caller());
+    let own = said(alloc, &mut side)?;
+    side.take_piece(own.as_slice())?;
+    assert_heard(&rt, hear_all(&mut side, caller()), greeted());
+    let proof = said(alloc, &mut side)?;
+    side.take_piece(proof.as_slice())?;
+    assert_heard(&rt, hear_all(&mut side, caller()), closed_by(124));
+    Ok(())
+}
+
+#[test]
+fn an_own_frame_that_comes_back_is_refused(rt: HostRuntime) -> Result<(), Fail> {
+    let alloc = rt.alloc();
+    let mut side = open_caller(alloc)?;
+    put_ask(&rt, &mut side);
+    let frame = said(alloc, &mut side)?;
+    assert_bytes(&rt, frame.as_slice(), &FIRST_FRAME);
+    side.take_piece(frame.as_slice())?;
+    assert_heard(&rt, hear_all(&mut side, caller()), closed_by(125));
+    Ok(())
+}
+
+#[test]
+fn a_caller_that_proves_nothing_is_refused(rt: HostRuntime) -> Result<(), Fail> {
+    let alloc = rt.alloc();
+    let mut side = Connection::listen(alloc, key());
+    side.take_piece(&CALLER_HELLO)?;
+    side.take_piece(&FIRST_FRAME)?;
+    assert_heard(
+        &rt,
+        hear_all(&mut side, called()),
+        Heard {
+            fault: 126,
+            ..greeted()
+        },
+    );
+    // The fault is told again, and nothing is coded.
+    assert_heard(&rt, hear_all(&mut side, called()), closed_by(126));
+    put_ask(&rt, &mut side);
+    assert_eq!(rt; said(alloc, &mut side)?.len(), 114 + 37);
+    Ok(())
+}
+
+/// A caller without codes is refused, and the called's own Hello is said, once and without a proof.
+#[test]
+fn a_plain_caller_is_refused_and_answered(rt: HostRuntime) -> Result<(), Fail> {
+    let alloc = rt.alloc();
+    let mut side = Connection::listen(alloc, key());
+    side.take_piece(&PLAIN_HELLO)?;
+    assert_heard(&rt, hear_all(&mut side, called()), closed_by(122));
+    assert_bytes(&rt, said(alloc, &mut side)?.as_slice(), &[]);
+    side.answer(called());
+    assert_bytes(&rt, said(alloc, &mut side)?.as_slice(), &CALLED_HELLO);
+    side.answer(called());
+    assert_bytes(&rt, said(alloc, &mut side)?.as_slice(), &[]);
+    assert_heard(&rt, hear_all(&mut side, called()), closed_by(122));
+    Ok(())
+}
+
+#[test]
+fn a_called_without_codes_is_refused(rt: HostRuntime) -> Result<(), Fail> {
+    let alloc = rt.alloc();
+    let mut side = Connection::call(alloc, key(), caller());
+    side.take_piece(&PLAIN_HELLO)?;
+    assert_heard(&rt, hear_all(&mut side, caller()), closed_by(122));
+    side.answer(caller());
+    assert_bytes(&rt, said(alloc, &mut side)?.as_slice(), &CALLER_HELLO);
+    Ok(())
+}
+
+#[test]
+fn a_second_hello_is_refused(rt: HostRuntime) -> Result<(), Fail> {
+    let alloc = rt.alloc();
+    let mut side = open_caller(alloc)?;
+    side.take_piece(&CALLED_HELLO)?;
+    assert_heard(&rt, hear_all(&mut side, caller()), closed_by(126));
+    Ok(())
+}
+
+#[test]
+fn a_caller_with_a_wrong_proof_is_refused(rt: HostRuntime) -> Result<(), Fail> {
+    let alloc = rt.alloc();
+    let mut side = Connection::listen(alloc, key());
+    side.take_piece(&CALLER_HELLO)?;
+    side.take_piece(&CALLED_PROOF)?;
+    assert_heard(
+        &rt,
+        hear_all(&mut side, called()),
+        Heard {
+            fault: 124,
+            ..greeted()
+        },
+    );
+    Ok(())
+}
+
+#[test]
+fn a_proof_of_an_earlier_connection_is_refused(rt: HostRuntime) -> Result<(), Fail> {
+    let alloc = rt.alloc();
+    let again = with_nonce(called(), 50);
+    let mut side = Connection::listen(alloc, key());
+    side.take_piece(&CALLER_HELLO)?;
+    side.take_piece(&CALLER_PROOF)?;
+    assert_heard(
+        &rt,
+        hear_all(&mut side, again),
+        Heard {
+            fault: 124,
+            ..greeted()
+        },
+    );
+    Ok(())
+}
+
+#[test]
+fn a_frame_of_an_earlier_connection_is_refused(rt: HostRuntime) -> Result<(), Fail> {
+    let alloc = rt.alloc();
+    let again = with_nonce(called(), 50);
+    let hellos = Hellos {
+        caller: caller(),
+        called: again,
+    };
+    let proof = record_bytes(&Record::Proof(hellos.proof(&key(), Role::Caller)));
+    let mut side = Connection::listen(alloc, key());
+    side.take_piece(&CALLER_HELLO)?;
+    side.take_piece(proof.as_slice())?;
+    side.take_piece(&FIRST_FRAME)?;
+    let expected = Heard {
+        hellos: 1,
+        proofs: 1,
+        fault: 125,
+        ..NOTHING
+    };
+    assert_heard(&rt, hear_all(&mut side, again), expected);
+    Ok(())
+}

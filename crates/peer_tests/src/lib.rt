@@ -1,0 +1,25 @@
+//! Tests of the connections between nodes (`peer_codes`), by their public calls alone.
+//!
+//! - `code_tests`: codes as RFC 4231 has them.
+//! - `record_tests`: records, with and without codes, byte for byte as the second writing of `tests/peer_codes` has them.
+//! - `way_tests`: records of another way, and records that were changed or cut.
+//! - `connection_tests`: two sides that talk, and what is heard where something on the way is changed.
+//!
+//! `samples` has the key, the Hellos, the frame and the beat of all of them, `vectors` the bytes.
+//!
+//! They stand in a crate of their own, which has nothing else: a crate with tests is proved twice, once without them and
+//! once with all of it, and `peer_codes` is so proved once.
+#![tactic(auto)]
+
+#[cfg(test)]
+mod code_tests;
+#[cfg(test)]
+mod connection_tests;
+#[cfg(test)]
+mod record_tests;
+#[cfg(test)]
+mod samples;
+#[cfg(test)]
+mod vectors;
+#[cfg(test)]
+mod way_tests;
