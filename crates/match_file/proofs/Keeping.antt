@@ -15,7 +15,7 @@ use Rattle.dealer_kind.specs.Plans.{IsSetting}
 use Rattle.match_file.specs.Kept.{Kept, Keeps, IsFirst, line}
 use Rattle.match_file.specs.KeptLines.{Said, IsOneEach}
 use Rattle.match_file.specs.declared.difference.Difference.{Difference}
-use Rattle.match_file.specs.declared.difference.Difference.TheVariants.{Name, Game as GameWord, Hands, Names, Node, Values, Unread}
+use Rattle.match_file.specs.declared.difference.Difference.TheVariants.{Name, Game as GameWord, Hands, Names, Node, Values, Unread, Command}
 
 -- what is found in front of a feed, behind a word
 pub line_found : (text word behind : List ℕ) (found : Option (Bor (List ℕ) × Bor (List ℕ))) → text ≡ word ++ behind → IfSome found (λ parts. (behind ≡ parts.0.now ++ 10 ∷ parts.1.now) × IsFreeOf 10 parts.0.now) → IfSome found (λ parts. text ≡ line word parts.0.now parts.1.now)
@@ -78,6 +78,7 @@ none_first a b Names same first = first.1 (ap (λ (k : Kept). k.setting.names) s
 none_first a b Node same first = first.2 (ap (λ (k : Kept). k.nodes) same)
 none_first a b Values same first = first.3 (ap (λ (k : Kept). k.setting.game) same)
 none_first a b Unread same first = first
+none_first a b Command same first = first
 
 -- a text that keeps the one keeps the other just where nothing is first
 pub keeps_it : (found : Option Difference) (text : List ℕ) (old new : Kept) → Keeps text old → (Keeps text new → old ≡ new) → MatchOption found (old ≡ new) (IsFirst old new) → IsNone found ↔ Keeps text new

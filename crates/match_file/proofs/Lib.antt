@@ -6,3 +6,9 @@ pub mod UnusedKeys
 pub mod Keeping
 pub mod SameGames
 pub mod Examples
+pub mod Addressing
+pub mod AddressExamples
+pub mod HexLines
+pub mod NodeLines
+pub mod Entering
+pub mod NodeExamples

@@ -5,7 +5,7 @@ use Rattle.match_log.specs.Lines.{names_field}
 use Rattle.dealer_kind.specs.Kind.{Setting}
 use Rattle.dealer_kind.specs.Plans.{Plan, HasNodes, IsSetting}
 use Rattle.match_file.specs.declared.difference.Difference.{Difference}
-use Rattle.match_file.specs.declared.difference.Difference.TheVariants.{Name, Game, Hands, Names, Node, Values, Unread}
+use Rattle.match_file.specs.declared.difference.Difference.TheVariants.{Name, Game, Hands, Names, Node, Values, Unread, Command}
 
 -- a match, and how many nodes deal it
 pub record Kept : Type 0 where
@@ -50,6 +50,7 @@ IsFirst a b Node = (a.setting.title ≡ b.setting.title) × (a.setting.names ≡
 IsFirst a b Values =
     (a.setting.title ≡ b.setting.title) × (a.setting.names ≡ b.setting.names) × (a.nodes ≡ b.nodes) × (a.setting.game ≢ b.setting.game)
 IsFirst a b Unread = ⊥
+IsFirst a b Command = ⊥
 
 -- what a text shows against a match: it is that of no kept match, or of another, and this is the first thing in which that is another
 abbrev pub Shows : List ℕ → Kept → Difference → Type 0
@@ -65,3 +66,4 @@ difference_text Names = codes "names"
 difference_text Node = codes "node"
 difference_text Values = codes "values"
 difference_text Unread = codes "match.kept"
+difference_text Command = codes "command"

@@ -10,3 +10,7 @@ pub mod Unused
 pub mod Kept
 pub mod KeptLines
 pub mod KeptMatch
+pub mod Addresses
+pub mod NodeEntries
+pub mod Identities
+pub mod SourceTexts

@@ -20,10 +20,13 @@ pub enum Difference {
     Values,
     /// What was kept is no match.
     Unread,
+    /// The command that plays it: stores that were made for nodes in processes of their own aren't `serve`'s. No text
+    /// shows it, but what lies beside the stores.
+    Command,
 }
 
-/// Writes the key of the match file in which they differ, `values` where the game does, and `match.kept` where no match
-/// is kept.
+/// Writes the key of the match file in which they differ, `values` where the game does, `match.kept` where no match is
+/// kept, and `command` where another command plays it.
 impl fmt::Display for Difference {
     ghost output = { λ difference. Some (difference_text difference) };
 
@@ -36,6 +39,7 @@ impl fmt::Display for Difference {
             Difference::Node => "node",
             Difference::Values => "values",
             Difference::Unread => "match.kept",
+            Difference::Command => "command",
         })
     }
 }

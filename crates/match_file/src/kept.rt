@@ -42,7 +42,7 @@ pub fn kept_difference(config: &Config, text: &[u8]) -> Option<Difference>
 }
 
 /// Appends a line: a word with a space behind it, and what it says.
-fn put_line(text: &mut Vec<u8>, word: &[u8], value: &[u8]) -> Result<(), AllocError>
+pub(crate) fn put_line(text: &mut Vec<u8>, word: &[u8], value: &[u8]) -> Result<(), AllocError>
     ensures { OnOk result (text.new.items ≡ text.old.items ++ line word.now value.now []) }
 {
     text.extend_from_slice(word)?;
@@ -51,7 +51,7 @@ fn put_line(text: &mut Vec<u8>, word: &[u8], value: &[u8]) -> Result<(), AllocEr
 }
 
 /// Appends a line that says a number.
-fn put_number(text: &mut Vec<u8>, word: &[u8], number: u32) -> Result<(), AllocError>
+pub(crate) fn put_number(text: &mut Vec<u8>, word: &[u8], number: u32) -> Result<(), AllocError>
     ensures { OnOk result (text.new.items ≡ text.old.items ++ line word.now (decimal number) []) }
 {
     let digits = format!(in *text.allocator(); "{number}")?;

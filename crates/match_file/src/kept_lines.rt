@@ -1,4 +1,4 @@
-//! The lines of a `match.kept`, before what they say is read.
+//! The lines of a `match.kept`, before what they say is read; those of other kept files are read by the same calls.
 
 ghost use Rattle.std.specs.Prelude.{◌≡◌, ◌++◌, ℕ, List, IfSome, IsSomeAnd};
 ghost use Rattle.game_def.specs.Text.{HasNoFeed};
@@ -45,7 +45,7 @@ impl<'a> KeptLines<'a> {
 }
 
 /// What a line in front says that begins with a word, and what stands behind the line; none where another stands there.
-fn read_line<'a>(text: &'a [u8], word: &[u8]) -> Option<(&'a [u8], &'a [u8])>
+pub(crate) fn read_line<'a>(text: &'a [u8], word: &[u8]) -> Option<(&'a [u8], &'a [u8])>
     ensures found { IfSome result (λ parts. text.now ≡ line word.now parts.0.now parts.1.now) }
     ensures only { (value rest : List ℕ) → HasNoFeed value → text.now ≡ line word.now value rest → IsSomeAnd result (λ parts. (parts.0.now ≡ value) × (parts.1.now ≡ rest)) }
 {
@@ -57,7 +57,7 @@ fn read_line<'a>(text: &'a [u8], word: &[u8]) -> Option<(&'a [u8], &'a [u8])>
 
 /// What stands behind these bytes; none where others stand in front. It is `strip_prefix`, said both ways, as a front
 /// and what is behind it.
-fn after<'a>(text: &'a [u8], front: &[u8]) -> Option<&'a [u8]>
+pub(crate) fn after<'a>(text: &'a [u8], front: &[u8]) -> Option<&'a [u8]>
     ensures found { IfSome result (λ behind. text.now ≡ front.now ++ behind.now) }
     ensures only { (behind : List ℕ) → text.now ≡ front.now ++ behind → IsSomeAnd result (λ rest. rest.now ≡ behind) }
 {

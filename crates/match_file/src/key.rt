@@ -24,6 +24,10 @@ pub enum Key {
     Outage,
     /// What is done about seats that were dropped.
     Away,
+    /// Where a node awaits the others, in its table.
+    Peers,
+    /// Where a node awaits the bots of seats, in its table.
+    Seats,
 }
 
 impl Key {
@@ -42,6 +46,8 @@ impl Key {
             Key::Port => "port",
             Key::Outage => "outage",
             Key::Away => "away",
+            Key::Peers => "peers",
+            Key::Seats => "seats",
         }
     }
 }

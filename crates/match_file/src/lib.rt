@@ -1,38 +1,53 @@
 //! Match files: TOML texts that say which match is played, by which nodes, and where its stores, logs and ports are.
 //!
 //! `MatchFile::read` takes the text, `game` says which game file to read next, and `config` answers with the match
-//! that file and game file say. `stores` and `service` answer what the nodes on disk and over TCP need besides. Each
-//! looks at its keys in the order in which they are listed and answers the first fault; keys that it doesn't look at
-//! are passed over, right or wrong; `unused` tells those that no command reads. `kept_text` is what is kept of a match
-//! beside its stores, and `kept_difference` in what a kept one is another. Nothing here opens a file.
+//! that file and game file say. `stores` and `service` answer what the nodes on disk and over TCP need besides,
+//! `node_entries` what a node needs that runs in a process of its own, the addresses of all among it. Each looks at its
+//! keys in the order in which they are listed and answers the first fault; keys that it doesn't look at are passed over,
+//! right or wrong; `unused` tells those that no command reads. `kept_text` is what is kept of a match beside its stores,
+//! and `kept_difference` in what a kept one is another; the identity in front of it (`read_identified`), `NodeKept` and a
+//! peer's life are what lies beside the store of a node in a process of its own. Nothing here opens a file.
 //!
-//! The tests `a_match_is_what_its_files_say` and `what_is_served_is_what_the_file_says` of `rule_tests` walk this way.
+//! The tests `a_match_is_what_its_files_say`, `what_is_served_is_what_the_file_says` and `a_node_reads_its_entries` of
+//! `rule_tests` walk this way.
 //! Faults: `MatchFault`, 100 to 102, 104 and 92, the first in the order that `specs/Refusals.antt` states.
 #![tactic(auto)]
 
 mod absent;
+mod addresses;
 mod config;
 mod difference;
+mod digest;
 mod entries;
+mod hex_lines;
 mod kept;
 mod kept_lines;
 mod kept_match;
 mod key;
 mod match_fault;
 mod match_file;
+mod match_id;
+mod node_entries;
+mod node_kept;
 mod node_tables;
 mod outage;
 mod outages;
 mod sameness;
 mod seat_names;
 mod service;
+mod trusted;
 mod unused;
 
 pub use absent::Absent;
+pub use addresses::Addresses;
 pub use difference::Difference;
+pub use digest::source_digest;
 pub use kept::{kept_difference, kept_text};
 pub use key::Key;
 pub use match_fault::MatchFault;
 pub use match_file::MatchFile;
+pub use match_id::{MatchId, identified_text, read_identified};
+pub use node_entries::NodeEntries;
+pub use node_kept::{NodeKept, life_text, node_kept_text, read_life, read_node_kept};
 pub use outage::Outage;
 pub use service::Service;

@@ -48,6 +48,13 @@ impl MatchFile {
         }
     }
 
+    /// The folder of the nodes' logs, a path from the working folder.
+    pub(crate) fn logs(&self) -> Option<&str>
+        ensures { MatchOption result (IsAbsent (SaysFolder Logs (members self.now))) (λ folder. SaysFolder Logs (members self.now) folder.now) }
+    {
+        text_at(&self.table, Key::Logs)
+    }
+
     /// What a match of so many nodes needs to be served. The fault is 101 `BadEntry` of the first wrong one of
     /// `stores`, `logs`, `port`, `outage` and `away`, or 92 `OutOfMemory`.
     pub fn service(&self, alloc: Global, nodes: usize) -> Result<Service<'_>, MatchFault>
@@ -60,7 +67,7 @@ impl MatchFile {
         ensures fault { IfErr result (IsUnserved nodes (members self.now)) }
     {
         let stores = self.stores()?;
-        let Some(logs) = text_at(&self.table, Key::Logs) else {
+        let Some(logs) = self.logs() else {
             return Err(MatchFault::BadEntry(Key::Logs));
         };
         let Some(port) = self.port() else {

@@ -1,6 +1,7 @@
 ghost use Rattle.std.specs.Prelude.{◌≡◌, IfOk, map};
 ghost use Rattle.match_file.specs.Unused.{is_used};
 
+use crate::entries::at;
 use crate::key::Key;
 use crate::match_file::MatchFile;
 use std::alloc::{AllocError, Global};
@@ -19,9 +20,12 @@ const KEYS: [Key; 10] = [
     Key::Away,
 ];
 
+/// The keys that `serve` alone reads: a node in a process of its own passes them over.
+const SERVED: [Key; 3] = [Key::Port, Key::Outage, Key::Away];
+
 impl MatchFile {
     ghost use Rattle.match_file.specs.MatchFile.{members};
-    ghost use Rattle.match_file.specs.Unused.{unused_keys};
+    ghost use Rattle.match_file.specs.Unused.{unused_keys, passed_keys};
 
     /// The keys that no command reads, in the table's order.
     pub fn unused(&self, alloc: Global) -> Result<Vec<&str>, AllocError>
@@ -34,6 +38,20 @@ impl MatchFile {
             }
         }
         Ok(unused)
+    }
+
+    /// The keys that stand in the file and that a node in a process of its own passes over, right or wrong: those of
+    /// `port`, `outage` and `away`, in this order.
+    pub fn passed_over(&self, alloc: Global) -> Result<Vec<Key>, AllocError>
+        ensures { IfOk result (λ keys. keys.items ≡ passed_keys (members self.now)) }
+    {
+        let mut passed = Vec::new(alloc);
+        for key in &SERVED {
+            if at(&self.table, *key).is_some() {
+                passed.push(*key)?;
+            }
+        }
+        Ok(passed)
     }
 }
 

@@ -33,6 +33,8 @@ mod match_file_tests;
 #[cfg(test)]
 mod match_log_tests;
 #[cfg(test)]
+mod node_file_tests;
+#[cfg(test)]
 mod pot_tests;
 #[cfg(test)]
 mod rank_tests;

@@ -97,8 +97,8 @@ fn joined(alloc: Global, front: &str, new: &str, behind: &str) -> Result<String,
     format!(in alloc; "{front}{new}{behind}")
 }
 
-/// The text with one line in place of another.
-fn with(alloc: Global, text: &str, old: &str, new: &str) -> Result<String, AllocError> {
+/// The text with one part in place of another.
+pub(crate) fn with(alloc: Global, text: &str, old: &str, new: &str) -> Result<String, AllocError> {
     match text.split_once(old) {
         Some((front, behind)) => joined(alloc, front, new, behind),
         None => joined(alloc, text, "", ""),

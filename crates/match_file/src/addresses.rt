@@ -1,0 +1,121 @@
+ghost use Rattle.std.specs.Prelude.{◌≡◌, ◌≤◌, ◌+◌, Some, IfOk, IfErr, MatchOption, MatchResult, map};
+ghost use Rattle.std.specs.Net.Grammar.{IsSocketText};
+ghost use Rattle.toml.specs.View.{view};
+ghost use Rattle.match_file.specs.Said.{IsAbsent, EachSays};
+ghost use Rattle.match_file.specs.Refusals.{IsToldOf};
+ghost use Rattle.match_file.specs.Addresses.{is_usable, IsAddress, SaysAddress, SaysAddresses, IsUnreached};
+ghost use Rattle.match_file.specs.declared.key.Key.TheVariants.{Peers, Seats};
+
+use crate::entries::{array_at, text_of};
+use crate::key::Key;
+use crate::match_fault::MatchFault;
+use crate::match_file::MatchFile;
+use crate::trusted::is_trusted;
+use std::alloc::Global;
+use std::net::SocketAddr;
+use toml::Value;
+
+/// Where the nodes of a match are reached, each in a process of its own: addresses that are trusted, by number.
+#[derive(Drop)]
+pub struct Addresses {
+    /// Where each node awaits the others.
+    pub peers: Vec<SocketAddr>,
+    /// Where each node awaits the bot of seat 0; seat s is awaited at the port that is s higher.
+    pub seats: Vec<SocketAddr>,
+}
+
+impl MatchFile {
+    ghost use Rattle.match_file.specs.MatchFile.{members};
+
+    /// Where the nodes are reached, in a match of so many players: what stands at `peers` and at `seats` in each node's
+    /// table. The fault is 101 `BadEntry` of `peers` or, where that is right in each table, of `seats`, or 92
+    /// `OutOfMemory`.
+    pub fn addresses(&self, alloc: Global, players: usize) -> Result<Addresses, MatchFault>
+        requires { players ≤ 10 }
+        ensures peers { IfOk result (λ all. SaysAddresses Peers 1 (members self.now) all.peers.items) }
+        ensures seats { IfOk result (λ all. SaysAddresses Seats players (members self.now) all.seats.items) }
+        ensures fault { IfErr result (IsUnreached players (members self.now)) }
+    {
+        let peers = self.addresses_at(alloc, Key::Peers, 1)?;
+        let seats = self.addresses_at(alloc, Key::Seats, players)?;
+        Ok(Addresses { peers, seats })
+    }
+
+    /// The addresses at a key of the nodes' tables, each of which has so many ports one behind the other.
+    fn addresses_at(
+        &self,
+        alloc: Global,
+        key: Key,
+        ports: usize,
+    ) -> Result<Vec<SocketAddr>, MatchFault>
+        requires { ports ≤ 10 }
+        ensures { MatchResult result (λ all. SaysAddresses key ports (members self.now) all.items) (IsToldOf key (IsAbsent (SaysAddresses key ports (members self.now)))) }
+    {
+        match array_at(&self.table, Key::Node) {
+            Some(values) => addresses_of(alloc, values, key, ports),
+            None => Err(MatchFault::BadEntry(key)),
+        }
+    }
+}
+
+/// The addresses that tables say at a key.
+fn addresses_of(
+    alloc: Global,
+    values: &[Value],
+    key: Key,
+    ports: usize,
+) -> Result<Vec<SocketAddr>, MatchFault>
+    requires { ports ≤ 10 }
+    ensures { MatchResult result (λ all. EachSays (SaysAddress key ports) (map view values.now) all.items) (IsToldOf key (IsAbsent (EachSays (SaysAddress key ports) (map view values.now)))) }
+{
+    let mut addresses = Vec::new(alloc);
+    for value in values {
+        match address_of(value, key, ports) {
+            Some(address) => addresses.push(address)?,
+            None => return Err(MatchFault::BadEntry(key)),
+        }
+    }
+    Ok(addresses)
+}
+
+/// The address that a table says at a key.
+#[tactic(auto, using(crate::proofs::Addressing::not_there, crate::proofs::Addressing::no_text, crate::proofs::Addressing::no_address))]
+fn address_of(value: &Value, key: Key, ports: usize) -> Option<SocketAddr>
+    requires { ports ≤ 10 }
+    ensures { MatchOption result (IsAbsent (SaysAddress key ports (view value.now))) (SaysAddress key ports (view value.now)) }
+{
+    match value.get(key.text()) {
+        Some(said) => match text_of(said) {
+            Some(text) => read_address(text, ports),
+            None => None,
+        },
+        None => None,
+    }
+}
+
+/// The address that a text is.
+#[tactic(auto, using(crate::proofs::Addressing::not_usable, crate::proofs::Addressing::not_parsed))]
+fn read_address(text: &str, ports: usize) -> Option<SocketAddr>
+    requires { ports ≤ 10 }
+    ensures { MatchOption result (IsAbsent (IsAddress ports text.now)) (IsAddress ports text.now) }
+{
+    match SocketAddr::parse_ascii(text.as_bytes()) {
+        Ok(address) => {
+            if is_usable(&address, ports) {
+                Some(address)
+            } else {
+                None
+            }
+        }
+        Err(_) => None,
+    }
+}
+
+/// Whether an address is trusted, and has so many ports from its own on; 0 is none.
+fn is_usable(address: &SocketAddr, ports: usize) -> bool
+    requires { ports ≤ 10 }
+    ensures { result ≡ is_usable address.now ports }
+{
+    let port = address.port();
+    1 <= port && port as usize + ports <= 65_536 && is_trusted(address.ip())
+}
