@@ -1,7 +1,8 @@
 //! Tests of nodes, clusters and served matches, by their public calls alone.
 //!
 //! They stand in a crate of their own, which has nothing else: a crate with tests is proved twice, once without them and
-//! once with all of it, and what is tested here (`dealer_node`, `dealer_world`, `serving`) is so proved once.
+//! once with all of it, and what is tested here (`dealer_node`, `dealer_world`, `stations`,
+//! `serving`) is so proved once.
 //!
 //! - `samples` has the matches that are played: alice and bob, limit, one hand or two.
 //! - `peer` and `node_tests`: one node of three, what it sends and shows, and which seats are connected to it.
@@ -16,6 +17,8 @@
 //! - `resumed_tests`: a match that is served over stores which tell of many commands at once.
 //! - `absent_tests`: the match where seats were dropped, and are played for or waited for; `absent_fault_tests`: the same
 //!   where a call of a link or of a disk fails.
+//! - `processes` and `station_tests`: the nodes of a match as stations, each in a process of its own, of which one dies in
+//!   each call of its disk in turn.
 //! - `links_tests`: who is seated at a port and who isn't, and how long that is waited for.
 //!
 //! Each call with a long contract is made in one small function that says nothing of its own, so that what the prover
@@ -41,6 +44,8 @@ mod opening_tests;
 #[cfg(test)]
 mod peer;
 #[cfg(test)]
+mod processes;
+#[cfg(test)]
 mod record_tests;
 #[cfg(test)]
 mod resumed_tests;
@@ -54,6 +59,8 @@ mod samples;
 mod server_tests;
 #[cfg(test)]
 mod slow_tests;
+#[cfg(test)]
+mod station_tests;
 #[cfg(test)]
 mod tcp_tests;
 #[cfg(test)]

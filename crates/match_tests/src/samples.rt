@@ -106,6 +106,20 @@ pub(crate) fn two_hands(rt: &impl Abort, alloc: Global) -> Result<Config, AllocE
     config(rt, alloc, 2, sources)
 }
 
+/// A match of two hands by so many nodes, at most six, each of which has two deals of its own.
+pub(crate) fn own_deals(
+    rt: &impl Abort,
+    alloc: Global,
+    nodes: usize,
+) -> Result<Config, AllocError> {
+    let mut sources = Vec::new(alloc);
+    for node in 0..nodes {
+        let deals = vec![in alloc; deal(rt, node), deal(rt, node.saturating_add(1))]?;
+        sources.push(Source::Listed(deals))?;
+    }
+    config(rt, alloc, 2, sources)
+}
+
 // What `assert_eq!` and a printed number make is proved anew wherever they stand, so they stand in the functions below.
 
 /// The two are equal; where they aren't, both are printed.

@@ -19,7 +19,7 @@ use Rattle.dealer_world.specs.Events.{call_of, brought_by}
 use Rattle.dealer_world.specs.Runs.{Ruled, arrived_at}
 use Rattle.dealer_world.specs.Calling.{BrokenEventsAreCalls, FrontsAreSeen}
 use Rattle.stations.specs.Deeds.{Deed}
-use Rattle.stations.specs.Stations.{IsAt, IsLeft, DeathsAtRestAreDeeds, DeathsInsideAreDeeds, died, broke_off}
+use Rattle.stations.specs.Stations.{HoldsAfter, LeavesFile, DeathsAtRestAreDeeds, DeathsInsideAreDeeds, died, broke_off}
 
 -- ---- a stop, as a call by the rules
 
@@ -63,8 +63,8 @@ module _ {D : Type 0} (g : Ghosts D) where
   runs_or_not member None None s seen = absurd seen
 
   -- whatever of its store or of what was begun the file stands for
-  dies_with : (place : Place) (node : Node D) (deeds : List Deed) (file : List ℕ) (at : IsAt g place node deeds) → place_at (member_in node) ≡ place → runs node ≡ at.s.up
-      → StandsFor (header place.node place.nodes) file at.s.store ⊎ StandsFor (header place.node place.nodes) file at.s.begun → IsLeft place file (died ∷ deeds)
+  dies_with : (place : Place) (node : Node D) (deeds : List Deed) (file : List ℕ) (at : HoldsAfter g place node deeds) → place_at (member_in node) ≡ place → runs node ≡ at.s.up
+      → StandsFor (header place.node place.nodes) file at.s.store ⊎ StandsFor (header place.node place.nodes) file at.s.begun → LeavesFile place file (died ∷ deeds)
   dies_with place node deeds file at placed is held =
       let s = at.s in
       elim (runs_or_not (member_in node) node.up node.disk s at.seen.by) [
@@ -105,7 +105,7 @@ module _ {D : Type 0} (g : Ghosts D) where
       let is = tells old s at.seen in
       let t = given.taken s honest at.seen in
       let head : head_of (member_in old) ≡ header place.node place.nodes = ap (λ (p : Place). header p.node p.nodes) placed in
-      let rest : StandsFor (header place.node place.nodes) file s.store ⊎ StandsFor (header place.node place.nodes) file s.begun → IsLeft place file (died ∷ deeds) = dies_with place old deeds file at placed is in
+      let rest : StandsFor (header place.node place.nodes) file s.store ⊎ StandsFor (header place.node place.nodes) file s.begun → LeavesFile place file (died ∷ deeds) = dies_with place old deeds file at placed is in
       elim (t.1.moments (moment_of g old) file since) [
         | inl was ↦ inl (dies_at_rest law tells place old deeds file placed (moments old file was) at)
         | inr (inl kept) ↦ inl (rest (inl (subst (λ (h : List ℕ). StandsFor h file s.store) head kept)))
@@ -115,8 +115,8 @@ module _ {D : Type 0} (g : Ghosts D) where
     where
       by_begun : (up : Bool) (found next : Store) → at.s.up ≡ up → MayBegin up place at.s (call_of found e) next
           → StandsFor (header place.node place.nodes) file next
-          → (StandsFor (header place.node place.nodes) file at.s.store ⊎ StandsFor (header place.node place.nodes) file at.s.begun → IsLeft place file (died ∷ deeds))
-          → IsLeft place file (died ∷ deeds) ⊎ IsLeft place file (broke_off (front_in old) e ∷ deeds)
+          → (StandsFor (header place.node place.nodes) file at.s.store ⊎ StandsFor (header place.node place.nodes) file at.s.begun → LeavesFile place file (died ∷ deeds))
+          → LeavesFile place file (died ∷ deeds) ⊎ LeavesFile place file (broke_off (front_in old) e ∷ deeds)
       by_begun false found next up begun stands rest = inl (rest (inr (subst (StandsFor (header place.node place.nodes) file) begun stands)))
       by_begun true found next up (inl kept) stands rest = inl (rest (inl (subst (StandsFor (header place.node place.nodes) file) kept stands)))
       by_begun true found next up (inr (outcome, turn, is)) stands rest = inr (record {

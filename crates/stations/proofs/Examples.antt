@@ -1,5 +1,5 @@
 -- Deeds of nodes and orders of them, on values.
-use Rattle.std.proofs.Common.{◌≡◌, ◌≢◌, ℕ, zero, suc, ◌<◌, ◌∙◌, ◌++◌, map, ◌==◌, if◌then◌else◌, inl, inr, true, false, Bool, List, [], ◌∷◌, length, Option, Some, Result, Ok, Err, refl, ap, sym, subst, arith, take}
+use Rattle.std.proofs.Common.{◌≡◌, ◌≢◌, ℕ, zero, suc, ◌<◌, ◌∙◌, ◌++◌, map, ◌==◌, if◌then◌else◌, inl, inr, true, false, Bool, List, [], ◌∷◌, length, get_or, Option, Some, None, Result, Ok, Err, refl, ap, sym, subst, arith, take, append-nil}
 use Rattle.promise_store.specs.declared.disk.Disk.{Ghosts}
 use Rattle.promise_store.specs.Journals.{header}
 use Rattle.promise_store.specs.Holding.{StandsFor}
@@ -29,9 +29,9 @@ use Rattle.dealer_world.specs.Stepping.{IsFor, IsGiven}
 use Rattle.dealer_world.specs.Unforged.{IsAmong, IsUnforged}
 use Rattle.stations.specs.Deeds.{Deed, Did, new_at, Doing, deeds_of, IsOrder, record_of}
 use Rattle.stations.specs.Joining.{AreProcesses}
-use Rattle.stations.specs.Stations.{Look, place_in, deed_by, Gains, nothing, call, IsLeft, died, broke_off}
+use Rattle.stations.specs.Stations.{Look, known_place, deed_by, GainsDeed, nothing, call, LeavesFile, died, broke_off}
 use Rattle.stations.specs.Lives.{IsProcess, Ended, at_rest, inside, MayHaveDone, new_store, one_more, IsHistoryOf}
-use Rattle.stations.specs.Together.{HasHistory, HaveLived, HaveHistories}
+use Rattle.stations.specs.Together.{HasLived, HasHistory, MayFind, HaveHistories}
 use Rattle.stations.proofs.Dying.{stops_down}
 
 -- ---- orders of deeds
@@ -46,7 +46,7 @@ sends = record { arrived = []; made = record { frames = frame ∷ []; texts = []
 abbrev gets : Deed
 gets = record { arrived = Delivered frame ∷ []; made = nothing_made }
 
-abbrev by : ℕ → Deed → Doing
+abbrev pub by : ℕ → Deed → Doing
 by node deed = record { node = node; deed = deed }
 
 abbrev in_order : List Doing
@@ -124,15 +124,15 @@ a_refused_start_does_not = refl
 what_broke_off : broke_off 3 (event.Away 1) ≡ ordered
 what_broke_off = refl
 
-a_refused_growth_kept_as_a_deed : Gains true 0 (event.Tick 1) nothing_told (Err fault.OutOfMemory) [] (died ∷ []) → ⊥
+a_refused_growth_kept_as_a_deed : GainsDeed true 0 (event.Tick 1) nothing_told (Err fault.OutOfMemory) [] (died ∷ []) → ⊥
 a_refused_growth_kept_as_a_deed (nothing none same) = cc
 a_refused_growth_kept_as_a_deed (call ample more) = ample refl
 
-a_deed_of_a_fault_left_out : Gains true 0 (event.Tick 1) nothing_told (Err fault.Spent) [] [] → ⊥
+a_deed_of_a_fault_left_out : GainsDeed true 0 (event.Tick 1) nothing_told (Err fault.Spent) [] [] → ⊥
 a_deed_of_a_fault_left_out (nothing none same) = cc
 a_deed_of_a_fault_left_out (call ample more) = cc
 
-a_deed_of_a_good_call_left_out : Gains true 0 (event.Tick 1) nothing_told (Ok tt) [] [] → ⊥
+a_deed_of_a_good_call_left_out : GainsDeed true 0 (event.Tick 1) nothing_told (Ok tt) [] [] → ⊥
 a_deed_of_a_good_call_left_out (nothing none same) = cc
 a_deed_of_a_good_call_left_out (call ample more) = cc
 
@@ -177,12 +177,16 @@ module _ {D : Type 0} (g : Ghosts D) (place : Place) (file : List ℕ) where
     what_was_done_before_there_was_a_store done = cc
 
     -- its next process goes on from nothing done
-    and_leaves_what_it_is : IsLeft place file []
+    and_leaves_what_it_is : LeavesFile place file []
     and_leaves_what_it_is = record { s = new_at place; did = refl; down = refl; held = inl is }
 
   module _ (look : Look (Node D)) where
-    a_process_with_another_deal : (hand : ℕ) → (place_in look).deals hand ≢ place.deals hand → IsProcess g place file look → ⊥
+    a_process_with_another_deal : (hand : ℕ) → (known_place look).deals hand ≢ place.deals hand → IsProcess g place file look → ⊥
     a_process_with_another_deal hand differs is = differs (ap (λ (p : Place). p.deals hand) is.placed)
+
+    -- nor does one with another deal go on as the present one
+    a_present_process_with_another_deal : (hand : ℕ) → (known_place look).deals hand ≢ place.deals hand → HasLived g place (Some look) → ⊥
+    a_present_process_with_another_deal hand differs lived = differs (ap (λ (p : Place). p.deals hand) lived.at)
 
     a_process_of_another_node : look.number ≢ place.node → IsProcess g place file look → ⊥
     a_process_of_another_node differs is = differs (ap (λ (p : Place). p.node) is.placed)
@@ -211,28 +215,37 @@ module _ {D : Type 0} (g : Ghosts D) (place : Place) (file : List ℕ) where
 
   -- ---- all nodes
 
-  module _ (plan : Plan) where
-    no_node_has_no_history : HaveHistories g plan 0 [] tt []
-    no_node_has_no_history = refl
+  -- one node, whose process is its first
+  module _ (plan : Plan) (look : Look (Node D)) (at : known_place look ≡ place_of plan 0)
+      (new : StandsFor (header (place_of plan 0).node (place_of plan 0).nodes) (begun_of g look.node) empty_store) where
+    one_node : (i : ℕ) → i < 1 → HasLived g (place_of plan i) (get_or (Some look ∷ []) i None)
+    one_node zero less = record { at = at; lives = new_store (begun_of g look.node) new }
+    one_node (suc i) less = absurd (omega (arith, less))
 
-    -- a node whose process is its first
-    one_node_and_its_history : (look : Look (Node D)) (at : place_in look ≡ place_of plan 0)
-        (new : StandsFor (header (place_of plan 0).node (place_of plan 0).nodes) (begun_of g look.node) empty_store)
-        → HaveHistories g plan 0 (Some look ∷ []) (record { at = at; lives = new_store (begun_of g look.node) new }, tt) ((look.deeds ++ []) ∷ [])
-    one_node_and_its_history look at new = (([], refl, refl), refl)
+    what_it_did : (i : ℕ) (less : i < 1) → HasHistory g (place_of plan i) (get_or (Some look ∷ []) i None) (one_node i less) look.deeds
+    unfolding one_node
+    what_it_did zero less = ([], refl, sym (append-nil look.deeds))
+    what_it_did (suc i) less = absurd (omega (arith, less))
 
-    a_history_of_nobody : HaveHistories g plan 0 [] tt ((died ∷ []) ∷ []) → ⊥
-    a_history_of_nobody more = cc
+    is_its_history : HaveHistories g plan (Some look ∷ []) one_node (λ i. look.deeds)
+    is_its_history = what_it_did
 
-    a_node_without_a_history : (now : Option (Look (Node D))) (lived : HaveLived g plan 0 (now ∷ [])) → HaveHistories g plan 0 (now ∷ []) lived [] → ⊥
-    a_node_without_a_history now lived none = none
+    what_it_did_is_left_out : look.deeds ≡ died ∷ [] → HaveHistories g plan (Some look ∷ []) one_node (λ i. []) → ⊥
+    unfolding one_node
+    what_it_did_is_left_out did have =
+        let own = have 0 (omega arith) in
+        let more : [] ≡ died ∷ own.0 = subst (λ (deeds : List Deed). [] ≡ deeds ++ own.0) did own.2 in cc
+
+    -- its next process may find whatever this one leaves if it dies now
+    what_its_next_process_may_find : (image : List ℕ) → images_of g look.node image → MayFind g (place_of plan 0) (Some look) (one_node 0 (omega arith)) image
+    what_its_next_process_may_find image left = left
 
 -- ---- a node that starts, and three of them
 
-abbrev starts : Place → Deed
+abbrev pub starts : Place → Deed
 starts place = record { arrived = []; made = record { frames = []; texts = map text_by_rule (header_piece place.setting ∷ []); began = true } }
 
-one_that_starts : (place : Place) → Did place (new_at place) (starts place ∷ []) (started place empty_store)
+pub one_that_starts : (place : Place) → Did place (new_at place) (starts place ∷ []) (started place empty_store)
 one_that_starts place = (
   new_at place,
   refl,
@@ -293,7 +306,7 @@ module _ {D : Type 0} (g : Ghosts D) (place : Place) where
       → IsHistoryOf g place left (one_more file left (new_store file new) (at_rest look is image)) (died ∷ starts place ∷ [])
   its_next_process file left new look is image did = ([], died ∷ look.deeds, refl, refl, ap (λ (own : List Deed). died ∷ (own ++ [])) (sym did))
 
-  what_its_present_process_did_is_left_out : (look : Look (Node D)) (at : place_in look ≡ place) (new : StandsFor (header place.node place.nodes) (begun_of g look.node) empty_store)
+  what_its_present_process_did_is_left_out : (look : Look (Node D)) (at : known_place look ≡ place) (new : StandsFor (header place.node place.nodes) (begun_of g look.node) empty_store)
       → look.deeds ≡ starts place ∷ [] → HasHistory g place (Some look) (record { at = at; lives = new_store (begun_of g look.node) new }) [] → ⊥
   what_its_present_process_did_is_left_out look at new did (before, none, same) =
       let more : [] ≡ starts place ∷ before = subst (λ (own : List Deed). [] ≡ own ++ before) did same in cc

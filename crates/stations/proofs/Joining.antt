@@ -164,7 +164,7 @@ holds_so plan histories each i (inl within) less = (each i within).1
 holds_so plan histories each i (inr beyond) less = absurd (omega (arith, less, beyond))
 
 -- what is merely there for each of so many is merely there for all
-all_merely : (P : ℕ → Type 0) (n : ℕ) → ((i : ℕ) → i < n → ∥ P i ∥₁) → ∥ ((i : ℕ) → i < n → P i) ∥₁
+pub all_merely : (P : ℕ → Type 0) (n : ℕ) → ((i : ℕ) → i < n → ∥ P i ∥₁) → ∥ ((i : ℕ) → i < n → P i) ∥₁
 all_merely P zero each = ∣ (λ i less. absurd (omega (arith, less))) ∣₁
 all_merely P (suc n) each =
     ∥∥₁_elim (each n (omega arith)) (hlevel) (λ last. ∥∥₁_map (all_merely P n (λ i less. each i (omega (arith, less)))) (λ before i less. with_last i (cases_lt i n) less before last))

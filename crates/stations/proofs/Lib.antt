@@ -5,3 +5,5 @@ mod Living
 mod Together
 mod Walks
 mod Examples
+mod FrameExamples
+mod LifeExamples

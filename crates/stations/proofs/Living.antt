@@ -9,25 +9,25 @@ use Rattle.node_rules.specs.Standings.{Place}
 use Rattle.dealer_node.specs.Nodes.{Node}
 use Rattle.dealer_node.specs.Seeing.{front_in, begun_of}
 use Rattle.stations.specs.Deeds.{Deed, new_at}
-use Rattle.stations.specs.Stations.{Look, IsAt, IsLeft, died, broke_off, DeathsAtRestAreDeeds, DeathsInsideAreDeeds}
+use Rattle.stations.specs.Stations.{Look, HoldsAfter, LeavesFile, died, broke_off, DeathsAtRestAreDeeds, DeathsInsideAreDeeds}
 use Rattle.stations.specs.Lives.{IsProcess, Ended, at_rest, inside, Lives, new_store, one_more, IsHistoryOf, LivesAreDeeds}
 
-new_left : (place : Place) (file : List ℕ) → StandsFor (header place.node place.nodes) file empty_store → IsLeft place file []
+new_left : (place : Place) (file : List ℕ) → StandsFor (header place.node place.nodes) file empty_store → LeavesFile place file []
 new_left place file is = record { s = new_at place; did = refl; down = refl; held = inl is }
 
 module _ {D : Type 0} (g : Ghosts D) where
   -- where a process was after its last whole call
-  where_it_was : (place : Place) (found : List ℕ) (look : Look (Node D)) (before : List Deed) → IsProcess g place found look → IsTrue g.is_honest → IsLeft place found before
-      → ∥ IsAt g place look.node (look.deeds ++ before) ∥₁
+  where_it_was : (place : Place) (found : List ℕ) (look : Look (Node D)) (before : List Deed) → IsProcess g place found look → IsTrue g.is_honest → LeavesFile place found before
+      → ∥ HoldsAfter g place look.node (look.deeds ++ before) ∥₁
   where_it_was place found look before is honest left =
-      subst (λ (p : Place). ∥ IsAt g p look.node (look.deeds ++ before) ∥₁) is.placed
-      (is.has.true_to before ∣ (subst (λ (p : Place). IsLeft p (begun_of g look.node) before) (sym is.placed) (subst (λ (file : List ℕ). IsLeft place file before) (sym is.begun) left)) ∣₁ honest)
+      subst (λ (p : Place). ∥ HoldsAfter g p look.node (look.deeds ++ before) ∥₁) is.placed
+      (is.has.true_to before ∣ (subst (λ (p : Place). LeavesFile p (begun_of g look.node) before) (sym is.placed) (subst (λ (file : List ℕ). LeavesFile place file before) (sym is.begun) left)) ∣₁ honest)
 
   abbrev HasHistoryTo : (place : Place) (found left : List ℕ) → Lives g place found → Ended g place found left → Type 0
-  HasHistoryTo place found left lives ended = (deeds : List Deed) × IsHistoryOf g place left (one_more found left lives ended) deeds × IsLeft place left deeds
+  HasHistoryTo place found left lives ended = (deeds : List Deed) × IsHistoryOf g place left (one_more found left lives ended) deeds × LeavesFile place left deeds
 
   ended_so : DeathsAtRestAreDeeds g → DeathsInsideAreDeeds g → (place : Place) (found left : List ℕ) (lives : Lives g place found) (ended : Ended g place found left) (before : List Deed)
-      → IsTrue g.is_honest → IsHistoryOf g place found lives before → IsLeft place found before → ∥ HasHistoryTo place found left lives ended ∥₁
+      → IsTrue g.is_honest → IsHistoryOf g place found lives before → LeavesFile place found before → ∥ HasHistoryTo place found left lives ended ∥₁
   ended_so rests breaks place found left lives (at_rest look is image) before honest history was =
       ∥∥₁_elim is.has.at_place (hlevel) (λ placed.
       ∥∥₁_map (where_it_was place found look before is honest was) (λ at.

@@ -36,12 +36,12 @@ pub record AreProcesses (setting : Setting) (sources : List Source) (histories :
   pub did : EachDid (plan_of setting sources) histories
   pub order : IsTrueOrder (length sources) histories all
 
-abbrev pub era_of : List Source → List Doing → Era
-era_of sources all = record { sources = sources; record_of = record_of all }
+abbrev pub one_era : List Source → List Doing → Era
+one_era sources all = record { sources = sources; record_of = record_of all }
 
 -- one list of chosen commands is behind all lines and logs of these processes
 abbrev pub ShowOneList : Setting → List Source → List Doing → Type 0
-ShowOneList setting sources all = ∥ OneList (dealer_in setting (era_of sources all ∷ [])) (length sources) (era_of sources all ∷ []) ∥₁
+ShowOneList setting sources all = ∥ OneList (dealer_in setting (one_era sources all ∷ [])) (length sources) (one_era sources all ∷ []) ∥₁
 
 abbrev pub ProcessesShowOneList : Type 0
 ProcessesShowOneList = (setting : Setting) (sources : List Source) (histories : ℕ → List Deed) (all : List Doing) → AreProcesses setting sources histories all

@@ -13,12 +13,12 @@ use Rattle.dealer_world.specs.declared.event.Event.{Event}
 use Rattle.dealer_world.specs.Events.{node_of}
 use Rattle.dealer_world.specs.Stepping.{IsFor, IsGiven}
 use Rattle.stations.specs.Deeds.{Deed}
-use Rattle.stations.specs.Stations.{Look, place_in, Has, IsLeft, died, broke_off}
+use Rattle.stations.specs.Stations.{Look, known_place, Has, LeavesFile, died, broke_off}
 
 module _ {D : Type 0} (g : Ghosts D) where
   -- a process of the node at this place, with this source of deals, which was begun on this file
   pub record IsProcess (place : Place) (file : List ℕ) (look : Look (Node D)) : Type 0 where
-    pub placed : place_in look ≡ place
+    pub placed : known_place look ≡ place
     pub begun : begun_of g look.node ≡ file
     pub has : Has g look
 
@@ -49,4 +49,4 @@ module _ {D : Type 0} (g : Ghosts D) where
   -- there is a history that leads to the file
   abbrev pub LivesAreDeeds : Type 0
   LivesAreDeeds = (place : Place) (file : List ℕ) (lives : Lives place file) → IsTrue g.is_honest
-      → ∥ ((deeds : List Deed) × IsHistoryOf place file lives deeds × IsLeft place file deeds) ∥₁
+      → ∥ ((deeds : List Deed) × IsHistoryOf place file lives deeds × LeavesFile place file deeds) ∥₁

@@ -25,14 +25,14 @@ abbrev pub deed_by : Bool → ℕ → Event → Told → Result (Unit {0}) NodeF
 deed_by up front e told answer = record { arrived = arrived_by_event up front e; made = made_by (node_of e) told (begins_by_event up e answer) }
 
 -- one deed more, but where there was no memory, by which nothing changes
-pub data Gains (up : Bool) (front : ℕ) (e : Event) (told : Told) (answer : Result (Unit {0}) NodeFault) (old new : List Deed) : Type 0 where
-  nothing : answer ≡ Err fault.OutOfMemory → new ≡ old → Gains up front e told answer old new
-  call : (answer ≡ Err fault.OutOfMemory → ⊥) → new ≡ deed_by up front e told answer ∷ old → Gains up front e told answer old new
+pub data GainsDeed (up : Bool) (front : ℕ) (e : Event) (told : Told) (answer : Result (Unit {0}) NodeFault) (old new : List Deed) : Type 0 where
+  nothing : answer ≡ Err fault.OutOfMemory → new ≡ old → GainsDeed up front e told answer old new
+  call : (answer ≡ Err fault.OutOfMemory → ⊥) → new ≡ deed_by up front e told answer ∷ old → GainsDeed up front e told answer old new
 
 -- ---- what a process leaves
 
 -- after these deeds of the node's earlier processes its file may be this: it stands for the node's store, or for what was begun
-pub record IsLeft (place : Place) (file : List ℕ) (deeds : List Deed) : Type 0 where
+pub record LeavesFile (place : Place) (file : List ℕ) (deeds : List Deed) : Type 0 where
   pub s : Standing
   pub did : Did place (new_at place) deeds s
   pub down : s ≡ stopped place s.store s.begun
@@ -54,51 +54,51 @@ pub record Look (N : Type 0) : Type 0 where
   pub node : N
   pub deeds : List Deed
 
-abbrev pub place_in : {N : Type 0} → Look N → Place
-place_in look = place_of look.config look.number
+abbrev pub known_place : {N : Type 0} → Look N → Place
+known_place look = place_of look.config look.number
 
 module _ {D : Type 0} (g : Ghosts D) where
   -- the node holds and knows what the node at this place does after these deeds
-  pub record IsAt (place : Place) (node : Node D) (deeds : List Deed) : Type 0 where
+  pub record HoldsAfter (place : Place) (node : Node D) (deeds : List Deed) : Type 0 where
     pub s : Standing
     pub seen : IsSeen g node s
     pub did : Did place (new_at place) deeds s
 
   -- over an honest disk, whatever its node did in earlier processes that left what the disk was begun on, these deeds led on from there to what it is
   abbrev pub IsTrueTo : Place → Node D → List Deed → Type 0
-  IsTrueTo place node deeds = (before : List Deed) → ∥ IsLeft place (begun_of g node) before ∥₁ → IsTrue g.is_honest → ∥ IsAt place node (deeds ++ before) ∥₁
+  IsTrueTo place node deeds = (before : List Deed) → ∥ LeavesFile place (begun_of g node) before ∥₁ → IsTrue g.is_honest → ∥ HoldsAfter place node (deeds ++ before) ∥₁
 
   -- an event was given to the node, and its deeds are one more, or as many where there was no memory
   pub record Acts (e : Event) (told : Told) (answer : Result (Unit {0}) NodeFault) (old new : Look (Node D)) : Type 0 where
     pub config : new.config ≡ old.config
     pub number : new.number ≡ old.number
     pub given : IsGiven g e old.node new.node told answer
-    pub gains : Gains (runs old.node) (front_in old.node) e told answer old.deeds new.deeds
+    pub gains : GainsDeed (runs old.node) (front_in old.node) e told answer old.deeds new.deeds
 
   -- a process of the node at this place that was opened on this file, and what the events that were given to it made of it: its deeds are those calls, and no
   -- others
   pub data Works (place : Place) (file : List ℕ) : Look (Node D) → Type 0 where
-    opened : (look : Look (Node D)) → place_in look ≡ place → begun_of g look.node ≡ file → look.deeds ≡ [] → Works place file look
+    opened : (look : Look (Node D)) → known_place look ≡ place → begun_of g look.node ≡ file → look.deeds ≡ [] → Works place file look
     acted : (old new : Look (Node D)) (e : Event) (told : Told) (answer : Result (Unit {0}) NodeFault) → Works place file old → node_of e ≡ place.node
         → IsFor place.nodes place.setting.game.players e → Acts e told answer old new → Works place file new
 
   -- what holds of every station
   pub record Has (look : Look (Node D)) : Type 0 where
     pub here : look.number < length look.config.sources
-    pub at_place : ∥ place_at (member_in look.node) ≡ place_in look ∥₁
-    pub true_to : IsTrueTo (place_in look) look.node look.deeds
-    pub works : ∥ Works (place_in look) (begun_of g look.node) look ∥₁
+    pub at_place : ∥ place_at (member_in look.node) ≡ known_place look ∥₁
+    pub true_to : IsTrueTo (known_place look) look.node look.deeds
+    pub works : ∥ Works (known_place look) (begun_of g look.node) look ∥₁
 
   -- ---- deaths
 
   -- a process that dies between two calls leaves what the next one of its node goes on from
   abbrev pub DeathsAtRestAreDeeds : Type 0
   DeathsAtRestAreDeeds = (place : Place) (node : Node D) (deeds : List Deed) (file : List ℕ) → place_at (member_in node) ≡ place → images_of g node file
-      → IsAt place node deeds → IsLeft place file (died ∷ deeds)
+      → HoldsAfter place node deeds → LeavesFile place file (died ∷ deeds)
 
   -- and so does one that dies inside a call: as before it, or as one that broke off in its append
   abbrev pub DeathsInsideAreDeeds : Type 0
   DeathsInsideAreDeeds = (place : Place) (e : Event) (old new : Node D) (told : Told) (answer : Result (Unit {0}) NodeFault) (deeds : List Deed) (file : List ℕ)
       → place_at (member_in old) ≡ place → node_of e ≡ place.node → IsFor place.nodes place.setting.game.players e → IsGiven g e old new told answer → IsTrue g.is_honest
-      → since_of g new (moment_of g old) file → IsAt place old deeds
-      → IsLeft place file (died ∷ deeds) ⊎ IsLeft place file (broke_off (front_in old) e ∷ deeds)
+      → since_of g new (moment_of g old) file → HoldsAfter place old deeds
+      → LeavesFile place file (died ∷ deeds) ⊎ LeavesFile place file (broke_off (front_in old) e ∷ deeds)

@@ -30,7 +30,7 @@ pub(crate) struct Given<'a> {
 }
 
 impl Deeds {
-    ghost use Rattle.stations.specs.Giving.{deed_of, GainsBy};
+    ghost use Rattle.stations.specs.Giving.{deed_of, GainsDeedBy};
 
     /// Nothing yet.
     pub(crate) fn new() -> Deeds
@@ -48,7 +48,7 @@ impl Deeds {
 
     /// An event was given to the node: one deed more, but where there was no memory.
     pub(crate) fn add_call(&mut self, given: &Given<'_>)
-        ensures { GainsBy given.now self.old.items self.new.items }
+        ensures { GainsDeedBy given.now self.old.items self.new.items }
     {
         if !is_out_of_memory(given.answer) {
             *self = self.and(given);

@@ -4,7 +4,7 @@ ghost use Rattle.std.specs.Prelude.{map, option_map};
 ghost use Rattle.stations.specs.Joining.{ProcessesShowOneList, ProcessesAreBacked, ProcessesSendToNodes, ProcessesNeverConflict};
 ghost use Rattle.stations.specs.Stations.{DeathsAtRestAreDeeds, DeathsInsideAreDeeds};
 ghost use Rattle.stations.specs.Lives.{LivesAreDeeds};
-ghost use Rattle.stations.specs.Together.{StationsArePromised};
+ghost use Rattle.stations.specs.Together.{StationsArePromised, ListsOfStationsArePromised};
 ghost use Rattle.stations.specs.Looking.{look_of};
 
 use crate::station::Station;
@@ -69,13 +69,21 @@ pub fn lives_are_deeds<D: Disk + Drop>()
 /// The stations of a match, with all earlier processes of their nodes, over honest disks: what each node did has a history,
 /// as its processes ended, and in each order of these histories in which each frame had been sent before it came, all of
 /// this holds of the very same histories. They are processes of which the laws above speak. One list of chosen commands is
-/// behind all their lines and logs. Each image of a station's disk stands for a store that backs what its node said by its
-/// frames, in this process and in those before. And no next call of a station, by which no frame is forged either, is
+/// behind all their lines and logs. Whatever the next process of a node may find stands for a store that backs what the
+/// node said by its frames, in this process and in those before: each image of a station's disk, and of a node that has no
+/// process now the file that its last one left. And no next call of a station, by which no frame is forged either, is
 /// answered by 95.
 ///
 /// `None` stands for a node that has no process now.
 pub fn stations_are_promised<D: Disk + Drop>(_stations: &[Option<Station<D>>])
     ensures { StationsArePromised D.Disk (map (option_map look_of) _stations.now) }
+{
+    lists_of_stations_are_promised::<D>();
+}
+
+/// The same of all lists of stations, for whoever keeps them in another way than side by side.
+pub fn lists_of_stations_are_promised<D: Disk + Drop>()
+    ensures { ListsOfStationsArePromised D.Disk }
 {
     lives_are_deeds::<D>();
     images_are_seen::<D>();
