@@ -1,0 +1,162 @@
+//! Two processes, of nodes 0 and 1, whose wires are joined in memory.
+
+use crate::samples::{TOLD, own};
+use node_peers::{Notice, Peers};
+use node_wires::{Line, MemoryWire};
+use peer_codes::Life;
+use std::alloc::{AllocError, Global};
+
+/// A silence of so many microseconds makes a peer absent.
+pub(crate) const SILENCE: u64 = 1_000_000;
+
+/// A process, and what it was told.
+#[derive(Drop)]
+pub(crate) struct Side {
+    pub(crate) wire: MemoryWire,
+    pub(crate) peers: Peers,
+    pub(crate) seen: Seen,
+}
+
+/// How often each was told.
+#[derive(Clone, Copy, Debug, PartialEq, Eq)]
+pub(crate) struct Seen {
+    pub(crate) joined: u8,
+    /// With a life that is to be kept.
+    pub(crate) lives: u8,
+    pub(crate) gone: u8,
+    pub(crate) frames: u8,
+    /// The number of the last fault, or 0.
+    pub(crate) fault: u8,
+    /// How many faults were told of peers.
+    pub(crate) refused: u8,
+    /// How many callers were told to be refused.
+    pub(crate) strangers: u32,
+    /// The sum of all frames' last bytes.
+    pub(crate) sum: u64,
+}
+
+pub(crate) const NOTHING: Seen = Seen {
+    joined: 0,
+    lives: 0,
+    gone: 0,
+    frames: 0,
+    fault: 0,
+    refused: 0,
+    strangers: 0,
+    sum: 0,
+};
+
+/// What was told so far, and this.
+pub(crate) fn and_notice(seen: Seen, notice: &Notice) -> Seen {
+    let mut seen = seen;
+    match notice {
+        Notice::Joined { peer: _, life } => {
+            seen.joined = seen.joined.saturating_add(1);
+            if life.is_some() {
+                seen.lives = seen.lives.saturating_add(1);
+            }
+        }
+        Notice::Gone { peer: _ } => seen.gone = seen.gone.saturating_add(1),
+        Notice::Refused { peer: _, fault } => {
+            seen.fault = fault.code();
+            seen.refused = seen.refused.saturating_add(1);
+        }
+        Notice::Strangers { count, fault } => {
+            seen.fault = fault.code();
+            seen.strangers = seen.strangers.saturating_add(*count);
+        }
+        Notice::Frame { from: _, frame } => {
+            seen.frames = seen.frames.saturating_add(1);
+            if let Some(last) = frame.bytes.as_slice().last() {
+                seen.sum = seen.sum.saturating_add(*last as u64);
+            }
+        }
+    }
+    seen
+}
+
+impl Side {
+    /// The process of a node, in the match of this digest; a call of its wire of this number fails.
+    pub(crate) fn new(
+        alloc: Global,
+        number: u8,
+        digest: u8,
+        kept: &[Option<Life>],
+        call: u64,
+    ) -> Result<Side, AllocError> {
+        Ok(Side {
+            wire: MemoryWire::new(alloc, call)?,
+            peers: Peers::new(alloc, own(number, digest), kept, SILENCE)?,
+            seen: NOTHING,
+        })
+    }
+
+    /// One turn at this moment.
+    pub(crate) fn turn(&mut self, now: u64) {
+        self.wire.set_now(now);
+        self.peers.hear(&mut self.wire, now);
+        for _ in 0..64 {
+            match self.peers.next() {
+                Some(notice) => self.seen = and_notice(self.seen, &notice),
+                None => break,
+            }
+        }
+        self.peers.tell(TOLD, now);
+        self.peers.flush(&mut self.wire, now);
+    }
+
+    /// The last thing that was told is forgotten.
+    pub(crate) fn forget(&mut self) {
+        self.seen = NOTHING;
+    }
+}
+
+/// What was written over the line of one comes over that of the other.
+fn carry(
+    alloc: Global,
+    from: &mut MemoryWire,
+    line: Line,
+    to: &mut MemoryWire,
+    other: Line,
+) -> Result<(), AllocError> {
+    let bytes = Vec::from_slice(alloc, from.written(line))?;
+    from.take_written(line);
+    to.come(other, bytes.as_slice())
+}
+
+/// The place of who called node 0.
+const CALLER: Line = Line::Caller(0);
+
+/// The line of node 1 to node 0.
+const PEER: Line = Line::Peer(0);
+
+/// Carries what both wrote, and the ends of their connection.
+pub(crate) fn exchange(alloc: Global, low: &mut Side, high: &mut Side) -> Result<(), AllocError> {
+    carry(alloc, &mut high.wire, PEER, &mut low.wire, CALLER)?;
+    carry(alloc, &mut low.wire, CALLER, &mut high.wire, PEER)?;
+    if !high.wire.is_open(PEER) {
+        low.wire.end(CALLER);
+    }
+    Ok(())
+}
+
+/// Both take turns, so many of them, each 1 ms behind the one before. Node 1's first dial is taken in.
+pub(crate) fn take_turns(
+    alloc: Global,
+    low: &mut Side,
+    high: &mut Side,
+    from: u64,
+    turns: u64,
+) -> Result<(), AllocError> {
+    for turn in 0..turns {
+        let now = from.saturating_add(turn.saturating_mul(1_000));
+        let was_open = high.wire.is_open(PEER);
+        high.turn(now);
+        if !was_open && high.wire.is_open(PEER) {
+            low.wire.call();
+        }
+        low.turn(now);
+        exchange(alloc, low, high)?;
+    }
+    Ok(())
+}

@@ -1,0 +1,355 @@
+-- Hellos that are taken or not, connections that open or close, and when peers are dialled, told and asked; near misses.
+use Rattle.std.proofs.Common.{◌≡◌, ℕ, ◌-◌, List, [], ◌∷◌, ◌++◌, replicate, true, false, Option, Some, None, Ok, Err, refl, ap, codes}
+use Rattle.peer_codes.specs.declared.fault.RecordFault.TheVariants.{BadHello}
+use Rattle.peer_codes.specs.declared.hello.Life.{Life}
+use Rattle.peer_codes.specs.declared.hello.Link.{Link}
+use Rattle.peer_codes.specs.declared.hello.Link.TheVariants.{Plain, Coded}
+use Rattle.peer_codes.specs.declared.hello.Hello.{Hello}
+use Rattle.peer_codes.specs.declared.beat.Beat.{Beat}
+use Rattle.peer_codes.specs.declared.frame.Frame.{Frame}
+use Rattle.peer_codes.specs.declared.records.Record.TheVariants as record_of
+use Rattle.peer_codes.specs.Spelling.{record_text}
+use Rattle.node_links.specs.declared.own.Own.{Own}
+use Rattle.node_links.specs.declared.own.Met.{Met}
+use Rattle.node_links.specs.declared.link_fault.Mismatch.TheVariants.{Digest, Nodes, Number}
+use Rattle.node_links.specs.declared.link_fault.Whose.TheVariants as whose
+use Rattle.node_links.specs.declared.link_fault.LinkFault.TheVariants as faults
+use Rattle.node_links.specs.declared.heard.Heard.TheVariants as heards
+use Rattle.node_links.specs.declared.phase.Phase.{Phase}
+use Rattle.node_links.specs.declared.phase.Phase.TheVariants as phases
+use Rattle.node_links.specs.declared.plain_connection.PlainConnection.{PlainConnection}
+use Rattle.node_links.specs.declared.dial.Dial.TheVariants as dials
+use Rattle.node_links.specs.declared.dial.DialDue.TheVariants as dues
+use Rattle.node_links.specs.declared.pulse.Pulse.{Pulse}
+use Rattle.node_links.specs.Lines.{link_fault_code, link_fault_line}
+use Rattle.node_links.specs.Judging.{is_awaited, judged}
+use Rattle.node_links.specs.Steps.{closed, stepped, settled}
+use Rattle.node_links.specs.Waits.{Waits}
+use Rattle.node_links.specs.Waiting.{newest, next_of, rest_of}
+use Rattle.node_links.specs.Connections.{Next, begun_next}
+use Rattle.node_links.specs.Dialling.{due_of, answered_dial, opened_dial, ended_dial}
+use Rattle.node_links.specs.Pulses.{wait_of, beat_of, heard_at}
+use Rattle.node_links.specs.Asking.{asked_slot, is_again}
+use Rattle.node_links.specs.Repeating.{accepted_slot, is_due}
+use Rattle.node_links.specs.declared.owed.Question.{Question}
+use Rattle.node_links.specs.declared.owed.Owed.{Owed}
+use Rattle.node_links.specs.declared.refusals.Refusals.{Refusals}
+use Rattle.node_links.specs.Owing.{question_in, answered_in, asked_by, heard_by, serves}
+use Rattle.node_links.specs.Refusing.{noted, and_refused}
+
+-- ---- faults
+
+pub went_back_line : link_fault_line (faults.WentBack whose.Own) ≡ codes "127 WentBack"
+went_back_line = refl
+
+pub other_digest_line : link_fault_line (faults.OtherMatch Digest) ≡ codes "123 OtherMatch digest"
+other_digest_line = refl
+
+pub bad_hello_is_122 : link_fault_code (faults.Record BadHello) ≡ 122
+bad_hello_is_122 = refl
+
+-- ---- which Hello is taken: node 0 of three is called by node 1, and keeps no life of it yet
+
+abbrev life : ℕ → Life
+life n = record { bytes = replicate 16 n }
+
+abbrev own : Own
+own = record { number = 0; nodes = 3; digest = record { bytes = replicate 32 9 }; life = life 6 }
+
+abbrev met : Met
+met = record { kept = None; is_here = false }
+
+abbrev known : List Met
+known = met ∷ met ∷ met ∷ []
+
+abbrev hello_by : ℕ → ℕ → ℕ → ℕ → Option Life → Link → Hello
+hello_by from to nodes digest kept link = record { ends = record { from = from; to = to; nodes = nodes }; digest = record { bytes = replicate 32 digest }; life = life 5; kept = kept; promised = None; link = link }
+
+abbrev hello : Hello
+hello = hello_by 1 0 3 9 None Plain
+
+abbrev coded_hello : Hello
+coded_hello = hello_by 1 0 5 8 None (Coded (record { bytes = replicate 32 8 }))
+
+-- of a connection with codes, and of another match of five nodes
+pub codes_before_all : judged own None known coded_hello ≡ Err (faults.Record BadHello)
+codes_before_all = refl
+
+pub first_hello_taken : judged own None known hello ≡ Ok tt
+first_hello_taken = refl
+
+-- it keeps the life that this node has
+pub own_life_kept_taken : judged own None known (hello_by 1 0 3 9 (Some (life 6)) Plain) ≡ Ok tt
+own_life_kept_taken = refl
+
+-- and this one keeps its life
+pub kept_life_taken : judged own None (met ∷ record { kept = Some (life 5); is_here = false } ∷ met ∷ []) hello ≡ Ok tt
+kept_life_taken = refl
+
+pub other_digest : judged own None known (hello_by 1 0 3 8 None Plain) ≡ Err (faults.OtherMatch Digest)
+other_digest = refl
+
+-- five nodes, and another digest: the digest is told
+pub digest_before_nodes : judged own None known (hello_by 1 0 5 8 None Plain) ≡ Err (faults.OtherMatch Digest)
+digest_before_nodes = refl
+
+pub five_nodes : judged own None known (hello_by 1 0 5 9 None Plain) ≡ Err (faults.OtherMatch Nodes)
+five_nodes = refl
+
+-- it speaks to node 2
+pub to_another : judged own None known (hello_by 1 2 3 9 None Plain) ≡ Err (faults.OtherMatch Number)
+to_another = refl
+
+-- node 1 is dialled by node 2 alone, never by node 0
+pub lesser_dials : is_awaited 1 None (record { from = 0; to = 1; nodes = 3 }) ≡ false
+lesser_dials = refl
+
+pub greater_dials : is_awaited 1 None (record { from = 2; to = 1; nodes = 3 }) ≡ true
+greater_dials = refl
+
+-- node 2 dialled node 0, and node 1 answers
+pub another_answers : is_awaited 2 (Some 0) (record { from = 1; to = 2; nodes = 3 }) ≡ false
+another_answers = refl
+
+pub dialled_answers : is_awaited 2 (Some 0) (record { from = 0; to = 2; nodes = 3 }) ≡ true
+dialled_answers = refl
+
+-- a second connection of node 1, whose store has another life too
+pub already_here : judged own None (met ∷ record { kept = Some (life 4); is_here = true } ∷ met ∷ []) hello ≡ Err faults.AlreadyHere
+already_here = refl
+
+-- node 1 keeps another life of node 0: it is node 0 whose store was made anew
+pub own_store_anew : judged own None known (hello_by 1 0 3 9 (Some (life 7)) Plain) ≡ Err (faults.WentBack whose.Own)
+own_store_anew = refl
+
+pub other_store_anew : judged own None (met ∷ record { kept = Some (life 4); is_here = false } ∷ met ∷ []) hello ≡ Err (faults.WentBack whose.Other)
+other_store_anew = refl
+
+-- ---- connections
+
+abbrev frame : Frame
+frame = record { bytes = record { items = 0 ∷ 0 ∷ 0 ∷ 6 ∷ 2 ∷ 7 ∷ 0 ∷ 0 ∷ 0 ∷ 1 ∷ [] } }
+
+abbrev beat : Beat
+beat = record { number = 1; got = 0; front = 37; leads = true; over = false; seats = 5 }
+
+pub frame_comes : stepped (phases.Open hello) (record_of.Frame frame) ≡ record { phase = phases.Open hello; heard = Ok (heards.Frame frame) }
+frame_comes = refl
+
+pub frame_before_the_hello : stepped phases.Greeting (record_of.Frame frame) ≡ closed faults.OutOfTurn
+frame_before_the_hello = refl
+
+pub second_hello : stepped (phases.Open hello) (record_of.Hello hello) ≡ closed faults.OutOfTurn
+second_hello = refl
+
+-- it is refused where it is judged, so that it is answered
+pub coded_hello_comes : (stepped phases.Greeting (record_of.Hello coded_hello)).phase ≡ phases.Asked coded_hello
+coded_hello_comes = refl
+
+pub taken_hello_opens : settled own None known (phases.Asked hello) ≡ phases.Open hello
+taken_hello_opens = refl
+
+pub refused_hello_closes : settled own None known (phases.Asked (hello_by 1 0 5 9 None Plain)) ≡ phases.Closed (faults.OtherMatch Nodes)
+refused_hello_closes = refl
+
+-- ---- what waits, and what is written
+
+abbrev waits : Waits
+waits = record { beat = Some beat; frames = frame ∷ [] }
+
+pub beat_first : next_of waits ≡ Some (record_of.Beat beat)
+beat_first = refl
+
+pub frame_behind : next_of (rest_of waits) ≡ Some (record_of.Frame frame)
+frame_behind = refl
+
+abbrev three : List ℕ
+three = 1 ∷ 2 ∷ 3 ∷ []
+
+abbrev fourth : List ℕ
+fourth = 4 ∷ []
+
+abbrev two_of_them : List ℕ
+two_of_them = 2 ∷ 3 ∷ []
+
+pub two_newest : newest 2 three ≡ two_of_them
+two_newest = refl
+
+-- of three that wait the oldest goes where a fourth comes and three may wait
+pub oldest_dropped : newest (3 - 1) three ++ fourth ≡ two_of_them ++ fourth
+oldest_dropped = refl
+
+abbrev idle : Phase → Option Hello → PlainConnection
+idle phase mine = record { phase = phase; came = record { waiting = []; room = 0 }; out = record { hello = mine; begun = record { items = [] }; written = 0 } }
+
+-- on an open connection the beat is begun, and the frame waits on
+pub beat_begun : (begun_next (idle (phases.Open hello) None) waits).1 ≡ record { beat = None; frames = frame ∷ [] }
+unfolding begun_next
+beat_begun = refl
+
+-- and the beat's text is what is written, and behind it the frame's
+pub beat_written : (begun_next (idle (phases.Open hello) None) waits).0.out.begun.items ≡ record_text (record_of.Beat beat)
+unfolding begun_next
+beat_written = refl
+
+pub frame_written : (begun_next (idle (phases.Open hello) None) (rest_of waits)).0.out.begun.items ≡ record_text (record_of.Frame frame)
+unfolding begun_next
+frame_written = refl
+
+-- a Hello that isn't judged opens nothing by itself
+pub opens_itself : Next (phases.Asked hello) (idle (phases.Asked hello) None) None (idle (phases.Open hello) None) → ⊥
+opens_itself h =
+    let e : phases.Open hello ≡ phases.Asked hello = ap (λ (c : PlainConnection). c.phase) h.1 in absurd cc
+
+-- before it is open nothing is
+pub nothing_begun : begun_next (idle (phases.Asked hello) None) waits ≡ (idle (phases.Asked hello) None, waits)
+unfolding begun_next
+nothing_begun = refl
+
+-- but its own Hello, also where it refused the other's
+pub hello_begun : (begun_next (idle (phases.Closed faults.AlreadyHere) (Some hello)) waits).0.out.begun.items ≡ record_text (record_of.Hello hello)
+unfolding begun_next
+hello_begun = refl
+
+-- ---- when a peer is dialled: moments in microseconds
+
+pub dialled_at_once : due_of (dials.Waits 0 0) 0 ≡ dues.Dial
+dialled_at_once = refl
+
+pub given_up : due_of (dials.Dialled 1000) 501000 ≡ dues.GiveUp
+given_up = refl
+
+pub not_given_up_yet : due_of (dials.Dialled 1000) 500999 ≡ dues.Nothing 1
+not_given_up_yet = refl
+
+-- the dial was answered after 450 ms: its Hello has 2 s more
+pub hello_awaited : due_of (answered_dial (dials.Dialled 1000) 451000) 2450999 ≡ dues.Nothing 1
+hello_awaited = refl
+
+pub hello_given_up : due_of (answered_dial (dials.Dialled 1000) 451000) 2451000 ≡ dues.GiveUp
+hello_given_up = refl
+
+-- refused at once by the system: 50 ms from dial to dial
+pub dialled_again : due_of (ended_dial (dials.Dialled 1000) 1200 false) 51000 ≡ dues.Dial
+dialled_again = refl
+
+pub not_dialled_yet : due_of (ended_dial (dials.Dialled 1000) 1200 false) 50999 ≡ dues.Nothing 1
+not_dialled_yet = refl
+
+-- one that was open for long is dialled at once
+pub dialled_when_it_ends : due_of (ended_dial (opened_dial (dials.Dialled 1000)) 9000000 false) 9000000 ≡ dues.Dial
+dialled_when_it_ends = refl
+
+pub second_after_a_fault : due_of (ended_dial (dials.Dialled 1000) 2000 true) 1001999 ≡ dues.Nothing 1
+second_after_a_fault = refl
+
+-- ---- beats
+
+abbrev pulse : Pulse
+pulse = record { number = 3; got = 8; told = Some 1000; probe = Some (record { number = 2; at = 500 }); round_trip = None }
+
+pub beat_in_50_ms : wait_of pulse 1000 ≡ 50000
+beat_in_50_ms = refl
+
+pub beat_due : wait_of pulse 51000 ≡ 0
+beat_due = refl
+
+pub beat_has_both_numbers : beat_of pulse (record { front = 37; leads = true; over = false; seats = 5 }) ≡ record { number = 4; got = 8; front = 37; leads = true; over = false; seats = 5 }
+beat_has_both_numbers = refl
+
+-- the first beat that tells of beat 2, or of a later one, measures the way
+pub way_measured : heard_at pulse (record { number = 9; got = 2; front = 37; leads = true; over = false; seats = 5 }) 1700 ≡ record { number = 3; got = 9; told = Some 1000; probe = None; round_trip = Some 1200 }
+way_measured = refl
+
+pub way_not_measured : (heard_at pulse (record { number = 9; got = 1; front = 37; leads = true; over = false; seats = 5 }) 1700).round_trip ≡ None
+way_not_measured = refl
+
+-- ---- Asks and Accepteds
+
+pub asks_of_slot_1 : asked_slot (0 ∷ 0 ∷ 0 ∷ 6 ∷ 2 ∷ 7 ∷ 0 ∷ 0 ∷ 0 ∷ 1 ∷ []) ≡ Some 1
+asks_of_slot_1 = refl
+
+pub accepted-no_ask : asked_slot (0 ∷ 0 ∷ 0 ∷ 6 ∷ 2 ∷ 5 ∷ 0 ∷ 0 ∷ 0 ∷ 1 ∷ []) ≡ None
+accepted-no_ask = refl
+
+-- slots 1 and 63 are of one block, 64 of the next; 20 ms at least
+pub same_block_again : is_again (Some (record { block = 0; at = 1000 })) (Some 63) 20999 0 ≡ true
+same_block_again = refl
+
+pub same_block_later : is_again (Some (record { block = 0; at = 1000 })) (Some 63) 21000 0 ≡ false
+same_block_later = refl
+
+pub same_block_over_a_slow_way : is_again (Some (record { block = 0; at = 1000 })) (Some 63) 21000 50000 ≡ true
+same_block_over_a_slow_way = refl
+
+pub next_block : is_again (Some (record { block = 0; at = 1000 })) (Some 64) 2000 0 ≡ false
+next_block = refl
+
+-- an Accepted of the ballot (7, 2) at slot 300
+pub accepted_at_300 : accepted_slot (0 ∷ 0 ∷ 0 ∷ 13 ∷ 2 ∷ 5 ∷ 0 ∷ 0 ∷ 0 ∷ 7 ∷ 2 ∷ 0 ∷ 0 ∷ 1 ∷ 44 ∷ 1 ∷ 0 ∷ []) ≡ Some 300
+accepted_at_300 = refl
+
+pub ask-no_accepted : accepted_slot (0 ∷ 0 ∷ 0 ∷ 6 ∷ 2 ∷ 7 ∷ 0 ∷ 0 ∷ 0 ∷ 1 ∷ []) ≡ None
+ask-no_accepted = refl
+
+-- ---- what a peer owes: a Prepare of the ballot (1, 0) at slot 0, and an Accept and a Promise of the same
+
+abbrev of_kind : ℕ → List ℕ
+of_kind kind = 0 ∷ 0 ∷ 0 ∷ 11 ∷ 2 ∷ kind ∷ 0 ∷ 0 ∷ 0 ∷ 1 ∷ 0 ∷ 0 ∷ 0 ∷ 0 ∷ 0 ∷ []
+
+abbrev asked : Question
+asked = record { ballot = record { round = 1; node = 0 }; slot = 0 }
+
+pub prepare_asks : question_in (of_kind 1) ≡ Some asked
+prepare_asks = refl
+
+pub accept_asks : question_in (of_kind 4) ≡ Some asked
+accept_asks = refl
+
+pub promise-no_question : question_in (of_kind 2) ≡ None
+promise-no_question = refl
+
+pub refuse_answers : answered_in (of_kind 3) ≡ Some asked
+refuse_answers = refl
+
+pub accept-no_answer : answered_in (of_kind 4) ≡ None
+accept-no_answer = refl
+
+abbrev owed : Owed
+owed = record { last = Some asked; lost = None; unanswered = Some asked }
+
+pub answer_ends_all : heard_by (Some asked) owed ≡ record { last = None; lost = None; unanswered = None }
+answer_ends_all = refl
+
+pub other_slot-no_answer : heard_by (Some (record asked { slot = 1 })) owed ≡ owed
+other_slot-no_answer = refl
+
+-- what is asked while none is open waits for the next connection: it isn't lost
+pub asked_anew : asked_by (Some asked) (record { last = Some asked; lost = Some asked; unanswered = None }) ≡ record { last = Some asked; lost = None; unanswered = None }
+asked_anew = refl
+
+pub serves_at_its_slot : serves asked (Some (record { round = 1; node = 0 })) 0 ≡ true
+serves_at_its_slot = refl
+
+pub chosen_since : serves asked (Some (record { round = 1; node = 0 })) 1 ≡ false
+chosen_since = refl
+
+pub other_ballot : serves asked (Some (record { round = 1; node = 1 })) 0 ≡ false
+other_ballot = refl
+
+-- ---- callers who were refused
+
+abbrev refusals : Refusals
+refusals = record { since = Some (record { count = 2; fault = faults.OutOfTurn }); noted = Some 5000 }
+
+pub not_noted_yet : noted refusals 1004999 ≡ None
+not_noted_yet = refl
+
+pub noted_a_second_later : noted refusals 1005000 ≡ Some (record { count = 2; fault = faults.OutOfTurn })
+noted_a_second_later = refl
+
+pub last_fault_told : and_refused faults.AlreadyHere refusals.since ≡ record { count = 3; fault = faults.AlreadyHere }
+last_fault_told = refl
+
+pub none_goes_again : is_due (record { last = None; sent = 0 }) 900000 ≡ false
+none_goes_again = refl

@@ -1,0 +1,4 @@
+mod HistoryLaws
+mod HearingLaws
+mod DialLaws
+mod Examples

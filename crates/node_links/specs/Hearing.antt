@@ -1,0 +1,45 @@
+-- What calls tell of a connection, one after another.
+use Rattle.std.specs.Prelude.{◌≡◌, ℕ, List, [], ◌∷◌, ◌++◌, length, Some, Result}
+use Rattle.peer_codes.specs.declared.hello.Hello.{Hello}
+use Rattle.peer_codes.specs.declared.records.Record.{Record}
+use Rattle.peer_codes.specs.declared.records.Record.TheVariants as record_of
+use Rattle.peer_codes.specs.Fits.{IsRecord}
+use Rattle.peer_codes.specs.Spelling.{record_text}
+use Rattle.node_links.specs.declared.link_fault.LinkFault.{LinkFault}
+use Rattle.node_links.specs.declared.heard.Heard.{Heard}
+use Rattle.node_links.specs.declared.phase.Phase.TheVariants as phases
+use Rattle.node_links.specs.declared.plain_connection.PlainConnection.{PlainConnection}
+use Rattle.node_links.specs.Steps.{on_open}
+use Rattle.node_links.specs.Connections.{Next}
+
+-- what so many calls told, and how they left the connection
+abbrev pub Hears : PlainConnection → List (Result Heard LinkFault) → PlainConnection → Type 0
+Hears old [] new = new ≡ old
+Hears old (told ∷ more) new = (between : PlainConnection) × Next old.phase old (Some told) between × Hears between more new
+
+-- a frame or a beat that has a text
+abbrev pub IsSaid : Record → Type 0
+IsSaid (record_of.Frame frame) = IsRecord (record_of.Frame frame)
+IsSaid (record_of.Beat beat) = IsRecord (record_of.Beat beat)
+IsSaid (record_of.Hello hello) = ⊥
+IsSaid (record_of.Proof proof) = ⊥
+
+abbrev pub AreSaid : List Record → Type 0
+AreSaid [] = Unit {0}
+AreSaid (said ∷ more) = IsSaid said × AreSaid more
+
+-- their texts, one behind the other
+abbrev pub texts : List Record → List ℕ
+texts [] = []
+texts (said ∷ more) = record_text said ++ texts more
+
+-- what an open connection tells of them
+abbrev pub told_of : Hello → List Record → List (Result Heard LinkFault)
+told_of other [] = []
+told_of other (said ∷ more) = (on_open other said).heard ∷ told_of other more
+
+-- frames and beats whose texts came, on a connection that is open, come as they were said, in order, whatever stands behind
+abbrev pub SaidIsHeard : Type 0
+SaidIsHeard = (old new : PlainConnection) (other : Hello) (said : List Record) (rest : List ℕ) (told : List (Result Heard LinkFault)) → AreSaid said
+    → old.phase ≡ phases.Open other → old.came.waiting ≡ texts said ++ rest → length told ≡ length said → Hears old told new
+    → (told ≡ told_of other said) × (new.phase ≡ phases.Open other) × (new.came.waiting ≡ rest)

@@ -1,0 +1,53 @@
+-- Which Hello is taken, and the first fault of one that isn't.
+use Rattle.std.specs.Prelude.{ℕ, ◌==◌, ◌&&◌, not, nat_lt, Bool, true, false, if◌then◌else◌, List, get_or, Option, Some, None, Result, Ok, Err}
+use Rattle.std.specs.Str.{bytes_eq}
+use Rattle.peer_codes.specs.declared.hello.Ends.{Ends}
+use Rattle.peer_codes.specs.declared.hello.Life.{Life}
+use Rattle.peer_codes.specs.declared.hello.Link.{Link}
+use Rattle.peer_codes.specs.declared.hello.Link.TheVariants.{Plain, Coded}
+use Rattle.peer_codes.specs.declared.hello.Hello.{Hello}
+use Rattle.peer_codes.specs.declared.fault.RecordFault.TheVariants.{BadHello}
+use Rattle.node_links.specs.declared.own.Own.{Own}
+use Rattle.node_links.specs.declared.own.Met.{Met}
+use Rattle.node_links.specs.declared.link_fault.Mismatch.TheVariants.{Digest, Nodes, Number}
+use Rattle.node_links.specs.declared.link_fault.Whose.TheVariants as whose
+use Rattle.node_links.specs.declared.link_fault.LinkFault.{LinkFault}
+use Rattle.node_links.specs.declared.link_fault.LinkFault.TheVariants as faults
+
+-- of a connection with codes
+abbrev pub is_coded : Link → Bool
+is_coded Plain = false
+is_coded (Coded nonce) = true
+
+-- the one that was dialled speaks to this node, or one of a greater number that dialled
+abbrev pub is_awaited : ℕ → Option ℕ → Ends → Bool
+is_awaited number (Some peer) ends = ends.to == number && ends.from == peer
+is_awaited number None ends = ends.to == number && nat_lt number ends.from
+
+-- another life is kept than this one
+abbrev pub is_other : Option Life → Life → Bool
+is_other None life = false
+is_other (Some kept) life = not (bytes_eq kept.bytes life.bytes)
+
+abbrev pub unmet : Met
+unmet = record { kept = None; is_here = false }
+
+-- what is known of a node
+abbrev pub met_at : List Met → ℕ → Met
+met_at met number = get_or met number unmet
+
+-- of a node of this match
+abbrev pub judged_node : Own → Met → Hello → Result (Unit {0}) LinkFault
+judged_node own known hello =
+    if known.is_here then Err faults.AlreadyHere
+    else (if is_other hello.kept own.life then Err (faults.WentBack whose.Own)
+    else (if is_other known.kept hello.life then Err (faults.WentBack whose.Other)
+    else Ok tt))
+
+abbrev pub judged : Own → Option ℕ → List Met → Hello → Result (Unit {0}) LinkFault
+judged own dialled met hello =
+    if is_coded hello.link then Err (faults.Record BadHello)
+    else (if not (bytes_eq hello.digest.bytes own.digest.bytes) then Err (faults.OtherMatch Digest)
+    else (if not (hello.ends.nodes == own.nodes) then Err (faults.OtherMatch Nodes)
+    else (if not (is_awaited own.number dialled hello.ends) then Err (faults.OtherMatch Number)
+    else judged_node own (met_at met hello.ends.from) hello)))

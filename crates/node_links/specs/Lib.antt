@@ -1,0 +1,15 @@
+pub mod Lines
+pub mod Judging
+pub mod Steps
+pub mod Outgoings
+pub mod Waits
+pub mod Waiting
+pub mod Connections
+pub mod Dialling
+pub mod Pulses
+pub mod Asking
+pub mod Repeating
+pub mod Owing
+pub mod Refusing
+pub mod Histories
+pub mod Hearing

@@ -1,0 +1,130 @@
+ghost use Rattle.std.specs.Prelude.{◌≡◌};
+ghost use Rattle.node_links.specs.declared.dial.Dial.TheVariants as dials;
+ghost use Rattle.node_links.specs.Dialling.{due_of, answered_dial, opened_dial, ended_dial};
+
+use crate::limits::{CONNECT, GREET, LOOK, REDIAL, REFUSED};
+
+/// How far the connection to a peer is that this process dials. Moments are whole microseconds since one that stays the
+/// same; one that lies ahead counts as the present.
+#[derive(Clone, Copy, Debug, PartialEq, Eq)]
+pub enum Dial {
+    /// There is none. The peer is dialled once so long has passed since then.
+    Waits { since: u64, pause: u64 },
+    /// It was dialled then, and that isn't answered yet.
+    Dialled { since: u64 },
+    /// It was dialled then, and that was answered at `at`: its Hello is awaited.
+    Answered { since: u64, at: u64 },
+    /// It was dialled then, and is open.
+    Open { since: u64 },
+}
+
+/// What is due of a connection that this process dials.
+#[derive(Clone, Copy, Debug, PartialEq, Eq)]
+pub enum DialDue {
+    /// The peer is dialled now.
+    Dial,
+    /// The connection isn't open yet, and is given up: it is closed.
+    GiveUp,
+    /// Nothing, for so long.
+    Nothing { wait: u64 },
+}
+
+impl Dial {
+    /// Nobody was dialled yet: the peer is dialled at once.
+    pub fn new() -> Dial
+        ensures { result ≡ dials.Waits 0 0 }
+    {
+        Dial::Waits { since: 0, pause: 0 }
+    }
+
+    /// What is due at this moment.
+    pub fn due(self, now: u64) -> DialDue
+        ensures { result ≡ due_of self now }
+    {
+        match self {
+            Dial::Waits { since, pause } => {
+                let passed = now.saturating_sub(since);
+                if pause <= passed {
+                    DialDue::Dial
+                } else {
+                    DialDue::Nothing {
+                        wait: pause - passed,
+                    }
+                }
+            }
+            Dial::Dialled { since } => {
+                let passed = now.saturating_sub(since);
+                if CONNECT <= passed {
+                    DialDue::GiveUp
+                } else {
+                    DialDue::Nothing {
+                        wait: CONNECT - passed,
+                    }
+                }
+            }
+            Dial::Answered { since: _, at } => {
+                let passed = now.saturating_sub(at);
+                if GREET <= passed {
+                    DialDue::GiveUp
+                } else {
+                    DialDue::Nothing {
+                        wait: GREET - passed,
+                    }
+                }
+            }
+            Dial::Open { since: _ } => DialDue::Nothing { wait: LOOK },
+        }
+    }
+
+    /// The system at the other end has answered the dial, as is known by now: something could be written, or was read.
+    pub fn answered(self, now: u64) -> Dial
+        ensures { result ≡ answered_dial self now }
+    {
+        match self {
+            Dial::Dialled { since } => Dial::Answered { since, at: now },
+            Dial::Waits { since, pause } => Dial::Waits { since, pause },
+            Dial::Answered { since, at } => Dial::Answered { since, at },
+            Dial::Open { since } => Dial::Open { since },
+        }
+    }
+
+    /// The connection that was dialled is open.
+    pub fn opened(self) -> Dial
+        ensures { result ≡ opened_dial self }
+    {
+        match self {
+            Dial::Dialled { since } => Dial::Open { since },
+            Dial::Answered { since, at: _ } => Dial::Open { since },
+            Dial::Waits { since, pause } => Dial::Waits { since, pause },
+            Dial::Open { since } => Dial::Open { since },
+        }
+    }
+
+    /// The connection ended at this moment, by a fault of either side or else: by a fault the peer is dialled again a
+    /// second later, else as soon as two dials may follow each other.
+    pub fn ended(self, now: u64, by_fault: bool) -> Dial
+        ensures { result ≡ ended_dial self now by_fault }
+    {
+        if by_fault {
+            return Dial::Waits {
+                since: now,
+                pause: REFUSED,
+            };
+        }
+        match self {
+            Dial::Waits { since, pause } => Dial::Waits { since, pause },
+            Dial::Dialled { since } => Dial::Waits {
+                since,
+                pause: REDIAL,
+            },
+            Dial::Answered { since, at: _ } => Dial::Waits {
+                since,
+                pause: REDIAL,
+            },
+            Dial::Open { since } => Dial::Waits {
+                since,
+                pause: REDIAL,
+            },
+        }
+    }
+}

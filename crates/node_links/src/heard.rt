@@ -1,0 +1,12 @@
+use peer_codes::{Beat, Frame, Hello};
+
+/// What came over a connection.
+#[derive(Drop)]
+pub enum Heard {
+    /// The other's Hello. It is judged next, and the side that was called answers with its own.
+    Hello(Hello),
+    /// A frame of the other node.
+    Frame(Frame),
+    /// How the other is.
+    Beat(Beat),
+}

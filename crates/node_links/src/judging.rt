@@ -1,0 +1,98 @@
+//! Which Hello is taken.
+
+ghost use Rattle.std.specs.Prelude.{◌≡◌};
+ghost use Rattle.std.specs.Str.{bytes_eq};
+ghost use Rattle.node_links.specs.Judging.{is_coded, is_awaited, is_other, met_at, judged_node, judged};
+
+use crate::link_fault::{LinkFault, Mismatch, Whose};
+use crate::own::{Met, Own};
+use peer_codes::{Ends, Hello, Life, Link, RecordFault};
+
+fn is_same(bytes: &[u8], others: &[u8]) -> bool
+    ensures { result ≡ bytes_eq bytes.now others.now }
+{
+    bytes == others
+}
+
+/// Whether a Hello is one of a connection with codes.
+fn is_coded(link: Link) -> bool
+    ensures { result ≡ is_coded link }
+{
+    match link {
+        Link::Plain => false,
+        Link::Coded(_) => true,
+    }
+}
+
+/// Whether the node that was to speak speaks to this one: the one that was dialled, or one of a greater number, since of
+/// two nodes the one with the greater number dials.
+fn is_awaited(number: u8, dialled: Option<u8>, ends: Ends) -> bool
+    ensures { result ≡ is_awaited number dialled ends }
+{
+    match dialled {
+        Some(peer) => ends.to == number && ends.from == peer,
+        None => ends.to == number && number < ends.from,
+    }
+}
+
+/// Whether another life is kept than this one.
+fn is_other(kept: Option<Life>, life: Life) -> bool
+    ensures { result ≡ is_other kept life }
+{
+    match kept {
+        Some(kept) => !is_same(&kept.bytes, &life.bytes),
+        None => false,
+    }
+}
+
+/// What is known of a node; nothing where it has no place here.
+fn met_at(met: &[Met], number: u8) -> Met
+    ensures { result ≡ met_at met.now number }
+{
+    match met.get(number as usize) {
+        Some(known) => *known,
+        None => Met {
+            kept: None,
+            is_here: false,
+        },
+    }
+}
+
+/// Judges the Hello of a node of this match of which this is known.
+fn judge_node(own: &Own, known: Met, hello: &Hello) -> Result<(), LinkFault>
+    ensures { result ≡ judged_node own.now known hello.now }
+{
+    if known.is_here {
+        return Err(LinkFault::AlreadyHere);
+    }
+    if is_other(hello.kept, own.life) {
+        return Err(LinkFault::WentBack(Whose::Own));
+    }
+    if is_other(known.kept, hello.life) {
+        return Err(LinkFault::WentBack(Whose::Other));
+    }
+    Ok(())
+}
+
+/// Judges a Hello, where this node dialled that one, or else was dialled; of each node stands in its place what is known
+/// of it.
+///
+/// The fault is the first of: 122 `BadHello` (of a connection with codes), 123 `OtherMatch` (the digest, the count of nodes, then the numbers), 128 `AlreadyHere`, 127
+/// `WentBack` (this node's own store, then the other's).
+pub fn judge(own: &Own, dialled: Option<u8>, met: &[Met], hello: &Hello) -> Result<(), LinkFault>
+    ensures { result ≡ judged own.now dialled met.now hello.now }
+{
+    if is_coded(hello.link) {
+        return Err(LinkFault::Record(RecordFault::BadHello));
+    }
+    if !is_same(&hello.digest.bytes, &own.digest.bytes) {
+        return Err(LinkFault::OtherMatch(Mismatch::Digest));
+    }
+    if hello.ends.nodes != own.nodes {
+        return Err(LinkFault::OtherMatch(Mismatch::Nodes));
+    }
+    if !is_awaited(own.number, dialled, hello.ends) {
+        return Err(LinkFault::OtherMatch(Mismatch::Number));
+    }
+    judge_node(own, met_at(met, hello.ends.from), hello)
+}

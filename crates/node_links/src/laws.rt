@@ -1,0 +1,65 @@
+//! Laws of connections without codes: each is the contract of a function that does nothing.
+
+ghost use Rattle.std.specs.Prelude.{◌≡◌, ◌++◌, ℕ, List, Option, None, Result, Ok};
+ghost use Rattle.peer_codes.specs.declared.fault.RecordFault.{RecordFault};
+ghost use Rattle.peer_codes.specs.declared.beat.Beat.{Beat};
+ghost use Rattle.peer_codes.specs.declared.frame.Frame.{Frame};
+ghost use Rattle.peer_codes.specs.declared.hello.Hello.{Hello};
+ghost use Rattle.peer_codes.specs.declared.records.Record.{Record};
+ghost use Rattle.peer_codes.specs.declared.records.Record.TheVariants as record_of;
+ghost use Rattle.peer_codes.specs.Fits.{IsRecord};
+ghost use Rattle.peer_codes.specs.Spelling.{record_text};
+ghost use Rattle.node_links.specs.declared.heard.Heard.{Heard};
+ghost use Rattle.node_links.specs.declared.heard.Heard.TheVariants as heards;
+ghost use Rattle.node_links.specs.declared.link_fault.LinkFault.{LinkFault};
+ghost use Rattle.node_links.specs.declared.own.Met.{Met};
+ghost use Rattle.node_links.specs.declared.own.Own.{Own};
+ghost use Rattle.node_links.specs.declared.phase.Phase.{Phase};
+ghost use Rattle.node_links.specs.declared.phase.Phase.TheVariants as phases;
+ghost use Rattle.node_links.specs.declared.plain_connection.PlainConnection.{PlainConnection};
+ghost use Rattle.node_links.specs.Connections.{Next};
+ghost use Rattle.node_links.specs.Dialling.{WaitsEnd, DialsAreApart, FaultsAreWaitedFor};
+ghost use Rattle.node_links.specs.Hearing.{SaidIsHeard};
+ghost use Rattle.node_links.specs.Histories.{Happening, Judged, phase_after, phase_behind, HasRead, IsTaken};
+ghost use Rattle.node_links.specs.Steps.{step_by, settled};
+
+use peer_codes::{records_are_told_apart, records_are_whole};
+
+/// What one side says while a connection is open the other hears: the same frames and beats, in order, however the bytes
+/// came in pieces; and where a record's text is there, a call tells it.
+pub fn said_is_heard()
+    ensures heard { SaidIsHeard }
+    ensures told { (old new : PlainConnection) (other : Hello) (said : Record) (rest : List ℕ) → IsRecord said → old.phase ≡ phases.Open other → old.came.waiting ≡ record_text said ++ rest → Next old.phase old None new → ⊥ }
+{
+    records_are_whole();
+    records_are_told_apart();
+}
+
+/// No frame and no beat comes before a connection is open, and each that comes is the body of a record that was read, as
+/// the one Hello is that comes first and is judged next: nothing of a record that is refused comes.
+pub fn frames_come_from_open_connections()
+    ensures frame { (phase : Phase) (read : Result Record RecordFault) (frame : Frame) → (step_by phase read).heard ≡ Ok (heards.Frame frame) → (read ≡ Ok (record_of.Frame frame)) × ((other : Hello) × (phase ≡ phases.Open other)) }
+    ensures beat { (phase : Phase) (read : Result Record RecordFault) (beat : Beat) → (step_by phase read).heard ≡ Ok (heards.Beat beat) → (read ≡ Ok (record_of.Beat beat)) × ((other : Hello) × (phase ≡ phases.Open other)) }
+    ensures hello { (phase : Phase) (read : Result Record RecordFault) (hello : Hello) → (step_by phase read).heard ≡ Ok (heards.Hello hello) → (read ≡ Ok (record_of.Hello hello)) × (phase ≡ phases.Greeting) × ((step_by phase read).phase ≡ phases.Asked hello) }
+{}
+
+/// Whatever happened to a connection: if it is open, the Hello of the node at its other end came, and was judged and taken.
+pub fn open_connections_were_judged()
+    ensures { (before : List Happening) (hello : Hello) → phase_behind before ≡ phases.Open hello → IsTaken hello before }
+{}
+
+/// What a call of a connection does to how far it is: `next` changes nothing, or what stands in front of what came happens
+/// to it; by `settle` the Hello is judged with what it was given. `take`, `answer`, `begin` and `wrote` say by their
+/// contracts that they don't change that.
+pub fn calls_happen()
+    ensures next { (old new : PlainConnection) (result : Option (Result Heard LinkFault)) → Next old.phase old result new → HasRead old new }
+    ensures settle { (own : Own) (dialled : Option ℕ) (met : List Met) (phase : Phase) → settled own dialled met phase ≡ phase_after phase (Judged own dialled met) }
+{}
+
+/// When a peer is dialled: what is to be waited for is due when the wait is over, and not before; two dials are at least
+/// 50 ms apart, and one behind a fault comes a second later.
+pub fn peers_are_dialled_in_time()
+    ensures waits { WaitsEnd }
+    ensures apart { DialsAreApart }
+    ensures faults { FaultsAreWaitedFor }
+{}

@@ -1,0 +1,53 @@
+//! Connections between the processes of two nodes, without codes and without sockets.
+//!
+//! A `PlainConnection` is a machine: bytes that come go in, what they say comes out; what waits in an `Outbox` goes out as
+//! bytes, the newest beat before the frames. First each side says its Hello, and `judge` says which Hello is taken: of two
+//! nodes the one with the greater number dials. The records are those of `peer_codes`.
+//!
+//! Beside it stand the small clocks of a connection, which are told the moment and look at no clock: `Dial`, when a peer
+//! is dialled and when a connection that isn't open is given up; `Pulse`, when a beat is due and how long the way takes;
+//! `Asked`, which Asks go to a peer; `Accepted`, the last Accepted that went to it, which goes again while it is behind;
+//! `Owed`, what it owes an answer to that may be lost; `Refusals`, how many callers were refused, for one note a second.
+//! Whatever they let through or drop, what is promised of nodes holds: a frame may be lost, and one that goes again is the
+//! same frame.
+//!
+//! The laws: what one side says the other hears (`said_is_heard`), no frame comes but over an open connection, of a record
+//! that was read (`frames_come_from_open_connections`), and one that is open is so by a Hello that was taken
+//! (`open_connections_were_judged`); a peer is dialled neither too soon nor later than was told
+//! (`peers_are_dialled_in_time`).
+//!
+//! Faults: `LinkFault`, 120 to 128; each closes the connection, and is told again from then on.
+#![tactic(auto)]
+
+mod accepted;
+mod asked;
+mod dial;
+mod heard;
+mod judging;
+pub mod laws;
+pub mod limits;
+mod link_fault;
+mod outbox;
+mod outgoing;
+mod owed;
+mod own;
+mod phase;
+mod plain_connection;
+mod pulse;
+mod refusals;
+mod step;
+
+pub use accepted::{Accepted, LastAccepted};
+pub use asked::{Asked, LastAsk};
+pub use dial::{Dial, DialDue};
+pub use heard::Heard;
+pub use judging::judge;
+pub use link_fault::{LinkFault, Mismatch, Whose};
+pub use outbox::Outbox;
+pub use outgoing::Outgoing;
+pub use owed::{Owed, Question, answered_in};
+pub use own::{Met, Own};
+pub use phase::Phase;
+pub use plain_connection::PlainConnection;
+pub use pulse::{Probe, Pulse, Told};
+pub use refusals::{Refusals, Refused};

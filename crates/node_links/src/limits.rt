@@ -1,0 +1,40 @@
+//! The times and counts of connections between nodes, each in this one place. Times are whole microseconds.
+
+/// Nodes are numbered from 0 to one below this.
+pub const NODES: usize = peer_codes::limits::NODES as usize;
+
+/// A beat is told so long after the one before it.
+pub const BEAT: u64 = 50_000;
+
+/// A dial that isn't answered after so long is given up.
+pub const CONNECT: u64 = 500_000;
+
+/// A connection whose dial was answered and over which no Hello comes for so long is given up.
+pub const GREET: u64 = 2_000_000;
+
+/// Two dials of a peer are at least so far apart.
+pub const REDIAL: u64 = 50_000;
+
+/// A peer is dialled so long after a connection to it was closed by a fault.
+pub const REFUSED: u64 = 1_000_000;
+
+/// A process looks again after at most so long, whatever it waits for.
+pub const LOOK: u64 = 1_000_000;
+
+/// The least time in which no two Asks of the same block of slots go to a peer.
+pub const AGAIN: u64 = 20_000;
+
+/// While a peer is behind, the last Accepted that was sent to it is sent again each time that so long has passed.
+pub const REPEAT: u64 = 100_000;
+
+/// Of callers who aren't known and were refused, a note is made so long after the one before at the soonest.
+pub const NOTED: u64 = 1_000_000;
+
+/// The slots that the answer of an Ask tells of reach to the end of a block of so many.
+pub const BLOCK: u32 = paxos_wire::limits::WINDOW as u32;
+
+/// The most frames that wait for a peer while a connection to it is open.
+pub const WAITING: usize = 1024;
+
+/// The most frames that wait for a peer while none is.
+pub const KEPT: usize = 16;

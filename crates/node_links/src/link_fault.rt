@@ -1,0 +1,76 @@
+ghost use Rattle.std.specs.Prelude.{◌≡◌, Some};
+ghost use Rattle.node_links.specs.Lines.{link_fault_code, link_fault_line};
+
+use peer_codes::RecordFault;
+use std::fmt;
+use thiserror::Error;
+
+/// In what two nodes differ that play different matches, or aren't those that they are taken for.
+#[derive(Clone, Copy, Debug, PartialEq, Eq)]
+pub enum Mismatch {
+    /// The setting of the match.
+    Digest,
+    /// How many nodes the match has.
+    Nodes,
+    /// Which node speaks, or to which.
+    Number,
+}
+
+/// Whose store was lost and made anew.
+#[derive(Clone, Copy, Debug, PartialEq, Eq)]
+pub enum Whose {
+    /// That of the node that reads the Hello.
+    Own,
+    /// That of the node that said it.
+    Other,
+}
+
+/// Why a connection between two nodes is closed.
+///
+/// It prints as its number and its name; 123 prints what differs behind them.
+#[derive(Clone, Copy, Debug, PartialEq, Eq, Error)]
+pub enum LinkFault {
+    /// 120 to 122: what came is no record, or no Hello of a connection without codes.
+    Record(RecordFault),
+    /// 123: the other is of another match, or not the node that was to speak.
+    OtherMatch(Mismatch),
+    /// 126: a record of another kind than may come now.
+    OutOfTurn,
+    /// 127: a store of a node has another life than the one that is kept of it, so it was lost and made anew.
+    WentBack(Whose),
+    /// 128: a connection of this node is open already, and it was heard over it.
+    AlreadyHere,
+}
+
+impl LinkFault {
+    /// The fault's number, 120 to 128.
+    pub fn code(self) -> u8
+        ensures { result ≡ link_fault_code self }
+    {
+        match self {
+            LinkFault::Record(fault) => fault.code(),
+            LinkFault::OtherMatch(_) => 123,
+            LinkFault::OutOfTurn => 126,
+            LinkFault::WentBack(_) => 127,
+            LinkFault::AlreadyHere => 128,
+        }
+    }
+}
+
+impl fmt::Display for LinkFault {
+    ghost output = { λ fault. Some (link_fault_line fault) };
+
+    fn fmt<W: fmt::Write>(&self, f: &mut fmt::Formatter<W>) -> fmt::Result {
+        match self {
+            LinkFault::Record(RecordFault::BadLength) => f.write_str("120 BadLength"),
+            LinkFault::Record(RecordFault::BadKind) => f.write_str("121 BadKind"),
+            LinkFault::Record(RecordFault::BadHello) => f.write_str("122 BadHello"),
+            LinkFault::OtherMatch(Mismatch::Digest) => f.write_str("123 OtherMatch digest"),
+            LinkFault::OtherMatch(Mismatch::Nodes) => f.write_str("123 OtherMatch nodes"),
+            LinkFault::OtherMatch(Mismatch::Number) => f.write_str("123 OtherMatch number"),
+            LinkFault::OutOfTurn => f.write_str("126 OutOfTurn"),
+            LinkFault::WentBack(_) => f.write_str("127 WentBack"),
+            LinkFault::AlreadyHere => f.write_str("128 AlreadyHere"),
+        }
+    }
+}

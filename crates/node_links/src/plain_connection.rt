@@ -1,0 +1,190 @@
+ghost use Rattle.std.specs.Prelude.{◌≡◌, ◌≤◌, ◌<◌, ◌++◌, [], length, drop, Some, None, OnOk, OnErr};
+ghost use Rattle.node_links.specs.declared.phase.Phase.TheVariants as phases;
+ghost use Rattle.node_links.specs.Outgoings.{unwritten};
+ghost use Rattle.node_links.specs.Steps.{settled};
+ghost use Rattle.node_links.specs.Connections.{ReadsOrWaits, Next, begun_open, begun_first, begun_next, peer_in, fault_in};
+
+use crate::heard::Heard;
+use crate::link_fault::LinkFault;
+use crate::outbox::Outbox;
+use crate::outgoing::Outgoing;
+use crate::own::{Met, Own};
+use crate::phase::Phase;
+use crate::step::{Step, settled, step_by};
+use byte_queue::ByteQueue;
+use peer_codes::{Hello, Record, read_record, record_bytes};
+use std::alloc::{AllocError, Global};
+
+/// A connection between two nodes without codes, as a machine without sockets.
+///
+/// What comes is put in by `take`, in any pieces, and `next` tells what it says. The Hello that came is judged by `settle`:
+/// then the connection is open, or closed by a fault. `begin` begins the next record that is to be said, where none is
+/// unfinished; `unwritten` shows what of it isn't written yet, and `wrote` says how much was.
+#[derive(Drop)]
+pub struct PlainConnection {
+    phase: Phase,
+    /// What came and wasn't read yet.
+    came: ByteQueue,
+    out: Outgoing,
+}
+
+impl PlainConnection {
+    /// The side that dialled, with its own Hello, which is to be written first. Takes no memory.
+    pub fn call(alloc: Global, own: Hello) -> PlainConnection
+        ensures phase { result.phase ≡ phases.Greeting }
+        ensures came { result.came.waiting ≡ [] }
+        ensures out { result.out ≡ record { hello = Some own; begun = record { items = [] }; written = 0 } }
+    {
+        PlainConnection {
+            phase: Phase::Greeting,
+            came: ByteQueue::new(alloc),
+            out: Outgoing::new(Some(own)),
+        }
+    }
+
+    /// The side that was dialled. Takes no memory.
+    pub fn listen(alloc: Global) -> PlainConnection
+        ensures phase { result.phase ≡ phases.Greeting }
+        ensures came { result.came.waiting ≡ [] }
+        ensures out { result.out ≡ record { hello = None; begun = record { items = [] }; written = 0 } }
+    {
+        PlainConnection {
+            phase: Phase::Greeting,
+            came: ByteQueue::new(alloc),
+            out: Outgoing::new(None),
+        }
+    }
+
+    /// Takes the next piece of what comes, of any length. An `Err`, for want of memory, changes nothing.
+    pub fn take(&mut self, piece: &[u8]) -> Result<(), AllocError>
+        ensures ok { OnOk result (self.new.came.waiting ≡ self.old.came.waiting ++ piece.now) }
+        ensures err { OnErr result (self.new ≡ self.old) }
+        // It fails only where room is missing.
+        ensures full { OnErr result (self.old.came.room < length piece.now) }
+        ensures others { self.new ≡ record self.old { came = self.new.came } }
+    {
+        self.came.push(piece)
+    }
+
+    /// What stands in front of what came; `None` where it isn't whole.
+    fn read(&mut self) -> Option<Result<Heard, LinkFault>>
+        ensures { ReadsOrWaits self.old result self.new }
+    {
+        let (read, end) = read_record(self.came.waiting())?;
+        let Step { phase, heard } = step_by(self.phase, read);
+        self.came.skip(end);
+        self.phase = phase;
+        Some(heard)
+    }
+
+    /// What came next, or the fault that closed the connection, told again from then on.
+    ///
+    /// `None` where the record in front isn't whole, and while the Hello that came isn't judged. The fault is the first of:
+    /// 120 `BadLength`, 121 `BadKind` and 122 `BadHello` of the record in front, and 126 `OutOfTurn` (a kind that may not
+    /// come now).
+    pub fn next(&mut self) -> Option<Result<Heard, LinkFault>>
+        ensures { Next self.old.phase self.old result self.new }
+    {
+        match self.phase {
+            Phase::Asked(_) => None,
+            Phase::Closed(fault) => Some(Err(fault)),
+            Phase::Greeting => self.read(),
+            Phase::Open(_) => self.read(),
+        }
+    }
+
+    /// This side's own Hello is to be written next: the called answers with it, also where it refuses.
+    pub fn answer(&mut self, own: Hello)
+        ensures { self.new ≡ record self.old { out = record self.old.out { hello = Some own } } }
+    {
+        self.out.hello = Some(own);
+    }
+
+    /// Judges the Hello that came, where one waits for it: the connection is open then, or closed by a fault.
+    pub fn settle(&mut self, own: &Own, dialled: Option<u8>, met: &[Met])
+        ensures { self.new ≡ record self.old { phase = settled own.now dialled met.now self.old.phase } }
+    {
+        self.phase = settled(own, dialled, met, self.phase);
+    }
+
+    /// The node at the other end, once the connection is open.
+    pub fn peer(&self) -> Option<u8>
+        ensures { result ≡ peer_in self.now.phase }
+    {
+        match self.phase {
+            Phase::Open(other) => Some(other.ends.from),
+            Phase::Greeting => None,
+            Phase::Asked(_) => None,
+            Phase::Closed(_) => None,
+        }
+    }
+
+    /// The fault that closed the connection, if one did.
+    pub fn fault(&self) -> Option<LinkFault>
+        ensures { result ≡ fault_in self.now.phase }
+    {
+        match self.phase {
+            Phase::Closed(fault) => Some(fault),
+            Phase::Greeting => None,
+            Phase::Asked(_) => None,
+            Phase::Open(_) => None,
+        }
+    }
+
+    /// Begins what waits next, if anything does.
+    fn begin_open(&mut self, waiting: &mut Outbox)
+        ensures own { self.new ≡ (begun_open self.old waiting.old).0 }
+        ensures waiting { waiting.new ≡ (begun_open self.old waiting.old).1 }
+    {
+        if let Some(said) = waiting.next() {
+            self.out.start(record_bytes(&said));
+        }
+    }
+
+    /// Begins what is to be said next, if anything is.
+    fn begin_first(&mut self, waiting: &mut Outbox)
+        ensures own { self.new ≡ (begun_first self.old.out.hello self.old.phase self.old waiting.old).0 }
+        ensures waiting { waiting.new ≡ (begun_first self.old.out.hello self.old.phase self.old waiting.old).1 }
+    {
+        if let Some(hello) = self.out.hello {
+            self.out.hello = None;
+            self.out.start(record_bytes(&Record::Hello(hello)));
+            return;
+        }
+        match self.phase {
+            Phase::Open(_) => self.begin_open(waiting),
+            Phase::Greeting => (),
+            Phase::Asked(_) => (),
+            Phase::Closed(_) => (),
+        }
+    }
+
+    /// Begins the next record, where none is unfinished: this side's own Hello, and where the connection is open what
+    /// waits, the beat first.
+    #[tactic(auto, unfolding(crate::specs::Connections::begun_next))]
+    pub fn begin(&mut self, waiting: &mut Outbox)
+        ensures own { self.new ≡ (begun_next self.old waiting.old).0 }
+        ensures waiting { waiting.new ≡ (begun_next self.old waiting.old).1 }
+    {
+        if !self.out.unwritten().is_empty() {
+            return;
+        }
+        self.begin_first(waiting);
+    }
+
+    /// What of the record that was begun isn't written yet.
+    pub fn unwritten(&self) -> &[u8]
+        ensures { result.now ≡ unwritten self.now.out }
+    {
+        self.out.unwritten()
+    }
+
+    /// So many bytes of it are written now.
+    pub fn wrote(&mut self, count: usize)
+        requires { count ≤ length (unwritten self.old.out) }
+        ensures unwritten { unwritten self.new.out ≡ drop count (unwritten self.old.out) }
+        ensures others { self.new ≡ record self.old { out = record self.old.out { written = self.new.out.written } } }
+    {
+        self.out.wrote(count);
+    }
+}

@@ -1,0 +1,105 @@
+//! What a record does to a connection.
+
+ghost use Rattle.std.specs.Prelude.{◌≡◌};
+ghost use Rattle.node_links.specs.Steps.{closed, greeted, on_greeting, on_open, stepped, step_by, settled};
+
+use crate::heard::Heard;
+use crate::judging::judge;
+use crate::link_fault::LinkFault;
+use crate::own::{Met, Own};
+use crate::phase::Phase;
+use peer_codes::{Hello, Record, RecordFault};
+
+/// What a record does to a connection.
+#[derive(Drop)]
+pub(crate) struct Step {
+    pub(crate) phase: Phase,
+    pub(crate) heard: Result<Heard, LinkFault>,
+}
+
+/// The fault closes the connection.
+fn closed(fault: LinkFault) -> Step
+    ensures { result ≡ closed fault }
+{
+    Step {
+        phase: Phase::Closed(fault),
+        heard: Err(fault),
+    }
+}
+
+/// The other's Hello came: it is judged next.
+fn greeted(hello: Hello) -> Step
+    ensures { result ≡ greeted hello }
+{
+    Step {
+        phase: Phase::Asked(hello),
+        heard: Ok(Heard::Hello(hello)),
+    }
+}
+
+/// A record came before the other's Hello.
+fn on_greeting(said: Record) -> Step
+    ensures { result ≡ on_greeting said }
+{
+    match said {
+        Record::Hello(hello) => greeted(hello),
+        Record::Proof(_) => closed(LinkFault::OutOfTurn),
+        Record::Frame(_) => closed(LinkFault::OutOfTurn),
+        Record::Beat(_) => closed(LinkFault::OutOfTurn),
+    }
+}
+
+/// A record came on an open connection.
+fn on_open(other: Hello, said: Record) -> Step
+    ensures { result ≡ on_open other said }
+{
+    match said {
+        Record::Frame(frame) => Step {
+            phase: Phase::Open(other),
+            heard: Ok(Heard::Frame(frame)),
+        },
+        Record::Beat(beat) => Step {
+            phase: Phase::Open(other),
+            heard: Ok(Heard::Beat(beat)),
+        },
+        Record::Hello(_) => closed(LinkFault::OutOfTurn),
+        Record::Proof(_) => closed(LinkFault::OutOfTurn),
+    }
+}
+
+/// What a record does.
+fn stepped(phase: Phase, said: Record) -> Step
+    ensures { result ≡ stepped phase said }
+{
+    match phase {
+        Phase::Greeting => on_greeting(said),
+        Phase::Asked(_) => closed(LinkFault::OutOfTurn),
+        Phase::Open(other) => on_open(other, said),
+        Phase::Closed(fault) => closed(fault),
+    }
+}
+
+/// What the record that was read does, or its fault.
+pub(crate) fn step_by(phase: Phase, read: Result<Record, RecordFault>) -> Step
+    ensures { result ≡ step_by phase read }
+{
+    match read {
+        Ok(said) => stepped(phase, said),
+        Err(fault) => closed(LinkFault::Record(fault)),
+    }
+}
+
+/// How far a connection is once the Hello that came is judged, where one did.
+pub(crate) fn settled(own: &Own, dialled: Option<u8>, met: &[Met], phase: Phase) -> Phase
+    ensures { result ≡ settled own.now dialled met.now phase }
+{
+    match phase {
+        Phase::Asked(hello) => match judge(own, dialled, met, &hello) {
+            Ok(()) => Phase::Open(hello),
+            Err(fault) => Phase::Closed(fault),
+        },
+        Phase::Greeting => Phase::Greeting,
+        Phase::Open(other) => Phase::Open(other),
+        Phase::Closed(fault) => Phase::Closed(fault),
+    }
+}

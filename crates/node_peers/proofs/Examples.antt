@@ -1,0 +1,75 @@
+-- What came over the lines of node 0 of three, and what is told of it, on values.
+use Rattle.std.proofs.Common.{◌≡◌, ℕ, List, [], ◌∷◌, ◌++◌, replicate, None, refl, lit<, lit≤}
+use Rattle.peer_codes.specs.declared.frame.Frame.{Frame}
+use Rattle.peer_codes.specs.declared.hello.Hello.{Hello}
+use Rattle.peer_codes.specs.declared.hello.Link.TheVariants.{Plain}
+use Rattle.peer_codes.specs.declared.records.Record.TheVariants as record_of
+use Rattle.peer_codes.specs.Fits.{IsHello}
+use Rattle.peer_codes.specs.Spelling.{record_text}
+use Rattle.node_links.specs.declared.own.Own.{Own}
+use Rattle.node_links.specs.declared.phase.Phase.TheVariants as phases
+use Rattle.node_wires.specs.declared.line.Line.TheVariants.{Peer, Caller}
+use Rattle.node_wires.specs.Passages.{Passage, Began, Came}
+use Rattle.node_peers.specs.declared.notice.Notice.TheVariants as notices
+use Rattle.node_peers.specs.Lines.{line_at}
+use Rattle.node_peers.specs.Hearing.{IsHeard, IsTold}
+
+peer_first : line_at 6 ≡ Peer 6
+peer_first = refl
+
+caller_behind : line_at 7 ≡ Caller 0
+caller_behind = refl
+
+abbrev own : Own
+own = record { number = 0; nodes = 3; digest = record { bytes = replicate 32 9 }; life = record { bytes = replicate 16 1 } }
+
+-- node 1 says so to node 0
+abbrev hello : Hello
+hello = record {
+  ends = record { from = 1; to = 0; nodes = 3 };
+  digest = record { bytes = replicate 32 9 };
+  life = record { bytes = replicate 16 2 };
+  kept = None;
+  promised = None;
+  link = Plain;
+}
+
+hello_is : IsHello hello
+hello_is = record {
+  ends = record { most = lit≤ tt; from = lit< tt; to = lit< tt; apart = λ e. absurd cc };
+  digest = refl;
+  life = record { long = refl; some = refl };
+  kept = tt;
+  promised = tt;
+  link = tt;
+}
+
+-- an Ask
+abbrev ask : Frame
+ask = record { bytes = record { items = 0 ∷ 0 ∷ 0 ∷ 6 ∷ 2 ∷ 7 ∷ 0 ∷ 0 ∷ 0 ∷ 1 ∷ [] } }
+
+abbrev both : List ℕ
+both = record_text (record_of.Hello hello) ++ (record_text (record_of.Frame ask) ++ [])
+
+-- it dialled, and what it sent came in one piece
+abbrev passed : List Passage
+passed = Began (Caller 0) ∷ Came (Caller 0) both ∷ []
+
+-- the Ask is told of node 1
+ask_told : IsTold own passed (notices.Frame 1 ask)
+ask_told =
+    ∣ (record {
+      place = 7;
+      before = passed;
+      since = [];
+      passed_is = refl;
+      says = record { hello = hello; is = hello_is; from_is = refl; taken = (None, ([], refl)); said = []; are = tt; frame_is = record { least = lit≤ tt; most = lit≤ tt }; rest = []; text = refl };
+    }) ∣₁
+
+-- before anything was read all that came waits
+nothing_read : IsHeard own both both phases.Greeting
+nothing_read = refl
+
+-- what came can't have gone
+something_gone : IsHeard own (1 ∷ []) [] phases.Greeting → ⊥
+something_gone e = absurd cc

@@ -1,0 +1,10 @@
+use Rattle.std.proofs.Common.{◌<◌, None, length, ◌∙◌, arith}
+use Rattle.std.proofs.lemmas.Grind.{common_steps}
+use Rattle.std.proofs.lemmas.List.{get_or_default}
+use Rattle.node_peers.proofs.Fitting.{fits_moved}
+use Rattle.node_peers.proofs.links.read_at.Goals as goal
+
+pub returns-in-Some-clause-fits : goal.returns-in-Some-clause-fits
+returns-in-Some-clause-fits g c =
+    let within : c.args.place < length c.args.links.now.items = grind (arith, common_steps) in
+    fits_moved c.args.links.now.items c.args.place c.in-Some.slot.now c.read_in.new.slot c.args.passed.now.items c.read_in.new.passed.items within (c.in-Some.ensures.value ∙ get_or_default c.args.links.now.items c.args.place c.in-Some.slot.now None within) c.read_in.ensures.moves

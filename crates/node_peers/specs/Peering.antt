@@ -1,0 +1,21 @@
+-- What passes over the lines of a process's peers.
+use Rattle.std.specs.Prelude.{List}
+use Rattle.node_wires.specs.Passages.{Passage}
+use Rattle.node_links.specs.declared.own.Own.{Own}
+use Rattle.node_peers.specs.Growing as lines
+use Rattle.node_peers.specs.declared.peers.Peers.{Peers}
+
+-- the node whose peers they are
+abbrev pub own_of : Peers → Own
+own_of peers = peers.lines.own
+
+-- what passed over their lines so far, in order
+abbrev pub passed_of : Peers → List Passage
+passed_of peers = peers.lines.passed.items
+
+-- the same passed over them, in a call, as over the wire, and nothing of seats and of the log; they are the same node's
+abbrev pub Grew : Peers → Peers → List Passage → List Passage → Type 0
+Grew old new wired_old wired_new = lines.Grew old.lines new.lines wired_old wired_new
+
+abbrev pub Stays : Peers → Peers → Type 0
+Stays old new = lines.Stays old.lines new.lines

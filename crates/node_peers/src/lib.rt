@@ -1,0 +1,26 @@
+//! The connections of a node's process to its peers, over wires.
+//!
+//! `Peers` dials the peers of lesser numbers, takes in those of greater ones, judges Hellos, tells what came (`Notice`),
+//! and writes what the node sends. It stands on `node_links`, which has what is said over one connection, and on
+//! `node_wires`, which has the bytes of all.
+//!
+//! A frame may be lost here, and none is made up: each that is told of a peer came over one of its lines behind that node's
+//! Hello (`Peers::next`). Whatever wires give, what is promised of nodes holds.
+//!
+//! `peers` has the rules, `peer` what is known of one; `lines` the connections by their lines and what waits to be told,
+//! over `links`, the connections of all places, and `link`, one of them; `saying` what one says.
+#![tactic(auto)]
+
+pub mod limits;
+mod lines;
+mod link;
+mod links;
+mod notice;
+mod peer;
+mod peers;
+mod saying;
+mod view;
+
+pub use notice::Notice;
+pub use peers::Peers;
+pub use view::View;

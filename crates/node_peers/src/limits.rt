@@ -1,0 +1,21 @@
+//! The times and counts of a process's connections to its peers. Times are whole microseconds.
+
+use node_wires::limits::{CALLERS, NODES};
+
+/// The lines over which nodes speak: those to peers that are dialled, and those of who dialled.
+pub const LINKS: usize = NODES + CALLERS;
+
+/// How many bytes are read at once.
+pub const PIECE: usize = 16_384;
+
+/// How many such pieces of a line are read in a turn, so that nobody who sends without end holds up the others.
+pub const PIECES: usize = 4;
+
+/// While so many notices wait to be taken, nothing more is read.
+pub const BACKLOG: usize = 1024;
+
+/// One who dialled and isn't open after so long is let go.
+pub const STRANGER: u64 = 2_000_000;
+
+/// A connection over which nothing came for so many times as long as it takes a peer to count as absent is closed.
+pub const SILENCES: u64 = 4;

@@ -1,0 +1,257 @@
+//! The connections over which nodes speak, by the places of their lines, and what is told of them.
+
+ghost use Rattle.std.specs.Prelude.{◌≡◌, ◌<◌, ◌++◌, ◌∷◌, [], IfOk, IfSome, Some};
+ghost use Rattle.node_wires.specs.Passages.{Began};
+ghost use Rattle.node_peers.specs.Lines.{line_at};
+ghost use Rattle.node_peers.specs.Hearing.{Fits, fits_prop, IsTold, AreTold, are_told_prop, IsFresh};
+
+use crate::limits::{BACKLOG, LINKS};
+use crate::link::{Link, Written, line_at};
+use crate::links::{
+    begin_at, clear, greet_at, next_at, no_links, put, read_at, refuse_at, write_at,
+};
+use crate::notice::Notice;
+use crate::saying::Saying;
+use node_links::{LinkFault, Met, Outbox, Own, PlainConnection, Question, answered_in};
+use node_wires::limits::NODES;
+use node_wires::{Line, Passages, Wire};
+use peer_codes::{Beat, Hello, Life};
+use std::alloc::{AllocError, Global};
+use std::collections::VecDeque;
+
+/// The connections over which nodes speak, by the places of their lines, and what waits to be told of them.
+#[derive(Drop)]
+pub(crate) struct Lines {
+    alloc: Global,
+    pub(crate) own: Own,
+    links: Vec<Option<Link>>,
+    notices: VecDeque<Notice>,
+    /// What passed over these lines, for clauses alone.
+    passed: Passages,
+    ghost fits: { Fits own passed.items links.items } by { fits_prop own passed.items links.items },
+    ghost told: { AreTold own passed.items notices.items } by { are_told_prop own passed.items notices.items },
+}
+
+/// What came over a connection.
+#[derive(Drop)]
+pub(crate) enum Came {
+    /// The other's Hello.
+    Hello(Hello),
+    /// A frame of this peer, which waits to be told, and what it answers.
+    Frame {
+        from: u8,
+        answered: Option<Question>,
+    },
+    /// How this peer is.
+    Beat {
+        from: u8,
+        beat: Beat,
+    },
+    /// Something over a connection by which no peer is there any more.
+    Nothing,
+}
+
+impl Lines {
+    ghost use Rattle.node_peers.specs.Growing.{Grew, Stays};
+
+    /// No connection is there, and nothing passed.
+    pub(crate) fn new(alloc: Global, own: Own) -> Result<Lines, AllocError>
+        ensures own { IfOk result (λ lines. lines.own ≡ own) }
+        ensures passed { IfOk result (λ lines. lines.passed.items ≡ []) }
+    {
+        let links = no_links(alloc)?;
+        let notices = VecDeque::new(alloc);
+        let passed = Passages::new();
+        Ok(Lines {
+            alloc,
+            own,
+            links,
+            notices,
+            passed,
+        })
+    }
+
+    /// What is told next. A frame is one that came over a line, behind the Hello of that node.
+    pub(crate) fn pop(&mut self) -> Option<Notice>
+        ensures stays { Stays self.old self.new }
+        ensures told { IfSome result (λ notice. IsTold self.old.own self.old.passed.items notice) }
+    {
+        self.notices.pop_front()
+    }
+
+    /// Whether so much waits to be told that nothing more is read.
+    pub(crate) fn is_full(&self) -> bool {
+        self.notices.len() >= BACKLOG
+    }
+
+    /// Whether anything waits to be told, or may be there to be read.
+    pub(crate) fn has_more(&self) -> bool {
+        if !self.notices.is_empty() {
+            return true;
+        }
+        for link in &self.links {
+            if let Some(link) = link {
+                if link.has_more {
+                    return true;
+                }
+            }
+        }
+        false
+    }
+
+    /// Puts a notice behind the others. False without memory: then it is lost.
+    #[tactic(auto, using(crate::proofs::Fitting::one_told))]
+    fn note(&mut self, notice: Notice) -> bool
+        requires { IsTold self.old.own self.old.passed.items notice }
+        ensures { Stays self.old self.new }
+    {
+        self.notices.push_back(notice).is_ok()
+    }
+
+    /// Tells that a peer is there. False without memory.
+    pub(crate) fn note_joined(&mut self, peer: u8, life: Option<Life>) -> bool
+        ensures { Stays self.old self.new }
+    {
+        self.note(Notice::Joined { peer, life })
+    }
+
+    /// Tells that a peer is gone.
+    pub(crate) fn note_gone(&mut self, peer: u8)
+        ensures { Stays self.old self.new }
+    {
+        let _ = self.note(Notice::Gone { peer });
+    }
+
+    /// Tells by which fault a connection to a peer is closed.
+    pub(crate) fn note_refused(&mut self, peer: u8, fault: LinkFault)
+        ensures { Stays self.old self.new }
+    {
+        let _ = self.note(Notice::Refused { peer, fault });
+    }
+
+    /// Tells how many callers were refused.
+    pub(crate) fn note_strangers(&mut self, count: u32, fault: LinkFault)
+        ensures { Stays self.old self.new }
+    {
+        let _ = self.note(Notice::Strangers { count, fault });
+    }
+
+    /// A connection began at a place.
+    #[tactic(auto, using(crate::proofs::Fitting::are_told_on))]
+    fn begin(&mut self, place: usize, line: Line, link: Link)
+        requires line { line ≡ line_at place }
+        requires fresh { IsFresh (Some link) }
+        ensures own { self.new.own ≡ self.old.own }
+        ensures passed { self.new.passed.items ≡ self.old.passed.items ++ Began line ∷ [] }
+    {
+        self.passed.began(line);
+        put(&mut self.links, place, link);
+    }
+
+    /// Takes in the next one who dialled, if there is one.
+    #[tactic(auto, using(crate::proofs::Adding::one_added, crate::proofs::Growing::stayed, crate::proofs::Fitting::caller_line))]
+    pub(crate) fn accept<W: Wire>(&mut self, wire: &mut W, now: u64) -> bool
+        ensures { Grew self.old self.new (W.passed wire.old) (W.passed wire.new) }
+    {
+        let Some(number) = wire.accept() else {
+            return false;
+        };
+        let place = NODES + number as usize;
+        let link = Link::new(PlainConnection::listen(self.alloc), None, now);
+        self.begin(place, Line::Caller(number), link);
+        true
+    }
+
+    /// Dials a peer, to which this is said first. False where that failed.
+    #[tactic(auto, using(crate::proofs::Adding::one_added, crate::proofs::Growing::stayed, crate::proofs::Fitting::peer_line))]
+    pub(crate) fn dial<W: Wire>(&mut self, wire: &mut W, number: u8, own: Hello, now: u64) -> bool
+        ensures { Grew self.old self.new (W.passed wire.old) (W.passed wire.new) }
+    {
+        let place = number as usize;
+        if place >= NODES || wire.dial(number).is_err() {
+            return false;
+        }
+        let link = Link::new(PlainConnection::call(self.alloc, own), Some(number), now);
+        self.begin(place, Line::Peer(number), link);
+        true
+    }
+
+    /// Reads what came over the line at a place.
+    #[tactic(auto, using(crate::proofs::Growing::stayed, crate::proofs::Fitting::are_told_through))]
+    pub(crate) fn read<W: Wire>(&mut self, wire: &mut W, place: usize)
+        requires { place < LINKS }
+        ensures { Grew self.old self.new (W.passed wire.old) (W.passed wire.new) }
+    {
+        read_at(&mut self.links, &mut self.passed, wire, place);
+    }
+
+    /// Writes what was begun at a place.
+    #[tactic(auto, using(crate::proofs::Growing::stayed, crate::proofs::Fitting::are_told_through))]
+    pub(crate) fn write<W: Wire>(&mut self, wire: &mut W, place: usize) -> Written
+        requires { place < LINKS }
+        ensures { Grew self.old self.new (W.passed wire.old) (W.passed wire.new) }
+    {
+        write_at(&mut self.links, &mut self.passed, wire, place)
+    }
+
+    /// What the connection at a place says next, or the fault that closed it. A frame waits to be told from then on; without
+    /// memory it is lost, as one on the way may be.
+    #[tactic(auto, using(crate::proofs::Fitting::told_now))]
+    pub(crate) fn next(&mut self, place: usize) -> Option<Result<Came, LinkFault>>
+        ensures { Stays self.old self.new }
+    {
+        match next_at(&mut self.links, place) {
+            Saying::Waits => None,
+            Saying::Fault(fault) => Some(Err(fault)),
+            Saying::Hello(hello) => Some(Ok(Came::Hello(hello))),
+            Saying::Frame { from, frame } => {
+                let answered = answered_in(frame.bytes.as_slice());
+                let _ = self.note(Notice::Frame { from, frame });
+                Some(Ok(Came::Frame { from, answered }))
+            }
+            Saying::Beat { from, beat } => Some(Ok(Came::Beat { from, beat })),
+            Saying::Nothing => Some(Ok(Came::Nothing)),
+        }
+    }
+
+    /// Judges the Hello that came over the line at a place, and answers it where this side was dialled. It says whether the
+    /// connection is open now; not where it has ended.
+    pub(crate) fn greet(&mut self, place: usize, met: &[Met], from: u8, answer: Hello) -> bool
+        ensures { Stays self.old self.new }
+    {
+        let own = self.own;
+        greet_at(&mut self.links, place, &own, met, from, answer)
+    }
+
+    /// Begins the next record at a place, of what waits for the peer that is there, if one is.
+    pub(crate) fn say(&mut self, place: usize, waiting: &mut Outbox)
+        ensures { Stays self.old self.new }
+    {
+        begin_at(&mut self.links, place, waiting);
+    }
+
+    /// Closes the connection at a place.
+    #[tactic(auto, using(crate::proofs::Adding::one_added, crate::proofs::Growing::stayed))]
+    pub(crate) fn close<W: Wire>(&mut self, wire: &mut W, place: usize)
+        requires { place < LINKS }
+        ensures { Grew self.old self.new (W.passed wire.old) (W.passed wire.new) }
+    {
+        clear(&mut self.links, place);
+        wire.close(line_at(place));
+    }
+
+    /// The fault at a place is told from now on. False where it was already, or no connection is there.
+    pub(crate) fn refuse(&mut self, place: usize) -> bool
+        ensures { Stays self.old self.new }
+    {
+        refuse_at(&mut self.links, place)
+    }
+
+    /// The connection at a place.
+    pub(crate) fn at(&self, place: usize) -> Option<&Link> {
+        match self.links.get(place) {
+            Some(Some(link)) => Some(link),
+            _ => None,
+        }
+    }
+}

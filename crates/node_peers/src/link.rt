@@ -1,0 +1,237 @@
+//! The connection of a line.
+
+ghost use Rattle.std.specs.Prelude.{◌≡◌, ◌<◌, ℕ, List, IfSome, Some};
+ghost use Rattle.node_peers.specs.Lines.{line_at};
+ghost use Rattle.node_links.specs.Connections.{peer_in};
+ghost use Rattle.node_peers.specs.Adding.{Grows};
+ghost use Rattle.node_peers.specs.Hearing.{IsOf, KeepsOn, Moves, TakesIn, SaysFrame};
+
+use crate::limits::{LINKS, PIECE, PIECES};
+use node_links::{Heard, LinkFault, Met, Outbox, Own, PlainConnection};
+use node_wires::limits::NODES;
+use node_wires::{Halt, Line, Passages, Wire};
+use peer_codes::Hello;
+
+/// The connection of a line.
+#[derive(Drop)]
+pub(crate) struct Link {
+    pub(crate) connection: PlainConnection,
+    /// The peer that was dialled; none where it dialled.
+    pub(crate) dialled: Option<u8>,
+    /// When it began.
+    pub(crate) began: u64,
+    /// The node that its Hello said, once that was judged, whether it was taken or not.
+    pub(crate) said: Option<u8>,
+    /// More may have come than was read.
+    pub(crate) has_more: bool,
+    /// Nothing more comes over it.
+    pub(crate) has_ended: bool,
+    /// A piece that came was lost for want of memory, so nothing more is heard of it.
+    pub(crate) is_lost: bool,
+    /// The fault that closed it was told.
+    pub(crate) is_refused: bool,
+}
+
+/// What became of bytes that were to be written.
+#[derive(Clone, Copy, Debug, PartialEq, Eq)]
+pub(crate) enum Written {
+    /// Some are written.
+    Some,
+    /// There were none.
+    Nothing,
+    /// There is no room for more.
+    Later,
+    /// The connection ended.
+    Ended,
+}
+
+impl Link {
+    /// A connection that begins.
+    pub(crate) fn new(connection: PlainConnection, dialled: Option<u8>, began: u64) -> Link
+        ensures { result.connection ≡ connection }
+    {
+        Link {
+            connection,
+            dialled,
+            began,
+            said: None,
+            has_more: false,
+            has_ended: false,
+            is_lost: false,
+            is_refused: false,
+        }
+    }
+
+    /// Who is told to be at the other end where a fault closes the connection: whom this node dialled, who was there, or
+    /// who said that he speaks, where his Hello was refused for what he is and not for who.
+    pub(crate) fn known(&self, joined: Option<u8>, fault: LinkFault) -> Option<u8> {
+        if self.dialled.is_some() {
+            return self.dialled;
+        }
+        if joined.is_some() {
+            return joined;
+        }
+        match fault {
+            LinkFault::WentBack(_) => self.said,
+            LinkFault::AlreadyHere => self.said,
+            _ => None,
+        }
+    }
+}
+
+/// The line at a place among those over which nodes speak.
+pub(crate) fn line_at(place: usize) -> Line
+    requires { place < LINKS }
+    ensures { result ≡ line_at place }
+{
+    if place < NODES {
+        Line::Peer(place as u8)
+    } else {
+        Line::Caller((place - NODES) as u8)
+    }
+}
+
+/// Takes a piece of what came. Without memory for it nothing more is heard.
+fn take_in(link: &mut Link, piece: &[u8])
+    ensures { TakesIn link.old link.new piece.now }
+{
+    if link.connection.take(piece).is_ok() {
+        return;
+    }
+    link.is_lost = true;
+    link.has_ended = true;
+}
+
+/// Reads the next piece that came over a line. It says whether there may be more.
+#[tactic(auto, using(crate::proofs::Adding::line_of_peers, crate::proofs::Adding::nothing_added, crate::proofs::Adding::one_added, crate::proofs::Fitting::moves_alike, crate::proofs::Fitting::moves_taken))]
+fn read_piece<W: Wire>(
+    link: &mut Link,
+    passed: &mut Passages,
+    wire: &mut W,
+    place: usize,
+    piece: &mut [u8],
+) -> bool
+    requires { place < LINKS }
+    ensures grows { Grows passed.old passed.new (W.passed wire.old) (W.passed wire.new) }
+    ensures moves { Moves place (Some link.old) (Some link.new) passed.old.items passed.new.items }
+{
+    match wire.read(line_at(place), piece) {
+        Ok(count) => {
+            passed.came(line_at(place), &piece[..count]);
+            take_in(link, &piece[..count]);
+            !link.has_ended
+        }
+        Err(Halt::Later) => false,
+        Err(Halt::Ended) => {
+            link.has_ended = true;
+            false
+        }
+    }
+}
+
+/// Reads what came over the line at a place, so many pieces at most. Nothing is read of one that a fault closed.
+#[tactic(auto, using(crate::proofs::Adding::nothing_added, crate::proofs::Adding::added_on, crate::proofs::Fitting::moves_alike, crate::proofs::Fitting::moves_on))]
+pub(crate) fn read<W: Wire>(link: &mut Link, passed: &mut Passages, wire: &mut W, place: usize)
+    requires { place < LINKS }
+    ensures grows { Grows passed.old passed.new (W.passed wire.old) (W.passed wire.new) }
+    ensures moves { Moves place (Some link.old) (Some link.new) passed.old.items passed.new.items }
+{
+    link.has_more = false;
+    if link.has_ended || link.connection.fault().is_some() {
+        return;
+    }
+    let mut piece = [0; PIECE];
+    for _ in 0..PIECES {
+        if !read_piece(link, passed, wire, place, &mut piece) {
+            return;
+        }
+    }
+    link.has_more = true;
+}
+
+/// What became of bytes of which so many were written.
+fn what_of(count: usize) -> Written {
+    if count == 0 {
+        Written::Later
+    } else {
+        Written::Some
+    }
+}
+
+/// Writes what was begun over the line at a place, as much of it as there is room for.
+#[tactic(auto, using(crate::proofs::Adding::line_of_peers, crate::proofs::Adding::nothing_added, crate::proofs::Adding::one_added, crate::proofs::Fitting::moves_alike, crate::proofs::Fitting::moves_written))]
+pub(crate) fn write<W: Wire>(
+    link: &mut Link,
+    passed: &mut Passages,
+    wire: &mut W,
+    place: usize,
+) -> Written
+    requires { place < LINKS }
+    ensures grows { Grows passed.old passed.new (W.passed wire.old) (W.passed wire.new) }
+    ensures moves { Moves place (Some link.old) (Some link.new) passed.old.items passed.new.items }
+{
+    let bytes = link.connection.unwritten();
+    if bytes.is_empty() {
+        return Written::Nothing;
+    }
+    match wire.write(line_at(place), bytes) {
+        Ok(count) => {
+            passed.wrote(line_at(place), &bytes[..count]);
+            link.connection.wrote(count);
+            what_of(count)
+        }
+        Err(Halt::Later) => Written::Later,
+        Err(Halt::Ended) => Written::Ended,
+    }
+}
+
+/// What a connection says next, or the fault that closed it; nothing of one of which a piece was lost.
+#[tactic(auto, using(crate::proofs::Fitting::keeps_alike, crate::proofs::Fitting::keeps_next, crate::proofs::Fitting::says_next))]
+pub(crate) fn next_of(link: &mut Link) -> Option<Result<Heard, LinkFault>>
+    ensures keeps { KeepsOn (Some link.old) (Some link.new) }
+    ensures says { SaysFrame result link.old link.new }
+{
+    if link.is_lost {
+        return None;
+    }
+    link.connection.next()
+}
+
+/// Judges the Hello of this node that came, and answers it where this side was dialled. It says whether the connection is
+/// open now; not where it has ended.
+#[tactic(auto, using(crate::proofs::Fitting::keeps_settled))]
+pub(crate) fn greet(link: &mut Link, own: &Own, met: &[Met], from: u8, answer: Hello) -> bool
+    ensures { (came : List ℕ) → IsOf own.now came (Some link.old) → IsOf own.now came (Some link.new) }
+{
+    link.said = Some(from);
+    link.connection.settle(own, link.dialled, met);
+    if link.dialled.is_none() {
+        link.connection.answer(answer);
+    }
+    link.connection.peer().is_some() && !link.has_ended
+}
+
+/// The node at the other end of a connection that is open.
+pub(crate) fn peer_of(link: &Link) -> Option<u8>
+    ensures { result ≡ peer_in link.now.connection.phase }
+{
+    link.connection.peer()
+}
+
+/// Begins on a connection what waits next.
+#[tactic(auto, using(crate::proofs::Fitting::keeps_alike))]
+pub(crate) fn begin(link: &mut Link, waiting: &mut Outbox)
+    ensures { KeepsOn (Some link.old) (Some link.new) }
+{
+    link.connection.begin(waiting);
+}
+
+/// The fault that closed a connection is told from now on. False where it was already.
+#[tactic(auto, using(crate::proofs::Fitting::keeps_alike))]
+pub(crate) fn refuse(link: &mut Link) -> bool
+    ensures { KeepsOn (Some link.old) (Some link.new) }
+{
+    let is_new = !link.is_refused;
+    link.is_refused = true;
+    is_new
+}

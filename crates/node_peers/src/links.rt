@@ -1,0 +1,216 @@
+//! The connections of all lines, by their places.
+
+ghost use Rattle.std.specs.Prelude.{◌≡◌, ◌<◌, ◌≤◌, ℕ, List, ◌∷◌, ◌++◌, [], length, IfOk};
+ghost use Rattle.node_wires.specs.Passages.{Passage, Began};
+ghost use Rattle.node_links.specs.declared.own.Own.{Own};
+ghost use Rattle.node_peers.specs.Lines.{line_at};
+ghost use Rattle.node_peers.specs.Adding.{Grows};
+ghost use Rattle.node_peers.specs.Hearing.{IsOf, FitsBy, IsFresh, KeepsOn, FitsOn, Moves, FitsThrough};
+ghost use Rattle.node_peers.specs.Saying.{SaidBy, SaidAt};
+
+use crate::limits::LINKS;
+use crate::link::{Link, Written, begin, greet, next_of, peer_of, read, refuse, write};
+use crate::saying::{Saying, saying_of};
+use node_links::{Met, Outbox, Own};
+use node_wires::{Passages, Wire};
+use peer_codes::Hello;
+use std::alloc::{AllocError, Global};
+
+/// Of each line none.
+pub(crate) fn no_links(alloc: Global) -> Result<Vec<Option<Link>>, AllocError>
+    ensures { IfOk result (λ links. (own : Own) (came : ℕ → List ℕ) → FitsBy own came links.items) }
+{
+    let mut links = Vec::with_capacity(alloc, LINKS)?;
+    for _ in 0..LINKS {
+        links.push(None)?;
+    }
+    Ok(links)
+}
+
+/// Puts a connection that begins in the place of its line, if there is such a place.
+#[tactic(auto, using(crate::proofs::Fitting::fits_begun, crate::proofs::Fitting::fits_beside))]
+pub(crate) fn put(links: &mut Vec<Option<Link>>, place: usize, link: Link)
+    requires { IsFresh (Some link) }
+    ensures { (passed_old passed_new : List Passage) → passed_new ≡ passed_old ++ Began (line_at place) ∷ [] → FitsThrough passed_old passed_new links.old.items links.new.items }
+{
+    if place < links.len() {
+        links[place] = Some(link);
+    }
+}
+
+/// No connection is at a place any more.
+#[tactic(auto, using(crate::proofs::Fitting::fits_closed))]
+pub(crate) fn clear(links: &mut Vec<Option<Link>>, place: usize)
+    ensures { FitsOn links.old.items links.new.items }
+{
+    if place < links.len() {
+        links[place] = None;
+    }
+}
+
+/// Reads what came over the line at a place, where a connection is there.
+#[tactic(auto, using(crate::proofs::Adding::nothing_added, crate::proofs::Fitting::moves_same))]
+fn read_in<W: Wire>(slot: &mut Option<Link>, passed: &mut Passages, wire: &mut W, place: usize)
+    requires { place < LINKS }
+    ensures grows { Grows passed.old passed.new (W.passed wire.old) (W.passed wire.new) }
+    ensures moves { Moves place slot.old slot.new passed.old.items passed.new.items }
+{
+    match slot {
+        Some(link) => read(link, passed, wire, place),
+        None => (),
+    }
+}
+
+/// Reads what came over the line at a place.
+#[tactic(auto, using(crate::proofs::Adding::nothing_added, crate::proofs::Fitting::fits_moved))]
+pub(crate) fn read_at<W: Wire>(
+    links: &mut Vec<Option<Link>>,
+    passed: &mut Passages,
+    wire: &mut W,
+    place: usize,
+)
+    requires { place < LINKS }
+    ensures grows { Grows passed.old passed.new (W.passed wire.old) (W.passed wire.new) }
+    ensures fits { FitsThrough passed.old.items passed.new.items links.old.items links.new.items }
+{
+    match links.get_mut(place) {
+        Some(slot) => read_in(slot, passed, wire, place),
+        None => (),
+    }
+}
+
+/// Writes what was begun at a place, where a connection is there.
+#[tactic(auto, using(crate::proofs::Adding::nothing_added, crate::proofs::Fitting::moves_same))]
+fn write_in<W: Wire>(
+    slot: &mut Option<Link>,
+    passed: &mut Passages,
+    wire: &mut W,
+    place: usize,
+) -> Written
+    requires { place < LINKS }
+    ensures grows { Grows passed.old passed.new (W.passed wire.old) (W.passed wire.new) }
+    ensures moves { Moves place slot.old slot.new passed.old.items passed.new.items }
+{
+    match slot {
+        Some(link) => write(link, passed, wire, place),
+        None => Written::Later,
+    }
+}
+
+/// Writes what was begun at a place.
+#[tactic(auto, using(crate::proofs::Adding::nothing_added, crate::proofs::Fitting::fits_moved))]
+pub(crate) fn write_at<W: Wire>(
+    links: &mut Vec<Option<Link>>,
+    passed: &mut Passages,
+    wire: &mut W,
+    place: usize,
+) -> Written
+    requires { place < LINKS }
+    ensures grows { Grows passed.old passed.new (W.passed wire.old) (W.passed wire.new) }
+    ensures fits { FitsThrough passed.old.items passed.new.items links.old.items links.new.items }
+{
+    match links.get_mut(place) {
+        Some(slot) => write_in(slot, passed, wire, place),
+        None => Written::Later,
+    }
+}
+
+/// What the connection of a line says next.
+#[tactic(auto, using(crate::proofs::Fitting::said_of))]
+fn next_in(slot: &mut Option<Link>) -> Saying
+    ensures keeps { KeepsOn slot.old slot.new }
+    ensures says { SaidBy result slot.old }
+{
+    match slot {
+        Some(link) => {
+            let heard = next_of(link);
+            let from = peer_of(link);
+            saying_of(heard, from)
+        }
+        None => Saying::Waits,
+    }
+}
+
+/// What the connection at a place says next.
+#[tactic(auto, using(crate::proofs::Fitting::fits_kept, crate::proofs::Fitting::said_at))]
+pub(crate) fn next_at(links: &mut Vec<Option<Link>>, place: usize) -> Saying
+    ensures fits { FitsOn links.old.items links.new.items }
+    ensures says { SaidAt result place links.old.items }
+{
+    match links.get_mut(place) {
+        Some(slot) => next_in(slot),
+        None => Saying::Waits,
+    }
+}
+
+/// Judges the Hello that came over a line.
+fn greet_in(slot: &mut Option<Link>, own: &Own, met: &[Met], from: u8, answer: Hello) -> bool
+    ensures { (came : List ℕ) → IsOf own.now came slot.old → IsOf own.now came slot.new }
+{
+    match slot {
+        Some(link) => greet(link, own, met, from, answer),
+        None => false,
+    }
+}
+
+/// Judges the Hello that came over the line at a place.
+#[tactic(auto, using(crate::proofs::Fitting::fits_greeted))]
+pub(crate) fn greet_at(
+    links: &mut Vec<Option<Link>>,
+    place: usize,
+    own: &Own,
+    met: &[Met],
+    from: u8,
+    answer: Hello,
+) -> bool
+    ensures { (came : ℕ → List ℕ) → FitsBy own.now came links.old.items → FitsBy own.now came links.new.items }
+{
+    match links.get_mut(place) {
+        Some(slot) => greet_in(slot, own, met, from, answer),
+        None => false,
+    }
+}
+
+/// Begins the next record of a line.
+#[tactic(auto, using(crate::proofs::Fitting::keeps_alike))]
+fn begin_in(slot: &mut Option<Link>, waiting: &mut Outbox)
+    ensures { KeepsOn slot.old slot.new }
+{
+    match slot {
+        Some(link) => begin(link, waiting),
+        None => (),
+    }
+}
+
+/// Begins the next record at a place.
+#[tactic(auto, using(crate::proofs::Fitting::fits_kept))]
+pub(crate) fn begin_at(links: &mut Vec<Option<Link>>, place: usize, waiting: &mut Outbox)
+    ensures { FitsOn links.old.items links.new.items }
+{
+    match links.get_mut(place) {
+        Some(slot) => begin_in(slot, waiting),
+        None => (),
+    }
+}
+
+/// The fault of a line is told from now on. False where it was already, or no connection is there.
+#[tactic(auto, using(crate::proofs::Fitting::keeps_alike))]
+fn refuse_in(slot: &mut Option<Link>) -> bool
+    ensures { KeepsOn slot.old slot.new }
+{
+    match slot {
+        Some(link) => refuse(link),
+        None => false,
+    }
+}
+
+/// The fault at a place is told from now on.
+#[tactic(auto, using(crate::proofs::Fitting::fits_kept))]
+pub(crate) fn refuse_at(links: &mut Vec<Option<Link>>, place: usize) -> bool
+    ensures { FitsOn links.old.items links.new.items }
+{
+    match links.get_mut(place) {
+        Some(slot) => refuse_in(slot),
+        None => false,
+    }
+}

@@ -1,0 +1,19 @@
+use node_links::LinkFault;
+use peer_codes::{Frame, Life};
+
+/// What a process is told of its peers.
+#[derive(Drop)]
+pub enum Notice {
+    /// A frame came of a peer.
+    Frame { from: u8, frame: Frame },
+    /// A connection to a peer is open. Its store has this life, where none was kept of it: it is to be kept.
+    Joined { peer: u8, life: Option<Life> },
+    /// The connection to a peer ended.
+    Gone { peer: u8 },
+    /// A connection to a peer is closed by a fault: to one that was dialled, to one that was there, or to one whose store,
+    /// or this node's, was made anew.
+    Refused { peer: u8, fault: LinkFault },
+    /// So many callers who aren't known were refused since the last such notice, the last of them by this fault; there is
+    /// one a second at most.
+    Strangers { count: u32, fault: LinkFault },
+}

@@ -1,0 +1,4 @@
+pub mod Lists
+pub mod Writing
+pub mod Seating
+mod Examples

@@ -1,0 +1,4 @@
+pub mod Lines
+pub mod Passing
+pub mod Writing
+pub mod Seating

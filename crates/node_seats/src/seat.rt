@@ -1,0 +1,160 @@
+//! One seat.
+
+ghost use Rattle.std.specs.Prelude.{◌≡◌, ◌++◌, [], false, IfSome, length, OnOk, OnErr};
+ghost use Rattle.node_seats.specs.declared.seat_notice.SeatNotice.TheVariants as notices;
+ghost use Rattle.node_seats.specs.Lines.{line_of};
+ghost use Rattle.node_seats.specs.Passing.{Passed, seat_of, Leaves};
+ghost use Rattle.node_seats.specs.Writing.{Writes};
+
+use crate::limits::PIECE;
+use crate::seat_notice::SeatNotice;
+use byte_queue::ByteQueue;
+use node_wires::{Halt, Line, Wire};
+use std::alloc::{AllocError, Global};
+
+/// A seat: whether a bot sits there, and what waits for it. Its number is given to calls that have a wire.
+#[derive(Drop)]
+pub(crate) struct Seat {
+    pub(crate) sits: bool,
+    waiting: ByteQueue,
+}
+
+/// Where nothing was written the connection goes on, and no more is to be written now.
+fn unless_written(count: usize) -> Option<bool> {
+    if count == 0 { Some(true) } else { None }
+}
+
+impl Seat {
+    /// Nobody sits there. It takes no memory.
+    pub(crate) fn new(alloc: Global) -> Seat
+        ensures sits { result.sits ≡ false }
+        ensures waiting { result.waiting.waiting ≡ [] }
+    {
+        Seat {
+            sits: false,
+            waiting: ByteQueue::new(alloc),
+        }
+    }
+
+    /// Puts a line with CR LF behind what waits. An `Err`, for want of memory, changes nothing.
+    pub(crate) fn tell(&mut self, line: &[u8]) -> Result<(), AllocError>
+        ensures told { OnOk result (self.new.waiting.waiting ≡ self.old.waiting.waiting ++ line_of line.now) }
+        ensures failed { OnErr result (self.new.waiting.waiting ≡ self.old.waiting.waiting) }
+    {
+        self.waiting.reserve(line.len().saturating_add(2))?;
+        self.waiting.push(line)?;
+        self.waiting.push(b"\r\n")?;
+        Ok(())
+    }
+
+    /// How many bytes wait.
+    pub(crate) fn backlog(&self) -> usize
+        ensures { result ≡ length self.now.waiting.waiting }
+    {
+        self.waiting.waiting().len()
+    }
+
+    /// Takes in a bot, where nobody sits there and one came.
+    #[tactic(auto, using(crate::proofs::Lists::nothing_more, crate::proofs::Lists::nothing_passed))]
+    fn take_in<W: Wire>(&mut self, wire: &mut W, number: u8) -> Option<SeatNotice>
+        ensures passed { Passed result (W.passed wire.old) (W.passed wire.new) }
+        ensures seat { IfSome result (λ notice. seat_of notice ≡ number) }
+        ensures waiting { Leaves result self.old.waiting.waiting self.new.waiting.waiting }
+    {
+        if !wire.accept_seat(number) {
+            return None;
+        }
+        self.sits = true;
+        self.waiting.clear();
+        Some(SeatNotice::Came { seat: number })
+    }
+
+    /// Lets go of who sits there.
+    #[tactic(auto, using(crate::proofs::Lists::nothing_more, crate::proofs::Lists::nothing_passed))]
+    pub(crate) fn leave<W: Wire>(&mut self, wire: &mut W, number: u8) -> SeatNotice
+        ensures passed { W.passed wire.new ≡ W.passed wire.old }
+        ensures gone { result ≡ notices.Gone number }
+        ensures waiting { self.new.waiting.waiting ≡ [] }
+    {
+        self.sits = false;
+        self.waiting.clear();
+        wire.close(Line::Seat(number));
+        SeatNotice::Gone { seat: number }
+    }
+
+    /// Takes the next piece of who sits there. Without memory for it nothing is read.
+    #[tactic(auto, using(crate::proofs::Lists::nothing_more, crate::proofs::Lists::nothing_passed))]
+    fn take_piece<W: Wire>(&mut self, alloc: Global, wire: &mut W, number: u8) -> Option<SeatNotice>
+        ensures passed { Passed result (W.passed wire.old) (W.passed wire.new) }
+        ensures seat { IfSome result (λ notice. seat_of notice ≡ number) }
+        ensures waiting { Leaves result self.old.waiting.waiting self.new.waiting.waiting }
+    {
+        let Ok(mut bytes) = Vec::from_slice(alloc, &[0; PIECE]) else {
+            return None;
+        };
+        match wire.read(Line::Seat(number), &mut bytes) {
+            Ok(count) => {
+                bytes.truncate(count);
+                Some(SeatNotice::Piece {
+                    seat: number,
+                    bytes,
+                })
+            }
+            Err(Halt::Later) => None,
+            Err(Halt::Ended) => Some(self.leave(wire, number)),
+        }
+    }
+
+    /// What came of the seat next, if anything did.
+    #[tactic(auto, using(crate::proofs::Lists::nothing_more, crate::proofs::Lists::nothing_passed))]
+    pub(crate) fn next<W: Wire>(
+        &mut self,
+        alloc: Global,
+        wire: &mut W,
+        number: u8,
+    ) -> Option<SeatNotice>
+        ensures passed { Passed result (W.passed wire.old) (W.passed wire.new) }
+        ensures seat { IfSome result (λ notice. seat_of notice ≡ number) }
+        ensures waiting { Leaves result self.old.waiting.waiting self.new.waiting.waiting }
+    {
+        if self.sits {
+            self.take_piece(alloc, wire, number)
+        } else {
+            self.take_in(wire, number)
+        }
+    }
+
+    /// Writes what there is room for of what waits. `None` where more may be written; else whether the connection goes on.
+    #[tactic(auto, using(crate::proofs::Writing::nothing_written, crate::proofs::Writing::some_written))]
+    fn write_some<W: Wire>(&mut self, wire: &mut W, number: u8) -> Option<bool>
+        ensures wrote { Writes number self.old.waiting.waiting self.new.waiting.waiting (W.passed wire.old) (W.passed wire.new) }
+        ensures sits { self.new.sits ≡ self.old.sits }
+    {
+        let bytes = self.waiting.waiting();
+        if bytes.is_empty() {
+            return Some(true);
+        }
+        match wire.write(Line::Seat(number), bytes) {
+            Ok(count) => {
+                self.waiting.skip(count);
+                unless_written(count)
+            }
+            Err(Halt::Later) => Some(true),
+            Err(Halt::Ended) => Some(false),
+        }
+    }
+
+    /// Writes what waits. False where the connection ended.
+    #[tactic(auto, using(crate::proofs::Writing::nothing_written, crate::proofs::Writing::written_on))]
+    pub(crate) fn flush<W: Wire>(&mut self, wire: &mut W, number: u8) -> bool
+        ensures wrote { Writes number self.old.waiting.waiting self.new.waiting.waiting (W.passed wire.old) (W.passed wire.new) }
+        ensures sits { self.new.sits ≡ self.old.sits }
+    {
+        for _ in 0..u64::MAX {
+            if let Some(goes_on) = self.write_some(wire, number) {
+                return goes_on;
+            }
+        }
+        true
+    }
+}

@@ -1,0 +1,35 @@
+-- What passed over wires, on values.
+use Rattle.std.proofs.Common.{◌≡◌, ℕ, refl, List, [], ◌∷◌, ◌++◌}
+use Rattle.node_wires.specs.declared.line.Line.TheVariants.{Peer, Caller, Seat}
+use Rattle.node_wires.specs.Passages.{Passage, Began, Came, Wrote, Logged, came_over, wrote_over, seats_in, logged_in}
+
+-- peer 1 is dialled, sends two bytes and is sent one; somebody calls and sends one; the log gets two texts; peer 1 is
+-- dialled once more, and sends another
+abbrev some : List Passage
+some =
+    Began (Peer 1) ∷ Came (Peer 1) (65 ∷ []) ∷ Began (Caller 1) ∷ Wrote (Peer 1) (70 ∷ []) ∷ Came (Caller 1) (71 ∷ []) ∷ Logged (80 ∷ [])
+    ∷ Came (Peer 1) (66 ∷ []) ∷ Logged (81 ∷ []) ∷ []
+
+both_pieces : came_over some (Peer 1) ≡ 65 ∷ 66 ∷ []
+both_pieces = refl
+
+-- the caller at place 1 isn't peer 1
+caller_apart : came_over some (Caller 1) ≡ 71 ∷ []
+caller_apart = refl
+
+one_written : wrote_over some (Peer 1) ≡ 70 ∷ []
+one_written = refl
+
+nothing_of_a_seat : came_over some (Seat 1) ≡ []
+nothing_of_a_seat = refl
+
+-- what came over an earlier connection is no part of what the next one brings
+begun_anew : came_over (Came (Peer 1) (65 ∷ []) ∷ Began (Peer 1) ∷ Came (Peer 1) (67 ∷ []) ∷ []) (Peer 1) ≡ 67 ∷ []
+begun_anew = refl
+
+-- of bots: one came to seat 2 and sent a byte; what peers and callers send is none of it
+of_seats : seats_in (Began (Seat 2) ∷ some ++ Came (Seat 2) (67 ∷ []) ∷ Wrote (Seat 2) (68 ∷ []) ∷ []) ≡ Began (Seat 2) ∷ Came (Seat 2) (67 ∷ []) ∷ []
+of_seats = refl
+
+both_texts : logged_in some ≡ 80 ∷ 81 ∷ []
+both_texts = refl

@@ -1,0 +1,4 @@
+pub mod Passages
+pub mod Passing
+pub mod Logs
+pub mod MemoryPassed

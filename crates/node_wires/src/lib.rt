@@ -1,0 +1,33 @@
+//! What the process of a node reaches outside of itself: its peers, the bots of its seats, its log, and the clock.
+//!
+//! `Wire` is the trait; `TcpWire` are sockets over the system's readiness, by one thread that never blocks but in `wait`,
+//! and `MemoryWire` stands for them in tests. A `Line` names a connection by whom it is with.
+//!
+//! The way through it: `now` and `wait`; `dial`, `accept` and `accept_seat` for connections that begin; `read` and `write`
+//! until they answer `Halt::Later`; `close`; `add_to_log`. What stands on the bytes of a line, and who speaks over it, is
+//! `node_links`.
+//!
+//! Nothing is promised of what a wire gives. What passed is kept, in order, for clauses alone (`specs/Passages.antt`):
+//! which connections began, the pieces that came and that were written, and what the log got. It takes no memory
+//! (`Passages`).
+//!
+//! `BindFault` says which port can't be had; `TcpWire::failed` tells which peer or log failed last, and of what kind the
+//! system's error was.
+#![tactic(auto)]
+
+mod bind_fault;
+pub mod limits;
+mod line;
+mod memory_wire;
+mod passages;
+mod pipe;
+mod tcp_wire;
+mod wire;
+mod wired;
+
+pub use bind_fault::{BindFault, Failed};
+pub use line::Line;
+pub use memory_wire::MemoryWire;
+pub use passages::Passages;
+pub use tcp_wire::TcpWire;
+pub use wire::{Halt, Wire, WireFault};

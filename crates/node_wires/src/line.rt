@@ -1,0 +1,37 @@
+ghost use Rattle.std.specs.Prelude.{◌<◌};
+
+use crate::limits::{CALLERS, NODES, SEATS};
+
+/// A connection of a node's process, by whom it is with. A line has one connection at a time, or none.
+#[derive(Clone, Copy, Debug, PartialEq, Eq)]
+pub enum Line {
+    /// With the peer of this number, which this node dialled.
+    Peer(u8),
+    /// With one who dialled this node, by its place among those.
+    Caller(u8),
+    /// With the bot of this seat.
+    Seat(u8),
+}
+
+impl Line {
+    /// The place of a line among all; none of a number that no node, place or seat has.
+    pub(crate) fn place(self) -> Option<usize> {
+        match self {
+            Line::Peer(number) => within(number, NODES, 0),
+            Line::Caller(place) => within(place, CALLERS, NODES),
+            Line::Seat(number) => within(number, SEATS, NODES + CALLERS),
+        }
+    }
+}
+
+/// The place of the one of this number among so many, of which the first stands there.
+fn within(number: u8, count: usize, first: usize) -> Option<usize>
+    requires { first < 1000 }
+{
+    let number = number as usize;
+    if number < count {
+        Some(first + number)
+    } else {
+        None
+    }
+}

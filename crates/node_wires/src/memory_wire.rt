@@ -1,0 +1,308 @@
+//! Wires in memory, of whose calls one may fail.
+
+ghost use Rattle.std.specs.Prelude.{◌≡◌, ◌≤◌, ◌++◌, length, take, IfOk, OnErr};
+ghost use Rattle.node_wires.specs.Passages.{logged_in};
+ghost use Rattle.node_wires.specs.Logs.{IsLogged, logged_prop};
+
+use crate::limits::{CALLERS, LINES};
+use crate::line::Line;
+use crate::passages::Passages;
+use crate::pipe::Pipe;
+use crate::wire::{Halt, Wire, WireFault};
+use std::alloc::{AllocError, Global};
+
+/// Wires in memory, for tests: who holds them puts in what comes, takes out what was written, and says what time it is.
+pub struct MemoryWire {
+    moment: u64,
+    /// Of each line, by its place.
+    pipes: Vec<Pipe>,
+    /// How many have dialled and aren't taken in yet.
+    callers: u8,
+    /// Of which seats somebody waits at the port, a bit each.
+    bots: u16,
+    log: Vec<u8>,
+    /// How many calls pass before the one that fails; none once it has.
+    left: Option<u64>,
+    /// What passed, for clauses alone.
+    passed: Passages,
+    ghost logged: { IsLogged log.items passed.items } by { logged_prop log.items passed.items },
+}
+
+/// By hand, so that letting one go is one call for whoever owns it (docs/ARCHITECTURE.md, Habits).
+impl Drop for MemoryWire {
+    fn drop(self) {
+        let MemoryWire {
+            moment: _,
+            pipes: _,
+            callers: _,
+            bots: _,
+            log: _,
+            left: _,
+            passed: _,
+        } = self;
+    }
+}
+
+/// No line has a connection.
+fn no_pipes(alloc: Global) -> Result<Vec<Pipe>, AllocError> {
+    let mut pipes = Vec::with_capacity(alloc, LINES)?;
+    for _ in 0..LINES {
+        pipes.push(Pipe::new(alloc))?;
+    }
+    Ok(pipes)
+}
+
+/// Counts a call, and says whether it is the one that fails.
+fn count_down(left: &mut Option<u64>) -> bool {
+    match *left {
+        None => false,
+        Some(0) => {
+            *left = None;
+            true
+        }
+        Some(count) => {
+            *left = Some(count - 1);
+            false
+        }
+    }
+}
+
+/// The first place of those who dialled that has no connection.
+fn free_place(pipes: &[Pipe]) -> Option<u8> {
+    for place in 0..CALLERS as u8 {
+        if !is_open(pipes, Line::Caller(place)) {
+            return Some(place);
+        }
+    }
+    None
+}
+
+/// Whether a line has a connection.
+fn is_open(pipes: &[Pipe], line: Line) -> bool {
+    let Some(place) = line.place() else {
+        return false;
+    };
+    match pipes.get(place) {
+        Some(pipe) => pipe.is_open(),
+        None => false,
+    }
+}
+
+/// A connection begins; false of a line that there isn't.
+fn begin(pipes: &mut Vec<Pipe>, line: Line) -> bool {
+    let Some(place) = line.place() else {
+        return false;
+    };
+    match pipes.get_mut(place) {
+        Some(pipe) => {
+            pipe.begin();
+            true
+        }
+        None => false,
+    }
+}
+
+fn read(pipes: &mut Vec<Pipe>, line: Line, piece: &mut [u8]) -> Result<usize, Halt>
+    ensures { IfOk result (λ count. count ≤ length piece.new) }
+{
+    let Some(place) = line.place() else {
+        return Err(Halt::Ended);
+    };
+    match pipes.get_mut(place) {
+        Some(pipe) => pipe.read(piece),
+        None => Err(Halt::Ended),
+    }
+}
+
+fn write(pipes: &mut Vec<Pipe>, line: Line, bytes: &[u8]) -> Result<usize, Halt>
+    ensures { IfOk result (λ count. count ≤ length bytes.now) }
+{
+    let Some(place) = line.place() else {
+        return Err(Halt::Ended);
+    };
+    match pipes.get_mut(place) {
+        Some(pipe) => pipe.write(bytes),
+        None => Err(Halt::Ended),
+    }
+}
+
+fn close(pipes: &mut Vec<Pipe>, line: Line) {
+    if let Some(place) = line.place() {
+        if let Some(pipe) = pipes.get_mut(place) {
+            pipe.close();
+        }
+    }
+}
+
+impl MemoryWire {
+    ghost use Rattle.node_wires.specs.MemoryPassed.{passed_of};
+
+    /// Wires without connections, at moment 0. The call of this number fails, counted from 1; with 0 none does.
+    pub fn new(alloc: Global, call: u64) -> Result<MemoryWire, AllocError> {
+        Ok(MemoryWire {
+            moment: 0,
+            pipes: no_pipes(alloc)?,
+            callers: 0,
+            bots: 0,
+            log: Vec::new(alloc),
+            left: call.checked_sub(1),
+            passed: Passages::new(),
+        })
+    }
+
+    /// It is this moment from now on.
+    pub fn set_now(&mut self, now: u64) {
+        self.moment = now;
+    }
+
+    /// Somebody dials this node.
+    pub fn call(&mut self) {
+        self.callers = self.callers.saturating_add(1);
+    }
+
+    /// A bot comes to the port of a seat.
+    pub fn come_to_seat(&mut self, seat: u8) {
+        if seat < 16 {
+            self.bots |= 1 << seat;
+        }
+    }
+
+    /// Whether a line has a connection.
+    pub fn is_open(&self, line: Line) -> bool {
+        is_open(&self.pipes, line)
+    }
+
+    /// The other side of a line's connection sends these bytes.
+    pub fn come(&mut self, line: Line, bytes: &[u8]) -> Result<(), AllocError> {
+        if let Some(place) = line.place() {
+            if let Some(pipe) = self.pipes.get_mut(place) {
+                return pipe.come(bytes);
+            }
+        }
+        Ok(())
+    }
+
+    /// The other side ends a line's connection, behind what it sent.
+    pub fn end(&mut self, line: Line) {
+        if let Some(place) = line.place() {
+            if let Some(pipe) = self.pipes.get_mut(place) {
+                pipe.end();
+            }
+        }
+    }
+
+    /// What was written to a line and isn't taken yet.
+    pub fn written(&self, line: Line) -> &[u8] {
+        match line.place() {
+            Some(place) => match self.pipes.get(place) {
+                Some(pipe) => pipe.written(),
+                None => &[],
+            },
+            None => &[],
+        }
+    }
+
+    /// What was written to a line is taken.
+    pub fn take_written(&mut self, line: Line) {
+        if let Some(place) = line.place() {
+            if let Some(pipe) = self.pipes.get_mut(place) {
+                pipe.take_written();
+            }
+        }
+    }
+
+    /// What the log has.
+    pub fn log(&self) -> &[u8]
+        ensures { result.now ≡ logged_in (passed_of self.now) }
+    {
+        &self.log
+    }
+}
+
+impl Wire for MemoryWire {
+    ghost use Rattle.node_wires.specs.MemoryPassed.{passed_of};
+
+    ghost passed = { λ wire. wire.passed.items };
+
+    fn now(&mut self) -> u64 {
+        self.moment
+    }
+
+    /// No time passes.
+    fn wait(&mut self, _most: u64) {}
+
+    #[tactic(auto, using(crate::proofs::Logged::when_began))]
+    fn dial(&mut self, peer: u8) -> Result<(), WireFault> {
+        if count_down(&mut self.left) || !begin(&mut self.pipes, Line::Peer(peer)) {
+            return Err(WireFault::Failed);
+        }
+        self.passed.began(Line::Peer(peer));
+        Ok(())
+    }
+
+    #[tactic(auto, using(crate::proofs::Logged::when_began))]
+    fn accept(&mut self) -> Option<u8> {
+        if self.callers == 0 || count_down(&mut self.left) {
+            return None;
+        }
+        let place = free_place(&self.pipes)?;
+        if !begin(&mut self.pipes, Line::Caller(place)) {
+            return None;
+        }
+        self.callers -= 1;
+        self.passed.began(Line::Caller(place));
+        Some(place)
+    }
+
+    #[tactic(auto, using(crate::proofs::Logged::when_began))]
+    fn accept_seat(&mut self, seat: u8) -> bool {
+        if seat >= 16 || self.bots & (1 << seat) == 0 || count_down(&mut self.left) {
+            return false;
+        }
+        if !begin(&mut self.pipes, Line::Seat(seat)) {
+            return false;
+        }
+        self.bots &= !(1 << seat);
+        self.passed.began(Line::Seat(seat));
+        true
+    }
+
+    #[tactic(auto, using(crate::proofs::Logged::when_came))]
+    fn read(&mut self, line: Line, piece: &mut [u8]) -> Result<usize, Halt> {
+        if count_down(&mut self.left) {
+            return Err(Halt::Ended);
+        }
+        let count = read(&mut self.pipes, line, piece)?;
+        self.passed.came(line, &piece[..count]);
+        Ok(count)
+    }
+
+    #[tactic(auto, using(crate::proofs::Logged::when_wrote))]
+    fn write(&mut self, line: Line, bytes: &[u8]) -> Result<usize, Halt> {
+        if count_down(&mut self.left) {
+            return Err(Halt::Ended);
+        }
+        let count = write(&mut self.pipes, line, bytes)?;
+        self.passed.wrote(line, &bytes[..count]);
+        Ok(count)
+    }
+
+    /// All who dial come in.
+    fn know(&mut self, _line: Line) {}
+
+    fn close(&mut self, line: Line) {
+        close(&mut self.pipes, line);
+    }
+
+    #[tactic(auto, using(crate::proofs::Logged::when_logged))]
+    fn add_to_log(&mut self, text: &[u8]) -> Result<(), WireFault> {
+        if count_down(&mut self.left) {
+            return Err(WireFault::Failed);
+        }
+        if self.log.extend_from_slice(text).is_err() {
+            return Err(WireFault::OutOfMemory);
+        }
+        self.passed.logged(text);
+        Ok(())
+    }
+}

@@ -1,0 +1,86 @@
+//! What a node's process reaches outside of itself: its peers, its seats, its log, and the clock.
+
+ghost use Rattle.std.specs.Prelude.{◌≡◌, ◌≤◌, List, ◌∷◌, [], ◌++◌, length, take, IsTrue, true, false, IfOk, IfSome, IsNone, OnOk, OnErr};
+ghost use Rattle.node_wires.specs.Passages.{Passage, Began, Came, Wrote, Logged};
+ghost use Rattle.node_wires.specs.declared.line.Line.TheVariants.{Peer, Caller, Seat};
+
+use crate::line::Line;
+
+/// Why a read or a write did nothing.
+#[derive(Clone, Copy, Debug, PartialEq, Eq)]
+pub enum Halt {
+    /// Nothing is there to read, or no room to write into: later there may be.
+    Later,
+    /// The connection ended, or there is none.
+    Ended,
+}
+
+/// Why a call of a wire did nothing.
+#[derive(Clone, Copy, Debug, PartialEq, Eq)]
+pub enum WireFault {
+    /// It failed.
+    Failed,
+    /// Memory was refused.
+    OutOfMemory,
+}
+
+/// The wires of a node's process: a line to each peer that it dials, a line of each place where one who dialled it stands,
+/// a line to the bot of each seat, and its log. Nodes, places and seats are counted from 0.
+///
+/// No call waits but `wait`. Nothing is said of what comes, nor when: what is promised of a node holds whatever its wires
+/// answer. What passed is said: which connections began, the pieces that came and that were written, and what the log got.
+/// A call that does nothing adds nothing to it.
+pub trait Wire {
+    /// What passed so far, in order.
+    ghost passed: { Self → List Passage };
+
+    /// The present moment, in whole microseconds since one that stays the same as long as the process lives.
+    fn now(&mut self) -> u64
+        ensures { passed self.new ≡ passed self.old };
+
+    /// Waits until something may have come, or be written where there was no room, for so many microseconds at most.
+    fn wait(&mut self, most: u64)
+        ensures { passed self.new ≡ passed self.old };
+
+    /// Begins a connection to a peer, in place of the one that its line has. Whether it is answered shows by a later read or
+    /// write.
+    fn dial(&mut self, peer: u8) -> Result<(), WireFault>
+        ensures began { OnOk result (passed self.new ≡ passed self.old ++ Began (Peer peer) ∷ []) }
+        ensures failed { OnErr result (passed self.new ≡ passed self.old) };
+
+    /// Takes in the next one who dialled this node, if there is one and a place for him, and answers his place. One who
+    /// stands there and isn't known (`know`) may be let go of for him.
+    fn accept(&mut self) -> Option<u8>
+        ensures began { IfSome result (λ place. passed self.new ≡ passed self.old ++ Began (Caller place) ∷ []) }
+        ensures none { IsNone result → passed self.new ≡ passed self.old };
+
+    /// Takes in the next one who came to a seat's port, in place of the one that its line has; false where there is none.
+    fn accept_seat(&mut self, seat: u8) -> bool
+        ensures began { result ≡ true → passed self.new ≡ passed self.old ++ Began (Seat seat) ∷ [] }
+        ensures none { result ≡ false → passed self.new ≡ passed self.old };
+
+    /// Reads the next piece that came over a line, no more than the buffer holds, and answers how many bytes it has.
+    fn read(&mut self, line: Line, piece: &mut [u8]) -> Result<usize, Halt>
+        ensures within { IfOk result (λ count. count ≤ length piece.new) }
+        ensures came { IfOk result (λ count. passed self.new ≡ passed self.old ++ Came line (take count piece.new) ∷ []) }
+        ensures nothing { OnErr result (passed self.new ≡ passed self.old) };
+
+    /// Writes to a line as many of these bytes as there is room for, and answers how many.
+    fn write(&mut self, line: Line, bytes: &[u8]) -> Result<usize, Halt>
+        ensures within { IfOk result (λ count. count ≤ length bytes.now) }
+        ensures wrote { IfOk result (λ count. passed self.new ≡ passed self.old ++ Wrote line (take count bytes.now) ∷ []) }
+        ensures nothing { OnErr result (passed self.new ≡ passed self.old) };
+
+    /// It is known who has the connection of a line: of those of whom it isn't, each address has only a few.
+    fn know(&mut self, line: Line)
+        ensures { passed self.new ≡ passed self.old };
+
+    /// Closes the connection that a line has, if it has one; what was written is sent.
+    fn close(&mut self, line: Line)
+        ensures { passed self.new ≡ passed self.old };
+
+    /// Puts text behind what the log has, and has it in the file when it answers.
+    fn add_to_log(&mut self, text: &[u8]) -> Result<(), WireFault>
+        ensures logged { OnOk result (passed self.new ≡ passed self.old ++ Logged text.now ∷ []) }
+        ensures failed { OnErr result (passed self.new ≡ passed self.old) };
+}
