@@ -1,0 +1,90 @@
+-- Definitions on values, each beside a near miss.
+use Rattle.std.proofs.Common.{◌≡◌, ℕ, true, false, [], ◌∷◌, inl, inr, refl}
+use Rattle.protocol_model.specs.Dealers.{Seat, Log}
+use Rattle.node_wires.specs.declared.line.Line.TheVariants as line
+use Rattle.node_wires.specs.Passages.{Began, Came as PieceCame}
+use Rattle.dealer_world.specs.Records.{Delivered, Came, Connected}
+use Rattle.stations.specs.Deeds.{Deed}
+use Rattle.node_service.specs.Parts.{IsPartOf}
+use Rattle.node_service.specs.Showing.{shown_log, LogGains}
+use Rattle.node_service.specs.Handed.{ToPeer, ToSeat, handed_by}
+use Rattle.node_service.specs.Arriving.{OfSeat, OfPeer, incoming_in, came_by}
+
+-- ---- two deeds of node 0: seat 1 sent 7 8, upon which the node sent a frame to node 2 and showed a line to seat 0 and text to its log; before that seat 1 connected
+
+unfoldable first : Deed
+first = record { arrived = Connected 0 1 ∷ []; made = record { frames = []; texts = (record { reader = Log; text = 1 ∷ [] }) ∷ []; began = false } }
+
+unfoldable later : Deed
+later = record {
+  arrived = Came 0 1 (7 ∷ 8 ∷ []) ∷ [];
+  made = record {
+    frames = (record { from = 0; to = 2; bytes = 6 ∷ [] }) ∷ [];
+    texts = (record { reader = Seat 0; text = 5 ∷ [] }) ∷ (record { reader = Log; text = 2 ∷ 3 ∷ [] }) ∷ [];
+    began = false;
+  };
+}
+
+-- the log gets the texts of the earlier deed first
+the_log : shown_log (later ∷ first ∷ []) ≡ 1 ∷ 2 ∷ 3 ∷ []
+unfolding first later
+the_log = refl
+
+-- and no line of a seat
+no_line_of_a_seat : shown_log (later ∷ first ∷ []) ≡ 1 ∷ 5 ∷ 2 ∷ 3 ∷ [] → ⊥
+unfolding first later
+no_line_of_a_seat is = cc
+
+-- frames go to the peers before lines go to the seats
+handed_on : handed_by (later ∷ first ∷ []) ≡ ToPeer 2 (6 ∷ []) ∷ ToSeat 0 (5 ∷ []) ∷ []
+unfolding first later
+handed_on = refl
+
+-- a frame isn't handed on for another node
+for_its_own_node : handed_by (later ∷ first ∷ []) ≡ ToPeer 1 (6 ∷ []) ∷ ToSeat 0 (5 ∷ []) ∷ [] → ⊥
+unfolding first later
+for_its_own_node is = cc
+
+-- what came of seat 1: it was taken in, and then its bytes came
+came : came_by (later ∷ first ∷ []) ≡ OfSeat (Began (line.Seat 1)) ∷ OfSeat (PieceCame (line.Seat 1) (7 ∷ 8 ∷ [])) ∷ []
+unfolding first later
+came = refl
+
+-- a frame is of the peer that it names, and of no other
+frame_came : incoming_in (Delivered (record { from = 2; to = 0; bytes = 6 ∷ [] }) ∷ []) ≡ OfPeer 2 (6 ∷ []) ∷ []
+frame_came = refl
+
+of_no_other_peer : incoming_in (Delivered (record { from = 2; to = 0; bytes = 6 ∷ [] }) ∷ []) ≡ OfPeer 1 (6 ∷ []) ∷ [] → ⊥
+of_no_other_peer is = cc
+
+-- ---- parts of lists
+
+one_left_out : IsPartOf {A = ℕ} (1 ∷ 3 ∷ []) (1 ∷ 2 ∷ 3 ∷ [])
+one_left_out = inl (refl, inr (inl (refl, tt)))
+
+-- not in another order
+in_this_order : IsPartOf {A = ℕ} (3 ∷ 1 ∷ []) (1 ∷ 3 ∷ []) → ⊥
+in_this_order (inl (is, more)) = cc
+in_this_order (inr (inl (is, more))) = absurd more
+in_this_order (inr (inr more)) = absurd more
+
+-- and not twice what stands there once
+not_twice : IsPartOf {A = ℕ} (1 ∷ 1 ∷ []) (1 ∷ []) → ⊥
+not_twice (inl (is, more)) = absurd more
+not_twice (inr more) = absurd more
+
+-- ---- the log
+
+all_of_it_is_there : LogGains false false (2 ∷ 3 ∷ []) (1 ∷ []) (1 ∷ 2 ∷ 3 ∷ [])
+all_of_it_is_there = refl
+
+a_beginning_is_there : LogGains false true (2 ∷ 3 ∷ []) (1 ∷ []) (1 ∷ 2 ∷ [])
+a_beginning_is_there = (2 ∷ [], 3 ∷ [], refl, refl)
+
+-- a log that could be written has no beginning alone
+not_a_beginning_alone : LogGains false false (2 ∷ 3 ∷ []) (1 ∷ []) (1 ∷ 2 ∷ []) → ⊥
+not_a_beginning_alone is = cc
+
+-- and once it couldn't, it gains nothing
+nothing_more_once_it_failed : LogGains true true (2 ∷ []) (1 ∷ []) (1 ∷ 2 ∷ []) → ⊥
+nothing_more_once_it_failed (failed, is) = cc

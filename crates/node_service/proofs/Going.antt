@@ -1,0 +1,98 @@
+-- How what a process does in turn comes together.
+use Rattle.std.proofs.Common.{◌≡◌, ℕ, Bool, List, [], ◌++◌, refl, sym, ◌∙◌, ap, subst, append_assoc}
+use Rattle.std.proofs.lemmas.List.{append-nil}
+use Rattle.promise_store.specs.declared.disk.Disk.{Ghosts}
+use Rattle.dealer_node.specs.Nodes.{Node}
+use Rattle.dealer_node.specs.Seeing.{begun_of}
+use Rattle.node_wires.specs.Passages.{Passage, logged_in, seats_in}
+use Rattle.stations.specs.Deeds.{Deed}
+use Rattle.stations.specs.Stations.{Look}
+use Rattle.node_service.specs.Parts.{IsPartOf}
+use Rattle.node_service.specs.Showing.{shown_log, LogGains}
+use Rattle.node_service.specs.Handed.{Handover, handed_by}
+use Rattle.node_service.specs.Arriving.{Incoming, seats_of, frames_of, came_by}
+use Rattle.node_service.specs.Served.{Served}
+use Rattle.node_service.specs.Going.{GoesOn, Takes}
+use Rattle.node_service.proofs.Parts.{both, left_out}
+use Rattle.node_service.proofs.Showing.{shown_by_both, came_by_both, handed_by_both, seats_of_more, frames_of_more, nothing_shown, shown_on}
+
+module _ {D : Type 0} {g : Ghosts D} where
+  -- where nothing is done
+  pub still : (old new : Served (Node D)) → new.look ≡ old.look → new.log_failed ≡ old.log_failed → new.handed ≡ old.handed → new.heard ≡ old.heard → logged_in new.passed ≡ logged_in old.passed → seats_in new.passed ≡ seats_in old.passed
+      → GoesOn g [] old new
+  still old new look log_failed handed heard log seats = record {
+    config = ap (λ (l : Look (Node D)). l.config) look;
+    number = ap (λ (l : Look (Node D)). l.number) look;
+    begun = ap (λ (l : Look (Node D)). begun_of g l.node) look;
+    since = [];
+    deeds = ap (λ (l : Look (Node D)). l.deeds) look;
+    log = subst (λ (b : Bool). LogGains old.log_failed b [] (logged_in old.passed) (logged_in new.passed)) (sym log_failed)
+        (subst (λ (m : List ℕ). LogGains old.log_failed old.log_failed [] (logged_in old.passed) m) (sym log) (nothing_shown old.log_failed (logged_in old.passed)));
+    handed = handed ∙ sym (append-nil old.handed);
+    gained = [];
+    seats = seats ∙ sym (append-nil (seats_in old.passed));
+    heard = heard ∙ sym (append-nil old.heard);
+    came = tt;
+  }
+
+  -- one after the other
+  pub on : {taken : List Incoming} {one two three : Served (Node D)} → GoesOn g taken one two → GoesOn g [] two three → GoesOn g taken one three
+  on {taken} {one} {two} {three} first then_on = record {
+    config = then_on.config ∙ first.config;
+    number = then_on.number ∙ first.number;
+    begun = then_on.begun ∙ first.begun;
+    since = then_on.since ++ first.since;
+    deeds = then_on.deeds ∙ (ap (λ (m : List Deed). then_on.since ++ m) first.deeds ∙ sym (append_assoc then_on.since first.since one.look.deeds));
+    log = subst (λ (m : List ℕ). LogGains one.log_failed three.log_failed m (logged_in one.passed) (logged_in three.passed)) (sym (shown_by_both then_on.since first.since))
+        (shown_on one.log_failed two.log_failed three.log_failed (shown_log first.since) (shown_log then_on.since) (logged_in one.passed) (logged_in two.passed) (logged_in three.passed)
+        first.log then_on.log);
+    handed = subst (λ (m : List Handover). three.handed ≡ one.handed ++ m) (sym (handed_by_both then_on.since first.since))
+        (then_on.handed ∙ (ap (λ (m : List Handover). m ++ handed_by then_on.since) first.handed ∙ append_assoc one.handed (handed_by first.since) (handed_by then_on.since)));
+    gained = first.gained ++ then_on.gained;
+    seats = subst (λ (m : List Passage). seats_in three.passed ≡ seats_in one.passed ++ m) (sym (seats_of_more first.gained then_on.gained))
+        (then_on.seats ∙ (ap (λ (m : List Passage). m ++ seats_of then_on.gained) first.seats ∙ append_assoc (seats_in one.passed) (seats_of first.gained) (seats_of then_on.gained)));
+    heard = subst (λ (m : List Handover). three.heard ≡ one.heard ++ m) (sym (frames_of_more first.gained then_on.gained))
+        (then_on.heard ∙ (ap (λ (m : List Handover). m ++ frames_of then_on.gained) first.heard ∙ append_assoc one.heard (frames_of first.gained) (frames_of then_on.gained)));
+    came = subst (λ (m : List Incoming). IsPartOf m (taken ++ (first.gained ++ then_on.gained))) (sym (came_by_both then_on.since first.since))
+        (subst (λ (m : List Incoming). IsPartOf (came_by first.since ++ came_by then_on.since) m) (append_assoc taken first.gained then_on.gained)
+        (both (came_by first.since) (came_by then_on.since) (taken ++ first.gained) then_on.gained first.came then_on.came));
+  }
+
+  -- what was taken comes to the node then
+  pub taken_up : {taken : List Incoming} {one two three : Served (Node D)} → Takes g taken one two → GoesOn g taken two three → GoesOn g [] one three
+  taken_up {taken} {one} {two} {three} takes then_on = record {
+    config = then_on.config ∙ ap (λ (l : Look (Node D)). l.config) takes.look;
+    number = then_on.number ∙ ap (λ (l : Look (Node D)). l.number) takes.look;
+    begun = then_on.begun ∙ ap (λ (l : Look (Node D)). begun_of g l.node) takes.look;
+    since = then_on.since;
+    deeds = then_on.deeds ∙ ap (λ (l : Look (Node D)). then_on.since ++ l.deeds) takes.look;
+    log = subst (λ (b : Bool). LogGains b three.log_failed (shown_log then_on.since) (logged_in one.passed) (logged_in three.passed)) takes.log_failed
+        (subst (λ (m : List ℕ). LogGains two.log_failed three.log_failed (shown_log then_on.since) m (logged_in three.passed)) takes.log then_on.log);
+    handed = then_on.handed ∙ ap (λ (m : List Handover). m ++ handed_by then_on.since) takes.handed;
+    gained = taken ++ then_on.gained;
+    seats = subst (λ (m : List Passage). seats_in three.passed ≡ seats_in one.passed ++ m) (sym (seats_of_more taken then_on.gained))
+        (then_on.seats ∙ (ap (λ (m : List Passage). m ++ seats_of then_on.gained) takes.seats ∙ append_assoc (seats_in one.passed) (seats_of taken) (seats_of then_on.gained)));
+    heard = subst (λ (m : List Handover). three.heard ≡ one.heard ++ m) (sym (frames_of_more taken then_on.gained))
+        (then_on.heard ∙ (ap (λ (m : List Handover). m ++ frames_of then_on.gained) takes.heard ∙ append_assoc one.heard (frames_of taken) (frames_of then_on.gained)));
+    came = then_on.came;
+  }
+
+  -- and may be left out
+  pub let_go : {taken : List Incoming} {old new : Served (Node D)} → GoesOn g [] old new → GoesOn g taken old new
+  let_go {taken} goes = record {
+    config = goes.config;
+    number = goes.number;
+    begun = goes.begun;
+    since = goes.since;
+    deeds = goes.deeds;
+    log = goes.log;
+    handed = goes.handed;
+    gained = goes.gained;
+    seats = goes.seats;
+    heard = goes.heard;
+    came = left_out (came_by goes.since) taken goes.gained goes.came;
+  }
+
+  -- what was taken and isn't given
+  pub not_given : {taken : List Incoming} {one two : Served (Node D)} → Takes g taken one two → GoesOn g [] one two
+  not_given {two = two} takes = taken_up takes (let_go (still two two refl refl refl refl refl refl))

@@ -1,0 +1,33 @@
+use Rattle.std.proofs.Common.{◌≡◌, List, ◌∷◌, ◌++◌, map, ap, sym, ◌∙◌, subst, append_assoc, rules}
+use Rattle.dealer_node.specs.Texts.{Marked}
+use Rattle.dealer_node.specs.declared.reader.Reader.{Reader}
+use Rattle.dealer_world.specs.Calls.{added_by}
+use Rattle.dealer_world.specs.KeptShown.{reader_by}
+use Rattle.dealer_world.specs.Recordings.{text_by}
+use Rattle.node_wires.specs.Passages.{logged_in}
+use Rattle.node_service.specs.Showing.{added, LogGains}
+use Rattle.node_service.specs.Handed.{Handover, line_handed, lines_handed}
+use Rattle.node_service.proofs.Showing.{shown_on}
+use Rattle.node_service.proofs.desk.show_all.Goals as goal
+
+pub loop-reader-preserved : goal.loop-reader-preserved
+loop-reader-preserved g c =
+    let now = c.loop-reader in
+    let new = c.show-deaf.new in
+    let reader = reader_by c.in-Some.reader in
+    let text = c.in-Some.text.now in
+    let rest = c.next.new.self in
+    let split : now.reader-iterator ≡ (record { mark = c.in-Some.reader; text = text }) ∷ rest = search rules in
+    record {
+      can = tt;
+      finite = tt;
+      log = λ failed log gains.
+          now.invariant.log failed log
+          (subst (λ (m : List (Marked Reader)). LogGains now.log_failed failed (added (map text_by m)) (logged_in (g.W.Wire.passed now.wire)) log) (sym split)
+          (shown_on now.log_failed new.log_failed failed (added_by reader text) (added (map text_by rest)) (logged_in (g.W.Wire.passed now.wire)) (logged_in (g.W.Wire.passed new.wire)) log
+          c.show-deaf.ensures.log gains));
+      seats = c.show-deaf.ensures.seats ∙ now.invariant.seats;
+      handed = ap (λ (m : List Handover). m ++ lines_handed (map text_by rest)) c.show-deaf.ensures.handed
+          ∙ (append_assoc now.handed.items (line_handed reader text) (lines_handed (map text_by rest))
+          ∙ (ap (λ (m : List (Marked Reader)). now.handed.items ++ lines_handed (map text_by m)) (sym split) ∙ now.invariant.handed));
+    }

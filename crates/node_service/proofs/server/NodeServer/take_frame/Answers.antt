@@ -1,0 +1,10 @@
+use Rattle.std.proofs.Common.{refl}
+use Rattle.node_service.specs.Desks.{IsKept}
+use Rattle.node_service.proofs.Keeping.{kept_only, as_it_was}
+use Rattle.node_service.proofs.server.NodeServer.take_frame.Goals as goal
+
+pub returns-in_default : goal.returns-in_default
+returns-in_default g c =
+    let desk = c.args.self.now.desk in
+    let kept : IsKept g.W.Wire desk desk = as_it_was g.W.Wire refl in
+    kept_only g.W.Wire kept

@@ -1,0 +1,11 @@
+pub mod Parts
+pub mod Showing
+pub mod Handed
+pub mod Handing
+pub mod Arriving
+pub mod Telling
+pub mod Served
+pub mod Going
+pub mod Ending
+pub mod Desks
+pub mod Serving

@@ -1,0 +1,365 @@
+//! A node's process at its wires: each call of the node, and what it made handed on.
+
+ghost use Rattle.std.specs.Prelude.{◌≡◌, ◌<◌, Bool, [], ◌∷◌, ◌++◌, map, IfSome};
+ghost use Rattle.dealer_world.specs.Calls.{added_by};
+ghost use Rattle.dealer_world.specs.KeptShown.{reader_by};
+ghost use Rattle.dealer_world.specs.Recordings.{text_by};
+ghost use Rattle.node_peers.specs.Hearing.{IsTold};
+ghost use Rattle.node_peers.specs.Peering.{own_of, passed_of};
+ghost use Rattle.node_peers.specs.Sending.{Sends};
+ghost use Rattle.node_seats.specs.Seating.{Tells};
+ghost use Rattle.node_wires.specs.Passages.{logged_in, seats_in};
+ghost use Rattle.node_service.specs.Showing.{added, LogGains};
+ghost use Rattle.node_service.specs.Arriving.{frames_of};
+ghost use Rattle.node_service.specs.Telling.{told_of, told_by, incoming_by};
+ghost use Rattle.node_service.specs.Handed.{ToPeer, ToSeat, mark_handed, line_handed, lines_handed};
+
+use crate::handed::Handed;
+use crate::limits::{LONG, SEATS};
+use crate::member::Member;
+use dealer_node::{NodeFault, Out, Reader, SeatFault};
+use dealer_world::Event;
+use node_links::Told as Beat;
+use node_peers::{Notice, Peers};
+use node_seats::{SeatNotice, Seats};
+use node_wires::Wire;
+use promise_store::Disk;
+
+/// A node's process at its wires: the node, its peers and the bots of its seats.
+pub(crate) struct Desk<D: Disk + Drop, W: Wire + Drop> {
+    pub(crate) member: Member<D>,
+    pub(crate) wire: W,
+    pub(crate) peers: Peers,
+    pub(crate) seats: Seats,
+    /// The log couldn't be written: nothing more goes into it.
+    pub(crate) log_failed: bool,
+    /// What was handed on, and what was told of peers, for clauses alone.
+    pub(crate) handed: Handed,
+    pub(crate) heard: Handed,
+    /// The seats whose connections ended while the node has their sessions, a bit each.
+    pub(crate) gone: u16,
+}
+
+/// By hand, so that letting one go is one call for whoever owns it (docs/ARCHITECTURE.md, Habits).
+impl<D: Disk + Drop, W: Wire + Drop> Drop for Desk<D, W> {
+    fn drop(self) {
+        let Desk {
+            member: _,
+            wire: _,
+            peers: _,
+            seats: _,
+            log_failed: _,
+            handed: _,
+            heard: _,
+            gone: _,
+        } = self;
+    }
+}
+
+/// The bit of a seat; none of a number that no seat has.
+fn bit_of(seat: u8) -> u16 {
+    if seat < SEATS { 1 << seat } else { 0 }
+}
+
+/// The first seat whose bit is set.
+fn first_of(bits: u16) -> Option<u8> {
+    for seat in 0..SEATS {
+        if bits & bit_of(seat) != 0 {
+            return Some(seat);
+        }
+    }
+    None
+}
+
+/// Puts down the frame that a notice of peers tells, if it tells one.
+fn note_heard(notice: &Notice, heard: &mut Handed)
+    ensures { heard.new.items ≡ heard.old.items ++ frames_of (told_of notice.now) }
+{
+    match notice {
+        Notice::Frame { from, frame } => heard.heard(*from, frame.bytes.as_slice()),
+        Notice::Joined { .. }
+        | Notice::Gone { .. }
+        | Notice::Refused { .. }
+        | Notice::Strangers { .. } => (),
+    }
+}
+
+/// Hands a frame to the peers.
+fn send(to: u8, frame: &[u8], peers: &mut Peers, handed: &mut Handed, now: u64)
+    ensures handed { handed.new.items ≡ handed.old.items ++ ToPeer to frame.now ∷ [] }
+    ensures sent { Sends to frame.now peers.old.peers.items peers.new.peers.items }
+{
+    peers.send(to, frame, now);
+    handed.sent(to, frame);
+}
+
+/// Hands the frames that a call made to the peers, in order.
+fn send_all(made: &Out, peers: &mut Peers, handed: &mut Handed, now: u64)
+    ensures { handed.new.items ≡ handed.old.items ++ map mark_handed made.now.frames }
+{
+    for (to, frame) in made.frames() {
+        send(to, frame, peers, handed, now);
+    }
+}
+
+/// Hands a line to the seats. It says which seat is to be let go of: one that reads too little.
+fn tell(seat: usize, line: &[u8], seats: &mut Seats, handed: &mut Handed) -> u16
+    ensures handed { handed.new.items ≡ handed.old.items ++ ToSeat seat line.now ∷ [] }
+    ensures told { seat < 10 → (kept : Bool) × Tells seat line.now kept seats.old.seats.items seats.new.seats.items }
+{
+    handed.told(seat, line);
+    if seat >= SEATS as usize || seats.tell(seat as u8, line) {
+        return 0;
+    }
+    bit_of(seat as u8)
+}
+
+/// Puts text into the log, unless that has failed before.
+fn log<W: Wire>(wire: &mut W, log_failed: &mut bool, text: &[u8])
+    ensures log { LogGains log_failed.old log_failed.new text.now (logged_in (W.passed wire.old)) (logged_in (W.passed wire.new)) }
+    ensures seats { seats_in (W.passed wire.new) ≡ seats_in (W.passed wire.old) }
+{
+    if *log_failed {
+        return;
+    }
+    match wire.add_to_log(text) {
+        Ok(()) => (),
+        Err(_) => *log_failed = true,
+    }
+}
+
+/// Hands a text on to its reader. It says which seat is to be let go of for it.
+fn show<W: Wire>(
+    reader: Reader,
+    text: &[u8],
+    wire: &mut W,
+    seats: &mut Seats,
+    log_failed: &mut bool,
+    handed: &mut Handed,
+) -> u16
+    ensures log { LogGains log_failed.old log_failed.new (added_by (reader_by reader) text.now) (logged_in (W.passed wire.old)) (logged_in (W.passed wire.new)) }
+    ensures seats { seats_in (W.passed wire.new) ≡ seats_in (W.passed wire.old) }
+    ensures handed { handed.new.items ≡ handed.old.items ++ line_handed (reader_by reader) text.now }
+{
+    match reader {
+        Reader::Seat(seat) => tell(seat, text, seats, handed),
+        Reader::Log => {
+            log(wire, log_failed, text);
+            0
+        }
+    }
+}
+
+/// Hands on what a call showed, in order: text into the log, unless that has failed, and lines to seats. It says which
+/// seats are to be let go of.
+fn show_all<W: Wire>(
+    made: &Out,
+    wire: &mut W,
+    seats: &mut Seats,
+    log_failed: &mut bool,
+    handed: &mut Handed,
+) -> u16
+    ensures log { LogGains log_failed.old log_failed.new (added (map text_by made.now.shown)) (logged_in (W.passed wire.old)) (logged_in (W.passed wire.new)) }
+    ensures seats { seats_in (W.passed wire.new) ≡ seats_in (W.passed wire.old) }
+    ensures handed { handed.new.items ≡ handed.old.items ++ lines_handed (map text_by made.now.shown) }
+{
+    let mut deaf = 0u16;
+    for (reader, text) in made.shown() {
+        deaf |= show(reader, text, wire, seats, log_failed, handed);
+    }
+    deaf
+}
+
+impl<D: Disk + Drop, W: Wire + Drop> Desk<D, W> {
+    ghost use Rattle.node_service.specs.Arriving.{taken_for};
+    ghost use Rattle.node_service.specs.Desks.{served_by, IsKept};
+    ghost use Rattle.node_service.specs.Going.{GoesOn, Takes};
+
+    /// Gives an event to the node; none that isn't its own. What it made is handed on.
+    pub(crate) fn step(&mut self, event: &Event) -> Option<Result<(), NodeFault>>
+        ensures { GoesOn D.Disk (taken_for event.now) (served_by W.Wire self.old) (served_by W.Wire self.new) }
+    {
+        let answer = self.member.step(event);
+        self.hand_on();
+        self.peers.set_promised(self.member.node().promised());
+        answer
+    }
+
+    /// Hands on what the last call made, in order. A seat that reads too little is let go of.
+    fn hand_on(&mut self)
+        ensures member { self.new.member ≡ self.old.member }
+        ensures log { LogGains self.old.log_failed self.new.log_failed (added (map text_by self.old.member.made.shown)) (logged_in (W.passed self.old.wire)) (logged_in (W.passed self.new.wire)) }
+        ensures seats { seats_in (W.passed self.new.wire) ≡ seats_in (W.passed self.old.wire) }
+        ensures heard { self.new.heard.items ≡ self.old.heard.items }
+        ensures handed { self.new.handed.items ≡ self.old.handed.items ++ (map mark_handed self.old.member.made.frames ++ lines_handed (map text_by self.old.member.made.shown)) }
+    {
+        let now = self.wire.now();
+        send_all(self.member.made(), &mut self.peers, &mut self.handed, now);
+        let deaf = show_all(
+            self.member.made(),
+            &mut self.wire,
+            &mut self.seats,
+            &mut self.log_failed,
+            &mut self.handed,
+        );
+        self.hang_up_all(deaf);
+    }
+
+    /// The present moment.
+    pub(crate) fn now(&mut self) -> u64
+        ensures { IsKept W.Wire self.old self.new }
+    {
+        self.wire.now()
+    }
+
+    /// Waits for so many microseconds at most.
+    pub(crate) fn wait(&mut self, most: u64)
+        ensures { IsKept W.Wire self.old self.new }
+    {
+        self.wire.wait(most);
+    }
+
+    /// So much of the time that went by isn't counted as silence, where it is long: the process was stopped, or in a call.
+    pub(crate) fn forgive(&mut self, lost: u64, now: u64)
+        ensures { IsKept W.Wire self.old self.new }
+    {
+        if lost <= LONG {
+            return;
+        }
+        self.peers.forgive(lost, now);
+    }
+
+    /// A peer counts as absent once it was silent for so long.
+    pub(crate) fn set_silence(&mut self, silence: u64)
+        ensures { IsKept W.Wire self.old self.new }
+    {
+        self.peers.set_silence(silence);
+    }
+
+    /// What of the last call was wrong in what a seat sent: the fault of this number.
+    pub(crate) fn fault(&self, number: usize) -> Option<SeatFault> {
+        match self.member.made().faults().get(number) {
+            Some(found) => Some(*found),
+            None => None,
+        }
+    }
+
+    /// Whether a bot sits at a seat whose session is ready, and nothing waits for it.
+    pub(crate) fn has_been_told(&self, seat: u8) -> bool {
+        let seats = self.seats.bits() & bit_of(seat);
+        seats != 0 && self.member.is_connected(seat) && self.seats.backlog(seat) == 0
+    }
+
+    /// Takes what peers sent, and dials those that are to be dialled.
+    pub(crate) fn hear(&mut self, now: u64)
+        ensures { IsKept W.Wire self.old self.new }
+    {
+        self.peers.hear(&mut self.wire, now);
+    }
+
+    /// What is told next of peers.
+    pub(crate) fn next_of_peers(&mut self) -> Option<Notice>
+        ensures takes { Takes D.Disk (told_by result) (served_by W.Wire self.old) (served_by W.Wire self.new) }
+        ensures told { IfSome result (λ notice. IsTold (own_of self.old.peers) (passed_of self.old.peers) notice) }
+    {
+        match self.peers.next() {
+            Some(notice) => {
+                note_heard(&notice, &mut self.heard);
+                Some(notice)
+            }
+            None => None,
+        }
+    }
+
+    /// What came next of a seat.
+    pub(crate) fn next_of_seats(&mut self) -> Option<SeatNotice>
+        ensures { Takes D.Disk (incoming_by result) (served_by W.Wire self.old) (served_by W.Wire self.new) }
+    {
+        self.seats.next(&mut self.wire)
+    }
+
+    /// The wires.
+    pub(crate) fn wire_mut(&mut self) -> &mut W {
+        &mut self.wire
+    }
+
+    /// Turns away the bot that was taken in at a seat last, of whom the node knows nothing.
+    pub(crate) fn turn_away(&mut self, seat: u8)
+        ensures { IsKept W.Wire self.old self.new }
+    {
+        let _ = self.seats.hang_up(&mut self.wire, seat);
+    }
+
+    /// Lets go of the bot of a seat, if one sits there.
+    pub(crate) fn hang_up(&mut self, seat: u8)
+        ensures { IsKept W.Wire self.old self.new }
+    {
+        if self.seats.hang_up(&mut self.wire, seat).is_some() {
+            self.gone |= bit_of(seat);
+        }
+    }
+
+    /// Lets go of the bot of a seat whose bit is set.
+    fn hang_up_of(&mut self, bits: u16, seat: u8)
+        ensures { IsKept W.Wire self.old self.new }
+    {
+        if bits & bit_of(seat) == 0 {
+            return;
+        }
+        self.hang_up(seat);
+    }
+
+    /// Lets go of the bots of these seats, a bit each.
+    pub(crate) fn hang_up_all(&mut self, bits: u16)
+        ensures { IsKept W.Wire self.old self.new }
+    {
+        if bits == 0 {
+            return;
+        }
+        for seat in 0..SEATS {
+            self.hang_up_of(bits, seat);
+        }
+    }
+
+    /// The next seat whose connection ended while the node has its session.
+    pub(crate) fn next_gone(&mut self) -> Option<u8>
+        ensures { IsKept W.Wire self.old self.new }
+    {
+        let seat = first_of(self.gone)?;
+        self.gone &= !bit_of(seat);
+        Some(seat)
+    }
+
+    /// Writes what waits for seats. It says whether there are more whose connection may have ended.
+    fn write_to_seats(&mut self) -> bool
+        ensures { IsKept W.Wire self.old self.new }
+    {
+        match self.seats.flush(&mut self.wire) {
+            Some(SeatNotice::Gone { seat }) => {
+                self.gone |= bit_of(seat);
+                true
+            }
+            _ => false,
+        }
+    }
+
+    /// Writes what waits for peers, and first tells them how the node is, where that is due.
+    fn write_to_peers(&mut self, told: Beat, now: u64)
+        ensures { IsKept W.Wire self.old self.new }
+    {
+        self.peers.tell(told, now);
+        self.peers.flush(&mut self.wire, now);
+    }
+
+    /// Writes what waits for peers and seats, and first tells peers how the node is, where that is due.
+    pub(crate) fn speak(&mut self, told: Beat, now: u64)
+        ensures { IsKept W.Wire self.old self.new }
+    {
+        self.write_to_peers(told, now);
+        for _ in 0..SEATS {
+            if !self.write_to_seats() {
+                return;
+            }
+        }
+    }
+}

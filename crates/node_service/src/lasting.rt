@@ -1,0 +1,107 @@
+//! Since when the process has been without a quorum, the match has been over, and nothing has gone on.
+
+ghost use Rattle.std.specs.Prelude.{◌≤◌};
+ghost use Rattle.node_links.specs.declared.limits.TheConstants.{LOOK};
+
+use crate::limits::{HANG_UP, WAITING, WAITING_AGAIN};
+use node_links::limits::LOOK;
+
+/// Since when this is so. Moments are whole microseconds since one that stays the same.
+#[derive(Clone, Copy, Debug, PartialEq, Eq)]
+pub(crate) struct Lasting {
+    /// Since when the node has been without a quorum.
+    lost: Option<u64>,
+    /// That was so for so long that the seats were let go of.
+    pub(crate) is_apart: bool,
+    /// It has had one since the process began, or since the seats were let go of.
+    is_joined: bool,
+    /// Since when the match has been over here.
+    over: Option<u64>,
+    /// When it was last told for which seat all wait, since something went on.
+    waited: Option<u64>,
+}
+
+/// What a moment makes of the quorum.
+#[derive(Clone, Copy, Debug, PartialEq, Eq)]
+pub(crate) enum Turned {
+    /// It is as before.
+    Stays,
+    /// The node has a quorum again, or the first time.
+    Had,
+    /// It has been without one for so long that seats are let go of; it had one before.
+    Lost,
+    /// The same since the process began.
+    Unmet,
+}
+
+impl Lasting {
+    /// The process begins, without a quorum.
+    pub(crate) fn new(now: u64) -> Lasting {
+        Lasting {
+            lost: Some(now),
+            is_apart: false,
+            is_joined: false,
+            over: None,
+            waited: None,
+        }
+    }
+
+    /// The node has a quorum at this moment, or hasn't.
+    pub(crate) fn stand(&mut self, is_quorate: bool, now: u64) -> Turned {
+        if is_quorate {
+            let was_joined = self.is_joined;
+            self.lost = None;
+            self.is_apart = false;
+            self.is_joined = true;
+            return if was_joined {
+                Turned::Stays
+            } else {
+                Turned::Had
+            };
+        }
+        let since = self.lost.unwrap_or(now);
+        self.lost = Some(since);
+        if self.is_apart || now.saturating_sub(since) < HANG_UP {
+            return Turned::Stays;
+        }
+        let was_joined = self.is_joined;
+        self.is_apart = true;
+        self.is_joined = false;
+        if was_joined {
+            Turned::Lost
+        } else {
+            Turned::Unmet
+        }
+    }
+
+    /// How long it is at most until seats may be to be let go of.
+    pub(crate) fn wait(&self, now: u64) -> u64
+        ensures { result ≤ LOOK }
+    {
+        match self.lost {
+            Some(since) if !self.is_apart => {
+                HANG_UP.saturating_sub(now.saturating_sub(since)).min(LOOK)
+            }
+            _ => LOOK,
+        }
+    }
+
+    /// The match is over at this moment; it answers for how long it has been.
+    pub(crate) fn end(&mut self, now: u64) -> u64 {
+        let since = self.over.unwrap_or(now);
+        self.over = Some(since);
+        now.saturating_sub(since)
+    }
+
+    /// Whether it is to be told now that all wait for a seat, where something went on last at that moment.
+    pub(crate) fn tells_waiting(&mut self, moved: u64, now: u64) -> bool {
+        let is_due = match self.waited {
+            Some(at) if at >= moved => now.saturating_sub(at) >= WAITING_AGAIN,
+            _ => now.saturating_sub(moved) >= WAITING,
+        };
+        if is_due {
+            self.waited = Some(now);
+        }
+        is_due
+    }
+}

@@ -1,0 +1,33 @@
+//! The times of a node's process, each in this one place. Times are whole microseconds.
+
+/// Calls of the node take so long in a turn at most, and the one that was begun then; the rest of what came waits for the
+/// next turn.
+pub const CALLS: u64 = 20_000;
+
+/// What a call, or a wait beyond what was asked for, takes longer than this isn't counted as the peers' silence.
+pub const LONG: u64 = 50_000;
+
+/// So long a node is without a quorum until its seats are let go of, so that their bots go elsewhere.
+pub const HANG_UP: u64 = 300_000;
+
+/// The match is over here, and the connections that are open have been so, for this long at least when the process ends:
+/// beats that say so have gone to all peers by then.
+pub const TOLD: u64 = 2 * node_links::limits::BEAT;
+
+/// So long seats may take, once the match is over, to read what they were told.
+pub const END_READ: u64 = 2_000_000;
+
+/// A peer that wasn't heard for so long isn't waited for once the match is over.
+pub const UNHEARD: u64 = 10_000_000;
+
+/// So long nothing goes on until it is told for which seat all wait,
+pub const WAITING: u64 = 5_000_000;
+
+/// and again each time that so long has passed.
+pub const WAITING_AGAIN: u64 = 60_000_000;
+
+/// The most nodes of a match.
+pub const NODES: usize = clockwork::limits::MOST_PEERS + 1;
+
+/// The most seats.
+pub const SEATS: u8 = node_wires::limits::SEATS as u8;

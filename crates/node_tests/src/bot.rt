@@ -1,0 +1,113 @@
+//! The bot of a seat.
+
+use node_wires::{Line, MemoryWire, Wire};
+use std::alloc::{AllocError, Global};
+
+/// What a bot sends first.
+const VERSION: &[u8] = b"VERSION:2.0.0\r\n";
+
+/// A bot: it dials one node after another until one keeps it, and answers each line by one action, whether it is to act or
+/// not.
+#[derive(Drop)]
+pub(crate) struct Bot {
+    seat: u8,
+    /// The node that it dialled.
+    pub(crate) at: u8,
+    /// It sits there, as far as it knows.
+    sits: bool,
+    /// For so many more turns of the world it doesn't dial.
+    pause: u64,
+    /// What was told to it and is no whole line yet.
+    told: Vec<u8>,
+    /// What it does.
+    action: u8,
+    /// How many lines it was told.
+    pub(crate) lines: u64,
+}
+
+/// The last whole line of a text, without its end.
+fn last_line(text: &[u8]) -> Option<&[u8]> {
+    let mut end = None;
+    for (place, byte) in text.iter().enumerate() {
+        if *byte == b'\r' {
+            end = Some(place);
+        }
+    }
+    let end = end?;
+    let mut start = 0;
+    for (place, byte) in text.iter().enumerate() {
+        if place < end && *byte == b'\n' {
+            start = place + 1;
+        }
+    }
+    text.get(start..end)
+}
+
+impl Bot {
+    pub(crate) fn new(alloc: Global, seat: u8, at: u8, action: u8) -> Bot {
+        Bot {
+            seat,
+            at,
+            sits: false,
+            pause: 0,
+            told: Vec::new(alloc),
+            action,
+            lines: 0,
+        }
+    }
+
+    /// Its node is gone, or has let it go: it dials the next after a while.
+    pub(crate) fn go_on(&mut self, nodes: u8) {
+        self.sits = false;
+        self.pause = 20;
+        self.told.clear();
+        self.at = if self.at.saturating_add(1) < nodes {
+            self.at.saturating_add(1)
+        } else {
+            0
+        };
+    }
+
+    /// What it does at the wires of its node.
+    pub(crate) fn act(&mut self, wire: &mut MemoryWire, nodes: u8) -> Result<(), AllocError> {
+        let line = Line::Seat(self.seat);
+        if !self.sits {
+            return self.dial(wire);
+        }
+        self.told.extend_from_slice(wire.written(line))?;
+        wire.take_written(line);
+        self.answer(wire)?;
+        if !wire.is_open(line) {
+            self.go_on(nodes);
+        }
+        Ok(())
+    }
+
+    /// Comes to the seat's port, and says its version once it is taken in.
+    fn dial(&mut self, wire: &mut MemoryWire) -> Result<(), AllocError> {
+        if self.pause > 0 {
+            self.pause -= 1;
+            return Ok(());
+        }
+        let line = Line::Seat(self.seat);
+        if wire.is_open(line) {
+            self.sits = true;
+            return wire.come(line, VERSION);
+        }
+        wire.come_to_seat(self.seat);
+        Ok(())
+    }
+
+    /// Answers the last line that came.
+    fn answer(&mut self, wire: &mut MemoryWire) -> Result<(), AllocError> {
+        let Some(last) = last_line(&self.told) else {
+            return Ok(());
+        };
+        self.lines = self.lines.saturating_add(1);
+        let line = Line::Seat(self.seat);
+        wire.come(line, last)?;
+        wire.come(line, &[b':', self.action, b'\r', b'\n'])?;
+        self.told.clear();
+        Ok(())
+    }
+}
