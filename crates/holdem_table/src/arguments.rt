@@ -1,8 +1,8 @@
 ghost use Rattle.std.specs.Prelude.{◌≤◌};
 
 use crate::help::{
-    AFTER_CHECK_HELP, AFTER_HAND_HELP, AFTER_HELP, AFTER_INIT_HELP, AFTER_PLAY_HELP,
-    AFTER_SERVE_HELP,
+    AFTER_CHECK_HELP, AFTER_HAND_HELP, AFTER_HELP, AFTER_INIT_HELP, AFTER_NODE_HELP,
+    AFTER_PLAY_HELP, AFTER_SERVE_HELP,
 };
 use clap::builder::ValueParser;
 use clap::{Arg, ArgAction, ArgMatches, Command, value_parser};
@@ -17,9 +17,9 @@ pub(crate) enum Task<'a> {
     Check(CheckArguments<'a>),
     /// The word that names the match file.
     Play(&'a str),
-    /// The word that names the match file.
-    Init(&'a str),
+    Init(InitArguments<'a>),
     Serve(ServeArguments<'a>),
+    Node(NodeArguments<'a>),
 }
 
 /// What `hand` is asked for.
@@ -44,6 +44,26 @@ pub(crate) struct CheckArguments<'a> {
     pub(crate) log: &'a str,
 }
 
+/// What `init` is asked for.
+#[derive(Clone, Copy)]
+pub(crate) struct InitArguments<'a> {
+    /// The word that names the match file.
+    pub(crate) path: &'a str,
+    /// The node whose store is to be made, where it is one alone.
+    pub(crate) node: Option<u8>,
+}
+
+/// What `node` is asked for.
+#[derive(Clone, Copy)]
+pub(crate) struct NodeArguments<'a> {
+    /// The word that names the match file.
+    pub(crate) path: &'a str,
+    /// The node's number, counted from 0.
+    pub(crate) node: u8,
+    /// Whether the time stands before each note.
+    pub(crate) has_times: bool,
+}
+
 /// What `serve` is asked for.
 #[derive(Clone, Copy)]
 pub(crate) struct ServeArguments<'a> {
@@ -61,13 +81,27 @@ enum Verb {
     Check,
     Init,
     Serve,
+    Node,
 }
+
+/// The greatest number of a node that a match may have.
+const GREATEST_NODE: u32 = 6;
 
 /// The word that asks for `serve`.
 pub(crate) const SERVE: &str = "serve";
 
+/// The word that asks for `node`.
+pub(crate) const NODE: &str = "node";
+
 /// The program's commands, in the order of help.
-const VERBS: [Verb; 5] = [Verb::Hand, Verb::Play, Verb::Check, Verb::Init, Verb::Serve];
+const VERBS: [Verb; 6] = [
+    Verb::Hand,
+    Verb::Play,
+    Verb::Check,
+    Verb::Init,
+    Verb::Serve,
+    Verb::Node,
+];
 
 impl Verb {
     /// The word that asks for it.
@@ -78,6 +112,7 @@ impl Verb {
             Verb::Check => "check",
             Verb::Init => "init",
             Verb::Serve => SERVE,
+            Verb::Node => NODE,
         }
     }
 
@@ -89,6 +124,7 @@ impl Verb {
             Verb::Check => "Checks the log of a match against the rules of its game",
             Verb::Init => "Makes the empty stores of a match's nodes",
             Verb::Serve => "Deals a match to its seats over TCP",
+            Verb::Node => "Runs one node of a match in a process of its own",
         }
     }
 
@@ -100,6 +136,7 @@ impl Verb {
             Verb::Check => AFTER_CHECK_HELP,
             Verb::Init => AFTER_INIT_HELP,
             Verb::Serve => AFTER_SERVE_HELP,
+            Verb::Node => AFTER_NODE_HELP,
         }
     }
 
@@ -108,8 +145,10 @@ impl Verb {
         match self {
             Verb::Hand => &[Place::Hands, Place::LogFlag, Place::Game],
             Verb::Check => &[Place::Game, Place::Log],
-            Verb::Play | Verb::Init => &[Place::Match],
+            Verb::Play => &[Place::Match],
+            Verb::Init => &[Place::Match, Place::OneNode],
             Verb::Serve => &[Place::Times, Place::Match],
+            Verb::Node => &[Place::Times, Place::Match, Place::Node],
         }
     }
 }
@@ -129,6 +168,10 @@ enum Place {
     Times,
     /// MATCH.
     Match,
+    /// I.
+    Node,
+    /// I, which may be left out.
+    OneNode,
 }
 
 /// The program's command line.
@@ -197,6 +240,8 @@ fn argument_at<'a>(alloc: Global, place: Place) -> Arg<'a> {
         Place::Log => word_at(alloc, "log", "LOG", "The log of a match of that game"),
         Place::Times => times_option(alloc),
         Place::Match => word_at(alloc, "match", "MATCH", "The match file"),
+        Place::Node => node_at(alloc, "The node's number, counted from 0").required(true),
+        Place::OneNode => node_at(alloc, "The node whose store alone is made, from 0"),
     }
 }
 
@@ -206,6 +251,19 @@ fn word_at<'a>(alloc: Global, id: &'a str, name: &'a str, help: &'a str) -> Arg<
         .value_name(name)
         .required(true)
         .help(help)
+}
+
+/// The number of a node.
+fn node_at<'a>(alloc: Global, help: &'a str) -> Arg<'a> {
+    Arg::new(alloc, "node")
+        .value_name("I")
+        .value_parser(node_parser())
+        .help(help)
+}
+
+/// What reads the number of a node; whether the match has that node, its file says.
+fn node_parser<'a>() -> ValueParser<'a> {
+    value_parser!(u32).range(0..=GREATEST_NODE as i64)
 }
 
 /// `--hands N`.
@@ -254,17 +312,40 @@ fn named<'a>(name: &str, matches: &ArgMatches<'a>) -> Result<Task<'a>, Ending> {
     match name {
         "hand" => hand_task(matches),
         "check" => check_task(matches),
+        "play" => Ok(Task::Play(word(matches, "match")?)),
+        "init" => init_task(matches),
         SERVE => serve_task(matches),
-        _ => match_task(name, word(matches, "match")?),
+        NODE => node_task(matches),
+        _ => Err(Ending::WrongWords(WrongWords::Incomplete)),
     }
 }
 
-/// What the command of this name is asked for, of this match file.
-fn match_task<'a>(name: &str, file: &'a str) -> Result<Task<'a>, Ending> {
-    match name {
-        "play" => Ok(Task::Play(file)),
-        "init" => Ok(Task::Init(file)),
-        _ => Err(Ending::WrongWords(WrongWords::Incomplete)),
+/// MATCH of `init`, and I where it is said.
+fn init_task<'a>(matches: &ArgMatches<'a>) -> Result<Task<'a>, Ending> {
+    Ok(Task::Init(InitArguments {
+        path: word(matches, "match")?,
+        node: node(matches),
+    }))
+}
+
+/// MATCH and I of `node`, and what is chosen.
+fn node_task<'a>(matches: &ArgMatches<'a>) -> Result<Task<'a>, Ending> {
+    let path = word(matches, "match")?;
+    match node(matches) {
+        Some(node) => Ok(Task::Node(NodeArguments {
+            path,
+            node,
+            has_times: matches.get_flag("times"),
+        })),
+        None => Err(Ending::WrongWords(WrongWords::Incomplete)),
+    }
+}
+
+/// The node that is named, if one is. A number beyond the bounds was refused before, as a wrong word.
+fn node(matches: &ArgMatches<'_>) -> Option<u8> {
+    match matches.get_one::<u32>("node") {
+        Some(node) => Some(node.min(GREATEST_NODE) as u8),
+        None => None,
     }
 }
 

@@ -93,12 +93,19 @@ match is played. Where init ends in the middle (63, 92, or by a signal), no
 node has used what it made: delete match.kept and the files node*.journal in
 the folder and run it again.
 
+With I the store of node I alone is made, for holdem_table node: first
+nodeI.kept, which says whose store it is, and then nodeI.journal. For node 0
+match.kept is made before them, where it isn't there; it is copied beside the
+stores of the other nodes before those are made, else they are refused (104).
+Where it ended in the middle, delete nodeI.kept and nodeI.journal and run it
+again.
+
 Exit status:
   0  all stores were made
   2  the command line is wrong, MATCH is refused (100, 101, 102), MATCH or the
      game can't be read (104), a store file or match.kept is there already
-     (103; then nothing was made or touched), a file can't be made or written
-     (63), or memory was refused (92)
+     (103; then nothing was made or touched), match.kept is of another match
+     (109), a file can't be made or written (63), or memory was refused (92)
 The last line of standard error says which; where a file is at fault, the line
 before names it.
 docs/OPERATING.md says how to set up a match, and what to do when it stands
@@ -184,7 +191,7 @@ Exit status:
      can't go on (93, 94, 95), or memory was refused (92)
   2  the command line is wrong, MATCH is refused (100, 101, 102), MATCH, its
      game, match.kept or a store can't be read (104), a store is in use (108),
-     or the stores are of another match (109)
+     or the stores are of another match, or of nodes that run by node (109)
 The last line of standard error says which; where a port or a file is at
 fault, the line before names it.
 docs/OPERATING.md says how to set up a match, and what to do when it stands
@@ -195,3 +202,44 @@ Example:
   mkdir stores logs
   holdem_table init examples/three.toml
   holdem_table serve examples/three.toml";
+
+/// Of `node`: the match file's keys, what is listened to, notes, the exit statuses, an example.
+pub(crate) const AFTER_NODE_HELP: &str = "\
+MATCH is a match file as of serve, with the same text on each machine but for
+paths and addresses, and in each node's table
+  peers = \"HOST:PORT\"  where the node awaits the others
+  seats = \"HOST:PORT\"  where it awaits seat 0; seat S at the port S higher
+Hosts are numeric addresses of this machine or of a private network. port,
+outage and away are passed over.
+
+Each node runs in a process of its own, on the machine of its store, which
+holdem_table init MATCH I makes: first that of node 0, which makes match.kept
+too, then, with a copy of match.kept beside, those of the others. The match
+goes on while more than half of the nodes run. A process that was ended, in
+whatever way, is started again by the same command. A bot may dial any node,
+and dials another one where its connection ends.
+
+Standard error has notes, one a line: which node of which match begins, which
+peers joined or are gone, faults of connections, whether more than half of the
+nodes are here, when this one leads, which seats were seated or are gone;
+with --times the time (UTC) stands before each. Nothing is printed on standard
+output.
+
+Exit status:
+  0  the match is over, and the other nodes know it
+  1  a port can't be bound (105), the log is in use or can't be opened, kept,
+     emptied or written (106), or memory was refused (92)
+  2  the command line is wrong, MATCH is refused (100, 101, 102), MATCH, its
+     game, match.kept or the store can't be read (104), the store is in use
+     (108), what lies beside the store is of another match, node or source of
+     deals (109), or a peer knows another store of this node (127)
+  3  the store is refused or failed (91), or two commands were chosen at one
+     place (95): look at the disk, and restart the machine before the node
+The last line of standard error says which; where an address or a file is at
+fault, the line before names it.
+docs/OPERATING.md says how to set up a match on three machines. docs/FAULTS.md
+says of each number what it means and what to do about it.
+
+Example, on the machine of node 1:
+  holdem_table init match.toml 1
+  holdem_table node match.toml 1";

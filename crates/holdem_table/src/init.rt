@@ -76,7 +76,7 @@ pub(crate) fn tell_unused(
 }
 
 /// All that a file has. A note names one that can't be read.
-fn read(rt: &HostRuntime, path: &str, notes: &mut Notes<'_>) -> Result<Vec<u8>, Ending> {
+pub(crate) fn read(rt: &HostRuntime, path: &str, notes: &mut Notes<'_>) -> Result<Vec<u8>, Ending> {
     match fs::read(rt, path) {
         Ok(text) => Ok(text),
         Err(error) => {
@@ -90,7 +90,11 @@ fn read(rt: &HostRuntime, path: &str, notes: &mut Notes<'_>) -> Result<Vec<u8>, 
 }
 
 /// Refuses a place that is taken, be it by a link that leads nowhere: a store is never made anew. A note names it.
-fn refuse_present(rt: &HostRuntime, path: &str, notes: &mut Notes<'_>) -> Result<(), Ending> {
+pub(crate) fn refuse_present(
+    rt: &HostRuntime,
+    path: &str,
+    notes: &mut Notes<'_>,
+) -> Result<(), Ending> {
     match fs::symlink_metadata(rt, path) {
         Ok(_) => {
             notes.tell_file(path, Cause::ThereAlready);
@@ -102,7 +106,7 @@ fn refuse_present(rt: &HostRuntime, path: &str, notes: &mut Notes<'_>) -> Result
 }
 
 /// Makes the store of a node, one of so many, in a file of its own, which must not be there.
-fn make_store(
+pub(crate) fn make_store(
     rt: &HostRuntime,
     path: &str,
     (node, nodes): (u8, u8),
@@ -132,7 +136,11 @@ fn make_store(
 }
 
 /// Has the names of the files that were made on the disk.
-fn sync_folder(rt: &HostRuntime, folder: &str, notes: &mut Notes<'_>) -> Result<(), Ending> {
+pub(crate) fn sync_folder(
+    rt: &HostRuntime,
+    folder: &str,
+    notes: &mut Notes<'_>,
+) -> Result<(), Ending> {
     let synced = match File::open(rt, folder) {
         Ok(folder) => folder.sync_all(),
         Err(error) => Err(error),

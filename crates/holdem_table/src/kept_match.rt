@@ -1,12 +1,12 @@
 //! The file `match.kept` beside a match's stores, which says of which match they are.
 
+use crate::made_files::make;
 use crate::notes::Notes;
 use dealer_kind::Config;
-use match_file::{kept_difference, kept_text};
+use match_file::{Difference, kept_difference, kept_text};
 use match_runs::{Cause, Unserved, store_path, unmade};
+use node_runs::node_kept_path;
 use std::alloc::{AllocError, Global};
-use std::fs::File;
-use std::io::Write;
 use std::{fs, io};
 use streamed::Ending;
 
@@ -35,13 +35,6 @@ pub(crate) fn keep_match(
     }
 }
 
-/// Makes a file with this text, and has it on the disk.
-fn make(rt: &HostRuntime, path: &str, text: &[u8]) -> io::Result<()> {
-    let mut file = File::options().write(true).create_new(true).open(rt, path)?;
-    file.write_all(text)?;
-    file.sync_all()
-}
-
 /// The ending where a file can't be made; a note names it, unless it is for want of memory.
 pub(crate) fn unmade_file(path: &str, error: &io::Error, notes: &mut Notes<'_>) -> Ending {
     let ending = unmade(error);
@@ -51,20 +44,38 @@ pub(crate) fn unmade_file(path: &str, error: &io::Error, notes: &mut Notes<'_>) 
     ending
 }
 
-/// Refuses stores that are kept for another match than this one (109), or for no match that can be told. Where the file
-/// isn't there, and stores are, a note says that nothing can be told.
+/// Refuses stores that were made for nodes in processes of their own (109), those that are kept for another match than this
+/// one, or for no match that can be told. Where the file isn't there, and stores are, a note says that nothing can be told.
 pub(crate) fn compare_kept(
     rt: &HostRuntime,
     folder: &str,
     config: &Config,
     notes: &mut Notes<'_>,
 ) -> Result<(), Unserved> {
+    refuse_processes(rt, folder, config.nodes() as u8, notes)?;
     let path = kept_path(rt.alloc(), folder)?;
     match fs::read(rt, path.as_str()) {
         Ok(text) => compare(config, &text, path.as_str(), notes),
         Err(error) if error.kind() == io::ErrorKind::NotFound => tell_missing(rt, folder, notes),
         Err(error) => Err(unread(path.as_str(), &error, notes)),
     }
+}
+
+/// Refuses a folder where one of so many nodes has a store for a process of its own; a note names what says so.
+fn refuse_processes(
+    rt: &HostRuntime,
+    folder: &str,
+    nodes: u8,
+    notes: &mut Notes<'_>,
+) -> Result<(), Unserved> {
+    for node in 0..nodes {
+        let path = node_kept_path(rt.alloc(), folder, node)?;
+        if fs::symlink_metadata(rt, path.as_str()).is_ok() {
+            notes.tell_file(path.as_str(), Cause::ThereAlready);
+            return Err(Unserved::OtherMatch(Difference::Command));
+        }
+    }
+    Ok(())
 }
 
 /// Refuses the text of another match's file; a note names that.

@@ -41,6 +41,20 @@ pub(crate) fn open_logs(
     Ok(logs)
 }
 
+/// Opens and locks the log of one node, and makes it where it isn't there.
+pub(crate) fn open_log(
+    rt: &HostRuntime,
+    folder: &str,
+    node: u8,
+    notes: &mut Notes<'_>,
+) -> Result<File, Unserved> {
+    let path = log_path(rt.alloc(), folder, node)?;
+    match log_at(rt, path.as_str(), notes)? {
+        Some(log) => Ok(log),
+        None => make_log(rt, folder, node, notes),
+    }
+}
+
 /// The log at this path, locked; none where none is there.
 fn log_at(rt: &HostRuntime, path: &str, notes: &mut Notes<'_>) -> Result<Option<File>, Unserved> {
     let opened = File::options().read(true).append(true).open(rt, path);
@@ -101,12 +115,23 @@ pub(crate) fn add_logs(
 ) -> Result<(), Unserved> {
     let mut node: u8 = 0;
     for log in logs {
-        let place = LogPlace { rt, folder, node };
-        let log = place.begin(log, old_logs, notes)?;
+        let log = begin_log(rt, folder, node, log, old_logs, notes)?;
         links.add_log(log)?;
         node = node.saturating_add(1);
     }
     Ok(())
+}
+
+/// An empty log of a node in the place of this one, which is emptied or kept.
+pub(crate) fn begin_log(
+    rt: &HostRuntime,
+    folder: &str,
+    node: u8,
+    log: File,
+    old_logs: &mut Vec<File>,
+    notes: &mut Notes<'_>,
+) -> Result<File, Unserved> {
+    LogPlace { rt, folder, node }.begin(log, old_logs, notes)
 }
 
 /// Where the log of a node lies, and those that are kept of it.

@@ -1,23 +1,34 @@
 //! The program `holdem_table`: `hand` runs one dealer over a script, `play` all nodes of a match, `check` checks the log
-//! of a match, `init` makes the stores of a match's nodes, and `serve` deals it to seats over TCP.
+//! of a match, `init` makes the stores of a match's nodes, `serve` deals it to seats over TCP, and `node` runs one of its
+//! nodes in a process of its own.
 #![tactic(auto)]
 
 mod arguments;
 mod help;
+mod identity;
 mod init;
+mod init_node;
 mod kept_match;
 mod late_file;
+mod life_files;
 mod locking;
 mod log_files;
+mod made_files;
+mod node;
 mod notes;
 mod serve;
 mod store_files;
 mod utc;
 mod whole_file;
 
-use crate::arguments::{CheckArguments, HandArguments, SERVE, Task, command, requested};
+use crate::arguments::{
+    CheckArguments, HandArguments, InitArguments, NODE, NodeArguments, SERVE, Task, command,
+    requested,
+};
 use crate::init::init;
+use crate::init_node::init_node;
 use crate::late_file::LateFile;
+use crate::node::node;
 use crate::serve::serve;
 use crate::whole_file::read_file;
 use clap::error::ErrorKind;
@@ -30,16 +41,14 @@ use std::process::ExitCode;
 use streamed::{Ending, WrongWords, check_run, hand_run};
 
 fn main(rt: HostRuntime) -> ExitCode {
-    let conclusion = match words(&rt) {
+    match words(&rt) {
         Ok(words) => run(&rt, &words),
-        Err(error) => Conclusion::Ended(no_words(&error)),
-    };
-    tell_conclusion(&rt, conclusion);
-    ExitCode::from(conclusion.status())
+        Err(error) => end(&rt, no_words(&error)),
+    }
 }
 
-/// Prints the last line that standard error gets, if any.
-fn tell_conclusion(rt: &HostRuntime, conclusion: Conclusion) {
+/// Prints the last line that standard error gets, if any, and answers the exit status.
+fn conclude(rt: &HostRuntime, conclusion: Conclusion) -> ExitCode {
     match conclusion {
         Conclusion::Ended(
             Ending::Done | Ending::SaidNo(_) | Ending::WrongWords(WrongWords::Told),
@@ -48,6 +57,12 @@ fn tell_conclusion(rt: &HostRuntime, conclusion: Conclusion) {
             let _ = eprintln!(rt; "{conclusion}");
         }
     }
+    ExitCode::from(conclusion.status())
+}
+
+/// The same of a command that ended so.
+fn end(rt: &HostRuntime, ending: Ending) -> ExitCode {
+    conclude(rt, Conclusion::Ended(ending))
 }
 
 /// The words of the command line.
@@ -64,32 +79,54 @@ fn no_words(error: &io::Error) -> Ending {
     }
 }
 
-/// Runs what the words ask for.
-fn run(rt: &HostRuntime, words: &[String]) -> Conclusion {
+/// Runs what the words ask for, and answers the exit status.
+fn run(rt: &HostRuntime, words: &[String]) -> ExitCode {
     match matches(rt, words) {
         Ok(matches) => run_requested(rt, &matches),
-        Err(error) if error.kind() == ErrorKind::OutOfMemory => no_memory(words),
-        Err(error) => Conclusion::Ended(show(rt, &error)),
+        Err(error) if error.kind() == ErrorKind::OutOfMemory => conclude(rt, no_memory(words)),
+        Err(error) => end(rt, show(rt, &error)),
     }
 }
 
 /// The conclusion where memory is refused before the words are in their places: that of the command which stands there.
 fn no_memory(words: &[String]) -> Conclusion {
     match words {
-        [_, command, ..] if command.as_str() == SERVE => Unserved::from(AllocError).conclusion(),
+        [_, command, ..] if command.as_str() == SERVE || command.as_str() == NODE => {
+            Unserved::from(AllocError).conclusion()
+        }
         _ => Conclusion::Ended(Ending::OutOfMemory),
     }
 }
 
-/// Runs what the words in their places ask for.
-fn run_requested(rt: &HostRuntime, matches: &ArgMatches<'_>) -> Conclusion {
+/// Runs what the words in their places ask for, and answers the exit status.
+fn run_requested(rt: &HostRuntime, matches: &ArgMatches<'_>) -> ExitCode {
     match requested(matches) {
-        Ok(Task::Hand(arguments)) => Conclusion::Ended(hand(rt, arguments)),
-        Ok(Task::Check(arguments)) => Conclusion::Ended(check(rt, arguments)),
-        Ok(Task::Play(path)) => Conclusion::Ended(play(rt, path)),
-        Ok(Task::Init(path)) => Conclusion::Ended(init(rt, path)),
-        Ok(Task::Serve(arguments)) => serve(rt, arguments),
-        Err(ending) => Conclusion::Ended(ending),
+        Ok(Task::Hand(arguments)) => end(rt, hand(rt, arguments)),
+        Ok(Task::Check(arguments)) => end(rt, check(rt, arguments)),
+        Ok(Task::Play(path)) => end(rt, play(rt, path)),
+        Ok(Task::Init(InitArguments { path, node: None })) => end(rt, init(rt, path)),
+        Ok(
+            Task::Init(
+                InitArguments {
+                    path,
+                    node: Some(node),
+                },
+            ),
+        ) => end(rt, init_node(rt, path, node)),
+        Ok(Task::Serve(arguments)) => conclude(rt, serve(rt, arguments)),
+        Ok(Task::Node(arguments)) => run_node(rt, arguments),
+        Err(ending) => end(rt, ending),
+    }
+}
+
+/// Runs `node`: once its match is over there is nothing to print.
+fn run_node(rt: &HostRuntime, arguments: NodeArguments<'_>) -> ExitCode {
+    match node(rt, arguments) {
+        Ok(()) => ExitCode::from(0),
+        Err(why) => {
+            let _ = eprintln!(rt; "{why}");
+            ExitCode::from(why.status())
+        }
     }
 }
 

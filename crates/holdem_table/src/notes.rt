@@ -1,9 +1,10 @@
-//! Where the notes of `init` and `serve` go.
+//! Where the notes of `init`, `serve` and `node` go.
 
 use crate::utc::Utc;
 use match_runs::{
     Cause, tell_file, tell_made, tell_not_kept, tell_port, tell_unlocked, tell_unused,
 };
+use node_runs::{NodeNote, tell_node_note};
 use std::io;
 use std::io::Write;
 use std::time::{SystemTime, UNIX_EPOCH};
@@ -44,6 +45,11 @@ impl<'a> Notes<'a> {
     /// Tells a file that was made.
     pub(crate) fn tell_made(&mut self, path: &str) {
         tell_made(self.rt.alloc(), path, self);
+    }
+
+    /// Tells a note of a node's process.
+    pub(crate) fn tell_node(&mut self, note: &NodeNote<'_>) {
+        tell_node_note(self.rt.alloc(), self, note);
     }
 
     /// Tells that nothing beside the stores says of which match they are.

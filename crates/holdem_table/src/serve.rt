@@ -68,7 +68,7 @@ fn serve_file(rt: &HostRuntime, file: &MatchFile, notes: &mut Notes<'_>) -> Resu
 }
 
 /// The match that a match file configures, whose game file is read.
-fn configure(
+pub(crate) fn configure(
     rt: &HostRuntime,
     file: &MatchFile,
     notes: &mut Notes<'_>,
@@ -103,7 +103,11 @@ fn seat_ports(config: &Config, first: u16) -> SeatPorts {
 }
 
 /// What a file has. A note names one that can't be read.
-fn read(rt: &HostRuntime, path: &str, notes: &mut Notes<'_>) -> Result<Vec<u8>, Unserved> {
+pub(crate) fn read(
+    rt: &HostRuntime,
+    path: &str,
+    notes: &mut Notes<'_>,
+) -> Result<Vec<u8>, Unserved> {
     match fs::read(rt, path) {
         Ok(text) => Ok(text),
         Err(error) => Err(unread(path, &error, notes)),

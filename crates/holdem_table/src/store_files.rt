@@ -27,9 +27,7 @@ pub(crate) fn open_stores(
 {
     let mut disks = Vec::with_capacity(rt.alloc(), nodes)?;
     for node in 0..nodes {
-        let path = store_path(rt.alloc(), folder, node as u8)?;
-        let file = open_store(rt, path.as_str(), notes)?;
-        let disk = look_at_store(rt, file, path.as_str(), (node as u8, nodes as u8), notes)?;
+        let disk = open_store(rt, folder, (node as u8, nodes as u8), notes)?;
         if disks.push(disk).is_err() {
             return Err(Unserved::from(AllocError));
         }
@@ -37,8 +35,20 @@ pub(crate) fn open_stores(
     Ok(disks)
 }
 
+/// Opens and locks the store of a node, one of so many, and looks whether it is one; the same as of all.
+pub(crate) fn open_store(
+    rt: &HostRuntime,
+    folder: &str,
+    (node, nodes): (u8, u8),
+    notes: &mut Notes<'_>,
+) -> Result<FileDisk, Unserved> {
+    let path = store_path(rt.alloc(), folder, node)?;
+    let file = open_file(rt, path.as_str(), notes)?;
+    look_at_store(rt, file, path.as_str(), (node, nodes), notes)
+}
+
 /// A store file that is there, locked. A note names one that isn't there, or is in use (108).
-fn open_store(rt: &HostRuntime, path: &str, notes: &mut Notes<'_>) -> Result<File, Unserved> {
+fn open_file(rt: &HostRuntime, path: &str, notes: &mut Notes<'_>) -> Result<File, Unserved> {
     let opened = File::options().read(true).write(true).open(rt, path);
     match locked(rt, opened, path, notes) {
         Ok(file) => Ok(file),

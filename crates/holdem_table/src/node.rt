@@ -1,0 +1,255 @@
+//! `node`: runs one node of a match in a process of its own, from the files that a match file names.
+
+ghost use Rattle.std.specs.Prelude.{◌<◌, length, IfOk};
+
+use crate::arguments::NodeArguments;
+use crate::identity::{Identity, identify};
+use crate::init::tell_unused;
+use crate::life_files::LifeFiles;
+use crate::log_files::{begin_log, open_log};
+use crate::notes::Notes;
+use crate::serve::{configure, read};
+use crate::store_files::{cause, open_store};
+use clockwork::limits::SHORTEST;
+use dealer_kind::Config;
+use dealer_node::NodeFault;
+use match_file::{Key, MatchFault, MatchFile, NodeEntries};
+use match_runs::{Cause, Unserved, log_path, store_path};
+use node_links::Own;
+use node_peers::Peers;
+use node_runs::{NodeEnd, NodeNote, node_run};
+use node_seats::Seats;
+use node_service::{Member, NodeServer};
+use node_wires::{BindFault, Failed, TcpWire};
+use promise_store::FileDisk;
+use serving::ServeFault;
+use stations::Station;
+use std::alloc::AllocError;
+use std::fs::File;
+use std::net::SocketAddr;
+
+/// The process of a node over files and sockets.
+type TcpNode<'a> = NodeServer<FileDisk, TcpWire<'a>>;
+
+/// Runs a node of the match of a match file until the match is over and all other nodes know it: speaks with the other nodes,
+/// listens for its seats, and keeps its store and its log.
+///
+/// The match file's entries are looked at, the match compared with the one that the store was made for, the store locked and
+/// read, the ports bound, and the log opened and locked, in this order, before anything is changed. Notes go to standard
+/// error, one a line; the one before a fault names its address or file, where it has one.
+pub(crate) fn node(rt: &HostRuntime, arguments: NodeArguments<'_>) -> Result<(), NodeEnd> {
+    let mut notes = Notes::new(rt, arguments.has_times);
+    let text = read(rt, arguments.path, &mut notes)?;
+    let file = MatchFile::read(rt.alloc(), &text).map_err(Unserved::from)?;
+    run_file(rt, &file, arguments.node, &mut notes)
+}
+
+/// The steps of it once there is a match file to read them from.
+fn run_file(
+    rt: &HostRuntime,
+    file: &MatchFile,
+    node: u8,
+    notes: &mut Notes<'_>,
+) -> Result<(), NodeEnd> {
+    tell_unused(rt, file, notes).map_err(Unserved::from)?;
+    let config = configure(rt, file, notes)?;
+    config.limits();
+    let entries = entries_of(rt, file, &config, node, notes)?;
+    run_entries(rt, config, node, entries, notes)
+}
+
+/// What the match file says of a node, if the match has one of this number. Notes tell the keys that are passed over.
+fn entries_of<'a>(
+    rt: &HostRuntime,
+    file: &'a MatchFile,
+    config: &Config,
+    node: u8,
+    notes: &mut Notes<'_>,
+) -> Result<NodeEntries<'a>, Unserved>
+    ensures { IfOk result (λ _. node < length config.now.sources) }
+{
+    if node as usize >= config.nodes() {
+        return Err(Unserved::Match(MatchFault::BadEntry(Key::Node)));
+    }
+    config.limits();
+    let entries = file.node_entries(rt.alloc(), config.game().players())?;
+    for key in file.passed_over(rt.alloc())? {
+        notes.tell_node(&NodeNote::PassedOver(key.text()));
+    }
+    Ok(entries)
+}
+
+/// Runs a node once all entries are right.
+fn run_entries(
+    rt: &HostRuntime,
+    config: Config,
+    node: u8,
+    entries: NodeEntries<'_>,
+    notes: &mut Notes<'_>,
+) -> Result<(), NodeEnd>
+    requires { node < length config.sources }
+{
+    let NodeEntries {
+        stores,
+        logs,
+        addresses,
+    } = entries;
+    let Some(seats) = addresses.seats.get(node as usize) else {
+        return Err(NodeEnd::from(Unserved::Match(MatchFault::BadEntry(Key::Seats))));
+    };
+    let seats = *seats;
+    let place = Place {
+        rt,
+        stores,
+        logs,
+        node,
+    };
+    let mut lives = LifeFiles::new(rt, stores, node);
+    let mut old_logs = Vec::new(rt.alloc());
+    let mut server = place.begin(config, addresses.peers, seats, &lives, &mut old_logs, notes)?;
+    match node_run(rt.alloc(), &mut server, &mut lives, seats.port(), notes) {
+        Ok(()) => Ok(()),
+        Err(end) => {
+            place.tell_end(&server, &lives, end, notes)?;
+            Err(end)
+        }
+    }
+}
+
+/// Where the files of a node lie.
+#[derive(Clone, Copy)]
+struct Place<'a> {
+    rt: &'a HostRuntime,
+    stores: &'a str,
+    logs: &'a str,
+    node: u8,
+}
+
+impl<'a> Place<'a> {
+    /// Opens the store, the ports and the log, and makes the server. Logs of earlier starts stay open, and so locked.
+    fn begin(
+        &self,
+        config: Config,
+        peers: Vec<SocketAddr>,
+        seats: SocketAddr,
+        lives: &LifeFiles<'_>,
+        old_logs: &mut Vec<File>,
+        notes: &mut Notes<'_>,
+    ) -> Result<TcpNode<'a>, Unserved>
+        requires { self.now.node < length config.sources }
+    {
+        let nodes = config.nodes() as u8;
+        config.limits();
+        let players = config.game().players() as u8;
+        let identity = identify(self.rt, self.stores, self.node, &config, notes)?;
+        let disk = open_store(self.rt, self.stores, (self.node, nodes), notes)?;
+        let known = lives.read(nodes, notes)?;
+        let mut wire = bind(self.rt, peers, self.node, seats, players, notes)?;
+        wire.add_log(self.begin_log(old_logs, notes)?);
+        // Behind all that may be refused of the log, since opening a store of version 1 writes there.
+        let station = self.open_station(config, disk, notes)?;
+        let alloc = self.rt.alloc();
+        let peers = Peers::new(alloc, self.own(nodes, identity), &known, SHORTEST)?;
+        let seats = Seats::new(alloc, players)?;
+        let member = Member::new(alloc, station);
+        Ok(NodeServer::new(alloc, member, wire, peers, seats, nodes))
+    }
+
+    /// What the node says of itself to others, in a match of so many.
+    fn own(&self, nodes: u8, identity: Identity) -> Own {
+        Own {
+            number: self.node,
+            nodes,
+            digest: identity.digest,
+            life: identity.life,
+        }
+    }
+
+    /// Opens the log. What an earlier start left there is kept, as of `serve`.
+    fn begin_log(&self, old_logs: &mut Vec<File>, notes: &mut Notes<'_>) -> Result<File, Unserved> {
+        let log = open_log(self.rt, self.logs, self.node, notes)?;
+        begin_log(self.rt, self.logs, self.node, log, old_logs, notes)
+    }
+
+    /// The station of the node over its store.
+    fn open_station(
+        &self,
+        config: Config,
+        disk: FileDisk,
+        notes: &mut Notes<'_>,
+    ) -> Result<Station<FileDisk>, Unserved>
+        requires { self.now.node < length config.sources }
+    {
+        match Station::open(self.rt.alloc(), config, self.node, disk) {
+            Ok(station) => Ok(station),
+            Err(fault) => {
+                if let NodeFault::Store(_) = fault {
+                    notes.tell_file(self.stores, Cause::Unknown);
+                }
+                Err(Unserved::Fault(ServeFault::Node(fault)))
+            }
+        }
+    }
+
+    /// Tells the file that was at fault where the process ends, if one was.
+    fn tell_end(
+        &self,
+        server: &TcpNode<'_>,
+        lives: &LifeFiles<'_>,
+        end: NodeEnd,
+        notes: &mut Notes<'_>,
+    ) -> Result<(), Unserved> {
+        if lives.tell_failed(notes)? {
+            return Ok(());
+        }
+        match end {
+            NodeEnd::Unserved(Unserved::Fault(ServeFault::Node(NodeFault::Store(_)))) => {
+                let path = store_path(self.rt.alloc(), self.stores, self.node)?;
+                notes.tell_file(path.as_str(), store_cause(server));
+            }
+            NodeEnd::Unserved(Unserved::Fault(ServeFault::LogFailed)) => {
+                let path = log_path(self.rt.alloc(), self.logs, self.node)?;
+                notes.tell_file(path.as_str(), log_cause(server));
+            }
+            _ => {}
+        }
+        Ok(())
+    }
+}
+
+/// Why the system refused a call of the node's disk, if it refused one.
+fn store_cause(server: &TcpNode<'_>) -> Cause {
+    match server.station().node().disk() {
+        Some(disk) => cause(disk),
+        None => Cause::Unknown,
+    }
+}
+
+/// Why the system refused text for the log, if it refused some.
+fn log_cause(server: &TcpNode<'_>) -> Cause {
+    match server.wire().failed() {
+        Some(Failed::Log { kind }) => Cause::of(kind),
+        _ => Cause::Unknown,
+    }
+}
+
+/// Binds the ports. A note names one that can't be had.
+fn bind<'a>(
+    rt: &'a HostRuntime,
+    peers: Vec<SocketAddr>,
+    node: u8,
+    seats: SocketAddr,
+    players: u8,
+    notes: &mut Notes<'_>,
+) -> Result<TcpWire<'a>, Unserved> {
+    match TcpWire::bind(rt, peers, node, seats, players) {
+        Ok(wire) => Ok(wire),
+        Err(BindFault::Port { address, kind }) => {
+            let text = format!(in rt.alloc(); "{address}")?;
+            notes.tell_file(text.as_str(), Cause::of(kind));
+            Err(Unserved::Fault(ServeFault::LinkFailed))
+        }
+        Err(BindFault::Failed { kind: _ }) => Err(Unserved::Fault(ServeFault::LinkFailed)),
+        Err(BindFault::OutOfMemory) => Err(Unserved::from(AllocError)),
+    }
+}

@@ -1,0 +1,90 @@
+-- Notes, files and ends of a node's process, on values.
+use Rattle.std.proofs.Common.{◌≡◌, ℕ, List, [], ◌∷◌, ◌++◌, Some, None, Ok, Err, refl}
+use Rattle.std.specs.Prelude.{codes}
+use Rattle.std.specs.Fmt.{digits}
+use Rattle.peer_codes.specs.declared.fault.RecordFault.TheVariants.{BadHello, BadLength}
+use Rattle.node_links.specs.declared.link_fault.LinkFault.TheVariants.{Record, WentBack as NotTheStore}
+use Rattle.node_links.specs.declared.link_fault.Whose.TheVariants.{Own}
+use Rattle.promise_store.specs.declared.fault.StoreFault.TheVariants.{Disk}
+use Rattle.dealer_node.specs.declared.fault.NodeFault.TheVariants as fault
+use Rattle.serving.specs.declared.serve_fault.ServeFault.TheVariants as serve
+use Rattle.match_file.specs.declared.match_fault.MatchFault.TheVariants as file
+use Rattle.match_runs.specs.declared.unserved.Unserved.TheVariants as unserved
+use Rattle.node_service.specs.declared.told.Told.{Told}
+use Rattle.node_service.specs.declared.told.Told.TheVariants as told
+use Rattle.node_runs.specs.BesideStore.{node_kept_name, life_name}
+use Rattle.node_runs.specs.NodeNotes.{note_text, note_line}
+use Rattle.node_runs.specs.NodeEnds.{status_of, end_text}
+use Rattle.node_runs.specs.ToldNotes.{told_lines}
+use Rattle.node_runs.specs.declared.node_end.NodeEnd.{NodeEnd}
+use Rattle.node_runs.specs.declared.node_end.NodeEnd.TheVariants as end
+use Rattle.node_runs.specs.declared.node_note.NodeNote.TheVariants as note
+
+-- ---- files
+
+kept_of_node_2 : node_kept_name (codes "stores") 2 ≡ codes "stores/node2.kept"
+unfolding digits
+kept_of_node_2 = refl
+
+life_of_a_peer : life_name (codes "stores") 2 0 ≡ codes "stores/node2.peer0.kept"
+unfolding digits
+life_of_a_peer = refl
+
+-- ---- notes
+
+it_begins : note_text (note.Begins (codes "m1") 2 7) ≡ codes "match m1 node 2 front 7"
+unfolding digits
+it_begins = refl
+
+one_joined : note_line (note.Joined 1) ≡ codes "peer 1: joined" ++ 10 ∷ []
+unfolding digits
+one_joined = refl
+
+one_went_back : note_text (note.Refused 1 (NotTheStore Own)) ≡ codes "peer 1: 127 WentBack"
+unfolding digits
+one_went_back = refl
+
+-- how many callers it were is told of more than one
+one_caller : note_text (note.Callers 1 (Record BadHello)) ≡ codes "caller: 122 BadHello"
+one_caller = refl
+
+three_callers : note_text (note.Callers 3 (Record BadLength)) ≡ codes "caller: 120 BadLength (3 times)"
+unfolding digits
+three_callers = refl
+
+-- ---- ends
+
+store_at_fault : status_of (end.Unserved (unserved.Fault (serve.Node (fault.Store Disk)))) ≡ 3
+store_at_fault = refl
+
+two_commands_at_one_slot : status_of (end.Unserved (unserved.Fault (serve.Node fault.Conflict))) ≡ 3
+two_commands_at_one_slot = refl
+
+no_memory : status_of (end.Unserved (unserved.Match file.OutOfMemory)) ≡ 1
+no_memory = refl
+
+log_at_fault : status_of (end.Unserved (unserved.Fault serve.LogFailed)) ≡ 1
+log_at_fault = refl
+
+store_in_use : status_of (end.Unserved unserved.StoreInUse) ≡ 2
+store_in_use = refl
+
+store_of_another_life : end_text end.WentBack ≡ codes "127 WentBack"
+store_of_another_life = refl
+
+-- ---- what is told, by the seats' names, at node 1, which awaits seat 0 at port 7010
+
+abbrev names : List (List ℕ)
+names = codes "alice" ∷ codes "bob" ∷ []
+
+bob_is_seated : told_lines names 1 7010 (told.Seated 1) ≡ (codes "seat 1 (bob) at node 1: seated" ++ 10 ∷ []) ∷ []
+unfolding digits
+bob_is_seated = refl
+
+bob_is_waited_for : told_lines names 1 7010 (told.Waits 1) ≡ (codes "waiting for seat 1 (bob) at node 1, port 7011" ++ 10 ∷ []) ∷ []
+unfolding digits
+bob_is_waited_for = refl
+
+-- of a seat that there isn't nothing is told
+no_seat_2 : told_lines names 1 7010 (told.Left 2) ≡ []
+no_seat_2 = refl

@@ -1,0 +1,3 @@
+mod Examples
+mod RunExamples
+pub mod Runs

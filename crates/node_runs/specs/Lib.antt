@@ -1,0 +1,5 @@
+pub mod BesideStore
+pub mod NodeNotes
+pub mod NodeEnds
+pub mod ToldNotes
+pub mod Running

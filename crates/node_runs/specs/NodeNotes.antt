@@ -1,0 +1,31 @@
+-- The notes of a node's process, and what standard error has of one.
+use Rattle.std.specs.Prelude.{ℕ, nat_lt, if◌then◌else◌, List, [], ◌∷◌, ◌++◌, codes, decimal}
+use Rattle.node_links.specs.Lines.{link_fault_line}
+use Rattle.paxos_wire.specs.Lines.{ballot_line}
+use Rattle.node_runs.specs.declared.node_note.NodeNote.{NodeNote}
+use Rattle.node_runs.specs.declared.node_note.NodeNote.TheVariants as note
+
+-- something of a peer
+abbrev pub peer_text : ℕ → List ℕ → List ℕ
+peer_text peer what = codes "peer " ++ decimal peer ++ codes ": " ++ what
+
+-- how many connections were closed so, where it is more than one
+abbrev pub times_text : ℕ → List ℕ
+times_text count = if nat_lt 1 count then codes " (" ++ decimal count ++ codes " times)" else []
+
+-- what a note says
+abbrev pub note_text : NodeNote → List ℕ
+note_text (note.Begins name node front) = codes "match " ++ name ++ codes " node " ++ decimal node ++ codes " front " ++ decimal front
+note_text (note.PassedOver key) = codes "key " ++ key.now ++ codes " isn't used by node"
+note_text (note.NotCopied path) = path.now ++ codes ": not found: copy it from the machine of node 0"
+note_text (note.Joined peer) = peer_text peer (codes "joined")
+note_text (note.Gone peer) = peer_text peer (codes "gone")
+note_text (note.Refused peer fault) = peer_text peer (link_fault_line fault)
+note_text (note.Callers count fault) = codes "caller: " ++ link_fault_line fault ++ times_text count
+note_text note.Quorum = codes "quorum"
+note_text note.QuorumLost = codes "quorum lost"
+note_text (note.Leads ballot) = codes "leads " ++ ballot_line ballot
+
+-- and its line feed
+abbrev pub note_line : NodeNote → List ℕ
+note_line told = note_text told ++ 10 ∷ []

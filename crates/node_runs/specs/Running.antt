@@ -1,0 +1,118 @@
+-- What a node's process does with its server, turn after turn, and what it tells.
+use Rattle.std.specs.Prelude.{◌≡◌, ◌⊎◌, ℕ, ◌+◌, ◌-◌, ◌^◌, List, [], ◌∷◌, ◌++◌, Option, Some, None, Result, Ok, Err, length}
+use Rattle.promise_store.specs.declared.disk.Disk.{Ghosts}
+use Rattle.node_wires.specs.declared.wire.Wire.{Ghosts as OfWire}
+use Rattle.peer_codes.specs.declared.hello.Life.{Life}
+use Rattle.dealer_node.specs.Nodes.{Node}
+use Rattle.dealer_node.specs.Seeing.{front_in}
+use Rattle.dealer_node.specs.declared.fault.NodeFault.{NodeFault}
+use Rattle.dealer_node.specs.declared.fault.NodeFault.TheVariants.{Spent}
+use Rattle.serving.specs.declared.serve_fault.ServeFault.TheVariants as serve
+use Rattle.stations.specs.Stations.{Look}
+use Rattle.match_runs.specs.Notes.{IsNoted, AreNoted}
+use Rattle.match_runs.specs.declared.unserved.Unserved.TheVariants as unserved
+use Rattle.node_service.specs.Going.{GoesOn as WentOn}
+use Rattle.node_service.specs.Served.{Served}
+use Rattle.node_service.specs.Serving.{served_of, told_in}
+use Rattle.node_service.specs.declared.outcome.Outcome.{Outcome}
+use Rattle.node_service.specs.declared.outcome.Outcome.TheVariants as leaves
+use Rattle.node_service.specs.declared.server.NodeServer.{NodeServer}
+use Rattle.node_service.specs.declared.told.Told.{Told}
+use Rattle.node_service.specs.declared.told.Told.TheVariants as tells
+use Rattle.node_runs.specs.NodeNotes.{note_line}
+use Rattle.node_runs.specs.ToldNotes.{told_lines}
+use Rattle.node_runs.specs.declared.node_end.NodeEnd.{NodeEnd}
+use Rattle.node_runs.specs.declared.node_end.NodeEnd.TheVariants as end
+use Rattle.node_runs.specs.declared.node_note.NodeNote.TheVariants as note
+
+-- a fault of the node as an end of its process
+abbrev pub by_fault : NodeFault → NodeEnd
+by_fault fault = end.Unserved (unserved.Fault (serve.Node fault))
+
+-- ---- what is told
+
+-- which node of which match begins
+abbrev pub begin_line : {D : Type 0} → Look (Node D) → List ℕ
+begin_line look = note_line (note.Begins look.config.setting.title.name look.number (front_in look.node))
+
+-- a life that was first seen is kept, and else nothing is done
+abbrev pub KeepsLife : {K : Type 0} → (K → ℕ → Life → K → Type 0) → Told → K → K → Type 0
+KeepsLife kept (tells.Joined peer (Some life)) old new = kept old peer life new
+KeepsLife kept other old new = new ≡ old
+
+-- there is a life in it that was first seen
+abbrev pub HasLife : Told → Type 0
+HasLife thing = (peer : ℕ) × ((life : Life) × (thing ≡ tells.Joined peer (Some life)))
+
+-- one thing was told, at this node, which awaits seat 0 at this port: before, the life in it was kept, if one is in it
+pub record TellsOne {K N : Type 0} (kept : K → ℕ → Life → K → Type 0) (look : Look N) (port : ℕ) (thing : Told) (held held_after : Option (List ℕ)) (lives lives_after : K) : Type 0 where
+  pub keeps : KeepsLife kept thing lives lives_after
+  pub noted : AreNoted (told_lines look.config.setting.names look.number port thing) held held_after
+
+-- so many things were told, one after another, since notes and keeper were these
+pub data Tells {K N : Type 0} (kept : K → ℕ → Life → K → Type 0) (look : Look N) (port : ℕ) (start : Option (List ℕ)) (first : K) : List Told → Option (List ℕ) → K → Type 0 where
+  none : Tells kept look port start first [] start first
+  one : (before : List Told) (thing : Told) (held held_after : Option (List ℕ)) (lives lives_after : K) → Tells kept look port start first before held lives
+      → TellsOne kept look port thing held held_after lives lives_after → Tells kept look port start first (before ++ thing ∷ []) held_after lives_after
+
+-- ---- how it ends
+
+-- by what the last turn left to do; none where a further turn comes
+abbrev pub end_of : Outcome → Option (Result (Unit {0}) NodeEnd)
+end_of leaves.GoesOn = None
+end_of leaves.Over = Some (Ok tt)
+end_of leaves.WentBack = Some (Err end.WentBack)
+end_of (leaves.Failed fault) = Some (Err (by_fault fault))
+end_of leaves.LogFailed = Some (Err (end.Unserved (unserved.Fault serve.LogFailed)))
+
+-- of all that turns had to tell this was told when it ended so, after so many turns the last of which left this to do
+pub data EndsBy (outcome : Outcome) (count : ℕ) : (waiting told : List Told) → Result (Unit {0}) NodeEnd → Type 0 where
+  -- all of it
+  by_turn : (told : List Told) (answer : Result (Unit {0}) NodeEnd) → end_of outcome ≡ Some answer → EndsBy outcome count told told answer
+  -- all before a life that couldn't be kept
+  unkept : (told more : List Told) (peer : ℕ) (life : Life) (fault : NodeFault) → EndsBy outcome count (told ++ tells.Joined peer (Some life) ∷ more) told (Err (by_fault fault))
+  -- as much as there were steps left
+  by_count : (told more : List Told) → count + length told ≡ 2 ^ 64 - 1 → EndsBy outcome count (told ++ more) told (Err (by_fault Spent))
+
+-- a life stands behind what was told
+abbrev pub StopsAtLife : (waiting told : List Told) → Type 0
+StopsAtLife waiting told = (peer : ℕ) × ((life : Life) × ((more : List Told) × (waiting ≡ told ++ tells.Joined peer (Some life) ∷ more)))
+
+-- ---- turns
+
+module _ {D : Type 0} (disk : Ghosts D) where
+  -- what goes on up to the one goes on up to the other
+  abbrev pub GoesOnTo : Served (Node D) → Served (Node D) → Type 0
+  GoesOnTo here there = (before : Served (Node D)) → WentOn disk [] before here → WentOn disk [] before there
+
+module _ {D W : Type 0} {disk : Ghosts D} {wire : OfWire W} where
+  -- so many turns after one another since the node was started, which left this to do: all that start and turns had to tell, and what the last turn left to do
+  pub data Turns (started : NodeServer D W disk wire) (first : Outcome) : ℕ → List Told → Outcome → NodeServer D W disk wire → Type 0 where
+    none : Turns started first 0 (told_in started) first started
+    one : (count : ℕ) (waiting : List Told) (before next : NodeServer D W disk wire) (outcome : Outcome) → Turns started first count waiting leaves.GoesOn before
+        → WentOn disk [] (served_of before) (served_of next) → Turns started first (count + 1) (waiting ++ told_in next) outcome next
+
+  -- turns were taken and told until it ended so; the keeper is as it was when the last thing was told, unless a life couldn't be kept then
+  pub record Went {K : Type 0} (kept : K → ℕ → Life → K → Type 0) (port : ℕ) (started : NodeServer D W disk wire) (first : Outcome) (answer : Result (Unit {0}) NodeEnd)
+      (new : NodeServer D W disk wire) (held held_after : Option (List ℕ)) (lives lives_after : K) : Type 0 where
+    pub count : ℕ
+    pub outcome : Outcome
+    pub last : NodeServer D W disk wire
+    pub waiting : List Told
+    pub turns : Turns started first count waiting outcome last
+    pub served : served_of new ≡ served_of last
+    pub told : List Told
+    pub lives_then : K
+    pub noted : Tells kept (served_of started).look port held lives told held_after lives_then
+    pub keeper : (lives_after ≡ lives_then) ⊎ StopsAtLife waiting told
+    pub ends : EndsBy outcome count waiting told answer
+
+  -- the node was started, which was told first, and then turns were taken
+  pub record Ran {K : Type 0} (kept : K → ℕ → Life → K → Type 0) (port : ℕ) (old : NodeServer D W disk wire) (answer : Result (Unit {0}) NodeEnd) (new : NodeServer D W disk wire)
+      (held held_after : Option (List ℕ)) (lives lives_after : K) : Type 0 where
+    pub started : NodeServer D W disk wire
+    pub first : Outcome
+    pub begins : WentOn disk [] (served_of old) (served_of started)
+    pub between : Option (List ℕ)
+    pub begun : IsNoted (begin_line (served_of started).look) held between
+    pub went : Went kept port started first answer new between held_after lives lives_after

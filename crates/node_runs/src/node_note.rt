@@ -1,0 +1,155 @@
+//! The notes of `node`: what standard error gets of a node's process, one line each, beside those that `serve` has too.
+
+ghost use Rattle.std.specs.Prelude.{◌≡◌, ◌++◌, codes, decimal, OnOk};
+ghost use Rattle.node_links.specs.Lines.{link_fault_line};
+ghost use Rattle.paxos_wire.specs.Lines.{ballot_line};
+ghost use Rattle.match_runs.specs.Notes.{IsNoted};
+ghost use Rattle.node_runs.specs.NodeNotes.{note_line, note_text, peer_text, times_text};
+
+use match_log::Name;
+use node_links::LinkFault;
+use paxos_wire::Ballot;
+use std::alloc::{AllocError, Global};
+use std::io::Write;
+use streamed::send;
+
+/// A note. Nodes are counted from 0.
+#[derive(Clone, Copy, Debug)]
+pub enum NodeNote<'a> {
+    /// The node begins: of which match, which of its nodes it is, and the slot from which on it doesn't know what is chosen.
+    Begins { name: Name, node: u8, front: u32 },
+    /// A key of the match file that `serve` reads and `node` doesn't.
+    PassedOver(&'a str),
+    /// The file that the machine of node 0 has, and this one hasn't.
+    NotCopied(&'a str),
+    /// A connection to a peer is open.
+    Joined(u8),
+    /// It ended.
+    Gone(u8),
+    /// A connection to a peer was closed by a fault.
+    Refused { peer: u8, fault: LinkFault },
+    /// So many connections of callers were closed by a fault, before it was known who calls.
+    Callers { count: u32, fault: LinkFault },
+    /// More than half of the nodes are here, this one among them.
+    Quorum,
+    /// No more so.
+    QuorumLost,
+    /// This node leads, by this ballot.
+    Leads(Ballot),
+}
+
+/// Writes a note in one piece, and flushes. One that can't be made or written is left out, or a beginning of it stands
+/// there.
+pub fn tell_node_note<W: Write>(alloc: Global, notes: &mut W, note: &NodeNote<'_>)
+    ensures { IsNoted (note_line note.now) (W.contents notes.old) (W.contents notes.new) }
+{
+    let mut line = Vec::new(alloc);
+    if put_line(&mut line, note).is_ok() {
+        write_line(notes, &line);
+    }
+}
+
+/// Writes a line as far as it goes.
+fn write_line<W: Write>(notes: &mut W, line: &[u8])
+    ensures { IsNoted line.now (W.contents notes.old) (W.contents notes.new) }
+{
+    let _ = send(notes, line);
+}
+
+/// Appends a note with its line feed.
+fn put_line(out: &mut Vec<u8>, note: &NodeNote<'_>) -> Result<(), AllocError>
+    ensures { OnOk result (out.new.items ≡ out.old.items ++ note_line note.now) }
+{
+    put_note(out, note)?;
+    out.extend_from_slice(b"\n")
+}
+
+/// Appends a note.
+fn put_note(out: &mut Vec<u8>, note: &NodeNote<'_>) -> Result<(), AllocError>
+    ensures { OnOk result (out.new.items ≡ out.old.items ++ note_text note.now) }
+{
+    match note {
+        NodeNote::Begins { name, node, front } => put_begin(out, name, *node, *front),
+        NodeNote::PassedOver(key) => put_passed_over(out, key),
+        NodeNote::NotCopied(path) => {
+            put_both(out, path, ": not found: copy it from the machine of node 0")
+        }
+        NodeNote::Joined(peer) => put_peer(out, *peer, "joined"),
+        NodeNote::Gone(peer) => put_peer(out, *peer, "gone"),
+        NodeNote::Refused { peer, fault } => put_refused(out, *peer, fault),
+        NodeNote::Callers { count, fault } => put_callers(out, *count, fault),
+        NodeNote::Quorum => out.extend_from_slice(b"quorum"),
+        NodeNote::QuorumLost => out.extend_from_slice(b"quorum lost"),
+        NodeNote::Leads(ballot) => put_lead(out, ballot),
+    }
+}
+
+/// Appends which node of which match begins, and its front.
+fn put_begin(out: &mut Vec<u8>, name: &Name, node: u8, front: u32) -> Result<(), AllocError>
+    ensures { OnOk result (out.new.items ≡ out.old.items ++ (codes "match " ++ name.now ++ codes " node " ++ decimal node ++ codes " front " ++ decimal front)) }
+{
+    out.extend_from_slice(b"match ")?;
+    out.extend_from_slice(name.as_bytes())?;
+    let text = format!(in *out.allocator(); " node {node} front {front}")?;
+    out.extend_from_slice(text.as_bytes())
+}
+
+/// Appends that a key is passed over.
+fn put_passed_over(out: &mut Vec<u8>, key: &str) -> Result<(), AllocError>
+    ensures { OnOk result (out.new.items ≡ out.old.items ++ (codes "key " ++ key.now ++ codes " isn't used by node")) }
+{
+    let text = format!(in *out.allocator(); "key {key} isn't used by node")?;
+    out.extend_from_slice(text.as_bytes())
+}
+
+/// Appends one text behind another.
+fn put_both(out: &mut Vec<u8>, front: &str, behind: &str) -> Result<(), AllocError>
+    ensures { OnOk result (out.new.items ≡ out.old.items ++ (front.now ++ behind.now)) }
+{
+    out.extend_from_slice(front.as_bytes())?;
+    out.extend_from_slice(behind.as_bytes())
+}
+
+/// Appends what happened to a peer.
+fn put_peer(out: &mut Vec<u8>, peer: u8, what: &str) -> Result<(), AllocError>
+    ensures { OnOk result (out.new.items ≡ out.old.items ++ peer_text peer what.now) }
+{
+    let text = format!(in *out.allocator(); "peer {peer}: {what}")?;
+    out.extend_from_slice(text.as_bytes())
+}
+
+/// Appends by which fault the connection to a peer was closed.
+fn put_refused(out: &mut Vec<u8>, peer: u8, fault: &LinkFault) -> Result<(), AllocError>
+    ensures { OnOk result (out.new.items ≡ out.old.items ++ peer_text peer (link_fault_line fault.now)) }
+{
+    let text = format!(in *out.allocator(); "peer {peer}: {fault}")?;
+    out.extend_from_slice(text.as_bytes())
+}
+
+/// Appends by which fault connections of callers were closed, and how many.
+fn put_callers(out: &mut Vec<u8>, count: u32, fault: &LinkFault) -> Result<(), AllocError>
+    ensures { OnOk result (out.new.items ≡ out.old.items ++ (codes "caller: " ++ link_fault_line fault.now ++ times_text count)) }
+{
+    let text = format!(in *out.allocator(); "caller: {fault}")?;
+    out.extend_from_slice(text.as_bytes())?;
+    put_times(out, count)
+}
+
+/// Appends how many it were, where it is more than one.
+fn put_times(out: &mut Vec<u8>, count: u32) -> Result<(), AllocError>
+    ensures { OnOk result (out.new.items ≡ out.old.items ++ times_text count) }
+{
+    if 1 < count {
+        let text = format!(in *out.allocator(); " ({count} times)")?;
+        out.extend_from_slice(text.as_bytes())?;
+    }
+    Ok(())
+}
+
+/// Appends by which ballot the node leads.
+fn put_lead(out: &mut Vec<u8>, ballot: &Ballot) -> Result<(), AllocError>
+    ensures { OnOk result (out.new.items ≡ out.old.items ++ (codes "leads " ++ ballot_line ballot.now)) }
+{
+    let text = format!(in *out.allocator(); "leads {ballot}")?;
+    out.extend_from_slice(text.as_bytes())
+}

@@ -1,0 +1,140 @@
+//! The process of a node, turn after turn, with its notes.
+
+ghost use Rattle.std.specs.Prelude.{◌≡◌, [], true, false, OnErr, OnOk};
+ghost use Rattle.stations.specs.Looking.{look_of};
+ghost use Rattle.node_service.specs.Going.{GoesOn};
+ghost use Rattle.node_service.specs.Serving.{served_of};
+ghost use Rattle.node_service.specs.Ending.{is_well};
+ghost use Rattle.match_runs.specs.Notes.{IsNoted};
+ghost use Rattle.node_runs.specs.Running.{Ran, Went, GoesOnTo, TellsOne, KeepsLife, HasLife, begin_line, end_of};
+
+use crate::life_keeper::LifeKeeper;
+use crate::node_end::NodeEnd;
+use crate::node_note::{NodeNote, tell_node_note};
+use crate::told_notes::tell_told;
+use dealer_node::NodeFault;
+use match_runs::Unserved;
+use node_service::laws::turns_are_one;
+use node_service::{NodeServer, Outcome, Told};
+use node_wires::Wire;
+use promise_store::Disk;
+use serving::ServeFault;
+use stations::Station;
+use std::alloc::Global;
+use std::io::Write;
+
+/// Starts a node and takes its turns until one says that the match is over here and known everywhere, or that the process
+/// is to end.
+///
+/// `port` is where the node awaits seat 0; seat s is awaited at the port that is s higher. What happens is told to the writer
+/// of notes, one line each, in the order in which the server tells it: first which node of which match begins. The life that
+/// was first seen of a peer's store is kept before it is told, and before the next turn. A note that can't be written is left
+/// out, and changes nothing of the match.
+///
+/// What is promised of turns holds of all of them together: the node did its own deeds, and the log has what it showed to it,
+/// all of it where the run ends well.
+/// The `Err` is that of the last turn, or that a life couldn't be kept.
+pub fn node_run<D: Disk + Drop, W: Wire + Drop, L: LifeKeeper, N: Write>(
+    alloc: Global,
+    server: &mut NodeServer<D, W>,
+    lives: &mut L,
+    port: u16,
+    notes: &mut N,
+) -> Result<(), NodeEnd>
+    ensures ran { Ran L.kept port server.old result server.new (N.contents notes.old) (N.contents notes.new) lives.old lives.new }
+    ensures whole { GoesOn D.Disk [] (served_of server.old) (served_of server.new) }
+    ensures log { OnOk result ((served_of server.new).log_failed ≡ false) }
+{
+    let first = server.start();
+    tell_begin(alloc, server.station(), notes);
+    take_turns(alloc, server, first, lives, port, notes)
+}
+
+/// Takes turns, where the start left this to do, and tells what it and they have to tell.
+fn take_turns<D: Disk + Drop, W: Wire + Drop, L: LifeKeeper, N: Write>(
+    alloc: Global,
+    server: &mut NodeServer<D, W>,
+    first: Outcome,
+    lives: &mut L,
+    port: u16,
+    notes: &mut N,
+) -> Result<(), NodeEnd>
+    requires { is_well first ≡ true → (served_of server.old).log_failed ≡ false }
+    ensures went { Went L.kept port server.old first result server.new (N.contents notes.old) (N.contents notes.new) lives.old lives.new }
+    ensures whole { GoesOnTo D.Disk (served_of server.old) (served_of server.new) }
+    ensures log { OnOk result ((served_of server.new).log_failed ≡ false) }
+{
+    turns_are_one::<D>();
+    let mut outcome = first;
+    let mut most = 0;
+    for steps in 0..u64::MAX {
+        if let Some(told) = server.notice() {
+            if let Err(fault) = tell(alloc, server.station(), &told, lives, port, notes) {
+                return Err(NodeEnd::from(fault));
+            }
+        } else if let Some(answer) = end_of(outcome) {
+            return answer;
+        } else {
+            (outcome, most) = server.turn(alloc, most);
+        }
+    }
+    // No match has so many turns: its rounds and slots are spent long before, and nobody waits so long.
+    Err(NodeEnd::from(NodeFault::Spent))
+}
+
+/// How the process ends by what a turn leaves to do; none where it goes on.
+fn end_of(outcome: Outcome) -> Option<Result<(), NodeEnd>>
+    ensures { result ≡ end_of outcome }
+{
+    match outcome {
+        Outcome::GoesOn => None,
+        Outcome::Over => Some(Ok(())),
+        Outcome::WentBack => Some(Err(NodeEnd::WentBack)),
+        Outcome::Failed(fault) => Some(Err(NodeEnd::from(fault))),
+        Outcome::LogFailed => Some(Err(NodeEnd::Unserved(Unserved::Fault(ServeFault::LogFailed)))),
+    }
+}
+
+/// Tells which node of which match begins.
+fn tell_begin<D: Disk + Drop, N: Write>(alloc: Global, station: &Station<D>, notes: &mut N)
+    ensures { IsNoted (begin_line (look_of station.now)) (N.contents notes.old) (N.contents notes.new) }
+{
+    let note = NodeNote::Begins {
+        name: *station.config().name(),
+        node: station.number(),
+        front: station.node().front(),
+    };
+    tell_node_note(alloc, notes, &note);
+}
+
+/// Tells one thing that happened at this station. A life that was first seen is kept before; where it can't be, nothing is
+/// told.
+fn tell<D: Disk + Drop, L: LifeKeeper, N: Write>(
+    alloc: Global,
+    station: &Station<D>,
+    told: &Told,
+    lives: &mut L,
+    port: u16,
+    notes: &mut N,
+) -> Result<(), NodeFault>
+    ensures told { OnOk result (TellsOne L.kept (look_of station.now) port told.now (N.contents notes.old) (N.contents notes.new) lives.old lives.new) }
+    ensures unkept { OnErr result (HasLife told.now × (N.contents notes.new ≡ N.contents notes.old)) }
+{
+    keep_life(lives, told)?;
+    tell_told(alloc, station.config(), station.number(), port, told, notes);
+    Ok(())
+}
+
+/// Has a life kept that was seen first.
+fn keep_life<L: LifeKeeper>(lives: &mut L, told: &Told) -> Result<(), NodeFault>
+    ensures kept { OnOk result (KeepsLife L.kept told.now lives.old lives.new) }
+    ensures unkept { OnErr result (HasLife told.now) }
+{
+    match told {
+        Told::Joined {
+            peer,
+            life: Some(life),
+        } => lives.keep(*peer, life),
+        _ => Ok(()),
+    }
+}
