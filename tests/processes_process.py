@@ -27,7 +27,7 @@ nodes = module_of("nodes")
 
 # What a process does and waits for, in milliseconds.
 BEAT, HANGUP, REPEAT, TURN = 50.0, 300.0, 100.0, 20.0
-CALL, REDIAL, CONNECT, ASK_AGAIN = 0.02, 20.0, 500.0, 20.0
+CALL, REDIAL, CONNECT, ASK_AGAIN, FORWARD_AGAIN = 0.02, 20.0, 500.0, 20.0, 20.0
 END_READ, UNHEARD = 10.0, 10_000.0
 # How many frames wait for a connection.
 WAITING_FRAMES = 16
@@ -100,6 +100,7 @@ class Peer:
         self.number, self.accepted, self.over = number, None, False
         self.wire, self.since, self.heard_ever = None, now, now
         self.last, self.repeated, self.asked = None, -1e9, (None, -1e9)
+        self.forwarded, self.forwarded_at = None, -1e9
         self.waiting, self.owed, self.lost = [], None, None
         self.dialled = None
         self.clear()
@@ -216,7 +217,7 @@ class Process:
             self.wake = self.world.now
             self.world.at(self.world.now, self.turn, self.life)
         else:
-            self.wake = max(min(self.until, self.next_beat), self.world.now + 0.05)
+            self.wake = max(min(self.until, self.next_beat, self.next_forward()), self.world.now + 0.05)
             self.world.at(self.wake, self.awake, self.life, self.wake)
 
     def awake(self, life, when):
@@ -227,18 +228,19 @@ class Process:
 
     def call(self, body):
         node = self.node
-        promised, stored, front = node.promised, node.accepted.count, node.front
+        promised, stored, front, was_idle = node.promised, node.accepted.count, node.front, node.state == "idle"
         answer = body()
         stores = (node.promised, node.accepted.count) != (promised, stored)
         cost = CALL + (2 * self.world.sync() if stores else 0.0) + self.world.slowness(self.number)
         self.busy = True
-        self.world.after(cost, self.called, self.life, answer, promised, front, cost)
+        has_ended = self.world.tells_ends and node.state == "idle" and not was_idle
+        self.world.after(cost, self.called, self.life, answer, promised, front, cost, has_ended)
 
-    def called(self, life, answer, promised, front, cost):
+    def called(self, life, answer, promised, front, cost, has_ended):
         if not self.up or life != self.life:
             return
         if self.paused:
-            self.world.after(1.0, self.called, life, answer, promised, front, cost)
+            self.world.after(1.0, self.called, life, answer, promised, front, cost, has_ended)
             return
         now, node = self.world.now, self.node
         self.busy, self.last_call = False, cost
@@ -246,14 +248,16 @@ class Process:
         if node.front != front:
             self.moved, self.in_vain = now, 0
             for peer in self.peers.values():
+                peer.forwarded = None
                 if peer.beat is not None and peer.beat["front"] >= front:
                     peer.beat["below"] = now
         if node.promised != promised:
-            self.promised_since = now
+            if promised == nodes.NONE or node.promised[1] != promised[1]:
+                self.promised_since = now
             self.note_leader(node.promised[1])
         self.hand_on(answer)
         self.world.progressed(node.front)
-        self.beat_if_due()
+        self.beat_all() if has_ended else self.beat_if_due()
         if self.inbox and now - self.turn_began >= TURN:
             self.turn(life)
         else:
@@ -263,6 +267,8 @@ class Process:
         """A promise to a ballot tells that its node campaigns."""
         self.was_led = True
         peer = self.peers.get(leader)
+        if self.world.by_beats:
+            return
         if peer is not None and peer.beat is not None and not peer.beat["leads"]:
             peer.beat.update(leads=True, told=self.world.now)
 
@@ -287,6 +293,8 @@ class Process:
             peer.asked = (message[1] // 64, self.world.now)
         if message[0] == nodes.ACCEPTED:
             peer.last, peer.accepted = message, message[2]
+        if message[0] == nodes.FORWARD:
+            peer.forwarded, peer.forwarded_at = message, self.world.now
         if message[0] in (nodes.PREPARE, nodes.ACCEPT):
             peer.owed, peer.lost = message, None
         if peer.wire is None:
@@ -298,6 +306,19 @@ class Process:
         if peer.last is not None:
             peer.repeated = self.world.now
             peer.wire.send(self.number, ("frame", peer.last))
+
+    def forward_again(self):
+        """An act that went on to a peer goes again as long as the front stands: the peer may not have known yet for what
+        it was."""
+        now = self.world.now
+        for peer in self.peers.values():
+            if peer.forwarded is not None and peer.wire is not None and now - peer.forwarded_at >= FORWARD_AGAIN:
+                peer.forwarded_at = now
+                peer.wire.send(self.number, ("frame", peer.forwarded))
+
+    def next_forward(self):
+        """When that is next."""
+        return min((p.forwarded_at + FORWARD_AGAIN for p in self.peers.values() if p.forwarded and p.wire), default=1e18)
 
     # Connections.
 
@@ -421,6 +442,7 @@ class Process:
                 self.close(peer)
             elif peer.beat and peer.beat["front"] < self.node.front and now - peer.repeated >= REPEAT:
                 self.repeat(peer)
+        self.forward_again()
         self.beat_if_due()
 
     def beat_if_due(self):

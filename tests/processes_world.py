@@ -132,21 +132,30 @@ class Bot:
 class World:
     """All of a run. `options` are what a batch says of it, `faults` is called as the match goes on."""
 
-    def __init__(self, clock, seed, count=3, hands=20, way=0.05, sync=0.4, think=0.05, at=(0, 0), stays=False, verbose=False):
+    def __init__(self, clock, seed, count=3, hands=20, way=0.05, sync=0.4, think=0.05, at=(0, 0), stays=False, tells_ends=False, by_beats=False, busy=0.0, verbose=False):
         self.clock, self.random, self.count = clock, random.Random(seed), count
         self.now, self.queue, self.events = 0.0, [], 0
         self.way_ms, self.sync_ms, self.think_ms, self.verbose = way, sync, think, verbose
+        # Each end of a campaign is told at once, so that others know of it before the next campaign begins.
+        self.tells_ends = tells_ends
+        # That a node campaigns is known by its beats alone, and not by its Prepares.
+        self.by_beats = by_beats
+        # Now and then something waits for a processor, for so many milliseconds at most.
+        self.busy = busy
         self.match = Match(count, hands)
         self.wires, self.cuts, self.slow, self.gone = [], set(), {}, set()
         self.processes = [Process(self, number) for number in range(count)]
         self.bots = [Bot(self, seat, at[seat], stays) for seat in range(2)]
-        self.applied, self.last_applied, self.ticks = 0, 0.0, 0
+        self.applied, self.last_applied, self.longest, self.ticks = 0, 0.0, 0.0, 0
         self.fault_at, self.gaps, self.faults = None, [], 0
         self.on_progress, self.on_end, self.writes = (lambda front: None), (lambda: None), (lambda process, receiver, message: True)
         self.held_until = 0.0
 
     def way(self):
-        return self.way_ms * (1 + self.random.random())
+        return self.way_ms * (1 + self.random.random()) + self.waits()
+
+    def waits(self):
+        return self.busy * self.random.random() if self.busy and self.random.random() < 0.02 else 0.0
 
     def sync(self):
         return self.sync_ms
@@ -155,7 +164,7 @@ class World:
         return max(self.think_ms, self.held_until - self.now)
 
     def slowness(self, number):
-        return self.slow.get(number, 0.0)
+        return self.slow.get(number, 0.0) + self.waits()
 
     def at(self, when, what, *arguments):
         self.events += 1
@@ -195,6 +204,7 @@ class World:
 
     def progressed(self, front):
         if front > self.applied:
+            self.longest = max(self.longest, self.now - self.last_applied)
             self.applied = front
             self.went_on()
             if self.fault_at is not None:

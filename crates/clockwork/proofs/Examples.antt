@@ -5,16 +5,18 @@ use Rattle.clockwork.specs.declared.known.Link.{Link}
 use Rattle.clockwork.specs.declared.known.Link.TheVariants.{Closed, Open}
 use Rattle.clockwork.specs.declared.known.Peer.{Peer}
 use Rattle.clockwork.specs.declared.known.Known.{Known}
+use Rattle.clockwork.specs.declared.patience.Awaited.{Awaited}
 use Rattle.clockwork.specs.declared.answer.Due.TheVariants.{Tick, Nothing}
-use Rattle.clockwork.specs.declared.standing.Standing.TheVariants.{Campaigns, Fresh, Led, Lost, Follows}
+use Rattle.clockwork.specs.declared.standing.Standing.TheVariants.{Campaigns, Fresh, Led, Lost, Idle, Follows}
 use Rattle.clockwork.specs.Waits.{left, times, doubled, again}
-use Rattle.clockwork.specs.Presence.{trip, slowest, pace_of, lag_of, told, present, is_quorate, is_above, is_behind, can_help, one_can_help, behind_wait}
+use Rattle.clockwork.specs.Presence.{trip, slowest, pace_of, lag_of, soon_of, told, present, is_quorate, is_above, is_behind, can_help, one_can_help, behind_wait}
 use Rattle.clockwork.specs.Ranks.{is_before, rank_by_number, turn, comes_sooner, rank_behind, is_as_far, rank_as_far}
 use Rattle.clockwork.specs.Helping.{lag_within, lagging, has_passed, lagging_left, least_left, help_left, one_lags}
-use Rattle.clockwork.specs.Standings.{idle_since, lost_since, leader_lost, standing_to}
-use Rattle.clockwork.specs.Work.{has_work, is_reopened, steps_by_number, steps_behind, row_left, work_left}
+use Rattle.clockwork.specs.Standings.{idle_since, gone_since, standing_over, standing_behind, standing_to}
+use Rattle.clockwork.specs.Work.{has_work, is_reopened, steps_by_number, steps_behind, is_untold, idle_wait, row_left, work_left}
 use Rattle.clockwork.specs.Dues.{due_in, behind_left, awaited, due_of}
-use Rattle.clockwork.specs.Laws.{LongAgo, HasWaited, IsReason, to_catch_up, for_a_peer, to_work, IsLinkPast, heard_again}
+use Rattle.clockwork.specs.Patience.{is_ours, away_wait, away_left, away_due_of, HasWaitedFor, IsOrderedLongAgo}
+use Rattle.clockwork.specs.Laws.{LongAgo, HasWaited, IsReason, to_catch_up, for_a_peer, to_work, to_be_heard, IsLinkPast, heard_again}
 
 -- ---- waits
 
@@ -67,6 +69,14 @@ lag_is_200_milliseconds = refl
 or_twice_the_slowest : lag_of 300000 ≡ 600000
 unfolding lag_of
 or_twice_the_slowest = refl
+
+soon_is_a_step : soon_of 1000 ≡ 30000
+unfolding soon_of
+soon_is_a_step = refl
+
+or_as_long_as_the_slowest : soon_of 150000 ≡ 150000
+unfolding soon_of
+or_as_long_as_the_slowest = refl
 
 -- a peer that told this front at a second
 abbrev beat_of : ℕ → Beat
@@ -255,19 +265,19 @@ unfolding standing_to
 it_led_itself any = refl
 
 its_leader_is_gone : (any : Known) → standing_to (lost any) 1000000 0 ≡ Lost 0 4999000
-unfolding standing_to leader_lost lost_since
+unfolding standing_to standing_behind standing_over gone_since
 its_leader_is_gone any = refl
 
 its_leader_is_silent : (any : Known) → standing_to (among_two any (heard_at 3900000 (Some (record (beat_of 7) { leads = true })))) 1000000 0 ≡ Lost 0 4900000
-unfolding among_two standing_to leader_lost lost_since
+unfolding among_two standing_to standing_behind standing_over gone_since
 its_leader_is_silent any = refl
 
-its_leader_told_that_it_does_not_lead : (any : Known) → standing_to (among_two any (heard_at 5000000 (Some (beat_of 7)))) 1000000 0 ≡ Lost 0 1000000
-unfolding among_two standing_to leader_lost lost_since idle_since
+its_leader_told_that_it_does_not_lead : (any : Known) → standing_to (among_two any (heard_at 5000000 (Some (beat_of 7)))) 1000000 0 ≡ Idle 0 1000000
+unfolding among_two standing_to standing_behind standing_over gone_since idle_since told
 its_leader_told_that_it_does_not_lead any = refl
 
 it_follows : (any : Known) → standing_to (among_two any (heard_at 5000000 (Some (record (beat_of 7) { leads = true })))) 1000000 0 ≡ Follows 0
-unfolding among_two standing_to leader_lost lost_since idle_since
+unfolding among_two standing_to standing_behind standing_over gone_since idle_since told
 it_follows any = refl
 
 an_act_is_work : (any : Known) → has_work (record (lost any) { act_waits = true }) ≡ true
@@ -302,12 +312,43 @@ one_that_follows_waits : (any : Known) → row_left (record (lost any) { work_si
 unfolding row_left steps_behind rank_behind comes_sooner turn told times
 one_that_follows_waits any = refl
 
+an_idle_leader_is_left_a_step : (any : Known) → row_left (record (lost any) { act_waits = true; work_since = 4990000; last_call = 1000 }) 1000000 (Idle 0 4980000) ≡ 20000
+unfolding row_left idle_wait soon_of slowest trip
+an_idle_leader_is_left_a_step any = refl
+
+of_those_who_would_deal_one_after_another : (any : Known) → idle_wait (record (lost any) { act_waits = false; last_call = 1000; number = 1 }) 1000000 2 ≡ 30000
+unfolding idle_wait soon_of slowest trip steps_behind rank_behind comes_sooner turn told
+of_those_who_would_deal_one_after_another any = refl
+
+an_act_from_before_the_promise : (any : Known) → is_untold (record any { act_waits = true; work_since = 4000000; promised_since = 4000001 }) ≡ true
+unfolding is_untold
+an_act_from_before_the_promise any = refl
+
+an_act_that_went_on_to_the_leader : (any : Known) → is_untold (record any { act_waits = true; work_since = 4000000; promised_since = 4000000 }) ≡ false
+unfolding is_untold
+an_act_that_went_on_to_the_leader any = refl
+
+a_hand_to_deal_is_no_act : (any : Known) → is_untold (record any { act_waits = false; work_since = 4000000; promised_since = 4000001 }) ≡ false
+unfolding is_untold
+a_hand_to_deal_is_no_act any = refl
+
+abbrev overtaken : Known → Known
+overtaken any = record (lost any) { act_waits = true; work_since = 4000000; promised_since = 4000001; last_call = 1000 }
+
+an_act_that_is_untold_ticks_at_once : (any : Known) → work_left (overtaken any) 1000000 (Follows 2) ≡ 0
+unfolding work_left is_untold
+an_act_that_is_untold_ticks_at_once any = refl
+
+and_soon_again : (any : Known) → work_left (record (overtaken any) { ticks = Some (record { last = 4990000; in_vain = 1 }) }) 1000000 (Follows 2) ≡ 50000
+unfolding work_left is_untold soon_of slowest trip times
+and_soon_again any = refl
+
 nothing_without_work : (any : Known) → due_of (lost any) ≡ Nothing 6000000
 unfolding due_of slowest trip pace_of is_quorate present told awaited is_behind is_above has_work help_left lag_of least_left lagging_left lagging rank_as_far is_as_far due_in
 nothing_without_work any = refl
 
 a_lost_leader_is_followed_at_once : (any : Known) → due_of (record (lost any) { act_waits = true }) ≡ Tick
-unfolding due_of slowest trip pace_of is_quorate present told awaited is_behind is_above has_work help_left lag_of least_left lagging_left lagging rank_as_far is_as_far due_in work_left standing_to leader_lost lost_since row_left
+unfolding due_of slowest trip pace_of is_quorate present told awaited is_behind is_above has_work help_left lag_of least_left lagging_left lagging rank_as_far is_as_far due_in work_left standing_to standing_behind standing_over gone_since row_left
 a_lost_leader_is_followed_at_once any = refl
 
 not_without_a_quorum : (any : Known) → due_of (record (with_peers any (peer_at 0 (Closed 4999000) ∷ peer_at 2 (Closed 4999000) ∷ [])) { act_waits = true }) ≡ Nothing 6000000
@@ -351,7 +392,70 @@ unfolding is_behind is_above told has_work pace_of slowest trip
 an_act_is_a_reason any = to_work refl refl (inl tt)
 
 there_is_none_at_rest : (any : Known) → IsReason (lost any) → ⊥
-unfolding is_behind is_above told has_work pace_of slowest trip one_lags has_passed lagging lag_of
+unfolding is_behind is_above told has_work pace_of slowest trip one_lags has_passed lagging lag_of is_untold
 there_is_none_at_rest any (to_catch_up is waited) = cc
 there_is_none_at_rest any (for_a_peer front is waited) = cc
 there_is_none_at_rest any (to_work front is waited) = cc
+there_is_none_at_rest any (to_be_heard front is waited) = cc
+
+-- ---- patience
+
+-- a seat that sits here has held the table for ten seconds, of twenty
+abbrev held : Awaited
+held = record { time = 50000000; patience = 20000000; over = false; hand_runs = true; quorate = true; sits_here = true; sits_elsewhere = false; rank = 2; since = 40000000; ordered = None }
+
+ten_are_left : away_due_of held ≡ Nothing 51000000
+unfolding away_due_of is_ours away_left away_wait due_in
+ten_are_left = refl
+
+it_is_played_for : away_due_of (record held { since = 30000000 }) ≡ Tick
+unfolding away_due_of is_ours away_left away_wait due_in
+it_is_played_for = refl
+
+not_a_moment_before : away_due_of (record held { since = 30000001 }) ≡ Nothing 50000001
+unfolding away_due_of is_ours away_left away_wait due_in
+not_a_moment_before = refl
+
+two_steps_later_where_it_sits_nowhere : away_due_of (record held { sits_here = false; since = 29950000 }) ≡ Nothing 50010000
+unfolding away_due_of is_ours away_left away_wait due_in
+two_steps_later_where_it_sits_nowhere = refl
+
+not_again_for_eight_seconds : away_due_of (record held { since = 0; ordered = Some 42500000 }) ≡ Nothing 50500000
+unfolding away_due_of is_ours away_left away_wait due_in
+not_again_for_eight_seconds = refl
+
+nor_for_the_patience_where_that_is_shorter : away_due_of (record held { patience = 3000000; since = 0; ordered = Some 47000001 }) ≡ Nothing 50000001
+unfolding away_due_of is_ours away_left away_wait due_in
+nor_for_the_patience_where_that_is_shorter = refl
+
+not_where_it_sits_elsewhere : is_ours (record held { sits_here = false; sits_elsewhere = true }) ≡ false
+unfolding is_ours
+not_where_it_sits_elsewhere = refl
+
+who_sits_here_too_is_ours : is_ours (record held { sits_elsewhere = true }) ≡ true
+unfolding is_ours
+who_sits_here_too_is_ours = refl
+
+not_after_the_end : is_ours (record held { over = true }) ≡ false
+unfolding is_ours
+not_after_the_end = refl
+
+not_between_hands : is_ours (record held { hand_runs = false }) ≡ false
+unfolding is_ours
+not_between_hands = refl
+
+not_apart : is_ours (record held { quorate = false }) ≡ false
+unfolding is_ours
+not_apart = refl
+
+it_has_held_the_table : HasWaitedFor (record held { since = 30000000 })
+it_has_held_the_table = omega arith
+
+it_has_not_for_so_long : HasWaitedFor (record held { since = 30000001 }) → ⊥
+it_has_not_for_so_long waited = omega arith
+
+ordered_eight_seconds_ago : IsOrderedLongAgo (record held { ordered = Some 42000000 })
+ordered_eight_seconds_ago = omega arith
+
+ordered_just_now : IsOrderedLongAgo (record held { ordered = Some 42000001 }) → ⊥
+ordered_just_now ago = omega arith

@@ -13,14 +13,14 @@ use Rattle.clockwork.specs.declared.known.Known.{Known}
 use Rattle.clockwork.specs.declared.answer.Due.{Due}
 use Rattle.clockwork.specs.declared.answer.Due.TheVariants.{Tick}
 use Rattle.clockwork.specs.declared.standing.Standing.{Standing}
-use Rattle.clockwork.specs.declared.standing.Standing.TheVariants.{Campaigns, Fresh, Led, Lost, Follows}
+use Rattle.clockwork.specs.declared.standing.Standing.TheVariants.{Campaigns, Fresh, Led, Lost, Idle, Follows}
 use Rattle.clockwork.specs.declared.limits.TheConstants.{SHORTEST, LONGEST, STEP, LOOK, MOST_HELP, MOST_PEERS, BEHIND, ALONE}
 use Rattle.clockwork.specs.Waits.{left, times, doubled, in_vain, again, spaced}
-use Rattle.clockwork.specs.Presence.{told, slowest, pace_of, lag_of, present, is_quorate, is_above, is_behind, one_can_help, behind_wait}
+use Rattle.clockwork.specs.Presence.{told, slowest, pace_of, lag_of, soon_of, present, is_quorate, is_above, is_behind, one_can_help, behind_wait}
 use Rattle.clockwork.specs.Ranks.{is_before, rank_by_number, comes_sooner, rank_behind, is_as_far, rank_as_far}
 use Rattle.clockwork.specs.Helping.{lag_within, waits_since, lagging, has_passed, lagging_left, least_left, help_left, one_lags}
-use Rattle.clockwork.specs.Standings.{idle_since, lost_since, leader_lost, behind_leader, standing_to, standing, is_campaign}
-use Rattle.clockwork.specs.Work.{has_work, one_reopened, steps_by_number, steps_behind, row_left, work_left}
+use Rattle.clockwork.specs.Standings.{idle_since, gone_since, standing_by, standing_over, standing_behind, standing_to, standing, is_campaign, is_follower}
+use Rattle.clockwork.specs.Work.{has_work, one_reopened, steps_by_number, steps_behind, is_untold, soon_in, idle_wait, row_left, work_left}
 use Rattle.clockwork.specs.Dues.{behind_left, awaited, pace_in, due_of}
 use Rattle.clockwork.specs.Laws.{behind, IsBeatPast, IsLinkPast, IsPast, ten_seconds, heard_again, peer_later, later, IsNeeded, ComesInTime}
 use Rattle.clockwork.proofs.Lists.{each_of_all, each_changed, count_alike, any_alike, found_of_each, least_is_none}
@@ -50,6 +50,10 @@ lag_most : (slowest : ℕ) → lag_of slowest ≤ LONGEST
 unfolding lag_of
 lag_most slowest = omega arith
 
+soon_most : (slowest : ℕ) → soon_of slowest ≤ LONGEST
+unfolding soon_of
+soon_most slowest = omega arith
+
 doubled_most : (wait ticks most : ℕ) → wait ≤ LONGEST → most ≤ LONGEST → doubled wait ticks most ≤ LONGEST
 doubled_most wait ticks most short bound = at_most (wait * times ticks)
   where
@@ -70,6 +74,21 @@ spaced_none time (Some ticks) past = omega arith
 
 steps_few : (rank count : ℕ) → rank ≤ count → count ≤ MOST_PEERS → STEP * rank ≤ 1000000
 steps_few rank count within few = omega arith
+
+-- ---- the standing ten seconds later
+
+-- a leader was gone eight seconds later at most, and one that told that it doesn't campaign did so before
+abbrev IsLate : ℕ → Standing → Type 0
+IsLate time Campaigns = Unit {0}
+IsLate time Fresh = Unit {0}
+IsLate time Led = Unit {0}
+IsLate time (Lost leader since) = since ≤ time + LONGEST
+IsLate time (Idle leader since) = since ≤ time
+IsLate time (Follows leader) = Unit {0}
+
+late_of_both : (time : ℕ) (test : Bool) (a b : Standing) → IsLate time a → IsLate time b → IsLate time (if test then a else b)
+late_of_both time true a b first second = first
+late_of_both time false a b first second = second
 
 -- ---- who is present
 
@@ -99,34 +118,25 @@ module _ (time pace after : ℕ) (some : SHORTEST ≤ pace) (more : SHORTEST ≤
   behind_again front peers =
       any_alike (λ (peer : Peer). is_above front (told time pace peer.link)) (λ (peer : Peer). is_above front (told (time + ten_seconds) after peer.link)) (peer_later time pace) (λ peer. ap (is_above front) (told_again peer.link)) peers
 
-  -- ---- a leader that is lost
+  -- ---- a leader that is gone, or told that it doesn't campaign
 
-  idle_past : (beat : Option Beat) → IsBeatPast time beat → IfSome (idle_since beat) (λ since. since ≤ time + LONGEST)
-  unfolding idle_since
-  idle_past None past = tt
-  idle_past (Some beat) past = elim (cases_Bool beat.leads) [ inl so ↦ rw so tt | inr not_so ↦ rw not_so (omega arith) ]
-
-  some_of_both : (test : Bool) (a b : Option ℕ) → IfSome a (λ since. since ≤ time + LONGEST) → IfSome b (λ since. since ≤ time + LONGEST)
-      → IfSome (if test then a else b) (λ since. since ≤ time + LONGEST)
-  some_of_both true a b first second = first
-  some_of_both false a b first second = second
-
-  lost_past : (link : Link) → IsLinkPast time link → IfSome (lost_since (time + ten_seconds) after (heard_again time pace link)) (λ since. since ≤ time + LONGEST)
-  unfolding lost_since
-  lost_past (Closed since) past = omega arith
-  lost_past (Open connection) past = elim (cases_Bool (nat_lt (time - connection.heard) pace)) [
+  gone_past : (link : Link) → IsLinkPast time link → IfSome (gone_since (time + ten_seconds) after (heard_again time pace link)) (λ since. since ≤ time + LONGEST)
+  unfolding gone_since
+  gone_past (Closed since) past = omega arith
+  gone_past (Open connection) past = elim (cases_Bool (nat_lt (time - connection.heard) pace)) [
     | inl so ↦
         let now : nat_lt (time + ten_seconds - (time + ten_seconds)) after ≡ true = lt-ltb (time + ten_seconds - (time + ten_seconds)) after (omega arith) in
-        rw so (rw now (idle_past connection.beat past.1))
+        rw so (rw now tt)
     | inr not_so ↦
-        rw not_so (some_of_both (nat_lt (time + ten_seconds - connection.heard) after) (idle_since connection.beat) (Some (connection.heard + after)) (idle_past connection.beat past.1) (omega arith))
+        let far = ltb-false (time - connection.heard) pace not_so in
+        let gone : nat_lt (time + ten_seconds - connection.heard) after ≡ false = le-ltb (time + ten_seconds - connection.heard) after (omega arith) in
+        rw not_so (rw gone (omega arith))
   ]
 
-  leader_past : (found : Option Peer) → IfSome found (λ peer. IfSome (lost_since (time + ten_seconds) after peer.link) (λ since. since ≤ time + LONGEST))
-      → IfSome (leader_lost (time + ten_seconds) after found) (λ since. since ≤ time + LONGEST)
-  unfolding leader_lost
-  leader_past None past = omega arith
-  leader_past (Some peer) past = past
+  idle_past : (beat : Option Beat) → IsBeatPast time beat → IfSome (idle_since beat) (λ since. since ≤ time)
+  unfolding idle_since
+  idle_past None past = tt
+  idle_past (Some beat) past = elim (cases_Bool beat.leads) [ inl so ↦ rw so tt | inr not_so ↦ rw not_so (past.1) ]
 
   -- ---- a peer that lags
 
@@ -134,6 +144,23 @@ module _ (time pace after : ℕ) (some : SHORTEST ≤ pace) (more : SHORTEST ≤
   unfolding told
   told_past (Closed since) past = tt
   told_past (Open connection) past = elim (cases_Bool (nat_lt (time - connection.heard) pace)) [ inl so ↦ rw so (past.1) | inr not_so ↦ rw not_so tt ]
+
+  late_by : (leader : ℕ) (gone idle : Option ℕ) → IfSome gone (λ since. since ≤ time + LONGEST) → IfSome idle (λ since. since ≤ time)
+      → IsLate time (standing_by leader gone idle)
+  late_by leader None None first second = tt
+  late_by leader None (Some idle) first second = second
+  late_by leader (Some gone) idle first second = first
+
+  over_late : (leader : ℕ) (link : Link) → IsLinkPast time link → IsLate time (standing_over (time + ten_seconds) after leader (heard_again time pace link))
+  unfolding standing_over
+  over_late leader link past =
+      rw (told_again link) (late_by leader (gone_since (time + ten_seconds) after (heard_again time pace link)) (idle_since (told time pace link)) (gone_past link past) (idle_past (told time pace link) (told_past link past)))
+
+  behind_late : (leader : ℕ) (found : Option Peer) → IfSome found (λ peer. IsLate time (standing_over (time + ten_seconds) after leader peer.link))
+      → IsLate time (standing_behind (time + ten_seconds) after leader found)
+  unfolding standing_behind
+  behind_late leader None past = omega arith
+  behind_late leader (Some peer) past = past
 
   module _ (before lag steps : ℕ) (short : lag ≤ LONGEST) (few : steps ≤ 1000000) where
     wait_none : (since : ℕ) (old new : Option ℕ) → since ≤ time → has_passed time (waits_since since old) ≡ true → IfSome new (λ length. length ≤ LONGEST)
@@ -174,23 +201,6 @@ module _ (time pace after : ℕ) (some : SHORTEST ≤ pace) (more : SHORTEST ≤
         → lagging_left (time + ten_seconds) steps (lagging after lag front peer.accepted (told (time + ten_seconds) after (heard_again time pace peer.link))) ≡ 0
     peer_none front peer past passed = rw (told_again peer.link) (lag_none front peer.accepted (told time pace peer.link) (told_past peer.link past) passed)
 
--- ---- the standing ten seconds later
-
-abbrev IsLate : ℕ → Standing → Type 0
-IsLate bound Campaigns = Unit {0}
-IsLate bound Fresh = Unit {0}
-IsLate bound Led = Unit {0}
-IsLate bound (Lost leader since) = since ≤ bound
-IsLate bound (Follows leader) = Unit {0}
-
-late_of_both : (bound : ℕ) (test : Bool) (a b : Standing) → IsLate bound a → IsLate bound b → IsLate bound (if test then a else b)
-late_of_both bound true a b first second = first
-late_of_both bound false a b first second = second
-
-late_behind : (bound leader : ℕ) (since : Option ℕ) → IfSome since (λ since. since ≤ bound) → IsLate bound (behind_leader leader since)
-late_behind bound leader None past = tt
-late_behind bound leader (Some since) past = past
-
 -- ---- all that is left ten seconds later
 
 both_past : (a b time : ℕ) → a ≤ time → b ≤ time → max a b ≤ time
@@ -198,6 +208,10 @@ both_past a b time first second = omega arith
 
 sum_most : (a b : ℕ) → a ≤ LONGEST → b ≤ 1000000 → a + b ≤ ten_seconds
 sum_most a b first second = omega arith
+
+most_of_both : (test : Bool) (a b : ℕ) → a ≤ LONGEST → b ≤ 1000000 → (if test then a else a + b) ≤ ten_seconds
+most_of_both true a b first second = omega arith
+most_of_both false a b first second = omega arith
 
 lost_none : (time work since steps : ℕ) → work ≤ time → since ≤ time + LONGEST → steps ≤ 1000000 → left (time + ten_seconds) (max work since) steps ≡ 0
 lost_none time work since steps first second short = omega arith
@@ -229,22 +243,22 @@ module _ (known : Known) (past : IsPast known) (few : length known.peers.now ≤
   enough : SHORTEST ≤ pace_in known
   enough = pace_least (slowest known.time known.last_call known.peers.now)
 
-  not_late : (leader : ℕ) → IfSome (leader_lost (known.time + ten_seconds) after (find (λ (peer : Peer). peer.number == leader) (later known).peers.now)) (λ since. since ≤ known.time + LONGEST)
+  not_late : (leader : ℕ) → IsLate known.time (standing_behind (known.time + ten_seconds) after leader (find (λ (peer : Peer). peer.number == leader) (later known).peers.now))
   not_late leader =
       let Was : Peer → Type 0 = λ peer. IsLinkPast known.time peer.link in
-      let Is : Peer → Type 0 = λ peer. IfSome (lost_since (known.time + ten_seconds) after peer.link) (λ since. since ≤ known.time + LONGEST) in
-      let each = each_changed Was Is (peer_later known.time (pace_in known)) (λ peer. lost_past known.time (pace_in known) after enough more most peer.link) known.peers.now
+      let Is : Peer → Type 0 = λ peer. IsLate known.time (standing_over (known.time + ten_seconds) after leader peer.link) in
+      let each = each_changed Was Is (peer_later known.time (pace_in known)) (λ peer. over_late known.time (pace_in known) after enough more most leader peer.link) known.peers.now
       (each_of_all Was known.peers.now past.peers) in
-      leader_past known.time (pace_in known) after enough more most (find (λ (peer : Peer). peer.number == leader) (later known).peers.now) (found_of_each Is (λ (peer : Peer). peer.number == leader) (later known).peers.now each)
+      behind_late known.time (pace_in known) after enough more most leader (find (λ (peer : Peer). peer.number == leader) (later known).peers.now) (found_of_each Is (λ (peer : Peer). peer.number == leader) (later known).peers.now each)
 
-  standing_late : (promised : Option ℕ) → IsLate (known.time + LONGEST) (standing (later known) after promised)
+  standing_late : (promised : Option ℕ) → IsLate known.time (standing (later known) after promised)
   unfolding standing_to
   standing_late None = tt
   standing_late (Some leader) =
-      late_of_both (known.time + LONGEST) ((leader == known.number) && known.campaigns) Campaigns _ tt
-      (late_of_both (known.time + LONGEST) (not known.was_led) Fresh _ tt
-      (late_of_both (known.time + LONGEST) (leader == known.number) Led _ tt
-      (late_behind (known.time + LONGEST) leader _ (not_late leader))))
+      late_of_both known.time ((leader == known.number) && known.campaigns) Campaigns _ tt
+      (late_of_both known.time (not known.was_led) Fresh _ tt
+      (late_of_both known.time (leader == known.number) Led _ tt
+      (not_late leader)))
 
   by_number : steps_by_number (later known) after ≤ 1000000
   unfolding steps_by_number rank_by_number
@@ -261,7 +275,14 @@ module _ (known : Known) (past : IsPast known) (few : length known.peers.now ≤
   long : doubled after (in_vain known.ticks) LONGEST ≤ LONGEST
   long = doubled_most after (in_vain known.ticks) LONGEST most (omega arith)
 
-  row_none : (standing : Standing) → IsLate (known.time + LONGEST) standing → row_left (later known) after standing ≡ 0
+  soon_short : soon_in (later known) ≤ LONGEST
+  soon_short = soon_most (slowest (later known).time known.last_call (later known).peers.now)
+
+  idle_short : (leader : ℕ) → idle_wait (later known) after leader ≤ ten_seconds
+  unfolding idle_wait
+  idle_short leader = most_of_both known.act_waits (soon_in (later known)) (steps_behind (later known) after leader) soon_short (by_leader leader)
+
+  row_none : (standing : Standing) → IsLate known.time standing → row_left (later known) after standing ≡ 0
   unfolding row_left
   row_none Campaigns late =
       left_none known.time (max known.work_since known.moved) (doubled after (in_vain known.ticks) LONGEST) (both_past known.work_since known.moved known.time past.work_since past.moved)
@@ -271,16 +292,19 @@ module _ (known : Known) (past : IsPast known) (few : length known.peers.now ≤
   row_none (Lost leader since) late =
       either_none known.act_waits 0 (left (later known).time (max known.work_since since) (steps_behind (later known) after leader)) refl
       (lost_none known.time known.work_since since (steps_behind (later known) after leader) past.work_since late (by_leader leader))
+  row_none (Idle leader since) late =
+      left_none known.time (max known.work_since since) (idle_wait (later known) after leader) (both_past known.work_since since known.time past.work_since late) (idle_short leader)
   row_none (Follows leader) late =
       left_none known.time (max known.work_since (max known.moved known.promised_since)) (doubled after (in_vain known.ticks) LONGEST + steps_behind (later known) after leader)
       (both_past known.work_since (max known.moved known.promised_since) known.time past.work_since (both_past known.moved known.promised_since known.time past.moved past.promised_since))
       (sum_most (doubled after (in_vain known.ticks) LONGEST) (steps_behind (later known) after leader) long (by_leader leader))
 
-  work_none : (standing : Standing) → IsLate (known.time + LONGEST) standing → work_left (later known) after standing ≡ 0
+  work_none : (standing : Standing) → IsLate known.time standing → work_left (later known) after standing ≡ 0
   unfolding work_left
   work_none standing late =
       either_none (is_campaign standing && one_reopened (later known)) 0 _ refl
-      (max_none _ _ (row_none standing late) (again_none known.time known.ticks after LONGEST past.ticks most (omega arith)))
+      (either_none (is_follower standing && is_untold (later known)) _ _ (again_none known.time known.ticks (soon_in (later known)) LONGEST past.ticks soon_short (omega arith))
+      (max_none _ _ (row_none standing late) (again_none known.time known.ticks after LONGEST past.ticks most (omega arith))))
 
   behind_none : behind_left (later known) after ≡ 0
   unfolding behind_left

@@ -2,3 +2,4 @@ pub mod Examples
 mod Lists
 mod Ticking
 mod Later
+mod Ordering

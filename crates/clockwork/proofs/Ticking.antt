@@ -1,6 +1,6 @@
 -- Why a node ticks, and until when it doesn't.
 use Rattle.std.proofs.Common.{ℕ, ◌≡◌, ◌≢◌, ◌⊎◌, ◌+◌, ◌-◌, ◌*◌, ◌<◌, ◌≤◌, true, false, Option, Some, None, inl, inr, refl, arith}
-use Rattle.std.specs.Prelude.{min, max, ◌&&◌, ◌==◌}
+use Rattle.std.specs.Prelude.{min, max, if◌then◌else◌, ◌&&◌, ◌==◌}
 use Rattle.std.specs.List.{list_any}
 use Rattle.std.proofs.lemmas.Bool.{cases_Bool, cases_eq, and_parts, eqb-true, eqb-false, le-ltb}
 use Rattle.clockwork.specs.declared.known.Ticks.{Ticks}
@@ -14,16 +14,16 @@ use Rattle.clockwork.specs.Waits.{left, doubled, again, spaced}
 use Rattle.clockwork.specs.Presence.{told, is_quorate}
 use Rattle.clockwork.specs.Ranks.{rank_as_far}
 use Rattle.clockwork.specs.Helping.{lagging, has_passed, lagging_left, least_left, help_left, one_lags}
-use Rattle.clockwork.specs.Standings.{standing, is_campaign}
-use Rattle.clockwork.specs.Work.{has_work, one_reopened, steps_by_number, row_left, work_left}
+use Rattle.clockwork.specs.Standings.{standing, is_campaign, is_follower}
+use Rattle.clockwork.specs.Work.{has_work, one_reopened, steps_by_number, is_untold, soon_in, row_left, work_left}
 use Rattle.clockwork.specs.Dues.{due_in, behind_left, awaited, pace_in, due_by, due_of}
-use Rattle.clockwork.specs.Laws.{quorate, behind, LongAgo, HasWaited, behind_wait_in, lag_in, IsReason, to_catch_up, for_a_peer, to_work}
+use Rattle.clockwork.specs.Laws.{quorate, behind, LongAgo, HasWaited, behind_wait_in, lag_in, IsReason, to_catch_up, for_a_peer, to_work, to_be_heard}
 use Rattle.clockwork.proofs.Lists.{one_is_none}
 
-none_left : (wait past : ℕ) → wait - past ≡ 0 → wait ≤ past
+pub none_left : (wait past : ℕ) → wait - past ≡ 0 → wait ≤ past
 none_left wait past none = omega arith
 
-max_parts : (a b : ℕ) → max a b ≡ 0 → (a ≡ 0) × (b ≡ 0)
+pub max_parts : (a b : ℕ) → max a b ≡ 0 → (a ≡ 0) × (b ≡ 0)
 max_parts a b none = (omega arith, omega arith)
 
 -- ---- what is due where so much is left
@@ -32,11 +32,11 @@ pub tick_of_none : (time wait : ℕ) → wait ≡ 0 → due_in time wait ≡ Tic
 unfolding due_in
 tick_of_none time wait is = elim (cases_Bool (wait == 0)) [ inl so ↦ rw so refl | inr not_so ↦ absurd (eqb-false wait 0 not_so is) ]
 
-none_of_tick : (time wait : ℕ) → due_in time wait ≡ Tick → wait ≡ 0
+pub none_of_tick : (time wait : ℕ) → due_in time wait ≡ Tick → wait ≡ 0
 unfolding due_in
 none_of_tick time wait is = elim (cases_Bool (wait == 0)) [ inl so ↦ eqb-true wait 0 so | inr not_so ↦ let none = rw not_so at is in cc ]
 
-until_of : (time wait until : ℕ) → due_in time wait ≡ Nothing until → (time < until) × (until ≤ time + LOOK)
+pub until_of : (time wait until : ℕ) → due_in time wait ≡ Nothing until → (time < until) × (until ≤ time + LOOK)
 unfolding due_in
 until_of time wait until is = elim (cases_Bool (wait == 0)) [
   | inl so ↦ let none = rw so at is in absurd (cc)
@@ -107,14 +107,25 @@ lags_of_none known pace none =
 
 -- ---- work
 
-work_of_none : (known : Known) (pace : ℕ) (stance : Standing) → work_left known pace stance ≡ 0
-    → HasWaited known known.ticks pace LONGEST ⊎ (one_reopened known ≡ true)
-unfolding work_left
-work_of_none known pace stance none = elim (cases_Bool (is_campaign stance && one_reopened known)) [
-  | inl so ↦ inr (and_parts (is_campaign stance) (one_reopened known) so).1
+abbrev WhyWork : Known → Type 0
+WhyWork known = (HasWaited known known.ticks (pace_in known) LONGEST ⊎ (one_reopened known ≡ true)) ⊎ ((is_untold known ≡ true) × HasWaited known known.ticks (soon_in known) LONGEST)
+
+rest_of_none : (known : Known) (stance : Standing)
+    → (if is_follower stance && is_untold known then again known.time known.ticks (soon_in known) LONGEST
+    else max (row_left known (pace_in known) stance) (again known.time known.ticks (pace_in known) LONGEST)) ≡ 0
+    → WhyWork known
+rest_of_none known stance none = elim (cases_Bool (is_follower stance && is_untold known)) [
+  | inl so ↦ inr ((and_parts (is_follower stance) (is_untold known) so).1, has_waited known known.ticks (soon_in known) LONGEST (rw so at none))
   | inr not_so ↦
-      let both = max_parts (row_left known pace stance) (again known.time known.ticks pace LONGEST) (rw not_so at none) in
-      inl (has_waited known known.ticks pace LONGEST both.1)
+      let both = max_parts (row_left known (pace_in known) stance) (again known.time known.ticks (pace_in known) LONGEST) (rw not_so at none) in
+      inl (inl (has_waited known known.ticks (pace_in known) LONGEST both.1))
+]
+
+work_of_none : (known : Known) (stance : Standing) → work_left known (pace_in known) stance ≡ 0 → WhyWork known
+unfolding work_left
+work_of_none known stance none = elim (cases_Bool (is_campaign stance && one_reopened known)) [
+  | inl so ↦ inl (inr (and_parts (is_campaign stance) (one_reopened known) so).1)
+  | inr not_so ↦ rest_of_none known stance (rw not_so at none)
 ]
 
 -- ---- all reasons
@@ -134,7 +145,7 @@ either_of_none known isnt work none =
     let pace = pace_in known in
     elim (cases_none (help_left known pace) (work_left known pace (standing known pace known.promised)) none) [
       | inl help ↦ let why = lags_of_none known pace help in for_a_peer isnt why.0 why.1
-      | inr rest ↦ to_work isnt work (work_of_none known pace (standing known pace known.promised) rest)
+      | inr rest ↦ elim (work_of_none known (standing known pace known.promised) rest) [ inl why ↦ to_work isnt work why | inr why ↦ to_be_heard isnt why.0 why.1 ]
     ]
 
 reason_of_none : (known : Known) → awaited known (pace_in known) ≡ 0 → IsReason known

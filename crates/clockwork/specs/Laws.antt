@@ -10,7 +10,7 @@ use Rattle.clockwork.specs.declared.answer.Due.TheVariants.{Tick}
 use Rattle.clockwork.specs.declared.limits.TheConstants.{LONGEST, MOST_HELP, MOST_PEERS}
 use Rattle.clockwork.specs.Waits.{doubled}
 use Rattle.clockwork.specs.Presence.{slowest, lag_of, is_quorate, is_behind, behind_wait}
-use Rattle.clockwork.specs.Work.{has_work, one_reopened}
+use Rattle.clockwork.specs.Work.{has_work, one_reopened, is_untold, soon_in}
 use Rattle.clockwork.specs.Helping.{one_lags}
 use Rattle.clockwork.specs.Dues.{pace_in, due_of}
 
@@ -42,11 +42,13 @@ behind_wait_in known = behind_wait known.time (pace_in known) known.front known.
 abbrev pub lag_in : Known → ℕ
 lag_in known = lag_of (slowest known.time known.last_call known.peers.now)
 
--- why a node ticks, and after which doubled wait; where it has work, also because a connection opened since its last tick
+-- why a node ticks, and after which doubled wait; where it has work, also because a connection opened since its last tick; where its act
+-- never went on to the node whose ballot is promised, after a shorter one
 pub data IsReason (known : Known) : Type 0 where
   to_catch_up : behind known ≡ true → HasWaited known known.ticks (behind_wait_in known) LONGEST → IsReason known
   for_a_peer : behind known ≡ false → lags known ≡ true → HasWaited known known.ticks (lag_in known) MOST_HELP → IsReason known
   to_work : behind known ≡ false → has_work known ≡ true → (HasWaited known known.ticks (pace_in known) LONGEST ⊎ (one_reopened known ≡ true)) → IsReason known
+  to_be_heard : behind known ≡ false → is_untold known ≡ true → HasWaited known known.ticks (soon_in known) LONGEST → IsReason known
 
 -- ---- each tick that is needed
 

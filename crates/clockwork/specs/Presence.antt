@@ -5,7 +5,7 @@ use Rattle.clockwork.specs.declared.known.Beat.{Beat}
 use Rattle.clockwork.specs.declared.known.Link.{Link}
 use Rattle.clockwork.specs.declared.known.Link.TheVariants.{Closed, Open}
 use Rattle.clockwork.specs.declared.known.Peer.{Peer}
-use Rattle.clockwork.specs.declared.limits.TheConstants.{SHORTEST, LONGEST, SLACK, LAG, ALONE, BEHIND}
+use Rattle.clockwork.specs.declared.limits.TheConstants.{SHORTEST, LONGEST, SLACK, LAG, STEP, ALONE, BEHIND}
 
 -- how long the last round trip took, of a peer that was heard lately
 unfoldable pub trip : ℕ → Link → ℕ
@@ -24,6 +24,10 @@ pace_of slowest = min LONGEST (max SHORTEST (SLACK * slowest))
 -- twice as long, from 200 milliseconds to eight seconds: how long the front of a peer that no repeat reaches has been below when it lags
 unfoldable pub lag_of : ℕ → ℕ
 lag_of slowest = min LONGEST (max LAG (2 * slowest))
+
+-- as long, from a step to eight seconds: how long a node leaves a matter to another that knows of it and ticks at once
+unfoldable pub soon_of : ℕ → ℕ
+soon_of slowest = min LONGEST (max STEP slowest)
 
 -- what a peer told, where it is present: its connection is open, something came over it within so long, and it told its front over it
 unfoldable pub told : ℕ → ℕ → Link → Option Beat

@@ -6,33 +6,39 @@ use Rattle.clockwork.specs.declared.known.Link.TheVariants.{Closed, Open}
 use Rattle.clockwork.specs.declared.known.Peer.{Peer}
 use Rattle.clockwork.specs.declared.known.Known.{Known}
 use Rattle.clockwork.specs.declared.standing.Standing.{Standing}
-use Rattle.clockwork.specs.declared.standing.Standing.TheVariants.{Campaigns, Fresh, Led, Lost, Follows}
+use Rattle.clockwork.specs.declared.standing.Standing.TheVariants.{Campaigns, Fresh, Led, Lost, Idle, Follows}
+use Rattle.clockwork.specs.Presence.{told}
 
 -- since when a peer has told that it doesn't campaign, where that is what it last told
 unfoldable pub idle_since : Option Beat → Option ℕ
 idle_since None = None
 idle_since (Some beat) = if beat.leads then None else Some beat.told
 
--- since when a peer is known to be gone or not to campaign: its connection ended, it has been silent for too long, or it told so
-unfoldable pub lost_since : ℕ → ℕ → Link → Option ℕ
-lost_since time pace (Closed since) = Some since
-lost_since time pace (Open connection) = if nat_lt (time - connection.heard) pace then idle_since connection.beat else Some (connection.heard + pace)
+-- since when a peer is known to be gone: its connection ended, or it has been silent for too long
+unfoldable pub gone_since : ℕ → ℕ → Link → Option ℕ
+gone_since time pace (Closed since) = Some since
+gone_since time pace (Open connection) = if nat_lt (time - connection.heard) pace then None else Some (connection.heard + pace)
 
--- the same of a leader; of one that is no peer, since ever
-unfoldable pub leader_lost : ℕ → ℕ → Option Peer → Option ℕ
-leader_lost time pace None = Some 0
-leader_lost time pace (Some peer) = lost_since time pace peer.link
+abbrev pub standing_by : ℕ → Option ℕ → Option ℕ → Standing
+standing_by leader (Some gone) idle = Lost leader gone
+standing_by leader None (Some idle) = Idle leader idle
+standing_by leader None None = Follows leader
 
-abbrev pub behind_leader : ℕ → Option ℕ → Standing
-behind_leader leader None = Follows leader
-behind_leader leader (Some since) = Lost leader since
+-- to a leader over this link: it is gone, or is there and told that it doesn't campaign, or is followed
+unfoldable pub standing_over : ℕ → ℕ → ℕ → Link → Standing
+standing_over time pace leader link = standing_by leader (gone_since time pace link) (idle_since (told time pace link))
+
+-- to a leader among the peers; one that is no peer is lost since ever
+unfoldable pub standing_behind : ℕ → ℕ → ℕ → Option Peer → Standing
+standing_behind time pace leader None = Lost leader 0
+standing_behind time pace leader (Some peer) = standing_over time pace leader peer.link
 
 unfoldable pub standing_to : Known → ℕ → ℕ → Standing
 standing_to known pace leader =
     if (leader == known.number) && known.campaigns then Campaigns
     else if not known.was_led then Fresh
     else if leader == known.number then Led
-    else behind_leader leader (leader_lost known.time pace (find (λ peer. peer.number == leader) known.peers.now))
+    else standing_behind known.time pace leader (find (λ peer. peer.number == leader) known.peers.now)
 
 abbrev pub standing : Known → ℕ → Option ℕ → Standing
 standing known pace None = Fresh
@@ -43,4 +49,13 @@ is_campaign Campaigns = true
 is_campaign Fresh = false
 is_campaign Led = false
 is_campaign (Lost leader since) = false
+is_campaign (Idle leader since) = false
 is_campaign (Follows leader) = false
+
+abbrev pub is_follower : Standing → Bool
+is_follower Campaigns = false
+is_follower Fresh = false
+is_follower Led = false
+is_follower (Lost leader since) = false
+is_follower (Idle leader since) = false
+is_follower (Follows leader) = true

@@ -6,11 +6,12 @@ use Rattle.clockwork.specs.declared.known.Link.{Link}
 use Rattle.clockwork.specs.declared.known.Link.TheVariants.{Closed, Open}
 use Rattle.clockwork.specs.declared.known.Known.{Known}
 use Rattle.clockwork.specs.declared.standing.Standing.{Standing}
-use Rattle.clockwork.specs.declared.standing.Standing.TheVariants.{Campaigns, Fresh, Led, Lost, Follows}
+use Rattle.clockwork.specs.declared.standing.Standing.TheVariants.{Campaigns, Fresh, Led, Lost, Idle, Follows}
 use Rattle.clockwork.specs.declared.limits.TheConstants.{STEP, LONGEST}
 use Rattle.clockwork.specs.Waits.{left, doubled, in_vain, again}
 use Rattle.clockwork.specs.Ranks.{rank_by_number, rank_behind}
-use Rattle.clockwork.specs.Standings.{is_campaign}
+use Rattle.clockwork.specs.Presence.{slowest, soon_of}
+use Rattle.clockwork.specs.Standings.{is_campaign, is_follower}
 
 -- the match isn't over, and an act waits or no hand runs
 unfoldable pub has_work : Known → Bool
@@ -36,6 +37,17 @@ steps_by_number known pace = STEP * rank_by_number known.time pace known.number 
 unfoldable pub steps_behind : Known → ℕ → ℕ → ℕ
 steps_behind known pace leader = STEP * rank_behind known.time pace leader known.number known.peers.now
 
+-- an act waits that went on to another node than the one whose ballot is promised now, or to none
+unfoldable pub is_untold : Known → Bool
+is_untold known = known.act_waits && nat_lt known.work_since known.promised_since
+
+abbrev pub soon_in : Known → ℕ
+soon_in known = soon_of (slowest known.time known.last_call known.peers.now)
+
+-- where the leader is there and campaigns no longer: that one has the act that went on to it, or sees that no hand runs, and ticks itself
+unfoldable pub idle_wait : Known → ℕ → ℕ → ℕ
+idle_wait known pace leader = if known.act_waits then soon_in known else soon_in known + steps_behind known pace leader
+
 -- by how it stands to the node whose ballot it has promised
 unfoldable pub row_left : Known → ℕ → Standing → ℕ
 row_left known pace Campaigns = left known.time (max known.work_since known.moved) (doubled pace (in_vain known.ticks) LONGEST)
@@ -43,11 +55,14 @@ row_left known pace Fresh = left known.time known.work_since (steps_by_number kn
 row_left known pace Led = 0
 row_left known pace (Lost leader since) =
     if known.act_waits then 0 else left known.time (max known.work_since since) (steps_behind known pace leader)
+row_left known pace (Idle leader since) = left known.time (max known.work_since since) (idle_wait known pace leader)
 row_left known pace (Follows leader) =
     left known.time (max known.work_since (max known.moved known.promised_since)) (doubled pace (in_vain known.ticks) LONGEST + steps_behind known pace leader)
 
--- at once where it campaigns and one who owes an answer from before is back; else not before the doubled wait
+-- at once where it campaigns and one who owes an answer from before is back, or where its act never went on to the one that leads, and then
+-- soon again; else not before the doubled wait
 unfoldable pub work_left : Known → ℕ → Standing → ℕ
 work_left known pace standing =
     if is_campaign standing && one_reopened known then 0
+    else if is_follower standing && is_untold known then again known.time known.ticks (soon_in known) LONGEST
     else max (row_left known pace standing) (again known.time known.ticks pace LONGEST)

@@ -47,7 +47,7 @@ fn due_of(known: &Known<'_>) -> Due
 
 /// A tick where nothing is left; else the next look.
 #[tactic(auto, unfolding(crate::specs::Dues::due_in))]
-fn due_in(time: u64, left: u64) -> Due
+pub(crate) fn due_in(time: u64, left: u64) -> Due
     requires { time ≤ LATEST }
     ensures { result ≡ due_in time left }
 {

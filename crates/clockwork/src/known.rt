@@ -17,7 +17,7 @@ pub struct Known<'a> {
     pub moved: u64,
     /// The node of the ballot that this node has promised, where it has promised one.
     pub promised: Option<u8>,
-    /// When the promise last changed; where it hasn't, when the process began.
+    /// When the node of the promised ballot last became another; where it hasn't, when the process began.
     pub promised_since: u64,
     /// It campaigns: it prepares or leads, in the ballot that it has promised.
     pub campaigns: bool,

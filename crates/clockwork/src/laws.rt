@@ -1,11 +1,19 @@
 //! What holds of what is due.
 
 ghost use Rattle.clockwork.specs.Laws.{ComesInTime};
+ghost use Rattle.clockwork.specs.Patience.{IsOrderedInTime};
 
 use crate::known::Known;
+use crate::patience::Awaited;
 
 /// Where a node is quorate, and is behind, has work or has a peer that lags, a tick is due ten seconds later, if nothing
 /// else comes to be known by then but that its present peers are heard; no moment that is known may lie ahead.
 pub fn a_tick_comes_within_ten_seconds(known: &Known<'_>)
     ensures { ComesInTime known.now }
+{}
+
+/// Where the order to play for the seat to act would be this node's, it is given once the patience and a step for each
+/// present node before it have passed, at the latest; after an order, once the patience has passed again, or eight seconds.
+pub fn an_order_comes_in_time(awaited: &Awaited)
+    ensures { IsOrderedInTime awaited.now }
 {}

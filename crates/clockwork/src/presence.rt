@@ -1,11 +1,11 @@
 ghost use Rattle.std.specs.Prelude.{◌≡◌, ◌≤◌, length};
 ghost use Rattle.clockwork.specs.declared.limits.TheConstants.{SHORTEST, LONGEST, LAG, MOST_PEERS};
-ghost use Rattle.clockwork.specs.Presence.{trip, slowest, pace_of, lag_of, told, present, is_quorate, is_above, is_behind, can_help, one_can_help, behind_wait};
+ghost use Rattle.clockwork.specs.Presence.{trip, slowest, pace_of, lag_of, soon_of, told, present, is_quorate, is_above, is_behind, can_help, one_can_help, behind_wait};
 ghost use Rattle.clockwork.specs.Dues.{pace_in};
 ghost use Rattle.clockwork.specs.Laws.{quorate, behind};
 
 use crate::known::{Beat, Known, Link, Peer};
-use crate::limits::{ALONE, BEHIND, LAG, LONGEST, SHORTEST, SLACK};
+use crate::limits::{ALONE, BEHIND, LAG, LONGEST, SHORTEST, SLACK, STEP};
 
 /// How long the last round trip to a peer took, where that was measured and something came of the peer within the longest
 /// time that a silent peer may count as present.
@@ -57,6 +57,16 @@ pub(crate) fn lag_of(slowest: u64) -> u64
     ensures most { result ≤ LONGEST }
 {
     LONGEST.min(LAG.max(2 * slowest.min(LONGEST)))
+}
+
+/// How long a node leaves a matter to another that knows of it and ticks at once: as long as the slowest took, and at
+/// least a step, at most eight seconds.
+#[tactic(auto, unfolding(crate::specs::Presence::soon_of))]
+pub(crate) fn soon_of(slowest: u64) -> u64
+    ensures value { result ≡ soon_of slowest }
+    ensures most { result ≤ LONGEST }
+{
+    LONGEST.min(STEP.max(slowest))
 }
 
 /// How long a node waits for answers and for the lead of another at first, and how long a peer may be silent and still

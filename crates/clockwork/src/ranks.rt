@@ -1,8 +1,9 @@
 ghost use Rattle.std.specs.Prelude.{◌≡◌, ◌≤◌, length};
+ghost use Rattle.clockwork.specs.Dues.{pace_in};
 ghost use Rattle.clockwork.specs.Ranks.{turn, is_before, comes_sooner, is_as_far, rank_by_number, rank_behind, rank_as_far};
 
-use crate::known::{Beat, Peer};
-use crate::presence::told;
+use crate::known::{Beat, Known, Peer};
+use crate::presence::{pace, told};
 
 /// How late a node's turn comes where nodes are counted cyclically from behind a leader on.
 #[tactic(auto, unfolding(crate::specs::Ranks::turn))]
@@ -26,6 +27,14 @@ pub(crate) fn rank_by_number(time: u64, pace: u64, number: u8, peers: &[Peer]) -
         .iter()
         .filter(|peer| is_before(told(time, pace, peer.link), peer.number, number))
         .count()
+}
+
+/// How many present peers have a lower number than this node.
+pub fn rank(known: &Known<'_>) -> usize
+    ensures value { result ≡ rank_by_number known.now.time (pace_in known.now) known.now.number known.now.peers.now }
+    ensures most { result ≤ length known.now.peers.now }
+{
+    rank_by_number(known.time, pace(known), known.number, known.peers)
 }
 
 /// Whether a peer is present and has a lower number than this.

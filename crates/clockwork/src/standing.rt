@@ -1,8 +1,9 @@
-ghost use Rattle.std.specs.Prelude.{◌≡◌, ◌==◌, ◌≤◌, ◌+◌, ◌<◌, find, IfSome};
+ghost use Rattle.std.specs.Prelude.{◌≡◌, ◌==◌, ◌≤◌, find};
 ghost use Rattle.clockwork.specs.declared.limits.TheConstants.{SHORTEST, LONGEST, LATEST};
-ghost use Rattle.clockwork.specs.Standings.{idle_since, lost_since, leader_lost, standing, standing_to, is_campaign};
+ghost use Rattle.clockwork.specs.Standings.{idle_since, gone_since, standing_over, standing_behind, standing, standing_to, is_campaign, is_follower};
 
 use crate::known::{Beat, Known, Link, Peer};
+use crate::presence::told;
 
 /// How a node stands to the node whose ballot it has promised.
 #[derive(Clone, Copy)]
@@ -13,8 +14,10 @@ pub(crate) enum Standing {
     Fresh,
     /// It campaigned last, and does no longer.
     Led,
-    /// Another did, and is known to be gone or to campaign no longer since this moment.
+    /// Another did, and is known to be gone since this moment.
     Lost { leader: u8, since: u64 },
+    /// Another did, is present, and has told since this moment that it does no longer.
+    Idle { leader: u8, since: u64 },
     /// Another campaigns.
     Follows { leader: u8 },
 }
@@ -30,20 +33,19 @@ fn idle_since(beat: Option<Beat>) -> Option<u64>
     }
 }
 
-/// Since when a peer is known to be gone or not to campaign: its connection ended, it has been silent for too long, or it
-/// told so.
-#[tactic(auto, unfolding(crate::specs::Standings::lost_since))]
-fn lost_since(time: u64, pace: u64, link: Link) -> Option<u64>
+/// Since when a peer is known to be gone: its connection ended, or it has been silent for too long.
+#[tactic(auto, unfolding(crate::specs::Standings::gone_since))]
+fn gone_since(time: u64, pace: u64, link: Link) -> Option<u64>
     requires time { time ≤ LATEST }
     requires least { SHORTEST ≤ pace }
     requires most { pace ≤ LONGEST }
-    ensures { result ≡ lost_since time pace link }
+    ensures { result ≡ gone_since time pace link }
 {
     match link {
         Link::Closed { since } => Some(since),
         Link::Open(connection) => {
             if time.saturating_sub(connection.heard) < pace {
-                idle_since(connection.beat)
+                None
             } else {
                 Some(connection.heard + pace)
             }
@@ -51,17 +53,34 @@ fn lost_since(time: u64, pace: u64, link: Link) -> Option<u64>
     }
 }
 
-/// The same of a leader, which is one of the peers; of any other number, since ever.
-#[tactic(auto, unfolding(crate::specs::Standings::leader_lost))]
-fn leader_lost(time: u64, pace: u64, leader: u8, peers: &[Peer]) -> Option<u64>
+/// How a node stands to a leader over this link.
+#[tactic(auto, unfolding(crate::specs::Standings::standing_over))]
+fn standing_over(time: u64, pace: u64, leader: u8, link: Link) -> Standing
     requires time { time ≤ LATEST }
     requires least { SHORTEST ≤ pace }
     requires most { pace ≤ LONGEST }
-    ensures { result ≡ leader_lost time pace (find (λ peer. peer.number == leader) peers.now) }
+    ensures { result ≡ standing_over time pace leader link }
+{
+    if let Some(since) = gone_since(time, pace, link) {
+        return Standing::Lost { leader, since };
+    }
+    match idle_since(told(time, pace, link)) {
+        Some(since) => Standing::Idle { leader, since },
+        None => Standing::Follows { leader },
+    }
+}
+
+/// How it stands to a leader among the peers; one that is none of them is lost since ever.
+#[tactic(auto, unfolding(crate::specs::Standings::standing_behind))]
+fn standing_behind(time: u64, pace: u64, leader: u8, peers: &[Peer]) -> Standing
+    requires time { time ≤ LATEST }
+    requires least { SHORTEST ≤ pace }
+    requires most { pace ≤ LONGEST }
+    ensures { result ≡ standing_behind time pace leader (find (λ peer. peer.number == leader) peers.now) }
 {
     match peer_of(leader, peers) {
-        Some(peer) => lost_since(time, pace, peer.link),
-        None => Some(0),
+        Some(peer) => standing_over(time, pace, leader, peer.link),
+        None => Standing::Lost { leader, since: 0 },
     }
 }
 
@@ -76,6 +95,13 @@ pub(crate) fn is_campaign(standing: Standing) -> bool
     ensures { result ≡ is_campaign standing }
 {
     matches!(standing, Standing::Campaigns)
+}
+
+/// Whether it follows another that campaigns.
+pub(crate) fn is_follower(standing: Standing) -> bool
+    ensures { result ≡ is_follower standing }
+{
+    matches!(standing, Standing::Follows { .. })
 }
 
 /// How the node stands to the node whose ballot it has promised.
@@ -108,8 +134,5 @@ fn standing_to(known: &Known<'_>, pace: u64, leader: u8) -> Standing
     if is_own {
         return Standing::Led;
     }
-    match leader_lost(known.time, pace, leader, known.peers) {
-        Some(since) => Standing::Lost { leader, since },
-        None => Standing::Follows { leader },
-    }
+    standing_behind(known.time, pace, leader, known.peers)
 }

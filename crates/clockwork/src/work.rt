@@ -1,12 +1,13 @@
 ghost use Rattle.std.specs.Prelude.{◌≡◌, ◌≤◌, length};
 ghost use Rattle.clockwork.specs.declared.limits.TheConstants.{SHORTEST, LONGEST, LATEST, MOST_PEERS};
-ghost use Rattle.clockwork.specs.Work.{has_work, opened_since, is_reopened, one_reopened, steps_by_number, steps_behind, row_left, work_left};
+ghost use Rattle.clockwork.specs.Work.{has_work, opened_since, is_reopened, one_reopened, steps_by_number, steps_behind, is_untold, idle_wait, row_left, work_left};
 ghost use Rattle.clockwork.specs.Standings.{standing};
 
 use crate::known::{Known, Link, Ticks};
 use crate::limits::{LONGEST, STEP};
+use crate::presence::{slowest, soon_of};
 use crate::ranks::{rank_behind, rank_by_number};
-use crate::standing::{Standing, is_campaign, standing_of};
+use crate::standing::{Standing, is_campaign, is_follower, standing_of};
 use crate::waits::{again, doubled, in_vain, left};
 
 /// Whether a node has something to do: its match isn't over, and an act waits or no hand runs.
@@ -46,6 +47,30 @@ fn one_reopened(known: &Known<'_>) -> bool
     known.peers.iter().any(|peer| is_reopened(ticks, peer.link))
 }
 
+/// Whether an act waits here that went on to another node than the one whose ballot is promised now, or to none.
+#[tactic(auto, unfolding(crate::specs::Work::is_untold))]
+fn is_untold(known: &Known<'_>) -> bool
+    ensures { result ≡ is_untold known.now }
+{
+    known.act_waits && known.work_since < known.promised_since
+}
+
+/// How long a node with work waits where its leader is there and campaigns no longer: that one has the act that went on to
+/// it, or sees that no hand runs, and ticks itself.
+#[tactic(auto, unfolding(crate::specs::Work::idle_wait))]
+fn idle_wait(known: &Known<'_>, pace: u64, leader: u8) -> u64
+    requires peers { length known.now.peers.now ≤ MOST_PEERS }
+    requires pace { pace ≤ LONGEST }
+    ensures { result ≡ idle_wait known.now pace leader }
+{
+    let soon = soon_of(slowest(known));
+    if known.act_waits {
+        soon
+    } else {
+        soon + steps_behind(known, pace, leader)
+    }
+}
+
 /// What is left until a node with work is to tick for the first time, by how it stands to its leader.
 #[tactic(auto, unfolding(crate::specs::Work::row_left))]
 fn row_left(known: &Known<'_>, pace: u64, standing: Standing) -> u64
@@ -72,6 +97,11 @@ fn row_left(known: &Known<'_>, pace: u64, standing: Standing) -> u64
                 )
             }
         }
+        Standing::Idle { leader, since } => left(
+            known.time,
+            known.work_since.max(since),
+            idle_wait(known, pace, leader),
+        ),
         Standing::Follows { leader } => left(
             known.time,
             known.work_since.max(known.moved.max(known.promised_since)),
@@ -101,8 +131,8 @@ fn steps_behind(known: &Known<'_>, pace: u64, leader: u8) -> u64
 }
 
 /// What is left until a node with work is to tick: at once where it campaigns and a connection opened since its last tick
-/// to a peer that owes an answer from before; else by how it stands to its leader, and after a tick in vain not before the
-/// doubled wait.
+/// to a peer that owes an answer from before; where its act never went on to the one that leads, at once too, and after a
+/// tick in vain soon again; else by how it stands to its leader, and after a tick in vain not before the doubled wait.
 #[tactic(auto, unfolding(crate::specs::Work::work_left))]
 pub(crate) fn work_left(known: &Known<'_>, pace: u64) -> u64
     requires time { known.now.time ≤ LATEST }
@@ -114,6 +144,9 @@ pub(crate) fn work_left(known: &Known<'_>, pace: u64) -> u64
     let standing = standing_of(known, pace);
     if is_campaign(standing) && one_reopened(known) {
         return 0;
+    }
+    if is_follower(standing) && is_untold(known) {
+        return again(known.time, known.ticks, soon_of(slowest(known)), LONGEST);
     }
     row_left(known, pace, standing).max(again(known.time, known.ticks, pace, LONGEST))
 }

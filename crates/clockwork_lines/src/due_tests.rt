@@ -164,17 +164,12 @@ fn a_lost_leader_is_followed_at_once(rt: HostRuntime) {
     let first_is_gone = [gone(0, MS), peer(2)];
     let last_is_gone = [peer(0), gone(2, 10 * MS)];
     let is_silent = [peer(0), over_link(2, silent(1010 * MS))];
-    let is_idle = [peer(0), idle_for(10 * MS)];
-    let is_idle_for_long = [peer(0), idle_for(30 * MS)];
     let follows_last = following(2, dealing(5000 * MS));
     let rows = [
         (among(&first_is_gone, acting(0)), Tick),
         (among(&first_is_gone, dealing(5000 * MS)), Tick),
         (among(&last_is_gone, follows_last), nothing_for(20 * MS)),
         (among(&is_silent, follows_last), nothing_for(20 * MS)),
-        (among(&is_idle, follows_last), nothing_for(20 * MS)),
-        (among(&is_idle, with_act(true, follows_last)), Tick),
-        (among(&is_idle_for_long, follows_last), Tick),
         (
             among(&first_is_gone, after_tick(1999 * MS, 1, acting(0))),
             nothing_for(MS),
@@ -183,6 +178,49 @@ fn a_lost_leader_is_followed_at_once(rt: HostRuntime) {
             among(&first_is_gone, after_tick(2000 * MS, 1, acting(0))),
             Tick,
         ),
+    ];
+    check(&rt, &rows);
+}
+
+#[test]
+fn a_leader_that_is_there_ticks_before_others(rt: HostRuntime) {
+    let is_idle = [peer(0), idle_for(10 * MS)];
+    let is_idle_for_long = [peer(0), idle_for(60 * MS)];
+    let deals = following(2, among(&is_idle, dealing(5000 * MS)));
+    let acts = following(2, among(&is_idle, acting(5000 * MS)));
+    let rows = [
+        (deals, nothing_for(50 * MS)),
+        (among(&is_idle_for_long, deals), Tick),
+        (
+            among(&is_idle_for_long, working_for(59 * MS, deals)),
+            nothing_for(MS),
+        ),
+        (acts, nothing_for(20 * MS)),
+        (among(&is_idle_for_long, acts), Tick),
+        (calling_for(40 * MS, acts), nothing_for(30 * MS)),
+        (
+            among(&is_idle_for_long, after_tick(1999 * MS, 1, acts)),
+            nothing_for(MS),
+        ),
+    ];
+    check(&rt, &rows);
+}
+
+#[test]
+fn an_act_that_the_leader_was_not_told_ticks_at_once(rt: HostRuntime) {
+    let untold = promised_for(2 * MS, acting(3 * MS));
+    let rows = [
+        (untold, Tick),
+        (promised_for(3 * MS, untold), nothing_for(997 * MS)),
+        (promised_for(2 * MS, dealing(3 * MS)), nothing_for(998 * MS)),
+        (after_tick(59 * MS, 1, untold), nothing_for(MS)),
+        (after_tick(60 * MS, 1, untold), Tick),
+        (
+            calling_for(40 * MS, after_tick(60 * MS, 1, untold)),
+            nothing_for(20 * MS),
+        ),
+        (after_tick(479 * MS, 9, untold), nothing_for(MS)),
+        (after_tick(480 * MS, 9, untold), Tick),
     ];
     check(&rt, &rows);
 }
@@ -201,7 +239,7 @@ fn a_leader_that_leads_is_given_time(rt: HostRuntime) {
             nothing_for(600 * MS),
         ),
         (
-            promised_for(400 * MS, acting(5000 * MS)),
+            promised_for(400 * MS, dealing(5000 * MS)),
             nothing_for(600 * MS),
         ),
         (

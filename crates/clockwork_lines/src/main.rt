@@ -11,6 +11,8 @@
 #![tactic(auto)]
 
 #[cfg(test)]
+mod away_tests;
+#[cfg(test)]
 mod due_tests;
 mod fields;
 #[cfg(test)]

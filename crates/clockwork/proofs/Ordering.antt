@@ -1,0 +1,59 @@
+-- Why a seat is played for, and that it is.
+use Rattle.std.proofs.Common.{ℕ, ◌≡◌, ◌+◌, ◌-◌, ◌*◌, ◌<◌, ◌≤◌, true, Option, Some, None, inl, inr, refl, arith}
+use Rattle.std.specs.Prelude.{min, IfSome}
+use Rattle.std.proofs.lemmas.Bool.{cases_Bool}
+use Rattle.clockwork.specs.declared.patience.Awaited.{Awaited}
+use Rattle.clockwork.specs.declared.answer.Due.TheVariants.{Tick, Nothing}
+use Rattle.clockwork.specs.declared.limits.TheConstants.{LONGEST, STEP, LOOK}
+use Rattle.clockwork.specs.Waits.{left}
+use Rattle.clockwork.specs.Patience.{is_ours, away_wait, order_left, away_left, away_due_of, HasWaitedFor, IsOrderedLongAgo, IsOrderedInTime}
+use Rattle.clockwork.proofs.Ticking.{max_parts, none_left, tick_of_none, none_of_tick, until_of}
+
+pub order_by : (awaited : Awaited) → away_due_of awaited ≡ Tick → (is_ours awaited ≡ true) × (away_left awaited ≡ 0)
+unfolding away_due_of
+order_by awaited is = elim (cases_Bool (is_ours awaited)) [
+  | inl so ↦ (so, none_of_tick awaited.time (away_left awaited) (rw so at is))
+  | inr not_so ↦ let none : LOOK ≡ 0 = none_of_tick awaited.time LOOK (rw not_so at is) in absurd (omega arith)
+]
+
+pub later_than_now : (awaited : Awaited) (until : ℕ) → away_due_of awaited ≡ Nothing until → (awaited.time < until) × (until ≤ awaited.time + LOOK)
+unfolding away_due_of
+later_than_now awaited until is = elim (cases_Bool (is_ours awaited)) [
+  | inl so ↦ until_of awaited.time (away_left awaited) until (rw so at is)
+  | inr not_so ↦ until_of awaited.time LOOK until (rw not_so at is)
+]
+
+parts_of_none : (awaited : Awaited) → away_left awaited ≡ 0
+    → (left awaited.time awaited.since (away_wait awaited) ≡ 0) × (order_left awaited.time awaited.ordered awaited.patience ≡ 0)
+unfolding away_left
+parts_of_none awaited none = max_parts (left awaited.time awaited.since (away_wait awaited)) (order_left awaited.time awaited.ordered awaited.patience) none
+
+no_shorter : (awaited : Awaited) → awaited.patience ≤ away_wait awaited
+unfolding away_wait
+no_shorter awaited = elim (cases_Bool awaited.sits_here) [ inl so ↦ rw so (omega arith) | inr not_so ↦ rw not_so (omega arith) ]
+
+no_longer : (awaited : Awaited) → away_wait awaited ≤ awaited.patience + STEP * awaited.rank
+unfolding away_wait
+no_longer awaited = elim (cases_Bool awaited.sits_here) [ inl so ↦ rw so (omega arith) | inr not_so ↦ rw not_so (omega arith) ]
+
+pub has_waited : (awaited : Awaited) → away_left awaited ≡ 0 → HasWaitedFor awaited
+has_waited awaited none = let parts = parts_of_none awaited none in let least = no_shorter awaited in omega (arith, parts.0, least)
+
+long_ago : (time : ℕ) (ordered : Option ℕ) (patience : ℕ) → order_left time ordered patience ≡ 0 → IfSome ordered (λ moment. min patience LONGEST ≤ time - moment)
+long_ago time None patience none = tt
+long_ago time (Some moment) patience none = none_left (min patience LONGEST) (time - moment) none
+
+pub ordered_long_ago : (awaited : Awaited) → away_left awaited ≡ 0 → IsOrderedLongAgo awaited
+ordered_long_ago awaited none = long_ago awaited.time awaited.ordered awaited.patience (parts_of_none awaited none).1
+
+none_of_long_ago : (time : ℕ) (ordered : Option ℕ) (patience : ℕ) → IfSome ordered (λ moment. min patience LONGEST ≤ time - moment) → order_left time ordered patience ≡ 0
+none_of_long_ago time None patience ago = refl
+none_of_long_ago time (Some moment) patience ago = omega arith
+
+pub in_time : (awaited : Awaited) → IsOrderedInTime awaited
+unfolding away_due_of away_left
+in_time awaited = λ ours waited ago.
+    let most = no_longer awaited in
+    let first : left awaited.time awaited.since (away_wait awaited) ≡ 0 = omega (arith, most, waited) in
+    let second = none_of_long_ago awaited.time awaited.ordered awaited.patience ago in
+    rw ours (tick_of_none awaited.time (away_left awaited) (omega (arith, first, second)))
