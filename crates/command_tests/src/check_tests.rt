@@ -1,5 +1,5 @@
 use crate::test_streams::{
-    Gives, L2, Reading, Run, Takes, Writing, ends, is_begun, is_same, is_written, reads_or_stops,
+    Gives, L2, Reading, Run, Takes, Writing, ends, is_begun, is_written, reads_or_stops,
 };
 use std::alloc::{AllocError, Global};
 use std::io::{ErrorKind, Read, Write};
@@ -9,11 +9,6 @@ use streamed::{Ending, Stop, check_run, read_all};
 
 const LOG: &[u8] = b"# name/game/hands m l2.game 1
 STATE:0:f:TdAs|8hTc:5|-5:alice|bob
-SCORE:5|-5:alice|bob
-";
-
-const WRONG_LOG: &[u8] = b"# name/game/hands m l2.game 1
-STATE:0:f:TdAs|8hTc:5|-4:alice|bob
 SCORE:5|-5:alice|bob
 ";
 
@@ -70,14 +65,6 @@ fn says_yes_of_a_log(rt: HostRuntime) -> Result<(), Fail> {
         is_checked(&rt, rt.alloc(), run)?;
     }
     Ok(())
-}
-
-#[test]
-fn tells_the_first_line_at_fault(rt: HostRuntime) {
-    let mut written = Vec::new(rt.alloc());
-    let ending = ran(rt.alloc(), L2, &mut &*WRONG_LOG, &mut written);
-    is_written(&rt, &written, b"no 2 48 WrongValues\n");
-    is_same(&rt, ending.status(), 1);
 }
 
 /// Checks the log of a game that is refused: how the run ends. Nothing is read or written.

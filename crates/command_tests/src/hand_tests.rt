@@ -8,7 +8,7 @@ use std::cell::Cell;
 use std::io::{ErrorKind, Read, Write};
 use std::process::Abort;
 use std::test::Fail;
-use streamed::{Ending, GameWord, MOST_READS, Stop, hand_run, run_script};
+use streamed::{Ending, MOST_READS, Stop, hand_run, run_script};
 
 const SCRIPT: &[u8] = b"names alice|bob
 deal TdAs|8hTc/2c8c3h/9c/Kh
@@ -26,27 +26,6 @@ E 110 BadScript
 1 MATCHSTATE:1:0:rf:|8hTc
 ";
 
-const TWO_HANDS: &[u8] = b"names alice|bob
-deal TdAs|8hTc/2c8c3h/9c/Kh
-f
-deal 2d2h|3d3s/4c5c6c/7c/8d
-f
-";
-
-const ANSWERS_AND_LOG: &[u8] = b"L # name/game/hands hand l2.game 2
-0 MATCHSTATE:0:0::TdAs|
-1 MATCHSTATE:1:0::|8hTc
-0 MATCHSTATE:0:0:f:TdAs|
-1 MATCHSTATE:1:0:f:|8hTc
-L STATE:0:f:TdAs|8hTc:5|-5:alice|bob
-0 MATCHSTATE:1:1::|3d3s
-1 MATCHSTATE:0:1::2d2h|
-0 MATCHSTATE:1:1:f:|3d3s
-1 MATCHSTATE:0:1:f:2d2h|
-L STATE:1:f:2d2h|3d3s:5|-5:bob|alice
-L SCORE:0|0:alice|bob
-";
-
 /// Runs a script of one hand: how the run ends. The other tests call it, so that the contract of `hand_run` is read
 /// once.
 fn ran<R: Read, W: Write>(alloc: Global, reader: &mut R, writer: &mut W) -> Ending {
@@ -60,11 +39,6 @@ fn is_run(rt: &impl Abort, alloc: Global, run: &Run) -> Result<(), AllocError> {
     let ending = ran(alloc, &mut Reading::new(SCRIPT, gives), &mut writer);
     is_begun(rt, &writer.taken, ANSWERS, count);
     ends(rt, alloc, ending, text)
-}
-
-/// Runs two hands with their log: how the run ends.
-fn ran_with_log<W: Write>(alloc: Global, word: GameWord<'_>, writer: &mut W) -> Ending {
-    hand_run(alloc, L2, Some(word), 2, &mut &*TWO_HANDS, writer)
 }
 
 /// Runs a script that comes byte by byte, with four reads at most.
@@ -114,16 +88,6 @@ fn answers_a_script(rt: HostRuntime) -> Result<(), Fail> {
     for run in &ANSWERED {
         is_run(&rt, rt.alloc(), run)?;
     }
-    Ok(())
-}
-
-#[test]
-fn prints_the_log_beside_the_answers(rt: HostRuntime) -> Result<(), Fail> {
-    let word = GameWord::new("l2.game").ok_or("a word with a game word's form")?;
-    let mut written = Vec::new(rt.alloc());
-    let ending = ran_with_log(rt.alloc(), word, &mut written);
-    is_same(&rt, ending.status(), 0);
-    is_written(&rt, &written, ANSWERS_AND_LOG);
     Ok(())
 }
 

@@ -8,17 +8,20 @@ use match_runs::Unserved;
 use node_links::{LinkFault, Mismatch, Own, Whose};
 use node_peers::Peers;
 use node_runs::{
-    LifeKeeper, NodeEnd, NodeNote, life_path, node_kept_path, node_run, tell_node_note,
+    KeyFault, LifeKeeper, NodeEnd, NodeNote, key_text, life_path, node_kept_path, node_run,
+    read_key, tell_node_note,
 };
 use node_seats::Seats;
-use node_service::{Member, NodeServer};
+use node_service::{Member, NodeServer, Terms};
+use node_status::Askers;
 use node_wires::MemoryWire;
 use paxos_wire::Ballot;
-use peer_codes::{Life, MatchDigest, RecordFault};
+use peer_codes::{Key as SharedKey, Life, MatchDigest, RecordFault};
 use promise_store::{Disk, OnceDisk, Store, StoreFault};
 use serving::ServeFault;
 use stations::Station;
 use std::alloc::{AllocError, Global};
+use std::net::{IpAddr, SocketAddr};
 use std::process::Abort;
 use std::test::Fail;
 
@@ -26,10 +29,13 @@ use std::test::Fail;
 const NOTES: &[u8] = b"match m1 node 2 front 7
 key port isn't used by node
 stores/match.kept: not found: copy it from the machine of node 0
+no key: peers and seats are trusted by their addresses
+match.key: open to others than its owner
+status at 127.0.0.1:7090
 peer 1: joined
 peer 1: gone
 peer 2: 127 WentBack
-peer 0: 123 OtherMatch digest
+peer 0: 123 OtherMatch digest (from 10.0.0.7)
 caller: 122 BadHello
 caller: 120 BadLength (12 times)
 quorum
@@ -38,7 +44,7 @@ leads (5, 1)
 ";
 
 /// Notes of all kinds, in the order of their lines.
-fn notes<'a>(name: Name) -> [NodeNote<'a>; 12] {
+fn notes<'a>(name: Name) -> [NodeNote<'a>; 15] {
     let bad_length = LinkFault::Record(RecordFault::BadLength);
     [
         NodeNote::Begins {
@@ -48,15 +54,20 @@ fn notes<'a>(name: Name) -> [NodeNote<'a>; 12] {
         },
         NodeNote::PassedOver("port"),
         NodeNote::NotCopied("stores/match.kept"),
+        NodeNote::NoKey,
+        NodeNote::BadKey("match.key", KeyFault::NotSecret),
+        NodeNote::Status(SocketAddr::from(([127, 0, 0, 1], 7090))),
         NodeNote::Joined(1),
         NodeNote::Gone(1),
         NodeNote::Refused {
             peer: 2,
             fault: LinkFault::WentBack(Whose::Other),
+            source: None,
         },
         NodeNote::Refused {
             peer: 0,
             fault: LinkFault::OtherMatch(Mismatch::Digest),
+            source: Some(IpAddr::from([10, 0, 0, 7])),
         },
         NodeNote::Callers {
             count: 1,
@@ -149,6 +160,18 @@ fn files_beside_a_store_have_names(rt: HostRuntime) -> Result<(), Fail> {
     Ok(())
 }
 
+#[test]
+fn a_key_is_64_digits(rt: HostRuntime) -> Result<(), Fail> {
+    let key = SharedKey { bytes: [0xa0; 32] };
+    let text = key_text(rt.alloc(), &key)?;
+    let digits = b"a0a0a0a0a0a0a0a0a0a0a0a0a0a0a0a0a0a0a0a0a0a0a0a0a0a0a0a0a0a0a0a0\n";
+    is_written(&rt, &text, digits);
+    let read = read_key(&text).expect(&rt, "a key");
+    is_written(&rt, &read.bytes, &key.bytes);
+    holds(&rt, 2u64, read_key(b"a0").is_none());
+    Ok(())
+}
+
 /// Keeps no life: none is told in these tests.
 #[derive(Drop)]
 struct NoLives;
@@ -175,12 +198,18 @@ fn server<D: Disk + Drop>(
         nodes: 3,
         digest: MatchDigest { bytes: [1; 32] },
         life: Life { bytes: [2; 16] },
+        key: None,
     };
     let peers = Peers::new(alloc, own, &[], 1_000_000)?;
-    let seats = Seats::new(alloc, 2)?;
+    let seats = Seats::new(alloc, 2, None)?;
     let wire = MemoryWire::new(alloc, call)?;
     let member = Member::new(alloc, station);
-    Ok(Some(NodeServer::new(alloc, member, wire, peers, seats, 3)))
+    let askers = Askers::new(alloc)?;
+    let terms = Terms {
+        nodes: 3,
+        patience: None,
+    };
+    Ok(Some(NodeServer::new(alloc, member, wire, peers, seats, askers, terms)))
 }
 
 /// How the process of node 0 ends whose log can't be written, and whose disk fails at the call of this number, counted from

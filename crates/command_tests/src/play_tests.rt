@@ -7,7 +7,6 @@ use match_runs::{play_match, play_run};
 use std::alloc::{AllocError, Global};
 use std::cell::Cell;
 use std::io::{ErrorKind, Read, Write};
-use std::ops::Range;
 use std::process::Abort;
 use std::test::Fail;
 use streamed::{Ending, MOST_READS, Stop};
@@ -94,14 +93,9 @@ frame 11 1>0 0000001502060000000001000000000921331a200018061c2e
 E 110 BadScript
 ";
 
-/// Plays a match file: how the run ends. Here alone `play_run` is called, so that its contract is read once.
-fn ran<R: Read, W: Write>(alloc: Global, file: &[u8], reader: &mut R, writer: &mut W) -> Ending {
-    play_run(alloc, file, Some(L2), reader, writer)
-}
-
-/// Plays a match file and a script at once: how the run ends.
-fn played(alloc: Global, file: &[u8], script: &[u8], written: &mut Vec<u8>) -> Ending {
-    ran(alloc, file, &mut &*script, written)
+/// Plays the match: how the run ends. Here alone `play_run` is called, so that its contract is read once.
+fn ran<R: Read, W: Write>(alloc: Global, reader: &mut R, writer: &mut W) -> Ending {
+    play_run(alloc, MATCH, Some(L2), reader, writer)
 }
 
 /// Plays a script over such a reader and writer: the run ends as is due.
@@ -114,7 +108,7 @@ fn is_run(
 ) -> Result<(), AllocError> {
     let &(gives, takes, count, text) = run;
     let mut writer = Writing::new(alloc, takes);
-    let ending = ran(alloc, MATCH, &mut Reading::new(script, gives), &mut writer);
+    let ending = ran(alloc, &mut Reading::new(script, gives), &mut writer);
     is_begun(rt, &writer.taken, answers, count);
     ends(rt, alloc, ending, text)
 }
@@ -167,7 +161,7 @@ fn answers_each_line_of_nodes_before_the_next_is_awaited(rt: HostRuntime) {
         heard: Vec::new(rt.alloc()),
         flushed: &flushed,
     };
-    let ending = ran(rt.alloc(), MATCH, &mut reader, &mut writer);
+    let ending = ran(rt.alloc(), &mut reader, &mut writer);
     is_same(&rt, ending.status(), 0);
     is_written(&rt, &writer.heard, STOPPED_ANSWERS);
 }
@@ -181,7 +175,7 @@ fn is_taken(rt: &impl Abort, taken: &[u8], most: usize) {
 /// Plays a script whose writer fails once it has taken so many bytes: whether it did. Where it didn't, all was done.
 fn stops_at(rt: &impl Abort, alloc: Global, most: usize) -> Result<bool, AllocError> {
     let mut writer = Writing::new(alloc, Takes::Until(most, ErrorKind::BrokenPipe));
-    let ending = ran(alloc, MATCH, &mut &*STOPPED, &mut writer);
+    let ending = ran(alloc, &mut &*STOPPED, &mut writer);
     is_taken(rt, &writer.taken, most);
     if writer.has_failed {
         ends(rt, alloc, ending, "107 StreamFailed")?;
@@ -230,199 +224,4 @@ fn reads_a_script_of_nodes_so_often_and_no_more(rt: HostRuntime) -> Result<(), F
     is_same(&rt, MOST_READS, 16_777_216);
     is_read_by_four(&rt, rt.alloc(), b"xxx", true)?;
     is_read_by_four(&rt, rt.alloc(), b"xxxx", false)
-}
-
-/// Whether a run was refused its match file or its game, by a fault that has a name, and wrote nothing.
-fn is_refused(ending: Ending, written: &[u8]) -> bool {
-    match ending {
-        Ending::Match(fault) => [100, 101, 102].contains(&fault.code()) && written.is_empty(),
-        _ => false,
-    }
-}
-
-/// Whether all was done, and headers were written before anything else.
-fn is_begun_with_headers(ending: Ending, written: &[u8]) -> bool {
-    matches!(ending, Ending::Done) && written.starts_with(b"0 L # name/game/hands ")
-}
-
-/// Plays a match file with a short script: whether it was refused. If it wasn't, headers are written.
-fn refuses(rt: &impl Abort, alloc: Global, file: &[u8]) -> bool {
-    let mut written = Vec::new(alloc);
-    let ending = played(alloc, file, b"tick 0\n", &mut written);
-    let refused = is_refused(ending, &written);
-    assert!(rt; refused || is_begun_with_headers(ending, &written));
-    refused
-}
-
-/// The text with one bit changed in the byte at this place.
-fn changed(alloc: Global, text: &[u8], place: usize) -> Result<Vec<u8>, AllocError> {
-    let mut changed = text.to_vec(alloc)?;
-    if let Some(byte) = changed.get_mut(place) {
-        *byte ^= 1 << (place % 8);
-    }
-    Ok(changed)
-}
-
-/// All that ends before the last node's deals do is refused; the last line feed may be missing.
-#[test]
-fn a_damaged_match_file_is_played_or_refused(rt: HostRuntime) -> Result<(), Fail> {
-    for place in 0..MATCH.len() {
-        let is_short = place < MATCH.len() - 1;
-        let is_refused = refuses(&rt, rt.alloc(), &MATCH[..place]);
-        holds(&rt, place as u64, is_refused == is_short);
-        refuses(&rt, rt.alloc(), &changed(rt.alloc(), MATCH, place)?);
-    }
-    Ok(())
-}
-
-/// Whether all was done, and what was written is a beginning of the answers, with the headers.
-fn is_answered_so_far(ending: Ending, written: &[u8]) -> bool {
-    matches!(ending, Ending::Done)
-        && written.starts_with(HEADERS)
-        && STOPPED_ANSWERS.starts_with(written)
-}
-
-#[test]
-fn a_script_cut_short_is_answered_as_far_as_it_goes(rt: HostRuntime) {
-    for end in 0..STOPPED.len() {
-        let mut written = Vec::new(rt.alloc());
-        let ending = played(rt.alloc(), MATCH, &STOPPED[..end], &mut written);
-        holds(&rt, end as u64, is_answered_so_far(ending, &written));
-    }
-}
-
-/// Whether each line that was written has the form of an answer: of a frame, a line, a log line or a fault.
-fn are_answers(written: &[u8]) -> bool {
-    match written.strip_suffix(b"\n") {
-        None => false,
-        Some(lines) => lines
-            .split(|byte| *byte == b'\n')
-            .all(|line| is_answer(line)),
-    }
-}
-
-/// Whether it is `frame K ..`, `I ..` or `E 110 BadScript`.
-fn is_answer(line: &[u8]) -> bool {
-    if line == b"E 110 BadScript".as_slice() {
-        return true;
-    }
-    match line.strip_prefix(b"frame ") {
-        Some(rest) => begins_with_number(rest),
-        None => begins_with_number(line),
-    }
-}
-
-/// Whether it begins with decimals and a space.
-fn begins_with_number(line: &[u8]) -> bool {
-    match line.iter().position(|byte| *byte == b' ') {
-        None => false,
-        Some(place) => place > 0 && line[..place].iter().all(|byte| byte.is_ascii_digit()),
-    }
-}
-
-/// Plays the script of this number: all is done, and answers are written.
-fn answers(rt: &impl Abort, alloc: Global, script: &[u8], number: u64) {
-    let mut written = Vec::new(alloc);
-    let ending = played(alloc, MATCH, script, &mut written);
-    let is_done = matches!(ending, Ending::Done);
-    holds(rt, number, is_done && are_answers(&written));
-}
-
-#[test]
-fn a_damaged_script_is_answered(rt: HostRuntime) -> Result<(), Fail> {
-    for place in 0..STOPPED.len() {
-        let script = changed(rt.alloc(), STOPPED, place)?;
-        answers(&rt, rt.alloc(), &script, place as u64);
-    }
-    Ok(())
-}
-
-/// The next of numbers that look random (Knuth's linear congruence).
-fn next(state: u64) -> u64 {
-    state
-        .wrapping_mul(6364136223846793005)
-        .wrapping_add(1442695040888963407)
-}
-
-/// Words of scripts and of match files, and bytes that stand in neither.
-const WORDS: [&[u8]; 32] = [
-    b"tick ",
-    b"tick 0\n",
-    b"tick 1\n",
-    b"deliver ",
-    b"deliver 0\n",
-    b"flush 9\n",
-    b"flush ",
-    b"connect 0 1\n",
-    b"connect ",
-    b"drop 0 1\n",
-    b"line 0 1 VERSION:2.0.0\n",
-    b"line 0 1 ",
-    b"MATCHSTATE:1:0::|8hTc:c",
-    b"stop 0 5\n",
-    b"stop ",
-    b"start 0\n",
-    b"start ",
-    b"0",
-    b"1",
-    b"2",
-    b" ",
-    b"18446744073709551616",
-    b"\n",
-    b"\n",
-    b"\r\n",
-    b"\x00",
-    b"\xff",
-    b"name = \"m\"\n",
-    b"hands = 1\n",
-    b"[[node]]\n",
-    b"seed = 1\n",
-    b"game = \"g\"\n",
-];
-
-/// A text of up to 31 of the words, told by a number.
-fn random_text(alloc: Global, seed: u64) -> Result<Vec<u8>, AllocError> {
-    let mut state = next(next(seed));
-    let mut text = Vec::new(alloc);
-    for _ in 0..state >> 59 {
-        state = next(state);
-        text.extend_from_slice(WORDS[(state >> 59) as usize])?;
-    }
-    Ok(text)
-}
-
-/// Plays random scripts of these numbers: each is answered to its end.
-fn answers_random_scripts(rt: &impl Abort, alloc: Global, seeds: Range<u64>) -> Result<(), Fail> {
-    for seed in seeds {
-        let script = random_text(alloc, seed)?;
-        answers(rt, alloc, &script, seed);
-    }
-    Ok(())
-}
-
-/// A thousand in two halves, since a test has a minute.
-#[test]
-fn random_scripts_are_answered(rt: HostRuntime) -> Result<(), Fail> {
-    answers_random_scripts(&rt, rt.alloc(), 0..500)
-}
-
-#[test]
-fn further_random_scripts_are_answered(rt: HostRuntime) -> Result<(), Fail> {
-    answers_random_scripts(&rt, rt.alloc(), 500..1000)
-}
-
-/// Plays the match file of this number: it is refused.
-fn is_file_refused(rt: &impl Abort, alloc: Global, file: &[u8], number: u64) {
-    let mut written = Vec::new(alloc);
-    let ending = played(alloc, file, STOPPED, &mut written);
-    holds(rt, number, is_refused(ending, &written));
-}
-
-#[test]
-fn random_match_files_are_refused(rt: HostRuntime) -> Result<(), Fail> {
-    for seed in 0..1000u64 {
-        let file = random_text(rt.alloc(), seed)?;
-        is_file_refused(&rt, rt.alloc(), &file, seed);
-    }
-    Ok(())
 }

@@ -49,8 +49,19 @@ pub(crate) struct CheckArguments<'a> {
 pub(crate) struct InitArguments<'a> {
     /// The word that names the match file.
     pub(crate) path: &'a str,
-    /// The node whose store is to be made, where it is one alone.
-    pub(crate) node: Option<u8>,
+    /// What is to be made.
+    pub(crate) made: Made<'a>,
+}
+
+/// What `init` makes.
+#[derive(Clone, Copy)]
+pub(crate) enum Made<'a> {
+    /// The stores of all nodes.
+    Stores,
+    /// The store of this node alone.
+    Store(u8),
+    /// The key alone, in the file that this word names.
+    Key(&'a str),
 }
 
 /// What `node` is asked for.
@@ -122,7 +133,7 @@ impl Verb {
             Verb::Hand => "Plays a script of deals and actions, and prints each seat's lines",
             Verb::Play => "Runs all nodes of a match over a script, and prints all they send",
             Verb::Check => "Checks the log of a match against the rules of its game",
-            Verb::Init => "Makes the empty stores of a match's nodes",
+            Verb::Init => "Makes the empty stores of a match's nodes, or its key",
             Verb::Serve => "Deals a match to its seats over TCP",
             Verb::Node => "Runs one node of a match in a process of its own",
         }
@@ -146,7 +157,7 @@ impl Verb {
             Verb::Hand => &[Place::Hands, Place::LogFlag, Place::Game],
             Verb::Check => &[Place::Game, Place::Log],
             Verb::Play => &[Place::Match],
-            Verb::Init => &[Place::Match, Place::OneNode],
+            Verb::Init => &[Place::Key, Place::Match, Place::OneNode],
             Verb::Serve => &[Place::Times, Place::Match],
             Verb::Node => &[Place::Times, Place::Match, Place::Node],
         }
@@ -172,6 +183,8 @@ enum Place {
     Node,
     /// I, which may be left out.
     OneNode,
+    /// `--key FILE`.
+    Key,
 }
 
 /// The program's command line.
@@ -221,14 +234,14 @@ fn add_arguments<'a>(
 ) -> Result<(), AllocError> {
     for place in places {
         arguments.reserve(1)?;
-        arguments.push_reserved(argument_at(alloc, *place));
+        arguments.push_reserved(argument_at(alloc, *place)?);
     }
     Ok(())
 }
 
 /// What clap is told of a place.
-fn argument_at<'a>(alloc: Global, place: Place) -> Arg<'a> {
-    match place {
+fn argument_at<'a>(alloc: Global, place: Place) -> Result<Arg<'a>, AllocError> {
+    let argument = match place {
         Place::Hands => hands_option(alloc),
         Place::LogFlag => log_option(alloc),
         Place::Game => word_at(
@@ -242,7 +255,9 @@ fn argument_at<'a>(alloc: Global, place: Place) -> Arg<'a> {
         Place::Match => word_at(alloc, "match", "MATCH", "The match file"),
         Place::Node => node_at(alloc, "The node's number, counted from 0").required(true),
         Place::OneNode => node_at(alloc, "The node whose store alone is made, from 0"),
-    }
+        Place::Key => key_option(alloc)?,
+    };
+    Ok(argument)
 }
 
 /// A word that has to be there.
@@ -289,6 +304,15 @@ fn log_option<'a>(alloc: Global) -> Arg<'a> {
         .help("Prints the match's log too, each line behind L")
 }
 
+/// `--key FILE`.
+fn key_option<'a>(alloc: Global) -> Result<Arg<'a>, AllocError> {
+    Arg::new(alloc, "key")
+        .long("key")
+        .value_name("FILE")
+        .help("Makes the key alone, in this file")
+        .conflicts_with("node")
+}
+
 /// `--times`.
 fn times_option<'a>(alloc: Global) -> Arg<'a> {
     Arg::new(alloc, "times")
@@ -320,12 +344,15 @@ fn named<'a>(name: &str, matches: &ArgMatches<'a>) -> Result<Task<'a>, Ending> {
     }
 }
 
-/// MATCH of `init`, and I where it is said.
+/// MATCH of `init`, and I or FILE where one is said.
 fn init_task<'a>(matches: &ArgMatches<'a>) -> Result<Task<'a>, Ending> {
-    Ok(Task::Init(InitArguments {
-        path: word(matches, "match")?,
-        node: node(matches),
-    }))
+    let path = word(matches, "match")?;
+    let made = match (matches.get_str("key"), node(matches)) {
+        (Some(key), _) => Made::Key(key),
+        (None, Some(node)) => Made::Store(node),
+        (None, None) => Made::Stores,
+    };
+    Ok(Task::Init(InitArguments { path, made }))
 }
 
 /// MATCH and I of `node`, and what is chosen.

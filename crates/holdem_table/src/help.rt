@@ -100,12 +100,17 @@ stores of the other nodes before those are made, else they are refused (104).
 Where it ended in the middle, delete nodeI.kept and nodeI.journal and run it
 again.
 
+With --key FILE the key alone is made, for holdem_table node: 32 random bytes
+as 64 hexadecimal digits in FILE, which its owner alone may use. MATCH names
+it by key = \"FILE\", and each machine gets a copy.
+
 Exit status:
-  0  all stores were made
+  0  all was made
   2  the command line is wrong, MATCH is refused (100, 101, 102), MATCH or the
-     game can't be read (104), a store file or match.kept is there already
-     (103; then nothing was made or touched), match.kept is of another match
-     (109), a file can't be made or written (63), or memory was refused (92)
+     game can't be read (104), a store file, match.kept or FILE is there
+     already (103; then nothing was made or touched), match.kept is of another
+     match (109), a file can't be made or written (63), or memory was refused
+     (92)
 The last line of standard error says which; where a file is at fault, the line
 before names it.
 docs/OPERATING.md says how to set up a match, and what to do when it stands
@@ -207,10 +212,18 @@ Example:
 pub(crate) const AFTER_NODE_HELP: &str = "\
 MATCH is a match file as of serve, with the same text on each machine but for
 paths and addresses, and in each node's table
-  peers = \"HOST:PORT\"  where the node awaits the others
-  seats = \"HOST:PORT\"  where it awaits seat 0; seat S at the port S higher
-Hosts are numeric addresses of this machine or of a private network. port,
-outage and away are passed over.
+  peers = \"HOST:PORT\"   where the node awaits the others
+  seats = \"HOST:PORT\"   where it awaits seat 0; seat S at the port S higher
+  status = \"HOST:PORT\"  perhaps: who connects gets a line on how it is
+Above the tables may stand
+  key = \"FILE\"          the key under which the nodes prove who they are, and
+                        hide what they say; init MATCH --key FILE makes it,
+                        and each machine has a copy. Without it hosts must be
+                        addresses of this machine or of a private network
+  tokens = [\"HEX\", ..]  the SHA-256 of each seat's token; then a bot's first
+                        line is #TOKEN and its token, 64 hexadecimal digits
+  patience = S          a seat for which all wait S seconds is played for
+port, outage and away are passed over.
 
 Each node runs in a process of its own, on the machine of its store, which
 holdem_table init MATCH I makes: first that of node 0, which makes match.kept
@@ -219,20 +232,21 @@ goes on while more than half of the nodes run. A process that was ended, in
 whatever way, is started again by the same command. A bot may dial any node,
 and dials another one where its connection ends.
 
-Standard error has notes, one a line: which node of which match begins, which
-peers joined or are gone, faults of connections, whether more than half of the
-nodes are here, when this one leads, which seats were seated or are gone;
-with --times the time (UTC) stands before each. Nothing is printed on standard
-output.
+Standard error has notes, one a line: that no key is named, where the status
+is, which node of which match begins, which peers joined or are gone, faults
+of connections, whether more than half of the nodes are here, when this one
+leads, which seats were seated or are gone, came with a wrong token, or are
+played for; with --times the time (UTC) stands before each. Nothing is printed
+on standard output.
 
 Exit status:
   0  the match is over, and the other nodes know it
   1  a port can't be bound (105), the log is in use or can't be opened, kept,
      emptied or written (106), or memory was refused (92)
-  2  the command line is wrong, MATCH is refused (100, 101, 102), MATCH, its
-     game, match.kept or the store can't be read (104), the store is in use
-     (108), what lies beside the store is of another match, node or source of
-     deals (109), or a peer knows another store of this node (127)
+  2  the command line is wrong, MATCH or its key is refused (100, 101, 102),
+     MATCH, its game, match.kept or the store can't be read (104), the store
+     is in use (108), what lies beside the store is of another match, node or
+     source of deals (109), or a peer knows another store of this node (127)
   3  the store is refused or failed (91), or two commands were chosen at one
      place (95): look at the disk, and restart the machine before the node
 The last line of standard error says which; where an address or a file is at

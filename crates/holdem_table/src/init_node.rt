@@ -144,9 +144,12 @@ fn keep_node(
     put_file(rt, folder, path.as_str(), &text, notes)
 }
 
-/// 16 random bytes.
-fn drawn(rt: &HostRuntime, notes: &mut Notes<'_>) -> Result<[u8; 16], Ending> {
-    let mut bytes = [0; 16];
+/// So many random bytes.
+pub(crate) fn drawn<const N: usize>(
+    rt: &HostRuntime,
+    notes: &mut Notes<'_>,
+) -> Result<[u8; N], Ending> {
+    let mut bytes = [0; N];
     match rt.fill_bytes(&mut bytes) {
         Ok(()) => Ok(bytes),
         Err(error) => Err(unmade_file("random bytes", &error, notes)),

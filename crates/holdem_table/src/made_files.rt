@@ -3,11 +3,23 @@
 use std::alloc::{AllocError, Global};
 use std::fs::File;
 use std::io::Write;
+use std::os::unix::fs::OpenOptionsExt;
 use std::{fs, io};
 
 /// Makes a file with this text, which must not be there, and has it on the disk.
 pub(crate) fn make(rt: &HostRuntime, path: &str, text: &[u8]) -> io::Result<()> {
     let mut file = File::options().write(true).create_new(true).open(rt, path)?;
+    file.write_all(text)?;
+    file.sync_all()
+}
+
+/// Makes a file with this text which its owner alone may read and write, which must not be there, and has it on the disk.
+pub(crate) fn make_secret(rt: &HostRuntime, path: &str, text: &[u8]) -> io::Result<()> {
+    let mut file = File::options()
+        .write(true)
+        .create_new(true)
+        .mode(0o600)
+        .open(rt, path)?;
     file.write_all(text)?;
     file.sync_all()
 }

@@ -1,5 +1,5 @@
 //! The program `holdem_table`: `hand` runs one dealer over a script, `play` all nodes of a match, `check` checks the log
-//! of a match, `init` makes the stores of a match's nodes, `serve` deals it to seats over TCP, and `node` runs one of its
+//! of a match, `init` makes the stores of a match's nodes, or its key, `serve` deals it to seats over TCP, and `node` runs one of its
 //! nodes in a process of its own.
 #![tactic(auto)]
 
@@ -9,6 +9,7 @@ mod identity;
 mod init;
 mod init_node;
 mod kept_match;
+mod key_file;
 mod late_file;
 mod life_files;
 mod locking;
@@ -22,11 +23,12 @@ mod utc;
 mod whole_file;
 
 use crate::arguments::{
-    CheckArguments, HandArguments, InitArguments, NODE, NodeArguments, SERVE, Task, command,
+    CheckArguments, HandArguments, InitArguments, Made, NODE, NodeArguments, SERVE, Task, command,
     requested,
 };
 use crate::init::init;
 use crate::init_node::init_node;
+use crate::key_file::init_key;
 use crate::late_file::LateFile;
 use crate::node::node;
 use crate::serve::serve;
@@ -104,18 +106,20 @@ fn run_requested(rt: &HostRuntime, matches: &ArgMatches<'_>) -> ExitCode {
         Ok(Task::Hand(arguments)) => end(rt, hand(rt, arguments)),
         Ok(Task::Check(arguments)) => end(rt, check(rt, arguments)),
         Ok(Task::Play(path)) => end(rt, play(rt, path)),
-        Ok(Task::Init(InitArguments { path, node: None })) => end(rt, init(rt, path)),
-        Ok(
-            Task::Init(
-                InitArguments {
-                    path,
-                    node: Some(node),
-                },
-            ),
-        ) => end(rt, init_node(rt, path, node)),
+        Ok(Task::Init(arguments)) => end(rt, make(rt, arguments)),
         Ok(Task::Serve(arguments)) => conclude(rt, serve(rt, arguments)),
         Ok(Task::Node(arguments)) => run_node(rt, arguments),
         Err(ending) => end(rt, ending),
+    }
+}
+
+/// Runs `init`: for all nodes, for one, or for the key.
+fn make(rt: &HostRuntime, arguments: InitArguments<'_>) -> Ending {
+    let InitArguments { path, made } = arguments;
+    match made {
+        Made::Stores => init(rt, path),
+        Made::Store(node) => init_node(rt, path, node),
+        Made::Key(key) => init_key(rt, path, key),
     }
 }
 

@@ -5,6 +5,7 @@ ghost use Rattle.std.specs.Prelude.{◌<◌, length, IfOk};
 use crate::arguments::NodeArguments;
 use crate::identity::{Identity, identify};
 use crate::init::tell_unused;
+use crate::key_file::key_at;
 use crate::life_files::LifeFiles;
 use crate::log_files::{begin_log, open_log};
 use crate::notes::Notes;
@@ -13,14 +14,16 @@ use crate::store_files::{cause, open_store};
 use clockwork::limits::SHORTEST;
 use dealer_kind::Config;
 use dealer_node::NodeFault;
-use match_file::{Key, MatchFault, MatchFile, NodeEntries};
+use match_file::{Key as Entry, MatchFault, MatchFile, NodeEntries};
 use match_runs::{Cause, Unserved, log_path, store_path};
 use node_links::Own;
 use node_peers::Peers;
 use node_runs::{NodeEnd, NodeNote, node_run};
-use node_seats::Seats;
-use node_service::{Member, NodeServer};
+use node_seats::{Seats, TokenDigest};
+use node_service::{Member, NodeServer, Terms};
+use node_status::Askers;
 use node_wires::{BindFault, Failed, TcpWire};
+use peer_codes::Key;
 use promise_store::FileDisk;
 use serving::ServeFault;
 use stations::Station;
@@ -34,8 +37,8 @@ type TcpNode<'a> = NodeServer<FileDisk, TcpWire<'a>>;
 /// Runs a node of the match of a match file until the match is over and all other nodes know it: speaks with the other nodes,
 /// listens for its seats, and keeps its store and its log.
 ///
-/// The match file's entries are looked at, the match compared with the one that the store was made for, the store locked and
-/// read, the ports bound, and the log opened and locked, in this order, before anything is changed. Notes go to standard
+/// The match file's entries are looked at, the key read, the match compared with the one that the store was made for, the
+/// store locked and read, the ports bound, and the log opened and locked, in this order, before anything is changed. Notes go to standard
 /// error, one a line; the one before a fault names its address or file, where it has one.
 pub(crate) fn node(rt: &HostRuntime, arguments: NodeArguments<'_>) -> Result<(), NodeEnd> {
     let mut notes = Notes::new(rt, arguments.has_times);
@@ -69,7 +72,7 @@ fn entries_of<'a>(
     ensures { IfOk result (λ _. node < length config.now.sources) }
 {
     if node as usize >= config.nodes() {
-        return Err(Unserved::Match(MatchFault::BadEntry(Key::Node)));
+        return Err(Unserved::Match(MatchFault::BadEntry(Entry::Node)));
     }
     config.limits();
     let entries = file.node_entries(rt.alloc(), config.game().players())?;
@@ -89,31 +92,41 @@ fn run_entries(
 ) -> Result<(), NodeEnd>
     requires { node < length config.sources }
 {
-    let NodeEntries {
-        stores,
-        logs,
-        addresses,
-    } = entries;
-    let Some(seats) = addresses.seats.get(node as usize) else {
-        return Err(NodeEnd::from(Unserved::Match(MatchFault::BadEntry(Key::Seats))));
-    };
-    let seats = *seats;
     let place = Place {
         rt,
-        stores,
-        logs,
+        stores: entries.stores,
+        logs: entries.logs,
         node,
     };
-    let mut lives = LifeFiles::new(rt, stores, node);
+    let access = place.access(entries, notes)?;
+    let port = access.seats.port();
+    let mut lives = LifeFiles::new(rt, place.stores, node);
     let mut old_logs = Vec::new(rt.alloc());
-    let mut server = place.begin(config, addresses.peers, seats, &lives, &mut old_logs, notes)?;
-    match node_run(rt.alloc(), &mut server, &mut lives, seats.port(), notes) {
+    let mut server = place.begin(config, access, &lives, &mut old_logs, notes)?;
+    match node_run(rt.alloc(), &mut server, &mut lives, port, notes) {
         Ok(()) => Ok(()),
         Err(end) => {
             place.tell_end(&server, &lives, end, notes)?;
             Err(end)
         }
     }
+}
+
+/// Where a node is reached, by whom, and how long it waits for one of them.
+#[derive(Drop)]
+struct Access {
+    /// Where each node awaits the others.
+    peers: Vec<SocketAddr>,
+    /// Where seat 0 is awaited; seat s is at the port that is s higher.
+    seats: SocketAddr,
+    /// Where it is told how the node is.
+    status: Option<SocketAddr>,
+    /// What the nodes prove to each other to have.
+    key: Option<Key>,
+    /// What the token of each seat is known by.
+    tokens: Option<Vec<TokenDigest>>,
+    /// After how many seconds a seat is played for.
+    patience: Option<u32>,
 }
 
 /// Where the files of a node lie.
@@ -126,12 +139,67 @@ struct Place<'a> {
 }
 
 impl<'a> Place<'a> {
+    /// What the entries say of it, with the key read from its file. A note tells that none is named.
+    fn access(&self, entries: NodeEntries<'_>, notes: &mut Notes<'_>) -> Result<Access, Unserved> {
+        let NodeEntries {
+            addresses,
+            key,
+            tokens,
+            patience,
+            ..
+        } = entries;
+        let place = self.node as usize;
+        let (Some(seats), Some(status)) = (
+            addresses.seats.get(place).copied(),
+            addresses.status.get(place).copied(),
+        ) else {
+            return Err(Unserved::Match(MatchFault::BadEntry(Entry::Seats)));
+        };
+        let key = self.key(key, notes)?;
+        let tokens = self.digests(tokens)?;
+        let peers = addresses.peers;
+        Ok(Access {
+            peers,
+            seats,
+            status,
+            key,
+            tokens,
+            patience,
+        })
+    }
+
+    /// The key in the file that is named, if one is; a note tells that none is.
+    fn key(&self, path: Option<&str>, notes: &mut Notes<'_>) -> Result<Option<Key>, Unserved> {
+        match path {
+            Some(path) => Ok(Some(key_at(self.rt, path, notes)?)),
+            None => {
+                notes.tell_node(&NodeNote::NoKey);
+                Ok(None)
+            }
+        }
+    }
+
+    /// The same digests for the seats.
+    fn digests(
+        &self,
+        tokens: Option<Vec<[u8; 32]>>,
+    ) -> Result<Option<Vec<TokenDigest>>, AllocError> {
+        let Some(tokens) = tokens else {
+            return Ok(None);
+        };
+        let mut digests = Vec::with_capacity(self.rt.alloc(), tokens.len())?;
+        for bytes in &tokens {
+            digests.reserve(1)?;
+            digests.push_reserved(TokenDigest { bytes: *bytes });
+        }
+        Ok(Some(digests))
+    }
+
     /// Opens the store, the ports and the log, and makes the server. Logs of earlier starts stay open, and so locked.
     fn begin(
         &self,
         config: Config,
-        peers: Vec<SocketAddr>,
-        seats: SocketAddr,
+        access: Access,
         lives: &LifeFiles<'_>,
         old_logs: &mut Vec<File>,
         notes: &mut Notes<'_>,
@@ -144,24 +212,64 @@ impl<'a> Place<'a> {
         let identity = identify(self.rt, self.stores, self.node, &config, notes)?;
         let disk = open_store(self.rt, self.stores, (self.node, nodes), notes)?;
         let known = lives.read(nodes, notes)?;
-        let mut wire = bind(self.rt, peers, self.node, seats, players, notes)?;
+        let Access {
+            peers,
+            seats,
+            status,
+            key,
+            tokens,
+            patience,
+        } = access;
+        let mut wire = self.bind(peers, seats, players, status, notes)?;
         wire.add_log(self.begin_log(old_logs, notes)?);
         // Behind all that may be refused of the log, since opening a store of version 1 writes there.
         let station = self.open_station(config, disk, notes)?;
         let alloc = self.rt.alloc();
-        let peers = Peers::new(alloc, self.own(nodes, identity), &known, SHORTEST)?;
-        let seats = Seats::new(alloc, players)?;
+        let peers = Peers::new(alloc, self.own(nodes, identity, key), &known, SHORTEST)?;
+        let seats = Seats::new(alloc, players, tokens)?;
+        let askers = Askers::new(alloc)?;
         let member = Member::new(alloc, station);
-        Ok(NodeServer::new(alloc, member, wire, peers, seats, nodes))
+        let terms = Terms {
+            nodes,
+            patience: patience.map(in_microseconds),
+        };
+        Ok(NodeServer::new(alloc, member, wire, peers, seats, askers, terms))
     }
 
-    /// What the node says of itself to others, in a match of so many.
-    fn own(&self, nodes: u8, identity: Identity) -> Own {
+    /// What the node says of itself to others, in a match of so many, and what it proves it by.
+    fn own(&self, nodes: u8, identity: Identity, key: Option<Key>) -> Own {
         Own {
             number: self.node,
             nodes,
             digest: identity.digest,
             life: identity.life,
+            key,
+        }
+    }
+
+    /// Binds the ports. A note names one that can't be had, and else where the status is.
+    fn bind(
+        &self,
+        peers: Vec<SocketAddr>,
+        seats: SocketAddr,
+        players: u8,
+        status: Option<SocketAddr>,
+        notes: &mut Notes<'_>,
+    ) -> Result<TcpWire<'a>, Unserved> {
+        match TcpWire::bind(self.rt, peers, self.node, seats, players, status) {
+            Ok(wire) => {
+                if let Some(address) = status {
+                    notes.tell_node(&NodeNote::Status(address));
+                }
+                Ok(wire)
+            }
+            Err(BindFault::Port { address, kind }) => {
+                let text = format!(in self.rt.alloc(); "{address}")?;
+                notes.tell_file(text.as_str(), Cause::of(kind));
+                Err(Unserved::Fault(ServeFault::LinkFailed))
+            }
+            Err(BindFault::Failed { kind: _ }) => Err(Unserved::Fault(ServeFault::LinkFailed)),
+            Err(BindFault::OutOfMemory) => Err(Unserved::from(AllocError)),
         }
     }
 
@@ -233,23 +341,7 @@ fn log_cause(server: &TcpNode<'_>) -> Cause {
     }
 }
 
-/// Binds the ports. A note names one that can't be had.
-fn bind<'a>(
-    rt: &'a HostRuntime,
-    peers: Vec<SocketAddr>,
-    node: u8,
-    seats: SocketAddr,
-    players: u8,
-    notes: &mut Notes<'_>,
-) -> Result<TcpWire<'a>, Unserved> {
-    match TcpWire::bind(rt, peers, node, seats, players) {
-        Ok(wire) => Ok(wire),
-        Err(BindFault::Port { address, kind }) => {
-            let text = format!(in rt.alloc(); "{address}")?;
-            notes.tell_file(text.as_str(), Cause::of(kind));
-            Err(Unserved::Fault(ServeFault::LinkFailed))
-        }
-        Err(BindFault::Failed { kind: _ }) => Err(Unserved::Fault(ServeFault::LinkFailed)),
-        Err(BindFault::OutOfMemory) => Err(Unserved::from(AllocError)),
-    }
+/// So many seconds.
+fn in_microseconds(seconds: u32) -> u64 {
+    seconds as u64 * 1_000_000
 }

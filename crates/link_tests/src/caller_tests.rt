@@ -2,8 +2,10 @@
 
 use crate::pair::{SILENCE, Side, take_turns};
 use crate::samples::{
-    ACCEPT, ACCEPTED, ASK_RECORD, HELLO_RECORD, LOW_BEAT_RECORD, assert_number, hello,
+    ACCEPT, ACCEPTED, ASK_RECORD, FORWARD, HELLO_RECORD, LOW_BEAT_RECORD, TOLD, assert_number,
+    hello,
 };
+use node_links::Told;
 use node_wires::Line;
 use peer_codes::{Hello, Link, Nonce, Record, record_bytes};
 use std::alloc::{AllocError, Global};
@@ -112,8 +114,14 @@ fn a_second_connection_is_refused_or_takes_the_place(rt: HostRuntime) -> Result<
     let much_later = later.saturating_add(SILENCE);
     side.peers.forgive(SILENCE, much_later);
     say(&mut side, 0, &HELLO_RECORD, much_later)?;
-    assert_number(&rt, side.seen.refused as u64, 2);
+    assert_number(&rt, said(&side, 0), 82);
     assert_number(&rt, side.seen.joined as u64, 2);
+    // The same fault of the same peer is told once in ten seconds.
+    assert_number(&rt, side.seen.refused as u64, 1);
+    let ten_seconds_later = 10_002_000;
+    side.peers.forgive(ten_seconds_later, ten_seconds_later);
+    say(&mut side, 0, &HELLO_RECORD, ten_seconds_later)?;
+    assert_number(&rt, side.seen.refused as u64, 2);
     Ok(())
 }
 
@@ -234,6 +242,25 @@ fn the_last_accepted_goes_again_while_the_peer_is_behind(rt: HostRuntime) -> Res
     Ok(())
 }
 
+/// An act that went on to a peer goes again each 20 ms, until the front moves.
+#[test]
+fn an_act_goes_again_while_the_front_stands(rt: HostRuntime) -> Result<(), Fail> {
+    let mut side = node_0(rt.alloc())?;
+    say(&mut side, 0, &HELLO_RECORD, 1_000)?;
+    side.turn(2_000);
+    side.peers.send(1, &FORWARD, 3_000);
+    // Its record of 23 bytes.
+    assert_number(&rt, said_since(&mut side, 3_000), 23);
+    assert_number(&rt, said_since(&mut side, 22_999), 0);
+    assert_number(&rt, side.peers.wait(22_999), 1);
+    assert_number(&rt, said_since(&mut side, 23_000), 23);
+    assert_number(&rt, said_since(&mut side, 42_999), 0);
+    side.peers.tell(Told { front: 8, ..TOLD }, 42_999);
+    side.peers.tell(TOLD, 42_999);
+    assert_number(&rt, said_since(&mut side, 43_000), 0);
+    Ok(())
+}
+
 /// How many bytes are said to who stands at place 0 in a turn at this moment.
 fn said_since(side: &mut Side, now: u64) -> u64 {
     side.wire.take_written(Line::Caller(0));
@@ -252,5 +279,27 @@ fn a_hello_is_awaited_for_two_seconds(rt: HostRuntime) -> Result<(), Fail> {
     assert!(rt; !side.wire.is_open(Line::Peer(0)));
     side.turn(2_000_001);
     assert!(rt; side.wire.is_open(Line::Peer(0)));
+    Ok(())
+}
+
+/// How often a node that another match refuses dials in so many milliseconds.
+fn dials_in(alloc: Global, milliseconds: u64) -> Result<u64, AllocError> {
+    let mut low = node_0(alloc)?;
+    let mut high = Side::new(alloc, 1, 8, &[], 0)?;
+    let mut dials = 0u64;
+    for turn in 0..milliseconds {
+        let was_open = high.wire.is_open(Line::Peer(0));
+        take_turns(alloc, &mut low, &mut high, turn.saturating_mul(1_000), 1)?;
+        if !was_open && high.wire.is_open(Line::Peer(0)) {
+            dials = dials.saturating_add(1);
+        }
+    }
+    Ok(dials)
+}
+
+/// Who is refused dials again after one second, then after two and after four.
+#[test]
+fn who_is_refused_dials_ever_later(rt: HostRuntime) -> Result<(), Fail> {
+    assert_number(&rt, dials_in(rt.alloc(), 7_500)?, 4);
     Ok(())
 }

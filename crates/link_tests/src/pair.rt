@@ -1,6 +1,7 @@
 //! Two processes, of nodes 0 and 1, whose wires are joined in memory.
 
 use crate::samples::{TOLD, own};
+use node_links::Own;
 use node_peers::{Notice, Peers};
 use node_wires::{Line, MemoryWire};
 use peer_codes::Life;
@@ -57,7 +58,11 @@ pub(crate) fn and_notice(seen: Seen, notice: &Notice) -> Seen {
             }
         }
         Notice::Gone { peer: _ } => seen.gone = seen.gone.saturating_add(1),
-        Notice::Refused { peer: _, fault } => {
+        Notice::Refused {
+            peer: _,
+            fault,
+            source: _,
+        } => {
             seen.fault = fault.code();
             seen.refused = seen.refused.saturating_add(1);
         }
@@ -84,9 +89,19 @@ impl Side {
         kept: &[Option<Life>],
         call: u64,
     ) -> Result<Side, AllocError> {
+        Side::of(alloc, own(number, digest), kept, call)
+    }
+
+    /// The process of this node.
+    pub(crate) fn of(
+        alloc: Global,
+        own: Own,
+        kept: &[Option<Life>],
+        call: u64,
+    ) -> Result<Side, AllocError> {
         Ok(Side {
             wire: MemoryWire::new(alloc, call)?,
-            peers: Peers::new(alloc, own(number, digest), kept, SILENCE)?,
+            peers: Peers::new(alloc, own, kept, SILENCE)?,
             seen: NOTHING,
         })
     }

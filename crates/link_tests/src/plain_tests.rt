@@ -31,11 +31,12 @@ fn said(
     Ok(out)
 }
 
-/// The number that stands for what a side hears next: 1 a Hello, 2 a frame, 3 a beat, 0 nothing yet, else the fault.
+/// The number that stands for what a side hears next: 1 a Hello, 2 a frame, 3 a beat, 4 a proof, 0 nothing yet, else the fault.
 fn hears(side: &mut PlainConnection) -> u64 {
     match side.next() {
         None => 0,
         Some(Ok(Heard::Hello(_))) => 1,
+        Some(Ok(Heard::Proved(_))) => 4,
         Some(Ok(Heard::Frame(_))) => 2,
         Some(Ok(Heard::Beat(_))) => 3,
         Some(Err(fault)) => fault.code() as u64,

@@ -1,7 +1,10 @@
 //! Two nodes of three, and what they say.
 
+ghost use Rattle.std.specs.Prelude.{◌≡◌, true};
+ghost use Rattle.peer_codes.specs.Steps.{is_coded};
+
 use node_links::{Own, Told};
-use peer_codes::{Beat, Ends, Frame, Hello, Life, Link, MatchDigest};
+use peer_codes::{Beat, Ends, Frame, Hello, Key, Life, Link, MatchDigest, Nonce};
 use std::process::Abort;
 
 /// The frame of an Ask from slot 1.
@@ -45,6 +48,9 @@ pub(crate) const LOW_BEAT_RECORD: [u8; 20] = [
     0, 0, 0, 16, 3, 0, 0, 0, 1, 0, 0, 0, 0, 0, 0, 0, 10, 0, 0, 0,
 ];
 
+/// A Forward of act 0 of hand 0.
+pub(crate) const FORWARD: [u8; 18] = [0, 0, 0, 14, 2, 8, 2, 0, 0, 0, 0, 0, 0, 1, 0, 0, 0, 0];
+
 /// The record of that Ask.
 pub(crate) const ASK_RECORD: [u8; 15] = [0, 0, 0, 11, 2, 0, 0, 0, 6, 2, 7, 0, 0, 0, 1];
 
@@ -57,6 +63,15 @@ pub(crate) fn own(number: u8, digest: u8) -> Own {
             bytes: [digest; 32],
         },
         life: life(number.wrapping_add(1)),
+        key: None,
+    }
+}
+
+/// The same node in match 9, with a key of such bytes.
+pub(crate) fn keyed(number: u8, key: u8) -> Own {
+    Own {
+        key: Some(Key { bytes: [key; 32] }),
+        ..own(number, 9)
     }
 }
 
@@ -73,6 +88,16 @@ pub(crate) fn hello(from: u8, to: u8) -> Hello {
         kept: None,
         promised: None,
         link: Link::Plain,
+    }
+}
+
+/// The same with a nonce of such bytes.
+pub(crate) fn coded_hello(from: u8, to: u8, nonce: u8) -> Hello
+    ensures { is_coded result.link ≡ true }
+{
+    Hello {
+        link: Link::Coded(Nonce { bytes: [nonce; 32] }),
+        ..hello(from, to)
     }
 }
 

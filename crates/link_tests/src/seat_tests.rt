@@ -6,11 +6,12 @@ use node_wires::{Line, MemoryWire};
 use std::process::Abort;
 use std::test::Fail;
 
-/// The number that stands for what comes of seats next: 1 a bot, 3 its end, the length of a piece, 0 nothing.
+/// The number that stands for what comes of seats next: 1 a bot, 3 its end, 4 a refusal, the length of a piece, 0 nothing.
 fn hears(seats: &mut Seats, wire: &mut MemoryWire) -> u64 {
-    match seats.next(wire) {
+    match seats.next(wire, 0) {
         Some(SeatNotice::Came { seat: _ }) => 1,
         Some(SeatNotice::Gone { seat: _ }) => 3,
+        Some(SeatNotice::Refused { seat: _ }) => 4,
         Some(SeatNotice::Piece { seat: _, bytes }) => bytes.len() as u64,
         None => 0,
     }
@@ -20,7 +21,7 @@ fn hears(seats: &mut Seats, wire: &mut MemoryWire) -> u64 {
 fn a_bot_comes_is_told_and_goes(rt: HostRuntime) -> Result<(), Fail> {
     let alloc = rt.alloc();
     let mut wire = MemoryWire::new(alloc, 0)?;
-    let mut seats = Seats::new(alloc, 2)?;
+    let mut seats = Seats::new(alloc, 2, None)?;
     assert_number(&rt, hears(&mut seats, &mut wire), 0);
     wire.come_to_seat(1);
     assert_number(&rt, hears(&mut seats, &mut wire), 1);
@@ -47,7 +48,7 @@ fn a_bot_comes_is_told_and_goes(rt: HostRuntime) -> Result<(), Fail> {
 fn the_next_bot_gets_nothing_of_the_last(rt: HostRuntime) -> Result<(), Fail> {
     let alloc = rt.alloc();
     let mut wire = MemoryWire::new(alloc, 0)?;
-    let mut seats = Seats::new(alloc, 2)?;
+    let mut seats = Seats::new(alloc, 2, None)?;
     wire.come_to_seat(0);
     assert_number(&rt, hears(&mut seats, &mut wire), 1);
     assert!(rt; seats.tell(0, b"LINE"));

@@ -31,7 +31,7 @@ fn wire(rt: &HostRuntime, port: u16, number: u8) -> Option<TcpWire<'_>> {
         .ok()?;
     let peers = Vec::from_slice(rt.alloc(), &[here(port), here(port.saturating_add(1))]).ok()?;
     let seats = here(port.saturating_add(2).saturating_add(number as u16));
-    let mut wire = TcpWire::bind(rt, peers, number, seats, 1).ok()?;
+    let mut wire = TcpWire::bind(rt, peers, number, seats, 1, None).ok()?;
     wire.add_log(log);
     Some(wire)
 }

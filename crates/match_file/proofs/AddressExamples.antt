@@ -1,5 +1,5 @@
 -- Addresses that are trusted, and near misses.
-use Rattle.std.proofs.Common.{◌≡◌, ℕ, true, false, List, [], ◌∷◌, refl}
+use Rattle.std.proofs.Common.{◌≡◌, ℕ, true, false, [], ◌∷◌, refl}
 use Rattle.std.specs.declared.net.socket_addr.SocketAddr.{SocketAddr}
 use Rattle.std.specs.declared.net.socket_addr.SocketAddr.TheVariants.{V4, V6}
 use Rattle.match_file.specs.Addresses.{own_v6, is_trusted_v4, is_trusted_v6, is_usable}
@@ -117,36 +117,36 @@ compatible_own_machine-no = refl
 abbrev at_own : ℕ → SocketAddr
 at_own port = V4 (record { ip = record { octets = 127 ∷ 0 ∷ 0 ∷ 1 ∷ [] }; port = port })
 
-first_port : is_usable (at_own 1) 1 ≡ true
+first_port : is_usable false (at_own 1) 1 ≡ true
 first_port = refl
 
-port_0-no : is_usable (at_own 0) 1 ≡ false
+port_0-no : is_usable false (at_own 0) 1 ≡ false
 port_0-no = refl
 
-last_port : is_usable (at_own 65535) 1 ≡ true
+last_port : is_usable false (at_own 65535) 1 ≡ true
 last_port = refl
 
-last_of_two : is_usable (at_own 65534) 2 ≡ true
+last_of_two : is_usable false (at_own 65534) 2 ≡ true
 last_of_two = refl
 
-one_too_few-no : is_usable (at_own 65535) 2 ≡ false
+one_too_few-no : is_usable false (at_own 65535) 2 ≡ false
 one_too_few-no = refl
 
-last_of_ten : is_usable (at_own 65526) 10 ≡ true
+last_of_ten : is_usable false (at_own 65526) 10 ≡ true
 last_of_ten = refl
 
-nine_for_ten-no : is_usable (at_own 65527) 10 ≡ false
+nine_for_ten-no : is_usable false (at_own 65527) 10 ≡ false
 nine_for_ten-no = refl
 
-untrusted-no : is_usable (V4 (record { ip = record { octets = 8 ∷ 8 ∷ 8 ∷ 8 ∷ [] }; port = 7000 })) 1 ≡ false
+untrusted-no : is_usable false (V4 (record { ip = record { octets = 8 ∷ 8 ∷ 8 ∷ 8 ∷ [] }; port = 7000 })) 1 ≡ false
 untrusted-no = refl
 
 -- a scope is of no account
 abbrev at_scope : ℕ → ℕ → SocketAddr
 at_scope first scope = V6 (record { ip = record { segments = first ∷ 0 ∷ 0 ∷ 0 ∷ 0 ∷ 0 ∷ 0 ∷ 1 ∷ [] }; port = 7000; flowinfo = 0; scope_id = scope })
 
-unique_local_with_a_scope : is_usable (at_scope 0xfd00 3) 1 ≡ true
+unique_local_with_a_scope : is_usable false (at_scope 0xfd00 3) 1 ≡ true
 unique_local_with_a_scope = refl
 
-link_local_with_a_scope-no : is_usable (at_scope 0xfe80 3) 1 ≡ false
+link_local_with_a_scope-no : is_usable false (at_scope 0xfe80 3) 1 ≡ false
 link_local_with_a_scope-no = refl

@@ -1,26 +1,42 @@
--- What is told of where nodes are reached, to a node whose folders are right.
-use Rattle.std.proofs.Common.{ℕ}
+-- What is told to a node of the first entry that is wrong.
+use Rattle.std.proofs.Common.{ℕ, sym, subst}
 use Rattle.toml.specs.Data.{Members}
-use Rattle.match_file.specs.declared.key.Key.TheVariants.{Name, Game as GameKey, Hands, Names, Node, Stores, Logs, Port, Outage, Away, Peers, Seats}
+use Rattle.match_file.specs.declared.key.Key.{Key}
+use Rattle.match_file.specs.declared.key.Key.TheVariants.{Name, Game as GameKey, Hands, Names, Node, Stores, Logs, Port, Outage, Away, KeyFile, Peers, Seats, Status, Tokens, Patience}
 use Rattle.match_file.specs.declared.match_fault.MatchFault.{MatchFault}
 use Rattle.match_file.specs.declared.match_fault.MatchFault.TheVariants.{NotToml, BadEntry, Game, Unreadable, OutOfMemory}
+use Rattle.match_file.specs.Said.{IsThere}
+use Rattle.match_file.specs.Refusals.{IsToldOf}
 use Rattle.match_file.specs.Addresses.{IsUnreached}
-use Rattle.match_file.specs.NodeEntries.{HasFolders, IsUnrun}
+use Rattle.match_file.specs.NodeEntries.{SaysKey, HasFolders, IsUnrun}
 
-pub unrun : (players : ℕ) (entries : Members) (fault : MatchFault) → HasFolders entries → IsUnreached players entries fault → IsUnrun players entries fault
-unrun players entries NotToml folders told = told
-unrun players entries (BadEntry Name) folders told = told
-unrun players entries (BadEntry GameKey) folders told = told
-unrun players entries (BadEntry Hands) folders told = told
-unrun players entries (BadEntry Names) folders told = told
-unrun players entries (BadEntry Node) folders told = told
-unrun players entries (BadEntry Stores) folders told = absurd told
-unrun players entries (BadEntry Logs) folders told = absurd told
-unrun players entries (BadEntry Port) folders told = told
-unrun players entries (BadEntry Outage) folders told = told
-unrun players entries (BadEntry Away) folders told = told
-unrun players entries (BadEntry Peers) folders told = (folders, told)
-unrun players entries (BadEntry Seats) folders told = (folders, told.0, told.1)
-unrun players entries (Game fault) folders told = told
-unrun players entries Unreadable folders told = told
-unrun players entries OutOfMemory folders told = tt
+-- of where nodes are reached, to one whose folders and key are right
+pub unrun : (players : ℕ) (entries : Members) (fault : MatchFault) → HasFolders entries → IsThere (SaysKey entries) → IsUnreached players entries fault → IsUnrun players entries fault
+unrun players entries NotToml folders key told = absurd told
+unrun players entries (BadEntry Name) folders key told = absurd told
+unrun players entries (BadEntry GameKey) folders key told = absurd told
+unrun players entries (BadEntry Hands) folders key told = absurd told
+unrun players entries (BadEntry Names) folders key told = absurd told
+unrun players entries (BadEntry Node) folders key told = absurd told
+unrun players entries (BadEntry Stores) folders key told = absurd told
+unrun players entries (BadEntry Logs) folders key told = absurd told
+unrun players entries (BadEntry Port) folders key told = absurd told
+unrun players entries (BadEntry Outage) folders key told = absurd told
+unrun players entries (BadEntry Away) folders key told = absurd told
+unrun players entries (BadEntry KeyFile) folders key told = absurd told
+unrun players entries (BadEntry Peers) folders key told = (folders, key, told)
+unrun players entries (BadEntry Seats) folders key told = (folders, key, told)
+unrun players entries (BadEntry Status) folders key told = (folders, key, told)
+unrun players entries (BadEntry Tokens) folders key told = absurd told
+unrun players entries (BadEntry Patience) folders key told = absurd told
+unrun players entries (Game fault) folders key told = absurd told
+unrun players entries Unreadable folders key told = absurd told
+unrun players entries OutOfMemory folders key told = tt
+
+-- of one entry, in front of which all is right
+pub unrun_by : (key : Key) (Wrong : Type 0) (players : ℕ) (entries : Members) (fault : MatchFault) → (Wrong → IsUnrun players entries (BadEntry key)) → IsToldOf key Wrong fault → IsUnrun players entries fault
+unrun_by key Wrong players entries NotToml is told = absurd told
+unrun_by key Wrong players entries (BadEntry other) is told = subst (λ (k : Key). IsUnrun players entries (BadEntry k)) (sym told.0) (is told.1)
+unrun_by key Wrong players entries (Game fault) is told = absurd told
+unrun_by key Wrong players entries Unreadable is told = absurd told
+unrun_by key Wrong players entries OutOfMemory is told = tt

@@ -10,5 +10,7 @@ pub mod Addressing
 pub mod AddressExamples
 pub mod HexLines
 pub mod NodeLines
+pub mod Tokening
 pub mod Entering
 pub mod NodeExamples
+pub mod KeyExamples

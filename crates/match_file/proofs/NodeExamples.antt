@@ -1,6 +1,6 @@
 -- What is kept of nodes in processes of their own, byte for byte, what is digested of a source, and what a node reads
 -- of a match file; and near misses.
-use Rattle.std.proofs.Common.{◌≡◌, ◌≢◌, ℕ, List, [], ◌∷◌, ◌++◌, length, replicate, slice_index, Some, None, Vec, Global, refl, ap, sym, ◌∙◌, arith}
+use Rattle.std.proofs.Common.{◌≡◌, ◌≢◌, ℕ, List, [], ◌∷◌, ◌++◌, length, replicate, slice_index, Some, None, Vec, Global, refl, ap, arith}
 use Rattle.std.specs.Prelude.{codes, pos}
 use Rattle.std.specs.Fmt.{digits}
 use Rattle.std.specs.List.{flat_map}
@@ -111,4 +111,4 @@ no_seats_before_logs wrong = let e : None ≡ Some (string wrong.0.1.0) = wrong.
 
 -- no port is asked for
 no_port : IsUnrun 2 no_members (BadEntry Port) → ⊥
-no_port wrong = wrong
+no_port wrong = absurd wrong.2

@@ -1,7 +1,7 @@
 -- The keys of a match file.
 use Rattle.std.specs.Prelude.{ℕ, List, codes}
 use Rattle.match_file.specs.declared.key.Key.{Key}
-use Rattle.match_file.specs.declared.key.Key.TheVariants.{Name, Game, Hands, Names, Node, Stores, Logs, Port, Outage, Away, Peers, Seats}
+use Rattle.match_file.specs.declared.key.Key.TheVariants.{Name, Game, Hands, Names, Node, Stores, Logs, Port, Outage, Away, KeyFile, Peers, Seats, Status, Tokens, Patience}
 
 -- a key as it stands in the file
 abbrev pub key_text : Key → List ℕ
@@ -15,5 +15,9 @@ key_text Logs = codes "logs"
 key_text Port = codes "port"
 key_text Outage = codes "outage"
 key_text Away = codes "away"
+key_text KeyFile = codes "key"
 key_text Peers = codes "peers"
 key_text Seats = codes "seats"
+key_text Status = codes "status"
+key_text Tokens = codes "tokens"
+key_text Patience = codes "patience"

@@ -11,6 +11,7 @@ pub mod Kept
 pub mod KeptLines
 pub mod KeptMatch
 pub mod Addresses
+pub mod Tokens
 pub mod NodeEntries
 pub mod Identities
 pub mod SourceTexts

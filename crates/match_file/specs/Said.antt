@@ -28,6 +28,13 @@ EachSays Says (d ∷ ds) (x ∷ xs) = Says d x × EachSays Says ds xs
 abbrev pub SaysEach : {T : Type 0} → (Data → T → Type 0) → Option Data → List T → Type 0
 SaysEach Says entry xs = (items : List Data) × (entry ≡ Some (array (items_of items))) × EachSays Says items xs
 
+-- nothing where there is no entry, and else what the entry says
+abbrev pub SaysIfThere : {T : Type 0} → (Data → T → Type 0) → Option Data → Option T → Type 0
+SaysIfThere Says None None = Unit {0}
+SaysIfThere Says None (Some x) = ⊥
+SaysIfThere Says (Some entry) None = ⊥
+SaysIfThere Says (Some entry) (Some x) = Says entry x
+
 -- a name, as a text
 pub record SaysName (entry : Data) (name : List ℕ) : Type 0 where
   pub text : entry ≡ string name

@@ -5,7 +5,7 @@ use Rattle.toml.specs.Data.{Members, no_members, member}
 use Rattle.match_file.specs.Keys.{key_text}
 use Rattle.match_file.specs.Matches.{entry_at}
 use Rattle.match_file.specs.declared.key.Key.{Key}
-use Rattle.match_file.specs.declared.key.Key.TheVariants.{Name, Game, Hands, Names, Node, Stores, Logs, Port, Outage, Away}
+use Rattle.match_file.specs.declared.key.Key.TheVariants.{Name, Game, Hands, Names, Node, Stores, Logs, Port, Outage, Away, KeyFile, Tokens, Patience}
 
 -- the keys of a table, in its order
 abbrev pub keys_of : Members → List (List ℕ)
@@ -14,7 +14,9 @@ keys_of (member key entry more) = key ∷ keys_of more
 
 -- some command reads what stands at this key
 abbrev pub is_used : List ℕ → Bool
-is_used key = list_any (λ used. bytes_eq key (key_text used)) (Name ∷ Game ∷ Hands ∷ Names ∷ Node ∷ Stores ∷ Logs ∷ Port ∷ Outage ∷ Away ∷ [])
+is_used key =
+    list_any (λ used. bytes_eq key (key_text used))
+    (Name ∷ Game ∷ Hands ∷ Names ∷ Node ∷ Stores ∷ Logs ∷ Port ∷ Outage ∷ Away ∷ KeyFile ∷ Tokens ∷ Patience ∷ [])
 
 -- the others
 abbrev pub unused_keys : Members → List (List ℕ)

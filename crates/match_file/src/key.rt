@@ -24,10 +24,18 @@ pub enum Key {
     Outage,
     /// What is done about seats that were dropped.
     Away,
+    /// The file of the key that the nodes of a match share.
+    KeyFile,
     /// Where a node awaits the others, in its table.
     Peers,
     /// Where a node awaits the bots of seats, in its table.
     Seats,
+    /// Where a node awaits who asks how it is, in its table.
+    Status,
+    /// The digests of the seats' tokens.
+    Tokens,
+    /// How long a seat that doesn't act is waited for.
+    Patience,
 }
 
 impl Key {
@@ -46,8 +54,12 @@ impl Key {
             Key::Port => "port",
             Key::Outage => "outage",
             Key::Away => "away",
+            Key::KeyFile => "key",
             Key::Peers => "peers",
             Key::Seats => "seats",
+            Key::Status => "status",
+            Key::Tokens => "tokens",
+            Key::Patience => "patience",
         }
     }
 }

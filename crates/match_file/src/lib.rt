@@ -35,6 +35,8 @@ mod outages;
 mod sameness;
 mod seat_names;
 mod service;
+mod statuses;
+mod tokens;
 mod trusted;
 mod unused;
 

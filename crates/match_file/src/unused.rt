@@ -7,7 +7,7 @@ use crate::match_file::MatchFile;
 use std::alloc::{AllocError, Global};
 
 /// The keys that commands read.
-const KEYS: [Key; 10] = [
+const KEYS: [Key; 13] = [
     Key::Name,
     Key::Game,
     Key::Hands,
@@ -18,6 +18,9 @@ const KEYS: [Key; 10] = [
     Key::Port,
     Key::Outage,
     Key::Away,
+    Key::KeyFile,
+    Key::Tokens,
+    Key::Patience,
 ];
 
 /// The keys that `serve` alone reads: a node in a process of its own passes them over.

@@ -10,7 +10,7 @@ use Rattle.dealer_world.specs.Stepping.{View}
 use Rattle.serving.specs.declared.turn.Turn.{Turn}
 use Rattle.serving.specs.declared.turn.Turn.TheVariants as turn
 use Rattle.match_runs.specs.declared.note.About.{About}
-use Rattle.match_runs.specs.declared.note.About.TheVariants.{Seated, Gone, Played, Faulty, Refused}
+use Rattle.match_runs.specs.declared.note.About.TheVariants.{Seated, Gone, Played, Ordered, WrongToken, Faulty, Refused}
 use Rattle.match_runs.specs.declared.note.Note.{Note}
 use Rattle.match_runs.specs.declared.note.Note.TheVariants as note
 use Rattle.match_runs.specs.declared.seat_ports.SeatPorts.{SeatPorts}
@@ -62,11 +62,17 @@ refused_text node hand action fault late =
 abbrev pub played_text : ℕ → ℕ → List ℕ
 played_text node hand = codes " at node " ++ decimal node ++ codes ", hand " ++ decimal hand ++ codes ": " ++ codes "played for"
 
+-- what happened to a seat at a node
+abbrev pub there_text : ℕ → List ℕ → List ℕ
+there_text node what = codes " at node " ++ decimal node ++ codes ": " ++ what
+
 -- what is told of a seat: at which node, and what
 abbrev pub about_text : About → List ℕ
-about_text (Seated node) = codes " at node " ++ decimal node ++ codes ": seated"
-about_text (Gone node) = codes " at node " ++ decimal node ++ codes ": gone"
+about_text (Seated node) = there_text node (codes "seated")
+about_text (Gone node) = there_text node (codes "gone")
 about_text (Played node hand) = played_text node hand
+about_text (Ordered node) = there_text node (codes "played for")
+about_text (WrongToken node) = there_text node (codes "wrong token")
 about_text (Faulty node fault) = faulty_text node fault
 about_text (Refused node hand action fault late) = refused_text node hand action.now fault late
 

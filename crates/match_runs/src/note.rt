@@ -2,7 +2,7 @@
 
 ghost use Rattle.std.specs.Prelude.{◌≡◌, ◌++◌, codes, decimal, OnOk};
 ghost use Rattle.dealer_node.specs.FaultText.{fault_text};
-ghost use Rattle.match_runs.specs.Notes.{IsNoted, seat_text, port_text, ports_text, place_text, node_text, faulty_text, played_text, refused_text, late_text, about_text, note_text, note_line};
+ghost use Rattle.match_runs.specs.Notes.{IsNoted, seat_text, port_text, ports_text, place_text, node_text, faulty_text, played_text, refused_text, late_text, there_text, about_text, note_text, note_line};
 ghost use Rattle.match_runs.specs.Causes.{cause_text};
 ghost use Rattle.match_runs.specs.declared.note.Note.TheVariants.{Waiting as NotedWaiting};
 
@@ -27,6 +27,10 @@ pub enum About<'a> {
         node: u8,
         hand: u32,
     },
+    /// The same where the hand isn't told.
+    Ordered(u8),
+    /// Somebody came to its port there with another token than its own, or with none.
+    WrongToken(u8),
     /// What it sent there was refused.
     Faulty {
         node: u8,
@@ -277,14 +281,10 @@ fn put_about(out: &mut Vec<u8>, about: &About<'_>) -> Result<(), AllocError>
     ensures { OnOk result (out.new.items ≡ out.old.items ++ about_text about.now) }
 {
     match about {
-        About::Seated(node) => {
-            let text = format!(in *out.allocator(); " at node {node}: seated")?;
-            out.extend_from_slice(text.as_bytes())
-        }
-        About::Gone(node) => {
-            let text = format!(in *out.allocator(); " at node {node}: gone")?;
-            out.extend_from_slice(text.as_bytes())
-        }
+        About::Seated(node) => put_there(out, *node, "seated"),
+        About::Gone(node) => put_there(out, *node, "gone"),
+        About::Ordered(node) => put_there(out, *node, "played for"),
+        About::WrongToken(node) => put_there(out, *node, "wrong token"),
         About::Played { node, hand } => put_played(out, *node, *hand),
         About::Faulty { node, fault } => put_faulty(out, *node, fault),
         About::Refused {
@@ -295,6 +295,14 @@ fn put_about(out: &mut Vec<u8>, about: &About<'_>) -> Result<(), AllocError>
             is_late,
         } => put_refused(out, *node, *hand, action, fault, *is_late),
     }
+}
+
+/// Appends what happened to a seat at a node.
+fn put_there(out: &mut Vec<u8>, node: u8, what: &str) -> Result<(), AllocError>
+    ensures { OnOk result (out.new.items ≡ out.old.items ++ there_text node what.now) }
+{
+    let text = format!(in *out.allocator(); " at node {node}: {what}")?;
+    out.extend_from_slice(text.as_bytes())
 }
 
 /// Appends that a seat is played for, and in which hand.

@@ -1,12 +1,12 @@
 -- When something is due of a connection that is dialled.
 use Rattle.std.proofs.Common.{◌≡◌, ℕ, ◌+◌, ◌-◌, ◌<◌, ◌≤◌, Bool, true, false, cond, leb, Option, Some, None, refl, ap, subst, arith}
 use Rattle.std.proofs.lemmas.Bool.{leb-true, leb-false, le-leb, lt-leb}
-use Rattle.node_links.specs.declared.limits.TheConstants.{CONNECT, GREET, REDIAL, REFUSED}
+use Rattle.node_links.specs.declared.limits.TheConstants.{CONNECT, GREET, REDIAL}
 use Rattle.node_links.specs.declared.dial.Dial.{Dial}
 use Rattle.node_links.specs.declared.dial.Dial.TheVariants as dials
 use Rattle.node_links.specs.declared.dial.DialDue.{DialDue}
 use Rattle.node_links.specs.declared.dial.DialDue.TheVariants as dues
-use Rattle.node_links.specs.Dialling.{after_pause, due_of, ended_dial, since_of, is_open, IsDue, WaitsEnd, DialsAreApart, FaultsAreWaitedFor}
+use Rattle.node_links.specs.Dialling.{after_pause, due_of, ended_dial, since_of, is_open, IsDue, WaitsEnd, DialsAreApart, PausesAreKept}
 
 -- nothing is due that is to wait
 nothing_due : (what : DialDue) (wait : ℕ) → what ≡ dues.Nothing wait → IsDue what → ⊥
@@ -58,5 +58,5 @@ dials_are_apart (dials.Answered at answered) since ended later is e = apart_by a
 dials_are_apart (dials.Open at) since ended later is e = apart_by at since later is e
 dials_are_apart (dials.Waits at pause) since ended later is e = absurd cc
 
-pub faults_are_waited_for : FaultsAreWaitedFor
-faults_are_waited_for d ended later e = leb-true _ _ (passed_by (leb REFUSED (later - ended)) (REFUSED - (later - ended)) e)
+pub pauses_are_kept : PausesAreKept
+pauses_are_kept d ended pause later e = leb-true _ _ (passed_by (leb pause (later - ended)) (pause - (later - ended)) e)

@@ -28,9 +28,13 @@ use Rattle.node_links.specs.Waits.{Waits}
 use Rattle.node_links.specs.Waiting.{newest, next_of, rest_of}
 use Rattle.node_links.specs.Connections.{Next, begun_next}
 use Rattle.node_links.specs.Dialling.{due_of, answered_dial, opened_dial, ended_dial}
+use Rattle.node_links.specs.Pausing.{pause_after}
+use Rattle.node_links.specs.Noting.{fault_place, is_told}
 use Rattle.node_links.specs.Pulses.{wait_of, beat_of, heard_at}
 use Rattle.node_links.specs.Asking.{asked_slot, is_again}
 use Rattle.node_links.specs.Repeating.{accepted_slot, is_due}
+use Rattle.node_links.specs.Forwarding.{is_forward, forwarded_after, again_in}
+use Rattle.node_links.specs.declared.forwarded.Forwarded.{Forwarded}
 use Rattle.node_links.specs.declared.owed.Question.{Question}
 use Rattle.node_links.specs.declared.owed.Owed.{Owed}
 use Rattle.node_links.specs.declared.refusals.Refusals.{Refusals}
@@ -54,7 +58,7 @@ abbrev life : ℕ → Life
 life n = record { bytes = replicate 16 n }
 
 abbrev own : Own
-own = record { number = 0; nodes = 3; digest = record { bytes = replicate 32 9 }; life = life 6 }
+own = record { number = 0; nodes = 3; digest = record { bytes = replicate 32 9 }; life = life 6; key = None }
 
 abbrev met : Met
 met = record { kept = None; is_here = false }
@@ -230,18 +234,32 @@ pub hello_given_up : due_of (answered_dial (dials.Dialled 1000) 451000) 2451000 
 hello_given_up = refl
 
 -- refused at once by the system: 50 ms from dial to dial
-pub dialled_again : due_of (ended_dial (dials.Dialled 1000) 1200 false) 51000 ≡ dues.Dial
+pub dialled_again : due_of (ended_dial (dials.Dialled 1000) 1200 None) 51000 ≡ dues.Dial
 dialled_again = refl
 
-pub not_dialled_yet : due_of (ended_dial (dials.Dialled 1000) 1200 false) 50999 ≡ dues.Nothing 1
+pub not_dialled_yet : due_of (ended_dial (dials.Dialled 1000) 1200 None) 50999 ≡ dues.Nothing 1
 not_dialled_yet = refl
 
 -- one that was open for long is dialled at once
-pub dialled_when_it_ends : due_of (ended_dial (opened_dial (dials.Dialled 1000)) 9000000 false) 9000000 ≡ dues.Dial
+pub dialled_when_it_ends : due_of (ended_dial (opened_dial (dials.Dialled 1000)) 9000000 None) 9000000 ≡ dues.Dial
 dialled_when_it_ends = refl
 
-pub second_after_a_fault : due_of (ended_dial (dials.Dialled 1000) 2000 true) 1001999 ≡ dues.Nothing 1
-second_after_a_fault = refl
+pub pause_waited_for : due_of (ended_dial (dials.Dialled 1000) 2000 (Some 1000000)) 1001999 ≡ dues.Nothing 1
+pause_waited_for = refl
+
+-- another match, once and again: a second, two, four, eight and no more
+pub first_refusal : pause_after (faults.OtherMatch Digest) 0 ≡ 1000000
+first_refusal = refl
+
+pub second_refusal : pause_after (faults.OtherMatch Digest) 1000000 ≡ 2000000
+second_refusal = refl
+
+pub fifth_refusal : pause_after faults.WrongProof 8000000 ≡ 8000000
+fifth_refusal = refl
+
+-- a record that is none may have been an accident
+pub fault_on_the_way : pause_after faults.WrongCode 4000000 ≡ 1000000
+fault_on_the_way = refl
 
 -- ---- beats
 
@@ -291,6 +309,24 @@ accepted_at_300 = refl
 
 pub ask-no_accepted : accepted_slot (0 ∷ 0 ∷ 0 ∷ 6 ∷ 2 ∷ 7 ∷ 0 ∷ 0 ∷ 0 ∷ 1 ∷ []) ≡ None
 ask-no_accepted = refl
+
+pub forward_is_one : is_forward (0 ∷ 0 ∷ 0 ∷ 9 ∷ 2 ∷ 8 ∷ 2 ∷ 0 ∷ 0 ∷ 0 ∷ 0 ∷ 0 ∷ 1 ∷ []) ≡ true
+forward_is_one = refl
+
+pub ask-no_forward : is_forward (0 ∷ 0 ∷ 0 ∷ 6 ∷ 2 ∷ 7 ∷ 0 ∷ 0 ∷ 0 ∷ 1 ∷ []) ≡ false
+ask-no_forward = refl
+
+pub forward_goes_again : (frame : Frame) → again_in (record { last = Some frame; sent = 1000 }) 21000 ≡ 0
+forward_goes_again frame = refl
+
+pub forward-not_so_soon : (frame : Frame) → again_in (record { last = Some frame; sent = 1000 }) 20999 ≡ 1
+forward-not_so_soon frame = refl
+
+pub forward-none_kept : again_in (record { last = None; sent = 1000 }) 21000 ≡ 1000000
+forward-none_kept = refl
+
+pub ask-keeps_no_forward : (frame : Frame) (old : Forwarded) → forwarded_after (is_forward (0 ∷ 0 ∷ 0 ∷ 6 ∷ 2 ∷ 7 ∷ 0 ∷ 0 ∷ 0 ∷ 1 ∷ [])) frame 5 old ≡ old
+ask-keeps_no_forward frame old = refl
 
 -- ---- what a peer owes: a Prepare of the ballot (1, 0) at slot 0, and an Accept and a Promise of the same
 
@@ -353,3 +389,15 @@ last_fault_told = refl
 
 pub none_goes_again : is_due (record { last = None; sent = 0 }) 900000 ≡ false
 none_goes_again = refl
+
+-- ---- notes of a peer's faults
+
+-- the same fault again 10 s later, and no sooner
+pub told_again : is_told (Some 5000) 10005000 ≡ true
+told_again = refl
+
+pub not_told_again : is_told (Some 5000) 10004999 ≡ false
+not_told_again = refl
+
+pub stores_apart : fault_place (faults.WentBack whose.Own) ≡ 9
+stores_apart = refl

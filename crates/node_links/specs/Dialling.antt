@@ -1,6 +1,6 @@
 -- When a peer is dialled, and when a connection that isn't open is given up.
 use Rattle.std.specs.Prelude.{◌≡◌, ℕ, ◌+◌, ◌-◌, ◌<◌, ◌≤◌, nat_le, Bool, true, false, if◌then◌else◌, Option, Some, None}
-use Rattle.node_links.specs.declared.limits.TheConstants.{CONNECT, GREET, LOOK, REDIAL, REFUSED}
+use Rattle.node_links.specs.declared.limits.TheConstants.{CONNECT, GREET, LOOK, REDIAL}
 use Rattle.node_links.specs.declared.dial.Dial.{Dial}
 use Rattle.node_links.specs.declared.dial.Dial.TheVariants as dials
 use Rattle.node_links.specs.declared.dial.DialDue.{DialDue}
@@ -37,9 +37,10 @@ redialled (dials.Dialled since) = dials.Waits since REDIAL
 redialled (dials.Answered since at) = dials.Waits since REDIAL
 redialled (dials.Open since) = dials.Waits since REDIAL
 
--- and a second after a fault
-abbrev pub ended_dial : Dial → ℕ → Bool → Dial
-ended_dial d now by_fault = if by_fault then dials.Waits now REFUSED else redialled d
+-- and where a pause is given so long after the end
+abbrev pub ended_dial : Dial → ℕ → Option ℕ → Dial
+ended_dial d now None = redialled d
+ended_dial d now (Some pause) = dials.Waits now pause
 
 -- since when it is so: since it was dialled, that was answered, or it ended
 abbrev pub since_of : Dial → ℕ
@@ -74,8 +75,8 @@ dialled_in (dials.Waits since pause) = None
 
 -- a peer is dialled again so long after it was dialled last
 abbrev pub DialsAreApart : Type 0
-DialsAreApart = (d : Dial) (since ended later : ℕ) → dialled_in d ≡ Some since → due_of (ended_dial d ended false) later ≡ dues.Dial → REDIAL ≤ later - since
+DialsAreApart = (d : Dial) (since ended later : ℕ) → dialled_in d ≡ Some since → due_of (ended_dial d ended None) later ≡ dues.Dial → REDIAL ≤ later - since
 
--- and so long after a fault closed its connection
-abbrev pub FaultsAreWaitedFor : Type 0
-FaultsAreWaitedFor = (d : Dial) (ended later : ℕ) → due_of (ended_dial d ended true) later ≡ dues.Dial → REFUSED ≤ later - ended
+-- and where there is a pause so long after the end
+abbrev pub PausesAreKept : Type 0
+PausesAreKept = (d : Dial) (ended pause later : ℕ) → due_of (ended_dial d ended (Some pause)) later ≡ dues.Dial → pause ≤ later - ended

@@ -44,10 +44,24 @@ judged_node own known hello =
     else (if is_other known.kept hello.life then Err (faults.WentBack whose.Other)
     else Ok tt))
 
+-- of this match, of as many nodes, and of the node that was to speak
+abbrev pub judged_match : Own → Option ℕ → Hello → Result (Unit {0}) LinkFault
+judged_match own dialled hello =
+    if not (bytes_eq hello.digest.bytes own.digest.bytes) then Err (faults.OtherMatch Digest)
+    else (if not (hello.ends.nodes == own.nodes) then Err (faults.OtherMatch Nodes)
+    else (if not (is_awaited own.number dialled hello.ends) then Err (faults.OtherMatch Number)
+    else Ok tt))
+
+-- and then as the node that it is
+abbrev pub judged_known : Own → List Met → Hello → Result (Unit {0}) LinkFault
+judged_known own met hello = judged_node own (met_at met hello.ends.from) hello
+
+abbrev pub both : Result (Unit {0}) LinkFault → Result (Unit {0}) LinkFault → Result (Unit {0}) LinkFault
+both (Err fault) next = Err fault
+both (Ok done) next = next
+
+-- on a connection without codes both at once
 abbrev pub judged : Own → Option ℕ → List Met → Hello → Result (Unit {0}) LinkFault
 judged own dialled met hello =
     if is_coded hello.link then Err (faults.Record BadHello)
-    else (if not (bytes_eq hello.digest.bytes own.digest.bytes) then Err (faults.OtherMatch Digest)
-    else (if not (hello.ends.nodes == own.nodes) then Err (faults.OtherMatch Nodes)
-    else (if not (is_awaited own.number dialled hello.ends) then Err (faults.OtherMatch Number)
-    else judged_node own (met_at met hello.ends.from) hello)))
+    else both (judged_match own dialled hello) (judged_known own met hello)

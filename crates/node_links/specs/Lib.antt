@@ -9,7 +9,13 @@ pub mod Dialling
 pub mod Pulses
 pub mod Asking
 pub mod Repeating
+pub mod Forwarding
 pub mod Owing
 pub mod Refusing
 pub mod Histories
 pub mod Hearing
+pub mod Pausing
+pub mod Noting
+pub mod Coding
+pub mod Talks
+pub mod Going

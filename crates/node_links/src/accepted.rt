@@ -40,7 +40,7 @@ fn accepted_slot(frame: &[u8]) -> Option<u32>
 }
 
 /// The same frame once more.
-fn copied(frame: &Frame) -> Frame
+pub(crate) fn copied(frame: &Frame) -> Frame
     ensures { result ≡ frame.now }
 {
     let mut bytes = ArrayVec::new();

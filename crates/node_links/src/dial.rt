@@ -2,7 +2,7 @@ ghost use Rattle.std.specs.Prelude.{◌≡◌};
 ghost use Rattle.node_links.specs.declared.dial.Dial.TheVariants as dials;
 ghost use Rattle.node_links.specs.Dialling.{due_of, answered_dial, opened_dial, ended_dial};
 
-use crate::limits::{CONNECT, GREET, LOOK, REDIAL, REFUSED};
+use crate::limits::{CONNECT, GREET, LOOK, REDIAL};
 
 /// How far the connection to a peer is that this process dials. Moments are whole microseconds since one that stays the
 /// same; one that lies ahead counts as the present.
@@ -100,16 +100,13 @@ impl Dial {
         }
     }
 
-    /// The connection ended at this moment, by a fault of either side or else: by a fault the peer is dialled again a
-    /// second later, else as soon as two dials may follow each other.
-    pub fn ended(self, now: u64, by_fault: bool) -> Dial
-        ensures { result ≡ ended_dial self now by_fault }
+    /// The connection ended at this moment: the peer is dialled again after this pause, where one is given, and else as soon
+    /// as two dials may follow each other.
+    pub fn ended(self, now: u64, pause: Option<u64>) -> Dial
+        ensures { result ≡ ended_dial self now pause }
     {
-        if by_fault {
-            return Dial::Waits {
-                since: now,
-                pause: REFUSED,
-            };
+        if let Some(pause) = pause {
+            return Dial::Waits { since: now, pause };
         }
         match self {
             Dial::Waits { since, pause } => Dial::Waits { since, pause },

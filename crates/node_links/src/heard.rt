@@ -5,6 +5,8 @@ use peer_codes::{Beat, Frame, Hello};
 pub enum Heard {
     /// The other's Hello. It is judged next, and the side that was called answers with its own.
     Hello(Hello),
+    /// The other's proof is right, on a connection with codes. What its Hello changes is judged next.
+    Proved(Hello),
     /// A frame of the other node.
     Frame(Frame),
     /// How the other is.

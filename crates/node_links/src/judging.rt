@@ -2,7 +2,7 @@
 
 ghost use Rattle.std.specs.Prelude.{◌≡◌};
 ghost use Rattle.std.specs.Str.{bytes_eq};
-ghost use Rattle.node_links.specs.Judging.{is_coded, is_awaited, is_other, met_at, judged_node, judged};
+ghost use Rattle.node_links.specs.Judging.{is_coded, is_awaited, is_other, met_at, judged_node, judged_match, judged_known, judged};
 
 use crate::link_fault::{LinkFault, Mismatch, Whose};
 use crate::own::{Met, Own};
@@ -74,17 +74,12 @@ fn judge_node(own: &Own, known: Met, hello: &Hello) -> Result<(), LinkFault>
     Ok(())
 }
 
-/// Judges a Hello, where this node dialled that one, or else was dialled; of each node stands in its place what is known
-/// of it.
+/// Judges what a Hello says of the match and of who speaks to whom, where this node dialled that one, or else was dialled.
 ///
-/// The fault is the first of: 122 `BadHello` (of a connection with codes), 123 `OtherMatch` (the digest, the count of nodes, then the numbers), 128 `AlreadyHere`, 127
-/// `WentBack` (this node's own store, then the other's).
-pub fn judge(own: &Own, dialled: Option<u8>, met: &[Met], hello: &Hello) -> Result<(), LinkFault>
-    ensures { result ≡ judged own.now dialled met.now hello.now }
+/// The fault is 123 `OtherMatch`, by the first of: the digest, the count of nodes, the numbers.
+pub(crate) fn judge_match(own: &Own, dialled: Option<u8>, hello: &Hello) -> Result<(), LinkFault>
+    ensures { result ≡ judged_match own.now dialled hello.now }
 {
-    if is_coded(hello.link) {
-        return Err(LinkFault::Record(RecordFault::BadHello));
-    }
     if !is_same(&hello.digest.bytes, &own.digest.bytes) {
         return Err(LinkFault::OtherMatch(Mismatch::Digest));
     }
@@ -94,5 +89,31 @@ pub fn judge(own: &Own, dialled: Option<u8>, met: &[Met], hello: &Hello) -> Resu
     if !is_awaited(own.number, dialled, hello.ends) {
         return Err(LinkFault::OtherMatch(Mismatch::Number));
     }
+    Ok(())
+}
+
+/// Judges the Hello of a node of this match; of each node stands in its place what is known of it.
+///
+/// The fault is the first of: 128 `AlreadyHere`, 127 `WentBack` (this node's own store, then the other's).
+pub(crate) fn judge_known(own: &Own, met: &[Met], hello: &Hello) -> Result<(), LinkFault>
+    ensures { result ≡ judged_known own.now met.now hello.now }
+{
     judge_node(own, met_at(met, hello.ends.from), hello)
+}
+
+/// Judges the Hello of a connection without codes, where this node dialled that one, or else was dialled; of each node
+/// stands in its place what is known of it.
+///
+/// The fault is the first of: 122 `BadHello` (of a connection with codes), 123 `OtherMatch` (the digest, the count of nodes,
+/// then the numbers), 128 `AlreadyHere`, 127 `WentBack` (this node's own store, then the other's).
+pub fn judge(own: &Own, dialled: Option<u8>, met: &[Met], hello: &Hello) -> Result<(), LinkFault>
+    ensures { result ≡ judged own.now dialled met.now hello.now }
+{
+    if is_coded(hello.link) {
+        return Err(LinkFault::Record(RecordFault::BadHello));
+    }
+    match judge_match(own, dialled, hello) {
+        Ok(()) => judge_known(own, met, hello),
+        Err(fault) => Err(fault),
+    }
 }

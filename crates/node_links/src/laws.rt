@@ -18,7 +18,7 @@ ghost use Rattle.node_links.specs.declared.phase.Phase.{Phase};
 ghost use Rattle.node_links.specs.declared.phase.Phase.TheVariants as phases;
 ghost use Rattle.node_links.specs.declared.plain_connection.PlainConnection.{PlainConnection};
 ghost use Rattle.node_links.specs.Connections.{Next};
-ghost use Rattle.node_links.specs.Dialling.{WaitsEnd, DialsAreApart, FaultsAreWaitedFor};
+ghost use Rattle.node_links.specs.Dialling.{WaitsEnd, DialsAreApart, PausesAreKept};
 ghost use Rattle.node_links.specs.Hearing.{SaidIsHeard};
 ghost use Rattle.node_links.specs.Histories.{Happening, Judged, phase_after, phase_behind, HasRead, IsTaken};
 ghost use Rattle.node_links.specs.Steps.{step_by, settled};
@@ -57,9 +57,9 @@ pub fn calls_happen()
 {}
 
 /// When a peer is dialled: what is to be waited for is due when the wait is over, and not before; two dials are at least
-/// 50 ms apart, and one behind a fault comes a second later.
+/// 50 ms apart, and one behind a pause comes no sooner than that is over.
 pub fn peers_are_dialled_in_time()
     ensures waits { WaitsEnd }
     ensures apart { DialsAreApart }
-    ensures faults { FaultsAreWaitedFor }
+    ensures pauses { PausesAreKept }
 {}

@@ -1,19 +1,24 @@
-//! Connections between the processes of two nodes, without codes and without sockets.
+//! Connections between the processes of two nodes, without sockets: with codes where the node has a key, else without.
 //!
-//! A `PlainConnection` is a machine: bytes that come go in, what they say comes out; what waits in an `Outbox` goes out as
-//! bytes, the newest beat before the frames. First each side says its Hello, and `judge` says which Hello is taken: of two
-//! nodes the one with the greater number dials. The records are those of `peer_codes`.
+//! A `Connection` is a machine: bytes that come go in, what they say comes out; what waits in an `Outbox` goes out as bytes,
+//! the newest beat before the frames. First each side says its Hello. Of a `PlainConnection` `judge` says which is taken: of
+//! two nodes the one with the greater number dials. Of a `CodedConnection` what the Hello says of the match is judged at
+//! once, and what changes by it, a store that is known and an earlier connection, once the other's proof is right. The
+//! records, proofs and codes are those of `peer_codes`. What a connection goes by, of all that came over it and was
+//! written to it, each of its calls keeps (`specs/Going.antt`), so of each frame that it tells is known how it came
+//! (`specs/Talks.antt`).
 //!
 //! Beside it stand the small clocks of a connection, which are told the moment and look at no clock: `Dial`, when a peer
 //! is dialled and when a connection that isn't open is given up; `Pulse`, when a beat is due and how long the way takes;
 //! `Asked`, which Asks go to a peer; `Accepted`, the last Accepted that went to it, which goes again while it is behind;
-//! `Owed`, what it owes an answer to that may be lost; `Refusals`, how many callers were refused, for one note a second.
-//! Whatever they let through or drop, what is promised of nodes holds: a frame may be lost, and one that goes again is the
-//! same frame.
+//! `Forwarded`, the last act that went on to it, which goes again while the front stands; `Owed`, what it owes an answer
+//! to that may be lost; `Refusals`, how many callers were refused, for one note a second; `Notes`, which faults of a peer
+//! were told; `pause_after`, how long it isn't dialled behind one. Whatever they let through or drop, what is promised of
+//! nodes holds: a frame may be lost, and one that goes again is the same frame.
 //!
-//! The laws: what one side says the other hears (`said_is_heard`), no frame comes but over an open connection, of a record
-//! that was read (`frames_come_from_open_connections`), and one that is open is so by a Hello that was taken
-//! (`open_connections_were_judged`); a peer is dialled neither too soon nor later than was told
+//! The laws, of connections without codes: what one side says the other hears (`said_is_heard`), no frame comes but over an
+//! open connection, of a record that was read (`frames_come_from_open_connections`), and one that is open is so by a Hello
+//! that was taken (`open_connections_were_judged`). A peer is dialled neither too soon nor later than was told
 //! (`peers_are_dialled_in_time`).
 //!
 //! Faults: `LinkFault`, 120 to 128; each closes the connection, and is told again from then on.
@@ -21,33 +26,46 @@
 
 mod accepted;
 mod asked;
+mod coded_connection;
+mod coded_step;
+mod connection;
 mod dial;
+mod forwarded;
 mod heard;
 mod judging;
 pub mod laws;
 pub mod limits;
 mod link_fault;
+mod notes;
 mod outbox;
 mod outgoing;
 mod owed;
 mod own;
+mod pausing;
 mod phase;
 mod plain_connection;
 mod pulse;
 mod refusals;
+mod stage;
 mod step;
 
 pub use accepted::{Accepted, LastAccepted};
 pub use asked::{Asked, LastAsk};
+pub use coded_connection::CodedConnection;
+pub use connection::Connection;
 pub use dial::{Dial, DialDue};
+pub use forwarded::Forwarded;
 pub use heard::Heard;
 pub use judging::judge;
 pub use link_fault::{LinkFault, Mismatch, Whose};
+pub use notes::Notes;
 pub use outbox::Outbox;
 pub use outgoing::Outgoing;
 pub use owed::{Owed, Question, answered_in};
 pub use own::{Met, Own};
+pub use pausing::{longer, pause_after};
 pub use phase::Phase;
 pub use plain_connection::PlainConnection;
 pub use pulse::{Probe, Pulse, Told};
 pub use refusals::{Refusals, Refused};
+pub use stage::Stage;

@@ -15,14 +15,23 @@ pub const GREET: u64 = 2_000_000;
 /// Two dials of a peer are at least so far apart.
 pub const REDIAL: u64 = 50_000;
 
-/// A peer is dialled so long after a connection to it was closed by a fault.
+/// A peer is dialled so long after a connection to it was closed by a fault, the first time.
 pub const REFUSED: u64 = 1_000_000;
+
+/// And no longer than so long after, however often that was.
+pub const LONGEST: u64 = 8_000_000;
+
+/// A fault of a peer is told again so long after it was told, at the soonest.
+pub const REPEATED: u64 = 10_000_000;
 
 /// A process looks again after at most so long, whatever it waits for.
 pub const LOOK: u64 = 1_000_000;
 
 /// The least time in which no two Asks of the same block of slots go to a peer.
 pub const AGAIN: u64 = 20_000;
+
+/// An act that went on to a peer goes again each time that so long has passed, while the front stands.
+pub const FORWARD_AGAIN: u64 = 20_000;
 
 /// While a peer is behind, the last Accepted that was sent to it is sent again each time that so long has passed.
 pub const REPEAT: u64 = 100_000;

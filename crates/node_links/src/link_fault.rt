@@ -30,10 +30,14 @@ pub enum Whose {
 /// It prints as its number and its name; 123 prints what differs behind them.
 #[derive(Clone, Copy, Debug, PartialEq, Eq, Error)]
 pub enum LinkFault {
-    /// 120 to 122: what came is no record, or no Hello of a connection without codes.
+    /// 120 to 122: what came is no record, or no Hello of this kind of connection.
     Record(RecordFault),
     /// 123: the other is of another match, or not the node that was to speak.
     OtherMatch(Mismatch),
+    /// 124: the other's proof isn't that of a side that has the key of the match.
+    WrongProof,
+    /// 125: a record's code isn't that of this record at its number, on this connection.
+    WrongCode,
     /// 126: a record of another kind than may come now.
     OutOfTurn,
     /// 127: a store of a node has another life than the one that is kept of it, so it was lost and made anew.
@@ -50,6 +54,8 @@ impl LinkFault {
         match self {
             LinkFault::Record(fault) => fault.code(),
             LinkFault::OtherMatch(_) => 123,
+            LinkFault::WrongProof => 124,
+            LinkFault::WrongCode => 125,
             LinkFault::OutOfTurn => 126,
             LinkFault::WentBack(_) => 127,
             LinkFault::AlreadyHere => 128,
@@ -68,6 +74,8 @@ impl fmt::Display for LinkFault {
             LinkFault::OtherMatch(Mismatch::Digest) => f.write_str("123 OtherMatch digest"),
             LinkFault::OtherMatch(Mismatch::Nodes) => f.write_str("123 OtherMatch nodes"),
             LinkFault::OtherMatch(Mismatch::Number) => f.write_str("123 OtherMatch number"),
+            LinkFault::WrongProof => f.write_str("124 WrongProof"),
+            LinkFault::WrongCode => f.write_str("125 WrongCode"),
             LinkFault::OutOfTurn => f.write_str("126 OutOfTurn"),
             LinkFault::WentBack(_) => f.write_str("127 WentBack"),
             LinkFault::AlreadyHere => f.write_str("128 AlreadyHere"),

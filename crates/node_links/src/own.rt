@@ -1,7 +1,7 @@
-use peer_codes::{Life, MatchDigest};
+use peer_codes::{Key, Life, MatchDigest};
 
 /// What a process knows of its own node, by which it judges who speaks to it.
-#[derive(Clone, Copy, Debug, PartialEq, Eq)]
+#[derive(Clone, Copy)]
 pub struct Own {
     /// Its number, counted from 0.
     pub number: u8,
@@ -11,6 +11,8 @@ pub struct Own {
     pub digest: MatchDigest,
     /// The life of its store.
     pub life: Life,
+    /// The key that the nodes of its match share: with it connections have codes, without it none has.
+    pub key: Option<Key>,
 }
 
 /// What a process knows of another node before it reads a Hello of it.

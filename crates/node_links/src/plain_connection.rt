@@ -2,6 +2,7 @@ ghost use Rattle.std.specs.Prelude.{◌≡◌, ◌≤◌, ◌<◌, ◌++◌, [],
 ghost use Rattle.node_links.specs.declared.phase.Phase.TheVariants as phases;
 ghost use Rattle.node_links.specs.Outgoings.{unwritten};
 ghost use Rattle.node_links.specs.Steps.{settled};
+ghost use Rattle.node_links.specs.Going.{taken_in};
 ghost use Rattle.node_links.specs.Connections.{ReadsOrWaits, Next, begun_open, begun_first, begun_next, peer_in, fault_in};
 
 use crate::heard::Heard;
@@ -113,6 +114,18 @@ impl PlainConnection {
     {
         match self.phase {
             Phase::Open(other) => Some(other.ends.from),
+            Phase::Greeting => None,
+            Phase::Asked(_) => None,
+            Phase::Closed(_) => None,
+        }
+    }
+
+    /// What that node said first.
+    pub fn taken(&self) -> Option<Hello>
+        ensures { result ≡ taken_in self.now.phase }
+    {
+        match self.phase {
+            Phase::Open(other) => Some(other),
             Phase::Greeting => None,
             Phase::Asked(_) => None,
             Phase::Closed(_) => None,

@@ -1,8 +1,8 @@
 -- What is added stays so behind more calls, and is nothing of seats and of the log.
 use Rattle.std.proofs.Common.{◌≡◌, ℕ, ◌-◌, Bool, true, false, if◌then◌else◌, nat_lt, List, [], ◌∷◌, ◌++◌, append_assoc, append-nil, refl, ap, sym, ◌∙◌}
 use Rattle.node_wires.specs.declared.limits.TheConstants.{NODES}
-use Rattle.node_wires.specs.declared.line.Line.TheVariants.{Peer, Caller, Seat}
-use Rattle.node_wires.specs.Passages.{Passage, Began, Came, Wrote, Logged, seats_in, wrote_by, wrote_behind, wrote_over, logged_in}
+use Rattle.node_wires.specs.declared.line.Line.TheVariants.{Peer, Caller, Seat, Guest, Asker}
+use Rattle.node_wires.specs.Passages.{Passage, Began, Came, Wrote, Gave, Logged, of_seat, seats_in, wrote_by, wrote_behind, wrote_over, logged_in}
 use Rattle.node_peers.specs.Lines.{line_at}
 use Rattle.node_peers.specs.Adding.{IsPeers, IsOfPeers, AreOfPeers, Adds}
 
@@ -42,34 +42,40 @@ one_added p old new wired_old wired_new is e f = record { more = p ∷ []; put_d
 
 -- ---- what it leaves of seats and of the log
 
+no_seat : (p : Passage) → IsOfPeers p → of_seat p ≡ []
+no_seat (Began (Peer n)) is = refl
+no_seat (Began (Caller n)) is = refl
+no_seat (Began (Seat n)) is = absurd is
+no_seat (Began (Guest n)) is = absurd is
+no_seat (Began (Asker n)) is = absurd is
+no_seat (Came (Peer n) bytes) is = refl
+no_seat (Came (Caller n) bytes) is = refl
+no_seat (Came (Seat n) bytes) is = absurd is
+no_seat (Came (Guest n) bytes) is = absurd is
+no_seat (Came (Asker n) bytes) is = absurd is
+no_seat (Wrote line bytes) is = refl
+no_seat (Gave place seat) is = absurd is
+no_seat (Logged text) is = absurd is
+
+no_seats : (ys : List Passage) → AreOfPeers ys → seats_in ys ≡ []
+no_seats [] are = refl
+no_seats (p ∷ ys) are = ap (λ (ps : List Passage). ps ++ seats_in ys) (no_seat p are.0) ∙ no_seats ys are.1
+
 seats_of_both : (xs ys : List Passage) → AreOfPeers ys → seats_in (xs ++ ys) ≡ seats_in xs
-seats_of_both [] [] are = refl
-seats_of_both [] (Began (Peer n) ∷ ys) are = seats_of_both [] ys are.1
-seats_of_both [] (Began (Caller n) ∷ ys) are = seats_of_both [] ys are.1
-seats_of_both [] (Began (Seat n) ∷ ys) are = absurd are.0
-seats_of_both [] (Came (Peer n) bytes ∷ ys) are = seats_of_both [] ys are.1
-seats_of_both [] (Came (Caller n) bytes ∷ ys) are = seats_of_both [] ys are.1
-seats_of_both [] (Came (Seat n) bytes ∷ ys) are = absurd are.0
-seats_of_both [] (Wrote line bytes ∷ ys) are = seats_of_both [] ys are.1
-seats_of_both [] (Logged text ∷ ys) are = absurd are.0
-seats_of_both (Began (Seat n) ∷ xs) ys are = ap (λ (ps : List Passage). Began (Seat n) ∷ ps) (seats_of_both xs ys are)
-seats_of_both (Came (Seat n) bytes ∷ xs) ys are = ap (λ (ps : List Passage). Came (Seat n) bytes ∷ ps) (seats_of_both xs ys are)
-seats_of_both (Began (Peer n) ∷ xs) ys are = seats_of_both xs ys are
-seats_of_both (Began (Caller n) ∷ xs) ys are = seats_of_both xs ys are
-seats_of_both (Came (Peer n) bytes ∷ xs) ys are = seats_of_both xs ys are
-seats_of_both (Came (Caller n) bytes ∷ xs) ys are = seats_of_both xs ys are
-seats_of_both (Wrote line bytes ∷ xs) ys are = seats_of_both xs ys are
-seats_of_both (Logged text ∷ xs) ys are = seats_of_both xs ys are
+seats_of_both [] ys are = no_seats ys are
+seats_of_both (p ∷ xs) ys are = ap (λ (ps : List Passage). of_seat p ++ ps) (seats_of_both xs ys are)
 
 log_of_both : (xs ys : List Passage) → AreOfPeers ys → logged_in (xs ++ ys) ≡ logged_in xs
 log_of_both [] [] are = refl
 log_of_both [] (Began line ∷ ys) are = log_of_both [] ys are.1
 log_of_both [] (Came line bytes ∷ ys) are = log_of_both [] ys are.1
 log_of_both [] (Wrote line bytes ∷ ys) are = log_of_both [] ys are.1
+log_of_both [] (Gave place seat ∷ ys) are = absurd are.0
 log_of_both [] (Logged text ∷ ys) are = absurd are.0
 log_of_both (Began line ∷ xs) ys are = log_of_both xs ys are
 log_of_both (Came line bytes ∷ xs) ys are = log_of_both xs ys are
 log_of_both (Wrote line bytes ∷ xs) ys are = log_of_both xs ys are
+log_of_both (Gave place seat ∷ xs) ys are = log_of_both xs ys are
 log_of_both (Logged text ∷ xs) ys are = ap (λ (ls : List ℕ). text ++ ls) (log_of_both xs ys are)
 
 not_written : (seat : ℕ) (before : List ℕ) (ys : List Passage) → AreOfPeers ys → wrote_behind (Seat seat) before ys ≡ before
@@ -77,10 +83,15 @@ not_written seat before [] are = refl
 not_written seat before (Began (Peer n) ∷ ys) are = not_written seat before ys are.1
 not_written seat before (Began (Caller n) ∷ ys) are = not_written seat before ys are.1
 not_written seat before (Began (Seat n) ∷ ys) are = absurd are.0
+not_written seat before (Began (Guest n) ∷ ys) are = absurd are.0
+not_written seat before (Began (Asker n) ∷ ys) are = absurd are.0
 not_written seat before (Came line bytes ∷ ys) are = not_written seat before ys are.1
 not_written seat before (Wrote (Peer n) bytes ∷ ys) are = not_written seat before ys are.1
 not_written seat before (Wrote (Caller n) bytes ∷ ys) are = not_written seat before ys are.1
 not_written seat before (Wrote (Seat n) bytes ∷ ys) are = absurd are.0
+not_written seat before (Wrote (Guest n) bytes ∷ ys) are = absurd are.0
+not_written seat before (Wrote (Asker n) bytes ∷ ys) are = absurd are.0
+not_written seat before (Gave place number ∷ ys) are = absurd are.0
 not_written seat before (Logged text ∷ ys) are = absurd are.0
 
 written_behind : (seat : ℕ) (before : List ℕ) (xs ys : List Passage) → AreOfPeers ys → wrote_behind (Seat seat) before (xs ++ ys) ≡ wrote_behind (Seat seat) before xs

@@ -1,5 +1,5 @@
 -- What came over the lines of node 0 of three, and what is told of it, on values.
-use Rattle.std.proofs.Common.{◌≡◌, ℕ, List, [], ◌∷◌, ◌++◌, replicate, None, refl, lit<, lit≤}
+use Rattle.std.proofs.Common.{◌≡◌, ℕ, List, [], ◌∷◌, ◌++◌, replicate, Some, None, refl, lit<, lit≤}
 use Rattle.peer_codes.specs.declared.frame.Frame.{Frame}
 use Rattle.peer_codes.specs.declared.hello.Hello.{Hello}
 use Rattle.peer_codes.specs.declared.hello.Link.TheVariants.{Plain}
@@ -7,12 +7,11 @@ use Rattle.peer_codes.specs.declared.records.Record.TheVariants as record_of
 use Rattle.peer_codes.specs.Fits.{IsHello}
 use Rattle.peer_codes.specs.Spelling.{record_text}
 use Rattle.node_links.specs.declared.own.Own.{Own}
-use Rattle.node_links.specs.declared.phase.Phase.TheVariants as phases
 use Rattle.node_wires.specs.declared.line.Line.TheVariants.{Peer, Caller}
-use Rattle.node_wires.specs.Passages.{Passage, Began, Came}
+use Rattle.node_wires.specs.Passages.{Passage, Began, Came, Wrote}
 use Rattle.node_peers.specs.declared.notice.Notice.TheVariants as notices
 use Rattle.node_peers.specs.Lines.{line_at}
-use Rattle.node_peers.specs.Hearing.{IsHeard, IsTold}
+use Rattle.node_peers.specs.Hearing.{IsTold, talk_over}
 
 peer_first : line_at 6 ≡ Peer 6
 peer_first = refl
@@ -21,7 +20,7 @@ caller_behind : line_at 7 ≡ Caller 0
 caller_behind = refl
 
 abbrev own : Own
-own = record { number = 0; nodes = 3; digest = record { bytes = replicate 32 9 }; life = record { bytes = replicate 16 1 } }
+own = record { number = 0; nodes = 3; digest = record { bytes = replicate 32 9 }; life = record { bytes = replicate 16 1 }; key = None }
 
 -- node 1 says so to node 0
 abbrev hello : Hello
@@ -63,13 +62,23 @@ ask_told =
       before = passed;
       since = [];
       passed_is = refl;
-      says = record { hello = hello; is = hello_is; from_is = refl; taken = (None, ([], refl)); said = []; are = tt; frame_is = record { least = lit≤ tt; most = lit≤ tt }; rest = []; text = refl };
+      says = record { hello = hello; is = hello_is; from_is = refl; takes = (None, ([], refl)); said = []; are = tt; frame_is = record { least = lit≤ tt; most = lit≤ tt }; rest = []; text = refl };
     }) ∣₁
 
--- before anything was read all that came waits
-nothing_read : IsHeard own both both phases.Greeting
-nothing_read = refl
+-- and node 1 is told to be there, whose life is kept
+node_1_told : IsTold own passed (notices.Joined 1 (Some (record { bytes = replicate 16 2 })))
+node_1_told =
+    ∣ (record {
+      hello = hello;
+      from_is = refl;
+      life_is = refl;
+      opened = record { place = 7; before = passed; since = []; passed_is = refl; opens = record { is = hello_is; takes = (None, ([], refl)); rest = record_text (record_of.Frame ask) ++ []; text = refl } };
+    }) ∣₁
 
--- what came can't have gone
-something_gone : IsHeard own (1 ∷ []) [] phases.Greeting → ⊥
-something_gone e = absurd cc
+-- what was written before a connection began is none of it
+began_anew : talk_over (Wrote (Caller 0) (7 ∷ []) ∷ passed) (Caller 0) ≡ record { came = both; wrote = [] }
+began_anew = refl
+
+-- and what is written to another line is none either
+written_there : talk_over (passed ++ Wrote (Caller 0) (7 ∷ []) ∷ Wrote (Caller 1) (8 ∷ []) ∷ []) (Caller 0) ≡ record { came = both; wrote = 7 ∷ [] }
+written_there = refl

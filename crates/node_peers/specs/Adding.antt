@@ -1,20 +1,23 @@
 -- What passes over the lines of peers: on the wire, and as it is put down.
 use Rattle.std.specs.Prelude.{◌≡◌, List, [], ◌∷◌, ◌++◌}
 use Rattle.node_wires.specs.declared.line.Line.{Line}
-use Rattle.node_wires.specs.declared.line.Line.TheVariants.{Peer, Caller, Seat}
-use Rattle.node_wires.specs.Passages.{Passage, Began, Came, Wrote, Logged}
+use Rattle.node_wires.specs.declared.line.Line.TheVariants.{Peer, Caller, Seat, Guest, Asker}
+use Rattle.node_wires.specs.Passages.{Passage, Began, Came, Wrote, Gave, Logged}
 use Rattle.node_wires.specs.declared.passages.Passages.{Passages}
 
 abbrev pub IsPeers : Line → Type 0
 IsPeers (Peer number) = Unit {0}
 IsPeers (Caller place) = Unit {0}
 IsPeers (Seat number) = ⊥
+IsPeers (Guest place) = ⊥
+IsPeers (Asker place) = ⊥
 
 -- a passage over the line of a peer, or of one who dialled
 abbrev pub IsOfPeers : Passage → Type 0
 IsOfPeers (Began line) = IsPeers line
 IsOfPeers (Came line bytes) = IsPeers line
 IsOfPeers (Wrote line bytes) = IsPeers line
+IsOfPeers (Gave place seat) = ⊥
 IsOfPeers (Logged text) = ⊥
 
 abbrev pub AreOfPeers : List Passage → Type 0

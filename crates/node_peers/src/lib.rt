@@ -7,10 +7,14 @@
 //! A frame may be lost here, and none is made up: each that is told of a peer came over one of its lines behind that node's
 //! Hello (`Peers::next`). Whatever wires give, what is promised of nodes holds.
 //!
-//! `peers` has the rules, `peer` what is known of one; `lines` the connections by their lines and what waits to be told,
+//! `peers` has the public calls, `greeting`, `dialling`, `hearing`, `ending` and `writing` the rules; `peer` what is known of one; `lines` the connections by their lines and what waits to be told,
 //! over `links`, the connections of all places, and `link`, one of them; `saying` what one says.
 #![tactic(auto)]
 
+mod dialling;
+mod ending;
+mod greeting;
+mod hearing;
 pub mod limits;
 mod lines;
 mod link;
@@ -20,6 +24,7 @@ mod peer;
 mod peers;
 mod saying;
 mod view;
+mod writing;
 
 pub use notice::Notice;
 pub use peers::Peers;

@@ -2,22 +2,24 @@
 
 ghost use Rattle.std.specs.Prelude.{◌≡◌, ◌<◌, ◌++◌, ◌∷◌, [], IfOk, IfSome, Some};
 ghost use Rattle.node_wires.specs.Passages.{Began};
+ghost use Rattle.node_links.specs.Going.{IsOfKey};
 ghost use Rattle.node_peers.specs.Lines.{line_at};
-ghost use Rattle.node_peers.specs.Hearing.{Fits, fits_prop, IsTold, AreTold, are_told_prop, IsFresh};
+ghost use Rattle.node_peers.specs.Hearing.{Fits, fits_prop, IsTold, AreTold, are_told_prop, IsFresh, IsOpened};
 
 use crate::limits::{BACKLOG, LINKS};
 use crate::link::{Link, Written, line_at};
 use crate::links::{
-    begin_at, clear, greet_at, next_at, no_links, put, read_at, refuse_at, write_at,
+    answer_at, begin_at, clear, next_at, no_links, put, read_at, refuse_at, settle_at, write_at,
 };
 use crate::notice::Notice;
 use crate::saying::Saying;
-use node_links::{LinkFault, Met, Outbox, Own, PlainConnection, Question, answered_in};
+use node_links::{Connection, LinkFault, Met, Outbox, Own, Question, answered_in};
 use node_wires::limits::NODES;
 use node_wires::{Line, Passages, Wire};
 use peer_codes::{Beat, Hello, Life};
 use std::alloc::{AllocError, Global};
 use std::collections::VecDeque;
+use std::net::IpAddr;
 
 /// The connections over which nodes speak, by the places of their lines, and what waits to be told of them.
 #[derive(Drop)]
@@ -37,6 +39,8 @@ pub(crate) struct Lines {
 pub(crate) enum Came {
     /// The other's Hello.
     Hello(Hello),
+    /// That this Hello is proved.
+    Proved(Hello),
     /// A frame of this peer, which waits to be told, and what it answers.
     Frame {
         from: u8,
@@ -108,11 +112,18 @@ impl Lines {
         self.notices.push_back(notice).is_ok()
     }
 
-    /// Tells that a peer is there. False without memory.
-    pub(crate) fn note_joined(&mut self, peer: u8, life: Option<Life>) -> bool
+    /// Tells that a peer is there, whose Hello opened a connection, and the life of its store, where that is to be kept. False
+    /// without memory.
+    #[tactic(auto, using(crate::proofs::Fitting::joins))]
+    pub(crate) fn note_joined(&mut self, hello: &Hello, life: Option<Life>) -> bool
+        requires opened { IsOpened self.old.own self.old.passed.items hello.now }
+        requires life { IfSome life (λ l. l ≡ hello.now.life) }
         ensures { Stays self.old self.new }
     {
-        self.note(Notice::Joined { peer, life })
+        self.note(Notice::Joined {
+            peer: hello.ends.from,
+            life,
+        })
     }
 
     /// Tells that a peer is gone.
@@ -123,10 +134,14 @@ impl Lines {
     }
 
     /// Tells by which fault a connection to a peer is closed.
-    pub(crate) fn note_refused(&mut self, peer: u8, fault: LinkFault)
+    pub(crate) fn note_refused(&mut self, peer: u8, fault: LinkFault, source: Option<IpAddr>)
         ensures { Stays self.old self.new }
     {
-        let _ = self.note(Notice::Refused { peer, fault });
+        let _ = self.note(Notice::Refused {
+            peer,
+            fault,
+            source,
+        });
     }
 
     /// Tells how many callers were refused.
@@ -140,7 +155,7 @@ impl Lines {
     #[tactic(auto, using(crate::proofs::Fitting::are_told_on))]
     fn begin(&mut self, place: usize, line: Line, link: Link)
         requires line { line ≡ line_at place }
-        requires fresh { IsFresh (Some link) }
+        requires fresh { IsFresh self.old.own (Some link) }
         ensures own { self.new.own ≡ self.old.own }
         ensures passed { self.new.passed.items ≡ self.old.passed.items ++ Began line ∷ [] }
     {
@@ -149,7 +164,7 @@ impl Lines {
     }
 
     /// Takes in the next one who dialled, if there is one.
-    #[tactic(auto, using(crate::proofs::Adding::one_added, crate::proofs::Growing::stayed, crate::proofs::Fitting::caller_line))]
+    #[tactic(auto, using(crate::proofs::Adding::one_added, crate::proofs::Growing::stayed, crate::proofs::Fitting::caller_line, crate::proofs::Fitting::fresh_link))]
     pub(crate) fn accept<W: Wire>(&mut self, wire: &mut W, now: u64) -> bool
         ensures { Grew self.old self.new (W.passed wire.old) (W.passed wire.new) }
     {
@@ -157,21 +172,26 @@ impl Lines {
             return false;
         };
         let place = NODES + number as usize;
-        let link = Link::new(PlainConnection::listen(self.alloc), None, now);
+        let link = Link::new(Connection::listen(self.alloc, self.own.key), None, now);
         self.begin(place, Line::Caller(number), link);
         true
     }
 
     /// Dials a peer, to which this is said first. False where that failed.
-    #[tactic(auto, using(crate::proofs::Adding::one_added, crate::proofs::Growing::stayed, crate::proofs::Fitting::peer_line))]
+    #[tactic(auto, using(crate::proofs::Adding::one_added, crate::proofs::Growing::stayed, crate::proofs::Fitting::peer_line, crate::proofs::Fitting::fresh_link))]
     pub(crate) fn dial<W: Wire>(&mut self, wire: &mut W, number: u8, own: Hello, now: u64) -> bool
+        requires { IsOfKey self.old.own.key own.link }
         ensures { Grew self.old self.new (W.passed wire.old) (W.passed wire.new) }
     {
         let place = number as usize;
         if place >= NODES || wire.dial(number).is_err() {
             return false;
         }
-        let link = Link::new(PlainConnection::call(self.alloc, own), Some(number), now);
+        let link = Link::new(
+            Connection::call(self.alloc, self.own.key, own),
+            Some(number),
+            now,
+        );
         self.begin(place, Line::Peer(number), link);
         true
     }
@@ -204,6 +224,7 @@ impl Lines {
             Saying::Waits => None,
             Saying::Fault(fault) => Some(Err(fault)),
             Saying::Hello(hello) => Some(Ok(Came::Hello(hello))),
+            Saying::Proved(hello) => Some(Ok(Came::Proved(hello))),
             Saying::Frame { from, frame } => {
                 let answered = answered_in(frame.bytes.as_slice());
                 let _ = self.note(Notice::Frame { from, frame });
@@ -214,13 +235,22 @@ impl Lines {
         }
     }
 
-    /// Judges the Hello that came over the line at a place, and answers it where this side was dialled. It says whether the
-    /// connection is open now; not where it has ended.
-    pub(crate) fn greet(&mut self, place: usize, met: &[Met], from: u8, answer: Hello) -> bool
-        ensures { Stays self.old self.new }
+    /// Judges what the node of this number said first over the line at a place, as far as it can be judged now. It answers
+    /// that Hello where the connection is open; not where it has ended.
+    #[tactic(auto, using(crate::proofs::Fitting::opened_now))]
+    pub(crate) fn settle(&mut self, place: usize, met: &[Met], from: u8) -> Option<Hello>
+        ensures stays { Stays self.old self.new }
+        ensures opened { IfSome result (λ hello. IsOpened self.new.own self.new.passed.items hello) }
     {
         let own = self.own;
-        greet_at(&mut self.links, place, &own, met, from, answer)
+        settle_at(&mut self.links, place, &own, met, from)
+    }
+
+    /// Answers the one who dialled at a place with this node's own Hello.
+    pub(crate) fn answer(&mut self, place: usize, own: Hello)
+        ensures { Stays self.old self.new }
+    {
+        answer_at(&mut self.links, place, own);
     }
 
     /// Begins the next record at a place, of what waits for the peer that is there, if one is.

@@ -1,13 +1,14 @@
 //! The connection of a line.
 
-ghost use Rattle.std.specs.Prelude.{◌≡◌, ◌<◌, ℕ, List, IfSome, Some};
+ghost use Rattle.std.specs.Prelude.{◌≡◌, ◌<◌, IfSome, Some};
+ghost use Rattle.node_links.specs.Going.{peer_of};
+ghost use Rattle.node_links.specs.Talks.{Talk};
 ghost use Rattle.node_peers.specs.Lines.{line_at};
-ghost use Rattle.node_links.specs.Connections.{peer_in};
 ghost use Rattle.node_peers.specs.Adding.{Grows};
-ghost use Rattle.node_peers.specs.Hearing.{IsOf, KeepsOn, Moves, TakesIn, SaysFrame};
+ghost use Rattle.node_peers.specs.Hearing.{IsOf, KeepsOn, Moves, OpensIn, TakesIn, SaysFrame};
 
 use crate::limits::{LINKS, PIECE, PIECES};
-use node_links::{Heard, LinkFault, Met, Outbox, Own, PlainConnection};
+use node_links::{Connection, Heard, LinkFault, Met, Outbox, Own};
 use node_wires::limits::NODES;
 use node_wires::{Halt, Line, Passages, Wire};
 use peer_codes::Hello;
@@ -15,12 +16,13 @@ use peer_codes::Hello;
 /// The connection of a line.
 #[derive(Drop)]
 pub(crate) struct Link {
-    pub(crate) connection: PlainConnection,
+    pub(crate) connection: Connection,
     /// The peer that was dialled; none where it dialled.
     pub(crate) dialled: Option<u8>,
     /// When it began.
     pub(crate) began: u64,
-    /// The node that its Hello said, once that was judged, whether it was taken or not.
+    /// The node that its Hello said, once that was judged, whether it was taken or not; with codes it isn't proved before the
+    /// other's proof was right.
     pub(crate) said: Option<u8>,
     /// More may have come than was read.
     pub(crate) has_more: bool,
@@ -47,7 +49,7 @@ pub(crate) enum Written {
 
 impl Link {
     /// A connection that begins.
-    pub(crate) fn new(connection: PlainConnection, dialled: Option<u8>, began: u64) -> Link
+    pub(crate) fn new(connection: Connection, dialled: Option<u8>, began: u64) -> Link
         ensures { result.connection ≡ connection }
     {
         Link {
@@ -103,7 +105,7 @@ fn take_in(link: &mut Link, piece: &[u8])
 }
 
 /// Reads the next piece that came over a line. It says whether there may be more.
-#[tactic(auto, using(crate::proofs::Adding::line_of_peers, crate::proofs::Adding::nothing_added, crate::proofs::Adding::one_added, crate::proofs::Fitting::moves_alike, crate::proofs::Fitting::moves_taken))]
+#[tactic(auto, using(crate::proofs::Adding::line_of_peers, crate::proofs::Adding::nothing_added, crate::proofs::Adding::one_added, crate::proofs::Fitting::moves_still, crate::proofs::Fitting::moves_taken))]
 fn read_piece<W: Wire>(
     link: &mut Link,
     passed: &mut Passages,
@@ -130,7 +132,7 @@ fn read_piece<W: Wire>(
 }
 
 /// Reads what came over the line at a place, so many pieces at most. Nothing is read of one that a fault closed.
-#[tactic(auto, using(crate::proofs::Adding::nothing_added, crate::proofs::Adding::added_on, crate::proofs::Fitting::moves_alike, crate::proofs::Fitting::moves_on))]
+#[tactic(auto, using(crate::proofs::Adding::nothing_added, crate::proofs::Adding::added_on, crate::proofs::Fitting::moves_still, crate::proofs::Fitting::moves_on))]
 pub(crate) fn read<W: Wire>(link: &mut Link, passed: &mut Passages, wire: &mut W, place: usize)
     requires { place < LINKS }
     ensures grows { Grows passed.old passed.new (W.passed wire.old) (W.passed wire.new) }
@@ -159,7 +161,7 @@ fn what_of(count: usize) -> Written {
 }
 
 /// Writes what was begun over the line at a place, as much of it as there is room for.
-#[tactic(auto, using(crate::proofs::Adding::line_of_peers, crate::proofs::Adding::nothing_added, crate::proofs::Adding::one_added, crate::proofs::Fitting::moves_alike, crate::proofs::Fitting::moves_written))]
+#[tactic(auto, using(crate::proofs::Adding::line_of_peers, crate::proofs::Adding::nothing_added, crate::proofs::Adding::one_added, crate::proofs::Fitting::moves_still, crate::proofs::Fitting::moves_written))]
 pub(crate) fn write<W: Wire>(
     link: &mut Link,
     passed: &mut Passages,
@@ -186,7 +188,7 @@ pub(crate) fn write<W: Wire>(
 }
 
 /// What a connection says next, or the fault that closed it; nothing of one of which a piece was lost.
-#[tactic(auto, using(crate::proofs::Fitting::keeps_alike, crate::proofs::Fitting::keeps_next, crate::proofs::Fitting::says_next))]
+#[tactic(auto, using(crate::proofs::Fitting::keeps_still, crate::proofs::Fitting::keeps_on, crate::proofs::Fitting::says_next))]
 pub(crate) fn next_of(link: &mut Link) -> Option<Result<Heard, LinkFault>>
     ensures keeps { KeepsOn (Some link.old) (Some link.new) }
     ensures says { SaysFrame result link.old link.new }
@@ -197,29 +199,40 @@ pub(crate) fn next_of(link: &mut Link) -> Option<Result<Heard, LinkFault>>
     link.connection.next()
 }
 
-/// Judges the Hello of this node that came, and answers it where this side was dialled. It says whether the connection is
-/// open now; not where it has ended.
-#[tactic(auto, using(crate::proofs::Fitting::keeps_settled))]
-pub(crate) fn greet(link: &mut Link, own: &Own, met: &[Met], from: u8, answer: Hello) -> bool
-    ensures { (came : List ℕ) → IsOf own.now came (Some link.old) → IsOf own.now came (Some link.new) }
+/// Judges what this node said first, as far as it can be judged now. It answers that Hello where the connection is open; not
+/// where it has ended.
+#[tactic(auto, using(crate::proofs::Fitting::keeps_settled, crate::proofs::Fitting::opens_in))]
+pub(crate) fn settle(link: &mut Link, own: &Own, met: &[Met], from: u8) -> Option<Hello>
+    ensures fits { (talk : Talk) → IsOf own.now talk (Some link.old) → IsOf own.now talk (Some link.new) }
+    ensures opens { OpensIn own.now result (Some link.new) }
 {
     link.said = Some(from);
     link.connection.settle(own, link.dialled, met);
-    if link.dialled.is_none() {
-        link.connection.answer(answer);
+    if link.has_ended || link.is_lost {
+        return None;
     }
-    link.connection.peer().is_some() && !link.has_ended
+    link.connection.taken()
+}
+
+/// Answers the one who dialled with this node's own Hello.
+#[tactic(auto, using(crate::proofs::Fitting::keeps_still, crate::proofs::Fitting::keeps_on))]
+pub(crate) fn answer(link: &mut Link, own: Hello)
+    ensures { KeepsOn (Some link.old) (Some link.new) }
+{
+    if link.dialled.is_none() {
+        link.connection.answer(own);
+    }
 }
 
 /// The node at the other end of a connection that is open.
 pub(crate) fn peer_of(link: &Link) -> Option<u8>
-    ensures { result ≡ peer_in link.now.connection.phase }
+    ensures { result ≡ peer_of link.now.connection }
 {
     link.connection.peer()
 }
 
 /// Begins on a connection what waits next.
-#[tactic(auto, using(crate::proofs::Fitting::keeps_alike))]
+#[tactic(auto, using(crate::proofs::Fitting::keeps_on))]
 pub(crate) fn begin(link: &mut Link, waiting: &mut Outbox)
     ensures { KeepsOn (Some link.old) (Some link.new) }
 {
@@ -227,7 +240,7 @@ pub(crate) fn begin(link: &mut Link, waiting: &mut Outbox)
 }
 
 /// The fault that closed a connection is told from now on. False where it was already.
-#[tactic(auto, using(crate::proofs::Fitting::keeps_alike))]
+#[tactic(auto, using(crate::proofs::Fitting::keeps_still))]
 pub(crate) fn refuse(link: &mut Link) -> bool
     ensures { KeepsOn (Some link.old) (Some link.new) }
 {

@@ -1,15 +1,16 @@
 //! The connections of all lines, by their places.
 
-ghost use Rattle.std.specs.Prelude.{◌≡◌, ◌<◌, ◌≤◌, ℕ, List, ◌∷◌, ◌++◌, [], length, IfOk};
+ghost use Rattle.std.specs.Prelude.{◌≡◌, ◌<◌, ◌≤◌, ℕ, List, ◌∷◌, ◌++◌, [], length, IfOk, Some};
 ghost use Rattle.node_wires.specs.Passages.{Passage, Began};
 ghost use Rattle.node_links.specs.declared.own.Own.{Own};
+ghost use Rattle.node_links.specs.Talks.{Talk};
 ghost use Rattle.node_peers.specs.Lines.{line_at};
 ghost use Rattle.node_peers.specs.Adding.{Grows};
-ghost use Rattle.node_peers.specs.Hearing.{IsOf, FitsBy, IsFresh, KeepsOn, FitsOn, Moves, FitsThrough};
+ghost use Rattle.node_peers.specs.Hearing.{IsOf, FitsBy, Fits, IsFresh, KeepsOn, FitsOn, Moves, OpensAt, OpensIn, FitsThrough};
 ghost use Rattle.node_peers.specs.Saying.{SaidBy, SaidAt};
 
 use crate::limits::LINKS;
-use crate::link::{Link, Written, begin, greet, next_of, peer_of, read, refuse, write};
+use crate::link::{Link, Written, answer, begin, next_of, peer_of, read, refuse, settle, write};
 use crate::saying::{Saying, saying_of};
 use node_links::{Met, Outbox, Own};
 use node_wires::{Passages, Wire};
@@ -18,7 +19,7 @@ use std::alloc::{AllocError, Global};
 
 /// Of each line none.
 pub(crate) fn no_links(alloc: Global) -> Result<Vec<Option<Link>>, AllocError>
-    ensures { IfOk result (λ links. (own : Own) (came : ℕ → List ℕ) → FitsBy own came links.items) }
+    ensures { IfOk result (λ links. (own : Own) (talks : ℕ → Talk) → FitsBy own talks links.items) }
 {
     let mut links = Vec::with_capacity(alloc, LINKS)?;
     for _ in 0..LINKS {
@@ -30,8 +31,7 @@ pub(crate) fn no_links(alloc: Global) -> Result<Vec<Option<Link>>, AllocError>
 /// Puts a connection that begins in the place of its line, if there is such a place.
 #[tactic(auto, using(crate::proofs::Fitting::fits_begun, crate::proofs::Fitting::fits_beside))]
 pub(crate) fn put(links: &mut Vec<Option<Link>>, place: usize, link: Link)
-    requires { IsFresh (Some link) }
-    ensures { (passed_old passed_new : List Passage) → passed_new ≡ passed_old ++ Began (line_at place) ∷ [] → FitsThrough passed_old passed_new links.old.items links.new.items }
+    ensures { (own : Own) (passed_old passed_new : List Passage) → IsFresh own (Some link) → passed_new ≡ passed_old ++ Began (line_at place) ∷ [] → Fits own passed_old links.old.items → Fits own passed_new links.new.items }
 {
     if place < links.len() {
         links[place] = Some(link);
@@ -143,36 +143,59 @@ pub(crate) fn next_at(links: &mut Vec<Option<Link>>, place: usize) -> Saying
     }
 }
 
-/// Judges the Hello that came over a line.
-fn greet_in(slot: &mut Option<Link>, own: &Own, met: &[Met], from: u8, answer: Hello) -> bool
-    ensures { (came : List ℕ) → IsOf own.now came slot.old → IsOf own.now came slot.new }
+/// Judges what waits to be judged of a line.
+fn settle_in(slot: &mut Option<Link>, own: &Own, met: &[Met], from: u8) -> Option<Hello>
+    ensures fits { (talk : Talk) → IsOf own.now talk slot.old → IsOf own.now talk slot.new }
+    ensures opens { OpensIn own.now result slot.new }
 {
     match slot {
-        Some(link) => greet(link, own, met, from, answer),
-        None => false,
+        Some(link) => settle(link, own, met, from),
+        None => None,
     }
 }
 
-/// Judges the Hello that came over the line at a place.
-#[tactic(auto, using(crate::proofs::Fitting::fits_greeted))]
-pub(crate) fn greet_at(
+/// Judges what waits to be judged at a place, and answers the Hello by which the connection is open.
+#[tactic(auto, using(crate::proofs::Fitting::fits_settled, crate::proofs::Fitting::opens_at))]
+pub(crate) fn settle_at(
     links: &mut Vec<Option<Link>>,
     place: usize,
     own: &Own,
     met: &[Met],
     from: u8,
-    answer: Hello,
-) -> bool
-    ensures { (came : ℕ → List ℕ) → FitsBy own.now came links.old.items → FitsBy own.now came links.new.items }
+) -> Option<Hello>
+    ensures fits { (talks : ℕ → Talk) → FitsBy own.now talks links.old.items → FitsBy own.now talks links.new.items }
+    ensures opens { OpensAt own.now result place links.new.items }
 {
     match links.get_mut(place) {
-        Some(slot) => greet_in(slot, own, met, from, answer),
-        None => false,
+        Some(slot) => settle_in(slot, own, met, from),
+        None => None,
+    }
+}
+
+/// Answers the one who dialled over a line.
+#[tactic(auto, using(crate::proofs::Fitting::keeps_same))]
+fn answer_in(slot: &mut Option<Link>, own: Hello)
+    ensures { KeepsOn slot.old slot.new }
+{
+    match slot {
+        Some(link) => answer(link, own),
+        None => (),
+    }
+}
+
+/// Answers the one who dialled at a place.
+#[tactic(auto, using(crate::proofs::Fitting::fits_kept))]
+pub(crate) fn answer_at(links: &mut Vec<Option<Link>>, place: usize, own: Hello)
+    ensures { FitsOn links.old.items links.new.items }
+{
+    match links.get_mut(place) {
+        Some(slot) => answer_in(slot, own),
+        None => (),
     }
 }
 
 /// Begins the next record of a line.
-#[tactic(auto, using(crate::proofs::Fitting::keeps_alike))]
+#[tactic(auto, using(crate::proofs::Fitting::keeps_same))]
 fn begin_in(slot: &mut Option<Link>, waiting: &mut Outbox)
     ensures { KeepsOn slot.old slot.new }
 {
@@ -194,7 +217,7 @@ pub(crate) fn begin_at(links: &mut Vec<Option<Link>>, place: usize, waiting: &mu
 }
 
 /// The fault of a line is told from now on. False where it was already, or no connection is there.
-#[tactic(auto, using(crate::proofs::Fitting::keeps_alike))]
+#[tactic(auto, using(crate::proofs::Fitting::keeps_same))]
 fn refuse_in(slot: &mut Option<Link>) -> bool
     ensures { KeepsOn slot.old slot.new }
 {

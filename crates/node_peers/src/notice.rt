@@ -1,19 +1,36 @@
 use node_links::LinkFault;
 use peer_codes::{Frame, Life};
+use std::net::IpAddr;
 
 /// What a process is told of its peers.
 #[derive(Drop)]
 pub enum Notice {
     /// A frame came of a peer.
-    Frame { from: u8, frame: Frame },
+    Frame {
+        from: u8,
+        frame: Frame,
+    },
     /// A connection to a peer is open. Its store has this life, where none was kept of it: it is to be kept.
-    Joined { peer: u8, life: Option<Life> },
+    Joined {
+        peer: u8,
+        life: Option<Life>,
+    },
     /// The connection to a peer ended.
-    Gone { peer: u8 },
+    Gone {
+        peer: u8,
+    },
     /// A connection to a peer is closed by a fault: to one that was dialled, to one that was there, or to one whose store,
-    /// or this node's, was made anew.
-    Refused { peer: u8, fault: LinkFault },
+    /// or this node's, was made anew. The source is the address at its other end, where it is known. The same fault of the
+    /// same peer is told once in ten seconds.
+    Refused {
+        peer: u8,
+        fault: LinkFault,
+        source: Option<IpAddr>,
+    },
     /// So many callers who aren't known were refused since the last such notice, the last of them by this fault; there is
     /// one a second at most.
-    Strangers { count: u32, fault: LinkFault },
+    Strangers {
+        count: u32,
+        fault: LinkFault,
+    },
 }

@@ -4,7 +4,10 @@ ghost use Rattle.node_peers.specs.Sending.{IsSent};
 use crate::lines::Lines;
 use crate::view::View;
 use node_links::limits::{KEPT, WAITING};
-use node_links::{Accepted, Asked, Dial, Outbox, Owed, Pulse, Question, Told};
+use node_links::{
+    Accepted, Asked, Dial, Forwarded, LinkFault, Notes, Outbox, Owed, Pulse, Question, Told,
+    longer, pause_after,
+};
 use peer_codes::{Beat, Frame, Life};
 use std::alloc::Global;
 
@@ -12,6 +15,10 @@ use std::alloc::Global;
 #[derive(Drop)]
 pub(crate) struct Peer {
     pub(crate) dial: Dial,
+    /// How long it wasn't dialled behind the last refusal; 0 where a beat came since.
+    pause: u64,
+    /// Which faults of it were told, and when.
+    notes: Notes,
     /// The place of the line whose connection is open.
     pub(crate) open: Option<usize>,
     /// When that opened or ended last.
@@ -26,6 +33,9 @@ pub(crate) struct Peer {
     pub(crate) outbox: Outbox,
     asked: Asked,
     accepted: Accepted,
+    forwarded: Forwarded,
+    /// This node's front, as it was told last.
+    front: u32,
     owed: Owed,
 }
 
@@ -34,6 +44,8 @@ impl Peer {
     pub(crate) fn new(alloc: Global, kept: Option<Life>) -> Peer {
         Peer {
             dial: Dial::new(),
+            pause: 0,
+            notes: Notes::new(),
             open: None,
             since: 0,
             heard: 0,
@@ -43,8 +55,31 @@ impl Peer {
             outbox: Outbox::new(alloc),
             asked: Asked::new(),
             accepted: Accepted::new(),
+            forwarded: Forwarded::new(),
+            front: 0,
             owed: Owed::new(),
         }
+    }
+
+    /// The connection that was dialled ended; where nothing came of it but its Hello that may have been a refusal.
+    pub(crate) fn end_dial(&mut self, now: u64, is_fruitless: bool) {
+        if is_fruitless {
+            self.pause = longer(self.pause);
+            self.dial = self.dial.ended(now, Some(self.pause));
+        } else {
+            self.dial = self.dial.ended(now, None);
+        }
+    }
+
+    /// The connection that was dialled is closed by this fault.
+    pub(crate) fn refuse_dial(&mut self, fault: LinkFault, now: u64) {
+        self.pause = pause_after(fault, self.pause);
+        self.dial = self.dial.ended(now, Some(self.pause));
+    }
+
+    /// Whether this fault of the peer is told now.
+    pub(crate) fn tells(&mut self, fault: LinkFault, now: u64) -> bool {
+        self.notes.tell(fault, now)
     }
 
     /// The connection at this place is open: what waits goes over it, and the last Accepted again.
@@ -88,6 +123,7 @@ impl Peer {
             return;
         }
         self.accepted.keep(&frame, now);
+        self.forwarded.keep(&frame, now);
         self.owed.asked(bytes);
         let most = if self.open.is_some() { WAITING } else { KEPT };
         // A frame for which there is no memory is lost, as one on the way may be.
@@ -127,9 +163,44 @@ impl Peer {
         }
     }
 
-    /// Tells the peer how this node is, where a beat is due over an open connection, and repeats the last Accepted where
-    /// the peer is behind, that is due, and no frame waits already.
+    /// The last act that went on to the peer goes again, where that is due.
+    fn forward_again(&mut self, now: u64) {
+        if self.forwarded.wait(now) > 0 {
+            return;
+        }
+        if let Some(frame) = self.forwarded.again(now) {
+            let _ = self.outbox.put(frame, WAITING);
+        }
+    }
+
+    /// What goes again goes, where no frame waits already: the last Accepted where the peer is behind this front, and the
+    /// last act that went on to it.
+    fn say_again(&mut self, front: u32, now: u64) {
+        if self.outbox.count() > 0 {
+            return;
+        }
+        if self.is_behind(front) && self.accepted.is_due(now) {
+            self.repeat(now);
+        }
+        self.forward_again(now);
+    }
+
+    /// This node's front is told: once it has moved, an act that went on needn't go again.
+    fn note_front(&mut self, front: u32) {
+        if self.front != front {
+            self.forwarded.forget();
+        }
+        self.front = front;
+    }
+
+    /// How long it is until a beat is due over an open connection, or an act goes again.
+    pub(crate) fn wait(&self, now: u64) -> u64 {
+        self.pulse.wait(now).min(self.forwarded.wait(now))
+    }
+
+    /// Tells the peer how this node is, where a beat is due over an open connection, and says again what is to go again.
     pub(crate) fn tell(&mut self, told: Told, now: u64) {
+        self.note_front(told.front);
         if self.open.is_none() {
             return;
         }
@@ -137,9 +208,7 @@ impl Peer {
             let beat = self.pulse.beat(told, now);
             self.outbox.tell(beat);
         }
-        if self.is_behind(told.front) && self.accepted.is_due(now) && self.outbox.count() == 0 {
-            self.repeat(now);
-        }
+        self.say_again(told.front, now);
     }
 
     /// Whether the peer's last beat tells a front below this.
@@ -168,5 +237,6 @@ impl Peer {
         self.heard = now;
         self.pulse.heard(&beat, now);
         self.beat = Some(beat);
+        self.pause = 0;
     }
 }

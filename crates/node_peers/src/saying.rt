@@ -13,6 +13,8 @@ pub(crate) enum Saying {
     Waits,
     /// The other's Hello.
     Hello(Hello),
+    /// That this Hello is proved.
+    Proved(Hello),
     Frame { from: u8, frame: Frame },
     Beat { from: u8, beat: Beat },
     /// A frame or a beat of nobody.
@@ -29,6 +31,7 @@ pub(crate) fn saying_of(heard: Option<Result<Heard, LinkFault>>, from: Option<u8
         None => Saying::Waits,
         Some(Err(fault)) => Saying::Fault(fault),
         Some(Ok(Heard::Hello(hello))) => Saying::Hello(hello),
+        Some(Ok(Heard::Proved(hello))) => Saying::Proved(hello),
         Some(Ok(Heard::Frame(frame))) => match from {
             Some(from) => Saying::Frame { from, frame },
             None => Saying::Nothing,

@@ -2,8 +2,15 @@
 use Rattle.std.proofs.Common.{◌≡◌, ℕ, List, [], ◌∷◌, ◌++◌, Some, None, Ok, Err, refl}
 use Rattle.std.specs.Prelude.{codes}
 use Rattle.std.specs.Fmt.{digits}
+use Rattle.std.specs.Net.Addr.{ipv4_octets}
+use Rattle.std.specs.declared.net.ip_addr.IpAddr.TheVariants.{V4}
+use Rattle.std.specs.declared.net.ipv4_addr.Ipv4Addr.{Ipv4Addr}
+use Rattle.std.specs.Fs.{metadata_len, metadata_mode}
+use Rattle.std.specs.declared.fs.attrs.Metadata.{Metadata}
+use Rattle.hex.specs.Hex.{decode_pairs}
+use Rattle.hex.specs.declared.error.FromHexError.TheVariants.{InvalidHexCharacter, InvalidStringLength, OddLength}
 use Rattle.peer_codes.specs.declared.fault.RecordFault.TheVariants.{BadHello, BadLength}
-use Rattle.node_links.specs.declared.link_fault.LinkFault.TheVariants.{Record, WentBack as NotTheStore}
+use Rattle.node_links.specs.declared.link_fault.LinkFault.TheVariants.{Record, AlreadyHere, WentBack as NotTheStore}
 use Rattle.node_links.specs.declared.link_fault.Whose.TheVariants.{Own}
 use Rattle.promise_store.specs.declared.fault.StoreFault.TheVariants.{Disk}
 use Rattle.dealer_node.specs.declared.fault.NodeFault.TheVariants as fault
@@ -13,9 +20,11 @@ use Rattle.match_runs.specs.declared.unserved.Unserved.TheVariants as unserved
 use Rattle.node_service.specs.declared.told.Told.{Told}
 use Rattle.node_service.specs.declared.told.Told.TheVariants as told
 use Rattle.node_runs.specs.BesideStore.{node_kept_name, life_name}
+use Rattle.node_runs.specs.KeyFiles.{fault_of, keyed}
 use Rattle.node_runs.specs.NodeNotes.{note_text, note_line}
 use Rattle.node_runs.specs.NodeEnds.{status_of, end_text}
 use Rattle.node_runs.specs.ToldNotes.{told_lines}
+use Rattle.node_runs.specs.declared.key_file.KeyFault.TheVariants as key
 use Rattle.node_runs.specs.declared.node_end.NodeEnd.{NodeEnd}
 use Rattle.node_runs.specs.declared.node_end.NodeEnd.TheVariants as end
 use Rattle.node_runs.specs.declared.node_note.NodeNote.TheVariants as note
@@ -30,6 +39,47 @@ life_of_a_peer : life_name (codes "stores") 2 0 ≡ codes "stores/node2.peer0.ke
 unfolding digits
 life_of_a_peer = refl
 
+-- ---- the key
+
+abbrev sixty_digits : List ℕ
+sixty_digits = codes "000000000000000000000000000000000000000000000000000000000000"
+
+abbrev thirty_zeros : List ℕ
+thirty_zeros = 0 ∷ 0 ∷ 0 ∷ 0 ∷ 0 ∷ 0 ∷ 0 ∷ 0 ∷ 0 ∷ 0 ∷ 0 ∷ 0 ∷ 0 ∷ 0 ∷ 0 ∷ 0 ∷ 0 ∷ 0 ∷ 0 ∷ 0 ∷ 0 ∷ 0 ∷ 0 ∷ 0 ∷ 0 ∷ 0 ∷ 0 ∷ 0 ∷ 0 ∷ 0 ∷ []
+
+-- digits may be small or large, and one line feed may stand behind them
+a_key : keyed (sixty_digits ++ codes "0aF9\n") ≡ Ok (thirty_zeros ++ 10 ∷ 249 ∷ [])
+unfolding decode_pairs
+a_key = refl
+
+no_line_feed : keyed (sixty_digits ++ codes "0aF9") ≡ Ok (thirty_zeros ++ 10 ∷ 249 ∷ [])
+unfolding decode_pairs
+no_line_feed = refl
+
+-- two line feeds, a digit too few, and a letter that is none
+two_line_feeds : keyed (sixty_digits ++ codes "0aF9\n\n") ≡ Err OddLength
+two_line_feeds = refl
+
+a_digit_too_few : keyed (sixty_digits ++ codes "0a\n") ≡ Err InvalidStringLength
+a_digit_too_few = refl
+
+a_letter : keyed (sixty_digits ++ codes "0aG9\n") ≡ Err (InvalidHexCharacter 71 62)
+unfolding decode_pairs
+a_letter = refl
+
+-- its owner may read and write it: it can be one of a key; its group may read it: it is none; nor is a folder, or what is longer
+of_its_owner : (file : Metadata) → metadata_mode file ≡ 0o100600 → metadata_len file ≡ 65 → fault_of file ≡ None
+of_its_owner file mode length = rw (mode, length) refl
+
+of_its_group : (file : Metadata) → metadata_mode file ≡ 0o100640 → fault_of file ≡ Some key.NotSecret
+of_its_group file mode = rw mode refl
+
+a_folder : (file : Metadata) → metadata_mode file ≡ 0o040700 → fault_of file ≡ Some key.NotAFile
+a_folder file mode = rw mode refl
+
+a_longer_file : (file : Metadata) → metadata_mode file ≡ 0o100600 → metadata_len file ≡ 66 → fault_of file ≡ Some key.NotDigits
+a_longer_file file mode length = rw (mode, length) refl
+
 -- ---- notes
 
 it_begins : note_text (note.Begins (codes "m1") 2 7) ≡ codes "match m1 node 2 front 7"
@@ -40,9 +90,14 @@ one_joined : note_line (note.Joined 1) ≡ codes "peer 1: joined" ++ 10 ∷ []
 unfolding digits
 one_joined = refl
 
-one_went_back : note_text (note.Refused 1 (NotTheStore Own)) ≡ codes "peer 1: 127 WentBack"
+one_went_back : note_text (note.Refused 1 (NotTheStore Own) None) ≡ codes "peer 1: 127 WentBack"
 unfolding digits
 one_went_back = refl
+
+-- where it came from is told where it is known
+there_already : (address : Ipv4Addr) → ipv4_octets address ≡ 10 ∷ 0 ∷ 0 ∷ 7 ∷ [] → note_text (note.Refused 1 AlreadyHere (Some (V4 address))) ≡ codes "peer 1: 128 AlreadyHere (from 10.0.0.7)"
+unfolding digits
+there_already address octets = rw octets refl
 
 -- how many callers it were is told of more than one
 one_caller : note_text (note.Callers 1 (Record BadHello)) ≡ codes "caller: 122 BadHello"
@@ -80,6 +135,14 @@ names = codes "alice" ∷ codes "bob" ∷ []
 bob_is_seated : told_lines names 1 7010 (told.Seated 1) ≡ (codes "seat 1 (bob) at node 1: seated" ++ 10 ∷ []) ∷ []
 unfolding digits
 bob_is_seated = refl
+
+bob_is_played_for : told_lines names 1 7010 (told.Ordered 1) ≡ (codes "seat 1 (bob) at node 1: played for" ++ 10 ∷ []) ∷ []
+unfolding digits
+bob_is_played_for = refl
+
+somebody_else_came_for_alice : told_lines names 1 7010 (told.WrongToken 0) ≡ (codes "seat 0 (alice) at node 1: wrong token" ++ 10 ∷ []) ∷ []
+unfolding digits
+somebody_else_came_for_alice = refl
 
 bob_is_waited_for : told_lines names 1 7010 (told.Waits 1) ≡ (codes "waiting for seat 1 (bob) at node 1, port 7011" ++ 10 ∷ []) ∷ []
 unfolding digits

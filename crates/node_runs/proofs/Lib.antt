@@ -1,3 +1,4 @@
 mod Examples
 mod RunExamples
+pub mod Feeds
 pub mod Runs

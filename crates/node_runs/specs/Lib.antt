@@ -1,4 +1,5 @@
 pub mod BesideStore
+pub mod KeyFiles
 pub mod NodeNotes
 pub mod NodeEnds
 pub mod ToldNotes

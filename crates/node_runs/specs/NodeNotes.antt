@@ -1,7 +1,10 @@
 -- The notes of a node's process, and what standard error has of one.
-use Rattle.std.specs.Prelude.{ℕ, nat_lt, if◌then◌else◌, List, [], ◌∷◌, ◌++◌, codes, decimal}
+use Rattle.std.specs.Prelude.{ℕ, nat_lt, if◌then◌else◌, List, [], ◌∷◌, ◌++◌, Option, Some, None, codes, decimal}
+use Rattle.std.specs.Net.Text.{ip_text, socket_text}
+use Rattle.std.specs.declared.net.ip_addr.IpAddr.{IpAddr}
 use Rattle.node_links.specs.Lines.{link_fault_line}
 use Rattle.paxos_wire.specs.Lines.{ballot_line}
+use Rattle.node_runs.specs.KeyFiles.{fault_line}
 use Rattle.node_runs.specs.declared.node_note.NodeNote.{NodeNote}
 use Rattle.node_runs.specs.declared.node_note.NodeNote.TheVariants as note
 
@@ -13,14 +16,22 @@ peer_text peer what = codes "peer " ++ decimal peer ++ codes ": " ++ what
 abbrev pub times_text : ℕ → List ℕ
 times_text count = if nat_lt 1 count then codes " (" ++ decimal count ++ codes " times)" else []
 
+-- where a connection came from or went to, where that is known
+abbrev pub source_text : Option IpAddr → List ℕ
+source_text None = []
+source_text (Some address) = codes " (from " ++ ip_text address ++ codes ")"
+
 -- what a note says
 abbrev pub note_text : NodeNote → List ℕ
 note_text (note.Begins name node front) = codes "match " ++ name ++ codes " node " ++ decimal node ++ codes " front " ++ decimal front
 note_text (note.PassedOver key) = codes "key " ++ key.now ++ codes " isn't used by node"
 note_text (note.NotCopied path) = path.now ++ codes ": not found: copy it from the machine of node 0"
+note_text note.NoKey = codes "no key: peers and seats are trusted by their addresses"
+note_text (note.BadKey path fault) = path.now ++ fault_line fault
+note_text (note.Status address) = codes "status at " ++ socket_text address
 note_text (note.Joined peer) = peer_text peer (codes "joined")
 note_text (note.Gone peer) = peer_text peer (codes "gone")
-note_text (note.Refused peer fault) = peer_text peer (link_fault_line fault)
+note_text (note.Refused peer fault source) = peer_text peer (link_fault_line fault) ++ source_text source
 note_text (note.Callers count fault) = codes "caller: " ++ link_fault_line fault ++ times_text count
 note_text note.Quorum = codes "quorum"
 note_text note.QuorumLost = codes "quorum lost"

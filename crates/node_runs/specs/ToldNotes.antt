@@ -15,11 +15,13 @@ awaited_lines names node port seat = elim (slice_get names seat) [ Some name ↦
 abbrev pub told_lines : List (List ℕ) → ℕ → ℕ → Told → List (List ℕ)
 told_lines names node first (told.Joined peer life) = note_line (note.Joined peer) ∷ []
 told_lines names node first (told.Gone peer) = note_line (note.Gone peer) ∷ []
-told_lines names node first (told.Refused peer fault) = note_line (note.Refused peer fault) ∷ []
+told_lines names node first (told.Refused peer fault source) = note_line (note.Refused peer fault source) ∷ []
 told_lines names node first (told.Callers count fault) = note_line (note.Callers count fault) ∷ []
 told_lines names node first (told.Seated seat) = seat_lines names seat (about_text (about.Seated node))
 told_lines names node first (told.Left seat) = seat_lines names seat (about_text (about.Gone node))
 told_lines names node first (told.Faulty seat fault) = seat_lines names seat (about_text (about.Faulty node fault))
+told_lines names node first (told.WrongToken seat) = seat_lines names seat (about_text (about.WrongToken node))
+told_lines names node first (told.Ordered seat) = seat_lines names seat (about_text (about.Ordered node))
 told_lines names node first (told.Waits seat) = awaited_lines names node (first + seat) seat
 told_lines names node first told.Quorum = note_line note.Quorum ∷ []
 told_lines names node first told.QuorumLost = note_line note.QuorumLost ∷ []

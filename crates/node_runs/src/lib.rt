@@ -3,11 +3,12 @@
 //! `node_run` starts the node of a `node_service::NodeServer` and takes its turns until one says that the match is over or
 //! that the process is to end. What happened in each turn it tells a writer of notes, one line each: it makes a `NodeNote`
 //! of it, and `tell_node_note` writes one. The life of a peer's store that is seen first it has kept by a `LifeKeeper`.
-//! `NodeEnd` is how `node` ends otherwise than well: its exit status, and the last line that standard error gets. Nothing
-//! here opens a file or a socket.
+//! `NodeEnd` is how `node` ends otherwise than well: its exit status, and the last line that standard error gets. `read_key`
+//! and `key_text` are what the file of a match's key has, `KeyFault` why a file is none. Nothing here opens a file or a socket.
 #![tactic(auto)]
 
 mod beside_store;
+mod key_file;
 mod life_keeper;
 mod node_end;
 mod node_note;
@@ -15,6 +16,7 @@ mod running;
 mod told_notes;
 
 pub use beside_store::{life_path, node_kept_path};
+pub use key_file::{KeyFault, MOST_BYTES, key_text, read_key};
 pub use life_keeper::LifeKeeper;
 pub use node_end::NodeEnd;
 pub use node_note::{NodeNote, tell_node_note};

@@ -4,32 +4,53 @@ ghost use Rattle.std.specs.Prelude.{◌≡◌, ◌++◌, codes, decimal, OnOk};
 ghost use Rattle.node_links.specs.Lines.{link_fault_line};
 ghost use Rattle.paxos_wire.specs.Lines.{ballot_line};
 ghost use Rattle.match_runs.specs.Notes.{IsNoted};
-ghost use Rattle.node_runs.specs.NodeNotes.{note_line, note_text, peer_text, times_text};
+ghost use Rattle.std.specs.Net.Text.{socket_text};
+ghost use Rattle.node_runs.specs.KeyFiles.{fault_line};
+ghost use Rattle.node_runs.specs.NodeNotes.{note_line, note_text, peer_text, source_text, times_text};
 
+use crate::key_file::KeyFault;
 use match_log::Name;
 use node_links::LinkFault;
 use paxos_wire::Ballot;
 use std::alloc::{AllocError, Global};
 use std::io::Write;
+use std::net::{IpAddr, SocketAddr};
 use streamed::send;
 
 /// A note. Nodes are counted from 0.
 #[derive(Clone, Copy, Debug)]
 pub enum NodeNote<'a> {
     /// The node begins: of which match, which of its nodes it is, and the slot from which on it doesn't know what is chosen.
-    Begins { name: Name, node: u8, front: u32 },
+    Begins {
+        name: Name,
+        node: u8,
+        front: u32,
+    },
     /// A key of the match file that `serve` reads and `node` doesn't.
     PassedOver(&'a str),
     /// The file that the machine of node 0 has, and this one hasn't.
     NotCopied(&'a str),
+    /// No key is named: whoever has a trusted address speaks for a node or a seat.
+    NoKey,
+    /// The file of the key can't be one.
+    BadKey(&'a str, KeyFault),
+    /// Who connects there gets a line that says how the node is.
+    Status(SocketAddr),
     /// A connection to a peer is open.
     Joined(u8),
     /// It ended.
     Gone(u8),
-    /// A connection to a peer was closed by a fault.
-    Refused { peer: u8, fault: LinkFault },
+    /// A connection to a peer was closed by a fault, and where it came from or went to, if that is known.
+    Refused {
+        peer: u8,
+        fault: LinkFault,
+        source: Option<IpAddr>,
+    },
     /// So many connections of callers were closed by a fault, before it was known who calls.
-    Callers { count: u32, fault: LinkFault },
+    Callers {
+        count: u32,
+        fault: LinkFault,
+    },
     /// More than half of the nodes are here, this one among them.
     Quorum,
     /// No more so.
@@ -74,9 +95,18 @@ fn put_note(out: &mut Vec<u8>, note: &NodeNote<'_>) -> Result<(), AllocError>
         NodeNote::NotCopied(path) => {
             put_both(out, path, ": not found: copy it from the machine of node 0")
         }
+        NodeNote::NoKey => {
+            out.extend_from_slice(b"no key: peers and seats are trusted by their addresses")
+        }
+        NodeNote::BadKey(path, fault) => put_key_fault(out, path, fault),
+        NodeNote::Status(address) => put_status(out, address),
         NodeNote::Joined(peer) => put_peer(out, *peer, "joined"),
         NodeNote::Gone(peer) => put_peer(out, *peer, "gone"),
-        NodeNote::Refused { peer, fault } => put_refused(out, *peer, fault),
+        NodeNote::Refused {
+            peer,
+            fault,
+            source,
+        } => put_refused(out, *peer, fault, source),
         NodeNote::Callers { count, fault } => put_callers(out, *count, fault),
         NodeNote::Quorum => out.extend_from_slice(b"quorum"),
         NodeNote::QuorumLost => out.extend_from_slice(b"quorum lost"),
@@ -118,11 +148,44 @@ fn put_peer(out: &mut Vec<u8>, peer: u8, what: &str) -> Result<(), AllocError>
     out.extend_from_slice(text.as_bytes())
 }
 
-/// Appends by which fault the connection to a peer was closed.
-fn put_refused(out: &mut Vec<u8>, peer: u8, fault: &LinkFault) -> Result<(), AllocError>
-    ensures { OnOk result (out.new.items ≡ out.old.items ++ peer_text peer (link_fault_line fault.now)) }
+/// Appends by which fault the connection to a peer was closed, and the address at its other end.
+fn put_refused(
+    out: &mut Vec<u8>,
+    peer: u8,
+    fault: &LinkFault,
+    source: &Option<IpAddr>,
+) -> Result<(), AllocError>
+    ensures { OnOk result (out.new.items ≡ out.old.items ++ (peer_text peer (link_fault_line fault.now) ++ source_text source.now)) }
 {
     let text = format!(in *out.allocator(); "peer {peer}: {fault}")?;
+    out.extend_from_slice(text.as_bytes())?;
+    put_source(out, source)
+}
+
+/// Appends where a connection came from, where that is known.
+fn put_source(out: &mut Vec<u8>, source: &Option<IpAddr>) -> Result<(), AllocError>
+    ensures { OnOk result (out.new.items ≡ out.old.items ++ source_text source.now) }
+{
+    if let Some(address) = source {
+        let text = format!(in *out.allocator(); " (from {address})")?;
+        out.extend_from_slice(text.as_bytes())?;
+    }
+    Ok(())
+}
+
+/// Appends why the file of the key can't be one.
+fn put_key_fault(out: &mut Vec<u8>, path: &str, fault: &KeyFault) -> Result<(), AllocError>
+    ensures { OnOk result (out.new.items ≡ out.old.items ++ (path.now ++ fault_line fault.now)) }
+{
+    let text = format!(in *out.allocator(); "{path}{fault}")?;
+    out.extend_from_slice(text.as_bytes())
+}
+
+/// Appends where the status is served.
+fn put_status(out: &mut Vec<u8>, address: &SocketAddr) -> Result<(), AllocError>
+    ensures { OnOk result (out.new.items ≡ out.old.items ++ (codes "status at " ++ socket_text address.now)) }
+{
+    let text = format!(in *out.allocator(); "status at {address}")?;
     out.extend_from_slice(text.as_bytes())
 }
 

@@ -25,9 +25,17 @@ pub(crate) fn tell_told<W: Write>(
     match told {
         Told::Joined { peer, life: _ } => tell_node_note(alloc, notes, &NodeNote::Joined(*peer)),
         Told::Gone { peer } => tell_node_note(alloc, notes, &NodeNote::Gone(*peer)),
-        Told::Refused { peer, fault } => {
-            let (peer, fault) = (*peer, *fault);
-            tell_node_note(alloc, notes, &NodeNote::Refused { peer, fault });
+        Told::Refused {
+            peer,
+            fault,
+            source,
+        } => {
+            let note = NodeNote::Refused {
+                peer: *peer,
+                fault: *fault,
+                source: *source,
+            };
+            tell_node_note(alloc, notes, &note);
         }
         Told::Callers { count, fault } => {
             let (count, fault) = (*count, *fault);
@@ -39,6 +47,10 @@ pub(crate) fn tell_told<W: Write>(
             let fault = *fault;
             tell_seat(alloc, config, *seat, About::Faulty { node, fault }, notes);
         }
+        Told::WrongToken { seat } => {
+            tell_seat(alloc, config, *seat, About::WrongToken(node), notes);
+        }
+        Told::Ordered { seat } => tell_seat(alloc, config, *seat, About::Ordered(node), notes),
         Told::Waits { seat } => tell_waiting(alloc, config, node, port, *seat, notes),
         Told::Quorum => tell_node_note(alloc, notes, &NodeNote::Quorum),
         Told::QuorumLost => tell_node_note(alloc, notes, &NodeNote::QuorumLost),

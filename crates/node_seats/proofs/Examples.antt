@@ -1,6 +1,72 @@
--- A line as it goes to a bot.
-use Rattle.std.proofs.Common.{◌≡◌, [], ◌∷◌, refl}
+-- Lines as they go to a bot, lines that show tokens, and who is let in, on values.
+use Rattle.std.proofs.Common.{◌≡◌, inl, inr, ℕ, ◌+◌, ◌<◌, true, false, List, [], ◌∷◌, ◌++◌, length, replicate, refl, ap, sym, ◌∙◌, arith}
+use Rattle.std.specs.Prelude.{codes, Some, None}
+use Rattle.std.proofs.lemmas.List.{length-append}
+use Rattle.sha2.specs.Sha256.{sha256}
+use Rattle.node_wires.specs.declared.line.Line.TheVariants.{Guest, Seat}
+use Rattle.node_wires.specs.Passages.{Passage, Began, Came, Gave}
+use Rattle.node_seats.specs.declared.token_digest.TokenDigest.{TokenDigest}
+use Rattle.node_seats.specs.declared.seat_notice.SeatNotice.TheVariants as notices
 use Rattle.node_seats.specs.Lines.{line_of}
+use Rattle.node_seats.specs.Tokens.{is_token_digit, IsTokenLine}
+use Rattle.node_seats.specs.Guesting.{ShowsToken, IsSeated, IsGuested, Passes}
+use Rattle.node_seats.proofs.Tokens.{token_length}
 
 end_of_a_line : line_of (65 ∷ []) ≡ 65 ∷ 13 ∷ 10 ∷ []
 end_of_a_line = refl
+
+-- ---- tokens
+
+last_digit : is_token_digit 102 ≡ true
+last_digit = refl
+
+no_digit : is_token_digit 103 ≡ false
+no_digit = refl
+
+-- a capital letter
+no_small_letter : is_token_digit 65 ≡ false
+no_small_letter = refl
+
+-- 64 times the digit 7
+abbrev pub sevens : List ℕ
+sevens = replicate 64 55
+
+abbrev pub shown : List ℕ
+shown = codes "#TOKEN " ++ (sevens ++ 10 ∷ [])
+
+pub shows_sevens : IsTokenLine (sha256 sevens) shown
+shows_sevens = record { digits = sevens; count = refl; are = refl; right = refl; end = 10 ∷ []; ends = inl refl; text = refl }
+
+-- without its end
+pub unended : IsTokenLine (sha256 sevens) (codes "#TOKEN " ++ sevens) → ⊥
+unended token = omega (arith, (token_length (sha256 sevens) (codes "#TOKEN " ++ sevens) token).0)
+
+-- a byte stands behind its end
+pub behind_it : IsTokenLine (sha256 sevens) (codes "#TOKEN " ++ (sevens ++ 13 ∷ 10 ∷ 86 ∷ [])) → ⊥
+behind_it token = omega (arith, (token_length (sha256 sevens) (codes "#TOKEN " ++ (sevens ++ 13 ∷ 10 ∷ 86 ∷ [])) token).1)
+
+-- ---- who is let in
+
+abbrev pub tokens : List TokenDigest
+tokens = record { bytes = [] } ∷ record { bytes = sha256 sevens } ∷ []
+
+-- a guest says the line in two pieces
+abbrev pub said : List Passage
+said = Began (Guest 3) ∷ Came (Guest 3) (codes "#TOKEN ") ∷ Came (Guest 3) (sevens ++ 10 ∷ []) ∷ []
+
+-- and is given seat 1
+pub let_in : Passes (Some tokens) (Some (notices.Came 1)) [] (said ++ Gave 3 1 ∷ []) [] (said ++ Gave 3 1 ∷ [])
+let_in = record {
+  more = said ++ Gave 3 1 ∷ [];
+  guested = record { place = 3; front = said; of_guests = (tt, (tt, (tt, tt))); given = refl; shows = record { has_one = omega arith; shown = shows_sevens } };
+  put_down = refl;
+  wired = refl;
+}
+
+-- seat 2 has no token, so it takes nobody
+pub none_for_seat_2 : (came : List ℕ) → ShowsToken tokens 2 came → ⊥
+none_for_seat_2 came shows = omega (arith, shows.has_one)
+
+-- a bot that is taken in without tokens isn't let in with them
+pub not_taken_in : (old : List Passage) → IsGuested (Some tokens) (Some (notices.Came 1)) old [] → ⊥
+not_taken_in old seated = omega (arith, ap length seated.given ∙ length-append seated.front (Gave seated.place 1 ∷ []))

@@ -1,4 +1,8 @@
 pub mod Lists
+pub mod Tokens
+pub mod Passing
 pub mod Writing
+pub mod Guesting
 pub mod Seating
+pub mod Coming
 mod Examples

@@ -1,11 +1,21 @@
--- What waits for a seat where one of the seats is another.
-use Rattle.std.proofs.Common.{◌≡◌, ◌≢◌, ℕ, ◌<◌, List, set, length, ap}
+-- What waits for a seat, and who sits there, where one of the seats is another.
+use Rattle.std.proofs.Common.{◌≡◌, ◌≢◌, ◌⊎◌, inl, inr, ℕ, ◌<◌, true, false, eqb, List, set, length, ap, sym, ◌∙◌}
+use Rattle.std.proofs.lemmas.Bool.Decides.{eqb_tells}
 use Rattle.std.proofs.lemmas.List.{get_or-set_same, get_or-set_other}
 use Rattle.node_seats.specs.declared.seat.Seat.{Seat}
-use Rattle.node_seats.specs.Seating.{nobody, waits_at}
+use Rattle.node_seats.specs.Seating.{nobody, waits_at, sits_at}
 
 pub waits_here : (seats : List Seat) (number : ℕ) (seat : Seat) → number < length seats → waits_at (set seats number seat) number ≡ seat.waiting.waiting
 waits_here seats number seat within = ap (λ (s : Seat). s.waiting.waiting) (get_or-set_same seats number seat nobody within)
 
 pub waits_elsewhere : (seats : List Seat) (number other : ℕ) (seat : Seat) → other ≢ number → waits_at (set seats number seat) other ≡ waits_at seats other
 waits_elsewhere seats number other seat differs = ap (λ (s : Seat). s.waiting.waiting) (get_or-set_other seats number other seat nobody differs)
+
+sits_by : (seats : List Seat) (number q : ℕ) (seat : Seat) → number < length seats → seat.sits ≡ sits_at seats number → ((eqb q number ≡ true) × (q ≡ number)) ⊎ ((eqb q number ≡ false) × (q ≢ number))
+    → sits_at (set seats number seat) q ≡ sits_at seats q
+sits_by seats number q seat within same (inl here) =
+    ap (λ (n : ℕ). sits_at (set seats number seat) n) here.1 ∙ (ap (λ (s : Seat). s.sits) (get_or-set_same seats number seat nobody within) ∙ (same ∙ ap (λ (n : ℕ). sits_at seats n) (sym here.1)))
+sits_by seats number q seat within same (inr elsewhere) = ap (λ (s : Seat). s.sits) (get_or-set_other seats number q seat nobody elsewhere.1)
+
+pub sits_alike : (seats : List Seat) (number : ℕ) (seat : Seat) → number < length seats → seat.sits ≡ sits_at seats number → (q : ℕ) → sits_at (set seats number seat) q ≡ sits_at seats q
+sits_alike seats number seat within same q = sits_by seats number q seat within same (eqb_tells q number)

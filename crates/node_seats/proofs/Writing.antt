@@ -3,28 +3,22 @@ use Rattle.std.proofs.Common.{◌≡◌, ℕ, ◌==◌, Bool, true, false, cond,
 use Rattle.std.proofs.lemmas.Bool.{eq-eqb, ne_eqb}
 use Rattle.std.proofs.lemmas.List.{take-append-drop}
 use Rattle.node_wires.specs.declared.line.Line.{Line}
-use Rattle.node_wires.specs.declared.line.Line.TheVariants.{Peer, Caller, Seat}
-use Rattle.node_wires.specs.Passages.{Passage, Began, Came, Wrote, Logged, seats_in, wrote_by, wrote_behind, wrote_over, logged_in}
+use Rattle.node_wires.specs.declared.line.Line.TheVariants.{Seat}
+use Rattle.node_wires.specs.Passages.{Passage, Began, Came, Wrote, Gave, Logged, of_seat, seats_in, wrote_by, wrote_behind, wrote_over, logged_in}
 use Rattle.node_seats.specs.Writing.{Writes}
 
 -- ---- behind what passed, one passage more
 
 seats_and_write : (xs : List Passage) (line : Line) (bytes : List ℕ) → seats_in (xs ++ Wrote line bytes ∷ []) ≡ seats_in xs
 seats_and_write [] line bytes = refl
-seats_and_write (Began (Seat n) ∷ xs) line bytes = ap (λ (ps : List Passage). Began (Seat n) ∷ ps) (seats_and_write xs line bytes)
-seats_and_write (Came (Seat n) got ∷ xs) line bytes = ap (λ (ps : List Passage). Came (Seat n) got ∷ ps) (seats_and_write xs line bytes)
-seats_and_write (Began (Peer n) ∷ xs) line bytes = seats_and_write xs line bytes
-seats_and_write (Began (Caller n) ∷ xs) line bytes = seats_and_write xs line bytes
-seats_and_write (Came (Peer n) got ∷ xs) line bytes = seats_and_write xs line bytes
-seats_and_write (Came (Caller n) got ∷ xs) line bytes = seats_and_write xs line bytes
-seats_and_write (Wrote at sent ∷ xs) line bytes = seats_and_write xs line bytes
-seats_and_write (Logged text ∷ xs) line bytes = seats_and_write xs line bytes
+seats_and_write (p ∷ xs) line bytes = ap (λ (ps : List Passage). of_seat p ++ ps) (seats_and_write xs line bytes)
 
 log_and_write : (xs : List Passage) (line : Line) (bytes : List ℕ) → logged_in (xs ++ Wrote line bytes ∷ []) ≡ logged_in xs
 log_and_write [] line bytes = refl
 log_and_write (Began at ∷ xs) line bytes = log_and_write xs line bytes
 log_and_write (Came at got ∷ xs) line bytes = log_and_write xs line bytes
 log_and_write (Wrote at sent ∷ xs) line bytes = log_and_write xs line bytes
+log_and_write (Gave place seat ∷ xs) line bytes = log_and_write xs line bytes
 log_and_write (Logged text ∷ xs) line bytes = ap (λ (ls : List ℕ). text ++ ls) (log_and_write xs line bytes)
 
 write_behind : (line : Line) (before : List ℕ) (xs : List Passage) (p : Passage) → wrote_behind line before (xs ++ p ∷ []) ≡ wrote_by line (wrote_behind line before xs) p

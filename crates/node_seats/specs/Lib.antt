@@ -1,4 +1,7 @@
 pub mod Lines
+pub mod Tokens
 pub mod Passing
 pub mod Writing
+pub mod Guesting
 pub mod Seating
+pub mod Coming

@@ -1,21 +1,24 @@
 -- What passed over the wires where something came of a seat.
 use Rattle.std.specs.Prelude.{◌≡◌, ℕ, List, [], ◌∷◌, ◌++◌, Option, Some, None}
-use Rattle.node_wires.specs.declared.line.Line.TheVariants.{Seat}
-use Rattle.node_wires.specs.Passages.{Passage, Began, Came as PieceCame}
+use Rattle.node_wires.specs.declared.line.Line.{Line}
+use Rattle.node_wires.specs.declared.line.Line.TheVariants.{Peer, Caller, Seat, Guest, Asker}
+use Rattle.node_wires.specs.Passages.{Passage, Began, Came as PieceCame, Wrote, Gave, Logged}
 use Rattle.node_seats.specs.declared.seat_notice.SeatNotice.{SeatNotice}
 use Rattle.node_seats.specs.declared.seat_notice.SeatNotice.TheVariants as notices
 
--- a bot that was taken in is a connection that began, a piece is one that came, and by an end nothing passed
+-- a bot that was taken in is a connection that began, a piece is one that came, and by an end or a refusal nothing passed
 abbrev pub passages_of : SeatNotice → List Passage
 passages_of (notices.Came seat) = Began (Seat seat) ∷ []
 passages_of (notices.Piece seat bytes) = PieceCame (Seat seat) bytes.items ∷ []
 passages_of (notices.Gone seat) = []
+passages_of (notices.Refused seat) = []
 
 -- the seat of which it came
 abbrev pub seat_of : SeatNotice → ℕ
 seat_of (notices.Came seat) = seat
 seat_of (notices.Piece seat bytes) = seat
 seat_of (notices.Gone seat) = seat
+seat_of (notices.Refused seat) = seat
 
 abbrev pub passed_by : Option SeatNotice → List Passage
 passed_by None = []
@@ -29,5 +32,42 @@ Passed notice old new = new ≡ old ++ passed_by notice
 abbrev pub Leaves : Option SeatNotice → List ℕ → List ℕ → Type 0
 Leaves None old new = new ≡ old
 Leaves (Some (notices.Piece seat bytes)) old new = new ≡ old
+Leaves (Some (notices.Refused seat)) old new = new ≡ old
 Leaves (Some (notices.Came seat)) old new = new ≡ []
 Leaves (Some (notices.Gone seat)) old new = new ≡ []
+
+-- nobody was taken in, nor refused
+abbrev pub TakesNobody : Option SeatNotice → Type 0
+TakesNobody None = Unit {0}
+TakesNobody (Some (notices.Piece seat bytes)) = Unit {0}
+TakesNobody (Some (notices.Gone seat)) = Unit {0}
+TakesNobody (Some (notices.Refused seat)) = ⊥
+TakesNobody (Some (notices.Came seat)) = ⊥
+
+-- ---- guests
+
+abbrev pub IsGuests : Line → Type 0
+IsGuests (Guest place) = Unit {0}
+IsGuests (Peer number) = ⊥
+IsGuests (Caller place) = ⊥
+IsGuests (Seat number) = ⊥
+IsGuests (Asker place) = ⊥
+
+-- a guest was taken in, or a piece of one came
+abbrev pub IsOfGuests : Passage → Type 0
+IsOfGuests (Began line) = IsGuests line
+IsOfGuests (PieceCame line bytes) = IsGuests line
+IsOfGuests (Wrote line bytes) = ⊥
+IsOfGuests (Gave place seat) = ⊥
+IsOfGuests (Logged text) = ⊥
+
+abbrev pub AreOfGuests : List Passage → Type 0
+AreOfGuests [] = Unit {0}
+AreOfGuests (p ∷ more) = IsOfGuests p × AreOfGuests more
+
+-- over guests' lines this passed more, and it was put down
+pub record Grows (old new wired_old wired_new : List Passage) : Type 0 where
+  pub more : List Passage
+  pub of_guests : AreOfGuests more
+  pub put_down : new ≡ old ++ more
+  pub wired : wired_new ≡ wired_old ++ more

@@ -1,5 +1,5 @@
 -- What waits for the bots of seats, call by call.
-use Rattle.std.specs.Prelude.{◌≡◌, ◌≢◌, ℕ, ◌&&◌, Bool, false, if◌then◌else◌, List, [], ◌++◌, get_or, Option, Some, None}
+use Rattle.std.specs.Prelude.{◌≡◌, ◌≢◌, ℕ, ◌&&◌, Bool, true, false, if◌then◌else◌, List, [], ◌++◌, get_or, Option, Some, None}
 use Rattle.node_wires.specs.declared.line.Line.TheVariants.{Seat as SeatOf}
 use Rattle.node_wires.specs.Passages.{Passage, wrote_over}
 use Rattle.node_seats.specs.declared.seat.Seat.{Seat}
@@ -25,8 +25,25 @@ Clears number old new = (waits_at new number ≡ []) × ((seat : ℕ) → seat �
 abbrev pub Follows : Option SeatNotice → List Seat → List Seat → Type 0
 Follows None old new = (seat : ℕ) → waits_at new seat ≡ waits_at old seat
 Follows (Some (notices.Piece number bytes)) old new = (seat : ℕ) → waits_at new seat ≡ waits_at old seat
+Follows (Some (notices.Refused number)) old new = (seat : ℕ) → waits_at new seat ≡ waits_at old seat
 Follows (Some (notices.Came number)) old new = Clears number old new
 Follows (Some (notices.Gone number)) old new = Clears number old new
+
+-- nobody sat at a seat where a bot was taken in, and nobody sits where one is gone; at other seats who sat there
+abbrev pub Changes : Option SeatNotice → List Seat → List Seat → Type 0
+Changes None old new = (seat : ℕ) → sits_at new seat ≡ sits_at old seat
+Changes (Some (notices.Piece number bytes)) old new = (seat : ℕ) → sits_at new seat ≡ sits_at old seat
+Changes (Some (notices.Refused number)) old new = (seat : ℕ) → sits_at new seat ≡ sits_at old seat
+Changes (Some (notices.Came number)) old new = (sits_at old number ≡ false) × (sits_at new number ≡ true) × ((seat : ℕ) → seat ≢ number → sits_at new seat ≡ sits_at old seat)
+Changes (Some (notices.Gone number)) old new = (sits_at new number ≡ false) × ((seat : ℕ) → seat ≢ number → sits_at new seat ≡ sits_at old seat)
+
+-- the same of one seat
+abbrev pub Sits : Option SeatNotice → Bool → Bool → Type 0
+Sits None old new = new ≡ old
+Sits (Some (notices.Piece number bytes)) old new = new ≡ old
+Sits (Some (notices.Refused number)) old new = new ≡ old
+Sits (Some (notices.Came number)) old new = (old ≡ false) × (new ≡ true)
+Sits (Some (notices.Gone number)) old new = new ≡ false
 
 -- the line waits behind the others, where somebody sits there and it could be kept; for other seats what waited
 pub record Tells (number : ℕ) (line : List ℕ) (kept : Bool) (old new : List Seat) : Type 0 where
@@ -37,6 +54,7 @@ pub record Tells (number : ℕ) (line : List ℕ) (kept : Bool) (old new : List 
 abbrev pub IsOf : Option SeatNotice → ℕ → Type 0
 IsOf None seat = ⊥
 IsOf (Some (notices.Piece number bytes)) seat = ⊥
+IsOf (Some (notices.Refused number)) seat = ⊥
 IsOf (Some (notices.Came number)) seat = seat ≡ number
 IsOf (Some (notices.Gone number)) seat = seat ≡ number
 

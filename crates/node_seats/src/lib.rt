@@ -3,12 +3,20 @@
 //! `Seats::next` takes one thing that came of a seat: a bot that was taken in, a piece that it sent, or its end. `tell` puts
 //! a line behind those that wait for it, `flush` writes what waits. A seat has one bot at a time: who comes meanwhile waits
 //! in the system's queue.
+//!
+//! Where seats have tokens, who comes to a seat's port is a guest first: his first line is to be `#TOKEN ` and the 64
+//! hexadecimal digits whose SHA-256 is the seat's `TokenDigest`. Then he is the seat's bot, in place of the one that sits
+//! there; else he is refused. Of a guest nothing is told but that, and nothing behind his line is read before he sits.
 #![tactic(auto)]
 
+mod guest;
+mod guests;
 pub mod limits;
 mod seat;
 mod seat_notice;
 mod seats;
+mod token_digest;
 
 pub use seat_notice::SeatNotice;
 pub use seats::Seats;
+pub use token_digest::TokenDigest;

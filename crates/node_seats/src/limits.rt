@@ -1,7 +1,16 @@
-//! The counts of a process's seats.
+//! The counts of a process's seats. Times are in microseconds.
 
 /// The most bytes of a piece that is taken of a bot at once.
 pub const PIECE: usize = 4096;
 
 /// A bot for whom so many bytes wait and more is to be said is let go: it doesn't read.
 pub const BACKLOG: usize = 1 << 20;
+
+/// The bytes of a line that shows a token, where CR LF ends it. Of a longer one no more is read.
+pub const TOKEN_LINE: usize = 73;
+
+/// A guest is refused who hasn't said his line within this time.
+pub const TOKEN_TIME: u64 = 2_000_000;
+
+/// The connection of a guest is closed so long after he was refused.
+pub const REFUSED_TIME: u64 = 200_000;

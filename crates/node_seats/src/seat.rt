@@ -1,11 +1,16 @@
 //! One seat.
 
-ghost use Rattle.std.specs.Prelude.{◌≡◌, ◌++◌, [], false, IfSome, length, OnOk, OnErr};
+ghost use Rattle.std.specs.Prelude.{◌≡◌, ◌++◌, [], true, false, IfSome, Some, length, OnOk, OnErr};
 ghost use Rattle.node_seats.specs.declared.seat_notice.SeatNotice.TheVariants as notices;
 ghost use Rattle.node_seats.specs.Lines.{line_of};
-ghost use Rattle.node_seats.specs.Passing.{Passed, seat_of, Leaves};
+ghost use Rattle.node_wires.specs.declared.line.Line.TheVariants.{Guest as GuestAt};
+ghost use Rattle.node_wires.specs.Passages.{came_over};
+ghost use Rattle.node_seats.specs.Passing.{Passed, TakesNobody, seat_of, Leaves};
+ghost use Rattle.node_seats.specs.Guesting.{ShowsToken, Passes};
+ghost use Rattle.node_seats.specs.Seating.{Sits};
 ghost use Rattle.node_seats.specs.Writing.{Writes};
 
+use crate::guests::Guests;
 use crate::limits::PIECE;
 use crate::seat_notice::SeatNotice;
 use byte_queue::ByteQueue;
@@ -40,6 +45,7 @@ impl Seat {
     pub(crate) fn tell(&mut self, line: &[u8]) -> Result<(), AllocError>
         ensures told { OnOk result (self.new.waiting.waiting ≡ self.old.waiting.waiting ++ line_of line.now) }
         ensures failed { OnErr result (self.new.waiting.waiting ≡ self.old.waiting.waiting) }
+        ensures sits { self.new.sits ≡ self.old.sits }
     {
         self.waiting.reserve(line.len().saturating_add(2))?;
         self.waiting.push(line)?;
@@ -57,9 +63,11 @@ impl Seat {
     /// Takes in a bot, where nobody sits there and one came.
     #[tactic(auto, using(crate::proofs::Lists::nothing_more, crate::proofs::Lists::nothing_passed))]
     fn take_in<W: Wire>(&mut self, wire: &mut W, number: u8) -> Option<SeatNotice>
+        requires { self.old.sits ≡ false }
         ensures passed { Passed result (W.passed wire.old) (W.passed wire.new) }
         ensures seat { IfSome result (λ notice. seat_of notice ≡ number) }
         ensures waiting { Leaves result self.old.waiting.waiting self.new.waiting.waiting }
+        ensures sits { Sits result self.old.sits self.new.sits }
     {
         if !wire.accept_seat(number) {
             return None;
@@ -74,6 +82,7 @@ impl Seat {
     pub(crate) fn leave<W: Wire>(&mut self, wire: &mut W, number: u8) -> SeatNotice
         ensures passed { W.passed wire.new ≡ W.passed wire.old }
         ensures gone { result ≡ notices.Gone number }
+        ensures sits { self.new.sits ≡ false }
         ensures waiting { self.new.waiting.waiting ≡ [] }
     {
         self.sits = false;
@@ -85,9 +94,11 @@ impl Seat {
     /// Takes the next piece of who sits there. Without memory for it nothing is read.
     #[tactic(auto, using(crate::proofs::Lists::nothing_more, crate::proofs::Lists::nothing_passed))]
     fn take_piece<W: Wire>(&mut self, alloc: Global, wire: &mut W, number: u8) -> Option<SeatNotice>
+        ensures nobody { TakesNobody result }
         ensures passed { Passed result (W.passed wire.old) (W.passed wire.new) }
         ensures seat { IfSome result (λ notice. seat_of notice ≡ number) }
         ensures waiting { Leaves result self.old.waiting.waiting self.new.waiting.waiting }
+        ensures sits { Sits result self.old.sits self.new.sits }
     {
         let Ok(mut bytes) = Vec::from_slice(alloc, &[0; PIECE]) else {
             return None;
@@ -105,6 +116,26 @@ impl Seat {
         }
     }
 
+    /// The next piece of who sits there, if anybody does, or his end.
+    pub(crate) fn next_piece<W: Wire>(
+        &mut self,
+        alloc: Global,
+        wire: &mut W,
+        number: u8,
+    ) -> Option<SeatNotice>
+        ensures passed { Passed result (W.passed wire.old) (W.passed wire.new) }
+        ensures nobody { TakesNobody result }
+        ensures seat { IfSome result (λ notice. seat_of notice ≡ number) }
+        ensures waiting { Leaves result self.old.waiting.waiting self.new.waiting.waiting }
+        ensures sits { Sits result self.old.sits self.new.sits }
+    {
+        if self.sits {
+            self.take_piece(alloc, wire, number)
+        } else {
+            None
+        }
+    }
+
     /// What came of the seat next, if anything did.
     #[tactic(auto, using(crate::proofs::Lists::nothing_more, crate::proofs::Lists::nothing_passed))]
     pub(crate) fn next<W: Wire>(
@@ -116,12 +147,42 @@ impl Seat {
         ensures passed { Passed result (W.passed wire.old) (W.passed wire.new) }
         ensures seat { IfSome result (λ notice. seat_of notice ≡ number) }
         ensures waiting { Leaves result self.old.waiting.waiting self.new.waiting.waiting }
+        ensures sits { Sits result self.old.sits self.new.sits }
     {
         if self.sits {
             self.take_piece(alloc, wire, number)
         } else {
             self.take_in(wire, number)
         }
+    }
+
+    /// Has the guest at a place sit there, who showed this seat's token. Who sits there is let go of before: then the guest is
+    /// next. Where the wire fails he is let go of, and nothing is told.
+    #[tactic(auto, using(crate::proofs::Coming::gone_passes, crate::proofs::Coming::given_passes, crate::proofs::Coming::nothing_passes))]
+    pub(crate) fn welcome<W: Wire>(
+        &mut self,
+        guests: &mut Guests,
+        wire: &mut W,
+        place: u8,
+        number: u8,
+        now: u64,
+    ) -> Option<SeatNotice>
+        requires { ShowsToken guests.old.tokens.items number (came_over guests.old.passed.items (GuestAt place)) }
+        ensures passes { Passes (Some guests.old.tokens.items) result guests.old.passed.items guests.new.passed.items (W.passed wire.old) (W.passed wire.new) }
+        ensures tokens { guests.new.tokens ≡ guests.old.tokens }
+        ensures seat { IfSome result (λ notice. seat_of notice ≡ number) }
+        ensures waiting { Leaves result self.old.waiting.waiting self.new.waiting.waiting }
+        ensures sits { Sits result self.old.sits self.new.sits }
+    {
+        if self.sits {
+            return Some(self.leave(wire, number));
+        }
+        if !guests.give(wire, place, number, now) {
+            return None;
+        }
+        self.sits = true;
+        self.waiting.clear();
+        Some(SeatNotice::Came { seat: number })
     }
 
     /// Writes what there is room for of what waits. `None` where more may be written; else whether the connection goes on.

@@ -5,6 +5,8 @@ pub enum SeatNotice {
     Came { seat: u8 },
     /// It sent these bytes.
     Piece { seat: u8, bytes: Vec<u8> },
-    /// Its connection ended.
+    /// Its connection ended, or is to make room for one who showed the seat's token.
     Gone { seat: u8 },
+    /// Who came to its port didn't show its token.
+    Refused { seat: u8 },
 }

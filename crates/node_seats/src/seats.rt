@@ -1,11 +1,18 @@
-ghost use Rattle.std.specs.Prelude.{◌≡◌, length};
+ghost use Rattle.std.specs.Prelude.{◌≡◌, ◌++◌, ℕ, [], length, IfOk, option_map, Some, None};
 ghost use Rattle.node_wires.specs.Passages.{seats_in, logged_in};
-ghost use Rattle.node_seats.specs.Passing.{Passed};
+ghost use Rattle.node_seats.specs.Passing.{Passed, passed_by};
+ghost use Rattle.node_seats.specs.Guesting.{Passes};
+ghost use Rattle.node_seats.specs.Seating.{Follows, Changes};
+ghost use Rattle.node_seats.specs.Coming.{passed_in, tokens_in};
 
+use crate::guest::Found;
+use crate::guests::Guests;
 use crate::limits::BACKLOG;
 use crate::seat::Seat;
 use crate::seat_notice::SeatNotice;
+use crate::token_digest::TokenDigest;
 use node_wires::Wire;
+use node_wires::limits::GUESTS;
 use std::alloc::{AllocError, Global};
 
 /// The seats of a node.
@@ -15,56 +22,181 @@ pub struct Seats {
     count: u8,
     /// Of each seat, by its number.
     seats: Vec<Seat>,
-    /// The seat that is looked at next, so that none is passed over while others send much.
+    /// Where seats have tokens, who came to their ports and hasn't shown one yet.
+    guests: Option<Guests>,
+    /// The seat that is looked at next, or behind all seats the place of a guest, so that none is passed over while others
+    /// send much.
     turn: u8,
 }
 
-impl Seats {
-    ghost use Rattle.node_seats.specs.Seating.{waits_at, Follows, Tells, Flushes};
+/// So many seats, where nobody sits.
+fn empty_seats(alloc: Global, count: u8) -> Result<Vec<Seat>, AllocError> {
+    let mut seats = Vec::with_capacity(alloc, count as usize)?;
+    for _ in 0..count {
+        seats.push(Seat::new(alloc))?;
+    }
+    Ok(seats)
+}
 
-    /// So many seats, where nobody sits.
-    pub fn new(alloc: Global, count: u8) -> Result<Seats, AllocError> {
-        let mut seats = Vec::with_capacity(alloc, count as usize)?;
-        for _ in 0..count {
-            seats.push(Seat::new(alloc))?;
-        }
+/// Nobody came yet to the ports of seats that have tokens, if they have.
+fn no_guests(alloc: Global, tokens: Option<Vec<TokenDigest>>) -> Result<Option<Guests>, AllocError>
+    ensures tokens { IfOk result (λ guests. tokens_in guests ≡ option_map (λ t. t.items) tokens) }
+    ensures passed { IfOk result (λ guests. passed_in guests ≡ []) }
+{
+    match tokens {
+        Some(tokens) => Ok(Some(Guests::new(alloc, tokens)?)),
+        None => Ok(None),
+    }
+}
+
+/// Hears the guest at a place: who showed the token of a seat sits there from now on, and who sits there is let go of before.
+#[tactic(auto, using(crate::proofs::Coming::heard_passes, crate::proofs::Coming::refused_passes, crate::proofs::Coming::passed_on, crate::proofs::Coming::nothing_passes))]
+fn hear_guest<W: Wire>(
+    guests: &mut Guests,
+    seats: &mut Vec<Seat>,
+    wire: &mut W,
+    place: u8,
+    now: u64,
+) -> Option<SeatNotice>
+    ensures passes { Passes (Some guests.old.tokens.items) result guests.old.passed.items guests.new.passed.items (W.passed wire.old) (W.passed wire.new) }
+    ensures tokens { guests.new.tokens ≡ guests.old.tokens }
+    ensures waits { Follows result seats.old.items seats.new.items }
+    ensures sits { Changes result seats.old.items seats.new.items }
+{
+    match guests.hear(wire, place, now) {
+        Found::Nothing => None,
+        Found::Refused { seat } => Some(SeatNotice::Refused { seat }),
+        Found::Shown { seat } => match seats.get_mut(seat as usize) {
+            Some(at) => at.welcome(guests, wire, place, seat, now),
+            None => None,
+        },
+    }
+}
+
+impl Seats {
+    ghost use Rattle.node_seats.specs.Seating.{waits_at, sits_at, Tells, Flushes};
+    ghost use Rattle.node_seats.specs.Coming.{tokens_of, passed_of, Comes};
+
+    /// So many seats, where nobody sits. With tokens, of each seat by its number, a seat takes nobody but who shows its own,
+    /// and one for which there is none takes nobody.
+    pub fn new(
+        alloc: Global,
+        count: u8,
+        tokens: Option<Vec<TokenDigest>>,
+    ) -> Result<Seats, AllocError>
+        ensures tokens { IfOk result (λ seats. tokens_of seats ≡ option_map (λ t. t.items) tokens) }
+        ensures passed { IfOk result (λ seats. passed_of seats ≡ []) }
+    {
+        let seats = empty_seats(alloc, count)?;
+        let guests = no_guests(alloc, tokens)?;
         Ok(Seats {
             alloc,
             count,
             seats,
+            guests,
             turn: 0,
         })
     }
 
-    /// What came next of a seat, if anything did: each is asked once at most, from the one behind the last on. Nothing waits
-    /// for one who was taken in.
-    #[tactic(auto, using(crate::proofs::Lists::nothing_more, crate::proofs::Lists::nothing_passed))]
-    pub fn next<W: Wire>(&mut self, wire: &mut W) -> Option<SeatNotice>
-        ensures passed { Passed result (W.passed wire.old) (W.passed wire.new) }
-        ensures waits { Follows result self.old.seats.items self.new.seats.items }
+    /// What came next of a seat. Where seats have tokens, who came to its port is a guest from now on.
+    #[tactic(auto, using(crate::proofs::Coming::plain_passes, crate::proofs::Coming::nothing_passes, crate::proofs::Coming::bot_passes))]
+    fn look_at_seat<W: Wire>(&mut self, wire: &mut W, number: u8, now: u64) -> Option<SeatNotice>
+        ensures { Comes result self.old self.new (W.passed wire.old) (W.passed wire.new) }
     {
-        let count = self.count;
-        for _ in 0..count {
-            let at = self.turn;
-            self.turn = if at.saturating_add(1) < count {
-                at.saturating_add(1)
-            } else {
-                0
-            };
-            if let Some(seat) = self.seats.get_mut(at as usize) {
-                if let Some(notice) = seat.next(self.alloc, wire, at) {
-                    return Some(notice);
-                }
+        let seat = self.seats.get_mut(number as usize)?;
+        match &mut self.guests {
+            None => seat.next(self.alloc, wire, number),
+            Some(guests) => {
+                guests.accept(wire, number, now);
+                seat.next_piece(self.alloc, wire, number)
+            }
+        }
+    }
+
+    /// What came next of the guest at a place.
+    #[tactic(auto, using(crate::proofs::Coming::nothing_passes))]
+    fn look_at_guest<W: Wire>(&mut self, wire: &mut W, place: u8, now: u64) -> Option<SeatNotice>
+        ensures { Comes result self.old self.new (W.passed wire.old) (W.passed wire.new) }
+    {
+        match &mut self.guests {
+            Some(guests) => hear_guest(guests, &mut self.seats, wire, place, now),
+            None => None,
+        }
+    }
+
+    /// What came next of the seat, or of the guest, whose turn it is.
+    fn look<W: Wire>(&mut self, wire: &mut W, at: u8, now: u64) -> Option<SeatNotice>
+        ensures { Comes result self.old self.new (W.passed wire.old) (W.passed wire.new) }
+    {
+        let Some(place) = at.checked_sub(self.count) else {
+            return self.look_at_seat(wire, at, now);
+        };
+        let notice = self.look_at_guest(wire, place, now);
+        if let Some(SeatNotice::Gone { seat: _ }) = notice {
+            // The guest for whom he made room is next.
+            self.turn = at;
+        }
+        notice
+    }
+
+    /// How many seats and places of guests are looked at in turn.
+    fn looks(&self) -> u8 {
+        if self.guests.is_some() {
+            self.count.saturating_add(GUESTS as u8)
+        } else {
+            self.count
+        }
+    }
+
+    /// The seat, or behind all seats the place of a guest, that is looked at now.
+    fn take_turn(&mut self) -> u8
+        ensures seats { self.new.seats ≡ self.old.seats }
+        ensures guests { self.new.guests ≡ self.old.guests }
+    {
+        let at = self.turn;
+        self.turn = if at.saturating_add(1) < self.looks() {
+            at.saturating_add(1)
+        } else {
+            0
+        };
+        at
+    }
+
+    /// What came next of those whose turn it is, each of whom is asked once at most, from the one behind the last on.
+    #[tactic(auto, using(crate::proofs::Coming::comes_on, crate::proofs::Coming::comes_of))]
+    fn next_in_turn<W: Wire>(&mut self, wire: &mut W, now: u64) -> Option<SeatNotice>
+        ensures { Comes result self.old self.new (W.passed wire.old) (W.passed wire.new) }
+    {
+        for _ in 0..self.looks() {
+            let at = self.take_turn();
+            if let Some(notice) = self.look(wire, at, now) {
+                return Some(notice);
             }
         }
         None
     }
 
+    /// What came next of a seat, if anything did: each is asked once at most, from the one behind the last on, and each guest
+    /// where seats have tokens. Nothing waits for one who was taken in.
+    ///
+    /// With tokens who was taken in was a guest who showed the token of that seat, and nothing else had come of him; who sat
+    /// there is told to be gone before. Nothing that came of a guest is told.
+    #[tactic(auto, using(crate::proofs::Coming::plain_passed, crate::proofs::Coming::seats_come, crate::proofs::Coming::log_stays))]
+    pub fn next<W: Wire>(&mut self, wire: &mut W, now: u64) -> Option<SeatNotice>
+        ensures comes { Comes result self.old self.new (W.passed wire.old) (W.passed wire.new) }
+        ensures plain { tokens_of self.old ≡ None → Passed result (W.passed wire.old) (W.passed wire.new) }
+        ensures seats { seats_in (W.passed wire.new) ≡ seats_in (W.passed wire.old) ++ seats_in (passed_by result) }
+        ensures log { logged_in (W.passed wire.new) ≡ logged_in (W.passed wire.old) }
+    {
+        self.next_in_turn(wire, now)
+    }
+
     /// Puts a line behind those that wait for a seat. Nothing waits for one where nobody sits. False where he is to be let
     /// go of: too much waits for him already, or there is no memory.
-    #[tactic(auto, using(crate::proofs::Seating::waits_here, crate::proofs::Seating::waits_elsewhere))]
+    #[tactic(auto, using(crate::proofs::Seating::waits_here, crate::proofs::Seating::waits_elsewhere, crate::proofs::Seating::sits_alike))]
     pub fn tell(&mut self, seat: u8, line: &[u8]) -> bool
-        ensures { Tells seat line.now result self.old.seats.items self.new.seats.items }
+        ensures tells { Tells seat line.now result self.old.seats.items self.new.seats.items }
+        ensures sits { (seat : ℕ) → sits_at self.new.seats.items seat ≡ sits_at self.old.seats.items seat }
     {
         match self.seats.get_mut(seat as usize) {
             Some(seat) => {
@@ -92,6 +224,7 @@ impl Seats {
     pub fn hang_up<W: Wire>(&mut self, wire: &mut W, seat: u8) -> Option<SeatNotice>
         ensures passed { W.passed wire.new ≡ W.passed wire.old }
         ensures waits { Follows result self.old.seats.items self.new.seats.items }
+        ensures sits { Changes result self.old.seats.items self.new.seats.items }
     {
         let number = seat;
         match self.seats.get_mut(number as usize) {
@@ -110,6 +243,7 @@ impl Seats {
     /// of.
     fn flush_one<W: Wire>(&mut self, wire: &mut W, number: u8) -> Option<SeatNotice>
         ensures said { Flushes result self.old.seats.items self.new.seats.items (W.passed wire.old) (W.passed wire.new) }
+        ensures sits { Changes result self.old.seats.items self.new.seats.items }
         ensures seats { seats_in (W.passed wire.new) ≡ seats_in (W.passed wire.old) }
         ensures log { logged_in (W.passed wire.new) ≡ logged_in (W.passed wire.old) }
     {
@@ -124,6 +258,7 @@ impl Seats {
     /// the others behind it are written to by the next call.
     pub fn flush<W: Wire>(&mut self, wire: &mut W) -> Option<SeatNotice>
         ensures said { Flushes result self.old.seats.items self.new.seats.items (W.passed wire.old) (W.passed wire.new) }
+        ensures sits { Changes result self.old.seats.items self.new.seats.items }
         ensures seats { seats_in (W.passed wire.new) ≡ seats_in (W.passed wire.old) }
         ensures log { logged_in (W.passed wire.new) ≡ logged_in (W.passed wire.old) }
     {

@@ -9,6 +9,9 @@ use Rattle.node_service.specs.Parts.{IsPartOf}
 use Rattle.node_service.specs.Showing.{shown_log, LogGains}
 use Rattle.node_service.specs.Handed.{ToPeer, ToSeat, handed_by}
 use Rattle.node_service.specs.Arriving.{OfSeat, OfPeer, incoming_in, came_by}
+use Rattle.node_service.specs.Sessions.{Without, With, Astray, session_of, IsBeginning, AreGiven}
+use Rattle.node_service.specs.Fitting.{FitsAt}
+use Rattle.node_service.specs.declared.sitting.Sitting.TheVariants.{Here, LetGo}
 
 -- ---- two deeds of node 0: seat 1 sent 7 8, upon which the node sent a frame to node 2 and showed a line to seat 0 and text to its log; before that seat 1 connected
 
@@ -56,6 +59,50 @@ frame_came = refl
 
 of_no_other_peer : incoming_in (Delivered (record { from = 2; to = 0; bytes = 6 ∷ [] }) ∷ []) ≡ OfPeer 1 (6 ∷ []) ∷ [] → ⊥
 of_no_other_peer is = cc
+
+-- ---- sessions of seats
+
+session_of_one_that_came : session_of 1 (later ∷ first ∷ []) ≡ With (7 ∷ 8 ∷ [])
+unfolding first later
+session_of_one_that_came = refl
+
+-- bytes without a session are given to none
+session_of_none : session_of 1 (later ∷ []) ≡ Astray
+unfolding later
+session_of_none = refl
+
+of_no_other_seat : session_of 0 (later ∷ first ∷ []) ≡ Without
+unfolding first later
+of_no_other_seat = refl
+
+-- all that came was given, when it came
+given_when_it_came : AreGiven 1 (later ∷ first ∷ []) (Began (line.Seat 1) ∷ PieceCame (line.Seat 1) (7 ∷ 8 ∷ []) ∷ [])
+unfolding first later
+given_when_it_came = record {
+  by_then = Began (line.Seat 1) ∷ PieceCame (line.Seat 1) (7 ∷ 8 ∷ []) ∷ [];
+  since = [];
+  passed_is = refl;
+  given = ([], refl);
+  earlier = record { by_then = Began (line.Seat 1) ∷ []; since = PieceCame (line.Seat 1) (7 ∷ 8 ∷ []) ∷ []; passed_is = refl; given = ([], refl); earlier = tt };
+}
+
+-- more may have come
+beginning : IsBeginning (With (7 ∷ [])) (7 ∷ 8 ∷ [])
+beginning = (8 ∷ [], refl)
+
+-- but no piece before it that was left out, nor one in the middle
+nothing_before_it : IsBeginning (With (7 ∷ 8 ∷ [])) (6 ∷ 7 ∷ 8 ∷ []) → ⊥
+nothing_before_it (rest, is) = cc
+
+nothing_in_the_middle : IsBeginning (With (6 ∷ 8 ∷ [])) (6 ∷ 7 ∷ 8 ∷ []) → ⊥
+nothing_in_the_middle (rest, is) = cc
+
+-- a bot that is here was given all
+not_a_beginning_of_one_that_is_here : FitsAt Here (With (7 ∷ [])) (7 ∷ 8 ∷ []) → ⊥
+not_a_beginning_of_one_that_is_here is = cc
+
+one_that_is_let_go_of : FitsAt LetGo (With (7 ∷ [])) (7 ∷ 8 ∷ [])
+one_that_is_let_go_of = tt
 
 -- ---- parts of lists
 

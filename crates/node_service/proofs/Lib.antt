@@ -2,8 +2,10 @@ pub mod Walks
 pub mod Members
 pub mod Parts
 pub mod Showing
+pub mod Fitting
 pub mod Going
 pub mod Stepping
-pub mod Taking
+pub mod Incoming
+pub mod Telling
 pub mod Keeping
 mod Examples

@@ -1,9 +1,8 @@
 -- What becomes of what is shown to a log.
-use Rattle.std.proofs.Common.{◌≡◌, ℕ, Bool, true, false, if◌then◌else◌, List, [], ◌∷◌, ◌++◌, refl, sym, ◌∙◌, ap, append_assoc}
+use Rattle.std.proofs.Common.{◌≡◌, ℕ, Bool, true, false, List, [], ◌∷◌, ◌++◌, refl, sym, ◌∙◌, ap, append_assoc}
 use Rattle.std.proofs.lemmas.List.{append-nil}
 use Rattle.stations.specs.Deeds.{Deed}
-use Rattle.node_wires.specs.declared.line.Line.{Line}
-use Rattle.node_wires.specs.Passages.{Passage, Began, Came, Wrote, Logged, logged_in, is_of_seat, seats_in}
+use Rattle.node_wires.specs.Passages.{Passage, Began, Came, Wrote, Gave, Logged, logged_in, of_seat, seats_in}
 use Rattle.node_service.specs.Showing.{shown_log, LogGains}
 use Rattle.node_service.specs.Handed.{Handover, FromPeer, handed_by}
 use Rattle.node_service.specs.Arriving.{Incoming, OfSeat, OfPeer, seats_of, frames_of, came_by}
@@ -56,15 +55,12 @@ log_of_both [] ys = refl
 log_of_both (Began line ∷ xs) ys = log_of_both xs ys
 log_of_both (Came line bytes ∷ xs) ys = log_of_both xs ys
 log_of_both (Wrote line bytes ∷ xs) ys = log_of_both xs ys
+log_of_both (Gave place seat ∷ xs) ys = log_of_both xs ys
 log_of_both (Logged text ∷ xs) ys = ap (λ (m : List ℕ). text ++ m) (log_of_both xs ys) ∙ sym (append_assoc text (logged_in xs) (logged_in ys))
 
-pub seats_of_both : (xs ys : List Passage) → seats_in (xs ++ ys) ≡ seats_in xs ++ seats_in ys
+seats_of_both : (xs ys : List Passage) → seats_in (xs ++ ys) ≡ seats_in xs ++ seats_in ys
 seats_of_both [] ys = refl
-seats_of_both (p ∷ xs) ys =
-    elim (is_of_seat p) as (λ (b : Bool). (if b then p ∷ seats_in (xs ++ ys) else seats_in (xs ++ ys)) ≡ (if b then p ∷ seats_in xs else seats_in xs) ++ seats_in ys) [
-      | true ↦ ap (λ (m : List Passage). p ∷ m) (seats_of_both xs ys)
-      | false ↦ seats_of_both xs ys
-    ]
+seats_of_both (p ∷ xs) ys = ap (λ (m : List Passage). of_seat p ++ m) (seats_of_both xs ys) ∙ sym (append_assoc (of_seat p) (seats_in xs) (seats_in ys))
 
 pub when_logged : (passed new : List Passage) (text : List ℕ) → new ≡ passed ++ Logged text ∷ [] → logged_in new ≡ logged_in passed ++ text
 when_logged passed new text is =
@@ -72,13 +68,6 @@ when_logged passed new text is =
 
 pub seats_when_logged : (passed new : List Passage) (text : List ℕ) → new ≡ passed ++ Logged text ∷ [] → seats_in new ≡ seats_in passed
 seats_when_logged passed new text is = ap seats_in is ∙ (seats_of_both passed (Logged text ∷ []) ∙ append-nil (seats_in passed))
-
--- what is taken of a seat: a connection that began, or a piece
-pub log_when_began : (passed new : List Passage) (line : Line) → new ≡ passed ++ Began line ∷ [] → logged_in new ≡ logged_in passed
-log_when_began passed new line is = ap logged_in is ∙ (log_of_both passed (Began line ∷ []) ∙ append-nil (logged_in passed))
-
-pub log_when_came : (passed new : List Passage) (line : Line) (bytes : List ℕ) → new ≡ passed ++ Came line bytes ∷ [] → logged_in new ≡ logged_in passed
-log_when_came passed new line bytes is = ap logged_in is ∙ (log_of_both passed (Came line bytes ∷ []) ∙ append-nil (logged_in passed))
 
 -- ---- one text
 

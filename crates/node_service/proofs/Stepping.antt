@@ -1,10 +1,11 @@
 -- What a call of the node makes of a process.
 use Rattle.std.proofs.Common.{◌≡◌, ℕ, Bool, true, false, List, [], ◌∷◌, ◌++◌, map, inl, refl, sym, ◌∙◌, ap, subst}
-use Rattle.std.specs.Prelude.{Option, Some, None, IfSome, IsNone, Result, IsErr}
+use Rattle.std.specs.Prelude.{Option, Some, None, IfSome, IsNone, Result, Err, IsErr}
 use Rattle.std.proofs.lemmas.List.{append-nil}
 use Rattle.promise_store.specs.declared.disk.Disk.{Ghosts}
 use Rattle.dealer_node.specs.Nodes.{Node}
 use Rattle.dealer_node.specs.declared.fault.NodeFault.{NodeFault}
+use Rattle.dealer_node.specs.declared.fault.NodeFault.TheVariants.{OutOfMemory}
 use Rattle.dealer_node.specs.Outs.{Told, nothing_told}
 use Rattle.dealer_node.specs.Texts.{Marked}
 use Rattle.dealer_node.specs.Seeing.{runs, front_in, begun_of}
@@ -12,15 +13,18 @@ use Rattle.dealer_world.specs.declared.event.Event.{Event}
 use Rattle.dealer_world.specs.declared.event.Event.TheVariants as event
 use Rattle.dealer_world.specs.Stepping.{arrived_by_event}
 use Rattle.dealer_world.specs.Recordings.{frame_by, text_by}
-use Rattle.node_wires.specs.Passages.{logged_in, seats_in}
+use Rattle.node_wires.specs.Passages.{Passage, logged_in, seats_in}
+use Rattle.stations.specs.Deeds.{Deed}
 use Rattle.stations.specs.Stations.{Look, Acts, deed_by, nothing, call}
 use Rattle.node_service.specs.Parts.{IsPartOf}
 use Rattle.node_service.specs.Showing.{added, LogGains}
 use Rattle.node_service.specs.Handed.{Handover, frame_handed, mark_handed, lines_handed}
-use Rattle.node_service.specs.Arriving.{incoming_in, taken_for}
+use Rattle.node_service.specs.Arriving.{incoming_in, seats_of, taken_for}
 use Rattle.node_service.specs.Served.{Served}
+use Rattle.node_service.specs.Sittings.{Admits, IsGivenBy, Settles, Refuses}
+use Rattle.node_service.specs.Fitting.{FitsFor}
 use Rattle.node_service.specs.Going.{GoesOn}
-use Rattle.node_service.proofs.Going.{let_go}
+use Rattle.node_service.proofs.Fitting.{fits_given, fits_refused}
 
 -- what an event brings to a node is what it was made of
 pub brought_is_taken : (up : Bool) (front : ℕ) (e : Event) → IsPartOf (incoming_in (arrived_by_event up front e)) (taken_for e ++ [])
@@ -40,27 +44,13 @@ same_frames node (frame ∷ frames) = ap (λ (m : List Handover). mark_handed fr
 
 module _ {D : Type 0} {g : Ghosts D} where
   -- an event was given to the node, and what it made of it was handed on
-  pub stepped : (e : Event) (told : Told) (answer : Result (Unit {0}) NodeFault) (old new : Served (Node D)) → Acts g e told answer old.look new.look
+  stepped : (e : Event) (told : Told) (answer : Result (Unit {0}) NodeFault) (old new : Served (Node D)) → (answer ≡ Err OutOfMemory → ⊥) → Acts g e told answer old.look new.look
       → LogGains old.log_failed new.log_failed (added (map text_by told.shown)) (logged_in old.passed) (logged_in new.passed)
       → new.handed ≡ old.handed ++ (map mark_handed told.frames ++ lines_handed (map text_by told.shown)) → seats_in new.passed ≡ seats_in old.passed → new.heard ≡ old.heard
-      → GoesOn g (taken_for e) old new
-  stepped e told answer old new acts log handed seats heard =
+      → Admits (runs old.look.node) e old.sittings → Settles e old.sittings new.sittings → GoesOn g (taken_for e) old new
+  stepped e told answer old new was_given acts log handed seats heard admitted settled =
       elim acts.gains as (λ _. GoesOn g (taken_for e) old new) [
-        | nothing refused same ↦
-            let unmade : told ≡ nothing_told = acts.given.stays.unmade (subst (λ (a : Result (Unit {0}) NodeFault). IsErr a) (sym refused) refl) in
-            record {
-              config = acts.config;
-              number = acts.number;
-              begun = acts.given.stays.begun;
-              since = [];
-              deeds = same;
-              log = subst (λ (t : Told). LogGains old.log_failed new.log_failed (added (map text_by t.shown)) (logged_in old.passed) (logged_in new.passed)) unmade log;
-              handed = subst (λ (t : Told). new.handed ≡ old.handed ++ (map mark_handed t.frames ++ lines_handed (map text_by t.shown))) unmade handed;
-              gained = [];
-              seats = seats ∙ sym (append-nil (seats_in old.passed));
-              heard = heard ∙ sym (append-nil old.heard);
-              came = tt;
-            }
+        | nothing refused same ↦ absurd (was_given refused)
         | call taken is ↦ record {
           config = acts.config;
           number = acts.number;
@@ -73,30 +63,59 @@ module _ {D : Type 0} {g : Ghosts D} where
           seats = seats ∙ sym (append-nil (seats_in old.passed));
           heard = heard ∙ sym (append-nil old.heard);
           came = brought_is_taken (runs old.look.node) (front_in old.look.node) e;
+          given = λ but.
+              subst (λ (m : List Passage). FitsFor new.look.deeds new.sittings m) (sym (seats ∙ but.1.0))
+              (subst (λ (m : List Deed). FitsFor m new.sittings (but.0 ++ seats_of (taken_for e))) (sym is)
+              (fits_given (runs old.look.node) (front_in old.look.node) e told answer old.look.deeds old.sittings new.sittings but.0 admitted settled but.1.1));
         }
       ]
 
-  -- or it was none of the node's own
-  pub stepped_or_not : (e : Event) (told : Told) (result : Option (Result (Unit {0}) NodeFault)) (old new : Served (Node D))
+  -- none was given, and nothing made
+  pub unstepped : (e : Event) (told : Told) (old new : Served (Node D)) → new.look.config ≡ old.look.config → new.look.number ≡ old.look.number
+      → begun_of g new.look.node ≡ begun_of g old.look.node → new.look.deeds ≡ old.look.deeds → told ≡ nothing_told
+      → LogGains old.log_failed new.log_failed (added (map text_by told.shown)) (logged_in old.passed) (logged_in new.passed)
+      → new.handed ≡ old.handed ++ (map mark_handed told.frames ++ lines_handed (map text_by told.shown)) → seats_in new.passed ≡ seats_in old.passed → new.heard ≡ old.heard
+      → Refuses e old.sittings new.sittings → GoesOn g (taken_for e) old new
+  unstepped e told old new config number begun deeds unmade log handed seats heard refused = record {
+    config = config;
+    number = number;
+    begun = begun;
+    since = [];
+    deeds = deeds;
+    log = subst (λ (t : Told). LogGains old.log_failed new.log_failed (added (map text_by t.shown)) (logged_in old.passed) (logged_in new.passed)) unmade log;
+    handed = subst (λ (t : Told). new.handed ≡ old.handed ++ (map mark_handed t.frames ++ lines_handed (map text_by t.shown))) unmade handed;
+    gained = [];
+    seats = seats ∙ sym (append-nil (seats_in old.passed));
+    heard = heard ∙ sym (append-nil old.heard);
+    came = tt;
+    given = λ but.
+        subst (λ (m : List Passage). FitsFor new.look.deeds new.sittings m) (sym (seats ∙ but.1.0))
+        (subst (λ (m : List Deed). FitsFor m new.sittings (but.0 ++ seats_of (taken_for e))) (sym deeds)
+        (fits_refused e old.look.deeds old.sittings new.sittings but.0 refused but.1.1));
+  }
+
+  -- by whether it was
+  pub stepped_if_given : (e : Event) (told : Told) (result : Option (Result (Unit {0}) NodeFault)) (old new : Served (Node D)) → IsGivenBy true result
+      → IfSome result (λ answer. Acts g e told answer old.look new.look)
+      → LogGains old.log_failed new.log_failed (added (map text_by told.shown)) (logged_in old.passed) (logged_in new.passed)
+      → new.handed ≡ old.handed ++ (map mark_handed told.frames ++ lines_handed (map text_by told.shown)) → seats_in new.passed ≡ seats_in old.passed → new.heard ≡ old.heard
+      → Admits (runs old.look.node) e old.sittings → Settles e old.sittings new.sittings → GoesOn g (taken_for e) old new
+  stepped_if_given e told None old new given acts log handed seats heard admitted settled = absurd given
+  stepped_if_given e told (Some answer) old new given acts log handed seats heard admitted settled = stepped e told answer old new given acts log handed seats heard admitted settled
+
+  pub unstepped_if_not : (e : Event) (told : Told) (result : Option (Result (Unit {0}) NodeFault)) (old new : Served (Node D)) → IsGivenBy false result
       → IfSome result (λ answer. Acts g e told answer old.look new.look) → (IsNone result → new.look ≡ old.look) → (IsNone result → told ≡ nothing_told)
       → LogGains old.log_failed new.log_failed (added (map text_by told.shown)) (logged_in old.passed) (logged_in new.passed)
       → new.handed ≡ old.handed ++ (map mark_handed told.frames ++ lines_handed (map text_by told.shown)) → seats_in new.passed ≡ seats_in old.passed → new.heard ≡ old.heard
-      → GoesOn g (taken_for e) old new
-  stepped_or_not e told (Some answer) old new acts same unmade log handed seats heard = stepped e told answer old new acts log handed seats heard
-  stepped_or_not e told None old new acts same unmade log handed seats heard =
-      let nothing_made : told ≡ nothing_told = unmade refl in
+      → Refuses e old.sittings new.sittings → GoesOn g (taken_for e) old new
+  unstepped_if_not e told None old new given acts same unmade log handed seats heard refused =
       let look : new.look ≡ old.look = same refl in
-      let goes : GoesOn g [] old new = record {
-        config = ap (λ (l : Look (Node D)). l.config) look;
-        number = ap (λ (l : Look (Node D)). l.number) look;
-        begun = ap (λ (l : Look (Node D)). begun_of g l.node) look;
-        since = [];
-        deeds = ap (λ (l : Look (Node D)). l.deeds) look;
-        log = subst (λ (t : Told). LogGains old.log_failed new.log_failed (added (map text_by t.shown)) (logged_in old.passed) (logged_in new.passed)) nothing_made log;
-        handed = subst (λ (t : Told). new.handed ≡ old.handed ++ (map mark_handed t.frames ++ lines_handed (map text_by t.shown))) nothing_made handed;
-        gained = [];
-        seats = seats ∙ sym (append-nil (seats_in old.passed));
-        heard = heard ∙ sym (append-nil old.heard);
-        came = tt;
-      } in
-      let_go goes
+      unstepped e told old new (ap (λ (l : Look (Node D)). l.config) look) (ap (λ (l : Look (Node D)). l.number) look) (ap (λ (l : Look (Node D)). begun_of g l.node) look)
+      (ap (λ (l : Look (Node D)). l.deeds) look) (unmade refl) log handed seats heard refused
+  unstepped_if_not e told (Some answer) old new given acts same unmade log handed seats heard refused =
+      elim acts.gains as (λ _. GoesOn g (taken_for e) old new) [
+        | nothing no_memory is ↦
+            unstepped e told old new acts.config acts.number acts.given.stays.begun is (acts.given.stays.unmade (subst (λ (a : Result (Unit {0}) NodeFault). IsErr a) (sym no_memory) refl)) log
+            handed seats heard refused
+        | call taken is ↦ absurd (taken given)
+      ]

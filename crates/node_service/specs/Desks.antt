@@ -7,6 +7,7 @@ use Rattle.dealer_node.specs.Nodes.{Node}
 use Rattle.stations.specs.Looking.{look_of}
 use Rattle.node_service.specs.declared.desk.Desk.{Desk}
 use Rattle.node_service.specs.Served.{Served}
+use Rattle.node_service.specs.Sittings.{Loosens}
 
 module _ {D W : Type 0} {disk : Ghosts D} (wire : OfWire W) where
   abbrev pub served_by : Desk D W disk → Served (Node D)
@@ -16,9 +17,10 @@ module _ {D W : Type 0} {disk : Ghosts D} (wire : OfWire W) where
     log_failed = desk.log_failed;
     handed = desk.handed.items;
     heard = desk.heard.items;
+    sittings = desk.sittings;
   }
 
-  -- the node isn't called, the log stays, and nothing is taken of seats and of peers
+  -- the node isn't called, the log stays, and nothing is taken of seats and of peers; bots of seats may be let go of
   pub record IsKept (old new : Desk D W disk) : Type 0 where
     pub member : new.member ≡ old.member
     pub log_failed : new.log_failed ≡ old.log_failed
@@ -26,3 +28,4 @@ module _ {D W : Type 0} {disk : Ghosts D} (wire : OfWire W) where
     pub heard : new.heard.items ≡ old.heard.items
     pub log : logged_in (wire.passed new.wire) ≡ logged_in (wire.passed old.wire)
     pub seats : seats_in (wire.passed new.wire) ≡ seats_in (wire.passed old.wire)
+    pub sittings : Loosens old.sittings new.sittings

@@ -4,7 +4,10 @@ pub mod Handed
 pub mod Handing
 pub mod Arriving
 pub mod Telling
+pub mod Sittings
+pub mod Sessions
 pub mod Served
+pub mod Fitting
 pub mod Going
 pub mod Ending
 pub mod Desks

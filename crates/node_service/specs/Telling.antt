@@ -10,7 +10,7 @@ abbrev pub told_of : Notice → List Incoming
 told_of (notices.Frame from frame) = OfPeer from frame.bytes.items ∷ []
 told_of (notices.Joined peer life) = []
 told_of (notices.Gone peer) = []
-told_of (notices.Refused peer fault) = []
+told_of (notices.Refused peer fault source) = []
 told_of (notices.Strangers count fault) = []
 
 abbrev pub told_by : Option Notice → List Incoming

@@ -1,6 +1,6 @@
 //! A node's process at its wires: each call of the node, and what it made handed on.
 
-ghost use Rattle.std.specs.Prelude.{◌≡◌, ◌<◌, Bool, [], ◌∷◌, ◌++◌, map, IfSome};
+ghost use Rattle.std.specs.Prelude.{◌≡◌, ◌<◌, [], ◌∷◌, ◌++◌, map, IfSome};
 ghost use Rattle.dealer_world.specs.Calls.{added_by};
 ghost use Rattle.dealer_world.specs.KeptShown.{reader_by};
 ghost use Rattle.dealer_world.specs.Recordings.{text_by};
@@ -12,16 +12,19 @@ ghost use Rattle.node_wires.specs.Passages.{logged_in, seats_in};
 ghost use Rattle.node_service.specs.Showing.{added, LogGains};
 ghost use Rattle.node_service.specs.Arriving.{frames_of};
 ghost use Rattle.node_service.specs.Telling.{told_of, told_by, incoming_by};
+ghost use Rattle.node_service.specs.Sittings.{seat_in, IsGivenBy, Loosens, Frees, Refuses};
 ghost use Rattle.node_service.specs.Handed.{ToPeer, ToSeat, mark_handed, line_handed, lines_handed};
 
 use crate::handed::Handed;
 use crate::limits::{LONG, SEATS};
 use crate::member::Member;
+use crate::sitting::Sittings;
 use dealer_node::{NodeFault, Out, Reader, SeatFault};
 use dealer_world::Event;
 use node_links::Told as Beat;
 use node_peers::{Notice, Peers};
 use node_seats::{SeatNotice, Seats};
+use node_status::Askers;
 use node_wires::Wire;
 use promise_store::Disk;
 
@@ -31,13 +34,14 @@ pub(crate) struct Desk<D: Disk + Drop, W: Wire + Drop> {
     pub(crate) wire: W,
     pub(crate) peers: Peers,
     pub(crate) seats: Seats,
+    pub(crate) askers: Askers,
     /// The log couldn't be written: nothing more goes into it.
     pub(crate) log_failed: bool,
     /// What was handed on, and what was told of peers, for clauses alone.
     pub(crate) handed: Handed,
     pub(crate) heard: Handed,
-    /// The seats whose connections ended while the node has their sessions, a bit each.
-    pub(crate) gone: u16,
+    /// How the bots of seats are at the node.
+    pub(crate) sittings: Sittings,
 }
 
 /// By hand, so that letting one go is one call for whoever owns it (docs/ARCHITECTURE.md, Habits).
@@ -48,10 +52,11 @@ impl<D: Disk + Drop, W: Wire + Drop> Drop for Desk<D, W> {
             wire: _,
             peers: _,
             seats: _,
+            askers: _,
             log_failed: _,
             handed: _,
             heard: _,
-            gone: _,
+            sittings: _,
         } = self;
     }
 }
@@ -61,14 +66,45 @@ fn bit_of(seat: u8) -> u16 {
     if seat < SEATS { 1 << seat } else { 0 }
 }
 
-/// The first seat whose bit is set.
-fn first_of(bits: u16) -> Option<u8> {
-    for seat in 0..SEATS {
-        if bits & bit_of(seat) != 0 {
-            return Some(seat);
-        }
+/// The seat whose bot is let go of where this isn't given to the node.
+fn seat_of(event: &Event) -> Option<u8>
+    ensures { result ≡ seat_in event.now }
+{
+    match event {
+        Event::Line {
+            node: _,
+            seat,
+            bytes: _,
+        } => Some(*seat),
+        Event::Connect { node: _, seat } => Some(*seat),
+        Event::Drop { .. }
+        | Event::Frame { .. }
+        | Event::Tick { .. }
+        | Event::Away { .. }
+        | Event::Stop { .. }
+        | Event::Start { .. } => None,
     }
-    None
+}
+
+/// A bot whose end this notice tells isn't here any more.
+fn note_gone(notice: &Option<SeatNotice>, sittings: &mut Sittings)
+    ensures { Loosens sittings.old sittings.new }
+{
+    if let Some(SeatNotice::Gone { seat }) = notice {
+        sittings.let_go(*seat);
+    }
+}
+
+/// Whether a call that was answered so was given what it brought.
+fn is_given(answer: Option<Result<(), NodeFault>>) -> bool
+    ensures { IsGivenBy result answer }
+{
+    match answer {
+        None => false,
+        Some(Ok(())) => true,
+        Some(Err(NodeFault::OutOfMemory)) => false,
+        Some(Err(_)) => true,
+    }
 }
 
 /// Puts down the frame that a notice of peers tells, if it tells one.
@@ -102,16 +138,14 @@ fn send_all(made: &Out, peers: &mut Peers, handed: &mut Handed, now: u64)
     }
 }
 
-/// Hands a line to the seats. It says which seat is to be let go of: one that reads too little.
-fn tell(seat: usize, line: &[u8], seats: &mut Seats, handed: &mut Handed) -> u16
+/// Hands a line to the seats. False where who sits there is to be let go of, since he reads too little: then the line isn't
+/// kept for him.
+fn tell(seat: usize, line: &[u8], seats: &mut Seats, handed: &mut Handed) -> bool
     ensures handed { handed.new.items ≡ handed.old.items ++ ToSeat seat line.now ∷ [] }
-    ensures told { seat < 10 → (kept : Bool) × Tells seat line.now kept seats.old.seats.items seats.new.seats.items }
+    ensures told { seat < SEATS → Tells seat line.now result seats.old.seats.items seats.new.seats.items }
 {
     handed.told(seat, line);
-    if seat >= SEATS as usize || seats.tell(seat as u8, line) {
-        return 0;
-    }
-    bit_of(seat as u8)
+    seat >= SEATS as usize || seats.tell(seat as u8, line)
 }
 
 /// Puts text into the log, unless that has failed before.
@@ -142,7 +176,13 @@ fn show<W: Wire>(
     ensures handed { handed.new.items ≡ handed.old.items ++ line_handed (reader_by reader) text.now }
 {
     match reader {
-        Reader::Seat(seat) => tell(seat, text, seats, handed),
+        Reader::Seat(seat) => {
+            if tell(seat, text, seats, handed) || seat >= SEATS as usize {
+                0
+            } else {
+                bit_of(seat as u8)
+            }
+        }
         Reader::Log => {
             log(wire, log_failed, text);
             0
@@ -175,34 +215,57 @@ impl<D: Disk + Drop, W: Wire + Drop> Desk<D, W> {
     ghost use Rattle.node_service.specs.Desks.{served_by, IsKept};
     ghost use Rattle.node_service.specs.Going.{GoesOn, Takes};
 
-    /// Gives an event to the node; none that isn't its own. What it made is handed on.
+    /// Gives an event to the node: none that isn't its own, and nothing of a seat whose bot isn't here. What it made is handed
+    /// on. A bot of which something is lost is let go of.
     pub(crate) fn step(&mut self, event: &Event) -> Option<Result<(), NodeFault>>
         ensures { GoesOn D.Disk (taken_for event.now) (served_by W.Wire self.old) (served_by W.Wire self.new) }
     {
+        if !self.sittings.admits(event, self.member.node().running()) {
+            self.refuse(event);
+            return None;
+        }
         let answer = self.member.step(event);
-        self.hand_on();
+        let deaf = self.hand_on();
         self.peers.set_promised(self.member.node().promised());
+        if !is_given(answer) {
+            self.refuse(event);
+            return answer;
+        }
+        self.sittings.settle(event);
+        self.hang_up_all(deaf);
         answer
     }
 
-    /// Hands on what the last call made, in order. A seat that reads too little is let go of.
-    fn hand_on(&mut self)
+    /// The node isn't given this: the bot that it is of is let go of.
+    fn refuse(&mut self, event: &Event)
+        ensures kept { IsKept W.Wire self.old self.new }
+        ensures refuses { Refuses event.now self.old.sittings self.new.sittings }
+    {
+        match seat_of(event) {
+            Some(seat) => self.hang_up(seat),
+            None => (),
+        }
+    }
+
+    /// Hands on what the last call made, in order. It says which seats are to be let go of, a bit each: those that read too
+    /// little.
+    fn hand_on(&mut self) -> u16
         ensures member { self.new.member ≡ self.old.member }
         ensures log { LogGains self.old.log_failed self.new.log_failed (added (map text_by self.old.member.made.shown)) (logged_in (W.passed self.old.wire)) (logged_in (W.passed self.new.wire)) }
         ensures seats { seats_in (W.passed self.new.wire) ≡ seats_in (W.passed self.old.wire) }
         ensures heard { self.new.heard.items ≡ self.old.heard.items }
+        ensures sittings { self.new.sittings ≡ self.old.sittings }
         ensures handed { self.new.handed.items ≡ self.old.handed.items ++ (map mark_handed self.old.member.made.frames ++ lines_handed (map text_by self.old.member.made.shown)) }
     {
         let now = self.wire.now();
         send_all(self.member.made(), &mut self.peers, &mut self.handed, now);
-        let deaf = show_all(
+        show_all(
             self.member.made(),
             &mut self.wire,
             &mut self.seats,
             &mut self.log_failed,
             &mut self.handed,
-        );
-        self.hang_up_all(deaf);
+        )
     }
 
     /// The present moment.
@@ -272,10 +335,12 @@ impl<D: Disk + Drop, W: Wire + Drop> Desk<D, W> {
     }
 
     /// What came next of a seat.
-    pub(crate) fn next_of_seats(&mut self) -> Option<SeatNotice>
+    pub(crate) fn next_of_seats(&mut self, now: u64) -> Option<SeatNotice>
         ensures { Takes D.Disk (incoming_by result) (served_by W.Wire self.old) (served_by W.Wire self.new) }
     {
-        self.seats.next(&mut self.wire)
+        let notice = self.seats.next(&mut self.wire, now);
+        note_gone(&notice, &mut self.sittings);
+        notice
     }
 
     /// The wires.
@@ -283,20 +348,13 @@ impl<D: Disk + Drop, W: Wire + Drop> Desk<D, W> {
         &mut self.wire
     }
 
-    /// Turns away the bot that was taken in at a seat last, of whom the node knows nothing.
-    pub(crate) fn turn_away(&mut self, seat: u8)
-        ensures { IsKept W.Wire self.old self.new }
-    {
-        let _ = self.seats.hang_up(&mut self.wire, seat);
-    }
-
     /// Lets go of the bot of a seat, if one sits there.
     pub(crate) fn hang_up(&mut self, seat: u8)
-        ensures { IsKept W.Wire self.old self.new }
+        ensures kept { IsKept W.Wire self.old self.new }
+        ensures freed { Frees seat self.old.sittings self.new.sittings }
     {
-        if self.seats.hang_up(&mut self.wire, seat).is_some() {
-            self.gone |= bit_of(seat);
-        }
+        let _ = self.seats.hang_up(&mut self.wire, seat);
+        self.sittings.let_go(seat);
     }
 
     /// Lets go of the bot of a seat whose bit is set.
@@ -321,22 +379,13 @@ impl<D: Disk + Drop, W: Wire + Drop> Desk<D, W> {
         }
     }
 
-    /// The next seat whose connection ended while the node has its session.
-    pub(crate) fn next_gone(&mut self) -> Option<u8>
-        ensures { IsKept W.Wire self.old self.new }
-    {
-        let seat = first_of(self.gone)?;
-        self.gone &= !bit_of(seat);
-        Some(seat)
-    }
-
     /// Writes what waits for seats. It says whether there are more whose connection may have ended.
     fn write_to_seats(&mut self) -> bool
         ensures { IsKept W.Wire self.old self.new }
     {
         match self.seats.flush(&mut self.wire) {
             Some(SeatNotice::Gone { seat }) => {
-                self.gone |= bit_of(seat);
+                self.sittings.let_go(seat);
                 true
             }
             _ => false,
@@ -351,11 +400,33 @@ impl<D: Disk + Drop, W: Wire + Drop> Desk<D, W> {
         self.peers.flush(&mut self.wire, now);
     }
 
-    /// Writes what waits for peers and seats, and first tells peers how the node is, where that is due.
+    /// Takes in one who asks how the node is, and says whether anybody waits for that.
+    pub(crate) fn is_asked(&mut self, now: u64) -> bool
+        ensures { IsKept W.Wire self.old self.new }
+    {
+        self.askers.accept(&mut self.wire, now)
+    }
+
+    /// Gives a line to those who ask how the node is. Without memory some of them wait further.
+    pub(crate) fn answer(&mut self, line: &[u8])
+        ensures { IsKept W.Wire self.old self.new }
+    {
+        let _ = self.askers.answer(line);
+    }
+
+    /// Writes what waits for those who asked.
+    fn write_to_askers(&mut self, now: u64)
+        ensures { IsKept W.Wire self.old self.new }
+    {
+        self.askers.flush(&mut self.wire, now);
+    }
+
+    /// Writes what waits for peers, seats and those who asked, and first tells peers how the node is, where that is due.
     pub(crate) fn speak(&mut self, told: Beat, now: u64)
         ensures { IsKept W.Wire self.old self.new }
     {
         self.write_to_peers(told, now);
+        self.write_to_askers(now);
         for _ in 0..SEATS {
             if !self.write_to_seats() {
                 return;

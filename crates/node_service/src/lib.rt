@@ -1,27 +1,36 @@
 //! One node of a match in a process of its own: its turns.
 //!
-//! `NodeServer::new` takes a station, the wires of the process and what is kept of its peers; `start` starts the node; then
+//! `NodeServer::new` takes a station, the wires of the process, its peers, seats and askers; `start` starts the node; then
 //! `turn` again and again, until it answers that the match is over or that the process is to end. A turn waits once, and
 //! reads what peers sent; then each thing that came is one call of the station, in order, and what a call made is handed on
 //! before the next: frames to peers, text into the log, lines to seats. Calls are made for 20 ms at most; the rest is kept.
-//! Then the node ticks where `clockwork` says so. Between turns `notice` tells what a note is to be made of.
+//! Then the node ticks where `clockwork` says so, and the seat to act is played for; whoever asks how the node is gets one
+//! line. Between turns `notice` tells what a note is to be made of.
 //!
 //! Whatever wires give, what is promised of stations holds: the server changes its node by `Station::step` alone. What the
 //! log has is what the node showed to it.
 #![tactic(auto)]
 
 mod desk;
+mod ending;
 mod handed;
 mod lasting;
 pub mod laws;
 mod limits;
 mod member;
+mod noting;
 mod outcome;
+mod patience;
+mod rate;
 mod server;
 mod sights;
+mod sitting;
+mod status;
+mod taking;
+mod ticking;
 mod told;
 
 pub use member::Member;
 pub use outcome::Outcome;
-pub use server::NodeServer;
+pub use server::{NodeServer, Terms};
 pub use told::Told;

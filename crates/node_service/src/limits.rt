@@ -31,3 +31,6 @@ pub const NODES: usize = clockwork::limits::MOST_PEERS + 1;
 
 /// The most seats.
 pub const SEATS: u8 = node_wires::limits::SEATS as u8;
+
+/// The same, as a length.
+pub const PLACES: usize = node_wires::limits::SEATS;

@@ -1,10 +1,11 @@
 //! The node of a process, and what its last call made.
 
-ghost use Rattle.std.specs.Prelude.{◌≡◌, ◌<◌, ◌↔◌, length, IsTrue, IfSome, IsNone};
+ghost use Rattle.std.specs.Prelude.{◌≡◌, ◌<◌, ◌↔◌, length, true, IsTrue, IfSome, IsNone};
 ghost use Rattle.dealer_node.specs.Outs.{nothing_told};
 ghost use Rattle.dealer_world.specs.Events.{node_of};
 ghost use Rattle.dealer_world.specs.Stepping.{IsFor};
 ghost use Rattle.stations.specs.Stations.{Acts};
+ghost use Rattle.node_service.specs.Ending.{IsOverAt};
 
 use dealer_node::{Node, NodeFault, Out};
 use dealer_world::Event;
@@ -94,6 +95,13 @@ impl<D: Disk + Drop> Member<D> {
         ensures { result.now ≡ (look_of self.now.station).node }
     {
         self.station.node()
+    }
+
+    /// Whether the match is over at the node.
+    pub(crate) fn is_over(&self) -> bool
+        ensures { result ≡ true → IsOverAt D.Disk (look_of self.now.station).node }
+    {
+        self.station.node().table().over()
     }
 
     /// The station.

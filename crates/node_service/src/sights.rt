@@ -125,11 +125,12 @@ impl Sights {
         }
     }
 
-    /// Whether a seat sits at some peer, as far as they have told over open connections.
-    pub(crate) fn has_seat(&self, seat: u8) -> bool {
-        self.all
-            .iter()
-            .any(|sight| seat < 16 && sight.seats & (1 << seat) != 0)
+    /// Whether a seat sits at a peer, as far as that has told over its open connection.
+    pub(crate) fn has_seat(&self, peer: u8, seat: u8) -> bool {
+        match self.all.get(peer as usize) {
+            Some(sight) => seat < 16 && sight.seats & (1 << seat) != 0,
+            None => false,
+        }
     }
 
     /// A peer as `clockwork` sees it, which owes an answer from before its connection opened or doesn't.

@@ -6,8 +6,11 @@
 //! - `world`: all processes of a match, and what is carried between them; `course` lets a match go on, and a process die and
 //!   begin again on its disk.
 //! - `match_tests`: a match to its end, also where processes die; `fault_tests`: each call of a wire failing once.
+//! - `away_tests`: a match at which nobody sits, and what is told to one who asks.
 #![tactic(auto)]
 
+#[cfg(test)]
+mod away_tests;
 #[cfg(test)]
 mod bot;
 #[cfg(test)]

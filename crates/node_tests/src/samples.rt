@@ -80,5 +80,6 @@ pub(crate) fn own(node: u8, nodes: u8) -> Own {
         life: Life {
             bytes: [node.saturating_add(1); 16],
         },
+        key: None,
     }
 }

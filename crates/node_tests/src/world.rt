@@ -5,7 +5,8 @@ use crate::samples::{config, disk_of, new_disk, own};
 use dealer_node::NodeFault;
 use node_peers::Peers;
 use node_seats::Seats;
-use node_service::{Member, NodeServer, Outcome, Told};
+use node_service::{Member, NodeServer, Outcome, Terms, Told};
+use node_status::Askers;
 use node_wires::{Line, MemoryWire};
 use promise_store::MemoryDisk;
 use stations::Station;
@@ -52,6 +53,8 @@ pub(crate) struct Counts {
     pub(crate) lost: u64,
     pub(crate) faulty: u64,
     pub(crate) waits: u64,
+    /// Of each seat that it was ordered to play for.
+    pub(crate) ordered: [u64; 2],
 }
 
 pub(crate) const NOTHING: Counts = Counts {
@@ -61,6 +64,7 @@ pub(crate) const NOTHING: Counts = Counts {
     lost: 0,
     faulty: 0,
     waits: 0,
+    ordered: [0, 0],
 };
 
 /// All processes of a match, and the bots of its two seats.
@@ -76,6 +80,8 @@ pub(crate) struct World {
     pub(crate) cuts: [[bool; NODES]; NODES],
     /// The node whose wires fail once, and in which call.
     failing: (u8, u64),
+    /// How long a seat may hold the table, of processes that begin from now on.
+    pub(crate) patience: Option<u64>,
 }
 
 /// The process of a node, in a match of so many nodes and hands, over this disk.
@@ -88,6 +94,7 @@ pub(crate) fn server(
     disk: MemoryDisk,
     call: u64,
     now: u64,
+    patience: Option<u64>,
 ) -> Result<Option<Server>, AllocError> {
     let config = config(rt, alloc, nodes, hands)?;
     assert!(rt; (node as usize) < config.nodes());
@@ -98,14 +105,17 @@ pub(crate) fn server(
     let mut wire = MemoryWire::new(alloc, call)?;
     wire.set_now(now);
     let peers = Peers::new(alloc, own(node, nodes), &[], SILENCE)?;
-    let seats = Seats::new(alloc, 2)?;
+    let seats = Seats::new(alloc, 2, None)?;
+    let askers = Askers::new(alloc)?;
+    let terms = Terms { nodes, patience };
     let mut server = NodeServer::new(
         alloc,
         Member::new(alloc, station),
         wire,
         peers,
         seats,
-        nodes,
+        askers,
+        terms,
     );
     match server.start() {
         Outcome::GoesOn => Ok(Some(server)),
@@ -142,7 +152,15 @@ impl Place {
                 .faulty
                 .saturating_add(1),
             Told::Waits { seat: _ } => self.counts.waits = self.counts.waits.saturating_add(1),
+            Told::Ordered { seat } => self.count_order(seat),
             _ => (),
+        }
+    }
+
+    /// It was ordered to play for a seat.
+    fn count_order(&mut self, seat: u8) {
+        if let Some(count) = self.counts.ordered.get_mut(seat as usize) {
+            *count = count.saturating_add(1);
         }
     }
 
@@ -263,12 +281,14 @@ impl World {
             bots,
             cuts: [[false; NODES]; NODES],
             failing,
+            patience: None,
         })
     }
 
     /// Begins a process where one is to begin.
     fn begin(&mut self, rt: &impl Abort, node: u8) -> Result<(), AllocError> {
         let (nodes, hands, now, alloc) = (self.nodes, self.hands, self.now, self.alloc);
+        let patience = self.patience;
         let call = if self.failing.0 == node {
             self.failing.1
         } else {
@@ -285,7 +305,7 @@ impl World {
             return Ok(());
         }
         let disk = disk_of(rt, alloc, &place.bytes)?;
-        place.server = server(rt, alloc, node, nodes, hands, disk, call, now)?;
+        place.server = server(rt, alloc, node, nodes, hands, disk, call, now, patience)?;
         if call != 0 {
             self.failing = (node, 0);
         }

@@ -1,7 +1,7 @@
 -- What passed over wires, on values.
 use Rattle.std.proofs.Common.{◌≡◌, ℕ, refl, List, [], ◌∷◌, ◌++◌}
-use Rattle.node_wires.specs.declared.line.Line.TheVariants.{Peer, Caller, Seat}
-use Rattle.node_wires.specs.Passages.{Passage, Began, Came, Wrote, Logged, came_over, wrote_over, seats_in, logged_in}
+use Rattle.node_wires.specs.declared.line.Line.TheVariants.{Peer, Caller, Seat, Guest, Asker}
+use Rattle.node_wires.specs.Passages.{Passage, Began, Came, Wrote, Gave, Logged, came_over, wrote_over, seats_in, logged_in}
 
 -- peer 1 is dialled, sends two bytes and is sent one; somebody calls and sends one; the log gets two texts; peer 1 is
 -- dialled once more, and sends another
@@ -30,6 +30,26 @@ begun_anew = refl
 -- of bots: one came to seat 2 and sent a byte; what peers and callers send is none of it
 of_seats : seats_in (Began (Seat 2) ∷ some ++ Came (Seat 2) (67 ∷ []) ∷ Wrote (Seat 2) (68 ∷ []) ∷ []) ≡ Began (Seat 2) ∷ Came (Seat 2) (67 ∷ []) ∷ []
 of_seats = refl
+
+-- a guest sends two bytes, and is given the line of seat 1, whose bot had sent one: what he sends then came over that
+abbrev seated : List Passage
+seated = Began (Guest 2) ∷ Came (Guest 2) (65 ∷ []) ∷ Came (Guest 2) (10 ∷ []) ∷ Came (Seat 1) (64 ∷ []) ∷ Gave 2 1 ∷ Came (Seat 1) (66 ∷ []) ∷ []
+
+of_the_bot : came_over seated (Seat 1) ≡ 66 ∷ []
+of_the_bot = refl
+
+of_the_guest : came_over seated (Guest 2) ≡ []
+of_the_guest = refl
+
+-- he is the bot of seat 1 from then on; what he sent before is nothing of a bot, and seat 2 has none
+of_seat_1 : seats_in seated ≡ Came (Seat 1) (64 ∷ []) ∷ Began (Seat 1) ∷ Came (Seat 1) (66 ∷ []) ∷ []
+of_seat_1 = refl
+
+of_seat_2 : came_over seated (Seat 2) ≡ []
+of_seat_2 = refl
+
+no_guest_yet : came_over (Came (Asker 2) (65 ∷ []) ∷ []) (Guest 2) ≡ []
+no_guest_yet = refl
 
 both_texts : logged_in some ≡ 80 ∷ 81 ∷ []
 both_texts = refl

@@ -1,13 +1,14 @@
 -- What one more passage leaves of the log.
 use Rattle.std.proofs.Common.{◌≡◌, ℕ, List, [], ◌∷◌, ◌++◌, append_assoc, append-nil, refl, ap, sym, ◌∙◌}
 use Rattle.node_wires.specs.declared.line.Line.{Line}
-use Rattle.node_wires.specs.Passages.{Passage, Began, Came, Wrote, Logged, logged_in}
+use Rattle.node_wires.specs.Passages.{Passage, Began, Came, Wrote, Gave, Logged, logged_in}
 
 more : (xs ys : List Passage) → logged_in (xs ++ ys) ≡ logged_in xs ++ logged_in ys
 more [] ys = refl
 more (Began line ∷ xs) ys = more xs ys
 more (Came line bytes ∷ xs) ys = more xs ys
 more (Wrote line bytes ∷ xs) ys = more xs ys
+more (Gave place seat ∷ xs) ys = more xs ys
 more (Logged text ∷ xs) ys = ap (λ ls. text ++ ls) (more xs ys) ∙ sym (append_assoc text (logged_in xs) (logged_in ys))
 
 pub when_began : (passed : List Passage) (line : Line) → logged_in (passed ++ Began line ∷ []) ≡ logged_in passed
@@ -18,6 +19,9 @@ when_came passed line bytes = more passed (Came line bytes ∷ []) ∙ append-ni
 
 pub when_wrote : (passed : List Passage) (line : Line) (bytes : List ℕ) → logged_in (passed ++ Wrote line bytes ∷ []) ≡ logged_in passed
 when_wrote passed line bytes = more passed (Wrote line bytes ∷ []) ∙ append-nil (logged_in passed)
+
+pub when_gave : (passed : List Passage) (place seat : ℕ) → logged_in (passed ++ Gave place seat ∷ []) ≡ logged_in passed
+when_gave passed place seat = more passed (Gave place seat ∷ []) ∙ append-nil (logged_in passed)
 
 pub when_logged : (passed : List Passage) (text : List ℕ) → logged_in (passed ++ Logged text ∷ []) ≡ logged_in passed ++ text
 when_logged passed text = more passed (Logged text ∷ []) ∙ ap (λ t. logged_in passed ++ t) (append-nil text)

@@ -16,11 +16,14 @@
 #![tactic(auto)]
 
 mod bind_fault;
+mod comer;
+mod connections;
 pub mod limits;
 mod line;
 mod memory_wire;
 mod passages;
 mod pipe;
+mod ports;
 mod tcp_wire;
 mod wire;
 mod wired;

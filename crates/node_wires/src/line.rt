@@ -1,6 +1,6 @@
 ghost use Rattle.std.specs.Prelude.{◌<◌};
 
-use crate::limits::{CALLERS, NODES, SEATS};
+use crate::limits::{ASKERS, CALLERS, GUESTS, NODES, SEATS};
 
 /// A connection of a node's process, by whom it is with. A line has one connection at a time, or none.
 #[derive(Clone, Copy, Debug, PartialEq, Eq)]
@@ -11,6 +11,10 @@ pub enum Line {
     Caller(u8),
     /// With the bot of this seat.
     Seat(u8),
+    /// With one who came to a seat's port and hasn't shown a token yet, by its place among those.
+    Guest(u8),
+    /// With one who came to the status port, by its place among those.
+    Asker(u8),
 }
 
 impl Line {
@@ -20,6 +24,8 @@ impl Line {
             Line::Peer(number) => within(number, NODES, 0),
             Line::Caller(place) => within(place, CALLERS, NODES),
             Line::Seat(number) => within(number, SEATS, NODES + CALLERS),
+            Line::Guest(place) => within(place, GUESTS, NODES + CALLERS + SEATS),
+            Line::Asker(place) => within(place, ASKERS, NODES + CALLERS + SEATS + GUESTS),
         }
     }
 }

@@ -4,12 +4,13 @@ ghost use Rattle.std.specs.Prelude.{◌≡◌, ◌≤◌, ◌++◌, length, take
 ghost use Rattle.node_wires.specs.Passages.{logged_in};
 ghost use Rattle.node_wires.specs.Logs.{IsLogged, logged_prop};
 
-use crate::limits::{CALLERS, LINES};
+use crate::limits::{ASKERS, CALLERS, GUESTS, LINES};
 use crate::line::Line;
 use crate::passages::Passages;
 use crate::pipe::Pipe;
 use crate::wire::{Halt, Wire, WireFault};
 use std::alloc::{AllocError, Global};
+use std::net::{IpAddr, Ipv4Addr};
 
 /// Wires in memory, for tests: who holds them puts in what comes, takes out what was written, and says what time it is.
 pub struct MemoryWire {
@@ -20,6 +21,14 @@ pub struct MemoryWire {
     callers: u8,
     /// Of which seats somebody waits at the port, a bit each.
     bots: u16,
+    /// How many have come to the status port and aren't taken in yet.
+    askers: u8,
+    /// The place of the guest who makes room next.
+    crowded: u8,
+    /// Where all are who are at the other ends of lines.
+    address: IpAddr,
+    /// How often bytes were drawn.
+    drawn: u64,
     log: Vec<u8>,
     /// How many calls pass before the one that fails; none once it has.
     left: Option<u64>,
@@ -36,6 +45,10 @@ impl Drop for MemoryWire {
             pipes: _,
             callers: _,
             bots: _,
+            askers: _,
+            crowded: _,
+            address: _,
+            drawn: _,
             log: _,
             left: _,
             passed: _,
@@ -71,6 +84,26 @@ fn count_down(left: &mut Option<u64>) -> bool {
 fn free_place(pipes: &[Pipe]) -> Option<u8> {
     for place in 0..CALLERS as u8 {
         if !is_open(pipes, Line::Caller(place)) {
+            return Some(place);
+        }
+    }
+    None
+}
+
+/// The first place of guests that has no connection.
+fn free_place_of_guests(pipes: &[Pipe]) -> Option<u8> {
+    for place in 0..GUESTS as u8 {
+        if !is_open(pipes, Line::Guest(place)) {
+            return Some(place);
+        }
+    }
+    None
+}
+
+/// The first place of those who ask that has no connection.
+fn free_place_of_askers(pipes: &[Pipe]) -> Option<u8> {
+    for place in 0..ASKERS as u8 {
+        if !is_open(pipes, Line::Asker(place)) {
             return Some(place);
         }
     }
@@ -134,6 +167,19 @@ fn close(pipes: &mut Vec<Pipe>, line: Line) {
     }
 }
 
+/// Gives the connection of the guest at a place to a seat's line. False where there is none.
+fn seat_guest(pipes: &mut Vec<Pipe>, place: u8, seat: u8) -> bool {
+    let (Some(guest), Some(at)) = (Line::Guest(place).place(), Line::Seat(seat).place()) else {
+        return false;
+    };
+    if !is_open(pipes, Line::Guest(place)) || guest >= pipes.len() || at >= pipes.len() {
+        return false;
+    }
+    pipes.swap(guest, at);
+    close(pipes, Line::Guest(place));
+    true
+}
+
 impl MemoryWire {
     ghost use Rattle.node_wires.specs.MemoryPassed.{passed_of};
 
@@ -144,6 +190,10 @@ impl MemoryWire {
             pipes: no_pipes(alloc)?,
             callers: 0,
             bots: 0,
+            askers: 0,
+            crowded: 0,
+            address: IpAddr::V4(Ipv4Addr::LOCALHOST),
+            drawn: 0,
             log: Vec::new(alloc),
             left: call.checked_sub(1),
             passed: Passages::new(),
@@ -164,6 +214,35 @@ impl MemoryWire {
     pub fn come_to_seat(&mut self, seat: u8) {
         if seat < 16 {
             self.bots |= 1 << seat;
+        }
+    }
+
+    /// Somebody comes to the status port.
+    pub fn ask(&mut self) {
+        self.askers = self.askers.saturating_add(1);
+    }
+
+    /// All who are at the other ends of lines are at this address from now on.
+    pub fn set_address(&mut self, address: IpAddr) {
+        self.address = address;
+    }
+
+    /// The place of the next guest: a free one, or that of one who makes room.
+    fn place_of_guest(&mut self) -> u8
+        ensures passed { self.new.passed ≡ self.old.passed }
+        ensures log { self.new.log ≡ self.old.log }
+    {
+        match free_place_of_guests(&self.pipes) {
+            Some(place) => place,
+            None => {
+                let place = self.crowded;
+                self.crowded = if place.saturating_add(1) < GUESTS as u8 {
+                    place.saturating_add(1)
+                } else {
+                    0
+                };
+                place
+            }
         }
     }
 
@@ -231,6 +310,25 @@ impl Wire for MemoryWire {
     /// No time passes.
     fn wait(&mut self, _most: u64) {}
 
+    /// The count of draws, and zeros behind it.
+    fn draw(&mut self) -> Option<[u8; 32]> {
+        if count_down(&mut self.left) {
+            return None;
+        }
+        self.drawn = self.drawn.wrapping_add(1);
+        let mut bytes = [0; 32];
+        bytes[..8].copy_from_slice(&self.drawn.to_le_bytes());
+        Some(bytes)
+    }
+
+    fn source(&mut self, line: Line) -> Option<IpAddr> {
+        if is_open(&self.pipes, line) {
+            Some(self.address)
+        } else {
+            None
+        }
+    }
+
     #[tactic(auto, using(crate::proofs::Logged::when_began))]
     fn dial(&mut self, peer: u8) -> Result<(), WireFault> {
         if count_down(&mut self.left) || !begin(&mut self.pipes, Line::Peer(peer)) {
@@ -265,6 +363,43 @@ impl Wire for MemoryWire {
         self.bots &= !(1 << seat);
         self.passed.began(Line::Seat(seat));
         true
+    }
+
+    #[tactic(auto, using(crate::proofs::Logged::when_began))]
+    fn accept_guest(&mut self, seat: u8) -> Option<u8> {
+        if seat >= 16 || self.bots & (1 << seat) == 0 || count_down(&mut self.left) {
+            return None;
+        }
+        let place = self.place_of_guest();
+        if !begin(&mut self.pipes, Line::Guest(place)) {
+            return None;
+        }
+        self.bots &= !(1 << seat);
+        self.passed.began(Line::Guest(place));
+        Some(place)
+    }
+
+    #[tactic(auto, using(crate::proofs::Logged::when_gave))]
+    fn seat_guest(&mut self, place: u8, seat: u8) -> bool {
+        if count_down(&mut self.left) || !seat_guest(&mut self.pipes, place, seat) {
+            return false;
+        }
+        self.passed.gave(place, seat);
+        true
+    }
+
+    #[tactic(auto, using(crate::proofs::Logged::when_began))]
+    fn accept_asker(&mut self) -> Option<u8> {
+        if self.askers == 0 || count_down(&mut self.left) {
+            return None;
+        }
+        let place = free_place_of_askers(&self.pipes)?;
+        if !begin(&mut self.pipes, Line::Asker(place)) {
+            return None;
+        }
+        self.askers -= 1;
+        self.passed.began(Line::Asker(place));
+        Some(place)
     }
 
     #[tactic(auto, using(crate::proofs::Logged::when_came))]

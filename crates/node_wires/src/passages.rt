@@ -3,7 +3,7 @@
 
 ghost use Rattle.std.specs.Prelude.{◌≡◌, List, [], ◌∷◌, ◌++◌};
 ghost use Rattle.std.specs.Borrow.{ftrue};
-ghost use Rattle.node_wires.specs.Passages.{Passage, passages_code, Began, Came, Wrote, Logged};
+ghost use Rattle.node_wires.specs.Passages.{Passage, passages_code, Began, Came, Wrote, Gave, Logged};
 
 use crate::line::Line;
 use std::marker::Model;
@@ -24,6 +24,7 @@ pub(crate) enum Passing<'a> {
     Began { line: Line },
     Came { line: Line, bytes: &'a [u8] },
     Wrote { line: Line, bytes: &'a [u8] },
+    Gave { place: u8, seat: u8 },
     Logged { text: &'a [u8] },
 }
 
@@ -63,6 +64,13 @@ impl Passages {
         ensures { self.new.items ≡ self.old.items ++ Wrote line bytes.now ∷ [] }
     {
         *self = self.and(&Passing::Wrote { line, bytes });
+    }
+
+    /// The connection of a guest was given to a seat's line.
+    pub fn gave(&mut self, place: u8, seat: u8)
+        ensures { self.new.items ≡ self.old.items ++ Gave place seat ∷ [] }
+    {
+        *self = self.and(&Passing::Gave { place, seat });
     }
 
     /// The log got text.

@@ -1,31 +1,25 @@
 //! Wires over TCP, and a log in a file.
 
-ghost use Rattle.std.specs.Prelude.{◌≡◌, ◌≤◌, length, IfOk};
+ghost use Rattle.std.specs.Prelude.{◌≡◌};
 
 use crate::bind_fault::{BindFault, Failed};
-use crate::limits::{CALLERS, LINES, SEATS, STRANGERS};
+use crate::comer::Comer;
+use crate::connections::Connections;
 use crate::line::Line;
 use crate::passages::Passages;
+use crate::ports::{DOOR, Ports, Reached};
 use crate::wire::{Halt, Wire, WireFault};
-use crate::wired::{Stranger, Wired};
-use mio::event::Source;
-use mio::net::{TcpListener, TcpStream};
-use mio::{Events, Interest, Poll, Token};
-use std::alloc::AllocError;
+use mio::net::TcpStream;
+use mio::{Events, Poll, Token};
 use std::fs::File;
 use std::io;
 use std::io::{ErrorKind, Write};
 use std::net::{IpAddr, SocketAddr};
+use std::random::RandomSource;
 use std::time::{Duration, Instant};
 
 /// How many sockets may be told of at once; those behind them are told of at the next wait.
 const TOLD_AT_ONCE: usize = 64;
-
-/// The token of the port where nodes dial; those of the seats' ports stand behind it, and those of lines before it.
-const DOOR: usize = LINES;
-
-/// All tokens.
-const TOKENS: usize = LINES + 1 + SEATS;
 
 /// Wires over TCP, with a log in a file, once it was given: without one `add_to_log` fails.
 ///
@@ -38,18 +32,10 @@ pub struct TcpWire<'a> {
     begun: Instant,
     /// Where each node is dialled, by its number.
     addresses: Vec<SocketAddr>,
-    /// The port where other nodes dial this one.
-    door: TcpListener,
-    /// The ports of seats.
-    seat_doors: Vec<TcpListener>,
-    /// Of each line, by its place.
-    lines: Vec<Option<Wired>>,
-    /// Of which ports the system told that somebody came: that of nodes, and those of seats behind it.
-    came: [bool; 1 + SEATS],
+    ports: Ports,
+    connections: Connections,
     /// The log's file, once there is one.
     log: Option<File>,
-    /// How many who dialled were taken in so far.
-    count: u64,
     /// What failed last of dials and the log.
     failed: Option<Failed>,
     /// What passed, for clauses alone.
@@ -65,12 +51,9 @@ impl Drop for TcpWire<'_> {
             events: _,
             begun: _,
             addresses: _,
-            door: _,
-            seat_doors: _,
-            lines: _,
-            came: _,
+            ports: _,
+            connections: _,
             log: _,
-            count: _,
             failed: _,
             passed: _,
         } = self;
@@ -85,176 +68,9 @@ fn fault_of(kind: ErrorKind) -> WireFault {
     }
 }
 
-/// Has a socket watched under a token.
-fn watch<S: Source>(poll: &Poll, socket: &mut S, token: usize) -> io::Result<()> {
-    let both = Interest::READABLE | Interest::WRITABLE;
-    poll.registry().register(socket, Token(token), both)
-}
-
-/// Listens at an address.
-fn listen(
-    rt: &HostRuntime,
-    poll: &Poll,
-    address: SocketAddr,
-    token: usize,
-) -> Result<TcpListener, BindFault> {
-    match watched(rt, poll, address, token) {
-        Ok(listener) => Ok(listener),
-        Err(fault) => Err(BindFault::of(address, fault.kind())),
-    }
-}
-
-/// A listener at an address that is watched under a token.
-fn watched(
-    rt: &HostRuntime,
-    poll: &Poll,
-    address: SocketAddr,
-    token: usize,
-) -> io::Result<TcpListener> {
-    let mut listener = TcpListener::bind(rt, address)?;
-    poll.registry()
-        .register(&mut listener, Token(token), Interest::READABLE)?;
-    Ok(listener)
-}
-
-/// A line without a connection for each.
-fn no_lines(rt: &HostRuntime) -> Result<Vec<Option<Wired>>, AllocError> {
-    let mut lines = Vec::with_capacity(rt.alloc(), LINES)?;
-    for _ in 0..LINES {
-        lines.push(None)?;
-    }
-    Ok(lines)
-}
-
-/// Has a stream watched as the connection of the line at this place, and sends what is written at once.
-fn begin(
-    poll: &Poll,
-    lines: &mut Vec<Option<Wired>>,
-    place: usize,
-    mut stream: TcpStream,
-    stranger: Option<Stranger>,
-) -> io::Result<()> {
-    stream.set_nodelay(true)?;
-    match lines.get_mut(place) {
-        Some(line) => {
-            // The one before is closed before the next is watched under its token.
-            *line = None;
-            watch(poll, &mut stream, place)?;
-            *line = Some(Wired::new(stream, stranger));
-            Ok(())
-        }
-        None => Err(io::Error::from(ErrorKind::Other)),
-    }
-}
-
-/// The next connection of a port; none where the system has none, which `came` then tells.
-fn next_of(door: &TcpListener, came: &mut bool) -> Option<(TcpStream, SocketAddr)> {
-    match door.accept() {
-        Ok((stream, from)) => Some((stream, from)),
-        Err(fault) => {
-            if fault.kind() == ErrorKind::WouldBlock {
-                *came = false;
-            }
-            None
-        }
-    }
-}
-
-/// How many strangers of an address stand here.
-fn strangers(lines: &[Option<Wired>], address: IpAddr) -> usize {
-    let mut count = 0usize;
-    for line in lines {
-        if let Some(wired) = line {
-            if wired.is_stranger_of(address) {
-                count = count.saturating_add(1);
-            }
-        }
-    }
-    count
-}
-
-/// The connection at the place of one who dialled.
-fn caller_at(lines: &[Option<Wired>], number: u8) -> Option<&Wired> {
-    match lines.get(Line::Caller(number).place()?) {
-        Some(Some(wired)) => Some(wired),
-        _ => None,
-    }
-}
-
-/// The first place of those who dialled that has no connection.
-fn free_place(lines: &[Option<Wired>]) -> Option<u8> {
-    for number in 0..CALLERS as u8 {
-        if caller_at(lines, number).is_none() {
-            return Some(number);
-        }
-    }
-    None
-}
-
-/// The place of the stranger who came first, of this address or, where none is given, of any.
-fn oldest_stranger(lines: &[Option<Wired>], address: Option<IpAddr>) -> Option<u8> {
-    let mut oldest = None;
-    let mut least = u64::MAX;
-    for number in 0..CALLERS as u8 {
-        if let Some(wired) = caller_at(lines, number) {
-            if let Some(turn) = wired.turn_of_stranger(address) {
-                if turn < least {
-                    least = turn;
-                    oldest = Some(number);
-                }
-            }
-        }
-    }
-    oldest
-}
-
-/// The place for one who dialled from an address: where too many strangers of it stand here that of the first of them,
-/// else a free one, and where none is free that of the stranger who came first.
-fn place_for(lines: &[Option<Wired>], address: IpAddr) -> Option<u8> {
-    if strangers(lines, address) >= STRANGERS {
-        return oldest_stranger(lines, Some(address));
-    }
-    match free_place(lines) {
-        Some(number) => Some(number),
-        None => oldest_stranger(lines, None),
-    }
-}
-
-fn read(lines: &mut Vec<Option<Wired>>, line: Line, piece: &mut [u8]) -> Result<usize, Halt>
-    ensures { IfOk result (λ count. count ≤ length piece.new) }
-{
-    let Some(place) = line.place() else {
-        return Err(Halt::Ended);
-    };
-    match lines.get_mut(place) {
-        Some(Some(wired)) => wired.read(piece),
-        _ => Err(Halt::Ended),
-    }
-}
-
-fn write(lines: &mut Vec<Option<Wired>>, line: Line, bytes: &[u8]) -> Result<usize, Halt>
-    ensures { IfOk result (λ count. count ≤ length bytes.now) }
-{
-    let Some(place) = line.place() else {
-        return Err(Halt::Ended);
-    };
-    match lines.get_mut(place) {
-        Some(Some(wired)) => wired.write(bytes),
-        _ => Err(Halt::Ended),
-    }
-}
-
-fn close(lines: &mut Vec<Option<Wired>>, line: Line) {
-    if let Some(place) = line.place() {
-        if let Some(wired) = lines.get_mut(place) {
-            *wired = None;
-        }
-    }
-}
-
 impl<'a> TcpWire<'a> {
-    /// Opens the port where other nodes dial this one, and the ports of its seats. Nobody is dialled yet, and there is no
-    /// log.
+    /// Opens the port where other nodes dial this one, the ports of its seats, and where there is to be one that of its
+    /// status. Nobody is dialled yet, and there is no log.
     ///
     /// `peers` says where each node awaits the others, by number, and `number` which of them this one is; its seat 0 is
     /// awaited at `seats`, and seat s at the port that is s higher. Refused is the first port that can't be had.
@@ -264,6 +80,7 @@ impl<'a> TcpWire<'a> {
         number: u8,
         seats: SocketAddr,
         players: u8,
+        status: Option<SocketAddr>,
     ) -> Result<TcpWire<'a>, BindFault> {
         let Some(own) = peers.get(number as usize) else {
             return Err(BindFault::Failed {
@@ -273,21 +90,23 @@ impl<'a> TcpWire<'a> {
         let poll = Poll::new(rt)?;
         let events = Events::with_capacity(rt.alloc(), TOLD_AT_ONCE)?;
         let begun = Instant::now(rt)?;
-        let door = listen(rt, &poll, *own, DOOR)?;
-        let seat_doors = listen_for_seats(rt, &poll, seats, players)?;
-        let lines = no_lines(rt)?;
+        let reached = Reached {
+            peers: *own,
+            seats,
+            players,
+            status,
+        };
+        let ports = Ports::open(rt, &poll, reached)?;
+        let connections = Connections::new(rt.alloc())?;
         Ok(TcpWire {
             rt,
             poll,
             events,
             begun,
             addresses: peers,
-            door,
-            seat_doors,
-            lines,
-            came: [true; 1 + SEATS],
+            ports,
+            connections,
             log: None,
-            count: 0,
             failed: None,
             passed: Passages::new(),
         })
@@ -313,11 +132,9 @@ impl<'a> TcpWire<'a> {
         for event in &self.events {
             let Token(token) = event.token();
             if token < DOOR {
-                if let Some(Some(wired)) = self.lines.get_mut(token) {
-                    wired.wake();
-                }
-            } else if token < TOKENS {
-                self.came[token - DOOR] = true;
+                self.connections.wake(token);
+            } else {
+                self.ports.note(token);
             }
         }
     }
@@ -326,14 +143,12 @@ impl<'a> TcpWire<'a> {
     fn begin_dial(&mut self, peer: u8) -> io::Result<()>
         ensures { self.new.passed ≡ self.old.passed }
     {
-        let (Some(address), Some(place)) = (
-            self.addresses.get(peer as usize),
-            Line::Peer(peer).place(),
-        ) else {
+        let Some(address) = self.addresses.get(peer as usize) else {
             return Err(io::Error::from(ErrorKind::Other));
         };
         let stream = TcpStream::connect(self.rt, *address)?;
-        begin(&self.poll, &mut self.lines, place, stream, None)
+        self.connections
+            .begin(&self.poll, Line::Peer(peer), stream, address.ip(), None)
     }
 
     /// Notes that a peer couldn't be dialled.
@@ -348,66 +163,17 @@ impl<'a> TcpWire<'a> {
         }
     }
 
-    /// Takes in the next one of a port, if there is one, as the connection of this line.
-    fn take_in(&mut self, seat: u8) -> bool
+    /// Takes in the bot that came next to a seat's port, if one did.
+    fn take_in_bot(&mut self, seat: u8) -> bool
         ensures { self.new.passed ≡ self.old.passed }
     {
-        let at = seat as usize;
-        if at >= SEATS || !self.came[1 + at] {
-            return false;
-        }
-        let (Some(door), Some(place)) = (self.seat_doors.get(at), Line::Seat(seat).place()) else {
+        let Some((stream, from)) = self.ports.next_at_seat(seat) else {
             return false;
         };
-        match next_of(door, &mut self.came[1 + at]) {
-            Some((stream, _)) => begin(&self.poll, &mut self.lines, place, stream, None).is_ok(),
-            None => false,
-        }
+        self.connections
+            .begin(&self.poll, Line::Seat(seat), stream, from.ip(), None)
+            .is_ok()
     }
-
-    /// Takes in the next one who dialled, if there is one, and answers his place. A stranger who has stood here for longer
-    /// makes room, where there is none.
-    fn take_in_caller(&mut self) -> Option<u8>
-        ensures { self.new.passed ≡ self.old.passed }
-    {
-        let (stream, from) = next_of(&self.door, &mut self.came[0])?;
-        let address = from.ip();
-        let number = place_for(&self.lines, address)?;
-        let place = Line::Caller(number).place()?;
-        self.count = self.count.saturating_add(1);
-        let stranger = Stranger {
-            address,
-            turn: self.count,
-        };
-        match begin(&self.poll, &mut self.lines, place, stream, Some(stranger)) {
-            Ok(()) => Some(number),
-            Err(_) => None,
-        }
-    }
-}
-
-/// Listens for so many seats, the first at this address and each further one at the port behind.
-fn listen_for_seats(
-    rt: &HostRuntime,
-    poll: &Poll,
-    first: SocketAddr,
-    players: u8,
-) -> Result<Vec<TcpListener>, BindFault> {
-    let count = (players as usize).min(SEATS);
-    let mut doors = Vec::with_capacity(rt.alloc(), count)?;
-    for seat in 0..count {
-        let Some(port) = first.port().checked_add(seat as u16) else {
-            return Err(BindFault::Failed {
-                kind: ErrorKind::InvalidInput,
-            });
-        };
-        let address = SocketAddr::new(first.ip(), port);
-        let door = listen(rt, poll, address, DOOR + 1 + seat)?;
-        if doors.push(door).is_err() {
-            return Err(BindFault::OutOfMemory);
-        }
-    }
-    Ok(doors)
 }
 
 impl Wire for TcpWire<'_> {
@@ -434,6 +200,18 @@ impl Wire for TcpWire<'_> {
         }
     }
 
+    fn draw(&mut self) -> Option<[u8; 32]> {
+        let mut bytes = [0; 32];
+        match self.rt.fill_bytes(&mut bytes) {
+            Ok(()) => Some(bytes),
+            Err(_) => None,
+        }
+    }
+
+    fn source(&mut self, line: Line) -> Option<IpAddr> {
+        self.connections.source(line)
+    }
+
     fn dial(&mut self, peer: u8) -> Result<(), WireFault> {
         match self.begin_dial(peer) {
             Ok(()) => {
@@ -448,44 +226,60 @@ impl Wire for TcpWire<'_> {
     }
 
     fn accept(&mut self) -> Option<u8> {
-        if !self.came[0] {
-            return None;
-        }
-        let number = self.take_in_caller()?;
+        let came = self.ports.next_caller()?;
+        let number = self.connections.take_in(&self.poll, Comer::Caller, came)?;
         self.passed.began(Line::Caller(number));
         Some(number)
     }
 
     fn accept_seat(&mut self, seat: u8) -> bool {
-        if !self.take_in(seat) {
+        if !self.take_in_bot(seat) {
             return false;
         }
         self.passed.began(Line::Seat(seat));
         true
     }
 
+    fn accept_guest(&mut self, seat: u8) -> Option<u8> {
+        let came = self.ports.next_at_seat(seat)?;
+        let place = self.connections.take_in(&self.poll, Comer::Guest, came)?;
+        self.passed.began(Line::Guest(place));
+        Some(place)
+    }
+
+    fn seat_guest(&mut self, place: u8, seat: u8) -> bool {
+        if !self.connections.seat_guest(&self.poll, place, seat) {
+            return false;
+        }
+        self.passed.gave(place, seat);
+        true
+    }
+
+    fn accept_asker(&mut self) -> Option<u8> {
+        let came = self.ports.next_asker()?;
+        let place = self.connections.take_in(&self.poll, Comer::Asker, came)?;
+        self.passed.began(Line::Asker(place));
+        Some(place)
+    }
+
     fn read(&mut self, line: Line, piece: &mut [u8]) -> Result<usize, Halt> {
-        let count = read(&mut self.lines, line, piece)?;
+        let count = self.connections.read(line, piece)?;
         self.passed.came(line, &piece[..count]);
         Ok(count)
     }
 
     fn write(&mut self, line: Line, bytes: &[u8]) -> Result<usize, Halt> {
-        let count = write(&mut self.lines, line, bytes)?;
+        let count = self.connections.write(line, bytes)?;
         self.passed.wrote(line, &bytes[..count]);
         Ok(count)
     }
 
     fn know(&mut self, line: Line) {
-        if let Some(place) = line.place() {
-            if let Some(Some(wired)) = self.lines.get_mut(place) {
-                wired.know();
-            }
-        }
+        self.connections.know(line);
     }
 
     fn close(&mut self, line: Line) {
-        close(&mut self.lines, line);
+        self.connections.close(line);
     }
 
     fn add_to_log(&mut self, text: &[u8]) -> Result<(), WireFault> {

@@ -1,10 +1,11 @@
 //! What a node's process reaches outside of itself: its peers, its seats, its log, and the clock.
 
 ghost use Rattle.std.specs.Prelude.{◌≡◌, ◌≤◌, List, ◌∷◌, [], ◌++◌, length, take, IsTrue, true, false, IfOk, IfSome, IsNone, OnOk, OnErr};
-ghost use Rattle.node_wires.specs.Passages.{Passage, Began, Came, Wrote, Logged};
-ghost use Rattle.node_wires.specs.declared.line.Line.TheVariants.{Peer, Caller, Seat};
+ghost use Rattle.node_wires.specs.Passages.{Passage, Began, Came, Wrote, Gave, Logged};
+ghost use Rattle.node_wires.specs.declared.line.Line.TheVariants.{Peer, Caller, Seat, Guest, Asker};
 
 use crate::line::Line;
+use std::net::IpAddr;
 
 /// Why a read or a write did nothing.
 #[derive(Clone, Copy, Debug, PartialEq, Eq)]
@@ -25,7 +26,8 @@ pub enum WireFault {
 }
 
 /// The wires of a node's process: a line to each peer that it dials, a line of each place where one who dialled it stands,
-/// a line to the bot of each seat, and its log. Nodes, places and seats are counted from 0.
+/// a line to the bot of each seat, a line of each place where a guest of a seat stands or one who asks for the node's
+/// status, and its log. Nodes, places and seats are counted from 0.
 ///
 /// No call waits but `wait`. Nothing is said of what comes, nor when: what is promised of a node holds whatever its wires
 /// answer. What passed is said: which connections began, the pieces that came and that were written, and what the log got.
@@ -40,6 +42,14 @@ pub trait Wire {
 
     /// Waits until something may have come, or be written where there was no room, for so many microseconds at most.
     fn wait(&mut self, most: u64)
+        ensures { passed self.new ≡ passed self.old };
+
+    /// Bytes that the system drew, for a number that is used once; none where it gives none.
+    fn draw(&mut self) -> Option<[u8; 32]>
+        ensures { passed self.new ≡ passed self.old };
+
+    /// The address at the other end of a line's connection, where it is known.
+    fn source(&mut self, line: Line) -> Option<IpAddr>
         ensures { passed self.new ≡ passed self.old };
 
     /// Begins a connection to a peer, in place of the one that its line has. Whether it is answered shows by a later read or
@@ -58,6 +68,24 @@ pub trait Wire {
     fn accept_seat(&mut self, seat: u8) -> bool
         ensures began { result ≡ true → passed self.new ≡ passed self.old ++ Began (Seat seat) ∷ [] }
         ensures none { result ≡ false → passed self.new ≡ passed self.old };
+
+    /// Takes in the next one who came to a seat's port as a guest, if there is one and a place for him, and answers his
+    /// place. One who stands there may be let go of for him.
+    fn accept_guest(&mut self, seat: u8) -> Option<u8>
+        ensures began { IfSome result (λ place. passed self.new ≡ passed self.old ++ Began (Guest place) ∷ []) }
+        ensures none { IsNone result → passed self.new ≡ passed self.old };
+
+    /// Gives the connection of the guest at a place to a seat's line, in place of the one that that has; the guest's line
+    /// has none any more. False where there is no such guest or it failed: then all is as it was.
+    fn seat_guest(&mut self, place: u8, seat: u8) -> bool
+        ensures gave { result ≡ true → passed self.new ≡ passed self.old ++ Gave place seat ∷ [] }
+        ensures none { result ≡ false → passed self.new ≡ passed self.old };
+
+    /// Takes in the next one who came to the status port, if there is one and a place for him, and answers his place. One
+    /// who stands there may be let go of for him.
+    fn accept_asker(&mut self) -> Option<u8>
+        ensures began { IfSome result (λ place. passed self.new ≡ passed self.old ++ Began (Asker place) ∷ []) }
+        ensures none { IsNone result → passed self.new ≡ passed self.old };
 
     /// Reads the next piece that came over a line, no more than the buffer holds, and answers how many bytes it has.
     fn read(&mut self, line: Line, piece: &mut [u8]) -> Result<usize, Halt>

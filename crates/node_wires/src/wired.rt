@@ -1,19 +1,12 @@
 ghost use Rattle.std.specs.Prelude.{◌≤◌, length, IfOk};
 
 use crate::wire::Halt;
+use mio::event::Source;
 use mio::net::TcpStream;
+use mio::{Interest, Poll, Token};
 use std::io;
 use std::io::{Read, Write};
 use std::net::IpAddr;
-
-/// One who dialled, as long as it isn't known who he is.
-#[derive(Clone, Copy, Drop)]
-pub(crate) struct Stranger {
-    /// Where he dialled from.
-    pub(crate) address: IpAddr,
-    /// He was taken in as the one of this number.
-    pub(crate) turn: u64,
-}
 
 /// A connection over TCP, and whether there may be something to read of it, and room to write into. What isn't asked of
 /// the system until it has told of it costs no call.
@@ -22,7 +15,10 @@ pub(crate) struct Wired {
     stream: TcpStream,
     may_read: bool,
     may_write: bool,
-    stranger: Option<Stranger>,
+    /// The address at the other end.
+    address: IpAddr,
+    /// He came as the one of this number, as long as it isn't known who he is; none of one who is known.
+    turn: Option<u64>,
 }
 
 /// What a failed read or write leaves: one that a signal broke off, or for which nothing is there, may be made later.
@@ -36,41 +32,71 @@ fn halted(kind: io::ErrorKind) -> Halt {
 }
 
 impl Wired {
-    /// Both are tried once.
-    pub(crate) fn new(stream: TcpStream, stranger: Option<Stranger>) -> Wired {
-        Wired {
+    /// Has a stream watched under a token, and sends what is written at once. Reading and writing are tried once each.
+    pub(crate) fn watch(
+        poll: &Poll,
+        mut stream: TcpStream,
+        token: usize,
+        address: IpAddr,
+        turn: Option<u64>,
+    ) -> io::Result<Wired> {
+        stream.set_nodelay(true)?;
+        poll.registry().register(
+            &mut stream,
+            Token(token),
+            Interest::READABLE | Interest::WRITABLE,
+        )?;
+        Ok(Wired {
             stream,
             may_read: true,
             may_write: true,
-            stranger,
+            address,
+            turn,
+        })
+    }
+
+    /// It is watched under another token from now on, and it is known who he is. False where that failed: then all is as it
+    /// was.
+    pub(crate) fn watch_as(&mut self, poll: &Poll, token: usize) -> bool {
+        let both = Interest::READABLE | Interest::WRITABLE;
+        if poll
+            .registry()
+            .reregister(&mut self.stream, Token(token), both)
+            .is_err()
+        {
+            return false;
         }
+        self.wake();
+        self.know();
+        true
+    }
+
+    /// The address at the other end.
+    pub(crate) fn address(&self) -> IpAddr {
+        self.address
     }
 
     /// It is known who he is.
     pub(crate) fn know(&mut self) {
-        self.stranger = None;
+        self.turn = None;
     }
 
     /// Whether he is a stranger of this address.
     pub(crate) fn is_stranger_of(&self, address: IpAddr) -> bool {
-        match &self.stranger {
-            Some(stranger) => stranger.address == address,
-            None => false,
-        }
+        self.turn.is_some() && self.address == address
     }
 
-    /// His number among those who were taken in, where he is a stranger: of this address, or of any where none is given.
+    /// His number among those who came, where he is a stranger: of this address, or of any where none is given.
     pub(crate) fn turn_of_stranger(&self, address: Option<IpAddr>) -> Option<u64> {
-        let stranger = self.stranger?;
         match address {
             Some(wanted) => {
-                if stranger.address == wanted {
-                    Some(stranger.turn)
+                if self.address == wanted {
+                    self.turn
                 } else {
                     None
                 }
             }
-            None => Some(stranger.turn),
+            None => self.turn,
         }
     }
 

@@ -173,9 +173,11 @@ fn feeds(rt: &impl Abort, alloc: Global, pieces: &[(&[u8], Next)]) -> Result<(),
     Ok(())
 }
 
-/// A frame of the greatest length, which is at fault once its last byte is there, and a length above the limit, at fault
-/// at once and from then on.
-static LENGTHS: [Pieces; 2] = [
+/// What comes in pieces into room that is made for them, and what is answered.
+static IN_PIECES: [Pieces; 7] = [
+    &[(&PREPARE, Next::Prepare)],
+    // a frame of the greatest length, which is at fault once its last byte is there, and a length above the limit, at fault
+    // at once and from then on
     &[
         (&[0, 0, 0x10], Next::Nothing),
         (&[0], Next::Nothing),
@@ -187,19 +189,8 @@ static LENGTHS: [Pieces; 2] = [
         (&[1], Next::Fault(FrameFault::TooLong)),
         (&PREPARE, Next::Fault(FrameFault::TooLong)),
     ],
-];
-
-#[test]
-fn lengths_at_their_limits(rt: HostRuntime) -> Result<(), Fail> {
-    for &pieces in &LENGTHS {
-        feeds(&rt, rt.alloc(), pieces)?;
-    }
-    Ok(())
-}
-
-/// An Accept whose length is one less than its bytes, which is at fault at once, and one whose length is one more, which
-/// waits and takes the first byte of the next frame; the same of an Accept of two commands.
-static MISCOUNTED: [Pieces; 4] = [
+    // an Accept whose length is one less than its bytes, which is at fault at once, and one whose length is one more, which
+    // waits and takes the first byte of the next frame; the same of an Accept of two commands
     &[
         (
             &[
@@ -241,16 +232,10 @@ static MISCOUNTED: [Pieces; 4] = [
 ];
 
 #[test]
-fn lengths_that_miscount_an_accept(rt: HostRuntime) -> Result<(), Fail> {
-    for &pieces in &MISCOUNTED {
+fn a_piece_goes_into_room_that_was_reserved(rt: HostRuntime) -> Result<(), Fail> {
+    for &pieces in &IN_PIECES {
         feeds(&rt, rt.alloc(), pieces)?;
     }
-    Ok(())
-}
-
-#[test]
-fn a_piece_goes_into_room_that_was_reserved(rt: HostRuntime) -> Result<(), Fail> {
-    feeds(&rt, rt.alloc(), &[(&PREPARE, Next::Prepare)])?;
     Ok(())
 }
 
@@ -263,74 +248,56 @@ fn owned(alloc: Global, pieces: &[&[u8]]) -> Result<Vec<Vec<u8>>, AllocError> {
     Ok(copies)
 }
 
+/// Sees what is printed of the first of kept messages, and how many there are.
+fn begins_with(
+    rt: &impl Abort,
+    alloc: Global,
+    messages: &[KeptMessage],
+    count: usize,
+    line: &str,
+) -> Result<(), AllocError> {
+    same!(rt; messages.len(), count);
+    let first = messages.first().expect(rt, "a message");
+    let mut room = MessageRoom::new();
+    prints(rt, alloc, &first.read(&mut room), line)
+}
+
+/// Sees how many messages a stream in pieces has, what is printed of the first, and the fault at its end.
+fn streams(
+    rt: &impl Abort,
+    alloc: Global,
+    pieces: &[&[u8]],
+    (count, line): (usize, &str),
+    wanted: Option<FrameFault>,
+) -> Result<(), AllocError> {
+    let (messages, fault) = read_stream(alloc, &owned(alloc, pieces)?)?;
+    holds!(rt; fault == wanted);
+    begins_with(rt, alloc, &messages, count, line)
+}
+
+/// Both versions may stand in one stream, and say the same, also of more than one command.
 #[test]
 fn a_stream_in_pieces(rt: HostRuntime) -> Result<(), Fail> {
-    let (old_prepare, _) = OLD_FRAMES[0];
-    let pieces = [
-        &PREPARE[..],
+    let [(old_prepare, _), (old_accept, _), ..] = OLD_FRAMES;
+    let ends_in_a_fault = [
         old_prepare,
+        &PREPARE[..],
         &FORWARD[..7],
         &FORWARD[7..],
         &[0, 0, 0, 2, 2, 9][..],
     ];
-    let pieces = owned(rt.alloc(), &pieces)?;
-    let (messages, fault) = read_stream(rt.alloc(), &pieces)?;
-    same!(&rt; messages.len(), 3);
-    holds!(&rt; fault == Some(FrameFault::BadKind));
-    Ok(())
-}
-
-/// The frames of the version before, each with the one of today behind it.
-fn mixed(alloc: Global) -> Result<Vec<Vec<u8>>, AllocError> {
-    let mut pieces = Vec::new(alloc);
-    for &(old, new) in &OLD_FRAMES {
-        pieces.push(Vec::from_slice(alloc, old)?)?;
-        pieces.push(Vec::from_slice(alloc, new)?)?;
-    }
-    Ok(pieces)
-}
-
-/// Both versions may stand in one stream, and say the same.
-#[test]
-fn a_stream_of_both_versions(rt: HostRuntime) -> Result<(), Fail> {
-    let (messages, fault) = read_stream(rt.alloc(), &mixed(rt.alloc())?)?;
-    same!(&rt; messages.len(), 2 * OLD_FRAMES.len());
-    holds!(&rt; fault.is_none());
-    for pair in messages.as_slice().chunks_exact(2) {
-        says_the_same(&rt, rt.alloc(), &pair[0], &pair[1])?;
-    }
-    Ok(())
-}
-
-/// Sees that two messages print alike.
-fn says_the_same(
-    rt: &impl Abort,
-    alloc: Global,
-    one: &KeptMessage,
-    other: &KeptMessage,
-) -> Result<(), AllocError> {
-    let mut room = MessageRoom::new();
-    let line = {
-        let message = other.read(&mut room);
-        format!(in alloc; "{message}")?
-    };
-    prints(rt, alloc, &one.read(&mut room), line.as_str())
-}
-
-#[test]
-fn runs_in_a_stream_of_both_versions(rt: HostRuntime) -> Result<(), Fail> {
-    let (old_accept, _) = OLD_FRAMES[1];
-    let pieces = [
+    let prepare = (3, "Prepare (1, 0) from 0");
+    let bad_kind = Some(FrameFault::BadKind);
+    streams(&rt, rt.alloc(), &ends_in_a_fault, prepare, bad_kind)?;
+    let of_two = [
         old_accept,
         &ACCEPT_OF_TWO[..20],
         &ACCEPT_OF_TWO[20..],
         &PREPARE[..],
         &ACCEPTED_OF_TWO[..],
     ];
-    let pieces = owned(rt.alloc(), &pieces)?;
-    let (messages, fault) = read_stream(rt.alloc(), &pieces)?;
-    same!(&rt; messages.len(), 4);
-    holds!(&rt; fault.is_none());
+    let deal = (4, "Accept (1, 0) at 0: deal of hand 0");
+    streams(&rt, rt.alloc(), &of_two, deal, None)?;
     Ok(())
 }
 

@@ -224,9 +224,6 @@ pub(crate) static NO_FRAMES: [(&[u8], FrameFault, u8); 27] = [
 /// The version, the kind and the ballot of an Accept in (1, 0).
 pub(crate) const ACCEPT_FRONT: [u8; 7] = [2, 4, 0, 0, 0, 1, 0];
 
-/// The same of an Accepted.
-pub(crate) const ACCEPTED_FRONT: [u8; 7] = [2, 5, 0, 0, 0, 1, 0];
-
 /// Commands at fault: the first slot's bytes, how many are said to follow, and how many calls do.
 pub(crate) static WRONG_RUNS: [([u8; 4], u8, usize); 8] = [
     ([0, 0, 0, 0], 0, 0),
@@ -279,15 +276,6 @@ pub(crate) fn message_of<'a>(frame: &[u8], room: &'a mut MessageRoom) -> Option<
     match decode(frame, room) {
         Ok(message) => Some(message),
         Err(_) => None,
-    }
-}
-
-/// The fault of bytes that are no frame.
-pub(crate) fn fault_of(bytes: &[u8]) -> Option<FrameFault> {
-    let mut room = MessageRoom::new();
-    match decode(bytes, &mut room) {
-        Ok(_) => None,
-        Err(fault) => Some(fault),
     }
 }
 

@@ -1,5 +1,5 @@
 use crate::asserting::{holds, same};
-use crate::samples::{L2, next, ten_ace, with_changed_bit};
+use crate::samples::{L2, ten_ace};
 use card_core::Deal;
 use dealer_kind::Config;
 use match_file::{Absent, MatchFault, MatchFile, Outage, Service};
@@ -380,60 +380,4 @@ fn each_key_of_serving_is_told(rt: HostRuntime) -> Result<(), Fail> {
         is_told_of_service_with(&rt, rt.alloc(), old, new, expected)?;
     }
     Ok(())
-}
-
-/// Whether a text ends with an answer that is named: a match, or a fault of a match file.
-fn ends_with_a_name(alloc: Global, text: &[u8]) -> bool {
-    match fault_of(alloc, text, Some(L2)) {
-        None => true,
-        Some(fault) => matches!(fault.code(), 100 | 101),
-    }
-}
-
-/// Sees that a text ends with a name that is cut at a place, or has a bit changed there.
-fn ends_with_a_name_when_damaged(
-    rt: &impl Abort,
-    alloc: Global,
-    text: &[u8],
-    place: usize,
-) -> Result<(), AllocError> {
-    assert!(rt; place < text.len());
-    holds!(rt; ends_with_a_name(alloc, &text[..place]));
-    let changed = with_changed_bit(alloc, text, place)?;
-    holds!(rt; ends_with_a_name(alloc, &changed));
-    Ok(())
-}
-
-#[test]
-fn a_damaged_file_ends_with_a_name(rt: HostRuntime) -> Result<(), Fail> {
-    let text = LISTED.as_bytes();
-    for place in 0..text.len() {
-        ends_with_a_name_when_damaged(&rt, rt.alloc(), text, place)?;
-    }
-    Ok(())
-}
-
-/// Random bytes, a third of them from an alphabet of what TOML is made of.
-fn random_text(rt: &impl Abort, alloc: Global, seed: u64) -> Vec<u8> {
-    let alphabet = b"name=\"[]{}\n# 0.-,'\\node";
-    let mut state = next(seed);
-    let mut text = Vec::new(alloc);
-    for _ in 0..state >> 58 {
-        state = next(state);
-        let byte = if state >> 62 == 0 {
-            ((state >> 32) % 256) as u8
-        } else {
-            alphabet[(state >> 40) as usize % alphabet.len()]
-        };
-        text.push(byte).expect(rt, "memory");
-    }
-    text
-}
-
-#[test]
-fn random_texts_end_with_a_name(rt: HostRuntime) {
-    for seed in 0..1000u64 {
-        let text = random_text(&rt, rt.alloc(), seed);
-        holds!(&rt; ends_with_a_name(rt.alloc(), &text));
-    }
 }

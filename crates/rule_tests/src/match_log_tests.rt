@@ -346,14 +346,10 @@ fn has_name(text: &[u8]) -> bool {
 }
 
 #[test]
-fn each_seat_has_a_name_of_its_own(rt: HostRuntime) {
+fn names_and_words_are_short_and_plain(rt: HostRuntime) {
     for &(text, are_names) in &TWO_NAMES {
         same!(&rt; has_names(text), are_names);
     }
-}
-
-#[test]
-fn names_and_words_are_short_and_plain(rt: HostRuntime) {
     for &(text, is_name) in &NAMES {
         same!(&rt; has_name(text), is_name);
     }

@@ -9,6 +9,7 @@ use match_file::{
 };
 use matchstate::read_deal;
 use std::alloc::{AllocError, Global};
+use std::net::SocketAddr;
 use std::process::Abort;
 use std::test::Fail;
 
@@ -136,6 +137,7 @@ fn a_node_reads_its_entries(rt: HostRuntime) -> Result<(), Fail> {
     same!(&rt; entries.logs, "a folder");
     same!(&rt; entries.addresses.peers.len(), 1);
     same!(&rt; entries.addresses.seats.len(), 1);
+    holds!(&rt; entries.key.is_none() && entries.tokens.is_none() && entries.patience.is_none());
     let passed = file.passed_over(rt.alloc())?;
     holds!(&rt; passed.as_slice() == [Key::Port, Key::Away].as_slice());
     holds!(&rt; file.unused(rt.alloc())?.is_empty());
@@ -211,6 +213,87 @@ fn ends_of_networks_are_trusted(rt: HostRuntime) -> Result<(), Fail> {
     for &address in &TRUSTED {
         let text = with(rt.alloc(), REACHED, "10.0.0.7:21000", address)?;
         same!(&rt; fault_of(rt.alloc(), text.as_bytes()), None);
+    }
+    Ok(())
+}
+
+/// What a node reads that shares a key with the others: addresses may be any. The tokens are the digits `0a`, 32 times,
+/// and the digits `5b`; the digests of these texts are those that Python's `hashlib` makes, the second one in large digits.
+const KEYED: &str = "stores = \"stores\"
+logs = \"a folder\"
+key = \"match.key\"
+tokens = [
+    \"2db6b2a7b2fbb5fbf2ea7fcbacb5e1645fb6bf3c0d606ce5b88a23533b32d4b8\",
+    \"A76CE78EBA9F3EE75893315FAFED974A60B4A028B36F9B1E42B11E841E7B4282\",
+]
+patience = 86400
+[[node]]
+peers = \"8.8.8.8:21000\"
+seats = \"[2001:db8::7]:65534\"
+status = \"21900\"
+[[node]]
+peers = \"0.0.0.0:21000\"
+seats = \"127.0.0.1:7000\"
+";
+
+/// The first bytes of the digests of tokens.
+fn first_bytes(tokens: &[[u8; 32]]) -> u64 {
+    let mut all = 0u64;
+    for token in tokens {
+        all = all.wrapping_mul(256).wrapping_add(token[0] as u64);
+    }
+    all
+}
+
+#[test]
+fn a_node_with_a_key_reads_its_entries(rt: HostRuntime) -> Result<(), Fail> {
+    let file = MatchFile::read(rt.alloc(), KEYED.as_bytes()).expect(&rt, "a file");
+    let entries = file.node_entries(rt.alloc(), 2).expect(&rt, "entries");
+    same!(&rt; entries.key, Some("match.key"));
+    same!(&rt; entries.patience, Some(86_400));
+    let tokens = entries.tokens.expect(&rt, "tokens");
+    same!(&rt; first_bytes(&tokens), 45 * 256 + 167);
+    let status = entries.addresses.status.as_slice();
+    let own = SocketAddr::parse_ascii(b"127.0.0.1:21900").ok();
+    holds!(&rt; status == [own, None].as_slice());
+    holds!(&rt; file.unused(rt.alloc())?.is_empty());
+    Ok(())
+}
+
+/// A part of what such a node reads, another in its place, and the key that is told then, if any.
+static KEYED_CHANGES: [(&str, &str, Option<Key>); 24] = [
+    ("\"match.key\"", "1", Some(Key::KeyFile)),
+    ("key = \"match.key\"\n", "", Some(Key::Peers)),
+    ("8.8.8.8:21000", "8.8.8.8:0", Some(Key::Peers)),
+    ("0.0.0.0:21000", "node1:21000", Some(Key::Peers)),
+    (":65534", ":65535", Some(Key::Seats)),
+    ("127.0.0.1:7000", "127.0.0.1:0", Some(Key::Seats)),
+    ("\"21900\"", "21900", Some(Key::Status)),
+    ("\"21900\"", "\"0\"", Some(Key::Status)),
+    ("\"21900\"", "\"65536\"", Some(Key::Status)),
+    ("\"21900\"", "\"\"", Some(Key::Status)),
+    ("\"21900\"", "\"localhost:21900\"", Some(Key::Status)),
+    ("\"21900\"", "\"[::]:65535\"", None),
+    ("tokens = [", "others = [", Some(Key::Tokens)),
+    ("tokens = [", "tokens = [\"\",", Some(Key::Tokens)),
+    ("E7B4282\"", "E7B428\"", Some(Key::Tokens)),
+    ("E7B4282\"", "E7B428g\"", Some(Key::Tokens)),
+    ("\"A76C", "7, # \"A76C", Some(Key::Tokens)),
+    ("\"A76C", "# \"A76C", Some(Key::Tokens)),
+    ("86400", "86401", Some(Key::Patience)),
+    ("86400", "0", Some(Key::Patience)),
+    ("86400", "-1", Some(Key::Patience)),
+    ("86400", "\"30\"", Some(Key::Patience)),
+    ("86400", "1", None),
+    ("patience = 86400", "", None),
+];
+
+#[test]
+fn each_key_of_a_node_with_a_key_is_told_where_it_is_wrong(rt: HostRuntime) -> Result<(), Fail> {
+    for &(old, new, key) in &KEYED_CHANGES {
+        let text = with(rt.alloc(), KEYED, old, new)?;
+        let fault = fault_of(rt.alloc(), text.as_bytes());
+        same!(&rt; fault, key.map(MatchFault::BadEntry));
     }
     Ok(())
 }

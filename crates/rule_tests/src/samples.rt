@@ -1,9 +1,8 @@
-//! The games, cards and deals that tests of several crates are about, and how texts are damaged.
+//! The games, cards and deals that tests of several crates are about.
 
 use card_core::{Card, Deal};
 use game_def::GameDef;
 use matchstate::read_deal;
-use std::alloc::{AllocError, Global};
 use std::process::Abort;
 
 /// Two players, limit.
@@ -81,24 +80,4 @@ pub(crate) fn card(rt: &impl Abort, text: &[u8; 2]) -> Card {
 /// A ten and an ace for the first seat, an eight and a ten for the second.
 pub(crate) fn ten_ace(rt: &impl Abort) -> Deal {
     read_deal(b"TdAs|8hTc/2c8c3h/9c/Kh", 2).expect(rt, "a deal of two players")
-}
-
-/// A text with one bit changed of the byte at a place.
-pub(crate) fn with_changed_bit(
-    alloc: Global,
-    text: &[u8],
-    place: usize,
-) -> Result<Vec<u8>, AllocError> {
-    let mut changed = text.to_vec(alloc)?;
-    if place < changed.len() {
-        changed[place] ^= 1 << (place % 8);
-    }
-    Ok(changed)
-}
-
-/// The next of numbers that look random (Knuth's linear congruence).
-pub(crate) fn next(state: u64) -> u64 {
-    state
-        .wrapping_mul(6364136223846793005)
-        .wrapping_add(1442695040888963407)
 }

@@ -1,6 +1,6 @@
 use crate::asserting::{holds, same};
 use crate::samples::{L2, game, ten_ace};
-use betting::{ActFault, Action};
+use betting::Action;
 use matchstate::LineFault;
 use seat_session::{Said, Session, SessionFault, line_feeds};
 use slot_log::{Command, Table};
@@ -13,39 +13,12 @@ type Answer = Result<Said, SessionFault>;
 // Calls with long contracts, and comparisons of answers, stand in one function each: a contract is read anew wherever its
 // call stands.
 
-/// Takes a command.
-fn apply(table: &mut Table, command: &Command) -> Result<(), AllocError> {
-    table.apply(command)?;
-    Ok(())
-}
-
-/// Deals the first hand and takes these actions in it; does nothing where there are none.
-fn play(rt: &impl Abort, table: &mut Table, actions: Option<&[Action]>) -> Result<(), AllocError> {
-    let Some(actions) = actions else {
-        return Ok(());
-    };
-    let deal = ten_ace(rt);
-    apply(table, &Command::Deal { hand: 0, deal })?;
-    for (index, action) in actions.iter().enumerate() {
-        assert!(rt; index < 256);
-        apply(table, &act(index as u16, *action))?;
-    }
-    Ok(())
-}
-
 /// A match of one hand that was dealt.
 fn dealt(rt: &impl Abort, alloc: Global) -> Result<Table, AllocError> {
     let mut table = Table::new(alloc, game(rt, L2), 1);
-    play(rt, &mut table, Some(&[]))?;
+    let deal = ten_ace(rt);
+    table.apply(&Command::Deal { hand: 0, deal })?;
     Ok(table)
-}
-
-fn act(index: u16, action: Action) -> Command {
-    Command::Act {
-        hand: 0,
-        index,
-        action,
-    }
 }
 
 /// Gives a session a piece.
@@ -57,34 +30,6 @@ fn feed(session: &mut Session, piece: &[u8]) -> Result<(), AllocError> {
 fn answers(rt: &impl Abort, session: &mut Session, table: &Table, wanted: Option<Answer>) {
     assert!(rt; session.seat() < table.game().players());
     same!(rt; session.next(table), wanted);
-}
-
-/// Sees that a session gets ready, where it is greeted.
-fn greet(
-    rt: &impl Abort,
-    session: &mut Session,
-    table: &Table,
-    is_greeted: bool,
-) -> Result<(), AllocError> {
-    if is_greeted {
-        feed(session, GREETING)?;
-        answers(rt, session, table, Some(Ok(Said::Ready)));
-    }
-    Ok(())
-}
-
-/// Gives a session bytes one at a time: nothing is answered before the last byte.
-fn feed_bytewise(
-    rt: &impl Abort,
-    session: &mut Session,
-    table: &Table,
-    bytes: &[u8],
-) -> Result<(), AllocError> {
-    for byte in bytes {
-        answers(rt, session, table, None);
-        feed(session, &[*byte])?;
-    }
-    Ok(())
 }
 
 /// What is answered: that the seat is ready, a call with its index, or a fault.
@@ -99,171 +44,81 @@ enum Wanted {
 fn answer_of(wanted: Wanted) -> Answer {
     match wanted {
         Wanted::Ready => Ok(Said::Ready),
-        Wanted::Call(index) => Ok(Said::Act(act(index, Action::Call))),
+        Wanted::Call(index) => Ok(Said::Act(Command::Act {
+            hand: 0,
+            index,
+            action: Action::Call,
+        })),
         Wanted::Fault(fault) => Err(fault),
     }
 }
 
-/// What a seat says: the actions of the first hand before, where it is dealt, the seat, whether it has greeted, its bytes,
-/// and what is answered.
-type Speech = (
-    Option<&'static [Action]>,
-    usize,
-    bool,
-    &'static [u8],
-    Wanted,
-);
+/// What a seat says, and what is answered to it, one behind the other.
+type Speech = (usize, &'static [u8], &'static [Wanted]);
 
-/// Sees what a session answers to bytes that come at once.
-fn answers_at_once(
-    rt: &impl Abort,
-    alloc: Global,
-    table: &Table,
-    said: &Speech,
-) -> Result<(), AllocError> {
-    let (_, seat, is_greeted, bytes, wanted) = said;
-    let mut session = Session::new(alloc, *seat);
-    greet(rt, &mut session, table, *is_greeted)?;
-    feed(&mut session, bytes)?;
-    answers(rt, &mut session, table, Some(answer_of(*wanted)));
-    Ok(())
-}
-
-/// Sees that another session answers the same where they come one at a time.
-fn answers_bytewise(
-    rt: &impl Abort,
-    alloc: Global,
-    table: &Table,
-    said: &Speech,
-) -> Result<(), AllocError> {
-    let (_, seat, is_greeted, bytes, wanted) = said;
-    let mut session = Session::new(alloc, *seat);
-    greet(rt, &mut session, table, *is_greeted)?;
-    feed_bytewise(rt, &mut session, table, bytes)?;
-    answers(rt, &mut session, table, Some(answer_of(*wanted)));
-    Ok(())
-}
-
-/// Sees what is answered to a seat.
-fn is_answered(rt: &impl Abort, alloc: Global, said: &Speech) -> Result<(), AllocError> {
-    let mut table = Table::new(alloc, game(rt, L2), 1);
-    play(rt, &mut table, said.0)?;
-    answers_at_once(rt, alloc, &table, said)?;
-    answers_bytewise(rt, alloc, &table, said)
-}
-
-/// Sees what is answered to each.
+/// Sees what is answered to each by a table where a hand was dealt.
 fn are_answered(rt: &impl Abort, alloc: Global, speeches: &[Speech]) -> Result<(), AllocError> {
+    let table = dealt(rt, alloc)?;
     for said in speeches {
-        is_answered(rt, alloc, said)?;
+        is_answered(rt, alloc, &table, said)?;
     }
     Ok(())
 }
 
-const GREETING: &[u8] = b"VERSION:2.0.0\r\n";
-
-/// A hand that was dealt and in which nobody has acted.
-const DEALT: Option<&[Action]> = Some(&[]);
-
-const CALLED: Option<&[Action]> = Some(&[Action::Call]);
-
-const RAISED: Option<&[Action]> = Some(&[Action::Raise(20), Action::Raise(30), Action::Raise(40)]);
-
-const FOLDED: Option<&[Action]> = Some(&[Action::Fold]);
-
-const READY: Wanted = Wanted::Ready;
-
-const FIRST_CALL: Wanted = Wanted::Call(0);
-
-const SECOND_CALL: Wanted = Wanted::Call(1);
+/// Sees what a new session answers.
+fn is_answered(
+    rt: &impl Abort,
+    alloc: Global,
+    table: &Table,
+    said: &Speech,
+) -> Result<(), AllocError> {
+    let (seat, bytes, answered) = *said;
+    let mut session = Session::new(alloc, seat);
+    feed(&mut session, bytes)?;
+    for wanted in answered {
+        answers(rt, &mut session, table, Some(answer_of(*wanted)));
+    }
+    Ok(())
+}
 
 const BAD_VERSION: Wanted = Wanted::Fault(SessionFault::BadVersion);
 
-const NO_ACTION: Wanted = Wanted::Fault(SessionFault::Malformed(LineFault::BadAction));
-
-const NO_LINE: Wanted = Wanted::Fault(SessionFault::Malformed(LineFault::NotMatchstate));
-
-const NOT_CURRENT: Wanted = Wanted::Fault(SessionFault::NotCurrent);
-
-const NOT_YOUR_TURN: Wanted = Wanted::Fault(SessionFault::NotYourTurn);
-
-const NO_FOLD: Wanted = Wanted::Fault(SessionFault::Illegal(ActFault::FoldNotFacing));
-
-const NO_RAISE: Wanted = Wanted::Fault(SessionFault::Illegal(ActFault::TooManyRaises));
-
 /// First lines.
-static FIRST_LINES: [Speech; 8] = [
-    (DEALT, 1, false, b"VERSION:2.0.0\r\n", READY),
-    (DEALT, 1, false, b"# hello\r\n;\nVERSION:2.0.7\n", READY),
-    (DEALT, 1, false, b"VERSION:2.0.012345678\n", READY),
-    (DEALT, 1, false, b"VERSION:2.1.0\n", BAD_VERSION),
-    (DEALT, 1, false, b"VERSION:2.0.\n", BAD_VERSION),
-    (DEALT, 1, false, b"VERSION:2.0.0123456789\n", BAD_VERSION),
-    (DEALT, 1, false, b"MATCHSTATE:1:0::|8hTc:c\n", BAD_VERSION),
-    (DEALT, 1, false, b"\n", BAD_VERSION),
+static FIRST_LINES: [Speech; 5] = [
+    (1, b"VERSION:2.0.0\r\n", &[Wanted::Ready]),
+    (1, b"# hello\r\n;\nVERSION:2.0.7\n", &[Wanted::Ready]),
+    (1, b"VERSION:2.0.012345678\n", &[Wanted::Ready]),
+    (1, b"VERSION:2.0.0123456789\n", &[BAD_VERSION]),
+    (1, b"MATCHSTATE:1:0::|8hTc:c\n", &[BAD_VERSION]),
 ];
 
 #[test]
 fn first_lines(rt: HostRuntime) -> Result<(), Fail> {
-    are_answered(&rt, rt.alloc(), &FIRST_LINES)?;
-    Ok(())
+    Ok(are_answered(&rt, rt.alloc(), &FIRST_LINES)?)
 }
 
-/// Lines that are acts.
+/// Lines that are acts, and one that is none.
 static ACTS: [Speech; 3] = [
-    (DEALT, 1, true, b"MATCHSTATE:1:0::|8hTc:c\r\n", FIRST_CALL),
     (
-        DEALT,
         1,
-        true,
-        b"# call\n;\r\nMATCHSTATE:1:0::|8hTc:c\n",
-        FIRST_CALL,
+        b"VERSION:2.0.0\r\nMATCHSTATE:1:0::|8hTc:c\r\n",
+        &[Wanted::Ready, Wanted::Call(0)],
     ),
     (
-        CALLED,
+        1,
+        b"VERSION:2.0.0\n# call\n;\r\nMATCHSTATE:1:0::|8hTc:c\n",
+        &[Wanted::Ready, Wanted::Call(0)],
+    ),
+    (
         0,
-        true,
-        b"MATCHSTATE:0:0:c:TdAs|:c\r\n",
-        SECOND_CALL,
+        b"VERSION:2.0.0\r\nMATCHSTATE:0:0::TdAs|:c\r\n",
+        &[Wanted::Ready, Wanted::Fault(SessionFault::NotYourTurn)],
     ),
 ];
 
 #[test]
 fn acts(rt: HostRuntime) -> Result<(), Fail> {
-    are_answered(&rt, rt.alloc(), &ACTS)?;
-    Ok(())
-}
-
-/// Lines at fault.
-static FAULTS: [Speech; 10] = [
-    (DEALT, 1, true, b"MATCHSTATE:1:0::|8hTc:x\r\n", NO_ACTION),
-    (DEALT, 1, true, b"MATCHSTATE:1:0::|8hTc:r20\r\n", NO_ACTION),
-    (DEALT, 1, true, b"HELLO\r\n", NO_LINE),
-    (DEALT, 1, true, b"MATCHSTATE:0:0::TdAs|:c\r\n", NOT_CURRENT),
-    (
-        DEALT,
-        0,
-        true,
-        b"MATCHSTATE:0:0::TdAs|:c\r\n",
-        NOT_YOUR_TURN,
-    ),
-    (CALLED, 1, true, b"MATCHSTATE:1:0::|8hTc:c\n", NOT_CURRENT),
-    (CALLED, 0, true, b"MATCHSTATE:0:0:c:TdAs|:f\r\n", NO_FOLD),
-    (None, 1, true, b"MATCHSTATE:1:0::|8hTc:c\n", NOT_CURRENT),
-    (RAISED, 0, true, b"MATCHSTATE:0:0:rrr:TdAs|:r\r\n", NO_RAISE),
-    (
-        FOLDED,
-        1,
-        true,
-        b"MATCHSTATE:1:0:f:|8hTc:c\r\n",
-        NOT_YOUR_TURN,
-    ),
-];
-
-#[test]
-fn faults(rt: HostRuntime) -> Result<(), Fail> {
-    are_answered(&rt, rt.alloc(), &FAULTS)?;
-    Ok(())
+    Ok(are_answered(&rt, rt.alloc(), &ACTS)?)
 }
 
 /// Gives a session a comment of 4096 bytes into room that is made for it.
@@ -333,8 +188,9 @@ fn answers_waiting(
 
 /// Sees that the version is answered, then the line behind a comment, and not the last one, which isn't whole.
 fn answers_in_turn(rt: &impl Abort, session: &mut Session, table: &Table) {
-    answers_waiting(rt, session, table, 3, Some(answer_of(READY)));
-    answers_waiting(rt, session, table, 2, Some(answer_of(NO_LINE)));
+    answers_waiting(rt, session, table, 3, Some(Ok(Said::Ready)));
+    let fault = SessionFault::Malformed(LineFault::NotMatchstate);
+    answers_waiting(rt, session, table, 2, Some(Err(fault)));
     answers_waiting(rt, session, table, 0, None);
 }
 

@@ -4,10 +4,10 @@ use Rattle.match_file.proofs.Views.{reads_more, none_reads}
 use Rattle.match_file.proofs.addresses.addresses_of.Goals as goal
 
 pub returns-in-None : goal.returns-in-None
-returns-in-None c = (refl, none_reads (SaysAddress c.args.key c.args.ports) c.args.values.now c.loop-value.value-index c.value-item.result (omega arith) c.value-item.is c.in-None.ensures)
+returns-in-None c = (refl, none_reads (SaysAddress c.args.keyed c.args.key c.args.ports) c.args.values.now c.loop-value.value-index c.value-item.result (omega arith) c.value-item.is c.in-None.ensures)
 
 pub loop-value-preserved : goal.loop-value-preserved
 loop-value-preserved c =
     rw c.in_ok-push-in-Some.ensures.items (
-    reads_more (SaysAddress c.args.key c.args.ports) c.args.values.now c.loop-value.value-index c.value-item.result c.loop-value.addresses.items c.in-Some.address (omega arith) c.value-item.is c.loop-value.invariant c.in-Some.ensures
+    reads_more (SaysAddress c.args.keyed c.args.key c.args.ports) c.args.values.now c.loop-value.value-index c.value-item.result c.loop-value.addresses.items c.in-Some.address (omega arith) c.value-item.is c.loop-value.invariant c.in-Some.ensures
     )

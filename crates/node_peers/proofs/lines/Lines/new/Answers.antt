@@ -1,12 +1,11 @@
 use Rattle.std.proofs.Common.{List, subst, sym}
-use Rattle.node_wires.specs.Passages.{came_over}
 use Rattle.node_peers.specs.declared.notice.Notice.{Notice}
 use Rattle.node_peers.specs.Lines.{line_at}
-use Rattle.node_peers.specs.Hearing.{AreTold}
+use Rattle.node_peers.specs.Hearing.{talk_over, AreTold}
 use Rattle.node_peers.proofs.lines.Lines.new.Goals as goal
 
 pub invariant_of-result : goal.invariant_of-result
 invariant_of-result c = record {
-  fits = c.in_ok-links.ensures c.args.own (λ place. came_over c.new-passed.result.items (line_at place));
+  fits = c.in_ok-links.ensures c.args.own (λ place. talk_over c.new-passed.result.items (line_at place));
   told = subst (λ (ns : List Notice). AreTold c.args.own c.new-passed.result.items ns) (sym c.new-notices.ensures.items) tt;
 }

@@ -1,5 +1,6 @@
-use Rattle.std.proofs.Common.{refl}
-use Rattle.node_service.proofs.Taking.{log_when_taken, seats_when_taken, no_frame_taken}
+use Rattle.std.proofs.Common.{List, ◌++◌, refl, ◌∙◌, ap}
+use Rattle.node_wires.specs.Passages.{Passage, seats_in}
+use Rattle.node_service.proofs.Incoming.{passed_is_incoming, no_frame_taken}
 use Rattle.node_service.proofs.desk.Desk.next_of_seats.Goals as goal
 
 pub returns : goal.returns
@@ -7,7 +8,8 @@ returns g c = record {
   look = refl;
   log_failed = refl;
   handed = refl;
-  log = log_when_taken c.next.result _ _ c.next.ensures.passed;
-  seats = seats_when_taken c.next.result _ _ c.next.ensures.passed;
-  heard = no_frame_taken c.next.result c.args.self.now.heard.items;
+  log = c.next-notice.ensures.log;
+  seats = c.next-notice.ensures.seats ∙ ap (λ (m : List Passage). seats_in (g.W.Wire.passed c.args.self.now.wire) ++ m) (passed_is_incoming c.next-notice.result);
+  heard = no_frame_taken c.next-notice.result c.args.self.now.heard.items;
+  sittings = c.note_gone.ensures;
 }

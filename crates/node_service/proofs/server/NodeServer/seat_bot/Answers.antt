@@ -1,5 +1,6 @@
-use Rattle.node_service.proofs.Keeping.{kept_only}
+use Rattle.dealer_world.specs.declared.event.Event.TheVariants as event
+use Rattle.node_service.proofs.Keeping.{refused}
 use Rattle.node_service.proofs.server.NodeServer.seat_bot.Goals as goal
 
 pub returns-then-self : goal.returns-then-self
-returns-then-self g c = kept_only g.W.Wire c.turn_away.ensures
+returns-then-self g c = refused g.W.Wire (event.Connect 0 c.args.seat) c.hang_up.ensures.kept c.hang_up.ensures.freed

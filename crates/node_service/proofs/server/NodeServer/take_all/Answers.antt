@@ -11,10 +11,10 @@ loop-init g c =
     goes_kept g.W.Wire kept
 
 pub returns-in-Nothing : goal.returns-in-Nothing
-returns-in-Nothing g c = on (then_kept g.W.Wire c.loop.invariant c.now.ensures) c.take_next.ensures
+returns-in-Nothing g c = on (then_kept g.W.Wire c.loop.invariant c.now-now.ensures) c.take_next.ensures
 
 pub returns-in-Last : goal.returns-in-Last
-returns-in-Last g c = on (then_kept g.W.Wire c.loop.invariant c.now.ensures) c.take_next.ensures
+returns-in-Last g c = on (then_kept g.W.Wire c.loop.invariant c.now-now.ensures) c.take_next.ensures
 
 pub loop-preserved : goal.loop-preserved
-loop-preserved g c = on (then_kept g.W.Wire c.loop.invariant c.now.ensures) c.take_next.ensures
+loop-preserved g c = on (then_kept g.W.Wire c.loop.invariant c.now-now.ensures) c.take_next.ensures

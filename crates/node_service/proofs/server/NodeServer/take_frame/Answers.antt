@@ -7,4 +7,4 @@ pub returns-in_default : goal.returns-in_default
 returns-in_default g c =
     let desk = c.args.self.now.desk in
     let kept : IsKept g.W.Wire desk desk = as_it_was g.W.Wire refl in
-    kept_only g.W.Wire kept
+    kept_only g.W.Wire refl kept

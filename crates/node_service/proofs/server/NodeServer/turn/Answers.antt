@@ -13,5 +13,5 @@ returns-then-ne-clause-goes g c =
 pub returns-clause-goes : goal.returns-clause-goes
 returns-clause-goes g c =
     let first = kept_on g.W.Wire c.wait-begun.ensures (kept_on g.W.Wire c.hear.ensures (as_it_was g.W.Wire c.look.ensures)) in
-    let last = kept_on g.W.Wire c.now-now.ensures (kept_on g.W.Wire (as_it_was g.W.Wire c.note_waiting.ensures) (kept_on g.W.Wire c.finish.ensures c.speak.ensures)) in
+    let last = kept_on g.W.Wire c.now-now.ensures (kept_on g.W.Wire (as_it_was g.W.Wire c.note_waiting.ensures) (kept_on g.W.Wire c.answer_askers.ensures (kept_on g.W.Wire c.finish.ensures c.speak.ensures))) in
     then_kept g.W.Wire (on (kept_then g.W.Wire first c.take_all-is_all.ensures) c.keep_time-until_due.ensures) last

@@ -1,0 +1,166 @@
+-- Connections with codes on values: what is judged when, what comes, what waits, and what a frame that is told goes by.
+use Rattle.std.proofs.Common.{◌≡◌, inr, ℕ, ◌+◌, List, [], ◌∷◌, ◌++◌, replicate, true, false, Option, Some, None, Ok, Err, refl, ap, subst}
+use Rattle.paxos_wire.specs.Reading.{ballot_at}
+use Rattle.peer_codes.specs.declared.connection_fault.ConnectionFault.TheVariants as channel_faults
+use Rattle.peer_codes.specs.declared.event.Event.TheVariants as events
+use Rattle.peer_codes.specs.declared.frame.Frame.{Frame}
+use Rattle.peer_codes.specs.declared.hello.Hello.{Hello}
+use Rattle.peer_codes.specs.declared.hello.Life.{Life}
+use Rattle.peer_codes.specs.declared.hello.Link.TheVariants as links
+use Rattle.peer_codes.specs.declared.key.Key.{Key}
+use Rattle.peer_codes.specs.declared.kind.Kind.TheVariants as kind_of
+use Rattle.peer_codes.specs.declared.records.Record.TheVariants as record_of
+use Rattle.peer_codes.specs.declared.role.Role.TheVariants.{Caller, Called}
+use Rattle.peer_codes.specs.declared.way.Way.{Way}
+use Rattle.peer_codes.specs.declared.connection.Connection.{Connection as Channel}
+use Rattle.peer_codes.specs.Codes.{after}
+use Rattle.peer_codes.specs.Faults.{kind_in}
+use Rattle.peer_codes.specs.Reading.{hello_of, greeting_at, ends_at, lives_at, life_at, kept_at, promised_at, link_at}
+use Rattle.peer_codes.specs.Spelling.{hello_text, record_text}
+use Rattle.node_links.specs.declared.own.Own.{Own}
+use Rattle.node_links.specs.declared.own.Met.{Met}
+use Rattle.node_links.specs.declared.link_fault.Mismatch.TheVariants.{Digest}
+use Rattle.node_links.specs.declared.link_fault.Whose.TheVariants as whose
+use Rattle.node_links.specs.declared.link_fault.LinkFault.TheVariants as faults
+use Rattle.node_links.specs.declared.heard.Heard.TheVariants as heards
+use Rattle.node_links.specs.declared.phase.Phase.TheVariants as phases
+use Rattle.node_links.specs.declared.stage.Stage.TheVariants as stages
+use Rattle.node_links.specs.Coding.{coded_step, settled_stage, given, closed}
+use Rattle.node_links.specs.Talks.{Talk, Piece, way_behind, bytes_of, hellos_of, IsOfKind, IsHelloIn, IsBegun, SaysCoded}
+use Rattle.node_links.specs.Going.{PlainAt}
+
+-- ---- node 0 of three, and node 1 that dialled it
+
+abbrev life : ℕ → Life
+life n = record { bytes = replicate 16 n }
+
+abbrev key : Key
+key = record { bytes = replicate 32 7 }
+
+abbrev own : Own
+own = record { number = 0; nodes = 3; digest = record { bytes = replicate 32 9 }; life = life 6; key = Some key }
+
+abbrev hello_by : ℕ → ℕ → ℕ → ℕ → Hello
+hello_by from to digest nonce =
+    record { ends = record { from = from; to = to; nodes = 3 }; digest = record { bytes = replicate 32 digest }; life = life 5; kept = None; promised = None; link = links.Coded (record { bytes = replicate 32 nonce }) }
+
+abbrev theirs : Hello
+theirs = hello_by 1 0 9 3
+
+abbrev mine : Hello
+mine = hello_by 0 1 9 4
+
+abbrev unmet : Met
+unmet = record { kept = None; is_here = false }
+
+-- node 1 is here by another connection, and its store had another life
+abbrev here : List Met
+here = unmet ∷ record { kept = Some (life 4); is_here = true } ∷ []
+
+abbrev gone_back : List Met
+gone_back = unmet ∷ record { kept = Some (life 4); is_here = false } ∷ []
+
+-- ---- what is judged when
+
+pub other_match_at_once : settled_stage own None [] (stages.Asked (hello_by 1 0 8 3)) ≡ stages.Closed (faults.OtherMatch Digest)
+other_match_at_once = refl
+
+-- that it is here says one who may have no key
+pub here_not_judged_yet : settled_stage own None here (stages.Asked theirs) ≡ stages.Matched theirs
+here_not_judged_yet = refl
+
+pub here_judged_when_proved : settled_stage own None here (stages.Proved theirs) ≡ stages.Closed faults.AlreadyHere
+here_judged_when_proved = refl
+
+pub store_judged_when_proved : settled_stage own None gone_back (stages.Proved theirs) ≡ stages.Closed (faults.WentBack whose.Other)
+store_judged_when_proved = refl
+
+pub opens_when_proved : settled_stage own None [] (stages.Proved theirs) ≡ stages.Open theirs
+opens_when_proved = refl
+
+-- a Hello of this match alone opens nothing
+pub waits_for_the_proof : settled_stage own None [] (stages.Matched theirs) ≡ stages.Matched theirs
+waits_for_the_proof = refl
+
+-- ---- what comes
+
+abbrev frame : Frame
+frame = record { bytes = record { items = 0 ∷ 0 ∷ 0 ∷ 6 ∷ 2 ∷ 7 ∷ 0 ∷ 0 ∷ 0 ∷ 1 ∷ [] } }
+
+pub proof_told : coded_step (stages.Matched theirs) (Ok events.Opened) ≡ record { stage = stages.Proved theirs; heard = Ok (heards.Proved theirs) }
+proof_told = refl
+
+pub wrong_proof : coded_step (stages.Matched theirs) (Err channel_faults.WrongProof) ≡ closed faults.WrongProof
+wrong_proof = refl
+
+pub frame_before_it_is_open : coded_step (stages.Proved theirs) (Ok (events.Frame frame)) ≡ closed faults.OutOfTurn
+frame_before_it_is_open = refl
+
+pub frame_told : coded_step (stages.Open theirs) (Ok (events.Frame frame)) ≡ record { stage = stages.Open theirs; heard = Ok (heards.Frame frame) }
+frame_told = refl
+
+-- ---- what waits
+
+-- the channel has the frame as it is, and codes it later
+pub frame_given : (c : Channel) → c.out.frame ≡ None → (given c (Some (record_of.Frame frame))).out.frame ≡ Some frame
+frame_given c e = ap (λ (f : Option Frame). Rattle.node_links.specs.Coding.and_frame f frame) e
+
+pub short_frame_dropped : (c : Channel) → given c (Some (record_of.Frame (record { bytes = record { items = 0 ∷ [] } }))) ≡ c
+short_frame_dropped c = refl
+
+-- ---- what a frame that is told goes by
+
+-- a record of a frame of one byte, by its fifth
+pub is_of_a_frame : IsOfKind kind_of.Frame (7 ∷ []) (0 ∷ 0 ∷ 0 ∷ 2 ∷ 2 ∷ 7 ∷ [])
+unfolding kind_in
+is_of_a_frame = (refl, refl)
+
+pub beat-not_of_a_frame : IsOfKind kind_of.Frame (7 ∷ []) (0 ∷ 0 ∷ 0 ∷ 2 ∷ 3 ∷ 7 ∷ []) → ⊥
+unfolding kind_in
+beat-not_of_a_frame is = let e : Ok kind_of.Beat ≡ Ok kind_of.Frame = is.0 in absurd cc
+
+abbrev text : List ℕ
+text = 0 ∷ 0 ∷ 0 ∷ 110 ∷ 0 ∷ hello_text theirs
+
+pub hello_in : IsHelloIn theirs text
+unfolding kind_in hello_of greeting_at ends_at lives_at life_at kept_at promised_at ballot_at link_at
+hello_in = (refl, refl)
+
+-- of two records on a way the second has the next number
+pub numbers_go_on : (way : Way) (one two : Piece) → (way_behind way (two ∷ one ∷ [])).number ≡ way.number + 1 + 1
+numbers_go_on way one two = refl
+
+pub pieces_in_order : bytes_of (record { kind = kind_of.Beat; body = []; bytes = 2 ∷ [] } ∷ record { kind = kind_of.Frame; body = []; bytes = 1 ∷ [] } ∷ []) ≡ 1 ∷ 2 ∷ []
+pieces_in_order = refl
+
+-- the caller's Hello is this side's, or the other's
+pub called_by_theirs : (hellos_of Called mine theirs).caller ≡ theirs
+called_by_theirs = refl
+
+pub calls_them : (hellos_of Caller mine theirs).caller ≡ mine
+calls_them = refl
+
+-- nothing that was written is a beginning
+pub nothing_written : IsBegun mine []
+nothing_written = inr (record_text (record_of.Hello mine), refl)
+
+none_in : (a b : List ℕ) → [] ≡ a ++ b → a ≡ []
+none_in [] b e = refl
+none_in (x ∷ a) b e = absurd cc
+
+-- where nothing came no frame is told
+pub nothing_told : (wrote : List ℕ) → SaysCoded key own 1 frame (record { came = []; wrote = wrote }) → ⊥
+unfolding kind_in
+nothing_told wrote says =
+    let none : says.hello ≡ [] = none_in says.hello _ says.text in
+    let e : kind_in [] ≡ Ok kind_of.Hello = subst (λ (t : List ℕ). kind_in t ≡ Ok kind_of.Hello) none says.hello_is.0 in absurd cc
+
+-- ---- without codes
+
+-- before anything was read all that came waits
+pub nothing_read : PlainAt own (1 ∷ 2 ∷ []) (1 ∷ 2 ∷ []) phases.Greeting
+nothing_read = refl
+
+-- what came can't have gone
+pub something_gone : PlainAt own (1 ∷ []) [] phases.Greeting → ⊥
+something_gone e = absurd cc

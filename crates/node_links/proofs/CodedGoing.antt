@@ -1,0 +1,386 @@
+-- What calls leave of what a connection with codes goes by.
+use Rattle.std.proofs.Common.{◌≡◌, ◌⊎◌, inl, inr, ℕ, nat_le, ◌==◌, Bool, true, false, if◌then◌else◌, List, [], ◌∷◌, ◌++◌, length, take, drop, append_assoc, append-nil, Option, Some, None, Result, Ok, Err, refl, sym, ap, subst, ◌∙◌}
+use Rattle.std.proofs.Math.Logic.{∥∥₁_map}
+use Rattle.std.proofs.lemmas.List.{take-append-drop}
+use Rattle.peer_codes.specs.declared.limits.TheConstants.{LEAST_FRAME}
+use Rattle.peer_codes.specs.declared.connection_fault.ConnectionFault.{ConnectionFault}
+use Rattle.peer_codes.specs.declared.connection_fault.ConnectionFault.TheVariants as channel_faults
+use Rattle.peer_codes.specs.declared.fault.RecordFault.TheVariants.{BadHello}
+use Rattle.peer_codes.specs.declared.event.Event.{Event}
+use Rattle.peer_codes.specs.declared.event.Event.TheVariants as events
+use Rattle.peer_codes.specs.declared.beat.Beat.{Beat}
+use Rattle.peer_codes.specs.declared.frame.Frame.{Frame}
+use Rattle.peer_codes.specs.declared.hello.Hello.{Hello}
+use Rattle.peer_codes.specs.declared.key.Key.{Key}
+use Rattle.peer_codes.specs.declared.kind.Kind.{Kind}
+use Rattle.peer_codes.specs.declared.kind.Kind.TheVariants as kind_of
+use Rattle.peer_codes.specs.declared.records.Proof.{Proof}
+use Rattle.peer_codes.specs.declared.records.Record.{Record}
+use Rattle.peer_codes.specs.declared.records.Record.TheVariants as record_of
+use Rattle.peer_codes.specs.declared.role.Role.{Role}
+use Rattle.peer_codes.specs.declared.role.Role.TheVariants.{Caller, Called}
+use Rattle.peer_codes.specs.declared.way.Way.{Way}
+use Rattle.peer_codes.specs.declared.phase.Ways.{Ways}
+use Rattle.peer_codes.specs.declared.phase.Phase.{Phase}
+use Rattle.peer_codes.specs.declared.phase.Phase.TheVariants as phases
+use Rattle.peer_codes.specs.declared.outgoing.Outgoing.{Outgoing}
+use Rattle.peer_codes.specs.declared.connection.Connection.{Connection as Channel}
+use Rattle.peer_codes.specs.Beginning.{Begins as ChannelBegins, NothingBegun, TextBegun, HelloBegun, ProofBegun, CodedBegun, BeatBegun, FrameBegun}
+use Rattle.peer_codes.specs.Codes.{after, covered, way_of}
+use Rattle.peer_codes.specs.Connections.{Reads, Next, answered, begun_next}
+use Rattle.peer_codes.specs.Faults.{needed, front, kind_in}
+use Rattle.peer_codes.specs.Histories.{across, IsCoded}
+use Rattle.peer_codes.specs.Outgoings.{unwritten}
+use Rattle.peer_codes.specs.Reading.{hello_of}
+use Rattle.peer_codes.specs.Spelling.{record_text}
+use Rattle.peer_codes.specs.Steps.{only_coded, greeted, front_step, step_by, stepped, proof_of, ways_of, proving}
+use Rattle.peer_codes.specs.Telling.{ToldBy, IsGreeting, IsOpened, IsHeard}
+use Rattle.node_links.specs.declared.heard.Heard.{Heard}
+use Rattle.node_links.specs.declared.heard.Heard.TheVariants as heards
+use Rattle.node_links.specs.declared.link_fault.LinkFault.{LinkFault}
+use Rattle.node_links.specs.declared.own.Own.{Own}
+use Rattle.node_links.specs.declared.own.Met.{Met}
+use Rattle.node_links.specs.declared.stage.Stage.{Stage}
+use Rattle.node_links.specs.declared.stage.Stage.TheVariants as stages
+use Rattle.node_links.specs.declared.coded_connection.CodedConnection.{CodedConnection}
+use Rattle.node_links.specs.declared.connection.Connection.TheVariants.{Coded}
+use Rattle.node_links.specs.Coding.{coded_step, settled_stage, matched, taken, peer_at, Hears, HearsOrWaits, NextCoded, given, and_frame, begun_open, begun_by, begun_where, begun_coded}
+use Rattle.node_links.specs.Judging.{judged_match, judged_known}
+use Rattle.node_links.specs.Waits.{Waits}
+use Rattle.node_links.specs.Waiting.{next_of}
+use Rattle.node_links.specs.Talks.{Talk, TakesCoded, Piece, way_behind, AreCodedOn, bytes_of, hellos_of, their_way, their_proof, IsHelloIn, IsOfKind, IsBegun, SaysCoded, SaysBy, Says}
+use Rattle.node_links.specs.Going.{Begins, Greeted, Awaits, Matches, Proved, ProvedBy, CodedAt, CodedOn, CodedGoes, GoesOn, GoesOnWith, GoesOnWritten, Goes, silence, peer_of, TellsFrame}
+
+abbrev Told : Type 0
+Told = Result Heard LinkFault
+
+abbrev Came : Type 0
+Came = Result Event ConnectionFault
+
+-- each event goes by what stood in front of what came
+abbrev pub Stands : Type 0
+Stands = (old new : Channel) (event : Event) → Next old.phase old (Some (Ok event)) new → ToldBy event old new
+
+-- each call that begins a record begins nothing, or the first of what waits
+abbrev pub BeginsEach : Type 0
+BeginsEach = (old : Channel) → ChannelBegins old (begun_next old)
+
+-- ---- a channel that has told an event has read a record
+
+none_is_told : (came : Came) → Some came ≡ None → ⊥
+none_is_told came e = absurd cc
+
+fault_is_told : (event : Event) (fault : ConnectionFault) → ◌≡◌ {A = Option Came} (Some (Ok event)) (Some (Err fault)) → ⊥
+fault_is_told event fault e = absurd cc
+
+reads_by : (phase : Phase) (old new : Channel) (event : Event) → Next phase old (Some (Ok event)) new → Reads old new (Ok event)
+reads_by (phases.Asked caller) old new event next = absurd (none_is_told (Ok event) next.0)
+reads_by (phases.Closed fault) old new event next = absurd (fault_is_told event fault next.0)
+reads_by phases.Refused old new event next = absurd (fault_is_told event (channel_faults.Record BadHello) next.0)
+reads_by (phases.Greeting own) old new event next = next
+reads_by (phases.Proving theirs ways) old new event next = next
+reads_by (phases.Open ways) old new event next = next
+
+read_of : (old new : Channel) (event : Event) → Next old.phase old (Some (Ok event)) new → Reads old new (Ok event)
+read_of old new event next = reads_by old.phase old new event next
+
+key_kept : (old new : Channel) (told : Came) → Reads old new told → new.key ≡ old.key
+key_kept old new told reads = ap (λ (c : Channel). c.key) reads.others
+
+front_taken : (old new : Channel) (told : Came) → Reads old new told → old.came.waiting ≡ front old.came.waiting ++ new.came.waiting
+front_taken old new told reads = sym (take-append-drop (needed old.came.waiting) old.came.waiting) ∙ ap (λ (t : List ℕ). front old.came.waiting ++ t) (sym reads.came)
+
+-- ---- what is said first
+
+pub begins_alike : (mine : Option Hello) (wrote : List ℕ) (old new : Outgoing) → unwritten new ≡ unwritten old → new.hello ≡ old.hello → (mine ≡ None → new.proof ≡ old.proof) → Begins mine wrote old → Begins mine wrote new
+begins_alike None wrote old new left hello proof begins = (ap (λ (t : List ℕ). wrote ++ t) left ∙ begins.0, hello ∙ begins.1, proof refl ∙ begins.2)
+begins_alike (Some mine) wrote old new left hello proof (coded, inl waits) = (coded, inl (ap (λ (t : List ℕ). wrote ++ t) left ∙ waits.0, hello ∙ waits.1))
+begins_alike (Some mine) wrote old new left hello proof (coded, inr begun) = (coded, inr (hello ∙ begun.0, (begun.1.0, ap (λ (t : List ℕ). wrote ++ t) left ∙ begun.1.1)))
+
+-- ---- one more event
+
+pub on : (own : Own) (talk : Talk) (c : Channel) (stage : Stage) (key : Key) (waiting : List ℕ) (phase : Phase) (mine : Option Hello) → own.key ≡ Some key → c.key ≡ key → c.came.waiting ≡ waiting → c.phase ≡ phase
+    → Begins mine talk.wrote c.out → CodedAt own talk.came key waiting phase mine stage → CodedOn own talk c stage
+on own talk c stage key waiting phase mine own_key key_is waiting_is phase_is begins at = record {
+  key = own_key ∙ ap (λ (k : Key). Some k) (sym key_is);
+  mine = mine;
+  begins = begins;
+  at =
+      subst (λ (k : Key). CodedAt own talk.came k c.came.waiting c.phase mine stage) (sym key_is)
+      (subst (λ (w : List ℕ). CodedAt own talk.came key w c.phase mine stage) (sym waiting_is)
+      (subst (λ (p : Phase). CodedAt own talk.came key waiting p mine stage) (sym phase_is) at));
+}
+
+step_behind : (key : List ℕ) (mine : Option Hello) (bytes : List ℕ) (hello : Hello) → IsHelloIn hello bytes → (front_step key (phases.Greeting mine) bytes).phase ≡ (greeted key mine (Some hello)).phase
+unfolding front_step stepped
+step_behind key mine bytes hello is =
+    ap (λ (k : Result Kind _). (step_by key (phases.Greeting mine) k (drop 5 bytes)).phase) is.0 ∙ ap (λ (h : Option Hello). (greeted key mine h).phase) is.1
+
+-- the phase behind the other's Hello
+greeted_awaits : (key : Key) (mine : Option Hello) (theirs : Hello) → Awaits key mine theirs (greeted key.bytes mine (Some theirs)).phase
+greeted_awaits key None theirs = refl
+greeted_awaits key (Some mine) theirs = (Caller, refl)
+
+mine_is : (a b : Option Hello) → phases.Greeting a ≡ phases.Greeting b → a ≡ b
+mine_is a b e = cc
+
+own_proof_none : (key : List ℕ) (given mine : Option Hello) (theirs : Hello) (earlier : Option Proof) → given ≡ mine → mine ≡ None → Rattle.peer_codes.specs.Telling.own_proof key given theirs earlier ≡ earlier
+own_proof_none key None mine theirs earlier e none = refl
+own_proof_none key (Some given) mine theirs earlier e none = absurd cc
+
+greets : (own : Own) (talk : Talk) (old new : Channel) (theirs : Hello) → Reads old new (Ok (events.Greeted theirs)) → IsGreeting theirs old new → CodedOn own talk old stages.Greeting → CodedOn own talk new (stages.Asked theirs)
+greets own talk old new theirs reads is goes =
+    let bytes : List ℕ = front old.came.waiting in
+    let hello_is : IsHelloIn theirs bytes = (is.came.kind_is, ap (λ (t : List ℕ). only_coded (hello_of t)) is.came.content_is ∙ is.hello_is) in
+    let phase_is : new.phase ≡ (greeted old.key.bytes goes.mine (Some theirs)).phase =
+    ap (λ (c : Channel). c.phase) reads.others ∙ (ap (λ (p : Phase). (front_step old.key.bytes p bytes).phase) goes.at.1 ∙ step_behind old.key.bytes goes.mine bytes theirs hello_is) in
+    let same : is.own ≡ goes.mine = mine_is is.own goes.mine (sym is.greeting ∙ goes.at.1) in
+    on own talk new (stages.Asked theirs) old.key new.came.waiting (greeted old.key.bytes goes.mine (Some theirs)).phase goes.mine goes.key (key_kept old new _ reads) refl phase_is
+    (begins_alike goes.mine talk.wrote old.out new.out (ap (λ (o : Outgoing). unwritten o) is.out) (ap (λ (o : Outgoing). o.hello) is.out)
+    (λ none. ap (λ (o : Outgoing). o.proof) is.out ∙ own_proof_none old.key.bytes is.own goes.mine theirs old.out.proof same none) goes.begins)
+    (record { hello = bytes; is = hello_is; text = goes.at.0 ∙ front_taken old new _ reads }, greeted_awaits old.key goes.mine theirs)
+
+theirs_is : (a b : Proof) (v w : Ways) → phases.Proving a v ≡ phases.Proving b w → a ≡ b
+theirs_is a b v w e = cc
+
+ways_is : (a b : Proof) (v w : Ways) → phases.Proving a v ≡ phases.Proving b w → v ≡ w
+ways_is a b v w e = cc
+
+out_kept : (old new : Channel) (event : Event) → Reads old new (Ok event) → unwritten new.out ≡ unwritten old.out
+out_kept old new event reads = ap (λ (c : Channel). unwritten c.out) reads.others
+
+hello_kept : (old new : Channel) (event : Event) → Reads old new (Ok event) → new.out.hello ≡ old.out.hello
+hello_kept old new event reads = ap (λ (c : Channel). c.out.hello) reads.others
+
+begins_on : (own : Own) (mine : Hello) (wrote : List ℕ) (old new : Channel) (event : Event) → Reads old new (Ok event) → Begins (Some mine) wrote old.out → Begins (Some mine) wrote new.out
+begins_on own mine wrote old new event reads begins = begins_alike (Some mine) wrote old.out new.out (out_kept old new event reads) (hello_kept old new event reads) (λ e. absurd cc) begins
+
+-- the other's proof came
+opens : (own : Own) (talk : Talk) (old new : Channel) (theirs : Hello) (mine : Option Hello) → Reads old new (Ok events.Opened) → IsOpened old new → own.key ≡ Some old.key → Begins mine talk.wrote old.out
+    → CodedAt own talk.came old.key old.came.waiting old.phase mine (stages.Matched theirs) → CodedOn own talk new (stages.Proved theirs)
+opens own talk old new theirs None reads is key begins (matches, greeted, awaits) = let e : phases.Proving is.theirs is.ways ≡ phases.Asked theirs = sym is.awaited ∙ awaits in absurd cc
+opens own talk old new theirs (Some mine) reads is key begins (matches, greeted, (role, awaits)) =
+    let both = sym is.awaited ∙ awaits in
+    let proof : is.theirs ≡ proof_of old.key.bytes (across role) (hellos_of role mine theirs) = theirs_is _ _ _ _ both in
+    let ways : is.ways ≡ ways_of old.key.bytes role (across role) (hellos_of role mine theirs) = ways_is _ _ _ _ both in
+    on own talk new (stages.Proved theirs) old.key new.came.waiting new.phase (Some mine) key (key_kept old new _ reads) refl refl (begins_on own mine talk.wrote old new events.Opened reads begins) (
+      matches,
+      record {
+        role = role;
+        ways = is.ways;
+        open_is = is.opens;
+        hello = greeted.hello;
+        hello_is = greeted.is;
+        proof = front old.came.waiting;
+        proof_is = (is.came.kind_is, is.came.content_is ∙ ap (λ (p : Proof). p.code) proof);
+        said = [];
+        are = tt;
+        reading = ap (λ (w : Ways). w.reading) ways;
+        text = greeted.text ∙ ap (λ (t : List ℕ). greeted.hello ++ t) (front_taken old new _ reads);
+      },
+    )
+
+open_ways : (v w : Ways) → phases.Open v ≡ phases.Open w → v ≡ w
+open_ways v w e = cc
+
+-- a coded record came
+pieces : (key : Key) (mine theirs : Hello) (came : List ℕ) (old new : Channel) (kind : Kind) (body : List ℕ) → old.came.waiting ≡ front old.came.waiting ++ new.came.waiting → IsHeard kind body old new
+    → Proved key mine theirs came old.came.waiting old.phase → Proved key mine theirs came new.came.waiting new.phase
+pieces key mine theirs came old new kind body taken is at =
+    let same : is.ways ≡ at.ways = open_ways is.ways at.ways (sym is.open_was ∙ at.open_is) in
+    let here : is.ways.reading ≡ way_behind (their_way key at.role mine theirs) at.said = ap (λ (w : Ways). w.reading) same ∙ at.reading in
+    record {
+      role = at.role;
+      ways = record { reading = after is.ways.reading (length body); writing = is.ways.writing };
+      open_is = is.goes_on;
+      hello = at.hello;
+      hello_is = at.hello_is;
+      proof = at.proof;
+      proof_is = at.proof_is;
+      said = record { kind = kind; body = body; bytes = front old.came.waiting } ∷ at.said;
+      are = ((is.came.kind_is, is.came.content_is ∙ ap (λ (w : Way). covered w kind body) here), at.are);
+      reading = ap (λ (w : Way). after w (length body)) here;
+      text =
+          at.text ∙ ap (λ (t : List ℕ). at.hello ++ (at.proof ++ t)) (ap (λ (t : List ℕ). bytes_of at.said ++ t) taken ∙ sym (append_assoc (bytes_of at.said) (front old.came.waiting) new.came.waiting));
+    }
+
+hears : (own : Own) (talk : Talk) (old new : Channel) (theirs : Hello) (event : Event) (kind : Kind) (body : List ℕ) (mine : Option Hello) → Reads old new (Ok event) → IsHeard kind body old new → own.key ≡ Some old.key
+    → Begins mine talk.wrote old.out → CodedAt own talk.came old.key old.came.waiting old.phase mine (stages.Open theirs) → CodedOn own talk new (stages.Open theirs)
+hears own talk old new theirs event kind body None reads is key begins at = absurd at.1
+hears own talk old new theirs event kind body (Some mine) reads is key begins at =
+    on own talk new (stages.Open theirs) old.key new.came.waiting new.phase (Some mine) key (key_kept old new _ reads) refl refl (begins_on own mine talk.wrote old new event reads begins)
+    (at.0, pieces old.key mine theirs talk.came old new kind body (front_taken old new _ reads) is at.1)
+
+event_goes : (own : Own) (talk : Talk) (old new : Channel) (stage : Stage) (event : Event) → Reads old new (Ok event) → ToldBy event old new → CodedGoes own talk old stage → CodedGoes own talk new (coded_step stage (Ok event)).stage
+event_goes own talk old new stages.Greeting (events.Greeted theirs) reads is goes = greets own talk old new theirs reads is goes
+event_goes own talk old new stages.Greeting events.Opened reads is goes = tt
+event_goes own talk old new stages.Greeting (events.Frame frame) reads is goes = tt
+event_goes own talk old new stages.Greeting (events.Beat beat) reads is goes = tt
+event_goes own talk old new (stages.Asked theirs) event reads is goes = tt
+event_goes own talk old new (stages.Matched theirs) (events.Greeted other) reads is goes = tt
+event_goes own talk old new (stages.Matched theirs) events.Opened reads is goes = opens own talk old new theirs goes.mine reads is goes.key goes.begins goes.at
+event_goes own talk old new (stages.Matched theirs) (events.Frame frame) reads is goes = tt
+event_goes own talk old new (stages.Matched theirs) (events.Beat beat) reads is goes = tt
+event_goes own talk old new (stages.Proved theirs) event reads is goes = tt
+event_goes own talk old new (stages.Open theirs) (events.Greeted other) reads is goes = tt
+event_goes own talk old new (stages.Open theirs) events.Opened reads is goes = tt
+event_goes own talk old new (stages.Open theirs) (events.Frame frame) reads is goes = hears own talk old new theirs (events.Frame frame) kind_of.Frame frame.bytes.items goes.mine reads is goes.key goes.begins goes.at
+event_goes own talk old new (stages.Open theirs) (events.Beat beat) reads (body, reading, is) goes = hears own talk old new theirs (events.Beat beat) kind_of.Beat body goes.mine reads is goes.key goes.begins goes.at
+event_goes own talk old new (stages.Closed fault) event reads is goes = tt
+
+came_goes : (stands : Stands) (own : Own) (talk : Talk) (old new : Channel) (stage : Stage) (came : Came) → Next old.phase old (Some came) new → CodedGoes own talk old stage → CodedGoes own talk new (coded_step stage came).stage
+came_goes stands own talk old new stage (Err fault) next goes = tt
+came_goes stands own talk old new stage (Ok event) next goes = event_goes own talk old new stage event (read_of old new event next) (stands old new event next) goes
+
+-- ---- a call of `next`
+
+abbrev GoesOf : Own → Talk → CodedConnection → Type 0
+GoesOf own talk c = CodedGoes own talk c.channel c.stage
+
+same_goes : (own : Own) (talk : Talk) (old new : CodedConnection) → new ≡ old → GoesOf own talk old → GoesOf own talk new
+same_goes own talk old new e goes = subst (λ (c : CodedConnection). GoesOf own talk c) (sym e) goes
+
+parts_goes : (own : Own) (talk : Talk) (old new : CodedConnection) → new.channel ≡ old.channel → new.stage ≡ old.stage → GoesOf own talk old → GoesOf own talk new
+parts_goes own talk old new channel stage goes =
+    subst (λ (s : Stage). CodedGoes own talk new.channel s) (sym stage) (subst (λ (c : Channel). CodedGoes own talk c old.stage) (sym channel) goes)
+
+hears_goes : (stands : Stands) (own : Own) (talk : Talk) (old new : CodedConnection) (told : Told) → Hears old new told → GoesOf own talk old → GoesOf own talk new
+hears_goes stands own talk old new told hears goes =
+    subst (λ (s : Stage). CodedGoes own talk new.channel s) (sym hears.stage) (came_goes stands own talk old.channel new.channel old.stage hears.came hears.next goes)
+
+-- where it tells nothing the channel stays
+abbrev pub WaitsEach : Type 0
+WaitsEach = (old new : Channel) → Next old.phase old None new → new ≡ old
+
+waits_goes : (stands : Stands) (waits : WaitsEach) (own : Own) (talk : Talk) (old new : CodedConnection) (result : Option Told) → HearsOrWaits old result new → GoesOf own talk old → GoesOf own talk new
+waits_goes stands waits own talk old new None (next, stage) goes = parts_goes own talk old new (waits old.channel new.channel next) stage goes
+waits_goes stands waits own talk old new (Some told) hears goes = hears_goes stands own talk old new told hears goes
+
+next_goes : (stands : Stands) (waits : WaitsEach) (own : Own) (talk : Talk) (stage : Stage) (old new : CodedConnection) (result : Option Told) → NextCoded stage old result new → GoesOf own talk old → GoesOf own talk new
+next_goes stands waits own talk (stages.Asked hello) old new result next goes = same_goes own talk old new next.1 goes
+next_goes stands waits own talk (stages.Proved hello) old new result next goes = same_goes own talk old new next.1 goes
+next_goes stands waits own talk (stages.Closed fault) old new result next goes = same_goes own talk old new next.1 goes
+next_goes stands waits own talk stages.Greeting old new result next goes = waits_goes stands waits own talk old new result next goes
+next_goes stands waits own talk (stages.Matched hello) old new result next goes = waits_goes stands waits own talk old new result next goes
+next_goes stands waits own talk (stages.Open hello) old new result next goes = waits_goes stands waits own talk old new result next goes
+
+pub coded_nexts : (stands : Stands) (waits : WaitsEach) (old new : CodedConnection) (result : Option Told) → NextCoded old.stage old result new → GoesOn (Coded old) (Coded new)
+coded_nexts stands waits old new result next own talk goes = ∥∥₁_map goes (λ g. next_goes stands waits own talk old.stage old new result next g)
+
+-- ---- a frame that is told
+
+head_is : (x y : ℕ) (a b : List ℕ) → x ∷ a ≡ y ∷ b → x ≡ y
+head_is x y a b e = cc
+
+tail_is : (x y : ℕ) (a b : List ℕ) → x ∷ a ≡ y ∷ b → a ≡ b
+tail_is x y a b e = cc
+
+prefix_behind : (x y : ℕ) (a c : List ℕ) → x ≡ y → ((more : List ℕ) × (a ≡ c ++ more)) ⊎ ((more : List ℕ) × (c ≡ a ++ more)) → ((more : List ℕ) × (x ∷ a ≡ (y ∷ c) ++ more)) ⊎ ((more : List ℕ) × (y ∷ c ≡ (x ∷ a) ++ more))
+prefix_behind x y a c e (inl (more, is)) = inl (more, ap (λ (n : ℕ). n ∷ a) e ∙ ap (λ (t : List ℕ). y ∷ t) is)
+prefix_behind x y a c e (inr (more, is)) = inr (more, ap (λ (n : ℕ). n ∷ c) (sym e) ∙ ap (λ (t : List ℕ). x ∷ t) is)
+
+none_in : (a b : List ℕ) → a ++ b ≡ [] → a ≡ []
+none_in [] b e = refl
+none_in (x ∷ a) b e = absurd cc
+
+-- of two ways to cut a list the first pieces go on from one another
+prefix : (a b c d : List ℕ) → a ++ b ≡ c ++ d → ((more : List ℕ) × (a ≡ c ++ more)) ⊎ ((more : List ℕ) × (c ≡ a ++ more))
+prefix [] b c d e = inr (c, refl)
+prefix (x ∷ a) b [] d e = inl (x ∷ a, refl)
+prefix (x ∷ a) b (y ∷ c) d e = prefix_behind x y a c (head_is x y (a ++ b) (c ++ d) e) (prefix a b c d (tail_is x y (a ++ b) (c ++ d) e))
+
+pub begun_first : (mine : Hello) (wrote : List ℕ) (out : Outgoing) → Begins (Some mine) wrote out → IsBegun mine wrote
+begun_first mine wrote out (coded, inl waits) = inr (record_text (record_of.Hello mine), ap (λ (t : List ℕ). t ++ record_text (record_of.Hello mine)) (sym (none_in wrote (unwritten out) waits.0)))
+begun_first mine wrote out (coded, inr begun) = prefix wrote (unwritten out) (record_text (record_of.Hello mine)) begun.1.0 begun.1.1
+
+frame_came : (own : Own) (talk : Talk) (old new : Channel) (theirs : Hello) (frame : Frame) (from : ℕ) (mine : Option Hello) → Reads old new (Ok (events.Frame frame)) → IsHeard kind_of.Frame frame.bytes.items old new → theirs.ends.from ≡ from
+    → Begins mine talk.wrote old.out → CodedAt own talk.came old.key old.came.waiting old.phase mine (stages.Open theirs) → SaysCoded old.key own from frame talk
+frame_came own talk old new theirs frame from None reads is from_is begins at = absurd at.1
+frame_came own talk old new theirs frame from (Some mine) reads is from_is begins (takes, at) =
+    let same : is.ways ≡ at.ways = open_ways is.ways at.ways (sym is.open_was ∙ at.open_is) in
+    let here : is.ways.reading ≡ way_behind (their_way old.key at.role mine theirs) at.said = ap (λ (w : Ways). w.reading) same ∙ at.reading in
+    record {
+      role = at.role;
+      mine = mine;
+      nonce = begins.0;
+      first = begun_first mine talk.wrote old.out begins;
+      theirs = theirs;
+      from_is = from_is;
+      takes = takes;
+      hello = at.hello;
+      hello_is = at.hello_is;
+      proof = at.proof;
+      proof_is = at.proof_is;
+      said = at.said;
+      are = at.are;
+      last = front old.came.waiting;
+      frame_is = (is.came.kind_is, is.came.content_is ∙ ap (λ (w : Way). covered w kind_of.Frame frame.bytes.items) here);
+      rest = new.came.waiting;
+      text = at.text ∙ ap (λ (t : List ℕ). at.hello ++ (at.proof ++ (bytes_of at.said ++ t))) (front_taken old new _ reads);
+    }
+
+says_by : (own : Own) (key : Key) (from : ℕ) (frame : Frame) (talk : Talk) → own.key ≡ Some key → SaysCoded key own from frame talk → Says own from frame talk
+says_by own key from frame talk e says = subst (λ (k : Option Key). SaysBy k own from frame talk) (sym e) says
+
+frame_of : (a b : Frame) → ◌≡◌ {A = Told} (Ok (heards.Frame a)) (Ok (heards.Frame b)) → a ≡ b
+frame_of a b e = cc
+
+from_of : (a b : ℕ) → Some a ≡ Some b → a ≡ b
+from_of a b e = cc
+
+event_says : (stands : Stands) (own : Own) (talk : Talk) (old new : Channel) (stage : Stage) (event : Event) (frame : Frame) (from : ℕ) → Next old.phase old (Some (Ok event)) new → Ok (heards.Frame frame) ≡ (coded_step stage (Ok event)).heard
+    → peer_at (coded_step stage (Ok event)).stage ≡ Some from → CodedGoes own talk old stage → Says own from frame talk
+event_says stands own talk old new stages.Greeting (events.Greeted other) frame from next e peer goes = absurd cc
+event_says stands own talk old new stages.Greeting events.Opened frame from next e peer goes = absurd cc
+event_says stands own talk old new stages.Greeting (events.Frame found) frame from next e peer goes = absurd cc
+event_says stands own talk old new stages.Greeting (events.Beat beat) frame from next e peer goes = absurd cc
+event_says stands own talk old new (stages.Asked theirs) event frame from next e peer goes = absurd cc
+event_says stands own talk old new (stages.Matched theirs) (events.Greeted other) frame from next e peer goes = absurd cc
+event_says stands own talk old new (stages.Matched theirs) events.Opened frame from next e peer goes = absurd cc
+event_says stands own talk old new (stages.Matched theirs) (events.Frame found) frame from next e peer goes = absurd cc
+event_says stands own talk old new (stages.Matched theirs) (events.Beat beat) frame from next e peer goes = absurd cc
+event_says stands own talk old new (stages.Proved theirs) event frame from next e peer goes = absurd cc
+event_says stands own talk old new (stages.Open theirs) (events.Greeted other) frame from next e peer goes = absurd cc
+event_says stands own talk old new (stages.Open theirs) events.Opened frame from next e peer goes = absurd cc
+event_says stands own talk old new (stages.Open theirs) (events.Beat beat) frame from next e peer goes = absurd cc
+event_says stands own talk old new (stages.Closed fault) event frame from next e peer goes = absurd cc
+event_says stands own talk old new (stages.Open theirs) (events.Frame found) frame from next e peer goes =
+    subst (λ (f : Frame). Says own from f talk) (frame_of found frame (sym e))
+    (says_by own old.key from found talk goes.key
+    (frame_came own talk old new theirs found from goes.mine (read_of old new (events.Frame found) next) (stands old new (events.Frame found) next) (from_of theirs.ends.from from peer) goes.begins goes.at))
+
+came_says : (stands : Stands) (own : Own) (talk : Talk) (old new : Channel) (stage : Stage) (came : Came) (frame : Frame) (from : ℕ) → Next old.phase old (Some came) new → Ok (heards.Frame frame) ≡ (coded_step stage came).heard
+    → peer_at (coded_step stage came).stage ≡ Some from → CodedGoes own talk old stage → Says own from frame talk
+came_says stands own talk old new stage (Err fault) frame from next e peer goes = absurd cc
+came_says stands own talk old new stage (Ok event) frame from next e peer goes = event_says stands own talk old new stage event frame from next e peer goes
+
+hears_says : (stands : Stands) (own : Own) (talk : Talk) (old new : CodedConnection) (frame : Frame) (from : ℕ) → Hears old new (Ok (heards.Frame frame)) → peer_at new.stage ≡ Some from → GoesOf own talk old → Says own from frame talk
+hears_says stands own talk old new frame from hears peer goes =
+    came_says stands own talk old.channel new.channel old.stage hears.came frame from hears.next hears.told_is (subst (λ (s : Stage). peer_at s ≡ Some from) hears.stage peer) goes
+
+none_told : (told : Told) → Some told ≡ None → ⊥
+none_told told e = absurd cc
+
+fault_told : (frame : Frame) (fault : LinkFault) → ◌≡◌ {A = Option Told} (Some (Ok (heards.Frame frame))) (Some (Err fault)) → ⊥
+fault_told frame fault e = absurd cc
+
+next_says : (stands : Stands) (own : Own) (talk : Talk) (stage : Stage) (old new : CodedConnection) (frame : Frame) (from : ℕ) → NextCoded stage old (Some (Ok (heards.Frame frame))) new → peer_at new.stage ≡ Some from → GoesOf own talk old
+    → Says own from frame talk
+next_says stands own talk (stages.Asked hello) old new frame from next peer goes = absurd (none_told (Ok (heards.Frame frame)) next.0)
+next_says stands own talk (stages.Proved hello) old new frame from next peer goes = absurd (none_told (Ok (heards.Frame frame)) next.0)
+next_says stands own talk (stages.Closed fault) old new frame from next peer goes = absurd (fault_told frame fault next.0)
+next_says stands own talk stages.Greeting old new frame from next peer goes = hears_says stands own talk old new frame from next peer goes
+next_says stands own talk (stages.Matched hello) old new frame from next peer goes = hears_says stands own talk old new frame from next peer goes
+next_says stands own talk (stages.Open hello) old new frame from next peer goes = hears_says stands own talk old new frame from next peer goes
+
+coded_tells : (stands : Stands) (old new : CodedConnection) (frame : Frame) → NextCoded old.stage old (Some (Ok (heards.Frame frame))) new → (own : Own) (talk : Talk) (from : ℕ) → Goes own talk (Coded old)
+    → peer_of (Coded new) ≡ Some from → ∥ Says own from frame talk ∥₁
+coded_tells stands old new frame next own talk from goes peer = ∥∥₁_map goes (λ g. next_says stands own talk old.stage old new frame from next peer g)
+
+pub coded_frames : (stands : Stands) (old new : CodedConnection) (result : Option Told) → NextCoded old.stage old result new → TellsFrame result (Coded old) (Coded new)
+coded_frames stands old new None next = tt
+coded_frames stands old new (Some (Err fault)) next = tt
+coded_frames stands old new (Some (Ok (heards.Hello hello))) next = tt
+coded_frames stands old new (Some (Ok (heards.Proved hello))) next = tt
+coded_frames stands old new (Some (Ok (heards.Beat beat))) next = tt
+coded_frames stands old new (Some (Ok (heards.Frame frame))) next = coded_tells stands old new frame next

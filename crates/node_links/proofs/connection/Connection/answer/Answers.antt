@@ -1,0 +1,17 @@
+use Rattle.std.proofs.Common.{◌≡◌, ◌++◌, ℕ, List, Option, Some, take, refl, sym, ap, subst, ◌∙◌}
+use Rattle.node_links.specs.declared.own.Own.{Own}
+use Rattle.node_links.specs.declared.connection.Connection.{Connection}
+use Rattle.node_links.specs.declared.connection.Connection.TheVariants.{Plain, Coded}
+use Rattle.node_links.specs.Talks.{Talk}
+use Rattle.node_links.specs.Going.{Goes, GoesOn, GoesOnWith, GoesOnWritten, TellsFrame}
+use Rattle.node_links.specs.declared.plain_connection.PlainConnection.{PlainConnection}
+use Rattle.node_links.proofs.PlainGoing.{plain_stays}
+use Rattle.node_links.proofs.connection.Connection.answer.Goals as goal
+
+pub returns-in-Plain : goal.returns-in-Plain
+returns-in-Plain c =
+    subst (λ (s : Connection). GoesOn s (Plain c.answer.new.self)) (sym c.in-Plain.is)
+    (plain_stays c.in-Plain.plain c.answer.new.self (ap (λ (p : PlainConnection). p.came.waiting) c.answer.ensures) (ap (λ (p : PlainConnection). p.phase) c.answer.ensures))
+
+pub returns-in-Coded : goal.returns-in-Coded
+returns-in-Coded c = subst (λ (s : Connection). GoesOn s (Coded c.answer_coded.new.coded)) (sym c.in-Coded.is) c.answer_coded.ensures

@@ -1,0 +1,20 @@
+use Rattle.std.proofs.Common.{◌≡◌, ◌++◌, ℕ, List, Option, Some, take, refl, sym, ap, subst, ◌∙◌}
+use Rattle.node_links.specs.declared.own.Own.{Own}
+use Rattle.node_links.specs.declared.connection.Connection.{Connection}
+use Rattle.node_links.specs.declared.connection.Connection.TheVariants.{Plain, Coded}
+use Rattle.node_links.specs.Talks.{Talk}
+use Rattle.node_links.specs.Going.{Goes, GoesOn, GoesOnWith, GoesOnWritten, TellsFrame}
+use Rattle.node_links.specs.declared.plain_connection.PlainConnection.{PlainConnection}
+use Rattle.node_links.proofs.PlainGoing.{plain_writes}
+use Rattle.node_links.proofs.CodedSaying.{coded_writes}
+use Rattle.node_links.proofs.connection.Connection.wrote.Goals as goal
+
+pub returns-in-Plain : goal.returns-in-Plain
+returns-in-Plain c =
+    subst (λ (s : Connection). GoesOnWritten s (Plain c.wrote.new.self) c.args.count) (sym c.in-Plain.is)
+    (plain_writes c.in-Plain.plain c.wrote.new.self c.args.count (ap (λ (p : PlainConnection). p.came.waiting) c.wrote.ensures.others) (ap (λ (p : PlainConnection). p.phase) c.wrote.ensures.others))
+
+pub returns-in-Coded : goal.returns-in-Coded
+returns-in-Coded c =
+    subst (λ (s : Connection). GoesOnWritten s (Coded c.wrote-in-Coded.new.self) c.args.count) (sym c.in-Coded.is)
+    (coded_writes c.in-Coded.coded c.wrote-in-Coded.new.self c.args.count c.wrote-in-Coded.ensures.unwritten c.wrote-in-Coded.ensures.others)

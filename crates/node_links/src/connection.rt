@@ -1,0 +1,184 @@
+ghost use Rattle.std.specs.Prelude.{◌≡◌, ◌≤◌, ◌++◌, List, ℕ, length, OnOk, OnErr};
+ghost use Rattle.node_links.specs.declared.own.Own as owns;
+ghost use Rattle.node_links.specs.declared.connection.Connection.TheVariants.{Coded};
+ghost use Rattle.node_links.specs.Talks.{Talk};
+ghost use Rattle.node_links.specs.Going.{Goes, GoesOn, GoesOnWith, GoesOnWritten, IsOfKey, TellsFrame, OpensAs, silence, unwritten_of, peer_of, taken_of, fault_of};
+
+use crate::coded_connection::CodedConnection;
+use crate::heard::Heard;
+use crate::link_fault::LinkFault;
+use crate::outbox::Outbox;
+use crate::own::{Met, Own};
+use crate::plain_connection::PlainConnection;
+use peer_codes::{Hello, Key, Link, calls_happen, events_stand_in_front};
+use std::alloc::{AllocError, Global};
+
+/// A connection between two nodes, as a machine without sockets, with codes where the node has a key.
+///
+/// What comes is put in by `take`, in any pieces, and `next` tells what it says. What waits to be judged is judged by
+/// `settle`: then the connection is open, or closed by a fault, or waits for the other's proof. `begin` begins the next record
+/// that is to be said, where none is unfinished; `unwritten` shows what of it isn't written yet, and `wrote` says how much
+/// was.
+///
+/// Each call keeps what a connection goes by (`Goes`), of all that came over it and was written to it; so of each frame that
+/// is told is known how it came (`next`).
+#[derive(Drop)]
+pub enum Connection {
+    /// Of a node without a key.
+    Plain(PlainConnection),
+    /// Of a node with one.
+    Coded(CodedConnection),
+}
+
+/// The own Hello of a connection with codes is to be written next, if it has a nonce.
+fn answer_coded(coded: &mut CodedConnection, own: Hello)
+    ensures { GoesOn (Coded coded.old) (Coded coded.new) }
+{
+    match own.link {
+        Link::Plain => (),
+        Link::Coded(_) => coded.answer(own),
+    }
+}
+
+impl Connection {
+    /// The side that dialled, of a node with this key, if it has one, with its own Hello, which is to be written first. With a
+    /// key it has a nonce, which is to be new. Takes no memory.
+    pub fn call(alloc: Global, key: Option<Key>, own: Hello) -> Connection
+        requires { IsOfKey key own.link }
+        ensures { (own : owns.Own) → own.key ≡ key → Goes own silence result }
+    {
+        match key {
+            None => Connection::Plain(PlainConnection::call(alloc, own)),
+            Some(key) => Connection::Coded(CodedConnection::call(alloc, key, own)),
+        }
+    }
+
+    /// The side that was dialled. Takes no memory.
+    pub fn listen(alloc: Global, key: Option<Key>) -> Connection
+        ensures { (own : owns.Own) → own.key ≡ key → Goes own silence result }
+    {
+        match key {
+            None => Connection::Plain(PlainConnection::listen(alloc)),
+            Some(key) => Connection::Coded(CodedConnection::listen(alloc, key)),
+        }
+    }
+
+    /// Takes the next piece of what comes, of any length. An `Err`, for want of memory, changes nothing.
+    pub fn take(&mut self, piece: &[u8]) -> Result<(), AllocError>
+        ensures ok { OnOk result (GoesOnWith self.old self.new piece.now) }
+        ensures err { OnErr result (self.new ≡ self.old) }
+    {
+        match self {
+            Connection::Plain(plain) => plain.take(piece),
+            Connection::Coded(coded) => coded.take(piece),
+        }
+    }
+
+    /// What came next, or the fault that closed the connection, told again from then on.
+    ///
+    /// `None` where the record in front isn't whole, and while something waits to be judged or answered. A frame came from the
+    /// node at the other end: without codes behind its Hello; with them as the next coded record of its way, behind both
+    /// Hellos and its proof.
+    pub fn next(&mut self) -> Option<Result<Heard, LinkFault>>
+        ensures goes { GoesOn self.old self.new }
+        ensures frame { TellsFrame result self.old self.new }
+    {
+        match self {
+            Connection::Plain(plain) => plain.next(),
+            Connection::Coded(coded) => {
+                events_stand_in_front();
+                calls_happen();
+                coded.next()
+            }
+        }
+    }
+
+    /// This side's own Hello is to be written next, where it was dialled: it answers with it also where it refuses. With codes
+    /// it has a nonce, which is to be new; one without isn't said then.
+    pub fn answer(&mut self, own: Hello)
+        ensures { GoesOn self.old self.new }
+    {
+        match self {
+            Connection::Plain(plain) => plain.answer(own),
+            Connection::Coded(coded) => answer_coded(coded, own),
+        }
+    }
+
+    /// Judges what waits to be judged. Without codes that is the whole Hello; with them what it says of the match first, and
+    /// what changes by it once the other's proof is right.
+    pub fn settle(&mut self, own: &Own, dialled: Option<u8>, met: &[Met])
+        ensures { (talk : Talk) → Goes own.now talk self.old → Goes own.now talk self.new }
+    {
+        match self {
+            Connection::Plain(plain) => plain.settle(own, dialled, met),
+            Connection::Coded(coded) => coded.settle(own, dialled, met),
+        }
+    }
+
+    /// The node at the other end, once the connection is open.
+    pub fn peer(&self) -> Option<u8>
+        ensures { result ≡ peer_of self.now }
+    {
+        match self {
+            Connection::Plain(plain) => plain.peer(),
+            Connection::Coded(coded) => coded.peer(),
+        }
+    }
+
+    /// What that node said first: with codes it has proved that it has the key.
+    #[tactic(auto, using(crate::proofs::Opening::opens_as))]
+    pub fn taken(&self) -> Option<Hello>
+        ensures taken { result ≡ taken_of self.now }
+        ensures opens { OpensAs result self.now }
+    {
+        match self {
+            Connection::Plain(plain) => plain.taken(),
+            Connection::Coded(coded) => coded.taken(),
+        }
+    }
+
+    /// The fault that closed the connection, if one did.
+    pub fn fault(&self) -> Option<LinkFault>
+        ensures { result ≡ fault_of self.now }
+    {
+        match self {
+            Connection::Plain(plain) => plain.fault(),
+            Connection::Coded(coded) => coded.fault(),
+        }
+    }
+
+    /// Begins the next record, where none is unfinished: this side's own Hello, with codes its proof, and where the connection
+    /// is open what waits, the beat first.
+    pub fn begin(&mut self, waiting: &mut Outbox)
+        ensures { GoesOn self.old self.new }
+    {
+        match self {
+            Connection::Plain(plain) => plain.begin(waiting),
+            Connection::Coded(coded) => {
+                calls_happen();
+                coded.begin(waiting);
+            }
+        }
+    }
+
+    /// What of the record that was begun isn't written yet.
+    pub fn unwritten(&self) -> &[u8]
+        ensures { result.now ≡ unwritten_of self.now }
+    {
+        match self {
+            Connection::Plain(plain) => plain.unwritten(),
+            Connection::Coded(coded) => coded.unwritten(),
+        }
+    }
+
+    /// So many bytes of it are written now.
+    pub fn wrote(&mut self, count: usize)
+        requires { count ≤ length (unwritten_of self.old) }
+        ensures { GoesOnWritten self.old self.new count }
+    {
+        match self {
+            Connection::Plain(plain) => plain.wrote(count),
+            Connection::Coded(coded) => coded.wrote(count),
+        }
+    }
+}

@@ -1,0 +1,72 @@
+//! The faults of a peer, for notes.
+
+ghost use Rattle.std.specs.Prelude.{◌≡◌, ◌<◌, replicate, None};
+ghost use Rattle.node_links.specs.Noting.{fault_place, is_told, told_last, and_told};
+
+use crate::limits::REPEATED;
+use crate::link_fault::{LinkFault, Mismatch, Whose};
+use peer_codes::RecordFault;
+
+/// How many faults there are.
+const FAULTS: usize = 12;
+
+/// When each fault of a peer was told last, in whole microseconds: the same is told once in ten seconds.
+#[derive(Clone, Copy, Debug, PartialEq, Eq)]
+pub struct Notes {
+    told: [Option<u64>; FAULTS],
+}
+
+/// Each fault's place among them.
+fn place(fault: LinkFault) -> usize
+    ensures place { result ≡ fault_place fault }
+    ensures within { result < 12 }
+{
+    match fault {
+        LinkFault::Record(RecordFault::BadLength) => 0,
+        LinkFault::Record(RecordFault::BadKind) => 1,
+        LinkFault::Record(RecordFault::BadHello) => 2,
+        LinkFault::OtherMatch(Mismatch::Digest) => 3,
+        LinkFault::OtherMatch(Mismatch::Nodes) => 4,
+        LinkFault::OtherMatch(Mismatch::Number) => 5,
+        LinkFault::WrongProof => 6,
+        LinkFault::WrongCode => 7,
+        LinkFault::OutOfTurn => 8,
+        LinkFault::WentBack(Whose::Own) => 9,
+        LinkFault::WentBack(Whose::Other) => 10,
+        LinkFault::AlreadyHere => 11,
+    }
+}
+
+/// Whether a fault is told that was told last at that moment.
+fn is_told(last: Option<u64>, now: u64) -> bool
+    ensures { result ≡ is_told last now }
+{
+    match last {
+        Some(at) => REPEATED <= now.saturating_sub(at),
+        None => true,
+    }
+}
+
+impl Notes {
+    /// None was told.
+    pub fn new() -> Notes
+        ensures { result ≡ record { told = replicate 12 None } }
+    {
+        Notes {
+            told: [None; FAULTS],
+        }
+    }
+
+    /// Whether this fault is told at this moment; it counts as told then.
+    pub fn tell(&mut self, fault: LinkFault, now: u64) -> bool
+        ensures told { result ≡ is_told (told_last self.old fault) now }
+        ensures rest { self.new ≡ and_told self.old fault now }
+    {
+        let place = place(fault);
+        if !is_told(self.told[place], now) {
+            return false;
+        }
+        self.told[place] = Some(now);
+        true
+    }
+}

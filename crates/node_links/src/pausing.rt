@@ -1,0 +1,47 @@
+//! How long a peer isn't dialled that refuses this node, or is refused.
+
+ghost use Rattle.std.specs.Prelude.{◌≡◌, ◌≤◌};
+ghost use Rattle.node_links.specs.declared.limits.TheConstants as limits;
+ghost use Rattle.node_links.specs.Pausing.{is_standing, longer, pause_after};
+
+use crate::limits::{LONGEST, REFUSED};
+use crate::link_fault::LinkFault;
+
+/// Whether a fault stays until somebody changes a file or a process ends.
+fn is_standing(fault: LinkFault) -> bool
+    ensures { result ≡ is_standing fault }
+{
+    match fault {
+        LinkFault::Record(_) => false,
+        LinkFault::OtherMatch(_) => true,
+        LinkFault::WrongProof => true,
+        LinkFault::WrongCode => false,
+        LinkFault::OutOfTurn => false,
+        LinkFault::WentBack(_) => true,
+        LinkFault::AlreadyHere => true,
+    }
+}
+
+/// The next pause behind one that lasted so long; 0 stands for none. All are whole microseconds.
+pub fn longer(last: u64) -> u64
+    ensures pause { result ≡ longer last }
+    ensures least { limits.REFUSED ≤ result }
+    ensures most { result ≤ limits.LONGEST }
+{
+    if last < REFUSED {
+        return REFUSED;
+    }
+    let twice = last.saturating_mul(2);
+    if twice >= LONGEST { LONGEST } else { twice }
+}
+
+/// How long a peer isn't dialled behind this fault, where the last pause lasted so long since something came of it.
+pub fn pause_after(fault: LinkFault, last: u64) -> u64
+    ensures { result ≡ pause_after fault last }
+{
+    if is_standing(fault) {
+        longer(last)
+    } else {
+        REFUSED
+    }
+}

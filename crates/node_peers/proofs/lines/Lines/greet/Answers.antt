@@ -1,6 +1,0 @@
-use Rattle.node_wires.specs.Passages.{came_over}
-use Rattle.node_peers.specs.Lines.{line_at}
-use Rattle.node_peers.proofs.lines.Lines.greet.Goals as goal
-
-pub invariant_of-self : goal.invariant_of-self
-invariant_of-self c = record { fits = c.greet_at.ensures (λ place. came_over c.args.self.now.passed.items (line_at place)) c.args.self.now.fits; told = c.args.self.now.told }

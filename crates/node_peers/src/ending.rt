@@ -1,0 +1,180 @@
+//! How connections end: by the wire, by a fault, or because they are stale.
+
+use crate::dialling::end_dial;
+use crate::limits::{LINKS, SILENCES, STRANGER};
+use crate::peer::Peer;
+use crate::peers::Peers;
+use node_links::LinkFault;
+use node_links::limits::NODES;
+use node_wires::Wire;
+use std::net::IpAddr;
+
+/// The dial of a peer is closed by this fault.
+pub(crate) fn refuse_dial(peers: &mut Vec<Peer>, number: u8, fault: LinkFault, now: u64) {
+    if let Some(peer) = peers.get_mut(number as usize) {
+        peer.refuse_dial(fault, now);
+    }
+}
+
+/// Whether this fault of a peer is told now.
+pub(crate) fn tells(peers: &mut Vec<Peer>, number: u8, fault: LinkFault, now: u64) -> bool {
+    match peers.get_mut(number as usize) {
+        Some(peer) => peer.tells(fault, now),
+        None => false,
+    }
+}
+
+impl Peers {
+    ghost use Rattle.node_peers.specs.Peering.{Grew, Stays};
+
+    /// The peer that was dialled by the connection at a place.
+    pub(crate) fn dialled_at(&self, place: usize) -> Option<u8> {
+        self.lines.at(place)?.dialled
+    }
+
+    /// The peer that is there by the connection at a place.
+    pub(crate) fn joined_at(&self, place: usize) -> Option<u8> {
+        for number in 0..NODES {
+            if self.open_at(number as u8) == Some(place) {
+                return Some(number as u8);
+            }
+        }
+        None
+    }
+
+    /// Whether a peer is there by the connection at a place, and nothing came of it yet but its Hello: so the other side may
+    /// have refused this one's.
+    pub(crate) fn is_fruitless(&self, place: usize) -> bool {
+        let Some(number) = self.joined_at(place) else {
+            return false;
+        };
+        match self.peers.get(number as usize) {
+            Some(peer) => peer.beat.is_none(),
+            None => false,
+        }
+    }
+
+    /// The peer that is there by the connection at a place is gone.
+    pub(crate) fn leave(&mut self, place: usize, now: u64)
+        ensures { Stays self.old self.new }
+    {
+        let Some(number) = self.joined_at(place) else {
+            return;
+        };
+        if let Some(peer) = self.peers.get_mut(number as usize) {
+            peer.part(now);
+        }
+        self.lines.note_gone(number);
+    }
+
+    /// Ends the connection at a place, if one is there.
+    #[tactic(auto, using(crate::proofs::Growing::grew_on, crate::proofs::Growing::stayed, crate::proofs::Growing::stays_on))]
+    pub(crate) fn end<W: Wire>(&mut self, wire: &mut W, place: usize, now: u64)
+        ensures { Grew self.old self.new (W.passed wire.old) (W.passed wire.new) }
+    {
+        if place >= LINKS {
+            return;
+        }
+        let is_fruitless = self.is_fruitless(place);
+        self.leave(place, now);
+        if let Some(number) = self.dialled_at(place) {
+            end_dial(&mut self.peers, number, now, is_fruitless);
+        }
+        self.lines.close(wire, place);
+    }
+
+    /// The place by which a peer is there.
+    pub(crate) fn open_at(&self, number: u8) -> Option<usize> {
+        self.peers.get(number as usize)?.open
+    }
+
+    /// This fault of a peer, at whose connection's other end this address is, is told, where it is time for that.
+    pub(crate) fn note_refused(
+        &mut self,
+        peer: u8,
+        fault: LinkFault,
+        source: Option<IpAddr>,
+        now: u64,
+    )
+        ensures { Stays self.old self.new }
+    {
+        if tells(&mut self.peers, peer, fault, now) {
+            self.lines.note_refused(peer, fault, source);
+        }
+    }
+
+    /// The connection at a place, at whose other end this address is, is closed by a fault, which is told once: of the peer
+    /// that is known, or counted among the callers who aren't.
+    pub(crate) fn refuse(
+        &mut self,
+        place: usize,
+        fault: LinkFault,
+        source: Option<IpAddr>,
+        now: u64,
+    )
+        ensures { Stays self.old self.new }
+    {
+        let Some(link) = self.lines.at(place) else {
+            return;
+        };
+        let known = link.known(self.joined_at(place), fault);
+        let dialled = link.dialled;
+        self.leave(place, now);
+        if !self.lines.refuse(place) {
+            return;
+        }
+        if let Some(number) = dialled {
+            refuse_dial(&mut self.peers, number, fault, now);
+        }
+        match known {
+            Some(peer) => self.note_refused(peer, fault, source, now),
+            None => self.refusals.refuse(fault),
+        }
+    }
+
+    /// Whether nothing more comes over the line at a place.
+    pub(crate) fn has_ended(&self, place: usize) -> bool {
+        match self.lines.at(place) {
+            Some(link) => link.has_ended,
+            None => false,
+        }
+    }
+
+    /// Whether the connection at a place has been silent for too long, or isn't open for too long.
+    pub(crate) fn is_stale(&self, place: usize, now: u64) -> bool {
+        let Some(link) = self.lines.at(place) else {
+            return false;
+        };
+        match self.joined_at(place) {
+            Some(number) => match self.peers.get(number as usize) {
+                Some(peer) => {
+                    now.saturating_sub(peer.heard) >= self.silence.saturating_mul(SILENCES)
+                }
+                None => true,
+            },
+            None => link.dialled.is_none() && now.saturating_sub(link.began) >= STRANGER,
+        }
+    }
+
+    /// Ends the connections that have ended or are stale, and has it known who speaks over the others.
+    #[tactic(auto, using(crate::proofs::Growing::grew_on, crate::proofs::Growing::stayed, crate::proofs::Growing::stays_on))]
+    pub(crate) fn end_stale<W: Wire>(&mut self, wire: &mut W, now: u64)
+        ensures { Grew self.old self.new (W.passed wire.old) (W.passed wire.new) }
+    {
+        for place in 0..LINKS {
+            if self.has_ended(place) || self.is_stale(place, now) {
+                self.end(wire, place, now);
+            }
+            self.know(wire, place);
+        }
+    }
+
+    /// Tells how many callers were refused, where that is to be told.
+    pub(crate) fn note_refusals(&mut self, now: u64)
+        ensures { Stays self.old self.new }
+    {
+        if let Some(refused) = self.refusals.note(now) {
+            self.lines.note_strangers(refused.count, refused.fault);
+        }
+    }
+}

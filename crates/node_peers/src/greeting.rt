@@ -1,0 +1,219 @@
+//! Hellos of a process and of its peers: what it says, how it answers, and which peer is there by what it said.
+
+ghost use Rattle.std.specs.Prelude.{◌≡◌, IfSome};
+ghost use Rattle.node_links.specs.Going.{IsOfKey};
+ghost use Rattle.node_peers.specs.Hearing.{IsOpened};
+
+use crate::peer::Peer;
+use crate::peers::Peers;
+use node_links::limits::NODES;
+use node_links::{LinkFault, Met, Own};
+use node_wires::Wire;
+use paxos_wire::Ballot;
+use peer_codes::{Ends, Hello, Key, Life, Link as Kind, Nonce, RecordFault};
+
+/// To whom a node that was dialled answers: to who says that he speaks, or where no other node has that number, to the
+/// first that is another.
+pub(crate) fn answered(own: &Own, ends: Ends) -> u8
+    ensures { result ≡ own.now.number → ⊥ }
+{
+    if ends.from < own.nodes && ends.from != own.number {
+        ends.from
+    } else if own.number == 0 {
+        1
+    } else {
+        0
+    }
+}
+
+/// What a node of which this is known says first to another, of which this life is kept, over a connection of this kind.
+pub(crate) fn hello(
+    own: &Own,
+    to: u8,
+    kept: Option<Life>,
+    promised: Option<Ballot>,
+    link: Kind,
+) -> Hello
+    ensures ends { result.ends ≡ record { from = own.now.number; to = to; nodes = own.now.nodes } }
+    ensures digest { result.digest ≡ own.now.digest }
+    ensures life { result.life ≡ own.now.life }
+    ensures kept { result.kept ≡ kept }
+    ensures promised { result.promised ≡ promised }
+    ensures link { result.link ≡ link }
+{
+    Hello {
+        ends: Ends {
+            from: own.number,
+            to,
+            nodes: own.nodes,
+        },
+        digest: own.digest,
+        life: own.life,
+        kept,
+        promised,
+        link,
+    }
+}
+
+/// The kind of connections of a node that has this key, if it has one: with it a nonce is drawn for each. None where none
+/// was drawn.
+pub(crate) fn drawn<W: Wire>(key: Option<Key>, wire: &mut W) -> Option<Kind>
+    ensures kind { IfSome result (λ link. IsOfKey key link) }
+    ensures passed { W.passed wire.new ≡ W.passed wire.old }
+{
+    match key {
+        None => Some(Kind::Plain),
+        Some(_) => match wire.draw() {
+            Some(bytes) => Some(Kind::Coded(Nonce { bytes })),
+            None => None,
+        },
+    }
+}
+
+/// What is known of each node when a Hello is judged that came over the line at a place.
+pub(crate) fn met(peers: &[Peer], place: usize, now: u64, silence: u64) -> [Met; NODES] {
+    let mut met = [Met {
+        kept: None,
+        is_here: false,
+    }; NODES];
+    for number in 0..NODES {
+        if let Some(peer) = peers.get(number) {
+            met[number] = Met {
+                kept: peer.kept,
+                is_here: peer.open != Some(place) && peer.is_here(now, silence),
+            };
+        }
+    }
+    met
+}
+
+/// This life, where none is kept yet.
+pub(crate) fn first_life(kept: Option<Life>, life: Life) -> Option<Life>
+    ensures { IfSome result (λ first. first ≡ life) }
+{
+    match kept {
+        Some(_) => None,
+        None => Some(life),
+    }
+}
+
+impl Peers {
+    ghost use Rattle.node_peers.specs.Peering.{own_of, passed_of, Grew, Stays};
+
+    /// What this node says first to another, over a connection of this kind.
+    pub(crate) fn hello_to(&self, to: u8, link: Kind) -> Hello
+        ensures { result.link ≡ link }
+    {
+        let kept = match self.peers.get(to as usize) {
+            Some(peer) => peer.kept,
+            None => None,
+        };
+        hello(&self.lines.own, to, kept, self.promised, link)
+    }
+
+    /// Answers the one who says this of himself and dialled at a place; another isn't answered. False where no nonce was
+    /// drawn for that.
+    #[tactic(auto, using(crate::proofs::Growing::grew_on, crate::proofs::Growing::stayed, crate::proofs::Growing::stays_on))]
+    pub(crate) fn answer<W: Wire>(&mut self, wire: &mut W, place: usize, ends: Ends) -> bool
+        ensures { Grew self.old self.new (W.passed wire.old) (W.passed wire.new) }
+    {
+        if self.dialled_at(place).is_some() {
+            return true;
+        }
+        let Some(link) = drawn(self.lines.own.key, wire) else {
+            return false;
+        };
+        let own = self.hello_to(answered(&self.lines.own, ends), link);
+        self.lines.answer(place, own);
+        true
+    }
+
+    /// The Hello that came over the line at a place is answered, where this node was dialled, and judged.
+    #[tactic(auto, using(crate::proofs::Growing::grew_on, crate::proofs::Growing::stayed, crate::proofs::Growing::stays_on))]
+    pub(crate) fn greet<W: Wire>(&mut self, wire: &mut W, place: usize, hello: &Hello, now: u64)
+        ensures { Grew self.old self.new (W.passed wire.old) (W.passed wire.new) }
+    {
+        if self.answer(wire, place, hello.ends) {
+            self.judge(wire, place, hello, now);
+        } else {
+            self.end(wire, place, now);
+        }
+    }
+
+    /// The Hello that came over the line at a place is judged, as far as it can be now: where the connection is open then, its
+    /// node is there.
+    #[tactic(auto, using(crate::proofs::Growing::grew_on, crate::proofs::Growing::stayed, crate::proofs::Growing::stays_on))]
+    pub(crate) fn judge<W: Wire>(&mut self, wire: &mut W, place: usize, hello: &Hello, now: u64)
+        ensures { Grew self.old self.new (W.passed wire.old) (W.passed wire.new) }
+    {
+        let met = met(&self.peers, place, now, self.silence);
+        if let Some(taken) = self.lines.settle(place, &met, hello.ends.from) {
+            self.join(wire, place, &taken, now);
+        }
+    }
+
+    /// Whether one who dialled at a place said no Hello of a connection with codes, and wasn't told of it yet.
+    pub(crate) fn is_unread(&self, place: usize, fault: LinkFault) -> bool {
+        let Some(link) = self.lines.at(place) else {
+            return false;
+        };
+        self.lines.own.key.is_some()
+            && !link.is_refused
+            && fault == LinkFault::Record(RecordFault::BadHello)
+    }
+
+    /// One who dialled at a place and said no Hello of a connection with codes is answered all the same, so that he sees why.
+    #[tactic(auto, using(crate::proofs::Growing::grew_on, crate::proofs::Growing::stayed, crate::proofs::Growing::stays_on))]
+    pub(crate) fn answer_unread<W: Wire>(&mut self, wire: &mut W, place: usize, fault: LinkFault)
+        ensures { Grew self.old self.new (W.passed wire.old) (W.passed wire.new) }
+    {
+        if self.is_unread(place, fault) {
+            let number = self.lines.own.number;
+            let nobody = Ends {
+                from: number,
+                to: number,
+                nodes: self.lines.own.nodes,
+            };
+            let _ = self.answer(wire, place, nobody);
+        }
+    }
+
+    /// Ends the connection that a peer has, if it has one.
+    #[tactic(auto, using(crate::proofs::Growing::grew_on, crate::proofs::Growing::stayed, crate::proofs::Growing::stays_on))]
+    pub(crate) fn end_earlier<W: Wire>(&mut self, wire: &mut W, number: u8, now: u64)
+        ensures { Grew self.old self.new (W.passed wire.old) (W.passed wire.new) }
+    {
+        if let Some(earlier) = self.open_at(number) {
+            self.end(wire, earlier, now);
+        }
+    }
+
+    /// A peer whose Hello opened the connection at a place is there by it, in place of one that it had.
+    #[tactic(auto, using(crate::proofs::Growing::grew_on, crate::proofs::Growing::stayed, crate::proofs::Growing::stays_on, crate::proofs::Fitting::opened_through))]
+    pub(crate) fn join<W: Wire>(&mut self, wire: &mut W, place: usize, hello: &Hello, now: u64)
+        requires { IsOpened (own_of self.old) (passed_of self.old) hello.now }
+        ensures { Grew self.old self.new (W.passed wire.old) (W.passed wire.new) }
+    {
+        self.end_earlier(wire, hello.ends.from, now);
+        self.meet(place, hello, now);
+    }
+
+    /// A peer whose Hello opened the connection at a place is there by it; not where there is no memory to tell so: then that
+    /// connection is let go of as one that doesn't open.
+    pub(crate) fn meet(&mut self, place: usize, hello: &Hello, now: u64)
+        requires { IsOpened (own_of self.old) (passed_of self.old) hello.now }
+        ensures { Stays self.old self.new }
+    {
+        let Some(peer) = self.peers.get_mut(hello.ends.from as usize) else {
+            return;
+        };
+        let life = first_life(peer.kept, hello.life);
+        if !self.lines.note_joined(hello, life) {
+            return;
+        }
+        if life.is_some() {
+            peer.kept = life;
+        }
+        peer.join(place, now);
+    }
+}

@@ -1,0 +1,153 @@
+//! What came over the lines: who dialled, and what peers said.
+
+ghost use Rattle.std.specs.Prelude.{◌≡◌, ◌<◌};
+
+use crate::limits::LINKS;
+use crate::lines::Came;
+use crate::link::line_at;
+use crate::peer::Peer;
+use crate::peers::Peers;
+use node_links::Question;
+use node_wires::Wire;
+use node_wires::limits::STRANGERS;
+use peer_codes::{Beat, Hello};
+
+/// A frame of a peer came by the connection at a place, which answers this.
+pub(crate) fn take_frame(
+    peers: &mut Vec<Peer>,
+    from: u8,
+    place: usize,
+    answered: Option<Question>,
+    now: u64,
+) {
+    if let Some(peer) = peers.get_mut(from as usize) {
+        if peer.open == Some(place) {
+            peer.take_frame(answered, now);
+        }
+    }
+}
+
+/// A beat of a peer came by the connection at a place.
+pub(crate) fn take_beat(peers: &mut Vec<Peer>, from: u8, place: usize, beat: Beat, now: u64) {
+    if let Some(peer) = peers.get_mut(from as usize) {
+        if peer.open == Some(place) {
+            peer.take_beat(beat, now);
+        }
+    }
+}
+
+impl Peers {
+    ghost use Rattle.node_peers.specs.Peering.{Grew};
+
+    /// Takes in those who dialled, so many at most that none of them has to make room before he was heard.
+    #[tactic(auto, using(crate::proofs::Growing::grew_on, crate::proofs::Growing::stayed, crate::proofs::Growing::stays_on))]
+    pub(crate) fn accept_all<W: Wire>(&mut self, wire: &mut W, now: u64)
+        ensures { Grew self.old self.new (W.passed wire.old) (W.passed wire.new) }
+    {
+        for _ in 0..STRANGERS {
+            if !self.lines.accept(wire, now) {
+                return;
+            }
+        }
+    }
+
+    /// Hears what the connection at a place says next. It says whether there may be more.
+    #[tactic(auto, using(crate::proofs::Growing::grew_on, crate::proofs::Growing::stayed, crate::proofs::Growing::stays_on))]
+    pub(crate) fn hear_next<W: Wire>(&mut self, wire: &mut W, place: usize, now: u64) -> bool
+        requires { place < LINKS }
+        ensures { Grew self.old self.new (W.passed wire.old) (W.passed wire.new) }
+    {
+        match self.lines.next(place) {
+            None => false,
+            Some(Ok(Came::Hello(hello))) => {
+                self.greet(wire, place, &hello, now);
+                true
+            }
+            Some(Ok(Came::Proved(hello))) => {
+                self.judge(wire, place, &hello, now);
+                true
+            }
+            Some(Ok(Came::Frame { from, answered })) => {
+                take_frame(&mut self.peers, from, place, answered, now);
+                true
+            }
+            Some(Ok(Came::Beat { from, beat })) => {
+                take_beat(&mut self.peers, from, place, beat, now);
+                true
+            }
+            Some(Ok(Came::Nothing)) => true,
+            Some(Err(fault)) => {
+                self.answer_unread(wire, place, fault);
+                let source = wire.source(line_at(place));
+                self.refuse(place, fault, source, now);
+                false
+            }
+        }
+    }
+
+    /// Hears all that came over the line at a place.
+    #[tactic(auto, using(crate::proofs::Growing::grew_on, crate::proofs::Growing::stayed, crate::proofs::Growing::stays_on))]
+    pub(crate) fn hear_at<W: Wire>(&mut self, wire: &mut W, place: usize, now: u64)
+        requires { place < LINKS }
+        ensures { Grew self.old self.new (W.passed wire.old) (W.passed wire.new) }
+    {
+        for _ in 0..u64::MAX {
+            if !self.hear_next(wire, place, now) {
+                return;
+            }
+        }
+    }
+
+    /// Has it known at the wires who speaks over the line at a place, where a peer is there.
+    #[tactic(auto, using(crate::proofs::Growing::grew_on, crate::proofs::Growing::stayed, crate::proofs::Growing::stays_on))]
+    pub(crate) fn know<W: Wire>(&self, wire: &mut W, place: usize)
+        requires { place < LINKS }
+        ensures { W.passed wire.new ≡ W.passed wire.old }
+    {
+        if self.joined_at(place).is_some() {
+            wire.know(line_at(place));
+        }
+    }
+
+    /// Reads what came over all lines.
+    #[tactic(auto, using(crate::proofs::Growing::grew_on, crate::proofs::Growing::stayed, crate::proofs::Growing::stays_on))]
+    pub(crate) fn read_all<W: Wire>(&mut self, wire: &mut W)
+        ensures { Grew self.old self.new (W.passed wire.old) (W.passed wire.new) }
+    {
+        for place in 0..LINKS {
+            self.lines.read(wire, place);
+        }
+    }
+
+    /// Hears what came of a peer that is there by the connection at a place, where that has ended, and ends it.
+    #[tactic(auto, using(crate::proofs::Growing::grew_on, crate::proofs::Growing::stayed, crate::proofs::Growing::stays_on))]
+    pub(crate) fn end_if_ended<W: Wire>(&mut self, wire: &mut W, place: usize, now: u64)
+        requires { place < LINKS }
+        ensures { Grew self.old self.new (W.passed wire.old) (W.passed wire.new) }
+    {
+        if self.joined_at(place).is_some() && self.has_ended(place) {
+            self.hear_at(wire, place, now);
+            self.end(wire, place, now);
+        }
+    }
+
+    /// The same of all peers that are there.
+    #[tactic(auto, using(crate::proofs::Growing::grew_on, crate::proofs::Growing::stayed, crate::proofs::Growing::stays_on))]
+    pub(crate) fn end_ended<W: Wire>(&mut self, wire: &mut W, now: u64)
+        ensures { Grew self.old self.new (W.passed wire.old) (W.passed wire.new) }
+    {
+        for place in 0..LINKS {
+            self.end_if_ended(wire, place, now);
+        }
+    }
+
+    /// Hears what came over all lines.
+    #[tactic(auto, using(crate::proofs::Growing::grew_on, crate::proofs::Growing::stayed, crate::proofs::Growing::stays_on))]
+    pub(crate) fn hear_all<W: Wire>(&mut self, wire: &mut W, now: u64)
+        ensures { Grew self.old self.new (W.passed wire.old) (W.passed wire.new) }
+    {
+        for place in 0..LINKS {
+            self.hear_at(wire, place, now);
+        }
+    }
+}

@@ -1,0 +1,84 @@
+//! What is written over the lines.
+
+ghost use Rattle.std.specs.Prelude.{◌<◌};
+
+use crate::limits::LINKS;
+use crate::link::Written;
+use crate::peers::Peers;
+use node_wires::Wire;
+
+impl Peers {
+    ghost use Rattle.node_peers.specs.Peering.{Grew, Stays};
+
+    /// Begins the next record at a place: of what waits for the peer that is there, or what is said before one is.
+    pub(crate) fn begin(&mut self, place: usize)
+        ensures { Stays self.old self.new }
+    {
+        let Some(number) = self.joined_at(place) else {
+            self.lines.say(place, &mut self.nothing);
+            return;
+        };
+        if let Some(peer) = self.peers.get_mut(number as usize) {
+            peer.begin(&mut self.lines, place);
+        }
+    }
+
+    /// Whether a fault closed the connection at a place.
+    pub(crate) fn is_closed(&self, place: usize) -> bool {
+        match self.lines.at(place) {
+            Some(link) => link.connection.fault().is_some(),
+            None => false,
+        }
+    }
+
+    /// Something could be written at a place: where that is a dial, it was answered.
+    pub(crate) fn note_written(&mut self, place: usize, now: u64)
+        ensures { Stays self.old self.new }
+    {
+        if let Some(number) = self.dialled_at(place) {
+            if let Some(peer) = self.peers.get_mut(number as usize) {
+                peer.dial = peer.dial.answered(now);
+            }
+        }
+    }
+
+    /// Writes what waits over the line at a place. It says whether the connection goes on: not where it ended, and where a
+    /// fault closed it and all is written.
+    #[tactic(auto, using(crate::proofs::Growing::grew_on, crate::proofs::Growing::stayed, crate::proofs::Growing::stays_on))]
+    pub(crate) fn write<W: Wire>(&mut self, wire: &mut W, place: usize, now: u64) -> bool
+        requires { place < LINKS }
+        ensures { Grew self.old self.new (W.passed wire.old) (W.passed wire.new) }
+    {
+        for _ in 0..u64::MAX {
+            self.begin(place);
+            match self.lines.write(wire, place) {
+                Written::Some => self.note_written(place, now),
+                Written::Nothing => return !self.is_closed(place),
+                Written::Later => return true,
+                Written::Ended => return false,
+            }
+        }
+        true
+    }
+
+    /// Writes what waits at a place, and ends the connection where it doesn't go on.
+    #[tactic(auto, using(crate::proofs::Growing::grew_on, crate::proofs::Growing::stayed, crate::proofs::Growing::stays_on))]
+    pub(crate) fn write_or_end<W: Wire>(&mut self, wire: &mut W, place: usize, now: u64)
+        requires { place < LINKS }
+        ensures { Grew self.old self.new (W.passed wire.old) (W.passed wire.new) }
+    {
+        if !self.write(wire, place, now) {
+            self.end(wire, place, now);
+        }
+    }
+
+    /// The same at each place.
+    #[tactic(auto, using(crate::proofs::Growing::grew_on, crate::proofs::Growing::stayed, crate::proofs::Growing::stays_on))]
+    pub(crate) fn write_all<W: Wire>(&mut self, wire: &mut W, now: u64)
+        ensures { Grew self.old self.new (W.passed wire.old) (W.passed wire.new) }
+    {
+        for place in 0..LINKS {
+            self.write_or_end(wire, place, now);
+        }
+    }
+}

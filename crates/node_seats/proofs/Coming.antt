@@ -1,0 +1,235 @@
+-- What came of seats, as several calls are one, and what is left of it of seats and of the log.
+use Rattle.std.proofs.Common.{◌≡◌, ℕ, List, [], ◌∷◌, ◌++◌, append_assoc, append-nil, refl, ap, sym, ◌∙◌, subst}
+use Rattle.std.specs.Prelude.{Option, Some, None}
+use Rattle.node_wires.specs.Passages.{Passage, Began, Came, Wrote, Gave, Logged, of_seat, seats_in, logged_in, came_over}
+use Rattle.node_wires.specs.declared.line.Line.TheVariants.{Guest, Peer, Caller, Seat, Asker}
+use Rattle.node_seats.specs.declared.guests.Guests.{Guests}
+use Rattle.node_seats.specs.declared.seats.Seats.{Seats}
+use Rattle.node_seats.specs.declared.seat_notice.SeatNotice.{SeatNotice}
+use Rattle.node_seats.specs.declared.seat_notice.SeatNotice.TheVariants as notices
+use Rattle.node_seats.specs.declared.token_digest.TokenDigest.{TokenDigest}
+use Rattle.node_seats.specs.Passing.{passed_by, Passed, TakesNobody, AreOfGuests, Grows}
+use Rattle.node_seats.specs.Guesting.{ShowsToken, IsSeated, IsGuested, behind_by, Passes}
+use Rattle.node_seats.specs.declared.seat.Seat.{Seat as SeatOf}
+use Rattle.node_seats.specs.Seating.{waits_at, sits_at, Follows, Changes}
+use Rattle.node_seats.specs.Coming.{passed_in, tokens_in, Comes}
+use Rattle.node_seats.proofs.Passing.{both_of_guests}
+
+-- ---- one call behind another
+
+guested_on : (tokens : Option (List TokenDigest)) (notice : Option SeatNotice) (a one two : List Passage) → IsGuested tokens None a one → IsGuested tokens notice (a ++ one) two → IsGuested tokens notice a (one ++ two)
+guested_on None notice a one two is_one is_two = ap (λ (ps : List Passage). ps ++ two) is_one ∙ is_two
+guested_on (Some tokens) None a one two is_one is_two = both_of_guests one two is_one is_two
+guested_on (Some tokens) (Some (notices.Came seat)) a one two is_one is_two = record {
+  place = is_two.place;
+  front = one ++ is_two.front;
+  of_guests = both_of_guests one is_two.front is_one is_two.of_guests;
+  given = ap (λ (ps : List Passage). one ++ ps) is_two.given ∙ sym (append_assoc one is_two.front (Gave is_two.place seat ∷ []));
+  shows = subst (λ (ps : List Passage). ShowsToken tokens seat (came_over ps (Guest is_two.place))) (append_assoc a one is_two.front) is_two.shows;
+}
+guested_on (Some tokens) (Some (notices.Piece seat bytes)) a one two is_one is_two = both_of_guests one two is_one is_two
+guested_on (Some tokens) (Some (notices.Gone seat)) a one two is_one is_two = both_of_guests one two is_one is_two
+guested_on (Some tokens) (Some (notices.Refused seat)) a one two is_one is_two = both_of_guests one two is_one is_two
+
+nothing_behind : (tokens : Option (List TokenDigest)) → behind_by tokens None ≡ []
+nothing_behind None = refl
+nothing_behind (Some tokens) = refl
+
+pub passed_on : (tokens : Option (List TokenDigest)) (notice : Option SeatNotice) (a b c x y z : List Passage) → Passes tokens None a b x y → Passes tokens notice b c y z → Passes tokens notice a c x z
+passed_on tokens notice a b c x y z one two =
+    let wired_one : y ≡ x ++ one.more = one.wired ∙ ap (λ (ps : List Passage). x ++ ps) (ap (λ (ps : List Passage). one.more ++ ps) (nothing_behind tokens) ∙ append-nil one.more) in
+    record {
+      more = one.more ++ two.more;
+      guested = guested_on tokens notice a one.more two.more one.guested (subst (λ (ps : List Passage). IsGuested tokens notice ps two.more) one.put_down two.guested);
+      put_down = two.put_down ∙ (ap (λ (ps : List Passage). ps ++ two.more) one.put_down ∙ append_assoc a one.more two.more);
+      wired =
+          two.wired
+          ∙ (ap (λ (ps : List Passage). ps ++ (two.more ++ behind_by tokens notice)) wired_one
+          ∙ (append_assoc x one.more (two.more ++ behind_by tokens notice) ∙ ap (λ (ps : List Passage). x ++ ps) (sym (append_assoc one.more two.more (behind_by tokens notice)))));
+    }
+
+-- ---- what one call is
+
+pub plain_passes : (notice : Option SeatNotice) (old new wired_old wired_new : List Passage) → new ≡ old → Passed notice wired_old wired_new → Passes None notice old new wired_old wired_new
+plain_passes notice old new wired_old wired_new same passed = record { more = []; guested = refl; put_down = same ∙ sym (append-nil old); wired = passed }
+
+nothing_guested : (tokens : Option (List TokenDigest)) (old : List Passage) → IsGuested tokens None old []
+nothing_guested None old = refl
+nothing_guested (Some tokens) old = tt
+
+pub nothing_passes : (tokens : Option (List TokenDigest)) (old new wired_old wired_new : List Passage) → new ≡ old → wired_new ≡ wired_old → Passes tokens None old new wired_old wired_new
+nothing_passes tokens old new wired_old wired_new same stays = record {
+  more = [];
+  guested = nothing_guested tokens old;
+  put_down = same ∙ sym (append-nil old);
+  wired = stays ∙ (sym (append-nil wired_old) ∙ ap (λ (ps : List Passage). wired_old ++ ps) (sym (nothing_behind tokens)));
+}
+
+guested_by : (tokens : List TokenDigest) (notice : Option SeatNotice) (old more : List Passage) → TakesNobody notice → AreOfGuests more → IsGuested (Some tokens) notice old more
+guested_by tokens None old more takes are = are
+guested_by tokens (Some (notices.Piece seat bytes)) old more takes are = are
+guested_by tokens (Some (notices.Gone seat)) old more takes are = are
+guested_by tokens (Some (notices.Refused seat)) old more takes are = absurd takes
+guested_by tokens (Some (notices.Came seat)) old more takes are = absurd takes
+
+behind_of : (tokens : List TokenDigest) (notice : Option SeatNotice) → TakesNobody notice → behind_by (Some tokens) notice ≡ passed_by notice
+behind_of tokens None takes = refl
+behind_of tokens (Some (notices.Piece seat bytes)) takes = refl
+behind_of tokens (Some (notices.Gone seat)) takes = refl
+behind_of tokens (Some (notices.Refused seat)) takes = absurd takes
+behind_of tokens (Some (notices.Came seat)) takes = absurd takes
+
+-- guests were taken in or heard, and then something came of a bot
+pub bot_passes : (tokens : List TokenDigest) (notice : Option SeatNotice) (old new wired_old wired wired_new : List Passage) → TakesNobody notice → Grows old new wired_old wired → Passed notice wired wired_new
+    → Passes (Some tokens) notice old new wired_old wired_new
+bot_passes tokens notice old new wired_old wired wired_new takes grows passed = record {
+  more = grows.more;
+  guested = guested_by tokens notice old grows.more takes grows.of_guests;
+  put_down = grows.put_down;
+  wired =
+      passed
+      ∙ (ap (λ (ps : List Passage). ps ++ passed_by notice) grows.wired
+      ∙ (append_assoc wired_old grows.more (passed_by notice) ∙ ap (λ (ps : List Passage). wired_old ++ (grows.more ++ ps)) (sym (behind_of tokens notice takes))));
+}
+
+pub heard_passes : (tokens : List TokenDigest) (old new wired_old wired_new : List Passage) → Grows old new wired_old wired_new → Passes (Some tokens) None old new wired_old wired_new
+heard_passes tokens old new wired_old wired_new grows = record { more = grows.more; guested = grows.of_guests; put_down = grows.put_down; wired = grows.wired ∙ ap (λ (ps : List Passage). wired_old ++ ps) (sym (append-nil grows.more)) }
+
+pub refused_passes : (tokens : List TokenDigest) (seat : ℕ) (old new wired_old wired_new : List Passage) → Grows old new wired_old wired_new → Passes (Some tokens) (Some (notices.Refused seat)) old new wired_old wired_new
+refused_passes tokens seat old new wired_old wired_new grows = record { more = grows.more; guested = grows.of_guests; put_down = grows.put_down; wired = grows.wired ∙ ap (λ (ps : List Passage). wired_old ++ ps) (sym (append-nil grows.more)) }
+
+pub given_passes : (tokens : List TokenDigest) (seat place : ℕ) (old new wired_old wired_new : List Passage) → ShowsToken tokens seat (came_over old (Guest place)) → new ≡ old ++ Gave place seat ∷ [] → wired_new ≡ wired_old ++ Gave place seat ∷ []
+    → Passes (Some tokens) (Some (notices.Came seat)) old new wired_old wired_new
+given_passes tokens seat place old new wired_old wired_new shows given wired = record {
+  more = Gave place seat ∷ [];
+  guested = record { place = place; front = []; of_guests = tt; given = refl; shows = subst (λ (ps : List Passage). ShowsToken tokens seat (came_over ps (Guest place))) (sym (append-nil old)) shows };
+  put_down = given;
+  wired = wired;
+}
+
+pub gone_passes : (tokens : List TokenDigest) (seat : ℕ) (old new wired_old wired_new : List Passage) → new ≡ old → wired_new ≡ wired_old → Passes (Some tokens) (Some (notices.Gone seat)) old new wired_old wired_new
+gone_passes tokens seat old new wired_old wired_new same stays = record { more = []; guested = tt; put_down = same ∙ sym (append-nil old); wired = stays ∙ sym (append-nil wired_old) }
+
+-- ---- what is left of seats and of the log
+
+seats_of_both : (xs ys : List Passage) → seats_in (xs ++ ys) ≡ seats_in xs ++ seats_in ys
+seats_of_both [] ys = refl
+seats_of_both (p ∷ xs) ys = ap (λ (ps : List Passage). of_seat p ++ ps) (seats_of_both xs ys) ∙ sym (append_assoc (of_seat p) (seats_in xs) (seats_in ys))
+
+no_seats : (more : List Passage) → AreOfGuests more → seats_in more ≡ []
+no_seats [] are = refl
+no_seats (Began (Guest place) ∷ more) are = no_seats more are.1
+no_seats (Came (Guest place) bytes ∷ more) are = no_seats more are.1
+no_seats (Began (Peer n) ∷ more) are = absurd are.0
+no_seats (Began (Caller n) ∷ more) are = absurd are.0
+no_seats (Began (Seat n) ∷ more) are = absurd are.0
+no_seats (Began (Asker n) ∷ more) are = absurd are.0
+no_seats (Came (Peer n) bytes ∷ more) are = absurd are.0
+no_seats (Came (Caller n) bytes ∷ more) are = absurd are.0
+no_seats (Came (Seat n) bytes ∷ more) are = absurd are.0
+no_seats (Came (Asker n) bytes ∷ more) are = absurd are.0
+no_seats (Wrote line bytes ∷ more) are = absurd are.0
+no_seats (Gave place seat ∷ more) are = absurd are.0
+no_seats (Logged text ∷ more) are = absurd are.0
+
+log_of_both : (xs ys : List Passage) → logged_in (xs ++ ys) ≡ logged_in xs ++ logged_in ys
+log_of_both [] ys = refl
+log_of_both (Began line ∷ xs) ys = log_of_both xs ys
+log_of_both (Came line bytes ∷ xs) ys = log_of_both xs ys
+log_of_both (Wrote line bytes ∷ xs) ys = log_of_both xs ys
+log_of_both (Gave place seat ∷ xs) ys = log_of_both xs ys
+log_of_both (Logged text ∷ xs) ys = ap (λ (ls : List ℕ). text ++ ls) (log_of_both xs ys) ∙ sym (append_assoc text (logged_in xs) (logged_in ys))
+
+no_log : (more : List Passage) → AreOfGuests more → logged_in more ≡ []
+no_log [] are = refl
+no_log (Began line ∷ more) are = no_log more are.1
+no_log (Came line bytes ∷ more) are = no_log more are.1
+no_log (Wrote line bytes ∷ more) are = absurd are.0
+no_log (Gave place seat ∷ more) are = absurd are.0
+no_log (Logged text ∷ more) are = absurd are.0
+
+no_log_by : (notice : Option SeatNotice) → logged_in (passed_by notice) ≡ []
+no_log_by None = refl
+no_log_by (Some (notices.Came seat)) = refl
+no_log_by (Some (notices.Piece seat bytes)) = refl
+no_log_by (Some (notices.Gone seat)) = refl
+no_log_by (Some (notices.Refused seat)) = refl
+
+seats_of_guests : (notice : Option SeatNotice) (more : List Passage) (behind : List Passage) → AreOfGuests more → behind ≡ passed_by notice → seats_in (more ++ behind) ≡ seats_in (passed_by notice)
+seats_of_guests notice more behind are e = seats_of_both more behind ∙ (ap (λ (ps : List Passage). ps ++ seats_in behind) (no_seats more are) ∙ ap seats_in e)
+
+seats_of_more : (tokens : Option (List TokenDigest)) (notice : Option SeatNotice) (old more : List Passage) → IsGuested tokens notice old more → seats_in (more ++ behind_by tokens notice) ≡ seats_in (passed_by notice)
+seats_of_more None notice old more is = ap (λ (ps : List Passage). seats_in (ps ++ passed_by notice)) is
+seats_of_more (Some tokens) None old more is = seats_of_guests None more [] is refl
+seats_of_more (Some tokens) (Some (notices.Came seat)) old more is =
+    ap seats_in (append-nil more ∙ is.given) ∙ (seats_of_both is.front (Gave is.place seat ∷ []) ∙ ap (λ (ps : List Passage). ps ++ Began (Seat seat) ∷ []) (no_seats is.front is.of_guests))
+seats_of_more (Some tokens) (Some (notices.Piece seat bytes)) old more is = seats_of_guests (Some (notices.Piece seat bytes)) more (Came (Seat seat) bytes.items ∷ []) is refl
+seats_of_more (Some tokens) (Some (notices.Gone seat)) old more is = seats_of_guests (Some (notices.Gone seat)) more [] is refl
+seats_of_more (Some tokens) (Some (notices.Refused seat)) old more is = seats_of_guests (Some (notices.Refused seat)) more [] is refl
+
+log_of_guests : (more behind : List Passage) → AreOfGuests more → logged_in behind ≡ [] → logged_in (more ++ behind) ≡ []
+log_of_guests more behind are e = log_of_both more behind ∙ (ap (λ (ls : List ℕ). ls ++ logged_in behind) (no_log more are) ∙ e)
+
+log_of_more : (tokens : Option (List TokenDigest)) (notice : Option SeatNotice) (old more : List Passage) → IsGuested tokens notice old more → logged_in (more ++ behind_by tokens notice) ≡ []
+log_of_more None notice old more is = ap (λ (ps : List Passage). logged_in (ps ++ passed_by notice)) is ∙ no_log_by notice
+log_of_more (Some tokens) None old more is = log_of_guests more [] is refl
+log_of_more (Some tokens) (Some (notices.Came seat)) old more is =
+    ap logged_in (append-nil more ∙ is.given) ∙ log_of_guests is.front (Gave is.place seat ∷ []) is.of_guests refl
+log_of_more (Some tokens) (Some (notices.Piece seat bytes)) old more is = log_of_guests more (Came (Seat seat) bytes.items ∷ []) is refl
+log_of_more (Some tokens) (Some (notices.Gone seat)) old more is = log_of_guests more [] is refl
+log_of_more (Some tokens) (Some (notices.Refused seat)) old more is = log_of_guests more [] is refl
+
+pub seats_come : (notice : Option SeatNotice) (old new : Seats) (wired_old wired_new : List Passage) → Comes notice old new wired_old wired_new → seats_in wired_new ≡ seats_in wired_old ++ seats_in (passed_by notice)
+seats_come notice old new wired_old wired_new comes =
+    ap seats_in comes.passes.wired
+    ∙ (seats_of_both wired_old (comes.passes.more ++ behind_by (tokens_in old.guests) notice)
+    ∙ ap (λ (ps : List Passage). seats_in wired_old ++ ps) (seats_of_more (tokens_in old.guests) notice (passed_in old.guests) comes.passes.more comes.passes.guested))
+
+pub log_stays : (notice : Option SeatNotice) (old new : Seats) (wired_old wired_new : List Passage) → Comes notice old new wired_old wired_new → logged_in wired_new ≡ logged_in wired_old
+log_stays notice old new wired_old wired_new comes =
+    ap logged_in comes.passes.wired
+    ∙ (log_of_both wired_old (comes.passes.more ++ behind_by (tokens_in old.guests) notice)
+    ∙ (ap (λ (ls : List ℕ). logged_in wired_old ++ ls) (log_of_more (tokens_in old.guests) notice (passed_in old.guests) comes.passes.more comes.passes.guested) ∙ append-nil (logged_in wired_old)))
+
+-- ---- without tokens
+
+passed_without : (tokens : Option (List TokenDigest)) (notice : Option SeatNotice) (old new wired_old wired_new : List Passage) → Passes tokens notice old new wired_old wired_new → tokens ≡ None → Passed notice wired_old wired_new
+passed_without None notice old new wired_old wired_new passes without = passes.wired ∙ ap (λ (ps : List Passage). wired_old ++ (ps ++ passed_by notice)) passes.guested
+passed_without (Some tokens) notice old new wired_old wired_new passes without = absurd cc
+
+pub plain_passed : (notice : Option SeatNotice) (old new : Seats) (wired_old wired_new : List Passage) → Comes notice old new wired_old wired_new → tokens_in old.guests ≡ None → Passed notice wired_old wired_new
+plain_passed notice old new wired_old wired_new comes without = passed_without (tokens_in old.guests) notice (passed_in old.guests) (passed_in new.guests) wired_old wired_new comes.passes without
+
+-- ---- one seat behind another
+
+follows_on : (notice : Option SeatNotice) (a b c : List SeatOf) → ((seat : ℕ) → waits_at b seat ≡ waits_at a seat) → Follows notice b c → Follows notice a c
+follows_on None a b c one two = λ seat. two seat ∙ one seat
+follows_on (Some (notices.Piece number bytes)) a b c one two = λ seat. two seat ∙ one seat
+follows_on (Some (notices.Refused number)) a b c one two = λ seat. two seat ∙ one seat
+follows_on (Some (notices.Came number)) a b c one two = (two.0, λ seat differs. two.1 seat differs ∙ one seat)
+follows_on (Some (notices.Gone number)) a b c one two = (two.0, λ seat differs. two.1 seat differs ∙ one seat)
+
+pub changes_on : (notice : Option SeatNotice) (a b c : List SeatOf) → ((seat : ℕ) → sits_at b seat ≡ sits_at a seat) → Changes notice b c → Changes notice a c
+changes_on None a b c one two = λ seat. two seat ∙ one seat
+changes_on (Some (notices.Piece number bytes)) a b c one two = λ seat. two seat ∙ one seat
+changes_on (Some (notices.Refused number)) a b c one two = λ seat. two seat ∙ one seat
+changes_on (Some (notices.Came number)) a b c one two = (sym (one number) ∙ two.0, two.1, λ seat differs. two.2 seat differs ∙ one seat)
+changes_on (Some (notices.Gone number)) a b c one two = (two.0, λ seat differs. two.1 seat differs ∙ one seat)
+
+pub comes_on : (notice : Option SeatNotice) (a b c : Seats) (x y z : List Passage) → Comes None a b x y → Comes notice b c y z → Comes notice a c x z
+comes_on notice a b c x y z one two = record {
+  passes =
+      passed_on (tokens_in a.guests) notice (passed_in a.guests) (passed_in b.guests) (passed_in c.guests) x y z one.passes
+      (subst (λ (t : Option (List TokenDigest)). Passes t notice (passed_in b.guests) (passed_in c.guests) y z) one.tokens two.passes);
+  tokens = two.tokens ∙ one.tokens;
+  waits = follows_on notice a.seats.items b.seats.items c.seats.items one.waits two.waits;
+  sits = changes_on notice a.seats.items b.seats.items c.seats.items one.sits two.sits;
+}
+
+pub comes_of : (old new : Seats) (wired_old wired_new : List Passage) → new.guests ≡ old.guests → new.seats.items ≡ old.seats.items → wired_new ≡ wired_old → Comes None old new wired_old wired_new
+comes_of old new wired_old wired_new guests seats wired = record {
+  passes = nothing_passes (tokens_in old.guests) (passed_in old.guests) (passed_in new.guests) wired_old wired_new (ap passed_in guests) wired;
+  tokens = ap tokens_in guests;
+  waits = λ seat. ap (λ (s : List SeatOf). waits_at s seat) seats;
+  sits = λ seat. ap (λ (s : List SeatOf). sits_at s seat) seats;
+}

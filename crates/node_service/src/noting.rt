@@ -1,0 +1,150 @@
+//! What is noted of a call, and told of it: to whoever makes notes, and to peers.
+
+ghost use Rattle.std.specs.Prelude.{◌≡◌};
+
+use crate::limits::SEATS;
+use crate::member::Member;
+use crate::server::NodeServer;
+use crate::told::Told;
+use node_links::Told as Beat;
+use node_watch::Seen;
+use node_wires::Wire;
+use paxos_wire::Ballot;
+use promise_store::Disk;
+use seat_session::SessionFault;
+use slot_log::Table;
+
+/// What is seen of a node.
+pub(crate) fn seen_of<D: Disk + Drop>(member: &Member<D>) -> Seen {
+    let node = member.node();
+    let table = node.table();
+    Seen {
+        front: node.front(),
+        promised: node.promised().map(|ballot| ballot.node),
+        campaigns: node.campaigns(),
+        over: table.over(),
+        hand_runs: table.running(),
+        act_waits: node.pending().is_some(),
+    }
+}
+
+/// The seat to act; none where no hand runs.
+pub(crate) fn seat_to_act(table: &Table) -> Option<u8> {
+    let hand = table.dealt().checked_sub(1)?;
+    let play = table.play(hand)?;
+    let players = play.players();
+    let position = play.to_act()?;
+    Some(((position + hand as usize) % players) as u8)
+}
+
+/// Whether a fault in what a seat sent closed its session.
+fn closes(fault: SessionFault) -> bool {
+    matches!(fault, SessionFault::BadVersion | SessionFault::LineTooLong)
+}
+
+impl<D: Disk + Drop, W: Wire + Drop> NodeServer<D, W> {
+    ghost use Rattle.node_service.specs.Desks.{IsKept};
+
+    /// Tells the fault of this number in what a seat sent; one whose session was closed by it is let go of. It says whether
+    /// there is such a fault.
+    pub(crate) fn note_fault(&mut self, number: usize) -> bool
+        ensures { IsKept W.Wire self.old.desk self.new.desk }
+    {
+        let Some(found) = self.desk.fault(number) else {
+            return false;
+        };
+        if found.seat >= SEATS as usize {
+            return true;
+        }
+        let seat = found.seat as u8;
+        let fault = found.fault;
+        self.tell(Told::Faulty { seat, fault });
+        if !closes(fault) {
+            return true;
+        }
+        self.desk.hang_up(seat);
+        true
+    }
+
+    /// Tells what was wrong in what a seat sent, where the node was called.
+    pub(crate) fn note_faults(&mut self, was_called: bool)
+        ensures { IsKept W.Wire self.old.desk self.new.desk }
+    {
+        if !was_called {
+            return;
+        }
+        for number in 0..usize::MAX {
+            if !self.note_fault(number) {
+                return;
+            }
+        }
+    }
+
+    /// Notes what is seen of the node after a call that began and ended then. What a long one took isn't silence of others.
+    pub(crate) fn note_seen(&mut self, began: u64, now: u64)
+        ensures { IsKept W.Wire self.old.desk self.new.desk }
+    {
+        let took = now.saturating_sub(began);
+        self.desk.forgive(took, now);
+        self.watch.see(seen_of(&self.desk.member), took, now);
+        if let Some(ballot) = self.desk.member.node().promised() {
+            self.note_leader(ballot, now);
+        }
+    }
+
+    /// The node has promised this ballot: whoever has it campaigns, unless it was in the store that the process began with.
+    pub(crate) fn note_leader(&mut self, ballot: Ballot, now: u64)
+        ensures { self.new.desk ≡ self.old.desk }
+    {
+        let earlier = self.leader;
+        if earlier == Some(ballot) {
+            return;
+        }
+        let is_other = match earlier {
+            Some(earlier) => earlier.node != ballot.node,
+            None => true,
+        };
+        self.leader = Some(ballot);
+        if self.is_started {
+            self.watch.lead();
+            self.sights.lead(ballot.node, now);
+        }
+        if is_other && self.watch.seen.campaigns {
+            self.tell(Told::Leads { ballot });
+        }
+    }
+
+    /// Writes what waits, and first tells peers how the node is, where that is due.
+    pub(crate) fn speak(&mut self, now: u64)
+        ensures { IsKept W.Wire self.old.desk self.new.desk }
+    {
+        let seen = self.watch.seen;
+        let told = Beat {
+            front: seen.front,
+            leads: seen.campaigns,
+            over: seen.over,
+            seats: self.desk.seats.bits(),
+        };
+        self.desk.speak(told, now);
+    }
+
+    /// Tells for which seat all wait, where nothing has gone on for a while. It is told where that seat sits, and where it
+    /// sits nowhere.
+    pub(crate) fn note_waiting(&mut self, now: u64)
+        ensures { self.new.desk ≡ self.old.desk }
+    {
+        let seen = self.watch.seen;
+        if seen.over || seen.act_waits || !seen.hand_runs || self.lasting.is_apart {
+            return;
+        }
+        let Some(seat) = seat_to_act(self.desk.member.node().table()) else {
+            return;
+        };
+        if !self.sits_here(seat) && self.sits_elsewhere(seat, now) {
+            return;
+        }
+        if self.lasting.tells_waiting(self.watch.moved, now) {
+            self.tell(Told::Waits { seat });
+        }
+    }
+}

@@ -1,0 +1,120 @@
+//! How the node is, for whoever asks.
+
+use crate::limits::SEATS;
+use crate::server::NodeServer;
+use node_peers::View;
+use node_status::{PeerStatus, SeatStatus, Sits, Status, status_line};
+use node_wires::Wire;
+use promise_store::Disk;
+use std::alloc::{AllocError, Global};
+
+impl<D: Disk + Drop, W: Wire + Drop> NodeServer<D, W> {
+    ghost use Rattle.node_service.specs.Desks.{IsKept};
+
+    /// Whether a peer is there: its connection is open, and it wasn't silent for long.
+    pub(crate) fn is_present(&self, view: &View, now: u64) -> bool {
+        view.is_open && now.saturating_sub(view.heard) < self.pace
+    }
+
+    /// Whether a bot sits here at a seat.
+    pub(crate) fn sits_here(&self, seat: u8) -> bool {
+        seat < SEATS && self.desk.seats.bits() & (1 << seat) != 0
+    }
+
+    /// Whether one does at another node, as far as those that are there have told.
+    pub(crate) fn sits_elsewhere(&self, seat: u8, now: u64) -> bool {
+        for number in 0..self.nodes {
+            if let Some(view) = self.desk.peers.view(number) {
+                if self.is_present(&view, now) && self.sights.has_seat(number, seat) {
+                    return true;
+                }
+            }
+        }
+        false
+    }
+
+    /// How the peers are.
+    fn peer_statuses(&self, alloc: Global, now: u64) -> Result<Vec<PeerStatus>, AllocError> {
+        let mut statuses = Vec::new(alloc);
+        for number in 0..self.nodes {
+            if number == self.desk.member.number() {
+                continue;
+            }
+            if let Some(view) = self.desk.peers.view(number) {
+                let is_present = self.is_present(&view, now);
+                statuses.push(match view.beat {
+                    Some(beat) if is_present => PeerStatus::Present {
+                        number,
+                        front: beat.front,
+                        leads: beat.leads,
+                    },
+                    _ => PeerStatus::Gone { number },
+                })?;
+            }
+        }
+        Ok(statuses)
+    }
+
+    /// Where the bot of a seat sits.
+    fn sits(&self, seat: u8, now: u64) -> Sits {
+        if self.sits_here(seat) {
+            Sits::Here
+        } else if self.sits_elsewhere(seat, now) {
+            Sits::Elsewhere
+        } else {
+            Sits::Nowhere
+        }
+    }
+
+    /// How the seats are.
+    fn seat_statuses(&self, alloc: Global, now: u64) -> Result<Vec<SeatStatus>, AllocError> {
+        let mut statuses = Vec::new(alloc);
+        let mut seat = 0u8;
+        for name in self.desk.member.station().config().names().as_slice() {
+            statuses.push(SeatStatus {
+                name: *name,
+                sits: self.sits(seat, now),
+                backlog: self.desk.seats.backlog(seat),
+            })?;
+            seat = seat.saturating_add(1);
+        }
+        Ok(statuses)
+    }
+
+    /// The line that says how the node is.
+    fn status_line(&self, alloc: Global, now: u64) -> Result<Vec<u8>, AllocError> {
+        let peers = self.peer_statuses(alloc, now)?;
+        let seats = self.seat_statuses(alloc, now)?;
+        let node = self.desk.member.node();
+        let seen = self.watch.seen;
+        status_line(
+            alloc,
+            &Status {
+                node: self.desk.member.number(),
+                front: seen.front,
+                hand: node.table().dealt().checked_sub(1),
+                over: seen.over,
+                promised: node.promised(),
+                leads: seen.campaigns,
+                quorum: self.patience.is_quorate,
+                peers: &peers,
+                seats: &seats,
+                pending: seen.act_waits,
+                commands: self.rate.last,
+            },
+        )
+    }
+
+    /// Gives the line to those who ask. Without memory for it they wait further.
+    pub(crate) fn answer_askers(&mut self, alloc: Global, now: u64)
+        ensures { IsKept W.Wire self.old.desk self.new.desk }
+    {
+        self.rate.see(self.watch.seen.front, now);
+        if !self.desk.is_asked(now) {
+            return;
+        }
+        if let Ok(line) = self.status_line(alloc, now) {
+            self.desk.answer(&line);
+        }
+    }
+}

@@ -1,0 +1,196 @@
+//! What came of peers and seats, taken one thing after another: each is one call of the node.
+
+ghost use Rattle.std.specs.Prelude.{◌≡◌, ◌∷◌, []};
+ghost use Rattle.node_wires.specs.Passages.{Began, Came};
+ghost use Rattle.node_wires.specs.declared.line.Line.TheVariants.{Seat};
+ghost use Rattle.node_service.specs.Arriving.{OfSeat, OfPeer, incoming_of};
+ghost use Rattle.node_service.specs.Telling.{told_of};
+
+use crate::limits::CALLS;
+use crate::outcome::Outcome;
+use crate::server::NodeServer;
+use crate::told::Told;
+use dealer_node::NodeFault;
+use dealer_world::Event;
+use node_links::{LinkFault, Whose};
+use node_peers::Notice;
+use node_seats::SeatNotice;
+use node_wires::Wire;
+use peer_codes::Life;
+use promise_store::Disk;
+use std::alloc::Global;
+use std::net::IpAddr;
+
+/// What was taken of what came.
+#[derive(Clone, Copy, PartialEq, Eq)]
+pub(crate) enum Taken {
+    /// There is nothing more.
+    Nothing,
+    /// One thing.
+    One,
+    /// One thing, and the rest waits for the next turn.
+    Last,
+}
+
+impl<D: Disk + Drop, W: Wire + Drop> NodeServer<D, W> {
+    ghost use Rattle.node_service.specs.Going.{GoesOn};
+    ghost use Rattle.node_service.specs.Serving.{served_of};
+
+    /// Takes what came, one thing after another, until calls have taken their time. It says whether nothing is left.
+    pub(crate) fn take_all(&mut self, alloc: Global, begun: u64) -> bool
+        ensures { GoesOn D.Disk [] (served_of self.old) (served_of self.new) }
+    {
+        for _ in 0..u64::MAX {
+            let now = self.desk.now();
+            if self.outcome != Outcome::GoesOn || now.saturating_sub(begun) >= CALLS {
+                return false;
+            }
+            match self.take_next(alloc, now) {
+                Taken::One => (),
+                Taken::Nothing => return true,
+                Taken::Last => return false,
+            }
+        }
+        false
+    }
+
+    /// Takes the next thing that came.
+    pub(crate) fn take_next(&mut self, alloc: Global, now: u64) -> Taken
+        ensures { GoesOn D.Disk [] (served_of self.old) (served_of self.new) }
+    {
+        if let Some(seat) = self.desk.sittings.first_let_go() {
+            self.leave(seat);
+            return Taken::One;
+        }
+        if let Some(notice) = self.desk.next_of_peers() {
+            return self.take_notice(alloc, notice);
+        }
+        match self.desk.next_of_seats(now) {
+            Some(notice) => {
+                self.take_seat_notice(notice);
+                Taken::One
+            }
+            None => Taken::Nothing,
+        }
+    }
+
+    /// One thing that came of a peer.
+    pub(crate) fn take_notice(&mut self, alloc: Global, notice: Notice) -> Taken
+        ensures { GoesOn D.Disk (told_of notice) (served_of self.old) (served_of self.new) }
+    {
+        match notice {
+            Notice::Frame { from, frame } => {
+                self.take_frame(alloc, from, frame.bytes.as_slice());
+                Taken::One
+            }
+            Notice::Joined { peer, life } => self.take_joined(peer, life),
+            Notice::Gone { peer } => {
+                self.tell(Told::Gone { peer });
+                Taken::One
+            }
+            Notice::Refused {
+                peer,
+                fault,
+                source,
+            } => {
+                self.note_refused(peer, fault, source);
+                Taken::One
+            }
+            Notice::Strangers { count, fault } => {
+                self.tell(Told::Callers { count, fault });
+                Taken::One
+            }
+        }
+    }
+
+    /// A connection to a peer is open. A life that is to be kept is told before frames of its node are taken; where there is
+    /// no memory to tell it that ends the process, since nobody would keep it.
+    pub(crate) fn take_joined(&mut self, peer: u8, life: Option<Life>) -> Taken
+        ensures { self.new.desk ≡ self.old.desk }
+    {
+        let is_told = self.told.push_back(Told::Joined { peer, life }).is_ok();
+        if life.is_none() {
+            return Taken::One;
+        }
+        if !is_told {
+            self.end(Outcome::Failed(NodeFault::OutOfMemory));
+        }
+        Taken::Last
+    }
+
+    /// A connection to a peer is closed by a fault. Where the peer keeps another life of this node's store, that ends the
+    /// process.
+    pub(crate) fn note_refused(&mut self, peer: u8, fault: LinkFault, source: Option<IpAddr>)
+        ensures { self.new.desk ≡ self.old.desk }
+    {
+        if fault == LinkFault::WentBack(Whose::Own) {
+            self.end(Outcome::WentBack);
+        }
+        self.tell(Told::Refused {
+            peer,
+            fault,
+            source,
+        });
+    }
+
+    /// A frame of a peer. Without memory for it, it is lost.
+    pub(crate) fn take_frame(&mut self, alloc: Global, from: u8, bytes: &[u8])
+        ensures { GoesOn D.Disk (OfPeer from bytes.now ∷ []) (served_of self.old) (served_of self.new) }
+    {
+        let to = self.desk.member.number();
+        let Ok(bytes) = Vec::from_slice(alloc, bytes) else {
+            return;
+        };
+        let _ = self.call(&Event::Frame { from, to, bytes });
+    }
+
+    /// One thing that came of a seat.
+    pub(crate) fn take_seat_notice(&mut self, notice: SeatNotice)
+        ensures { GoesOn D.Disk (incoming_of notice) (served_of self.old) (served_of self.new) }
+    {
+        match notice {
+            SeatNotice::Came { seat } => self.seat_bot(seat),
+            SeatNotice::Piece { seat, bytes } => self.take_piece(seat, bytes),
+            SeatNotice::Gone { seat } => self.leave(seat),
+            SeatNotice::Refused { seat } => self.tell(Told::WrongToken { seat }),
+        }
+    }
+
+    /// Bytes of a seat. Where there is no memory for the call they are lost, and their bot is let go of (`Desk::step`).
+    pub(crate) fn take_piece(&mut self, seat: u8, bytes: Vec<u8>)
+        ensures { GoesOn D.Disk (OfSeat (Came (Seat seat) bytes.items) ∷ []) (served_of self.old) (served_of self.new) }
+    {
+        let node = self.desk.member.number();
+        let _ = self.call(&Event::Line { node, seat, bytes });
+    }
+
+    /// A bot was taken in at a seat. Where the node has been without a quorum for a while it is turned away.
+    pub(crate) fn seat_bot(&mut self, seat: u8)
+        ensures { GoesOn D.Disk (OfSeat (Began (Seat seat)) ∷ []) (served_of self.old) (served_of self.new) }
+    {
+        if self.lasting.is_apart {
+            self.desk.hang_up(seat);
+            return;
+        }
+        let node = self.desk.member.number();
+        match self.call(&Event::Connect { node, seat }) {
+            Some(Ok(())) => {
+                self.patience.seat(seat);
+                self.tell(Told::Seated { seat });
+            }
+            _ => self.desk.hang_up(seat),
+        }
+    }
+
+    /// The bot of a seat is gone.
+    pub(crate) fn leave(&mut self, seat: u8)
+        ensures { GoesOn D.Disk [] (served_of self.old) (served_of self.new) }
+    {
+        let node = self.desk.member.number();
+        match self.call(&Event::Drop { node, seat }) {
+            Some(Ok(())) => self.tell(Told::Left { seat }),
+            Some(Err(fault)) => self.end(Outcome::Failed(fault)),
+            None => self.end(Outcome::Failed(NodeFault::Down)),
+        }
+    }
+}

@@ -1,0 +1,91 @@
+-- What those who ask were given and what is written to them, call by call.
+use Rattle.std.proofs.Common.{◌≡◌, ◌≢◌, ◌⊎◌, inl, inr, ℕ, ◌<◌, ◌≤◌, Bool, true, false, cond, List, [], ◌∷◌, ◌++◌, length, map, take, Result, Ok, Err, eqb, ap, sym, subst, ◌∙◌, arith}
+use Rattle.std.proofs.Math.ListN.{get_or-eq_default}
+use Rattle.std.proofs.Math.Seq.{take-nil}
+use Rattle.std.proofs.lemmas.Bool.{cases_lt, ne_eqb}
+use Rattle.std.proofs.lemmas.Bool.Decides.{eqb_tells}
+use Rattle.std.proofs.lemmas.List.{length-map}
+use Rattle.std.specs.declared.alloc.AllocError.{AllocError}
+use Rattle.node_wires.specs.declared.line.Line.TheVariants.{Asker as AskerAt}
+use Rattle.node_wires.specs.Passages.{Passage, Began, wrote_over}
+use Rattle.node_status.specs.declared.asker.Asker.{Asker}
+use Rattle.node_status.specs.Given.{Given, given_of, given_at, nobody, with_line}
+use Rattle.node_status.specs.Asking.{IsAnswered, AreAnswered, Comes, nobody_came, one_came, Accepts, IsGiven, Gives, Serves}
+use Rattle.node_status.proofs.Passing.{keeps_all, keeps_began, began_here, began_elsewhere}
+
+-- ---- one who comes
+
+pub nobody_accepted : (now : ℕ) (before after : List Asker) (old new : List Passage) → new ≡ old → after ≡ before → Accepts now before after old new
+nobody_accepted now before after old new e f = record {
+  arrival = nobody_came e f;
+  others = keeps_all old new e;
+  answered = λ so_far place. subst (λ (askers : List Asker). IsAnswered new place (given_at askers place)) (sym f) (subst (λ (ps : List Passage). IsAnswered ps place (given_at before place)) (sym e) (so_far place));
+}
+
+come_there : (now place : ℕ) (before after : List Asker) (new : List Passage) → wrote_over new (AskerAt place) ≡ [] → Comes now place before after → (place < length before) ⊎ (length before ≤ place) → IsAnswered new place (given_at after place)
+come_there now place before after new none comes (inl within) = subst (λ (g : Given). IsAnswered new place g) (sym (comes.here within)) none
+come_there now place before after new none comes (inr beyond) =
+    subst (λ (g : Given). IsAnswered new place g)
+    (sym (comes.beyond beyond ∙ get_or-eq_default (map given_of before) nobody (subst (λ (n : ℕ). n ≤ place) (sym (length-map before given_of)) beyond))) none
+
+at_one : (now place q : ℕ) (before after : List Asker) (old new : List Passage) → new ≡ old ++ Began (AskerAt place) ∷ [] → Comes now place before after → AreAnswered old before
+    → ((eqb q place ≡ true) × (q ≡ place)) ⊎ ((eqb q place ≡ false) × (q ≢ place)) → IsAnswered new q (given_at after q)
+at_one now place q before after old new e comes so_far (inl here) =
+    subst (λ (n : ℕ). IsAnswered new n (given_at after n)) (sym here.1) (come_there now place before after new (began_here place old new e) comes (cases_lt place (length before)))
+at_one now place q before after old new e comes so_far (inr elsewhere) =
+    subst (λ (g : Given). IsAnswered new q g) (sym (comes.others q elsewhere.1)) (began_elsewhere place q old new e elsewhere.1 ∙ so_far q)
+
+pub one_accepted : (now place : ℕ) (before after : List Asker) (old new : List Passage) → new ≡ old ++ Began (AskerAt place) ∷ [] → Comes now place before after → Accepts now before after old new
+one_accepted now place before after old new e comes = record {
+  arrival = one_came place e comes;
+  others = keeps_began place old new e;
+  answered = λ so_far q. at_one now place q before after old new e comes so_far (eqb_tells q place);
+}
+
+-- ---- a line that is given
+
+given_fields : (passed : List Passage) (place : ℕ) (line : List ℕ) (here : Bool) (since : ℕ) (got : List ℕ) (written : ℕ) → wrote_over passed (AskerAt place) ≡ take written got
+    → IsAnswered passed place (with_line line (record { is_here = here; since = since; line = got; written = written }))
+given_fields passed place line false since got written so_far = so_far
+given_fields passed place line true since [] written so_far = so_far ∙ take-nil written
+given_fields passed place line true since (byte ∷ more) written so_far =
+    let g : Given = record { is_here = true; since = since; line = byte ∷ more; written = written } in
+    let given : Given = record { is_here = true; since = since; line = line; written = 0 } in
+    subst (λ (b : Bool). IsAnswered passed place (cond b given g)) (sym (ne_eqb (length (byte ∷ more)) 0 (omega arith))) so_far
+
+with_line_answered : (passed : List Passage) (place : ℕ) (line : List ℕ) (g : Given) → IsAnswered passed place g → IsAnswered passed place (with_line line g)
+with_line_answered passed place line g so_far = given_fields passed place line g.is_here g.since g.line g.written so_far
+
+pub given_answered : (passed : List Passage) (place : ℕ) (line : List ℕ) (result : Result Unit AllocError) (before after : Given) → IsGiven line result before after → IsAnswered passed place before → IsAnswered passed place after
+given_answered passed place line (Ok done) before after given so_far = subst (λ (g : Given). IsAnswered passed place g) (sym given) (with_line_answered passed place line before so_far)
+given_answered passed place line (Err refused) before after (inl same) so_far = subst (λ (g : Given). IsAnswered passed place g) (sym same) so_far
+given_answered passed place line (Err refused) before after (inr given) so_far = subst (λ (g : Given). IsAnswered passed place g) (sym given) (with_line_answered passed place line before so_far)
+
+given_at_one : (place q : ℕ) (line : List ℕ) (result : Result Unit AllocError) (before after : List Asker) (passed : List Passage) → Gives place line result before after → AreAnswered passed before
+    → ((eqb q place ≡ true) × (q ≡ place)) ⊎ ((eqb q place ≡ false) × (q ≢ place)) → IsAnswered passed q (given_at after q)
+given_at_one place q line result before after passed gives so_far (inl here) =
+    subst (λ (n : ℕ). IsAnswered passed n (given_at after n)) (sym here.1) (given_answered passed place line result (given_at before place) (given_at after place) gives.given (so_far place))
+given_at_one place q line result before after passed gives so_far (inr elsewhere) = subst (λ (g : Given). IsAnswered passed q g) (sym (gives.others q elsewhere.1)) (so_far q)
+
+-- behind the answer to one more
+pub given_on : (place : ℕ) (line : List ℕ) (result : Result Unit AllocError) (before after : List Asker) (passed : List Passage) → Gives place line result before after → AreAnswered passed before → AreAnswered passed after
+given_on place line result before after passed gives so_far q = given_at_one place q line result before after passed gives so_far (eqb_tells q place)
+
+-- ---- what is written
+
+served_at_one : (now place q : ℕ) (before after : List Asker) (old new : List Passage) → Serves now place before after old new → AreAnswered old before
+    → ((eqb q place ≡ true) × (q ≡ place)) ⊎ ((eqb q place ≡ false) × (q ≢ place)) → IsAnswered new q (given_at after q)
+served_at_one now place q before after old new serves so_far (inl here) = subst (λ (n : ℕ). IsAnswered new n (given_at after n)) (sym here.1) (serves.wrote.answered (so_far place))
+served_at_one now place q before after old new serves so_far (inr elsewhere) = subst (λ (g : Given). IsAnswered new q g) (sym (serves.others q elsewhere.1)) (serves.wrote.elsewhere q elsewhere.1 ∙ so_far q)
+
+-- behind what is written to one more
+pub served_on : (now place : ℕ) (before after : List Asker) (old new : List Passage) → Serves now place before after old new → AreAnswered old before → AreAnswered new after
+served_on now place before after old new serves so_far q = served_at_one now place q before after old new serves so_far (eqb_tells q place)
+
+line_at_one : (now place q : ℕ) (before after : List Asker) (old new : List Passage) → Serves now place before after old new
+    → ((eqb q place ≡ true) × (q ≡ place)) ⊎ ((eqb q place ≡ false) × (q ≢ place)) → (given_at after q).line ≡ (given_at before q).line
+line_at_one now place q before after old new serves (inl here) = subst (λ (n : ℕ). (given_at after n).line ≡ (given_at before n).line) (sym here.1) serves.wrote.line
+line_at_one now place q before after old new serves (inr elsewhere) = ap (λ (g : Given). g.line) (serves.others q elsewhere.1)
+
+pub lines_stay : (now place : ℕ) (before after : List Asker) (old new : List Passage) → Serves now place before after old new → (q : ℕ) → (given_at after q).line ≡ (given_at before q).line
+lines_stay now place before after old new serves q = line_at_one now place q before after old new serves (eqb_tells q place)

@@ -1,0 +1,5 @@
+pub mod Joined
+pub mod Passing
+pub mod Places
+pub mod Asking
+mod Examples
