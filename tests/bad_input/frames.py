@@ -3,6 +3,7 @@ import re
 
 from .damage import DRAWN, changes, cuts, random_bytes
 from .faults import Fault
+from .frame_rows import rows
 from .models import GAMES, MOST_CHIPS, TOP, dealer, nodes
 from .running import LONG_RUN, WORKLOAD, Tally, run, shown, take_lines
 
@@ -222,8 +223,11 @@ def frame_inputs(dice):
 
 def frames(dice, folder):
     """Frames, as a reader reads them, and as nodes take them."""
-    tally = Tally("frames")
-    inputs = frame_inputs(dice)
+    tally, inputs = Tally("frames"), []
+    for frame, wanted in rows():
+        inputs.append(frame)
+        tally.take(frame, answer_of(frame), wanted, [])
+    inputs += frame_inputs(dice)
     answers = [answer_of(frame) for frame in inputs]
     lines = [f"{frame.hex()} {answer}" for frame, answer in zip(inputs, answers)]
     got = run([WORKLOAD, "frames"], folder, "".join(f"{line}\n" for line in lines).encode(), LONG_RUN)

@@ -11,6 +11,80 @@ from .running import AT_ONCE, PROGRAM, Tally, run
 BOUNDS = {"stack": (0, MOST_CHIPS), "blind": (0, MOST_CHIPS), "raisesize": (0, MOST_CHIPS), "firstplayer": (1, 10), "maxraises": (0, 255)}
 SINGLE = {"numplayers", "numrounds", "numsuits", "numranks", "numholecards"}
 FIXED = {"numrounds": [4], "numsuits": [4], "numranks": [13], "numholecards": [2], "numboardcards": [0, 3, 1, 1]}
+# Texts, each with the fault that the rules' words give it: lines at fault, and files that lack something or say what no game has.
+TOLD = [
+    (b"", "10 NoGamedef 0"),
+    (b"\n# GAMEDEF", "10 NoGamedef 2"),
+    (b"GAMEDEF x\n", "10 NoGamedef 1"),
+    (b"\nlimit\nGAMEDEF\n", "10 NoGamedef 2"),
+    (b"GAMEDEF\nlimit\n\n", "11 NoEnd 3"),
+    (b"GAMEDEF\nlimit\nnumPlayers = 2", "11 NoEnd 3"),
+    (b"GAMEDEF\nEND\n", "12 UnknownKey 2"),
+    (b"GAMEDEF\nEND GAMEDEF x\n", "12 UnknownKey 2"),
+    (b"GAMEDEF\n= 5\n", "12 UnknownKey 2"),
+    (b"GAMEDEF\nlimit\nGAMEDEF\n", "12 UnknownKey 3"),
+    (b"GAMEDEF\nstack5\nlimit x\n", "12 UnknownKey 2"),
+    (b"GAMEDEF\nlimit\nNOLIMIT x\n", "19 RepeatedKey 3"),
+    (b"GAMEDEF\nstack 1\nblind 1\nStack 1 2\n", "19 RepeatedKey 4"),
+    (b"GAMEDEF\nlimit x\n", "13 BadNumber 2"),
+    (b"GAMEDEF\nstack 2147483648\n", "13 BadNumber 2"),
+    (b"GAMEDEF\nnumPlayers 12345678901\n", "13 BadNumber 2"),
+    (b"GAMEDEF\nfirstPlayer 0\n", "13 BadNumber 2"),
+    (b"GAMEDEF\nfirstPlayer 11\n", "13 BadNumber 2"),
+    (b"GAMEDEF\nmaxRaises 256\n", "13 BadNumber 2"),
+    (b"GAMEDEF\nblind = 10=5\n", "13 BadNumber 2"),
+    (b"GAMEDEF\nnumPlayers 2\r", "13 BadNumber 2"),
+    (b"GAMEDEF\nblind 1 1 1 1 1 1 1 1 1 1 1 x\n", "13 BadNumber 2"),
+    (b"GAMEDEF\nlimit 1\n", "14 WrongCount 2"),
+    (b"GAMEDEF\nstack =\n", "14 WrongCount 2"),
+    (b"GAMEDEF\nnumPlayers = 2 2\n", "14 WrongCount 2"),
+    (b"GAMEDEF\nblind 1 1 1 1 1 1 1 1 1 1 1\nx\n", "14 WrongCount 2"),
+    (b"GAMEDEF\nEND GAMEDEF", "15 Unsupported 2"),
+    (b"GAMEDEF\nnumPlayers 11\n\nEND GAMEDEF", "15 Unsupported 2"),
+    (b"GAMEDEF\nnumRounds 3\nnumPlayers 1\nEND GAMEDEF", "15 Unsupported 3"),
+    (b"GAMEDEF\nnumRounds 3\nnumPlayers 10\nEND GAMEDEF", "15 Unsupported 2"),
+    (b"GAMEDEF\nnumPlayers 2\nnumRounds 4\nnumSuits 1\nEND GAMEDEF", "15 Unsupported 4"),
+    (b"GAMEDEF\nnumPlayers 2\nnumRounds 4\nnumSuits 4\nnumRanks 12\nEND GAMEDEF", "15 Unsupported 5"),
+    (b"GAMEDEF\nnumPlayers 2\nnumRounds 4\nnumSuits 4\nnumRanks 13\nnumHoleCards 4\nEND GAMEDEF", "15 Unsupported 6"),
+    (b"GAMEDEF\nnumPlayers 2\nnumRounds 4\nnumSuits 4\nnumRanks 13\nnumHoleCards 2\nnumBoardCards 0 3 1\nEND GAMEDEF", "15 Unsupported 7"),
+]  # fmt: skip
+# Lines in front of what every game of two players needs, with what is told of the file that they make.
+FRONTS = [
+    (b"nolimit\nblind 2 1\n", None),
+    (b"nolimit\nstack 100 100 100\nblind 2 1\n", "14 WrongCount 3"),
+    (b"blind 2 1 0\n", "14 WrongCount 2"),
+    (b"nolimit\nblind 2 1\nraiseSize 1 2 3\n", "14 WrongCount 4"),
+    (b"nolimit\nfirstPlayer 1 1 1\nblind 2 1\n", "14 WrongCount 3"),
+    (b"nolimit\nblind 2 1\nmaxRaises 1\n", "14 WrongCount 4"),
+    (b"nolimit\nfirstPlayer 3 1 1 1\n", "15 Unsupported 3"),
+    (b"nolimit\nblind 0 0\n", "16 NoBlind 3"),
+    (b"nolimit\n", "16 NoBlind 9"),
+    (b"nolimit\nstack 100 100\nblind 100 50\n", "17 StackBelowBlind 3"),
+    (b"nolimit\nblind 2147483647 1\n", "17 StackBelowBlind 10"),
+    (b"blind 2 1\n", "18 NoRaiseSize 9"),
+    (b"blind 2 1\nraiseSize 2 2 0 4\n", "18 NoRaiseSize 3"),
+]  # fmt: skip
+REST = b"numPlayers 2\nnumRounds 4\nnumSuits 4\nnumRanks 13\nnumHoleCards 2\nnumBoardCards 0 3 1 1\nEND GAMEDEF\n"
+# The game l2 in capitals, with tabs, CR, blank lines and comments, and without any `=`.
+LOUD = b"""# heads-up
+
+ \t
+GAMEDEF # here it begins\r
+LIMIT
+NUMPLAYERS 2
+NUMROUNDS\t4
+BLIND\t10\t5
+
+RAISESIZE 10 10 20 20
+FIRSTPLAYER 02 01 1 1\r
+MAXRAISES 3 4 4 4
+  NUMSUITS 4
+NUMRANKS 13
+NUMHOLECARDS 2
+NUMBOARDCARDS 0 3 1 1 # flop, turn, river
+END \t GAMEDEF
+and so on"""
+
 
 
 def lines_of(text):
@@ -104,11 +178,31 @@ def other_values(dice, text):
             yield text[: found.start()] + number + text[found.end() :]
 
 
+def fault_of(text):
+    """The first fault of a game file; none of a right one."""
+    try:
+        read_game(text)
+    except Fault as why:
+        return str(why)
+    return None
+
+
+def rows(tally):
+    """The game files whose faults are written down above, which those must be that are read here."""
+    for text, fault in TOLD + [(b"GAMEDEF\n" + lines + REST, fault) for lines, fault in FRONTS]:
+        tally.take(text, fault_of(text), fault, [fault] if fault else [])
+        yield text
+    script = hand_script(2)
+    tally.take(LOUD, dealer.play(LOUD, script, 2, "l2"), dealer.play(GAMES["l2"], script, 2, "l2"), [])
+    yield LOUD
+
+
 def game_files(dice, folder, pool):
     """Game files, and the hands that are played by those that are read."""
     tally = Tally("game files")
     right = lambda: scripts.game_text(dice, dice.choice([2, 2, 3, 6, 10])).encode()
-    inputs = [one for text in GAMES.values() for one in [*cuts(text), *long_games(text), *other_values(dice, text), *changes(dice, text)]]
+    inputs = [*rows(tally)]
+    inputs += [one for text in GAMES.values() for one in [*cuts(text), *long_games(text), *other_values(dice, text), *changes(dice, text)]]
     inputs += [drawn(dice, right, game_words()) for _ in range(DRAWN)]
     for data, got, wanted, fault in pool.map(functools.partial(one_game, folder), range(len(inputs)), inputs, chunksize=AT_ONCE):
         tally.take(data, got, wanted, fault)
@@ -119,10 +213,8 @@ def game_files(dice, folder, pool):
 
 def one_game(folder, number, data):
     word = f"{number}.game"
-    try:
-        players, fault = read_game(data), None
-    except Fault as why:
-        players, fault = 2, str(why)
+    fault = fault_of(data)
+    players = 2 if fault else read_game(data)
     script = hand_script(players)
     (folder / word).write_bytes(data)
     got = run([PROGRAM, "hand", "--hands", "2", "--log", word], folder, script)

@@ -1,6 +1,6 @@
 use crate::course::{
-    ALICE, BOB, VERSION, assert_each, assert_whole, disks, logs, logs_without, lost_bots,
-    no_outages, outage, outages_before_the_leader, server_that,
+    ALICE, VERSION, assert_each, assert_whole, disks, logs, lost_bots, no_outages,
+    outages_before_the_leader, server_that,
 };
 use crate::samples::{assert_bytes, assert_holds, assert_same};
 use dealer_node::NodeFault;
@@ -14,10 +14,7 @@ use std::process::Abort;
 use std::test::Fail;
 
 /// That the first player of hand 0 is away, handed on.
-pub(crate) const FORWARD: &[u8] = b"\x00\x00\x00\x09\x02\x08\x03\x00\x00\x00\x00\x00\x00";
-
-/// A first line that names no version which is spoken here.
-const WRONG: &[u8] = b"VERSION:1.0.0\r\n";
+const FORWARD: &[u8] = b"\x00\x00\x00\x09\x02\x08\x03\x00\x00\x00\x00\x00\x00";
 
 /// What bob's bot sends where he calls the first bet, and is lost.
 const CALLING_BOB: &[u8] = b"VERSION:2.0.0\r\nMATCHSTATE:1:0::|8hTc:c\r\n";
@@ -130,24 +127,8 @@ fn assert_turned_away(rt: &impl Abort, server: &Match, alice: u8, bob: u8) {
     assert_same(rt, times, (alice, bob));
 }
 
-/// Asserts what the turns of a match say about seats, and that all but this node, which is lost after the first deal,
-/// logged it wholly.
-fn assert_played_without(
-    rt: &impl Abort,
-    alloc: Global,
-    server: &mut Match,
-    lost: usize,
-    due: &[u8],
-) -> Result<(), AllocError> {
-    let said = turns(alloc, server)?;
-    assert_bytes(rt, said.as_slice(), due);
-    let logs = logs(alloc, server.links())?;
-    assert_bytes(rt, logs.as_slice(), logs_without(alloc, lost)?.as_slice());
-    Ok(())
-}
-
 /// Asserts the way and the bytes of a frame of this number.
-pub(crate) fn assert_frame<D: Disk + Drop>(
+fn assert_frame<D: Disk + Drop>(
     rt: &impl Abort,
     cluster: &Cluster<D>,
     number: usize,
@@ -167,18 +148,8 @@ fn a_seat_that_was_dropped_is_played_for(rt: HostRuntime) -> Result<(), Fail> {
     let mut server = server(&rt, alloc, links, no_outages(alloc), Absent::Play)?;
     assert_played(&rt, alloc, &mut server, b"s00 s10 g1 a11 ")?;
     assert_frame(&rt, server.cluster(), 12, (1, 0, FORWARD));
+    assert_holds(&rt, 1, server.place(1) == Some(Place::Played(1)));
     assert_turned_away(&rt, &server, 0, 1);
-    Ok(())
-}
-
-/// Both connections end: both are played for.
-#[test]
-fn two_seats_are_played_for(rt: HostRuntime) -> Result<(), Fail> {
-    let alloc = rt.alloc();
-    let links = bots(alloc, VERSION, VERSION)?;
-    let mut server = server(&rt, alloc, links, no_outages(alloc), Absent::Play)?;
-    assert_played(&rt, alloc, &mut server, b"s00 s10 g1 a11 g0 a01 ")?;
-    assert_turned_away(&rt, &server, 1, 1);
     Ok(())
 }
 
@@ -195,18 +166,6 @@ fn who_faces_nothing_calls(rt: HostRuntime) -> Result<(), Fail> {
     Ok(())
 }
 
-/// Node 1 is out from the first command on: the order is given at node 2.
-#[test]
-fn orders_pass_over_a_node_that_is_out(rt: HostRuntime) -> Result<(), Fail> {
-    let alloc = rt.alloc();
-    let links = bots(alloc, ALICE, VERSION)?;
-    let outages = outage(alloc, 1, 1, None)?;
-    let mut server = server(&rt, alloc, links, outages, Absent::Play)?;
-    assert_played_without(&rt, alloc, &mut server, 1, b"s00 s10 x1 g1 a12 ")?;
-    assert_turned_away(&rt, &server, 0, 1);
-    Ok(())
-}
-
 /// The seats are at node 2 and dropped there, and node 0, the next, leads: the orders are given to the leader.
 #[test]
 fn orders_are_given_to_the_leader(rt: HostRuntime) -> Result<(), Fail> {
@@ -217,69 +176,5 @@ fn orders_are_given_to_the_leader(rt: HostRuntime) -> Result<(), Fail> {
     let due = b"s00 s10 x0 x1 s12 g1 a10 s02 g0 a00 ";
     assert_played(&rt, alloc, &mut server, due)?;
     assert_turned_away(&rt, &server, 1, 1);
-    Ok(())
-}
-
-/// Bob comes again, to node 1: he isn't seated.
-#[test]
-fn who_is_played_for_is_not_seated(rt: HostRuntime) -> Result<(), Fail> {
-    let alloc = rt.alloc();
-    let mut links = bots(alloc, ALICE, VERSION)?;
-    links.call(1, 1, BOB)?;
-    let mut server = server(&rt, alloc, links, no_outages(alloc), Absent::Play)?;
-    assert_played(&rt, alloc, &mut server, b"s00 s10 g1 a11 ")?;
-    assert_holds(&rt, 1, server.place(1) == Some(Place::Played(1)));
-    assert_turned_away(&rt, &server, 0, 1);
-    Ok(())
-}
-
-/// The same where seats that were dropped are waited for: he is seated there.
-#[test]
-fn who_is_waited_for_is_seated(rt: HostRuntime) -> Result<(), Fail> {
-    let alloc = rt.alloc();
-    let mut links = bots(alloc, ALICE, VERSION)?;
-    links.call(1, 1, BOB)?;
-    let mut server = server(&rt, alloc, links, no_outages(alloc), Absent::Wait)?;
-    assert_played(&rt, alloc, &mut server, b"s00 s10 g1 s11 ")?;
-    assert_turned_away(&rt, &server, 0, 0);
-    Ok(())
-}
-
-/// Alice isn't there at node 0, where her accept fails: she had no connection to lose, so she is passed over by the greeting
-/// and awaited at node 1, once it is her turn.
-#[test]
-fn who_was_never_there_is_awaited(rt: HostRuntime) -> Result<(), Fail> {
-    let alloc = rt.alloc();
-    let mut links = MemoryLinks::new(alloc, 3, 0)?;
-    links.call(0, 1, BOB)?;
-    links.call(1, 0, ALICE)?;
-    let mut server = server(&rt, alloc, links, no_outages(alloc), Absent::Play)?;
-    assert_played(&rt, alloc, &mut server, b"g0 s10 s01 ")?;
-    assert_turned_away(&rt, &server, 0, 0);
-    Ok(())
-}
-
-/// A seat that names a wrong version at its greeting is dropped, and played for.
-#[test]
-fn who_names_a_wrong_version_is_played_for(rt: HostRuntime) -> Result<(), Fail> {
-    let alloc = rt.alloc();
-    let links = bots(alloc, ALICE, WRONG)?;
-    let mut server = server(&rt, alloc, links, no_outages(alloc), Absent::Play)?;
-    assert_played(&rt, alloc, &mut server, b"s00 s10 g1 a11 ")?;
-    assert_turned_away(&rt, &server, 0, 1);
-    Ok(())
-}
-
-/// Node 0 stops, where both seats have their connections: both are awaited at node 1, and nobody is played for.
-#[test]
-fn seats_of_a_node_that_stops_are_awaited(rt: HostRuntime) -> Result<(), Fail> {
-    let alloc = rt.alloc();
-    let mut links = bots(alloc, VERSION, VERSION)?;
-    links.call(1, 1, BOB)?;
-    links.call(1, 0, ALICE)?;
-    let outages = outage(alloc, 0, 1, None)?;
-    let mut server = server(&rt, alloc, links, outages, Absent::Play)?;
-    assert_played_without(&rt, alloc, &mut server, 0, b"s00 s10 x0 s11 s01 ")?;
-    assert_turned_away(&rt, &server, 0, 0);
     Ok(())
 }

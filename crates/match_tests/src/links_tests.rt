@@ -1,10 +1,10 @@
-//! Links over sockets, and the waits of links in memory: what no clause can say.
+//! Links over sockets, and the waits of links in memory: what no clause can say. Silent clients, ends within a line and who is
+//! turned away are told by `tests/waits`.
 
 use crate::samples::assert_bytes;
-use match_links::limits::{HELD, PIECE};
+use match_links::limits::PIECE;
 use match_links::{LinkFault, Links, MemoryLinks, Reached, TcpLinks};
 use std::alloc::{AllocError, Global};
-use std::fs::File;
 use std::io::{Read, Write};
 use std::net::{Ipv4Addr, Shutdown, TcpStream};
 use std::process::Abort;
@@ -16,12 +16,6 @@ const VERSION: &[u8] = b"VERSION:2.0.0\r\n";
 
 /// How long these links wait.
 const WAIT_MILLISECONDS: u64 = 300;
-
-/// How many clients that say nothing call a port, more than are held there.
-const SILENT: usize = 40;
-
-/// The most handles that are taken to have none left.
-const HANDLES: usize = 100_000;
 
 /// Links of three nodes and two seats, at the first ports that are free.
 fn links(rt: &HostRuntime) -> Option<TcpLinks<'_>> {
@@ -45,32 +39,6 @@ fn call(
     let mut stream = TcpStream::connect(rt, (Ipv4Addr::LOCALHOST, port))?;
     stream.write_all(text)?;
     Ok(stream)
-}
-
-/// The same, and it sends nothing more.
-fn call_and_end(
-    rt: &HostRuntime,
-    links: &TcpLinks<'_>,
-    place: (u8, u8),
-    text: &[u8],
-) -> Result<TcpStream, Fail> {
-    let stream = call(rt, links, place, text)?;
-    stream.shutdown(Shutdown::Write)?;
-    Ok(stream)
-}
-
-/// So many clients that call a seat at a node and say nothing.
-fn call_silently(
-    rt: &HostRuntime,
-    links: &TcpLinks<'_>,
-    place: (u8, u8),
-    count: usize,
-) -> Result<Vec<TcpStream>, Fail> {
-    let mut clients = Vec::new(rt.alloc());
-    for _ in 0..count {
-        clients.push(call(rt, links, place, b"")?)?;
-    }
-    Ok(clients)
 }
 
 /// Asserts that nobody can be seated at a node.
@@ -156,76 +124,6 @@ fn a_read_may_be_slow(rt: HostRuntime) -> Result<(), Fail> {
     Ok(())
 }
 
-/// A client that says nothing holds nobody else, and those who speak are seated in order of arrival.
-#[test]
-fn a_silent_client_holds_nobody(rt: HostRuntime) -> Result<(), Fail> {
-    let mut links = links(&rt).expect(&rt, "free ports");
-    let mut silent = call(&rt, &links, (0, 0), b"")?;
-    let _first = call(&rt, &links, (0, 0), b"first\n")?;
-    let _second = call(&rt, &links, (0, 0), b"second\n")?;
-    assert_seated(&rt, &mut links, (0, 0), b"first\n");
-    links.hang_up(0, 0);
-    silent.write_all(b"silent no longer\n")?;
-    assert_seated(&rt, &mut links, (0, 0), b"silent no longer\n");
-    assert_seated(&rt, &mut links, (0, 0), b"second\n");
-    Ok(())
-}
-
-/// Who ended behind a part of a line is seated, and who ended without a byte is passed over.
-#[test]
-fn an_end_is_seated_behind_some_bytes_alone(rt: HostRuntime) -> Result<(), Fail> {
-    let mut links = links(&rt).expect(&rt, "free ports");
-    let mut passed_over = call_and_end(&rt, &links, (0, 0), b"")?;
-    let _part = call_and_end(&rt, &links, (0, 0), b"VERS")?;
-    assert_seated(&rt, &mut links, (0, 0), b"VERS");
-    assert_piece(&rt, &mut links, (0, 0), b"");
-    assert_ended(&rt, &mut passed_over)
-}
-
-/// Who sends more than a piece may have without a line feed is seated.
-#[test]
-fn a_line_without_end_is_seated(rt: HostRuntime) -> Result<(), Fail> {
-    let mut links = links(&rt).expect(&rt, "free ports");
-    let text = [b'#'; 5000];
-    let _client = call(&rt, &links, (0, 0), &text)?;
-    assert_seated(&rt, &mut links, (0, 0), text.get(..PIECE).unwrap_or(b""));
-    assert_slow(&rt, &mut links, 0, 0);
-    Ok(())
-}
-
-/// As many as are held at a port hold those behind them in the system's queue, until they go.
-#[test]
-fn silent_clients_are_held_up_to_a_number(rt: HostRuntime) -> Result<(), Fail> {
-    let mut links = links(&rt).expect(&rt, "free ports");
-    let few = call_silently(&rt, &links, (0, 0), HELD - 1)?;
-    let bot = call(&rt, &links, (0, 0), VERSION)?;
-    assert_seated(&rt, &mut links, (0, 0), VERSION);
-    drop(bot);
-    let many = call_silently(&rt, &links, (0, 0), SILENT - (HELD - 1))?;
-    let _bot = call(&rt, &links, (0, 0), VERSION)?;
-    assert_nobody(&rt, &mut links, 0, 0);
-    drop(few);
-    drop(many);
-    assert_seated(&rt, &mut links, (0, 0), VERSION);
-    Ok(())
-}
-
-/// Who comes to a port at which the seat isn't awaited is turned away, while nobody can be seated where it is; who comes to
-/// another seat's isn't.
-#[test]
-fn who_knows_another_nodes_port_alone_is_turned_away(rt: HostRuntime) -> Result<(), Fail> {
-    let mut links = links(&rt).expect(&rt, "free ports");
-    let _silent = call(&rt, &links, (0, 0), b"")?;
-    let mut astray = call(&rt, &links, (1, 0), VERSION)?;
-    let mut other = call(&rt, &links, (1, 1), VERSION)?;
-    assert_nobody(&rt, &mut links, 0, 0);
-    assert_ended(&rt, &mut astray)?;
-    assert_goes_on(&rt, &mut other)?;
-    assert_nobody(&rt, &mut links, 1, 0);
-    assert_seated(&rt, &mut links, (1, 1), VERSION);
-    Ok(())
-}
-
 /// Who is held at a port is turned away when the seat is awaited at another.
 #[test]
 fn who_is_held_where_the_seat_was_awaited_is_turned_away(rt: HostRuntime) -> Result<(), Fail> {
@@ -235,24 +133,6 @@ fn who_is_held_where_the_seat_was_awaited_is_turned_away(rt: HostRuntime) -> Res
     assert_goes_on(&rt, &mut silent)?;
     assert_nobody(&rt, &mut links, 1, 0);
     assert_ended(&rt, &mut silent)
-}
-
-/// Who comes for a seat that is turned away at all is turned away at every node, while another seat is awaited or read
-/// from.
-#[test]
-fn who_comes_for_an_unwanted_seat_is_turned_away(rt: HostRuntime) -> Result<(), Fail> {
-    let mut links = links(&rt).expect(&rt, "free ports");
-    links.turn_away(1);
-    let mut here = call(&rt, &links, (0, 1), VERSION)?;
-    let mut there = call(&rt, &links, (2, 1), VERSION)?;
-    assert_nobody(&rt, &mut links, 0, 0);
-    assert_ended(&rt, &mut here)?;
-    assert_ended(&rt, &mut there)?;
-    let _other = call(&rt, &links, (0, 0), VERSION)?;
-    assert_seated(&rt, &mut links, (0, 0), VERSION);
-    let mut later = call(&rt, &links, (1, 1), VERSION)?;
-    assert_slow(&rt, &mut links, 0, 0);
-    assert_ended(&rt, &mut later)
 }
 
 /// Where one can be seated at the port, no other port is looked at.
@@ -278,37 +158,6 @@ fn a_closed_port_lets_go_of_those_held(rt: HostRuntime) -> Result<(), Fail> {
     assert!(rt; links.open(0) == Ok(()));
     let _client = call(&rt, &links, (0, 0), VERSION)?;
     assert_seated(&rt, &mut links, (0, 0), VERSION);
-    Ok(())
-}
-
-/// Takes all handles that the system gives this program, and says whether none is left.
-fn take_handles(rt: &HostRuntime) -> Result<(Vec<File>, bool), Fail> {
-    let mut files = Vec::new(rt.alloc());
-    for _ in 0..HANDLES {
-        match File::open(rt, "/dev/null") {
-            Ok(file) => files.push(file)?,
-            Err(_) => return Ok((files, true)),
-        }
-    }
-    Ok((files, false))
-}
-
-/// Where the system has no handle left, those who are held can be seated, and the others wait until it has.
-#[test]
-fn no_handle_may_be_left(rt: HostRuntime) -> Result<(), Fail> {
-    let mut links = links(&rt).expect(&rt, "free ports");
-    let mut held = call(&rt, &links, (0, 0), b"")?;
-    assert_nobody(&rt, &mut links, 0, 0);
-    let _behind = call(&rt, &links, (0, 0), b"behind\n")?;
-    let (files, is_none_left) = take_handles(&rt)?;
-    if is_none_left {
-        assert_nobody(&rt, &mut links, 0, 0);
-        held.write_all(b"held\n")?;
-        assert_seated(&rt, &mut links, (0, 0), b"held\n");
-        assert_nobody(&rt, &mut links, 0, 0);
-    }
-    drop(files);
-    assert_seated(&rt, &mut links, (0, 0), b"behind\n");
     Ok(())
 }
 

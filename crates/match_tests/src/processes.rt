@@ -31,11 +31,21 @@ struct Sent {
 }
 
 /// A node: its process, where it has one; what that has logged; and where it has none, what is left of its store.
-#[derive(Drop)]
 struct Process {
     station: Option<Station<MemoryDisk>>,
     log: Vec<u8>,
     left: Vec<u8>,
+}
+
+/// By hand, so that letting one go is one call for whoever owns it.
+impl Drop for Process {
+    fn drop(self) {
+        let Process {
+            station: _,
+            log: _,
+            left: _,
+        } = self;
+    }
 }
 
 /// What a process gives its node by itself.
@@ -49,7 +59,6 @@ enum Own {
 }
 
 /// The processes of all nodes.
-#[derive(Drop)]
 struct Processes {
     alloc: Global,
     nodes: Vec<Process>,
@@ -59,6 +68,20 @@ struct Processes {
     made: Out,
     /// From which the next number is drawn.
     state: u64,
+}
+
+/// By hand as well.
+impl Drop for Processes {
+    fn drop(self) {
+        let Processes {
+            alloc: _,
+            nodes: _,
+            frames: _,
+            logs: _,
+            made: _,
+            state: _,
+        } = self;
+    }
 }
 
 /// A number below this one, which isn't 0 (Knuth's linear congruence).
@@ -200,6 +223,21 @@ fn process_of<'a>(rt: &impl Abort, nodes: &'a mut [Process], number: u8) -> &'a 
     nodes.get_mut(number as usize).expect(rt, "a node")
 }
 
+/// What a node sent and logged is handed on.
+fn hand_on(rt: &impl Abort, all: &mut Processes, number: u8) -> Result<(), AllocError> {
+    put_logged(&mut process_of(rt, &mut all.nodes, number).log, &all.made)?;
+    send(all.alloc, &mut all.frames, number, &all.made)
+}
+
+/// The process of a node dies; what is left of its disk is drawn.
+fn bury(rt: &impl Abort, all: &mut Processes, number: u8) -> Result<(), AllocError> {
+    let pick = draw(rt, &mut all.state, 729) as u64;
+    let process = process_of(rt, &mut all.nodes, number);
+    let log = die(all.alloc, process, pick, &mut all.made)?;
+    all.logs.push(log)?;
+    Ok(())
+}
+
 /// What came of a call of a node is handed on; by 91 its process dies. No other fault comes than that no hand runs.
 fn settle(
     rt: &impl Abort,
@@ -208,17 +246,8 @@ fn settle(
     answer: Result<(), NodeFault>,
 ) -> Result<(), AllocError> {
     match answer {
-        Ok(()) => {
-            put_logged(&mut process_of(rt, &mut all.nodes, number).log, &all.made)?;
-            send(all.alloc, &mut all.frames, number, &all.made)
-        }
-        Err(NodeFault::Store(_)) => {
-            let pick = draw(rt, &mut all.state, 729) as u64;
-            let process = process_of(rt, &mut all.nodes, number);
-            let log = die(all.alloc, process, pick, &mut all.made)?;
-            all.logs.push(log)?;
-            Ok(())
-        }
+        Ok(()) => hand_on(rt, all, number),
+        Err(NodeFault::Store(_)) => bury(rt, all, number),
         Err(fault) => {
             assert!(rt; fault == NodeFault::NothingToAct);
             Ok(())
@@ -226,34 +255,61 @@ fn settle(
     }
 }
 
+/// The station of a node over these bytes; none where its disk fails, of which so many calls pass, or all.
+fn begun(
+    rt: &impl Abort,
+    alloc: Global,
+    (nodes, number): (usize, u8),
+    left: &[u8],
+    calls: Option<u64>,
+) -> Result<Option<Station<MemoryDisk>>, Fail> {
+    let disk = disk_with(alloc, left, calls)?;
+    Ok(opened(rt, alloc, nodes, number, disk)?)
+}
+
+/// The next process of a node is there, or died at once: whether it is.
+fn enter(
+    rt: &impl Abort,
+    all: &mut Processes,
+    number: u8,
+    calls: Option<u64>,
+) -> Result<bool, Fail> {
+    let place = (all.nodes.len(), number);
+    let process = process_of(rt, &mut all.nodes, number);
+    process.station = begun(rt, all.alloc, place, &process.left, calls)?;
+    Ok(process.station.is_some())
+}
+
 /// The next process of a node begins, and starts it. So many calls of its disk pass, or all; where it fails before the
 /// node is there, the process has died.
 fn begin(rt: &impl Abort, all: &mut Processes, number: u8, calls: Option<u64>) -> Result<(), Fail> {
-    let nodes = all.nodes.len();
-    let process = process_of(rt, &mut all.nodes, number);
-    let disk = disk_with(all.alloc, &process.left, calls)?;
-    match opened(rt, all.alloc, nodes, number, disk)? {
-        Some(mut station) => {
-            let answer = give(&mut station, Own::Start, &mut all.made);
-            process.station = Some(station);
-            Ok(settle(rt, all, number, answer)?)
-        }
-        None => {
-            all.logs.push(Vec::new(all.alloc))?;
-            Ok(())
-        }
+    if enter(rt, all, number, calls)? {
+        return do_own(rt, all, number, Own::Start);
     }
+    all.logs.push(Vec::new(all.alloc))?;
+    Ok(())
+}
+
+/// Gives a node what its process does by itself, where it has one.
+fn do_own(rt: &impl Abort, all: &mut Processes, number: u8, own: Own) -> Result<(), Fail> {
+    let Some(station) = &mut process_of(rt, &mut all.nodes, number).station else {
+        return Ok(());
+    };
+    let answer = give(station, own, &mut all.made);
+    Ok(settle(rt, all, number, answer)?)
+}
+
+/// Whether a node has a process.
+fn lives(rt: &impl Abort, all: &mut Processes, number: u8) -> bool {
+    process_of(rt, &mut all.nodes, number).station.is_some()
 }
 
 /// Gives a node what its process does by itself; where it has none the next one begins.
-fn do_own(rt: &impl Abort, all: &mut Processes, number: u8, own: Own) -> Result<(), Fail> {
-    let process = process_of(rt, &mut all.nodes, number);
-    match &mut process.station {
-        Some(station) => {
-            let answer = give(station, own, &mut all.made);
-            Ok(settle(rt, all, number, answer)?)
-        }
-        None => begin(rt, all, number, None),
+fn do_or_begin(rt: &impl Abort, all: &mut Processes, number: u8, own: Own) -> Result<(), Fail> {
+    if lives(rt, all, number) {
+        do_own(rt, all, number, own)
+    } else {
+        begin(rt, all, number, None)
     }
 }
 
@@ -293,8 +349,8 @@ fn turn(rt: &impl Abort, all: &mut Processes) -> Result<(), Fail> {
         return deliver(rt, all);
     }
     let number = draw(rt, &mut all.state, all.nodes.len()).min(6) as u8;
-    do_own(rt, all, number, Own::Away)?;
-    do_own(rt, all, number, Own::Tick)
+    do_or_begin(rt, all, number, Own::Away)?;
+    do_or_begin(rt, all, number, Own::Tick)
 }
 
 /// So many nodes of a new match, none of which has a process.
@@ -348,6 +404,39 @@ fn assert_one_list(rt: &impl Abort, all: &Processes, number: u64) {
     }
 }
 
+/// A process of each node begins; so many calls of the failing one's disk pass.
+fn begin_all(
+    rt: &impl Abort,
+    all: &mut Processes,
+    nodes: u8,
+    failing: u8,
+    calls: u64,
+) -> Result<(), Fail> {
+    for number in 0..nodes {
+        let passing = if number == failing { Some(calls) } else { None };
+        begin(rt, all, number, passing)?;
+    }
+    Ok(())
+}
+
+/// Plays the match to its end.
+fn play_on(rt: &impl Abort, all: &mut Processes) -> Result<(), Fail> {
+    for _ in 0..TURNS {
+        if are_over(all) {
+            return Ok(());
+        }
+        turn(rt, all)?;
+    }
+    Ok(())
+}
+
+/// Asserts that the nodes show one list, which is that of the whole match.
+fn assert_shown(rt: &impl Abort, all: &Processes, number: u64) -> Result<(), AllocError> {
+    assert_one_list(rt, all, number);
+    let first = all.nodes.first().expect(rt, "a node");
+    assert_whole(rt, all.alloc, &first.log)
+}
+
 /// Plays a match of so many nodes, in which the process of one dies once so many calls of its disk have passed, of which
 /// two are those that make its store: whether it did.
 pub(crate) fn play(
@@ -358,18 +447,8 @@ pub(crate) fn play(
     calls: u64,
 ) -> Result<bool, Fail> {
     let mut all = created(alloc, nodes, calls)?;
-    for number in 0..nodes {
-        let passing = if number == failing { Some(calls) } else { None };
-        begin(rt, &mut all, number, passing)?;
-    }
-    for _ in 0..TURNS {
-        if are_over(&all) {
-            break;
-        }
-        turn(rt, &mut all)?;
-    }
-    assert_one_list(rt, &all, calls);
-    let first = all.nodes.first().expect(rt, "a node");
-    assert_whole(rt, alloc, &first.log)?;
+    begin_all(rt, &mut all, nodes, failing, calls)?;
+    play_on(rt, &mut all)?;
+    assert_shown(rt, &all, calls)?;
     Ok(!all.logs.is_empty())
 }

@@ -1,11 +1,8 @@
-use crate::absent_tests::{FORWARD, assert_frame};
 use crate::course::{
-    ALICE, BOB, Ending, VERSION, assert_places, assert_whole, disks, logs_without, no_outages,
-    outage, serve, server, server_that,
+    ALICE, BOB, Ending, VERSION, assert_places, disks, logs_without, outage, serve, server,
 };
 use crate::lost_leader::assert_forward_lost;
 use crate::samples::assert_bytes;
-use match_file::Absent;
 use match_links::TcpLinks;
 use promise_store::OnceDisk;
 use serving::{Server, Turn};
@@ -140,35 +137,4 @@ fn a_match_outlives_a_node_over_sockets(rt: HostRuntime) -> Result<(), Fail> {
     let logs = take_logs(&rt, port)?;
     assert_logs(&rt, rt.alloc(), &logs)?;
     assert_told(&rt, rt.alloc(), &mut clients)
-}
-
-/// Alice's client at node 0; bob's calls there too, and is lost once it has named the version.
-fn clients_of_whom_one_is_lost(rt: &HostRuntime, links: &TcpLinks<'_>) -> Result<TcpStream, Fail> {
-    let alice = call(rt, links.seat_port(0, 0), ALICE)?;
-    let _ = call(rt, links.seat_port(0, 1), VERSION)?;
-    Ok(alice)
-}
-
-/// Serves a match over these links in which bob is lost and played for: node 1, where that is ordered, hands it on to node
-/// 0, which leads.
-fn serve_for_bob(rt: &impl Abort, alloc: Global, links: TcpLinks<'_>) -> Result<(), AllocError> {
-    let disks = disks(alloc, 0, 0)?;
-    let outages = no_outages(alloc);
-    let server = server_that(rt, alloc, disks, links, outages, Absent::Play)?;
-    let mut server = server.expect(rt, "a server");
-    assert_served(rt, &mut server);
-    assert_frame(rt, server.cluster(), 12, (1, 0, FORWARD));
-    Ok(())
-}
-
-/// A seat whose connection ends is played for, over sockets and files.
-#[test]
-fn a_seat_that_was_dropped_is_played_for_over_sockets(rt: HostRuntime) -> Result<(), Fail> {
-    let mut links = links(&rt).expect(&rt, "free ports");
-    let port = links.seat_port(0, 0);
-    add_logs(&rt, &mut links, port)?;
-    let _alice = clients_of_whom_one_is_lost(&rt, &links)?;
-    serve_for_bob(&rt, rt.alloc(), links)?;
-    assert_whole(&rt, take_logs(&rt, port)?.as_slice());
-    Ok(())
 }

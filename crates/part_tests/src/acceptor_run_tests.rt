@@ -1,14 +1,14 @@
 //! What an acceptor answers to proposals for slots that follow one another.
 
-ghost use Rattle.std.specs.Prelude.{◌<◌};
-ghost use Rattle.paxos_wire.specs.Fits.{IsBallot, IsCommandRun};
+ghost use Rattle.std.specs.Prelude.{◌+◌, ◌<◌, ◌≤◌};
+ghost use Rattle.paxos_wire.specs.Fits.{IsBallot};
 
 use crate::acceptors::{THIRD, accepts, created_in_memory, opened, prepare, prepares};
-use crate::journal::{FIRST, commands, writes};
+use crate::journal::{FIRST, commands, written_and_synced};
 use crate::samples::{CALL, assert_same};
 use acceptor::{AcceptAnswer, Acceptor, PrepareAnswer, RunAnswer};
 use paxos_wire::{Ballot, CommandList, Entries, Entry};
-use promise_store::{Call, Disk, MemoryDisk, StoreFault};
+use promise_store::{Disk, MemoryDisk, StoreFault};
 use slot_log::Command;
 use std::alloc::{AllocError, Global};
 use std::process::Abort;
@@ -17,127 +17,139 @@ use std::test::Fail;
 const SECOND: Ballot = Ballot { round: 1, node: 1 };
 
 /// A deal, a call, that somebody is away, a raise to 20, and a fold.
-static FIVE: [u8; 58] = [
+const FIVE: [u8; 58] = [
     0x01, 0, 0, 0, 0, 0x09, 0x21, 0x33, 0x1a, 0x20, 0x00, 0x18, 0x06, 0x1c, 0x2e, 2, 0, 0, 0, 0, 0,
     0, 1, 0, 0, 0, 0, 3, 0, 0, 0, 0, 0, 1, 2, 0, 0, 0, 0, 0, 2, 2, 0, 0, 0, 20, 2, 0, 0, 0, 0, 0,
     3, 0, 0, 0, 0, 0,
 ];
 
 /// Other commands: five folds.
-static FOLDS: [u8; 60] = [
+const FOLDS: [u8; 60] = [
     2, 0, 0, 0, 0, 0, 0, 0, 0, 0, 0, 0, 2, 0, 0, 0, 0, 0, 0, 0, 0, 0, 0, 0, 2, 0, 0, 0, 0, 0, 0, 0,
     0, 0, 0, 0, 2, 0, 0, 0, 0, 0, 0, 0, 0, 0, 0, 0, 2, 0, 0, 0, 0, 0, 0, 0, 0, 0, 0, 0,
 ];
 
-/// What is answered: these commands, as accepted, or that this ballot was promised.
+/// What is answered: so many commands whose bytes begin these, as accepted, or that this ballot was promised, or a fault.
 #[derive(Clone, Copy)]
-enum Wanted<'a> {
-    Accepted(&'a [Command]),
+enum Wanted {
+    Accepted(&'static [u8], usize),
     Refused(Ballot),
     Fault(StoreFault),
+}
+
+/// Sees that these commands are answered in a ballot from a slot on.
+fn are_accepted(
+    rt: &impl Abort,
+    (of, at, found): (Ballot, u32, &[Command]),
+    (ballot, slot): (Ballot, u32),
+    (bytes, count): (&[u8], usize),
+) {
+    assert_same(rt, (of, at), (ballot, slot));
+    assert!(rt; count <= 64);
+    let expected = commands(rt, bytes, count);
+    assert!(rt; found == expected.as_slice());
 }
 
 /// Sees what is answered to a run of proposals in a ballot from a slot on.
 fn is_answer(
     rt: &impl Abort,
     answer: Result<RunAnswer<'_>, StoreFault>,
-    ballot: Ballot,
-    slot: u32,
-    wanted: Wanted<'_>,
+    place: (Ballot, u32),
+    wanted: Wanted,
 ) {
     match (answer, wanted) {
         (
             Ok(
                 RunAnswer::Accepted {
-                    ballot: of,
-                    slot: at,
+                    ballot,
+                    slot,
                     commands,
                 },
             ),
-            Wanted::Accepted(expected),
-        ) => {
-            assert_same(rt, (of, at), (ballot, slot));
-            assert!(rt; commands.as_slice() == expected);
-        }
+            Wanted::Accepted(bytes, count),
+        ) => are_accepted(
+            rt,
+            (ballot, slot, commands.as_slice()),
+            place,
+            (bytes, count),
+        ),
         (
             Ok(
                 RunAnswer::Refuse {
-                    ballot: of,
-                    slot: at,
+                    ballot,
+                    slot,
                     promised,
                 },
             ),
             Wanted::Refused(expected),
-        ) => {
-            assert_same(rt, (of, at), (ballot, slot));
-            assert_same(rt, promised, expected);
-        }
+        ) => assert_same(rt, ((ballot, slot), promised), (place, expected)),
         (Err(fault), Wanted::Fault(expected)) => assert_same(rt, fault, expected),
         _ => panic!(rt; "another answer"),
     }
 }
 
-/// A run of proposals is answered so.
+/// So many commands, whose bytes begin these, proposed in a ballot from a slot on, are answered so.
 fn accepts_run<D: Disk>(
     rt: &impl Abort,
     acceptor: &mut Acceptor<D>,
     ballot: Ballot,
     slot: u32,
-    run: &[Command],
-    wanted: Wanted<'_>,
+    bytes: &[u8],
+    count: usize,
+    wanted: Wanted,
 )
     requires ballot { IsBallot ballot }
-    requires run { IsCommandRun slot run.now }
+    requires least { 1 ≤ count }
+    requires most { count ≤ 64 }
+    requires slots { slot + count ≤ 4000000 }
 {
+    let run = commands(rt, bytes, count);
     let mut told = CommandList::new();
-    let answer = acceptor.on_accept_run(ballot, slot, run, &mut told);
-    is_answer(rt, answer, ballot, slot, wanted);
+    let answer = acceptor.on_accept_run(ballot, slot, run.as_slice(), &mut told);
+    is_answer(rt, answer, (ballot, slot), wanted);
 }
 
-/// The same where room was made for as many slots.
-fn accepts_run_in_room<D: Disk>(
+/// The same of the five folds from slot 7 on in the first ballot, where room was made for as many slots.
+fn accepts_folds_in_room<D: Disk>(
     rt: &impl Abort,
     acceptor: &mut Acceptor<D>,
-    ballot: Ballot,
-    slot: u32,
-    run: &[Command],
-    wanted: Wanted<'_>,
-) -> Result<(), AllocError>
-    requires ballot { IsBallot ballot }
-    requires run { IsCommandRun slot run.now }
-{
-    acceptor.reserve(run.len())?;
+    wanted: Wanted,
+) -> Result<(), AllocError> {
+    acceptor.reserve(5)?;
+    let run = commands(rt, &FOLDS, 5);
     let mut told = CommandList::new();
-    let answer = acceptor.on_accept_run_reserved(ballot, slot, run, &mut told);
-    is_answer(rt, answer, ballot, slot, wanted);
+    let answer = acceptor.on_accept_run_reserved(FIRST, 7, run.as_slice(), &mut told);
+    is_answer(rt, answer, (FIRST, 7), wanted);
     Ok(())
-}
-
-/// How many syncs of the disk succeeded.
-fn syncs(disk: &MemoryDisk) -> usize {
-    disk.calls()
-        .iter()
-        .filter(|call| matches!(call, Call::Synced))
-        .count()
 }
 
 /// So many appends were made on the disk behind a create: two writes and two syncs each.
 fn has_appended(rt: &impl Abort, disk: &MemoryDisk, appends: usize)
     requires { appends < 100 }
 {
-    assert_same(
-        rt,
-        (writes(disk), syncs(disk)),
-        (1 + 2 * appends, 1 + 2 * appends),
-    );
+    let each = 1 + 2 * appends;
+    assert_same(rt, written_and_synced(disk), (each, each));
+}
+
+/// The same of the disk of an acceptor.
+fn has_made(rt: &impl Abort, acceptor: Acceptor<MemoryDisk>, appends: usize)
+    requires { appends < 100 }
+{
+    has_appended(rt, &acceptor.into_disk(), appends);
 }
 
 /// The disk of a new acceptor that accepted the five in the first ballot from slot 7 on, by one append.
 fn disk_with_five(rt: &impl Abort, alloc: Global) -> Result<MemoryDisk, Fail> {
-    let five = commands(rt, &FIVE, 5);
     let mut acceptor = created_in_memory(rt, alloc, &[])?;
-    let all = Wanted::Accepted(five.as_slice());
-    accepts_run(rt, &mut acceptor, FIRST, 7, five.as_slice(), all);
+    accepts_run(
+        rt,
+        &mut acceptor,
+        FIRST,
+        7,
+        &FIVE,
+        5,
+        Wanted::Accepted(&FIVE, 5),
+    );
     let disk = acceptor.into_disk();
     has_appended(rt, &disk, 1);
     Ok(disk)
@@ -159,37 +171,52 @@ fn told_of_five(rt: &impl Abort) -> Entries {
     entries
 }
 
-/// A fresh run is accepted whole, by one append, and each slot of it is told to the next ballot.
-#[test]
-fn a_fresh_run(rt: HostRuntime) -> Result<(), Fail> {
-    let alloc = rt.alloc();
-    let disk = disk_with_five(&rt, alloc)?;
-    let mut acceptor = opened(&rt, alloc, disk);
+/// A promise of the second ballot tells of the five.
+fn tells_of_five<D: Disk>(rt: &impl Abort, acceptor: &mut Acceptor<D>) {
     let promise = PrepareAnswer::Promise {
         ballot: SECOND,
         slot: 0,
-        entries: told_of_five(&rt),
+        entries: told_of_five(rt),
     };
-    prepares(&rt, &mut acceptor, SECOND, 0, Ok(promise));
+    prepares(rt, acceptor, SECOND, 0, Ok(promise));
+}
+
+/// A fresh run is accepted whole, by one append, and each slot of it is told to the next ballot.
+#[test]
+fn a_fresh_run(rt: HostRuntime) -> Result<(), Fail> {
+    let disk = disk_with_five(&rt, rt.alloc())?;
+    tells_of_five(&rt, &mut opened(&rt, rt.alloc(), disk));
+    Ok(())
+}
+
+/// The five are told where folds are proposed in their place, and two of them where two are.
+fn tells_what_is_stored<D: Disk>(
+    rt: &impl Abort,
+    acceptor: &mut Acceptor<D>,
+) -> Result<(), AllocError> {
+    let all = Wanted::Accepted(&FIVE, 5);
+    accepts_run(rt, acceptor, FIRST, 7, &FOLDS, 5, all);
+    accepts_folds_in_room(rt, acceptor, all)?;
+    accepts_run(
+        rt,
+        acceptor,
+        FIRST,
+        7,
+        &FOLDS,
+        2,
+        Wanted::Accepted(&FIVE, 2),
+    );
     Ok(())
 }
 
 /// Where all of it is stored in this very ballot, what is stored is told, and nothing is written.
 #[test]
 fn a_run_that_is_stored(rt: HostRuntime) -> Result<(), Fail> {
-    let alloc = rt.alloc();
-    let disk = disk_with_five(&rt, alloc)?;
-    let five = commands(&rt, &FIVE, 5);
-    let folds = commands(&rt, &FOLDS, 5);
-    let mut acceptor = opened(&rt, alloc, disk);
-    let all = Wanted::Accepted(five.as_slice());
-    accepts_run(&rt, &mut acceptor, FIRST, 7, folds.as_slice(), all);
-    accepts_run_in_room(&rt, &mut acceptor, FIRST, 7, folds.as_slice(), all)?;
-    let few = Wanted::Accepted(&five.as_slice()[..2]);
-    accepts_run(&rt, &mut acceptor, FIRST, 7, &folds.as_slice()[..2], few);
+    let disk = disk_with_five(&rt, rt.alloc())?;
+    let mut acceptor = opened(&rt, rt.alloc(), disk);
+    tells_what_is_stored(&rt, &mut acceptor)?;
     // The sync of the opening is one more.
-    let disk = acceptor.into_disk();
-    assert_same(&rt, (writes(&disk), syncs(&disk)), (3, 4));
+    assert_same(&rt, written_and_synced(&acceptor.into_disk()), (3, 4));
     Ok(())
 }
 
@@ -199,96 +226,135 @@ fn with_three(
     alloc: Global,
     calls: u64,
 ) -> Result<Acceptor<MemoryDisk>, AllocError> {
-    let three = commands(rt, &FIVE, 3);
     // A create takes two calls, and an append four.
     let mut acceptor = created_in_memory(rt, alloc, &[calls.saturating_add(6)])?;
-    let all = Wanted::Accepted(three.as_slice());
-    accepts_run(rt, &mut acceptor, FIRST, 7, three.as_slice(), all);
+    accepts_run(
+        rt,
+        &mut acceptor,
+        FIRST,
+        7,
+        &FIVE,
+        3,
+        Wanted::Accepted(&FIVE, 3),
+    );
     Ok(acceptor)
 }
 
-/// Where the first three are stored and two aren't, the three are told, by three reads, and nothing is written.
-#[test]
-fn a_run_that_is_stored_in_part(rt: HostRuntime) -> Result<(), Fail> {
-    let alloc = rt.alloc();
-    let folds = commands(&rt, &FOLDS, 5);
-    let three = commands(&rt, &FIVE, 3);
-    let mut acceptor = with_three(&rt, alloc, 3)?;
-    let first = Wanted::Accepted(three.as_slice());
-    accepts_run(&rt, &mut acceptor, FIRST, 7, folds.as_slice(), first);
-    has_appended(&rt, &acceptor.into_disk(), 1);
-    let mut acceptor = with_three(&rt, alloc, 2)?;
-    let failed = Wanted::Fault(StoreFault::Disk);
-    accepts_run(&rt, &mut acceptor, FIRST, 7, folds.as_slice(), failed);
-    let closed = Wanted::Fault(StoreFault::Closed);
-    accepts_run(&rt, &mut acceptor, FIRST, 7, folds.as_slice(), closed);
-    has_appended(&rt, &acceptor.into_disk(), 1);
+/// What an acceptor of the first three answers to proposals of five folds: the calls that its disk passes, the ballot and the
+/// slot in which they are proposed, what is answered, and how many appends are made on its disk in all.
+type Case = (u64, Ballot, u32, &'static [Wanted], usize);
+
+/// Where the first three are stored and two aren't, the three are told, by three reads, and nothing is written; where the
+/// third slot has a vote of the ballot and the first hasn't, the first two are accepted by one append, which takes four
+/// calls; and what is stored in another ballot doesn't hold a run up: in a greater one all of it is accepted.
+static CASES: [Case; 4] = [
+    (3, FIRST, 7, &[Wanted::Accepted(&FIVE, 3)], 1),
+    (
+        2,
+        FIRST,
+        7,
+        &[
+            Wanted::Fault(StoreFault::Disk),
+            Wanted::Fault(StoreFault::Closed),
+        ],
+        1,
+    ),
+    (4, FIRST, 5, &[Wanted::Accepted(&FOLDS, 2)], 2),
+    (4, THIRD, 5, &[Wanted::Accepted(&FOLDS, 5)], 2),
+];
+
+/// Five folds are answered so, again and again.
+fn answers_each<D: Disk>(
+    rt: &impl Abort,
+    acceptor: &mut Acceptor<D>,
+    ballot: Ballot,
+    slot: u32,
+    answers: &[Wanted],
+)
+    requires ballot { IsBallot ballot }
+    requires slot { slot < 100 }
+{
+    for wanted in answers {
+        accepts_run(rt, acceptor, ballot, slot, &FOLDS, 5, *wanted);
+    }
+}
+
+/// A case is as its row says; the acceptor has promised the ballot then.
+fn is_case(rt: &impl Abort, alloc: Global, case: Case) -> Result<(), AllocError> {
+    let (calls, ballot, slot, answers, appends) = case;
+    assert!(rt; slot < 100 && appends < 100);
+    assert!(rt; ballot.round > 0 && ballot.node < 7);
+    let mut acceptor = with_three(rt, alloc, calls)?;
+    answers_each(rt, &mut acceptor, ballot, slot, answers);
+    assert_same(rt, acceptor.promised(), ballot);
+    has_made(rt, acceptor, appends);
     Ok(())
 }
 
-/// Where the third slot has a vote of the ballot and the first hasn't, the first two are accepted by one append, which
-/// takes four calls.
 #[test]
-fn a_run_up_to_a_slot_that_is_stored(rt: HostRuntime) -> Result<(), Fail> {
-    let alloc = rt.alloc();
-    let folds = commands(&rt, &FOLDS, 5);
-    let mut acceptor = with_three(&rt, alloc, 4)?;
-    let two = Wanted::Accepted(&folds.as_slice()[..2]);
-    accepts_run(&rt, &mut acceptor, FIRST, 5, folds.as_slice(), two);
-    has_appended(&rt, &acceptor.into_disk(), 2);
+fn a_run_over_what_is_stored_in_part(rt: HostRuntime) -> Result<(), Fail> {
+    for &case in &CASES {
+        is_case(&rt, rt.alloc(), case)?;
+    }
     Ok(())
 }
 
-/// What is stored in another ballot doesn't hold a run up: in a greater one all of it is accepted.
-#[test]
-fn a_run_in_a_greater_ballot(rt: HostRuntime) -> Result<(), Fail> {
-    let alloc = rt.alloc();
-    let folds = commands(&rt, &FOLDS, 5);
-    let mut acceptor = with_three(&rt, alloc, 4)?;
-    let all = Wanted::Accepted(folds.as_slice());
-    accepts_run(&rt, &mut acceptor, THIRD, 5, folds.as_slice(), all);
-    assert_same(&rt, acceptor.promised(), THIRD);
-    has_appended(&rt, &acceptor.into_disk(), 2);
-    Ok(())
+/// Promises the third ballot.
+fn promises_third<D: Disk>(rt: &impl Abort, acceptor: &mut Acceptor<D>) {
+    assert!(rt; prepare(acceptor, THIRD, 0).is_ok());
 }
 
-/// An acceptor that promised the third ballot, and whose disk fails in the first call behind that.
-fn promised_third(rt: &impl Abort, alloc: Global) -> Result<Acceptor<MemoryDisk>, AllocError> {
-    let mut acceptor = created_in_memory(rt, alloc, &[6])?;
-    assert!(rt; prepare(&mut acceptor, THIRD, 0).is_ok());
-    Ok(acceptor)
+/// Below the third ballot the five are refused, by their first slot; in it the disk fails, and the store is closed then.
+fn refuses_below<D: Disk>(rt: &impl Abort, acceptor: &mut Acceptor<D>) {
+    let refused = Wanted::Refused(THIRD);
+    accepts_run(rt, acceptor, FIRST, 7, &FIVE, 5, refused);
+    accepts_run(
+        rt,
+        acceptor,
+        THIRD,
+        7,
+        &FIVE,
+        5,
+        Wanted::Fault(StoreFault::Disk),
+    );
+    accepts_run(rt, acceptor, SECOND, 7, &FIVE, 5, refused);
+    accepts_run(
+        rt,
+        acceptor,
+        THIRD,
+        7,
+        &FIVE,
+        5,
+        Wanted::Fault(StoreFault::Closed),
+    );
 }
 
 /// Below what was promised a run is refused, by its first slot, at a closed store too, which answers 64 else.
 #[test]
 fn a_run_below_the_promise(rt: HostRuntime) -> Result<(), Fail> {
-    let alloc = rt.alloc();
-    let five = commands(&rt, &FIVE, 5);
-    let mut acceptor = promised_third(&rt, alloc)?;
-    let refused = Wanted::Refused(THIRD);
-    accepts_run(&rt, &mut acceptor, FIRST, 7, five.as_slice(), refused);
-    let failed = Wanted::Fault(StoreFault::Disk);
-    accepts_run(&rt, &mut acceptor, THIRD, 7, five.as_slice(), failed);
-    accepts_run(&rt, &mut acceptor, SECOND, 7, five.as_slice(), refused);
-    let closed = Wanted::Fault(StoreFault::Closed);
-    accepts_run(&rt, &mut acceptor, THIRD, 7, five.as_slice(), closed);
+    // The disk fails in the first call behind the promise.
+    let mut acceptor = created_in_memory(&rt, rt.alloc(), &[6])?;
+    promises_third(&rt, &mut acceptor);
+    refuses_below(&rt, &mut acceptor);
     Ok(())
 }
 
-/// Where room was made for one slot less, a call makes what it lacks.
-#[test]
-fn a_run_with_room_for_one_less(rt: HostRuntime) -> Result<(), Fail> {
-    let alloc = rt.alloc();
-    let five = commands(&rt, &FIVE, 5);
-    let mut acceptor = created_in_memory(&rt, alloc, &[])?;
-    acceptor.reserve(4)?;
-    let all = Wanted::Accepted(five.as_slice());
-    accepts_run(&rt, &mut acceptor, FIRST, 7, five.as_slice(), all);
+/// The five are accepted, and a call behind them.
+fn accepts_six<D: Disk>(rt: &impl Abort, acceptor: &mut Acceptor<D>) {
+    accepts_run(rt, acceptor, FIRST, 7, &FIVE, 5, Wanted::Accepted(&FIVE, 5));
     let one = AcceptAnswer::Accepted {
         ballot: FIRST,
         slot: 12,
         command: CALL,
     };
-    accepts(&rt, &mut acceptor, FIRST, 12, CALL, Ok(one));
+    accepts(rt, acceptor, FIRST, 12, CALL, Ok(one));
+}
+
+/// Where room was made for one slot less, a call makes what it lacks.
+#[test]
+fn a_run_with_room_for_one_less(rt: HostRuntime) -> Result<(), Fail> {
+    let mut acceptor = created_in_memory(&rt, rt.alloc(), &[])?;
+    acceptor.reserve(4)?;
+    accepts_six(&rt, &mut acceptor);
     Ok(())
 }

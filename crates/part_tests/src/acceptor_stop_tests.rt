@@ -225,6 +225,19 @@ fn accepts_again<D: Disk>(rt: &impl Abort, acceptor: &mut Acceptor<D>) {
     assert!(rt; accept(acceptor, THIRD, 0, CALL).is_ok());
 }
 
+/// Whether a call is accepted in the third ballot; where a call of the disk fails, that is counted, and a ballot below is
+/// refused.
+fn accepts_call<D: Disk>(rt: &impl Abort, acceptor: &mut Acceptor<D>, faults: &mut u32) -> bool {
+    match accept(acceptor, THIRD, 0, CALL) {
+        Ok(_) => true,
+        Err(fault) => {
+            count(rt, fault, faults);
+            refuses_below(rt, acceptor);
+            false
+        }
+    }
+}
+
 /// The acceptor after an accept in the third ballot, which is asked again where a call of the disk fails; until then a
 /// ballot below is refused.
 fn accepted_at_last(
@@ -233,11 +246,9 @@ fn accepted_at_last(
     mut acceptor: Acceptor<OnceDisk>,
     faults: &mut u32,
 ) -> Acceptor<OnceDisk> {
-    let Err(fault) = accept(&mut acceptor, THIRD, 0, CALL) else {
+    if accepts_call(rt, &mut acceptor, faults) {
         return acceptor;
-    };
-    count(rt, fault, faults);
-    refuses_below(rt, &mut acceptor);
+    }
     let mut acceptor = opened_again(rt, alloc, acceptor);
     accepts_again(rt, &mut acceptor);
     acceptor

@@ -1,4 +1,4 @@
-ghost use Rattle.std.specs.Prelude.{◌≡◌, ◌<◌};
+ghost use Rattle.std.specs.Prelude.{◌≡◌, ◌<◌, ◌≤◌, IfOk};
 
 use crate::samples::{CALL, FOLD, assert_same};
 use betting::Action;
@@ -25,6 +25,27 @@ const RAISE: Command = Command::Act {
 
 /// That the first player to act of the first hand is away.
 const AWAY: Command = Command::Away { hand: 0, index: 0 };
+
+/// The command of a letter: a fold, a call, a raise to 20, or that somebody is away.
+fn command(letter: u8) -> Command {
+    match letter {
+        b'f' => FOLD,
+        b'c' => CALL,
+        b'r' => RAISE,
+        _ => AWAY,
+    }
+}
+
+/// The commands of letters, 64 at most.
+fn list_of(letters: &[u8]) -> CommandList {
+    let mut list = CommandList::new();
+    for letter in letters {
+        if list.len() < 64 {
+            list.push(command(*letter));
+        }
+    }
+    list
+}
 
 // Each call of a proposer or a learner stands in one function here: what a contract says is read anew wherever its call
 // stands.
@@ -79,23 +100,34 @@ fn leader(
     proposer
 }
 
-/// At the slot these commands are proposed at once, or none, or it is refused, where the own command is a raise to 20.
+/// At the slot the commands of these letters are proposed at once, or none, or it is refused, where the own command is a
+/// raise to 20.
 fn proposes(
     rt: &impl Abort,
     proposer: &mut Proposer,
     list: &mut CommandList,
     slot: u32,
-    commands: &[Command],
+    letters: &[u8],
     fault: Option<ProposeFault>,
 ) {
     match proposer.propose_run(slot, Some(RAISE), list) {
         Ok(Some(run)) => {
-            assert_same(rt, run.ballot, BALLOT);
-            assert_same(rt, run.slot, slot);
-            assert!(rt; run.commands.as_slice() == commands);
+            assert_same(rt, (run.ballot, run.slot), (BALLOT, slot));
+            assert!(rt; run.commands.as_slice() == list_of(letters).as_slice());
         }
-        Ok(None) => assert_same(rt, (commands.len(), fault), (0, None)),
+        Ok(None) => assert_same(rt, (letters.len(), fault), (0, None)),
         Err(found) => assert_same(rt, Some(found), fault),
+    }
+}
+
+/// Slots, and what is proposed at each, one behind the other.
+type Proposals = &'static [(u32, &'static [u8], Option<ProposeFault>)];
+
+/// At the slots these are proposed.
+fn proposes_each(rt: &impl Abort, proposer: &mut Proposer, proposals: Proposals) {
+    let mut list = CommandList::new();
+    for &(slot, letters, fault) in proposals {
+        proposes(rt, proposer, &mut list, slot, letters, fault);
     }
 }
 
@@ -107,21 +139,22 @@ const REST: [(u32, Command); 3] = [(1, AWAY), (2, FOLD), (63, FOLD)];
 
 /// Told commands go together as far as they follow one another, and the own one goes alone; behind the 64 slots it is 71, and
 /// at a slot where something was proposed nothing.
+static TOLD: Proposals = &[
+    (0, b"faf", None),
+    (0, b"", None),
+    (2, b"", None),
+    (3, b"r", None),
+    (4, b"c", None),
+    (63, b"f", None),
+    (64, b"", Some(ProposeFault::OutOfWindow)),
+];
+
 #[test]
 fn told_commands_go_together(rt: HostRuntime) -> Result<(), Fail> {
-    let mut list = CommandList::new();
     let mut proposer = leader(&rt, 0, &SOME, &REST);
     assert_same(&rt, proposer.most_commands(0), 5);
     assert_same(&rt, proposer.most_commands(64), 64);
-    let three = [FOLD, AWAY, FOLD];
-    proposes(&rt, &mut proposer, &mut list, 0, &three, None);
-    proposes(&rt, &mut proposer, &mut list, 0, &[], None);
-    proposes(&rt, &mut proposer, &mut list, 2, &[], None);
-    proposes(&rt, &mut proposer, &mut list, 3, &[RAISE], None);
-    proposes(&rt, &mut proposer, &mut list, 4, &[CALL], None);
-    proposes(&rt, &mut proposer, &mut list, 63, &[FOLD], None);
-    let fault = Some(ProposeFault::OutOfWindow);
-    proposes(&rt, &mut proposer, &mut list, 64, &[], fault);
+    proposes_each(&rt, &mut proposer, TOLD);
     assert_same(&rt, proposer.most_commands(0), 1);
     Ok(())
 }
@@ -129,44 +162,38 @@ fn told_commands_go_together(rt: HostRuntime) -> Result<(), Fail> {
 /// Where something was proposed at slot 1, the told command of slot 0 goes alone.
 #[test]
 fn told_commands_end_at_a_mark(rt: HostRuntime) -> Result<(), Fail> {
-    let mut list = CommandList::new();
     let mut proposer = leader(&rt, 0, &SOME, &REST);
     let proposed = proposer.propose(1, None);
     assert!(&rt; proposed.is_ok());
-    proposes(&rt, &mut proposer, &mut list, 0, &[FOLD], None);
+    proposes_each(&rt, &mut proposer, &[(0, b"f", None)]);
     Ok(())
 }
 
 /// Without a quorum of promises nothing is proposed, and nothing is 71.
 #[test]
 fn told_commands_wait_for_a_quorum(rt: HostRuntime) -> Result<(), Fail> {
-    let mut list = CommandList::new();
     let mut proposer = Proposer::new(0, 5);
     begins(&rt, &mut proposer, 0);
     promises(&mut proposer, 0, 0, &[]);
     promises(&mut proposer, 1, 0, &SOME);
-    proposes(&rt, &mut proposer, &mut list, 0, &[], None);
-    proposes(&rt, &mut proposer, &mut list, 64, &[], None);
+    proposes_each(&rt, &mut proposer, &[(0, b"", None), (64, b"", None)]);
     Ok(())
 }
 
 /// Behind the 64 slots of the ballot none follows.
 #[test]
 fn told_commands_end_with_the_window(rt: HostRuntime) -> Result<(), Fail> {
-    let mut list = CommandList::new();
     let last = [(62, FOLD), (63, CALL), (64, AWAY)];
-    let mut proposer = leader(&rt, 0, &last, &[]);
-    proposes(&rt, &mut proposer, &mut list, 62, &[FOLD, CALL], None);
+    proposes_each(&rt, &mut leader(&rt, 0, &last, &[]), &[(62, b"fc", None)]);
     Ok(())
 }
 
 /// Behind the last slot, 3999999, none follows.
 #[test]
 fn told_commands_end_with_the_slots(rt: HostRuntime) -> Result<(), Fail> {
-    let mut list = CommandList::new();
     let last = [(3_999_999, CALL), (4_000_000, CALL)];
     let mut proposer = leader(&rt, 3_999_990, &last, &[]);
-    proposes(&rt, &mut proposer, &mut list, 3_999_999, &[CALL], None);
+    proposes_each(&rt, &mut proposer, &[(3_999_999, b"c", None)]);
     Ok(())
 }
 
@@ -180,95 +207,127 @@ fn answer(
     nodes: u8,
     from: u8,
     slot: u32,
-    commands: &[Command],
+    letters: &[u8],
 ) -> Result<Result<[bool; 64], SlotFault>, AllocError>
     requires { learner.old.learned.nodes ≡ nodes }
     ensures { learner.new.learned.nodes ≡ nodes }
 {
+    let commands = list_of(letters);
     assert!(rt; from < nodes && commands.len() <= 64);
     learner.reserve(1, commands.len())?;
-    Ok(learner.on_accepted_run_reserved(from, BALLOT, slot, commands))
+    Ok(learner.on_accepted_run_reserved(from, BALLOT, slot, commands.as_slice()))
 }
 
-/// How many of its commands a node's answer chooses, or why it is refused, and the front then.
+/// How many of the commands were chosen.
+fn count(chosen: &[bool; 64]) -> usize {
+    let mut count = 0usize;
+    for is_chosen in chosen {
+        count = count.saturating_add(usize::from(*is_chosen));
+    }
+    count
+}
+
+/// A node's answer for the commands of these letters from a slot on, how many of them it chooses, or why it is refused, and
+/// the front then.
+type Answered = (u8, u32, &'static [u8], Result<usize, SlotFault>, u32);
+
+/// An answer of a node chooses so many of its commands, or is refused.
 fn chooses(
     rt: &impl Abort,
     learner: &mut Learner,
     nodes: u8,
-    from: u8,
-    slot: u32,
-    commands: &[Command],
-    wanted: Result<usize, SlotFault>,
-    front: u32,
+    answered: Answered,
 ) -> Result<(), AllocError>
     requires { learner.old.learned.nodes ≡ nodes }
     ensures { learner.new.learned.nodes ≡ nodes }
 {
-    let found = match answer(rt, learner, nodes, from, slot, commands)? {
-        Ok(chosen) => Ok(chosen.iter().filter(|is_chosen| **is_chosen).count()),
+    let (from, slot, letters, wanted, front) = answered;
+    let found = match answer(rt, learner, nodes, from, slot, letters)? {
+        Ok(chosen) => Ok(count(&chosen)),
         Err(fault) => Err(fault),
     };
-    assert_same(rt, found, wanted);
-    assert_same(rt, learner.log().front(), front);
+    assert_same(rt, (found, learner.log().front()), (wanted, front));
     Ok(())
 }
 
-/// Five nodes: the third answer for three slots chooses all three; what follows begins below the front.
-#[test]
-fn three_slots_at_once(rt: HostRuntime) -> Result<(), Fail> {
-    let mut learner = Learner::new(rt.alloc(), 5)?;
-    let three = [FOLD, AWAY, FOLD];
-    chooses(&rt, &mut learner, 5, 0, 0, &three, Ok(0), 0)?;
-    chooses(&rt, &mut learner, 5, 1, 0, &three, Ok(0), 0)?;
-    chooses(&rt, &mut learner, 5, 2, 0, &three, Ok(3), 3)?;
-    let more = [CALL, CALL];
-    chooses(&rt, &mut learner, 5, 0, 2, &more, Ok(0), 3)?;
-    chooses(&rt, &mut learner, 5, 1, 2, &more, Ok(0), 3)?;
-    chooses(&rt, &mut learner, 5, 3, 2, &more, Ok(1), 4)?;
-    Ok(())
+/// A new learner of so many nodes; a fold is chosen at slot 1 before, or nothing.
+fn learner_of(
+    rt: &impl Abort,
+    alloc: Global,
+    nodes: u8,
+    knows_fold: bool,
+) -> Result<Learner, AllocError>
+    requires { nodes ≤ 7 }
+    ensures { IfOk result (λ made. made.learned.nodes ≡ nodes) }
+{
+    let mut learner = Learner::new(alloc, nodes)?;
+    if knows_fold {
+        let believed = learner.on_chosen(1, FOLD)?;
+        assert!(rt; believed.is_ok());
+    }
+    Ok(learner)
 }
 
-/// Three nodes: slot 64 is past the 64 slots from the front on, and of two slots only slot 63 counts.
-#[test]
-fn slots_past_the_window(rt: HostRuntime) -> Result<(), Fail> {
-    let mut learner = Learner::new(rt.alloc(), 3)?;
-    let two = [CALL, CALL];
-    chooses(&rt, &mut learner, 3, 0, 63, &two, Ok(0), 0)?;
-    chooses(&rt, &mut learner, 3, 1, 63, &two, Ok(1), 0)?;
-    let is_unknown = learner.log().get(64).is_none();
-    assert!(&rt; is_unknown);
-    Ok(())
-}
+/// How many nodes there are, whether a fold at slot 1 is known as chosen before, and the answers that come.
+type Course = (u8, bool, &'static [Answered]);
 
-/// Three nodes: slot 1 is known as a fold, so the second answer of calls for slots 0 and 1 is refused, and slot 0 isn't
-/// counted; for slot 0 alone it is chosen then.
-#[test]
-fn a_conflict_behind_the_first(rt: HostRuntime) -> Result<(), Fail> {
-    let mut learner = Learner::new(rt.alloc(), 3)?;
-    let believed = learner.on_chosen(1, FOLD)?;
-    assert!(&rt; believed.is_ok());
-    let two = [CALL, CALL];
-    chooses(&rt, &mut learner, 3, 0, 0, &two, Ok(0), 0)?;
-    chooses(
-        &rt,
-        &mut learner,
+static COURSES: [Course; 4] = [
+    // the third answer of five for three slots chooses all three; what follows begins below the front
+    (
+        5,
+        false,
+        &[
+            (0, 0, b"faf", Ok(0), 0),
+            (1, 0, b"faf", Ok(0), 0),
+            (2, 0, b"faf", Ok(3), 3),
+            (0, 2, b"cc", Ok(0), 3),
+            (1, 2, b"cc", Ok(0), 3),
+            (3, 2, b"cc", Ok(1), 4),
+        ],
+    ),
+    // slot 64 is past the 64 slots from the front on, and of two slots only slot 63 counts
+    (
         3,
-        1,
-        0,
-        &two,
-        Err(SlotFault::Conflict),
-        0,
-    )?;
-    chooses(&rt, &mut learner, 3, 1, 0, &[CALL], Ok(1), 2)?;
+        false,
+        &[(0, 63, b"cc", Ok(0), 0), (1, 63, b"cc", Ok(1), 0)],
+    ),
+    // the second answer of calls for slots 0 and 1 is refused, and slot 0 isn't counted; for slot 0 alone it is chosen then
+    (
+        3,
+        true,
+        &[
+            (0, 0, b"cc", Ok(0), 0),
+            (1, 0, b"cc", Err(SlotFault::Conflict), 0),
+            (1, 0, b"c", Ok(1), 2),
+        ],
+    ),
+    // room for one answer and 64 commands is room for an answer for 64 slots
+    (
+        3,
+        false,
+        &[
+            (0, 0, &[b'c'; 64], Ok(0), 0),
+            (1, 0, &[b'c'; 64], Ok(64), 64),
+        ],
+    ),
+];
+
+/// A course's answers choose as they are said to; none of them has slot 64 chosen.
+fn is_course(rt: &impl Abort, alloc: Global, course: Course) -> Result<(), AllocError> {
+    let (nodes, knows_fold, answers) = course;
+    assert!(rt; nodes == 3 || nodes == 5);
+    let mut learner = learner_of(rt, alloc, nodes, knows_fold)?;
+    for answered in answers {
+        chooses(rt, &mut learner, nodes, *answered)?;
+    }
+    assert!(rt; learner.log().get(64).is_none());
     Ok(())
 }
 
-/// Room for one answer and 64 commands is room for an answer for 64 slots.
 #[test]
-fn sixty_four_slots(rt: HostRuntime) -> Result<(), Fail> {
-    let mut learner = Learner::new(rt.alloc(), 3)?;
-    let all = [CALL; 64];
-    chooses(&rt, &mut learner, 3, 0, 0, &all, Ok(0), 0)?;
-    chooses(&rt, &mut learner, 3, 1, 0, &all, Ok(64), 64)?;
+fn answers_for_slots_that_follow_one_another(rt: HostRuntime) -> Result<(), Fail> {
+    for &course in &COURSES {
+        is_course(&rt, rt.alloc(), course)?;
+    }
     Ok(())
 }

@@ -178,12 +178,18 @@ pub(crate) fn written<'a>(rt: &impl Abort, call: &'a Call) -> Option<(usize, &'a
     }
 }
 
-/// How many calls of the disk were to write.
-pub(crate) fn writes(disk: &MemoryDisk) -> usize {
-    disk.calls()
-        .iter()
-        .filter(|call| matches!(call, Call::Wrote { .. }))
-        .count()
+/// How many calls of the disk were to write, and how many syncs succeeded.
+pub(crate) fn written_and_synced(disk: &MemoryDisk) -> (usize, usize) {
+    let mut written = 0usize;
+    let mut synced = 0usize;
+    for call in disk.calls() {
+        match call {
+            Call::Wrote { .. } => written = written.saturating_add(1),
+            Call::Synced => synced = synced.saturating_add(1),
+            Call::Stopped { .. } => {}
+        }
+    }
+    (written, synced)
 }
 
 /// Whether the store has promised the first ballot, and has the deal accepted in it at slot 0.

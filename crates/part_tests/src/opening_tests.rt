@@ -2,7 +2,7 @@
 
 use crate::journal::{
     FIRST, JOURNAL, OLD_JOURNAL, accept_run, are_found, commands, disk_with, has_both, is_placed,
-    open, opened, writes,
+    open, opened, written_and_synced,
 };
 use crate::samples::{assert_bytes, assert_same};
 use promise_store::{Disk, MemoryDisk, Store};
@@ -29,7 +29,11 @@ fn after_looking(alloc: Global, disk: MemoryDisk) -> (u8, MemoryDisk) {
 /// Nothing was written on a disk since these bytes were.
 fn is_unwritten(rt: &impl Abort, disk: &MemoryDisk, bytes: &[u8]) {
     assert_bytes(rt, disk.bytes(), bytes);
-    assert_same(rt, writes(disk), usize::from(!bytes.is_empty()));
+    assert_same(
+        rt,
+        written_and_synced(disk).0,
+        usize::from(!bytes.is_empty()),
+    );
 }
 
 /// A look at a file of these bytes answers so, and writes nothing.
@@ -216,12 +220,22 @@ fn journal_of(alloc: Global, version: u8, payloads: &[&[u8]]) -> Result<Vec<u8>,
     Ok(journal)
 }
 
+/// The journal of these records' payloads answers so.
+fn answers_to_records(
+    rt: &impl Abort,
+    alloc: Global,
+    version: u8,
+    payloads: &[&[u8]],
+    code: u8,
+) -> Result<(), Fail> {
+    let journal = journal_of(alloc, version, payloads)?;
+    answers(rt, alloc, &journal, code)
+}
+
 #[test]
 fn records_where_they_may_stand(rt: HostRuntime) -> Result<(), Fail> {
-    let alloc = rt.alloc();
     for &(version, payloads, code) in &RECORDS {
-        let journal = journal_of(alloc, version, payloads)?;
-        answers(&rt, alloc, &journal, code)?;
+        answers_to_records(&rt, rt.alloc(), version, payloads, code)?;
     }
     Ok(())
 }
@@ -321,11 +335,11 @@ fn opens_once(rt: &impl Abort, alloc: Global, before: &[u8], after: &[u8]) -> Re
     let (code, disk) = after_opening(alloc, disk_with(alloc, before, &[])?);
     assert_same(rt, code, 0);
     assert_bytes(rt, disk.bytes(), after);
-    let written = writes(&disk);
+    let (written, _) = written_and_synced(&disk);
     let (code, disk) = after_opening(alloc, disk);
     assert_same(rt, code, 0);
     assert_bytes(rt, disk.bytes(), after);
-    assert_same(rt, writes(&disk), written);
+    assert_same(rt, written_and_synced(&disk).0, written);
     Ok(())
 }
 
@@ -360,15 +374,19 @@ fn goes_on(rt: &impl Abort, alloc: Global, disk: MemoryDisk) -> Result<MemoryDis
     Ok(store.into_disk())
 }
 
-/// The store that is opened on the disk has what the old journal has, and these two.
-fn has_all(rt: &impl Abort, alloc: Global, disk: MemoryDisk) -> Result<(), Fail> {
+/// A store has what the old journal has, and these two.
+fn has_all_in<D: Disk>(rt: &impl Abort, store: &mut Store<D>) -> Result<(), Fail> {
     let more = commands(rt, &MORE, 2);
-    let mut store = opened(rt, alloc, disk);
-    assert!(rt; has_both(rt, &mut store)?);
-    is_placed(rt, &store, 0, FIRST, (20, 25, 10));
-    are_found(rt, &mut store, FIRST, 1, more.as_slice())?;
+    assert!(rt; has_both(rt, store)?);
+    is_placed(rt, store, 0, FIRST, (20, 25, 10));
+    are_found(rt, store, FIRST, 1, more.as_slice())?;
     assert!(rt; store.held().find(3).is_none());
     Ok(())
+}
+
+/// The store that is opened on the disk has.
+fn has_all(rt: &impl Abort, alloc: Global, disk: MemoryDisk) -> Result<(), Fail> {
+    has_all_in(rt, &mut opened(rt, alloc, disk))
 }
 
 /// What may stand behind a shut gate: what is left of the record that opens a journal, a record that was never acknowledged,

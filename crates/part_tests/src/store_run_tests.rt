@@ -194,15 +194,20 @@ fn is_left_whole_by_each_stop(rt: &impl Abort, alloc: Global, run: &[Command]) -
     Ok(())
 }
 
+/// The same of a run of so many deals.
+fn are_left_whole(rt: &impl Abort, alloc: Global, count: usize) -> Result<(), Fail>
+    requires least { 1 ≤ count }
+    requires most { count ≤ 64 }
+{
+    let run = long_deals(rt, alloc, count)?;
+    is_left_whole_by_each_stop(rt, alloc, run.as_slice())
+}
+
 #[test]
 fn stops_in_runs_of_1_2_and_64(rt: HostRuntime) -> Result<(), Fail> {
-    let alloc = rt.alloc();
-    let run = long_deals(&rt, alloc, 1)?;
-    is_left_whole_by_each_stop(&rt, alloc, run.as_slice())?;
-    let run = long_deals(&rt, alloc, 2)?;
-    is_left_whole_by_each_stop(&rt, alloc, run.as_slice())?;
-    let run = long_deals(&rt, alloc, 64)?;
-    is_left_whole_by_each_stop(&rt, alloc, run.as_slice())
+    are_left_whole(&rt, rt.alloc(), 1)?;
+    are_left_whole(&rt, rt.alloc(), 2)?;
+    are_left_whole(&rt, rt.alloc(), 64)
 }
 
 /// The longest record has 1995 bytes.
@@ -232,18 +237,32 @@ fn disk_behind_both(rt: &impl Abort, alloc: Global) -> Result<MemoryDisk, Fail> 
     Ok(store.into_disk())
 }
 
+/// The store has the three from slot 1 on, and no more.
+fn has_the_three<D: Disk>(rt: &impl Abort, store: &mut Store<D>) -> Result<(), Fail> {
+    let three = commands(rt, &THREE, 3);
+    are_found(rt, store, FIRST, 1, three.as_slice())?;
+    assert!(rt; store.held().find(4).is_none());
+    Ok(())
+}
+
+/// The store has both and the three, or both alone.
+fn has_both_and<D: Disk>(
+    rt: &impl Abort,
+    store: &mut Store<D>,
+    are_there: bool,
+) -> Result<(), Fail> {
+    assert!(rt; has_both(rt, store)?);
+    if are_there {
+        return has_the_three(rt, store);
+    }
+    assert!(rt; store.held().find(1).is_none() && store.held().find(3).is_none());
+    Ok(())
+}
+
 /// A file of these bytes opens to both and the three, or to both alone.
 fn opens_to(rt: &impl Abort, alloc: Global, image: &[u8], are_there: bool) -> Result<(), Fail> {
-    let three = commands(rt, &THREE, 3);
     let mut store = opened(rt, alloc, disk_with(alloc, image, &[])?);
-    assert!(rt; has_both(rt, &mut store)?);
-    if are_there {
-        are_found(rt, &mut store, FIRST, 1, three.as_slice())?;
-        assert!(rt; store.held().find(4).is_none());
-    } else {
-        assert!(rt; store.held().find(1).is_none() && store.held().find(3).is_none());
-    }
-    Ok(())
+    has_both_and(rt, &mut store, are_there)
 }
 
 /// The file once a write at its end or inside of it left these bytes there.
@@ -270,6 +289,32 @@ fn bytes_of(alloc: Global, value: u8, count: usize) -> Result<Vec<u8>, AllocErro
     Ok(bytes)
 }
 
+/// What a write leaves that left these bytes opens so.
+fn image_opens_to(
+    rt: &impl Abort,
+    alloc: Global,
+    before: &[u8],
+    at: usize,
+    bytes: &[u8],
+    are_there: bool,
+) -> Result<(), Fail> {
+    let image = written_over(alloc, before, at, bytes)?;
+    opens_to(rt, alloc, &image, are_there)
+}
+
+/// The same where it left so many bytes of one value.
+fn image_of_one_value_opens_to(
+    rt: &impl Abort,
+    alloc: Global,
+    before: &[u8],
+    at: usize,
+    (value, count): (u8, usize),
+    are_there: bool,
+) -> Result<(), Fail> {
+    let bytes = bytes_of(alloc, value, count)?;
+    image_opens_to(rt, alloc, before, at, &bytes, are_there)
+}
+
 /// What a write of these bytes may leave opens so: the write cut short at each byte, and the bytes all of one value.
 fn each_image_opens_to(
     rt: &impl Abort,
@@ -280,19 +325,12 @@ fn each_image_opens_to(
     are_there: &[bool],
 ) -> Result<(), Fail> {
     for cut in 0..bytes.len() + 1 {
-        let image = written_over(alloc, before, at, &bytes[..cut])?;
-        opens_to(
-            rt,
-            alloc,
-            &image,
-            are_there.get(cut).copied().unwrap_or(false),
-        )?;
+        let is_there = are_there.get(cut).copied().unwrap_or(false);
+        image_opens_to(rt, alloc, before, at, &bytes[..cut], is_there)?;
     }
     for value in [0, 1, 0xff] {
-        let ones = bytes_of(alloc, value, bytes.len())?;
-        let image = written_over(alloc, before, at, &ones)?;
         let is_open = value == 1 && are_there.contains(&true);
-        opens_to(rt, alloc, &image, is_open)?;
+        image_of_one_value_opens_to(rt, alloc, before, at, (value, bytes.len()), is_open)?;
     }
     Ok(())
 }
@@ -371,16 +409,35 @@ fn has_a_million<D: Disk>(
     Ok(())
 }
 
+/// The disk of a million slots, once the store that was opened on it accepted 64 more.
+fn disk_of_a_million(rt: &impl Abort, alloc: Global, run: &[Command]) -> Result<MemoryDisk, Fail>
+    requires run { IsCommandRun 1000000 run.now }
+    requires count { length run.now ≡ 64 }
+{
+    let disk = disk_with(alloc, &journal_of_a_million(alloc)?, &[])?;
+    let mut store = opened(rt, alloc, disk);
+    has_a_million(rt, &mut store, run, 1_000_000)?;
+    accept_run(&mut store, FIRST, 1_000_000, run)?;
+    Ok(store.into_disk())
+}
+
+/// The store has calls at the million slots and at 64 more.
+fn has_more_than_a_million<D: Disk>(
+    rt: &impl Abort,
+    store: &mut Store<D>,
+    run: &[Command],
+) -> Result<(), Fail>
+    requires { length run.now ≡ 64 }
+{
+    has_a_million(rt, store, run, 1_000_064)?;
+    are_found(rt, store, FIRST, 1_000_000, run)
+}
+
 /// A million slots, 64 a record, are found when the store is opened, and again behind 64 more.
 #[test]
 fn a_million_slots(rt: HostRuntime) -> Result<(), Fail> {
     let alloc = rt.alloc();
     let run = calls(&rt, alloc)?;
-    let disk = disk_with(alloc, &journal_of_a_million(alloc)?, &[])?;
-    let mut store = opened(&rt, alloc, disk);
-    has_a_million(&rt, &mut store, run.as_slice(), 1_000_000)?;
-    accept_run(&mut store, FIRST, 1_000_000, run.as_slice())?;
-    let mut store = opened(&rt, alloc, store.into_disk());
-    has_a_million(&rt, &mut store, run.as_slice(), 1_000_064)?;
-    are_found(&rt, &mut store, FIRST, 1_000_000, run.as_slice())
+    let disk = disk_of_a_million(&rt, alloc, run.as_slice())?;
+    has_more_than_a_million(&rt, &mut opened(&rt, alloc, disk), run.as_slice())
 }

@@ -62,7 +62,7 @@ static CALLS: [Option<(usize, &[u8], bool)>; 6] = [
 
 /// The calls are those of a create and of an append.
 fn are_told(rt: &impl Abort, calls: &[Call]) {
-    assert_eq!(rt; calls.len(), CALLS.len());
+    assert!(rt; calls.len() == CALLS.len());
     for at in 0..CALLS.len() {
         assert_same(rt, written(rt, &calls[at]), CALLS[at]);
     }
@@ -258,30 +258,36 @@ fn answer_to_random(
     Ok(code)
 }
 
+/// A file of random bytes with the header in front of it or without: how many are opened with it, and refused behind it.
+fn count_random(
+    rt: &impl Abort,
+    alloc: Global,
+    seed: &mut u64,
+    has_header: bool,
+    (opened, refused): (u32, u32),
+) -> Result<(u32, u32), Fail> {
+    let bytes = random_bytes(seed);
+    let len = next(seed) as usize % 65;
+    if !has_header {
+        refuses_random(rt, alloc, &bytes[8..8 + len])?;
+        return Ok((opened, refused));
+    }
+    Ok(match answer_to_random(rt, alloc, &bytes, len)? {
+        0 => (opened.saturating_add(1), refused),
+        62 => (opened, refused.saturating_add(1)),
+        _ => (opened, refused),
+    })
+}
+
 /// A thousand files of random bytes from 0 to 2, every second one behind the header of node 0 of 3.
 #[test]
 fn random_files(rt: HostRuntime) -> Result<(), Fail> {
-    let alloc = rt.alloc();
     let mut seed = 7;
-    let mut opened = 0u32;
-    let mut refused = 0u32;
+    let mut counts = (0, 0);
     for file in 0..1000u32 {
-        let bytes = random_bytes(&mut seed);
-        let len = next(&mut seed) as usize % 65;
-        if file % 2 == 0 {
-            refuses_random(&rt, alloc, &bytes[8..8 + len])?;
-            continue;
-        }
-        match answer_to_random(&rt, alloc, &bytes, len)? {
-            0 => opened = opened.saturating_add(1),
-            62 => refused = refused.saturating_add(1),
-            _ => {}
-        }
+        counts = count_random(&rt, rt.alloc(), &mut seed, file % 2 == 1, counts)?;
     }
-    assert!(rt;
-        opened > 100 && refused > 100,
-        "{opened} opened, {refused} refused"
-    );
+    assert!(rt; counts.0 > 100 && counts.1 > 100);
     Ok(())
 }
 
@@ -340,13 +346,18 @@ fn opens_each_changed(rt: &impl Abort, alloc: Global, journal: &mut [u8]) -> Res
     Ok(())
 }
 
+/// The bytes of a journal of twenty records.
+fn bytes_of_twenty(rt: &impl Abort, alloc: Global) -> Result<Vec<u8>, Fail> {
+    let disk = twenty(rt, alloc)?;
+    Ok(disk.bytes().to_vec(alloc)?)
+}
+
 /// A journal of twenty records, cut short at each byte, and with each byte changed to sixteen others.
 #[test]
 fn changed_journals(rt: HostRuntime) -> Result<(), Fail> {
-    let alloc = rt.alloc();
-    let mut journal = twenty(&rt, alloc)?.bytes().to_vec(alloc)?;
-    opens_cut_short(&rt, alloc, journal.as_slice())?;
-    opens_each_changed(&rt, alloc, journal.as_mut_slice())
+    let mut journal = bytes_of_twenty(&rt, rt.alloc())?;
+    opens_cut_short(&rt, rt.alloc(), journal.as_slice())?;
+    opens_each_changed(&rt, rt.alloc(), journal.as_mut_slice())
 }
 
 #[test]
