@@ -5,9 +5,10 @@ Build the program first (./check, or `rt run` in crates/holdem_table), and let n
 Two players in C call through matches of limit hold'em over TCP, each node of which is a `holdem_table node` of its own, with
 its store in FOLDER (the working folder by default) and then in memory. Beside each match, in turn, runs a program in C that
 makes the same syncs and exchanges alone (the floor): a leader who writes and syncs twice, tells its followers over TCP, each
-of whom does the same and answers, and who tells a player of it once a quorum has answered, and waits for his act. Printed
-are medians and ranges of RUNS runs each (10 by default) of commands a second, and their ratio; then how long a line waited
-behind the signal 9 to a process that came back; then how long a process that was begun again on its store took until its
+of whom does the same and answers, and who tells a player of it once a quorum has answered, and waits for his act; and the
+same match by nodes with a key. Printed are medians and ranges of RUNS runs each (10 by default) of commands a second, their
+ratio, and how much longer a command takes with codes and seals; then how long a line waited behind the signal 9 to a
+process that came back; then how long a process that was begun again on its store took until its
 log was whole; and what a process takes of memory.
 """
 import os
@@ -141,7 +142,7 @@ class Processes:
 
     program = TOP / "crates/holdem_table/out/holdem_table"
 
-    def __init__(self, nodes, hands, place):
+    def __init__(self, nodes, hands, place, has_key=False):
         self.folder, self.nodes, self.running = Path(tempfile.mkdtemp(prefix="processes.", dir=place)), nodes, {}
         first = free_ports(3 * nodes)
         self.ports = [[first + 3 * node + 1 + seat for node in range(nodes)] for seat in (0, 1)]
@@ -152,12 +153,12 @@ class Processes:
         ]
         (self.folder / "m.toml").write_text("\n".join([
             'name = "m1"', 'game = "l2.game"', f"hands = {hands}", 'names = ["alice", "bob"]',
-            'stores = "stores"', 'logs = "logs"', f"node = [{', '.join(tables)}]", "",
+            'stores = "stores"', 'logs = "logs"', *(['key = "match.key"'] if has_key else []), f"node = [{', '.join(tables)}]", "",
         ]))
         for name in ("stores", "logs"):
             (self.folder / name).mkdir()
-        for node in range(nodes):
-            subprocess.run([self.program, "init", "m.toml", str(node)], cwd=self.folder, check=True, capture_output=True)
+        for words in [["--key", "match.key"]] * has_key + [[str(node)] for node in range(nodes)]:
+            subprocess.run([self.program, "init", "m.toml", *words], cwd=self.folder, check=True, capture_output=True)
 
     def begin(self, node):
         """Starts the process of a node."""
@@ -209,9 +210,9 @@ class Players:
         return command - 1, nanoseconds / 1e9, longest / 1e6
 
 
-def played(program, nodes, hands, place):
-    """Commands a second of a match that nothing happens to, and the longest wait."""
-    match = Processes(nodes, hands, place)
+def played(program, nodes, hands, place, has_key=False):
+    """The commands of a match that nothing happens to, the seconds that they took, and the longest wait."""
+    match = Processes(nodes, hands, place, has_key)
     try:
         for node in range(nodes):
             match.begin(node)
@@ -232,17 +233,19 @@ def floor(program, nodes, commands, place):
 
 
 def compare(programs, nodes, place, runs):
-    """Matches and the floor in turn."""
-    sync, ours, floors, waits = sync_of(place), [], [], []
+    """Matches without a key, with one, and the floor in turn."""
+    sync, ours, keyed, floors, waits = sync_of(place), [], [], [], []
     hands = max(FEWEST, min(MOST, int(RUN_TAKES / (OF_A_HAND * (4 * sync + 150e-6)))))
     for _ in range(runs):
         commands, seconds, longest = played(programs["players"], nodes, hands, place)
         ours.append(commands / seconds)
         waits.append(longest)
+        keyed.append(commands / played(programs["players"], nodes, hands, place, has_key=True)[1])
         floors.append(commands / floor(programs["floor"], nodes, commands, place))
-    ratio = statistics.median(ours) / statistics.median(floors)
+    ratio, cost = statistics.median(ours) / statistics.median(floors), statistics.median(ours) / statistics.median(keyed) - 1
     print(f"{nodes} processes, {hands * OF_A_HAND:,} commands, stores in {place} ({sync * 1e3:.3f} ms a sync), {runs} runs each:")
     print(f"  {spread(ours)} commands a second, the floor {spread(floors)}: {ratio:.2f} of it")
+    print(f"  with a key {spread(keyed)}: a command takes {100 * cost:+.0f} %")
     print(f"  the longest time from an act to a line that came of it: {spread(waits, 1)} ms", flush=True)
 
 

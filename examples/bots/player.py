@@ -1,5 +1,6 @@
 """A player's way to the dealer, whatever he plays. docs/BOTS.md says why it goes so."""
 import argparse
+import os
 import re
 import socket
 import sys
@@ -32,12 +33,19 @@ def dial(node):
             connection = socket.create_connection(("127.0.0.1", node))
     except OSError:
         return None
-    if connection.getsockname() == connection.getpeername():
-        # Where nobody listens the system may connect a socket to itself.
+    if is_with_itself(connection):
         connection.close()
         return None
     connection.setsockopt(socket.IPPROTO_TCP, socket.TCP_NODELAY, 1)
     return connection
+
+
+def is_with_itself(connection):
+    """Whether the system has connected a socket to itself, as it may where nobody listens; so counts one that ended at once."""
+    try:
+        return connection.getsockname() == connection.getpeername()
+    except OSError:
+        return True
 
 
 def watch(connection):
@@ -66,9 +74,9 @@ def received(connection):
         pass
 
 
-def sit(node, answer):
+def sit(node, answer, token=None):
     """Answers the lines that come from a node until the connection ends. It says whether any came: where none did, the
-    node has turned the player away. A process shows whoever comes the newest line that it knows, also when the match is
+    node has turned the player away. A token is shown first; to a node that wants none it is a comment. A process shows whoever comes the newest line that it knows, also when the match is
     over: there it says whether any line came behind that.
 
     A process that says nothing for a while after the player has said something is left: it hangs, or can't go on alone.
@@ -78,6 +86,8 @@ def sit(node, answer):
         return False
     count = 0
     with connection:
+        if token is not None:
+            send(connection, f"#TOKEN {token}")
         send(connection, "VERSION:2.0.0")
         for line in received(connection):
             count += 1
@@ -89,7 +99,7 @@ def sit(node, answer):
     return count > isinstance(node, Process)
 
 
-def play(nodes, answer, node=0):
+def play(nodes, answer, node=0, token=None):
     """Plays a match at a seat of these nodes. Begins at node 0, and goes on at the next node, round the table of nodes,
     where the connection has ended or the node has turned the player away. Where all nodes do so, round after round, the
     match is over, or the dealer isn't running. To processes he goes on dialling for ever: they come back one by one.
@@ -99,7 +109,7 @@ def play(nodes, answer, node=0):
     while is_patient or turned_away < ROUNDS * len(nodes):
         if turned_away and turned_away % len(nodes) == 0:
             time.sleep(PAUSE)
-        turned_away = 0 if sit(nodes[node], answer) else turned_away + 1
+        turned_away = 0 if sit(nodes[node], answer, token) else turned_away + 1
         node = (node + 1) % len(nodes)
 
 
@@ -113,6 +123,13 @@ def place(word):
     return Process(found[1] or found[2], int(found[3]))
 
 
+def secret(word):
+    """The token that a word of the command line says."""
+    if re.fullmatch("[0-9a-f]{64}", word) is None:
+        raise argparse.ArgumentTypeError("a token is 64 hexadecimal digits, small ones")
+    return word
+
+
 def arguments(about, *more):
     """The words of the command line: the game, what more the player takes, and where its seat is, by node."""
     words = argparse.ArgumentParser(description=about)
@@ -122,5 +139,9 @@ def arguments(about, *more):
     words.add_argument(
         "ports", type=place, nargs="+", metavar="PORT",
         help="the port of the player's seat at each node, node 0 first; HOST:PORT where the nodes run in processes of their own",
+    )
+    words.add_argument(
+        "--token", type=secret, metavar="HEX", default=os.environ.get("HOLDEM_TOKEN") or None,
+        help="the token of the player's seat, where the match has tokens; by default what HOLDEM_TOKEN says, which others on this machine don't see",
     )
     return words.parse_args(sys.argv[1:])

@@ -1,0 +1,229 @@
+"""What tests/processes tries of matches with a key, tokens, patience and statuses."""
+import hashlib
+import random
+import shutil
+import socket
+import subprocess
+import time
+
+from serving import NAMES, TOP, loaded, patience, want, waited
+
+from processes_match import PACE, Bot, Match, at_random, test
+from table import Game, turn_of
+
+status = loaded("tools/status")
+
+
+class League(Match):
+    """A match whose machines have a key, and its seats tokens; each node can be asked."""
+
+    def __init__(self, *words, wait=None, **more):
+        # For so many seconds an act is waited for, if that has an end.
+        self.wait, self.tokens = wait, [f"{seat:x}" * 64 for seat in range(len(NAMES))]
+        super().__init__(*words, **more)
+
+    def token(self, seat):
+        return self.tokens[seat]
+
+    def entries(self):
+        digests = [hashlib.sha256(token.encode()).hexdigest() for token in self.tokens[: self.players]]
+        rows = ['key = "match.key"', "tokens = [" + ", ".join(f'"{digest}"' for digest in digests) + "]"]
+        return rows + ([] if self.wait is None else [f"patience = {self.wait}"])
+
+    def node_entries(self, node):
+        return [f'status = "{self.address(node)}:{self.statuses[node]}"']
+
+    def init(self, node):
+        """Makes the key too, on the first machine; it is copied to the others."""
+        key = self.home(node) / "match.key"
+        if node == 0:
+            ran = self.run(0, "init", "m.toml", "--key", "match.key")
+            want(ran.returncode == 0, f"init of the key ended with {ran.returncode}: {ran.stderr}")
+            want(key.stat().st_mode & 0o777 == 0o600, f"the key's mode is {key.stat().st_mode:o}")
+        elif not key.exists():
+            shutil.copy(self.home(0) / "match.key", key)
+        super().init(node)
+
+    def asked(self, node):
+        """What a node tells of itself, by the names of its words; nothing where it can't be asked."""
+        try:
+            words = status.answer_at(f"{self.address(node)}:{self.statuses[node]}").split()
+        except OSError:
+            return {}
+        want(words[::2] == status.COLUMNS, f"node {node} tells {words}")
+        return dict(zip(words[::2], words[1::2]))
+
+    def await_told(self, node, word, *parts):
+        """Waits until a node tells all this by one of its words; all that it tells then."""
+        has = lambda told: all(part in told.get(word, "").split(",") for part in parts)
+        return waited(lambda: (lambda told: told if has(told) else None)(self.asked(node)), f"{word} {parts} of node {node}", self.last_notes)
+
+    def faults(self):
+        """The notes of connections that were closed by a fault."""
+        return [note for node in range(self.count) for note in self.notes(node) if any(f": {code} " in note for code in range(120, 129))]
+
+
+@test(long_seeds=20)
+def keyed(seed, is_long):
+    """Random processes are killed, and come back; with a key and tokens nothing is told as wrong."""
+    dice, match = random.Random(seed), League((3, 5)[seed % 2], hands=80, pace=PACE / 10)
+    match.begin(choice=at_random(match, seed))
+    for _ in range(6):
+        match.goes_on(dice.randint(10, 40))
+        node = dice.randrange(match.count)
+        match.kill(node)
+        time.sleep(dice.random() * 0.05)
+        match.start(node)
+    match.ends()
+    odd = [note for note in match.faults() if "128 AlreadyHere" not in note]
+    want(not odd, f"faults are told: {odd[:4]}")
+
+
+@test()
+def another_key(seed, is_long):
+    """One machine has another key: both sides tell it, not often, the others go on, and with the right key it joins them."""
+    match = League(pace=PACE / 2, hands=240).begin(0, 1)
+    match.goes_on(10)
+    key = match.home(2) / "match.key"
+    right = key.read_text()
+    key.write_text("ab" * 32 + "\n")
+    match.start(2)
+    match.await_note(2, "124 WrongProof")
+    match.await_note(0, "124 WrongProof")
+    time.sleep(4)
+    for node in (0, 2):
+        count = sum("124 WrongProof" in note for note in match.notes(node))
+        want(count <= 4, f"node {node} told {count} times in four seconds that a key is another")
+    match.goes_on(10)
+    match.kill(2)
+    key.write_text(right)
+    match.start(2)
+    match.await_note(2, "peer 0: joined")
+    match.goes_on(10)
+    match.ends()
+
+
+def came(port, words, seconds):
+    """Comes to a seat's port and says this; what it got within so long, and when the connection ended, if it did."""
+    got, begun = b"", time.monotonic()
+    with socket.create_connection(("127.0.0.1", port), timeout=1) as bot:
+        bot.sendall(words)
+        while time.monotonic() - begun < seconds:
+            bot.settimeout(max(0.001, seconds - (time.monotonic() - begun)))
+            try:
+                piece = bot.recv(4096)
+            except ConnectionResetError:
+                piece = b""
+            except socket.timeout:
+                break
+            if not piece:
+                return got, time.monotonic() - begun
+            got += piece
+    return got, None
+
+
+@test()
+def wrong_tokens(seed, is_long):
+    """Who shows no token, a wrong one or another seat's gets no line; who shows the right one takes the seat over."""
+    match = League(pace=PACE / 2, hands=240).begin()
+    match.goes_on(20)
+    match.may_act.clear()
+    time.sleep(0.2)
+    version, right = b"VERSION:2.0.0\r\n", match.token(0).encode()
+    for words in (b"#TOKEN " + b"f" * 64 + b"\r\n", b"#TOKEN " + match.token(1).encode() + b"\n", b"#token " + right + b"\r\n", b"#TOKEN " + right + b" \r\n", version, b"#" * 5000):
+        got, ended = came(match.seats[0], words + version, 3)
+        want(got == b"" and ended is not None and ended < 2.5, f"who says {words[:80]!r} gets {got[:80]!r}, and it ends after {ended}")
+    got, ended = came(match.seats[0], b"#TOKEN ", 4)
+    want(got == b"" and ended is not None and ended >= 1.5, f"who says nothing more gets {got[:80]!r}, and it ends after {ended}")
+    match.await_note(0, "seat 0 (alice) at node 0: wrong token")
+    for end in (b"\n", b"\r\n"):
+        got, _ = came(match.seats[0], b"#TOKEN " + right + end + version, 1)
+        want(got.startswith(b"MATCHSTATE:"), f"with the right token and {end!r} comes {got[:80]!r}: {match.last_notes()}")
+    match.may_act.set()
+    match.goes_on(20)
+    match.ends()
+
+
+@test()
+def hung_bot(seed, is_long):
+    """A bot that hangs is played for, and another that takes its time isn't; then one that is nowhere is."""
+    match = League(hands=6, wait=1)
+    game, has_hung = Game(match.game), []
+
+    def choice(seat, line):
+        if turn_of(game, line) is None:
+            return None
+        if seat == 1 and not has_hung:
+            has_hung.append(line)
+            time.sleep(4)
+        elif len(match.seen) % 10 == 3:
+            time.sleep(0.5)
+        return "c"
+
+    match.begin(choice=choice)
+    waited(lambda: any("(bob)" in note and "played for" in note for node in range(3) for note in match.notes(node)), "an order", match.last_notes)
+    match.goes_on(5)
+    match.ends()
+    orders = [note for node in range(3) for note in match.notes(node) if "played for" in note]
+    want(not [note for note in orders if "(alice)" in note], f"who only takes his time is played for: {orders}")
+    log = match.log(0).splitlines()[-1]
+    time.sleep(2.5)
+    want(match.log(0).splitlines()[-1] == log, "the log grows behind its end")
+
+
+@test()
+def absent_bot(seed, is_long):
+    """Nobody ever comes to seat 1: the match comes to its end all the same."""
+    match = League(hands=2, wait=1)
+    match.set_up()
+    game = Game(match.game)
+    match.bots.append(Bot(match, 0, lambda line: "c" if turn_of(game, line) else None))
+    match.ends()
+
+
+@test()
+def told_statuses(seed, is_long):
+    """Nodes are asked, while one is lost, while one is cut off, and by many who don't read; tools/status prints a table."""
+    match = League(proxied=True, pace=PACE / 2, hands=240).begin()
+    match.goes_on(20)
+    tool = lambda: subprocess.run([TOP / "tools/status", "m.toml"], cwd=match.home(0), capture_output=True, text=True, timeout=patience())
+    for node in range(3):
+        told = match.await_told(node, "quorum", "yes")
+        want((told["node"], told["over"]) == (str(node), "no") and len(told["seats"].split(",")) == 2, f"node {node} tells {told}")
+    ran = tool()
+    want(ran.returncode == 0 and len(ran.stdout.splitlines()) == 4, f"tools/status says {ran.returncode} {ran.stdout!r} {ran.stderr!r}")
+    match.kill(2)
+    match.await_told(0, "peers", "2:gone")
+    fronts = []
+    for _ in range(2):
+        fronts.append(int(match.asked(0)["front"]))
+        match.goes_on(5)
+    want(fronts[0] < fronts[1], f"the front stays: {fronts}")
+    ran = tool()
+    want((ran.returncode, ran.stdout.splitlines()[3]) == (1, "2     not reached"), f"tools/status says {ran.returncode} {ran.stdout!r}")
+    match.start(2)
+    match.await_told(2, "quorum", "yes")
+    match.ways.silent = {(0, 2), (2, 0), (1, 2), (2, 1)}
+    match.await_told(2, "peers", "0:gone", "1:gone")
+    want(match.asked(2)["quorum"] == "no", "a node that is cut off tells that it has a quorum")
+    match.goes_on(5)
+    match.ways.silent = set()
+    match.await_told(2, "quorum", "yes")
+    idle = [socket.create_connection((match.address(0), match.statuses[0]), timeout=2) for _ in range(20)]
+    match.goes_on(10)
+    match.await_told(0, "node", "0")
+    for one in idle:
+        one.close()
+    match.ends()
+    want(tool().returncode == 1, "processes that have ended are reached")
+
+
+@test()
+def table_of_statuses(seed, is_long):
+    """tools/status where one node hangs, one can't be asked, and something else answers."""
+    rows = status.printed([["1", "37", "4", "no", "4.0", "no", "yes", "0:37:leads,2:gone", "alice:seated,bob:away", "no", "0,812", "412/s"], "not reached"])
+    want([*rows] == [
+        "node  front  hand  over  promised  leads  quorum  peers              seats                  pending  backlog  commands",
+        "1     37     4     no    4.0       no     yes     0:37:leads,2:gone  alice:seated,bob:away  no       0,812    412/s",
+        "1     not reached",
+    ], f"the table is {rows}")

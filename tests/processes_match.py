@@ -1,0 +1,351 @@
+"""A match of tests/processes: its files, its processes and its bots."""
+import random
+import shutil
+import signal
+import socket
+import subprocess
+import sys
+import tempfile
+import threading
+import time
+from pathlib import Path
+
+sys.dont_write_bytecode = True
+sys.path.insert(0, str(Path(__file__).resolve().parent))
+
+from serving import FAST, NAMES, TOP, Wrong, is_free, loaded, patience, want, waited
+
+from player import Process, sit
+from processes_ways import Hosts, Ways
+from table import Game, turn_of
+
+raiser = loaded("examples/bots/raiser")
+serve = loaded("tests/serve")
+
+# How long it may take until a match goes on after something happened, and until its processes have ended, in seconds.
+GOES_ON, ENDS = 20, 40
+# How long a bot thinks where a test needs time to do something to its match, in seconds.
+PACE = 0.02
+# Below those that a system gives to connections; tests that run side by side have a part of these each.
+PORTS = [10000, 32000]
+TESTS = {}
+
+
+def test(seeds=1, long_seeds=None):
+    """A test by its name, and by how many seeds it goes; a function of a seed, and whether this is the long form."""
+
+    def taken(function):
+        TESTS[function.__name__] = (seeds, long_seeds or seeds, function)
+        return function
+
+    return taken
+
+
+def free_ports(count):
+    """The first of so many ports in a row that nobody uses."""
+    for _ in range(1000):
+        port = random.randrange(PORTS[0], PORTS[1] - count)
+        if all(is_free(port + place) for place in range(count)):
+            return port
+    raise Wrong("no free ports were found")
+
+
+def claim_ports(counter, jobs):
+    """Takes the next part of the ports, so that no two tests that run side by side find the same ones free."""
+    with counter.get_lock():
+        place, counter.value = counter.value % jobs, counter.value + 1
+    first, width = PORTS[0], (PORTS[1] - PORTS[0]) // jobs
+    PORTS[:] = [first + place * width, first + (place + 1) * width]
+
+
+class Bot(threading.Thread):
+    """A player who goes from process to process until the match has ended, and keeps what he gets at each sitting."""
+
+    def __init__(self, match, seat, choice):
+        super().__init__(daemon=True)
+        self.match, self.seat, self.choice, self.sittings = match, seat, choice, []
+        self.start()
+
+    def run(self):
+        node = 0
+        while not self.match.has_ended.is_set():
+            self.sittings.append([])
+            place = Process(self.match.address(node), self.match.seats[node] + self.seat)
+            if not sit(place, self.take, self.match.token(self.seat)):
+                time.sleep(0.01)
+            node = (node + 1) % self.match.count
+
+    def take(self, line):
+        self.sittings[-1].append(line)
+        self.match.see(line)
+        action = self.choice(line)
+        if action is not None:
+            time.sleep(self.match.pace)
+            self.match.may_act.wait()
+            if int(line.split(":")[2]) == self.match.hands - 1:
+                self.match.may_end.wait()
+        return action
+
+
+class Match:
+    """A match whose nodes run in processes of their own, each in a folder of its own, and its bots."""
+
+    program = TOP / "crates/holdem_table/out/holdem_table"
+    made = []
+
+    def __init__(self, count=3, hands=120, game="l2.game", proxied=False, on_hosts=False, pace=0.0, place=FAST):
+        self.hosts = Hosts(count) if on_hosts else None
+        self.folder = Path(tempfile.mkdtemp(prefix="processes.", dir=place))
+        self.made.append(self)
+        self.count, self.hands, self.word, self.game = count, hands, game, (TOP / "examples" / game).read_text()
+        self.players = Game(self.game).players
+        self.processes, self.bots, self.others, self.has_ended = [None] * count, [], [], threading.Event()
+        # Bots think for so long, and act while they may; in the last hand only when all else was done.
+        self.pace, self.may_act, self.may_end = pace, threading.Event(), threading.Event()
+        # The commands that lines told, when each was told first, the last hand among them, and at how many the bots stop.
+        self.seen, self.times, self.hand, self.stop_at = set(), [], 0, None
+        self.may_act.set()
+        self.take_ports()
+        self.ways = Ways(self.ports) if proxied else None
+        self.homes = [self.folder / f"machine{node}" for node in range(count)]
+        for node in range(count):
+            self.furnish(node)
+
+    def take_ports(self):
+        """Ports in a row: those of the nodes, behind them those where they are asked, and those of the seats, by node."""
+        first = free_ports(self.count * (2 + self.players))
+        self.ports = [first + node for node in range(self.count)]
+        self.statuses = [first + self.count + node for node in range(self.count)]
+        self.seats = [first + 2 * self.count + node * self.players for node in range(self.count)]
+
+    def address(self, node):
+        return self.hosts.address(node) if self.hosts else "127.0.0.1"
+
+    def token(self, seat):
+        """What the bot of a seat shows first."""
+        return None
+
+    def entries(self):
+        """What more the match file says of the match."""
+        return []
+
+    def node_entries(self, node):
+        """What more it says of a node."""
+        return []
+
+    def home(self, node):
+        """The folder of a node's machine."""
+        return self.homes[node]
+
+    def furnish(self, node):
+        """The folder of a node, with all that its machine has before `init`."""
+        for name in ("stores", "logs"):
+            (self.home(node) / name).mkdir(parents=True)
+        (self.home(node) / self.word).write_text(self.game)
+        self.write(node)
+
+    def write(self, node, name="m1", seeds={}):
+        """The match file of a node: others are found at the ports of proxies, where there are any."""
+        names = ", ".join(f'"{one}"' for one in NAMES[: self.players])
+        rows = [f'name = "{name}"', f'game = "{self.word}"', f"hands = {self.hands}", f"names = [{names}]"]
+        rows += ['stores = "stores"', 'logs = "logs"', *self.entries()]
+        for other in range(self.count):
+            peers = self.ways.doors[node, other] if self.ways and other != node else self.ports[other]
+            rows += ["[[node]]", f"seed = {seeds.get(other, other)}", f'peers = "{self.address(other)}:{peers}"']
+            rows += [f'seats = "{self.address(other)}:{self.seats[other]}"', *self.node_entries(other)]
+        (self.home(node) / "m.toml").write_text("\n".join(rows) + "\n")
+
+    def run(self, node, *words):
+        """Runs the program on a node's machine to its end."""
+        how = {"cwd": self.home(node), "stdin": subprocess.DEVNULL, "capture_output": True, "text": True}
+        return subprocess.run([self.program, *words], timeout=patience(), **how)
+
+    def init(self, node):
+        """Makes a node's store; the first node's makes the match, and what it keeps of it is copied to the others."""
+        if node > 0 and not (self.home(node) / "stores/match.kept").exists():
+            shutil.copy(self.home(0) / "stores/match.kept", self.home(node) / "stores/match.kept")
+        ran = self.run(node, "init", "m.toml", str(node))
+        want(ran.returncode == 0, f"init of node {node} ended with {ran.returncode}: {ran.stderr}")
+
+    def begin(self, *nodes, choice=None):
+        """Makes all stores, starts these nodes, or all, and lets the bots come. They call, or choose by a function of seat
+        and line."""
+        self.set_up(*nodes)
+        game = Game(self.game)
+        self.choice = choice or (lambda seat, line: "c" if turn_of(game, line) else None)
+        self.let_bots_come()
+        return self
+
+    def let_bots_come(self):
+        self.has_ended.clear()
+        self.bots += [Bot(self, seat, lambda line, seat=seat: self.choice(seat, line)) for seat in range(self.players)]
+
+    def set_up(self, *nodes):
+        """Makes all stores, and starts these nodes, or all."""
+        for node in range(self.count):
+            self.init(node)
+        self.start(*(nodes or range(self.count)))
+
+    def start(self, *nodes, before=None):
+        """Starts processes; each calls a function before it becomes the program."""
+        for node in nodes:
+            with open(self.home(node) / "notes", "ab") as notes, open(self.home(node) / "printed", "ab") as printed:
+                how = {"cwd": self.home(node), "stdin": subprocess.DEVNULL, "stdout": printed, "stderr": notes, "preexec_fn": before}
+                words = [*(self.hosts.starter(node) if self.hosts else []), self.program, "node", "m.toml", str(node)]
+                self.processes[node] = subprocess.Popen(words, **how)
+
+    def kill(self, *nodes):
+        for node in nodes:
+            self.processes[node].kill()
+        for node in nodes:
+            self.processes[node].wait()
+
+    def remove(self):
+        self.has_ended.set()
+        self.may_act.set()
+        self.may_end.set()
+        if self.ways:
+            self.ways.ended.set()
+        for process in [*filter(None, self.processes), *self.others]:
+            process.kill()
+            process.wait()
+        if self.hosts:
+            self.hosts.remove()
+        shutil.rmtree(self.folder, ignore_errors=True)
+
+    def notes(self, node):
+        file = self.home(node) / "notes"
+        return file.read_text(errors="replace").splitlines() if file.exists() else []
+
+    def last_notes(self):
+        states = [process and process.poll() for process in self.processes]
+        notes = " / ".join(str(self.notes(node)[-4:]) for node in range(self.count))
+        return f"statuses {states}, commands seen {len(self.seen)}, notes {notes}"
+
+    def await_note(self, node, text):
+        """Waits for a note of a node that has this text in it."""
+        waited(lambda: any(text in note for note in self.notes(node)), f"a note of node {node} with {text!r}", self.last_notes)
+
+    def see(self, line):
+        """Takes note of the command that a line tells, whoever gets it first."""
+        _, _, hand, betting, _ = line.split(":")
+        if (hand, betting) not in self.seen:
+            self.seen.add((hand, betting))
+            self.times.append(time.monotonic())
+            self.hand = max(self.hand, int(hand))
+            if len(self.seen) == self.stop_at:
+                self.may_act.clear()
+
+    def is_alive(self):
+        """No process has ended that the test didn't kill."""
+        ended = [node for node, process in enumerate(self.processes) if process and process.poll() not in (None, -signal.SIGKILL)]
+        want(not ended, f"processes of nodes {ended} have ended: {self.last_notes()}")
+        return True
+
+    def goes_on(self, more=5):
+        """Waits until so many more commands were seen."""
+        count, until = len(self.seen) + more, time.monotonic() + min(GOES_ON, patience())
+        while len(self.seen) < count and self.is_alive():
+            want(time.monotonic() < until, f"the match doesn't go on: {self.last_notes()}")
+            time.sleep(0.001)
+
+    def stands(self, seconds):
+        """No command comes for so long."""
+        count, until = len(self.seen), time.monotonic() + seconds
+        while time.monotonic() < until:
+            time.sleep(0.01)
+        want(len(self.seen) == count, f"{len(self.seen) - count} commands came where none can be chosen")
+
+    def ends(self, *nodes):
+        """The processes of these nodes, or of all, end with status 0, and printed nothing."""
+        self.pace = 0.0
+        self.may_end.set()
+        nodes = nodes or range(self.count)
+        has_ended = lambda: all(self.processes[node].poll() is not None for node in nodes)
+        until = time.monotonic() + min(ENDS, patience())
+        while not has_ended():
+            want(time.monotonic() < until, f"processes don't end: {self.last_notes()}")
+            time.sleep(0.005)
+        self.has_ended.set()
+        want(all(self.processes[node].returncode == 0 for node in nodes), f"statuses aren't 0: {self.last_notes()}")
+        printed = [node for node in nodes if (self.home(node) / "printed").read_bytes()]
+        want(not printed, f"nodes {printed} wrote to standard output")
+        self.is_right(*nodes)
+
+    def log(self, node):
+        return (self.home(node) / f"logs/node{node}.log").read_text()
+
+    def await_hands(self, node, hands):
+        """Waits until a node has logged so many hands."""
+        file = self.home(node) / f"logs/node{node}.log"
+        waited(lambda: file.exists() and file.read_text().count("\n") > hands, f"{hands} hands of node {node}", self.last_notes)
+
+    def is_right(self, *nodes):
+        """The logs of these nodes are one, `check` accepts it, and what was kept and told before is of it."""
+        logs = {self.log(node) for node in nodes}
+        want(len(logs) == 1, f"the logs of nodes {list(nodes)} differ")
+        log = logs.pop()
+        for node in nodes:
+            ran = self.run(node, "check", self.word, f"logs/node{node}.log")
+            want((ran.returncode, ran.stdout) == (0, "yes\n"), f"check says {ran.stdout!r} of node {node}'s log")
+        for file in self.folder.glob("machine*/logs/node*.log*"):
+            is_beginning_of(log, file)
+        for bot in self.bots:
+            self.are_of(log, bot)
+
+    def are_of(self, log, bot):
+        """What a bot got are lines of the log's match, in order at each sitting."""
+        bot.join(patience())
+        want(not bot.is_alive(), f"the bot of seat {bot.seat} is still there")
+        places = {line: place for place, line in enumerate(serve.lines_of(self, log, bot.seat))}
+        for lines in bot.sittings:
+            others = [line for line in lines if line not in places]
+            want(not others, f"{NAMES[bot.seat]} got {others[:3]}, which no seat gets in the match of the log")
+            order = [places[line] for line in lines]
+            want(order == sorted(order), f"{NAMES[bot.seat]} got lines that go back in one sitting")
+
+
+def is_beginning_of(log, file):
+    """What a node logged in an earlier process, or before it was lost, is a beginning of the log, but for a last line that
+    was cut off."""
+    text = file.read_text()
+    want(log.startswith(text[: text.rfind("\n") + 1]), f"{file} is no beginning of the log")
+
+
+def at_random(match, seed):
+    """What bots choose who act at random: it depends on the seat, the seed and the line."""
+    game = Game(match.game)
+    return lambda seat, line: raiser.choice(game, seed * 10 + seat, line)
+
+
+def meanwhile(match, seconds):
+    """For so long something is wrong, and the match goes on."""
+    count = len(match.seen)
+    time.sleep(seconds)
+    want(len(match.seen) >= count + 3, f"the match doesn't go on meanwhile: {match.last_notes()}")
+
+
+def refused(match, node, status, last):
+    """A process of a node ends with this status and this last line."""
+    ran = match.run(node, "node", "m.toml", str(node))
+    got = (ran.returncode, ran.stderr.splitlines()[-1:])
+    want(got == (status, [last]), f"node {node} ended with {got}, not {status} {last!r}: {ran.stderr!r}")
+    want(ran.stdout == "", f"standard output has {ran.stdout!r}")
+
+
+def said(port, *pieces):
+    """Says this at a port, and goes away a moment later; what it got."""
+    got = b""
+    try:
+        with socket.create_connection(("127.0.0.1", port), timeout=1) as stranger:
+            for piece in pieces:
+                stranger.sendall(piece)
+            stranger.settimeout(0.05)
+            got = stranger.recv(1 << 16)
+    except OSError:
+        pass
+    return got
+
+
+def random_bytes(seed, count):
+    return random.Random(seed).getrandbits(8 * count).to_bytes(count, "big")
