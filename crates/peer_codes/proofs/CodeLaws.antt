@@ -1,5 +1,5 @@
 -- Codes and seals: what is coded on a way is read on it, and nothing else is.
-use Rattle.std.proofs.Common.{◌≡◌, ℕ, zero, suc, ◌+◌, ◌-◌, ◌<◌, Bool, true, false, cond, ltb, leb, List, [], ◌∷◌, ◌++◌, length, take, drop, get_or, bit_xor, Result, Ok, Err, refl, sym, ap, ◌∙◌, arith, length-append}
+use Rattle.std.proofs.Common.{◌≡◌, ℕ, suc, ◌+◌, ◌-◌, ◌<◌, Bool, true, false, cond, ltb, leb, List, [], ◌∷◌, ◌++◌, length, take, drop, bit_xor, Result, Ok, Err, refl, sym, ap, ◌∙◌, arith, length-append}
 use Rattle.std.specs.Int.Bits.{xor_assoc, xor_self, xor_zero_r}
 use Rattle.std.specs.Str.{bytes_eq}
 use Rattle.std.proofs.lemmas.Bool.{le-ltb, lt-leb}
@@ -29,18 +29,6 @@ pub xored_back : (xs ys : List ℕ) → xored (xored xs ys) ys ≡ xs
 xored_back [] ys = refl
 xored_back (x ∷ xs) [] = refl
 xored_back (x ∷ xs) (y ∷ ys) = ap (λ (z : ℕ). z ∷ xored (xored xs ys) ys) (xor_back x y) ∙ ap (λ (zs : List ℕ). x ∷ zs) (xored_back xs ys)
-
-xored_one : (xs ys : List ℕ) (i : ℕ) → i < length xs → i < length ys → xored (take (suc i) xs) ys ≡ xored (take i xs) ys ++ bit_xor (get_or xs i 0) (get_or ys i 0) ∷ []
-xored_one [] ys i low enough = absurd (omega (arith, low))
-xored_one (x ∷ xs) [] i low enough = absurd (omega (arith, enough))
-xored_one (x ∷ xs) (y ∷ ys) zero low enough = refl
-xored_one (x ∷ xs) (y ∷ ys) (suc i) low enough = ap (λ (zs : List ℕ). bit_xor x y ∷ zs) (xored_one xs ys i (omega (arith, low)) (omega (arith, enough)))
-
--- one byte more
-pub xored_more : (xs ys : List ℕ) (i : ℕ) → i < length xs → i < length ys → xored (take (i + 1) xs) ys ≡ xored (take i xs) ys ++ bit_xor (get_or xs i 0) (get_or ys i 0) ∷ []
-xored_more xs ys i low enough =
-    let next : i + 1 ≡ suc i = omega arith in
-    ap (λ (n : ℕ). xored (take n xs) ys) next ∙ xored_one xs ys i low enough
 
 -- ---- seals and codes
 

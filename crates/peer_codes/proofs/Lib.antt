@@ -3,7 +3,9 @@ pub mod HelloLaws
 pub mod RecordLaws
 pub mod StreamLaws
 pub mod Mapping
+pub mod Mixing
 pub mod CodeLaws
+pub mod CoverLaws
 pub mod StepParts
 pub mod StepLaws
 pub mod HistoryLaws

@@ -3,7 +3,7 @@ ghost use Rattle.peer_codes.specs.declared.limits.TheConstants.{LEAST_FRAME};
 ghost use Rattle.peer_codes.specs.declared.phase.Phase.TheVariants as phases;
 ghost use Rattle.peer_codes.specs.Outgoings.{unwritten, Put};
 ghost use Rattle.peer_codes.specs.Steps.{is_coded};
-ghost use Rattle.peer_codes.specs.Connections.{ReadsOrWaits, Next, answered, begun_on, begun_open, begun_coded, begun_first, begun_next};
+ghost use Rattle.peer_codes.specs.Connections.{ReadsOrWaits, Next, answered, begun_coded, begun_first, begun_next};
 
 use crate::beat::Beat;
 use crate::connection_fault::ConnectionFault;
@@ -14,9 +14,8 @@ use crate::hello::Hello;
 use crate::hellos::Hellos;
 use crate::key::Key;
 use crate::kind::Kind;
-use crate::limits::LAST_NUMBER;
 use crate::outgoing::Outgoing;
-use crate::phase::{Phase, Ways};
+use crate::phase::Phase;
 use crate::reading::front_end;
 use crate::records::Record;
 use crate::role::Role;
@@ -168,55 +167,29 @@ impl Connection {
         self.out.put_frame(frame)
     }
 
-    /// Codes and begins the beat, or else the frame that waits.
-    fn begin_on(&mut self, ways: Ways)
-        requires { ways.writing.number < LAST_NUMBER }
-        ensures { self.new ≡ begun_on ways self.old.out.beat self.old.out.frame self.old.key self.old.came self.old.out }
-    {
-        let Ways {
-            reading,
-            mut writing,
-        } = ways;
-        if let Some(beat) = self.out.beat {
-            self.out.beat = None;
-            let text = writing.cover(Kind::Beat, beat_bytes(&beat).as_slice());
-            self.out.start(text);
-            self.phase = Phase::Open(Ways { reading, writing });
-            return;
-        }
-        match self.out.frame.take() {
-            Some(frame) => {
-                let text = writing.cover(Kind::Frame, frame.bytes.as_slice());
-                self.out.start(text);
-                self.phase = Phase::Open(Ways { reading, writing });
-            }
-            None => self.phase = Phase::Open(Ways { reading, writing }),
-        }
-    }
-
-    /// Codes and begins what waits, while numbers are left.
-    fn begin_open(&mut self, ways: Ways)
-        ensures { self.new ≡ begun_open ways self.old.key self.old.came self.old.out }
-    {
-        if !ways.writing.has_number() {
-            self.phase = Phase::Open(ways);
-            return;
-        }
-        self.begin_on(ways);
-    }
-
-    /// Codes and begins what waits, if the connection is open.
+    /// Codes and begins the beat, or else the frame that waits, if the connection is open and while numbers are left.
     fn begin_coded(&mut self)
         ensures { self.new ≡ begun_coded self.old.phase self.old.key self.old.came self.old.out }
     {
-        let phase = mem::replace(&mut self.phase, Phase::Closed(ConnectionFault::OutOfTurn));
-        match phase {
-            Phase::Open(ways) => self.begin_open(ways),
-            Phase::Greeting(own) => self.phase = Phase::Greeting(own),
-            Phase::Asked(caller) => self.phase = Phase::Asked(caller),
-            Phase::Refused => self.phase = Phase::Refused,
-            Phase::Proving(theirs, ways) => self.phase = Phase::Proving(theirs, ways),
-            Phase::Closed(fault) => self.phase = Phase::Closed(fault),
+        let Phase::Open(ways) = &mut self.phase else {
+            return;
+        };
+        if !ways.writing.has_number() {
+            return;
+        }
+        if let Some(beat) = self.out.beat {
+            let body = beat_bytes(&beat);
+            ways.writing
+                .cover(Kind::Beat, body.as_slice(), &mut self.out.begun);
+            self.out.written = 0;
+            self.out.beat = None;
+            return;
+        }
+        if let Some(frame) = &self.out.frame {
+            ways.writing
+                .cover(Kind::Frame, frame.bytes.as_slice(), &mut self.out.begun);
+            self.out.written = 0;
+            self.out.frame = None;
         }
     }
 

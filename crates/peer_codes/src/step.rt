@@ -172,7 +172,7 @@ fn frame_heard(ways: Ways, content: &[u8]) -> Step
         writing,
     } = ways;
     match reading.uncover(Kind::Frame, content) {
-        Ok(body) => match Frame::new(body.as_slice()) {
+        Ok(body) => match Frame::of(body) {
             Some(frame) => heard(Ways { reading, writing }, Event::Frame(frame)),
             None => closed(ConnectionFault::Record(RecordFault::BadLength)),
         },

@@ -6,10 +6,10 @@ ghost use Rattle.peer_codes.specs.Codes.{fresh_way, pad, xored, record_code, cod
 
 use crate::connection_fault::ConnectionFault;
 use crate::fault::RecordFault;
-use crate::hmac::{code, is_same};
+use crate::hmac::{HashedKey, is_same};
 use crate::kind::Kind;
 use crate::limits::{CODE_BYTES, KEY_BYTES, LAST_NUMBER, MOST_CONTENT, MOST_FRAME, MOST_RECORD};
-use crate::writing::enveloped;
+use crate::writing::{CONTENT_AT, begin_envelope};
 use arrayvec::ArrayVec;
 use byteorder::{BigEndian, ByteOrder};
 use paxos_wire::push_all;
@@ -17,10 +17,13 @@ use rand_chacha::ChaCha20Rng;
 use rand_core::SeedableRng;
 use rand_core::utils::fill_bytes_via_u32;
 
+/// Most frames and each beat have at most so many bytes.
+const SHORT: usize = 256;
+
 /// One way of a connection: who holds it can code what is said on it, and read what was coded.
 #[derive(Drop)]
 pub struct Way {
-    key: [u8; KEY_BYTES],
+    key: HashedKey,
     /// The number of the next record, counted from 0.
     number: u64,
     /// The stream that hides what is sent, from the next record on.
@@ -28,17 +31,13 @@ pub struct Way {
 }
 
 /// Each byte with one of the others.
-#[tactic(auto, using(crate::proofs::CodeLaws::xored_more))]
-fn xored(bytes: &[u8], others: &[u8]) -> ArrayVec<u8, MOST_FRAME>
-    requires most { length bytes.now ≤ MOST_FRAME }
-    requires enough { length bytes.now ≤ length others.now }
-    ensures { result.items ≡ xored bytes.now others.now }
+fn mix(bytes: &mut [u8], others: &[u8])
+    requires { length bytes.old ≤ length others.now }
+    ensures { bytes.new ≡ xored bytes.old others.now }
 {
-    let mut out = ArrayVec::new();
-    for (place, byte) in bytes.iter().enumerate() {
-        out.push(*byte ^ others[place]);
+    for place in 0..bytes.len() {
+        bytes[place] ^= others[place];
     }
-    out
 }
 
 /// The next bytes of a seal.
@@ -50,16 +49,30 @@ fn fill(seal: &mut ChaCha20Rng, out: &mut [u8])
     fill_bytes_via_u32(seal, out);
 }
 
-/// Bytes under a seal, or from under it.
-fn masked(seal: &mut ChaCha20Rng, bytes: &[u8]) -> ArrayVec<u8, MOST_FRAME>
-    requires { length bytes.now ≤ MOST_FRAME }
-    ensures value { result.items ≡ xored bytes.now (pad (length bytes.now) seal.old).0 }
-    ensures seal { seal.new ≡ (pad (length bytes.now) seal.old).1 }
+/// Bytes under a seal, or from under it, with room for as many of the seal's.
+fn mask_by(seal: &mut ChaCha20Rng, bytes: &mut [u8], room: &mut [u8])
+    requires { length bytes.old ≤ length room.old }
+    ensures bytes { bytes.new ≡ xored bytes.old (pad (length bytes.old) seal.old).0 }
+    ensures seal { seal.new ≡ (pad (length bytes.old) seal.old).1 }
 {
-    let mut room = [0; MOST_FRAME];
     let others = &mut room[..bytes.len()];
     fill(seal, others);
-    xored(bytes, others)
+    mix(bytes, others);
+}
+
+/// Bytes under a seal, or from under it.
+fn mask(seal: &mut ChaCha20Rng, bytes: &mut [u8])
+    requires { length bytes.old ≤ MOST_FRAME }
+    ensures bytes { bytes.new ≡ xored bytes.old (pad (length bytes.old) seal.old).0 }
+    ensures seal { seal.new ≡ (pad (length bytes.old) seal.old).1 }
+{
+    if bytes.len() <= SHORT {
+        let mut room = [0; SHORT];
+        mask_by(seal, bytes, &mut room);
+        return;
+    }
+    let mut room = [0; MOST_FRAME];
+    mask_by(seal, bytes, &mut room);
 }
 
 impl Way {
@@ -67,7 +80,8 @@ impl Way {
     pub(crate) fn new(key: [u8; KEY_BYTES]) -> Way
         ensures { result ≡ fresh_way key }
     {
-        let seal = code(&key, b"HDN1 seal", &[]);
+        let key = HashedKey::new(&key);
+        let seal = key.code(b"HDN1 seal", &[]);
         Way {
             key,
             number: 0,
@@ -82,7 +96,7 @@ impl Way {
         let mut front = [0; 9];
         BigEndian::write_u64(&mut front, self.number);
         front[8] = kind.byte();
-        code(&self.key, &front, sent)
+        self.key.code(&front, sent)
     }
 
     /// Whether another record can be said: all but the last number are used.
@@ -92,21 +106,21 @@ impl Way {
         self.number < LAST_NUMBER
     }
 
-    /// The coded record of this kind with this body, and the way goes on to the next number.
-    pub fn cover(&mut self, kind: Kind, body: &[u8]) -> ArrayVec<u8, MOST_RECORD>
+    /// Writes the coded record of this kind with this body in place of what stood there, and the way goes on to the next
+    /// number.
+    pub fn cover(&mut self, kind: Kind, body: &[u8], out: &mut ArrayVec<u8, MOST_RECORD>)
         requires number { self.old.number < LAST_NUMBER }
         requires most { length body.now ≤ MOST_FRAME }
-        ensures text { result.items ≡ coded self.old kind body.now }
+        ensures text { out.new.items ≡ coded self.old kind body.now }
         ensures way { self.new ≡ after self.old (length body.now) }
     {
         let number = self.number;
-        let sent = masked(&mut self.seal, body);
-        let code = self.record_code(kind, sent.as_slice());
+        begin_envelope(out, kind, body.len() + CODE_BYTES);
+        push_all(out, body);
+        mask(&mut self.seal, &mut out.as_mut_slice()[CONTENT_AT..]);
+        let code = self.record_code(kind, &out.as_slice()[CONTENT_AT..]);
+        push_all(out, &code);
         self.number = number + 1;
-        let mut content: ArrayVec<u8, MOST_CONTENT> = ArrayVec::new();
-        push_all(&mut content, sent.as_slice());
-        push_all(&mut content, &code);
-        enveloped(kind, content.as_slice())
     }
 
     /// The body of the coded record of this kind, and the way goes on to the next number; a fault changes nothing.
@@ -136,6 +150,9 @@ impl Way {
             return Err(ConnectionFault::WrongCode);
         }
         self.number += 1;
-        Ok(masked(&mut self.seal, sent))
+        let mut body = ArrayVec::new();
+        push_all(&mut body, sent);
+        mask(&mut self.seal, body.as_mut_slice());
+        Ok(body)
     }
 }

@@ -1,8 +1,9 @@
 //! The one text of each record.
 
-ghost use Rattle.std.specs.Prelude.{◌≡◌, ◌+◌, ◌≤◌, ◌++◌, ◌∷◌, length, IfSome};
+ghost use Rattle.std.specs.Prelude.{◌≡◌, ◌+◌, ◌≤◌, ◌++◌, [], ◌∷◌, length, IfSome};
 ghost use Rattle.arrayvec.specs.ArrayVec.{array_vec_len};
 ghost use Rattle.byteorder.specs.Endian.{big_bytes};
+ghost use Rattle.peer_codes.specs.Kinds.{kind_byte};
 ghost use Rattle.peer_codes.specs.Fits.{IsLink, HasWidths, IsBeat, IsHeld, CanBeSaid, IsRecord};
 ghost use Rattle.peer_codes.specs.Spelling.{link_byte, ends_text, kept_text, promised_text, nonce_text, hello_text, flags_byte, beat_text, enveloped, kind, body, record_text};
 
@@ -147,6 +148,21 @@ pub(crate) fn beat_bytes(beat: &Beat) -> ArrayVec<u8, BEAT_BYTES>
     out
 }
 
+/// Where what stands behind the kind of a record begins.
+pub(crate) const CONTENT_AT: usize = 5;
+
+/// Writes what stands in front of so many bytes behind a kind, in place of what stood there: a length that counts both,
+/// and the kind.
+pub(crate) fn begin_envelope(out: &mut ArrayVec<u8, MOST_RECORD>, kind: Kind, count: usize)
+    requires { count + 1 ≤ MOST_LENGTH }
+    ensures items { out.new.items ≡ big_bytes 4 (count + 1) ++ (kind_byte kind ∷ []) }
+    ensures len { array_vec_len out.new ≡ CONTENT_AT }
+{
+    out.clear();
+    push_all(out, &number_bytes((count + 1) as u32));
+    out.push(kind.byte());
+}
+
 /// A kind and bytes behind it, with a length in front that counts both.
 #[tactic(auto, unfolding(crate::specs::Spelling::enveloped))]
 pub(crate) fn enveloped(kind: Kind, content: &[u8]) -> ArrayVec<u8, MOST_RECORD>
@@ -154,8 +170,7 @@ pub(crate) fn enveloped(kind: Kind, content: &[u8]) -> ArrayVec<u8, MOST_RECORD>
     ensures { result.items ≡ enveloped kind content.now }
 {
     let mut out = ArrayVec::new();
-    push_all(&mut out, &number_bytes((content.len() + 1) as u32));
-    out.push(kind.byte());
+    begin_envelope(&mut out, kind, content.len());
     push_all(&mut out, content);
     out
 }
