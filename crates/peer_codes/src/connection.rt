@@ -13,14 +13,13 @@ use crate::frame::Frame;
 use crate::hello::Hello;
 use crate::hellos::Hellos;
 use crate::key::Key;
-use crate::kind::Kind;
 use crate::outgoing::Outgoing;
 use crate::phase::Phase;
 use crate::reading::front_end;
 use crate::records::Record;
 use crate::role::Role;
 use crate::step::{Step, front_step, ways_of};
-use crate::writing::{beat_bytes, record_bytes};
+use crate::writing::record_bytes;
 use byte_queue::ByteQueue;
 use std::alloc::{AllocError, Global};
 use std::mem;
@@ -167,29 +166,12 @@ impl Connection {
         self.out.put_frame(frame)
     }
 
-    /// Codes and begins the beat, or else the frame that waits, if the connection is open and while numbers are left.
+    /// Codes and begins what waits, if the connection is open.
     fn begin_coded(&mut self)
         ensures { self.new ≡ begun_coded self.old.phase self.old.key self.old.came self.old.out }
     {
-        let Phase::Open(ways) = &mut self.phase else {
-            return;
-        };
-        if !ways.writing.has_number() {
-            return;
-        }
-        if let Some(beat) = self.out.beat {
-            let body = beat_bytes(&beat);
-            ways.writing
-                .cover(Kind::Beat, body.as_slice(), &mut self.out.begun);
-            self.out.written = 0;
-            self.out.beat = None;
-            return;
-        }
-        if let Some(frame) = &self.out.frame {
-            ways.writing
-                .cover(Kind::Frame, frame.bytes.as_slice(), &mut self.out.begun);
-            self.out.written = 0;
-            self.out.frame = None;
+        if let Phase::Open(ways) = &mut self.phase {
+            self.out.begin_coded(&mut ways.writing);
         }
     }
 

@@ -1,13 +1,21 @@
 //! What is to be written on a connection.
 
-ghost use Rattle.std.specs.Prelude.{◌≡◌, ◌≤◌, [], length, drop, None};
+ghost use Rattle.std.specs.Prelude.{◌≡◌, ◌≤◌, ◌<◌, [], length, drop, None};
+ghost use Rattle.byte_queue.specs.Queued.{Queued};
+ghost use Rattle.peer_codes.specs.declared.key.Key.{Key};
+ghost use Rattle.peer_codes.specs.declared.way.Way.{Way};
+ghost use Rattle.peer_codes.specs.declared.phase.Phase.TheVariants as phases;
 ghost use Rattle.peer_codes.specs.Outgoings.{unwritten, later, with_begun, Put};
+ghost use Rattle.peer_codes.specs.Connections.{begun_on, begun_open};
 
 use crate::beat::Beat;
 use crate::frame::Frame;
 use crate::hello::Hello;
-use crate::limits::MOST_RECORD;
+use crate::kind::Kind;
+use crate::limits::{LAST_NUMBER, MOST_RECORD};
 use crate::records::Proof;
+use crate::way::Way;
+use crate::writing::beat_bytes;
 use arrayvec::ArrayVec;
 
 /// What is to be written on a connection: what is left of the record that was begun, and what waits behind it, none of
@@ -104,5 +112,32 @@ impl Outgoing {
     {
         self.begun = text;
         self.written = 0;
+    }
+
+    /// Codes and begins the beat, or else the frame that waits.
+    fn begin_on(&mut self, way: &mut Way)
+        requires { way.old.number < LAST_NUMBER }
+        ensures { (reading : Way) (key : Key) (came : Queued) → record { key = key; phase = phases.Open (record { reading = reading; writing = way.new }); came = came; out = self.new } ≡ begun_on (record { reading = reading; writing = way.old }) self.old.beat self.old.frame key came self.old }
+    {
+        if let Some(beat) = self.beat {
+            way.cover(Kind::Beat, beat_bytes(&beat).as_slice(), &mut self.begun);
+            self.written = 0;
+            self.beat = None;
+            return;
+        }
+        if let Some(frame) = &self.frame {
+            way.cover(Kind::Frame, frame.bytes.as_slice(), &mut self.begun);
+            self.written = 0;
+            self.frame = None;
+        }
+    }
+
+    /// Codes and begins what waits, while numbers are left.
+    pub(crate) fn begin_coded(&mut self, way: &mut Way)
+        ensures { (reading : Way) (key : Key) (came : Queued) → record { key = key; phase = phases.Open (record { reading = reading; writing = way.new }); came = came; out = self.new } ≡ begun_open (record { reading = reading; writing = way.old }) key came self.old }
+    {
+        if way.has_number() {
+            self.begin_on(way);
+        }
     }
 }
