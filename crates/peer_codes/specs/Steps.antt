@@ -106,6 +106,11 @@ on_record ways kind_of.Beat content = beat_heard ways (length content - CODE_BYT
 on_record ways kind_of.Hello content = closed faults.OutOfTurn
 on_record ways kind_of.Proof content = closed faults.OutOfTurn
 
+-- a connection stays open where something came, and a fault closes it
+abbrev pub staying : Ways → Result Event ConnectionFault → Step
+staying ways (Ok event) = record { phase = phases.Open ways; proof = None; event = Ok event }
+staying ways (Err fault) = closed fault
+
 -- what a record of this kind does
 unfoldable pub stepped : List ℕ → Phase → Kind → List ℕ → Step
 stepped key (phases.Greeting own) kind content = on_greeting key own kind content

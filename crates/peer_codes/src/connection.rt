@@ -18,11 +18,10 @@ use crate::phase::Phase;
 use crate::reading::front_end;
 use crate::records::Record;
 use crate::role::Role;
-use crate::step::{Step, front_step, ways_of};
+use crate::step::{Told, take_front, ways_of};
 use crate::writing::record_bytes;
 use byte_queue::ByteQueue;
 use std::alloc::{AllocError, Global};
-use std::mem;
 
 /// A connection with codes, as a machine without sockets.
 ///
@@ -90,15 +89,9 @@ impl Connection {
         ensures { ReadsOrWaits self.old result self.new }
     {
         let end = front_end(self.came.waiting())?;
-        let phase = mem::replace(&mut self.phase, Phase::Closed(ConnectionFault::OutOfTurn));
-        let step = front_step(&self.key, phase, &self.came.waiting()[..end]);
+        let front = &self.came.waiting()[..end];
+        let Told { proof, event } = take_front(&self.key, &mut self.phase, front);
         self.came.skip(end);
-        let Step {
-            phase,
-            proof,
-            event,
-        } = step;
-        self.phase = phase;
         self.out.say_proof(proof);
         Some(event)
     }

@@ -1,10 +1,10 @@
 //! What a record does to a connection.
 
-ghost use Rattle.std.specs.Prelude.{◌≡◌, ◌-◌, ◌≤◌, length};
+ghost use Rattle.std.specs.Prelude.{◌≡◌, ℕ, List, ◌-◌, ◌≤◌, length};
 ghost use Rattle.peer_codes.specs.declared.kind.Kind.TheVariants as kind_of;
 ghost use Rattle.peer_codes.specs.declared.phase.Phase.TheVariants as phases;
 ghost use Rattle.peer_codes.specs.Codes.{uncovered};
-ghost use Rattle.peer_codes.specs.Steps.{closed, ways_of, only_coded, no_hello, greeted, on_greeting, on_proof, frame_heard, beat_heard, on_record, stepped, front_step};
+ghost use Rattle.peer_codes.specs.Steps.{closed, ways_of, only_coded, no_hello, greeted, on_greeting, on_proof, frame_heard, beat_heard, on_record, staying, stepped, front_step};
 ghost use Rattle.peer_codes.specs.Reading.{hello_of};
 
 use crate::beat_reading::beat_of;
@@ -23,12 +23,20 @@ use crate::phase::{Phase, Ways};
 use crate::reading::kind_in;
 use crate::records::Proof;
 use crate::role::Role;
+use std::mem;
 
 /// What a record does to a connection.
 #[derive(Drop)]
 pub(crate) struct Step {
     pub(crate) phase: Phase,
     /// This side's own proof, where it is to be written from now on.
+    pub(crate) proof: Option<Proof>,
+    pub(crate) event: Result<Event, ConnectionFault>,
+}
+
+/// What a record tells, and this side's own proof, where it is to be written from now on.
+#[derive(Drop)]
+pub(crate) struct Told {
     pub(crate) proof: Option<Proof>,
     pub(crate) event: Result<Event, ConnectionFault>,
 }
@@ -151,63 +159,70 @@ fn on_proof(theirs: Proof, ways: Ways, kind: Kind, content: &[u8]) -> Step
     }
 }
 
-/// The connection stays open, and this came.
-fn heard(ways: Ways, event: Event) -> Step
-    ensures { result ≡ record { phase = phases.Open ways; proof = None; event = Ok event } }
-{
-    Step {
-        phase: Phase::Open(ways),
-        proof: None,
-        event: Ok(event),
-    }
-}
-
 /// A frame came, as far as its code is right.
-fn frame_heard(ways: Ways, content: &[u8]) -> Step
+fn frame_heard(ways: &mut Ways, content: &[u8]) -> Result<Event, ConnectionFault>
     requires { length content.now ≤ MOST_CONTENT }
-    ensures { result ≡ frame_heard ways (length content.now - CODE_BYTES) (uncovered ways.reading kind_of.Frame content.now) }
+    ensures { staying ways.new result ≡ frame_heard ways.old (length content.now - CODE_BYTES) (uncovered ways.old.reading kind_of.Frame content.now) }
 {
-    let Ways {
-        mut reading,
-        writing,
-    } = ways;
-    match reading.uncover(Kind::Frame, content) {
+    match ways.reading.uncover(Kind::Frame, content) {
         Ok(body) => match Frame::of(body) {
-            Some(frame) => heard(Ways { reading, writing }, Event::Frame(frame)),
-            None => closed(ConnectionFault::Record(RecordFault::BadLength)),
+            Some(frame) => Ok(Event::Frame(frame)),
+            None => Err(ConnectionFault::Record(RecordFault::BadLength)),
         },
-        Err(fault) => closed(fault),
+        Err(fault) => Err(fault),
     }
 }
 
 /// A beat came, as far as its code is right.
-fn beat_heard(ways: Ways, content: &[u8]) -> Step
+fn beat_heard(ways: &mut Ways, content: &[u8]) -> Result<Event, ConnectionFault>
     requires { length content.now ≤ MOST_CONTENT }
-    ensures { result ≡ beat_heard ways (length content.now - CODE_BYTES) (uncovered ways.reading kind_of.Beat content.now) }
+    ensures { staying ways.new result ≡ beat_heard ways.old (length content.now - CODE_BYTES) (uncovered ways.old.reading kind_of.Beat content.now) }
 {
-    let Ways {
-        mut reading,
-        writing,
-    } = ways;
-    match reading.uncover(Kind::Beat, content) {
+    match ways.reading.uncover(Kind::Beat, content) {
         Ok(body) => match beat_of(body.as_slice()) {
-            Ok(beat) => heard(Ways { reading, writing }, Event::Beat(beat)),
-            Err(fault) => closed(ConnectionFault::Record(fault)),
+            Ok(beat) => Ok(Event::Beat(beat)),
+            Err(fault) => Err(ConnectionFault::Record(fault)),
         },
-        Err(fault) => closed(fault),
+        Err(fault) => Err(fault),
     }
 }
 
 /// A record came on an open connection.
-fn on_record(ways: Ways, kind: Kind, content: &[u8]) -> Step
+fn on_record(ways: &mut Ways, kind: Kind, content: &[u8]) -> Result<Event, ConnectionFault>
     requires { length content.now ≤ MOST_CONTENT }
-    ensures { result ≡ on_record ways kind content.now }
+    ensures { staying ways.new result ≡ on_record ways.old kind content.now }
 {
     match kind {
         Kind::Frame => frame_heard(ways, content),
         Kind::Beat => beat_heard(ways, content),
-        Kind::Hello => closed(ConnectionFault::OutOfTurn),
-        Kind::Proof => closed(ConnectionFault::OutOfTurn),
+        Kind::Hello => Err(ConnectionFault::OutOfTurn),
+        Kind::Proof => Err(ConnectionFault::OutOfTurn),
+    }
+}
+
+/// What stands in front of the bytes that came does to an open connection; a fault closes it.
+#[tactic(auto, unfolding(crate::specs::Steps::front_step, crate::specs::Steps::stepped))]
+fn open_step(ways: &mut Ways, front: &[u8]) -> Result<Event, ConnectionFault>
+    requires { length front.now ≤ MOST_RECORD }
+    ensures { (key : List ℕ) → staying ways.new result ≡ front_step key (phases.Open ways.old) front.now }
+{
+    match kind_in(front) {
+        Ok(kind) => on_record(ways, kind, &front[5..]),
+        Err(fault) => Err(ConnectionFault::Record(fault)),
+    }
+}
+
+/// The connection stays open where something came, and a fault closes it.
+fn staying(ways: Ways, event: Result<Event, ConnectionFault>) -> Step
+    ensures { result ≡ staying ways event }
+{
+    match event {
+        Ok(event) => Step {
+            phase: Phase::Open(ways),
+            proof: None,
+            event: Ok(event),
+        },
+        Err(fault) => closed(fault),
     }
 }
 
@@ -222,14 +237,17 @@ fn stepped(key: &Key, phase: Phase, kind: Kind, content: &[u8]) -> Step
         Phase::Asked(_) => closed(ConnectionFault::OutOfTurn),
         Phase::Refused => closed(ConnectionFault::Record(RecordFault::BadHello)),
         Phase::Proving(theirs, ways) => on_proof(theirs, ways, kind, content),
-        Phase::Open(ways) => on_record(ways, kind, content),
+        Phase::Open(mut ways) => {
+            let event = on_record(&mut ways, kind, content);
+            staying(ways, event)
+        }
         Phase::Closed(fault) => closed(fault),
     }
 }
 
 /// What stands in front of the bytes that came does.
 #[tactic(auto, unfolding(crate::specs::Steps::front_step))]
-pub(crate) fn front_step(key: &Key, phase: Phase, front: &[u8]) -> Step
+fn front_step(key: &Key, phase: Phase, front: &[u8]) -> Step
     requires { length front.now ≤ MOST_RECORD }
     ensures { result ≡ front_step key.now.bytes phase front.now }
 {
@@ -237,4 +255,34 @@ pub(crate) fn front_step(key: &Key, phase: Phase, front: &[u8]) -> Step
         Ok(kind) => stepped(key, phase, kind, &front[5..]),
         Err(fault) => closed(ConnectionFault::Record(fault)),
     }
+}
+
+/// What stands in front of the bytes that came does to a connection that isn't open yet.
+fn take_step(key: &Key, phase: &mut Phase, front: &[u8]) -> Told
+    requires { length front.now ≤ MOST_RECORD }
+    ensures { record { phase = phase.new; proof = result.proof; event = result.event } ≡ front_step key.now.bytes phase.old front.now }
+{
+    let old = mem::replace(phase, Phase::Closed(ConnectionFault::OutOfTurn));
+    let Step {
+        phase: next,
+        proof,
+        event,
+    } = front_step(key, old, front);
+    *phase = next;
+    Told { proof, event }
+}
+
+/// What stands in front of the bytes that came does to a connection.
+pub(crate) fn take_front(key: &Key, phase: &mut Phase, front: &[u8]) -> Told
+    requires { length front.now ≤ MOST_RECORD }
+    ensures { record { phase = phase.new; proof = result.proof; event = result.event } ≡ front_step key.now.bytes phase.old front.now }
+{
+    let event = match phase {
+        Phase::Open(ways) => open_step(ways, front),
+        _ => return take_step(key, phase, front),
+    };
+    if let Err(fault) = &event {
+        *phase = Phase::Closed(*fault);
+    }
+    Told { proof: None, event }
 }
