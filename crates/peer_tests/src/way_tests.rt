@@ -16,11 +16,11 @@ use std::process::Abort;
 fn covered(way: &mut Way, kind: Kind, body: &[u8]) -> ArrayVec<u8, MOST_RECORD>
     requires { length body.now ≤ 4100 }
 {
+    let mut out = ArrayVec::new();
     if way.has_number() {
-        way.cover(kind, body)
-    } else {
-        ArrayVec::new()
+        way.cover(kind, body, &mut out);
     }
+    out
 }
 
 /// The number of the fault with which this record, without its length and its kind, is refused on a way; 0 where it isn't.
