@@ -1,7 +1,9 @@
 ghost use Rattle.std.specs.Prelude.{◌≡◌, ◌≤◌, ◌<◌, ◌+◌, ◌++◌, [], true, length, drop, OnOk, OnErr};
 ghost use Rattle.peer_codes.specs.declared.limits.TheConstants.{LEAST_FRAME};
 ghost use Rattle.peer_codes.specs.declared.phase.Phase.TheVariants as phases;
-ghost use Rattle.peer_codes.specs.Outgoings.{unwritten, Put};
+ghost use Rattle.peer_codes.specs.declared.records.Record.TheVariants as record_of;
+ghost use Rattle.peer_codes.specs.Spelling.{record_text};
+ghost use Rattle.peer_codes.specs.Outgoings.{unwritten, with_begun, Put};
 ghost use Rattle.peer_codes.specs.Steps.{is_coded};
 ghost use Rattle.peer_codes.specs.Connections.{ReadsOrWaits, Next, answered, begun_coded, begun_first, begun_next};
 
@@ -16,7 +18,7 @@ use crate::key::Key;
 use crate::outgoing::Outgoing;
 use crate::phase::Phase;
 use crate::reading::front_end;
-use crate::records::Record;
+use crate::records::{Proof, Record};
 use crate::role::Role;
 use crate::step::{Told, take_front, ways_of};
 use crate::writing::record_bytes;
@@ -168,18 +170,32 @@ impl Connection {
         }
     }
 
+    /// Begins this side's own Hello.
+    fn begin_hello(&mut self, hello: Hello)
+        ensures { self.new ≡ record self.old { out = with_begun (record_text (record_of.Hello hello)) (record self.old.out { hello = None }) } }
+    {
+        self.out.hello = None;
+        self.out.start(record_bytes(&Record::Hello(hello)));
+    }
+
+    /// Begins this side's own proof.
+    fn begin_proof(&mut self, proof: Proof)
+        ensures { self.new ≡ record self.old { out = with_begun (record_text (record_of.Proof proof)) (record self.old.out { proof = None }) } }
+    {
+        self.out.proof = None;
+        self.out.start(record_bytes(&Record::Proof(proof)));
+    }
+
     /// Begins what is to be said first.
     fn begin_first(&mut self)
         ensures { self.new ≡ begun_first self.old.out.hello self.old.out.proof self.old }
     {
         if let Some(hello) = self.out.hello {
-            self.out.hello = None;
-            self.out.start(record_bytes(&Record::Hello(hello)));
+            self.begin_hello(hello);
             return;
         }
         if let Some(proof) = self.out.proof {
-            self.out.proof = None;
-            self.out.start(record_bytes(&Record::Proof(proof)));
+            self.begin_proof(proof);
             return;
         }
         self.begin_coded();

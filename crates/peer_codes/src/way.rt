@@ -60,19 +60,35 @@ fn mask_by(seal: &mut ChaCha20Rng, bytes: &mut [u8], room: &mut [u8])
     mix(bytes, others);
 }
 
-/// Bytes under a seal, or from under it.
+/// Short bytes under a seal, or from under it.
+fn mask_short(seal: &mut ChaCha20Rng, bytes: &mut [u8])
+    requires { length bytes.old ≤ SHORT }
+    ensures bytes { bytes.new ≡ xored bytes.old (pad (length bytes.old) seal.old).0 }
+    ensures seal { seal.new ≡ (pad (length bytes.old) seal.old).1 }
+{
+    mask_by(seal, bytes, &mut [0; SHORT]);
+}
+
+/// Any bytes of a frame under a seal, or from under it.
+fn mask_long(seal: &mut ChaCha20Rng, bytes: &mut [u8])
+    requires { length bytes.old ≤ MOST_FRAME }
+    ensures bytes { bytes.new ≡ xored bytes.old (pad (length bytes.old) seal.old).0 }
+    ensures seal { seal.new ≡ (pad (length bytes.old) seal.old).1 }
+{
+    mask_by(seal, bytes, &mut [0; MOST_FRAME]);
+}
+
+/// Bytes under a seal, or from under it, without clearing more room than it takes where they are short.
 fn mask(seal: &mut ChaCha20Rng, bytes: &mut [u8])
     requires { length bytes.old ≤ MOST_FRAME }
     ensures bytes { bytes.new ≡ xored bytes.old (pad (length bytes.old) seal.old).0 }
     ensures seal { seal.new ≡ (pad (length bytes.old) seal.old).1 }
 {
     if bytes.len() <= SHORT {
-        let mut room = [0; SHORT];
-        mask_by(seal, bytes, &mut room);
-        return;
+        mask_short(seal, bytes);
+    } else {
+        mask_long(seal, bytes);
     }
-    let mut room = [0; MOST_FRAME];
-    mask_by(seal, bytes, &mut room);
 }
 
 impl Way {
