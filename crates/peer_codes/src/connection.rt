@@ -1,4 +1,4 @@
-ghost use Rattle.std.specs.Prelude.{◌≡◌, ◌≤◌, ◌<◌, ◌+◌, ◌++◌, [], true, length, drop, OnOk, OnErr};
+ghost use Rattle.std.specs.Prelude.{◌≡◌, ◌≤◌, ◌<◌, ◌+◌, ◌++◌, [], true, length, drop, Some, Err, OnOk, OnErr};
 ghost use Rattle.peer_codes.specs.declared.limits.TheConstants.{LEAST_FRAME};
 ghost use Rattle.peer_codes.specs.declared.phase.Phase.TheVariants as phases;
 ghost use Rattle.peer_codes.specs.declared.records.Record.TheVariants as record_of;
@@ -20,7 +20,7 @@ use crate::phase::Phase;
 use crate::reading::front_end;
 use crate::records::{Proof, Record};
 use crate::role::Role;
-use crate::step::{Told, take_front, ways_of};
+use crate::step::{take_front, ways_of};
 use crate::writing::record_bytes;
 use byte_queue::ByteQueue;
 use std::alloc::{AllocError, Global};
@@ -39,6 +39,13 @@ pub struct Connection {
     /// What came and wasn't read yet.
     came: ByteQueue,
     out: Outgoing,
+}
+
+/// The fault that closed the connection, told again.
+fn fault_again(fault: ConnectionFault) -> Option<Result<Event, ConnectionFault>>
+    ensures { result ≡ Some (Err fault) }
+{
+    Some(Err(fault))
 }
 
 impl Connection {
@@ -92,9 +99,8 @@ impl Connection {
     {
         let end = front_end(self.came.waiting())?;
         let front = &self.came.waiting()[..end];
-        let Told { proof, event } = take_front(&self.key, &mut self.phase, front);
+        let event = take_front(&self.key, &mut self.phase, &mut self.out, front);
         self.came.skip(end);
-        self.out.say_proof(proof);
         Some(event)
     }
 
@@ -109,8 +115,8 @@ impl Connection {
     {
         match &self.phase {
             Phase::Asked(_) => None,
-            Phase::Closed(fault) => Some(Err(*fault)),
-            Phase::Refused => Some(Err(ConnectionFault::Record(RecordFault::BadHello))),
+            Phase::Closed(fault) => fault_again(*fault),
+            Phase::Refused => fault_again(ConnectionFault::Record(RecordFault::BadHello)),
             Phase::Greeting(_) => self.read(),
             Phase::Proving(_, _) => self.read(),
             Phase::Open(_) => self.read(),

@@ -24,15 +24,4 @@ impl Frame {
         push_all(&mut kept, bytes);
         Some(Frame { bytes: kept })
     }
-
-    /// A frame of all these bytes; `None` where there are too few.
-    pub(crate) fn of(bytes: ArrayVec<u8, MOST_FRAME>) -> Option<Frame>
-        ensures fits { IsSome result ↔ IsFrame bytes.items }
-        ensures bytes { IfSome result (λ frame. frame.bytes ≡ bytes) }
-    {
-        if bytes.len() < LEAST_FRAME {
-            return None;
-        }
-        Some(Frame { bytes })
-    }
 }

@@ -6,6 +6,7 @@ ghost use Rattle.peer_codes.specs.declared.phase.Phase.TheVariants as phases;
 ghost use Rattle.peer_codes.specs.Codes.{uncovered};
 ghost use Rattle.peer_codes.specs.Steps.{closed, ways_of, only_coded, no_hello, greeted, on_greeting, on_proof, frame_heard, beat_heard, on_record, staying, stepped, front_step};
 ghost use Rattle.peer_codes.specs.Reading.{hello_of};
+ghost use Rattle.peer_codes.specs.Outgoings.{later};
 
 use crate::beat_reading::beat_of;
 use crate::connection_fault::ConnectionFault;
@@ -18,7 +19,8 @@ use crate::hellos::Hellos;
 use crate::hmac::is_same;
 use crate::key::Key;
 use crate::kind::Kind;
-use crate::limits::{CODE_BYTES, MOST_CONTENT, MOST_RECORD};
+use crate::limits::{CODE_BYTES, LEAST_FRAME, MOST_CONTENT, MOST_RECORD};
+use crate::outgoing::Outgoing;
 use crate::phase::{Phase, Ways};
 use crate::reading::kind_in;
 use crate::records::Proof;
@@ -30,13 +32,6 @@ use std::mem;
 pub(crate) struct Step {
     pub(crate) phase: Phase,
     /// This side's own proof, where it is to be written from now on.
-    pub(crate) proof: Option<Proof>,
-    pub(crate) event: Result<Event, ConnectionFault>,
-}
-
-/// What a record tells, and this side's own proof, where it is to be written from now on.
-#[derive(Drop)]
-pub(crate) struct Told {
     pub(crate) proof: Option<Proof>,
     pub(crate) event: Result<Event, ConnectionFault>,
 }
@@ -165,10 +160,12 @@ fn frame_heard(ways: &mut Ways, content: &[u8]) -> Result<Event, ConnectionFault
     ensures { staying ways.new result ≡ frame_heard ways.old (length content.now - CODE_BYTES) (uncovered ways.old.reading kind_of.Frame content.now) }
 {
     match ways.reading.uncover(Kind::Frame, content) {
-        Ok(body) => match Frame::of(body) {
-            Some(frame) => Ok(Event::Frame(frame)),
-            None => Err(ConnectionFault::Record(RecordFault::BadLength)),
-        },
+        Ok(bytes) => {
+            if bytes.len() < LEAST_FRAME {
+                return Err(ConnectionFault::Record(RecordFault::BadLength));
+            }
+            Ok(Event::Frame(Frame { bytes }))
+        }
         Err(fault) => Err(fault),
     }
 }
@@ -258,9 +255,16 @@ fn front_step(key: &Key, phase: Phase, front: &[u8]) -> Step
 }
 
 /// What stands in front of the bytes that came does to a connection that isn't open yet.
-fn take_step(key: &Key, phase: &mut Phase, front: &[u8]) -> Told
+fn take_step(
+    key: &Key,
+    phase: &mut Phase,
+    out: &mut Outgoing,
+    front: &[u8],
+) -> Result<Event, ConnectionFault>
     requires { length front.now ≤ MOST_RECORD }
-    ensures { record { phase = phase.new; proof = result.proof; event = result.event } ≡ front_step key.now.bytes phase.old front.now }
+    ensures phase { phase.new ≡ (front_step key.now.bytes phase.old front.now).phase }
+    ensures event { result ≡ (front_step key.now.bytes phase.old front.now).event }
+    ensures out { out.new ≡ record out.old { proof = later out.old.proof (front_step key.now.bytes phase.old front.now).proof } }
 {
     let old = mem::replace(phase, Phase::Closed(ConnectionFault::OutOfTurn));
     let Step {
@@ -269,20 +273,29 @@ fn take_step(key: &Key, phase: &mut Phase, front: &[u8]) -> Told
         event,
     } = front_step(key, old, front);
     *phase = next;
-    Told { proof, event }
+    out.say_proof(proof);
+    event
 }
 
-/// What stands in front of the bytes that came does to a connection.
-pub(crate) fn take_front(key: &Key, phase: &mut Phase, front: &[u8]) -> Told
+/// What stands in front of the bytes that came does to a connection; this side's own proof is to be written, where it
+/// says so.
+pub(crate) fn take_front(
+    key: &Key,
+    phase: &mut Phase,
+    out: &mut Outgoing,
+    front: &[u8],
+) -> Result<Event, ConnectionFault>
     requires { length front.now ≤ MOST_RECORD }
-    ensures { record { phase = phase.new; proof = result.proof; event = result.event } ≡ front_step key.now.bytes phase.old front.now }
+    ensures phase { phase.new ≡ (front_step key.now.bytes phase.old front.now).phase }
+    ensures event { result ≡ (front_step key.now.bytes phase.old front.now).event }
+    ensures out { out.new ≡ record out.old { proof = later out.old.proof (front_step key.now.bytes phase.old front.now).proof } }
 {
     let event = match phase {
         Phase::Open(ways) => open_step(ways, front),
-        _ => return take_step(key, phase, front),
+        _ => return take_step(key, phase, out, front),
     };
     if let Err(fault) = &event {
         *phase = Phase::Closed(*fault);
     }
-    Told { proof: None, event }
+    event
 }
