@@ -32,7 +32,7 @@ use Rattle.node_links.specs.Pausing.{pause_after}
 use Rattle.node_links.specs.Noting.{fault_place, is_told}
 use Rattle.node_links.specs.Pulses.{wait_of, beat_of, heard_at}
 use Rattle.node_links.specs.Asking.{asked_slot, is_again}
-use Rattle.node_links.specs.Repeating.{accepted_slot, is_due}
+use Rattle.node_links.specs.Repeating.{accepted_slot, ends_block, is_due}
 use Rattle.node_links.specs.Forwarding.{is_forward, forwarded_after, again_in}
 use Rattle.node_links.specs.declared.forwarded.Forwarded.{Forwarded}
 use Rattle.node_links.specs.declared.owed.Question.{Question}
@@ -309,6 +309,19 @@ accepted_at_300 = refl
 
 pub ask-no_accepted : accepted_slot (0 ∷ 0 ∷ 0 ∷ 6 ∷ 2 ∷ 7 ∷ 0 ∷ 0 ∷ 0 ∷ 1 ∷ []) ≡ None
 ask-no_accepted = refl
+
+-- slots 63 and 127 are the last of their blocks, 64 is the first of one
+pub chosen_at_63 : ends_block (0 ∷ 0 ∷ 0 ∷ 7 ∷ 2 ∷ 6 ∷ 0 ∷ 0 ∷ 0 ∷ 63 ∷ 1 ∷ []) ≡ true
+chosen_at_63 = refl
+
+pub chosen_at_127 : ends_block (0 ∷ 0 ∷ 0 ∷ 7 ∷ 2 ∷ 6 ∷ 0 ∷ 0 ∷ 0 ∷ 127 ∷ 1 ∷ []) ≡ true
+chosen_at_127 = refl
+
+pub chosen-first_of_a_block : ends_block (0 ∷ 0 ∷ 0 ∷ 7 ∷ 2 ∷ 6 ∷ 0 ∷ 0 ∷ 0 ∷ 64 ∷ 1 ∷ []) ≡ false
+chosen-first_of_a_block = refl
+
+pub ask-ends_no_block : ends_block (0 ∷ 0 ∷ 0 ∷ 6 ∷ 2 ∷ 7 ∷ 0 ∷ 0 ∷ 0 ∷ 63 ∷ []) ≡ false
+ask-ends_no_block = refl
 
 pub forward_is_one : is_forward (0 ∷ 0 ∷ 0 ∷ 9 ∷ 2 ∷ 8 ∷ 2 ∷ 0 ∷ 0 ∷ 0 ∷ 0 ∷ 0 ∷ 1 ∷ []) ≡ true
 forward_is_one = refl

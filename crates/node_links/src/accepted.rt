@@ -1,9 +1,9 @@
 //! The last Accepted that went to a peer, which is sent again while the peer is behind.
 
 ghost use Rattle.std.specs.Prelude.{◌≡◌, None};
-ghost use Rattle.node_links.specs.Repeating.{accepted_slot, kept_after, slot_in, is_due, copy_of};
+ghost use Rattle.node_links.specs.Repeating.{accepted_slot, ends_block, kept_after, slot_in, is_due, copy_of};
 
-use crate::limits::REPEAT;
+use crate::limits::{BLOCK, REPEAT};
 use arrayvec::ArrayVec;
 use byteorder::{BigEndian, ByteOrder};
 use paxos_wire::push_all;
@@ -11,6 +11,9 @@ use peer_codes::Frame;
 
 /// The byte that tells an Accepted among frames.
 const ACCEPTED: u8 = 5;
+
+/// The byte that tells a Chosen among frames.
+const CHOSEN: u8 = 6;
 
 /// An Accepted that went to a peer.
 #[derive(Drop)]
@@ -37,6 +40,16 @@ fn accepted_slot(frame: &[u8]) -> Option<u32>
         return None;
     }
     Some(BigEndian::read_u32(&frame[11..]))
+}
+
+/// Whether a frame tells what was chosen at the last slot of a block, with which the answer of an Ask ends.
+pub fn ends_block(frame: &[u8]) -> bool
+    ensures { result ≡ ends_block frame.now }
+{
+    if frame.len() < 10 || frame[5] != CHOSEN {
+        return false;
+    }
+    BigEndian::read_u32(&frame[6..]) % BLOCK == BLOCK - 1
 }
 
 /// The same frame once more.

@@ -49,7 +49,7 @@ mod refusals;
 mod stage;
 mod step;
 
-pub use accepted::{Accepted, LastAccepted};
+pub use accepted::{Accepted, LastAccepted, ends_block};
 pub use asked::{Asked, LastAsk};
 pub use coded_connection::CodedConnection;
 pub use connection::Connection;
