@@ -2,8 +2,8 @@
 
 use crate::pair::{SILENCE, Side, take_turns};
 use crate::samples::{
-    ACCEPT, ACCEPTED, ASK_RECORD, FORWARD, HELLO_RECORD, LOW_BEAT_RECORD, TOLD, assert_number,
-    hello,
+    ACCEPT, ACCEPTED, ASK_RECORD, CHOSEN, FORWARD, HELLO_RECORD, LOW_BEAT_RECORD, TOLD,
+    assert_number, hello,
 };
 use node_links::Told;
 use node_wires::Line;
@@ -225,7 +225,8 @@ fn is_owed(side: &Side) -> bool {
     }
 }
 
-/// While a peer tells a lower front the last Accepted goes to it again each 100 ms, and beats each 50 ms.
+/// While a peer tells a lower front the last Accepted goes to it again each 100 ms, and at once behind the end of a block that
+/// it is told; beats go each 50 ms.
 #[test]
 fn the_last_accepted_goes_again_while_the_peer_is_behind(rt: HostRuntime) -> Result<(), Fail> {
     let mut side = node_0(rt.alloc())?;
@@ -239,6 +240,10 @@ fn the_last_accepted_goes_again_while_the_peer_is_behind(rt: HostRuntime) -> Res
     // The Accepted's record of 33.
     assert_number(&rt, said_since(&mut side, 102_000), 33);
     assert_number(&rt, said_since(&mut side, 102_001), 0);
+    // A Chosen's record of 27, and the Accepted's.
+    side.peers.send(1, &CHOSEN, 103_000);
+    assert_number(&rt, said_since(&mut side, 103_000), 60);
+    assert_number(&rt, said_since(&mut side, 103_001), 0);
     Ok(())
 }
 

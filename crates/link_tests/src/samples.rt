@@ -15,6 +15,11 @@ pub(crate) const ACCEPTED: [u8; 28] = [
     0, 0, 0, 24, 2, 5, 0, 0, 0, 1, 1, 0, 0, 0, 0, 1, 2, 0, 0, 0, 0, 0, 0, 0, 0, 0, 0, 0,
 ];
 
+/// The frame of a Chosen of the same at slot 63, the last of its block.
+pub(crate) const CHOSEN: [u8; 22] = [
+    0, 0, 0, 18, 2, 6, 0, 0, 0, 63, 2, 0, 0, 0, 0, 0, 0, 0, 0, 0, 0, 0,
+];
+
 /// The frame of an Accept of the same.
 pub(crate) const ACCEPT: [u8; 28] = [
     0, 0, 0, 24, 2, 4, 0, 0, 0, 1, 1, 0, 0, 0, 0, 1, 2, 0, 0, 0, 0, 0, 0, 0, 0, 0, 0, 0,

@@ -6,7 +6,7 @@ use crate::view::View;
 use node_links::limits::{KEPT, WAITING};
 use node_links::{
     Accepted, Asked, Dial, Forwarded, LinkFault, Notes, Outbox, Owed, Pulse, Question, Told,
-    longer, pause_after,
+    ends_block, longer, pause_after,
 };
 use peer_codes::{Beat, Frame, Life};
 use std::alloc::Global;
@@ -33,6 +33,8 @@ pub(crate) struct Peer {
     pub(crate) outbox: Outbox,
     asked: Asked,
     accepted: Accepted,
+    /// A block of slots was told to its end, and the last Accepted didn't go again behind it.
+    has_told: bool,
     forwarded: Forwarded,
     /// This node's front, as it was told last.
     front: u32,
@@ -55,6 +57,7 @@ impl Peer {
             outbox: Outbox::new(alloc),
             asked: Asked::new(),
             accepted: Accepted::new(),
+            has_told: false,
             forwarded: Forwarded::new(),
             front: 0,
             owed: Owed::new(),
@@ -123,6 +126,7 @@ impl Peer {
             return;
         }
         self.accepted.keep(&frame, now);
+        self.has_told = self.has_told || ends_block(bytes);
         self.forwarded.keep(&frame, now);
         self.owed.asked(bytes);
         let most = if self.open.is_some() { WAITING } else { KEPT };
@@ -185,6 +189,15 @@ impl Peer {
         self.forward_again(now);
     }
 
+    /// Behind a block of slots the last Accepted goes again, so that a peer which is behind asks for the next one: the node
+    /// that it asked before may be lost.
+    fn lead_on(&mut self, front: u32, now: u64) {
+        if self.has_told && self.is_behind(front) {
+            self.repeat(now);
+        }
+        self.has_told = false;
+    }
+
     /// This node's front is told: once it has moved, an act that went on needn't go again.
     fn note_front(&mut self, front: u32) {
         if self.front != front {
@@ -208,6 +221,7 @@ impl Peer {
             let beat = self.pulse.beat(told, now);
             self.outbox.tell(beat);
         }
+        self.lead_on(told.front, now);
         self.say_again(told.front, now);
     }
 
