@@ -85,9 +85,21 @@ impl Peers {
         }
     }
 
-    /// Hears all that came over the line at a place.
-    #[tactic(auto, using(crate::proofs::Growing::grew_on, crate::proofs::Growing::stayed, crate::proofs::Growing::stays_on))]
+    /// Hears all that came over the line at a place, where a connection is there. Most places have none, and what hears takes
+    /// room for a frame at its entry.
+    #[tactic(auto, using(crate::proofs::Growing::stayed))]
     pub(crate) fn hear_at<W: Wire>(&mut self, wire: &mut W, place: usize, now: u64)
+        requires { place < LINKS }
+        ensures { Grew self.old self.new (W.passed wire.old) (W.passed wire.new) }
+    {
+        if self.lines.at(place).is_some() {
+            self.hear_each(wire, place, now);
+        }
+    }
+
+    /// Hears one after another what came over the line at a place.
+    #[tactic(auto, using(crate::proofs::Growing::grew_on, crate::proofs::Growing::stayed, crate::proofs::Growing::stays_on))]
+    fn hear_each<W: Wire>(&mut self, wire: &mut W, place: usize, now: u64)
         requires { place < LINKS }
         ensures { Grew self.old self.new (W.passed wire.old) (W.passed wire.new) }
     {

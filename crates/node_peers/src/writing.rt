@@ -61,13 +61,13 @@ impl Peers {
         true
     }
 
-    /// Writes what waits at a place, and ends the connection where it doesn't go on.
+    /// Writes what waits at a place, where a connection is there, and ends it where it doesn't go on.
     #[tactic(auto, using(crate::proofs::Growing::grew_on, crate::proofs::Growing::stayed, crate::proofs::Growing::stays_on))]
     pub(crate) fn write_or_end<W: Wire>(&mut self, wire: &mut W, place: usize, now: u64)
         requires { place < LINKS }
         ensures { Grew self.old self.new (W.passed wire.old) (W.passed wire.new) }
     {
-        if !self.write(wire, place, now) {
+        if self.lines.at(place).is_some() && !self.write(wire, place, now) {
             self.end(wire, place, now);
         }
     }
