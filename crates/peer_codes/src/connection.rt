@@ -1,4 +1,4 @@
-ghost use Rattle.std.specs.Prelude.{◌≡◌, ◌≤◌, ◌<◌, ◌+◌, ◌++◌, [], true, length, drop, Some, Err, OnOk, OnErr};
+ghost use Rattle.std.specs.Prelude.{◌≡◌, ◌≤◌, ◌<◌, ◌+◌, ◌++◌, ◌==◌, ◌&&◌, [], true, length, drop, is_none, Some, Err, OnOk, OnErr};
 ghost use Rattle.peer_codes.specs.declared.limits.TheConstants.{LEAST_FRAME};
 ghost use Rattle.peer_codes.specs.declared.phase.Phase.TheVariants as phases;
 ghost use Rattle.peer_codes.specs.declared.records.Record.TheVariants as record_of;
@@ -224,6 +224,13 @@ impl Connection {
         ensures { result.now ≡ unwritten self.now.out }
     {
         self.out.unwritten()
+    }
+
+    /// Whether nothing is unfinished, and this side's own Hello doesn't wait: where it has one, that is wholly written.
+    pub fn has_said_hello(&self) -> bool
+        ensures { result ≡ (length (unwritten self.now.out) == 0 && is_none self.now.out.hello) }
+    {
+        self.out.unwritten().is_empty() && self.out.hello.is_none()
     }
 
     /// So many bytes of it are written now.
