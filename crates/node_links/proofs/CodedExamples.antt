@@ -1,5 +1,5 @@
 -- Connections with codes on values: what is judged when, what comes, what waits, and what a frame that is told goes by.
-use Rattle.std.proofs.Common.{◌≡◌, inr, ℕ, ◌+◌, List, [], ◌∷◌, ◌++◌, replicate, true, false, Option, Some, None, Ok, Err, refl, ap, subst}
+use Rattle.std.proofs.Common.{◌≡◌, ℕ, ◌+◌, List, [], ◌∷◌, ◌++◌, length, replicate, true, false, Option, Some, None, Ok, Err, refl, ap, subst}
 use Rattle.paxos_wire.specs.Reading.{ballot_at}
 use Rattle.peer_codes.specs.declared.connection_fault.ConnectionFault.TheVariants as channel_faults
 use Rattle.peer_codes.specs.declared.event.Event.TheVariants as events
@@ -8,15 +8,18 @@ use Rattle.peer_codes.specs.declared.hello.Hello.{Hello}
 use Rattle.peer_codes.specs.declared.hello.Life.{Life}
 use Rattle.peer_codes.specs.declared.hello.Link.TheVariants as links
 use Rattle.peer_codes.specs.declared.key.Key.{Key}
+use Rattle.peer_codes.specs.declared.kind.Kind.{Kind}
 use Rattle.peer_codes.specs.declared.kind.Kind.TheVariants as kind_of
 use Rattle.peer_codes.specs.declared.records.Record.TheVariants as record_of
 use Rattle.peer_codes.specs.declared.role.Role.TheVariants.{Caller, Called}
 use Rattle.peer_codes.specs.declared.way.Way.{Way}
+use Rattle.peer_codes.specs.declared.outgoing.Outgoing.{Outgoing}
 use Rattle.peer_codes.specs.declared.connection.Connection.{Connection as Channel}
-use Rattle.peer_codes.specs.Codes.{after}
 use Rattle.peer_codes.specs.Faults.{kind_in}
 use Rattle.peer_codes.specs.Reading.{hello_of, greeting_at, ends_at, lives_at, life_at, kept_at, promised_at, link_at}
-use Rattle.peer_codes.specs.Spelling.{hello_text, record_text}
+use Rattle.byteorder.specs.Endian.{big_bytes}
+use Rattle.peer_codes.specs.Kinds.{kind_byte}
+use Rattle.peer_codes.specs.Spelling.{enveloped, hello_text, record_text}
 use Rattle.node_links.specs.declared.own.Own.{Own}
 use Rattle.node_links.specs.declared.own.Met.{Met}
 use Rattle.node_links.specs.declared.link_fault.Mismatch.TheVariants.{Digest}
@@ -25,8 +28,8 @@ use Rattle.node_links.specs.declared.link_fault.LinkFault.TheVariants as faults
 use Rattle.node_links.specs.declared.heard.Heard.TheVariants as heards
 use Rattle.node_links.specs.declared.phase.Phase.TheVariants as phases
 use Rattle.node_links.specs.declared.stage.Stage.TheVariants as stages
-use Rattle.node_links.specs.Coding.{coded_step, settled_stage, given, closed}
-use Rattle.node_links.specs.Talks.{Talk, Piece, way_behind, bytes_of, hellos_of, IsOfKind, IsHelloIn, IsBegun, SaysCoded}
+use Rattle.node_links.specs.Coding.{coded_step, settled_stage, has_said_hello, given, closed}
+use Rattle.node_links.specs.Talks.{Piece, way_behind, bytes_of, role_of, hellos_of, IsOfKind, IsHelloIn, IsWritten, SaysCoded}
 use Rattle.node_links.specs.Going.{PlainAt}
 
 -- ---- node 0 of three, and node 1 that dialled it
@@ -140,16 +143,47 @@ called_by_theirs = refl
 pub calls_them : (hellos_of Caller mine theirs).caller ≡ mine
 calls_them = refl
 
--- nothing that was written is a beginning
-pub nothing_written : IsBegun mine []
-nothing_written = inr (record_text (record_of.Hello mine), refl)
+pub who_was_dialled_is_called : role_of None ≡ Called
+who_was_dialled_is_called = refl
+
+pub who_dialled_calls : role_of (Some 1) ≡ Caller
+who_dialled_calls = refl
+
+-- the own Hello is written, and a byte behind it
+pub own_hello_written : IsWritten mine (record_text (record_of.Hello mine) ++ 7 ∷ [])
+own_hello_written = (7 ∷ [], refl)
 
 none_in : (a b : List ℕ) → [] ≡ a ++ b → a ≡ []
 none_in [] b e = refl
 none_in (x ∷ a) b e = absurd cc
 
+never_empty : (a : List ℕ) (x : ℕ) (b : List ℕ) → a ++ (x ∷ b) ≡ [] → ⊥
+never_empty [] x b e = absurd cc
+never_empty (y ∷ a) x b e = absurd cc
+
+never_enveloped : (kind : Kind) (content : List ℕ) → enveloped kind content ≡ [] → ⊥
+unfolding enveloped
+never_enveloped kind content e = never_empty (big_bytes 4 (length content + 1)) (kind_byte kind) content e
+
+-- where nothing was written it isn't
+pub nothing_written : IsWritten mine [] → ⊥
+nothing_written (more, e) = never_enveloped kind_of.Hello (hello_text mine) (none_in (record_text (record_of.Hello mine)) more e)
+
+abbrev left : Option Hello → List ℕ → Outgoing
+left waits begun = record { hello = waits; proof = None; beat = None; frame = None; begun = record { items = begun }; written = 0 }
+
+-- the own Hello waits, or something is unfinished, or neither
+pub hello_waits : has_said_hello (left (Some mine) []) ≡ false
+hello_waits = refl
+
+pub hello_unfinished : has_said_hello (left None (7 ∷ [])) ≡ false
+hello_unfinished = refl
+
+pub hello_said : has_said_hello (left None []) ≡ true
+hello_said = refl
+
 -- where nothing came no frame is told
-pub nothing_told : (wrote : List ℕ) → SaysCoded key own 1 frame (record { came = []; wrote = wrote }) → ⊥
+pub nothing_told : (wrote : List ℕ) → SaysCoded key own 1 frame (record { dialled = None; came = []; wrote = wrote }) → ⊥
 unfolding kind_in
 nothing_told wrote says =
     let none : says.hello ≡ [] = none_in says.hello _ says.text in
@@ -158,9 +192,9 @@ nothing_told wrote says =
 -- ---- without codes
 
 -- before anything was read all that came waits
-pub nothing_read : PlainAt own (1 ∷ 2 ∷ []) (1 ∷ 2 ∷ []) phases.Greeting
+pub nothing_read : PlainAt own None (1 ∷ 2 ∷ []) (1 ∷ 2 ∷ []) phases.Greeting
 nothing_read = refl
 
 -- what came can't have gone
-pub something_gone : PlainAt own (1 ∷ []) [] phases.Greeting → ⊥
+pub something_gone : PlainAt own None (1 ∷ []) [] phases.Greeting → ⊥
 something_gone e = absurd cc

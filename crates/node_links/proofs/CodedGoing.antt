@@ -1,55 +1,46 @@
 -- What calls leave of what a connection with codes goes by.
-use Rattle.std.proofs.Common.{◌≡◌, ◌⊎◌, inl, inr, ℕ, nat_le, ◌==◌, Bool, true, false, if◌then◌else◌, List, [], ◌∷◌, ◌++◌, length, take, drop, append_assoc, append-nil, Option, Some, None, Result, Ok, Err, refl, sym, ap, subst, ◌∙◌}
+use Rattle.std.proofs.Common.{◌≡◌, inl, inr, ℕ, ◌==◌, ◌&&◌, Bool, true, false, List, [], ◌∷◌, ◌++◌, length, drop, append_assoc, append-nil, Option, Some, None, is_none, Result, Ok, Err, refl, sym, ap, subst, ◌∙◌}
 use Rattle.std.proofs.Math.Logic.{∥∥₁_map}
+use Rattle.std.proofs.lemmas.Bool.{eqb-true, and_parts}
 use Rattle.std.proofs.lemmas.List.{take-append-drop}
-use Rattle.peer_codes.specs.declared.limits.TheConstants.{LEAST_FRAME}
 use Rattle.peer_codes.specs.declared.connection_fault.ConnectionFault.{ConnectionFault}
 use Rattle.peer_codes.specs.declared.connection_fault.ConnectionFault.TheVariants as channel_faults
 use Rattle.peer_codes.specs.declared.fault.RecordFault.TheVariants.{BadHello}
 use Rattle.peer_codes.specs.declared.event.Event.{Event}
 use Rattle.peer_codes.specs.declared.event.Event.TheVariants as events
-use Rattle.peer_codes.specs.declared.beat.Beat.{Beat}
 use Rattle.peer_codes.specs.declared.frame.Frame.{Frame}
 use Rattle.peer_codes.specs.declared.hello.Hello.{Hello}
 use Rattle.peer_codes.specs.declared.key.Key.{Key}
 use Rattle.peer_codes.specs.declared.kind.Kind.{Kind}
 use Rattle.peer_codes.specs.declared.kind.Kind.TheVariants as kind_of
 use Rattle.peer_codes.specs.declared.records.Proof.{Proof}
-use Rattle.peer_codes.specs.declared.records.Record.{Record}
-use Rattle.peer_codes.specs.declared.records.Record.TheVariants as record_of
 use Rattle.peer_codes.specs.declared.role.Role.{Role}
-use Rattle.peer_codes.specs.declared.role.Role.TheVariants.{Caller, Called}
 use Rattle.peer_codes.specs.declared.way.Way.{Way}
 use Rattle.peer_codes.specs.declared.phase.Ways.{Ways}
 use Rattle.peer_codes.specs.declared.phase.Phase.{Phase}
 use Rattle.peer_codes.specs.declared.phase.Phase.TheVariants as phases
 use Rattle.peer_codes.specs.declared.outgoing.Outgoing.{Outgoing}
 use Rattle.peer_codes.specs.declared.connection.Connection.{Connection as Channel}
-use Rattle.peer_codes.specs.Beginning.{Begins as ChannelBegins, NothingBegun, TextBegun, HelloBegun, ProofBegun, CodedBegun, BeatBegun, FrameBegun}
-use Rattle.peer_codes.specs.Codes.{after, covered, way_of}
-use Rattle.peer_codes.specs.Connections.{Reads, Next, answered, begun_next}
-use Rattle.peer_codes.specs.Faults.{needed, front, kind_in}
-use Rattle.peer_codes.specs.Histories.{across, IsCoded}
+use Rattle.peer_codes.specs.Beginning.{Begins as ChannelBegins}
+use Rattle.peer_codes.specs.Codes.{after, covered}
+use Rattle.peer_codes.specs.Connections.{Reads, Next, begun_next}
+use Rattle.peer_codes.specs.Faults.{needed, front}
+use Rattle.peer_codes.specs.Histories.{across}
 use Rattle.peer_codes.specs.Outgoings.{unwritten}
 use Rattle.peer_codes.specs.Reading.{hello_of}
-use Rattle.peer_codes.specs.Spelling.{record_text}
-use Rattle.peer_codes.specs.Steps.{only_coded, greeted, front_step, step_by, stepped, proof_of, ways_of, proving}
+use Rattle.peer_codes.specs.Steps.{only_coded, greeted, front_step, step_by, stepped, proof_of, ways_of}
 use Rattle.peer_codes.specs.Telling.{ToldBy, IsGreeting, IsOpened, IsHeard}
 use Rattle.node_links.specs.declared.heard.Heard.{Heard}
 use Rattle.node_links.specs.declared.heard.Heard.TheVariants as heards
 use Rattle.node_links.specs.declared.link_fault.LinkFault.{LinkFault}
 use Rattle.node_links.specs.declared.own.Own.{Own}
-use Rattle.node_links.specs.declared.own.Met.{Met}
 use Rattle.node_links.specs.declared.stage.Stage.{Stage}
 use Rattle.node_links.specs.declared.stage.Stage.TheVariants as stages
 use Rattle.node_links.specs.declared.coded_connection.CodedConnection.{CodedConnection}
 use Rattle.node_links.specs.declared.connection.Connection.TheVariants.{Coded}
-use Rattle.node_links.specs.Coding.{coded_step, settled_stage, matched, taken, peer_at, Hears, HearsOrWaits, NextCoded, given, and_frame, begun_open, begun_by, begun_where, begun_coded}
-use Rattle.node_links.specs.Judging.{judged_match, judged_known}
-use Rattle.node_links.specs.Waits.{Waits}
-use Rattle.node_links.specs.Waiting.{next_of}
-use Rattle.node_links.specs.Talks.{Talk, TakesCoded, Piece, way_behind, AreCodedOn, bytes_of, hellos_of, their_way, their_proof, IsHelloIn, IsOfKind, IsBegun, SaysCoded, SaysBy, Says}
-use Rattle.node_links.specs.Going.{Begins, Greeted, Awaits, Matches, Proved, ProvedBy, CodedAt, CodedOn, CodedGoes, GoesOn, GoesOnWith, GoesOnWritten, Goes, silence, peer_of, TellsFrame}
+use Rattle.node_links.specs.Coding.{coded_step, taken, peer_at, Hears, HearsOrWaits, HearsProof, NextCoded, has_said_hello, given}
+use Rattle.node_links.specs.Talks.{Talk, way_behind, bytes_of, role_of, hellos_of, their_way, IsHelloIn, IsWritten, SaysCoded, SaysBy, Says}
+use Rattle.node_links.specs.Going.{Begins, HasHello, Awaits, Proved, CodedAt, CodedOn, CodedGoes, GoesOn, Goes, peer_of, TellsFrame}
 
 abbrev Told : Type 0
 Told = Result Heard LinkFault
@@ -100,15 +91,15 @@ begins_alike (Some mine) wrote old new left hello proof (coded, inr begun) = (co
 -- ---- one more event
 
 pub on : (own : Own) (talk : Talk) (c : Channel) (stage : Stage) (key : Key) (waiting : List ℕ) (phase : Phase) (mine : Option Hello) → own.key ≡ Some key → c.key ≡ key → c.came.waiting ≡ waiting → c.phase ≡ phase
-    → Begins mine talk.wrote c.out → CodedAt own talk.came key waiting phase mine stage → CodedOn own talk c stage
+    → Begins mine talk.wrote c.out → CodedAt own talk key waiting phase mine stage → CodedOn own talk c stage
 on own talk c stage key waiting phase mine own_key key_is waiting_is phase_is begins at = record {
   key = own_key ∙ ap (λ (k : Key). Some k) (sym key_is);
   mine = mine;
   begins = begins;
   at =
-      subst (λ (k : Key). CodedAt own talk.came k c.came.waiting c.phase mine stage) (sym key_is)
-      (subst (λ (w : List ℕ). CodedAt own talk.came key w c.phase mine stage) (sym waiting_is)
-      (subst (λ (p : Phase). CodedAt own talk.came key waiting p mine stage) (sym phase_is) at));
+      subst (λ (k : Key). CodedAt own talk k c.came.waiting c.phase mine stage) (sym key_is)
+      (subst (λ (w : List ℕ). CodedAt own talk key w c.phase mine stage) (sym waiting_is)
+      (subst (λ (p : Phase). CodedAt own talk key waiting p mine stage) (sym phase_is) at));
 }
 
 step_behind : (key : List ℕ) (mine : Option Hello) (bytes : List ℕ) (hello : Hello) → IsHelloIn hello bytes → (front_step key (phases.Greeting mine) bytes).phase ≡ (greeted key mine (Some hello)).phase
@@ -117,9 +108,11 @@ step_behind key mine bytes hello is =
     ap (λ (k : Result Kind _). (step_by key (phases.Greeting mine) k (drop 5 bytes)).phase) is.0 ∙ ap (λ (h : Option Hello). (greeted key mine h).phase) is.1
 
 -- the phase behind the other's Hello
-greeted_awaits : (key : Key) (mine : Option Hello) (theirs : Hello) → Awaits key mine theirs (greeted key.bytes mine (Some theirs)).phase
-greeted_awaits key None theirs = refl
-greeted_awaits key (Some mine) theirs = (Caller, refl)
+greeted_awaits : (key : Key) (dialled : Option ℕ) (mine : Option Hello) (theirs : Hello) → HasHello dialled mine → Awaits key dialled mine theirs (greeted key.bytes mine (Some theirs)).phase
+greeted_awaits key None None theirs has = (refl, refl)
+greeted_awaits key None (Some mine) theirs has = absurd cc
+greeted_awaits key (Some number) None theirs has = absurd has
+greeted_awaits key (Some number) (Some mine) theirs has = refl
 
 mine_is : (a b : Option Hello) → phases.Greeting a ≡ phases.Greeting b → a ≡ b
 mine_is a b e = cc
@@ -138,7 +131,7 @@ greets own talk old new theirs reads is goes =
     on own talk new (stages.Asked theirs) old.key new.came.waiting (greeted old.key.bytes goes.mine (Some theirs)).phase goes.mine goes.key (key_kept old new _ reads) refl phase_is
     (begins_alike goes.mine talk.wrote old.out new.out (ap (λ (o : Outgoing). unwritten o) is.out) (ap (λ (o : Outgoing). o.hello) is.out)
     (λ none. ap (λ (o : Outgoing). o.proof) is.out ∙ own_proof_none old.key.bytes is.own goes.mine theirs old.out.proof same none) goes.begins)
-    (record { hello = bytes; is = hello_is; text = goes.at.0 ∙ front_taken old new _ reads }, greeted_awaits old.key goes.mine theirs)
+    (record { hello = bytes; is = hello_is; text = goes.at.0 ∙ front_taken old new _ reads }, greeted_awaits old.key talk.dialled goes.mine theirs goes.at.2)
 
 theirs_is : (a b : Proof) (v w : Ways) → phases.Proving a v ≡ phases.Proving b w → a ≡ b
 theirs_is a b v w e = cc
@@ -155,18 +148,49 @@ hello_kept old new event reads = ap (λ (c : Channel). c.out.hello) reads.others
 begins_on : (own : Own) (mine : Hello) (wrote : List ℕ) (old new : Channel) (event : Event) → Reads old new (Ok event) → Begins (Some mine) wrote old.out → Begins (Some mine) wrote new.out
 begins_on own mine wrote old new event reads begins = begins_alike (Some mine) wrote old.out new.out (out_kept old new event reads) (hello_kept old new event reads) (λ e. absurd cc) begins
 
+-- ---- the own Hello is written
+
+no_bytes : (t : List ℕ) → length t ≡ 0 → t ≡ []
+no_bytes [] e = refl
+no_bytes (x ∷ t) e = absurd cc
+
+-- what was written is all where nothing is unfinished
+pub all_written : (wrote left text : List ℕ) → length left ≡ 0 → wrote ++ left ≡ text → wrote ≡ text
+all_written wrote left text none e = sym (append-nil wrote) ∙ (ap (λ (t : List ℕ). wrote ++ t) (sym (no_bytes left none)) ∙ e)
+
+first_written : (mine : Hello) (wrote : List ℕ) (out : Outgoing) → length (unwritten out) ≡ 0 → out.hello ≡ None → Begins (Some mine) wrote out → IsWritten mine wrote
+first_written mine wrote out finished none (coded, inl waits) = let e : Some mine ≡ None = sym waits.1 ∙ none in absurd cc
+first_written mine wrote out finished none (coded, inr begun) = (begun.1.0, all_written wrote (unwritten out) _ finished begun.1.1)
+
+finished_by : (count : ℕ) (hello : Option Hello) → (count == 0 && is_none hello) ≡ true → (count ≡ 0) × (hello ≡ None)
+finished_by count None e = (eqb-true count 0 (and_parts (count == 0) true e).0, refl)
+finished_by count (Some hello) e = let no : false ≡ true = (and_parts (count == 0) false e).1 in absurd cc
+
+is_written : (mine : Hello) (wrote : List ℕ) (out : Outgoing) → has_said_hello out ≡ true → Begins (Some mine) wrote out → IsWritten mine wrote
+is_written mine wrote out said begins = let both = finished_by (length (unwritten out)) out.hello said in first_written mine wrote out both.0 both.1 begins
+
+-- it is before the other's proof is read
+abbrev MayRead : Stage → Outgoing → Type 0
+MayRead (stages.Matched theirs) out = has_said_hello out ≡ true
+MayRead stages.Greeting out = Unit {0}
+MayRead (stages.Asked theirs) out = Unit {0}
+MayRead (stages.Proved theirs) out = Unit {0}
+MayRead (stages.Open theirs) out = Unit {0}
+MayRead (stages.Closed fault) out = Unit {0}
+
 -- the other's proof came
-opens : (own : Own) (talk : Talk) (old new : Channel) (theirs : Hello) (mine : Option Hello) → Reads old new (Ok events.Opened) → IsOpened old new → own.key ≡ Some old.key → Begins mine talk.wrote old.out
-    → CodedAt own talk.came old.key old.came.waiting old.phase mine (stages.Matched theirs) → CodedOn own talk new (stages.Proved theirs)
-opens own talk old new theirs None reads is key begins (matches, greeted, awaits) = let e : phases.Proving is.theirs is.ways ≡ phases.Asked theirs = sym is.awaited ∙ awaits in absurd cc
-opens own talk old new theirs (Some mine) reads is key begins (matches, greeted, (role, awaits)) =
+opens : (own : Own) (talk : Talk) (old new : Channel) (theirs : Hello) (mine : Option Hello) → Reads old new (Ok events.Opened) → IsOpened old new → has_said_hello old.out ≡ true → own.key ≡ Some old.key → Begins mine talk.wrote old.out
+    → CodedAt own talk old.key old.came.waiting old.phase mine (stages.Matched theirs) → CodedOn own talk new (stages.Proved theirs)
+opens own talk old new theirs None reads is said key begins (matches, greeted, awaits) = let e : phases.Proving is.theirs is.ways ≡ phases.Asked theirs = sym is.awaited ∙ awaits.1 in absurd cc
+opens own talk old new theirs (Some mine) reads is said key begins (matches, greeted, awaits) =
+    let role : Role = role_of talk.dialled in
     let both = sym is.awaited ∙ awaits in
     let proof : is.theirs ≡ proof_of old.key.bytes (across role) (hellos_of role mine theirs) = theirs_is _ _ _ _ both in
     let ways : is.ways ≡ ways_of old.key.bytes role (across role) (hellos_of role mine theirs) = ways_is _ _ _ _ both in
     on own talk new (stages.Proved theirs) old.key new.came.waiting new.phase (Some mine) key (key_kept old new _ reads) refl refl (begins_on own mine talk.wrote old new events.Opened reads begins) (
       matches,
       record {
-        role = role;
+        first = is_written mine talk.wrote old.out said begins;
         ways = is.ways;
         open_is = is.opens;
         hello = greeted.hello;
@@ -184,13 +208,13 @@ open_ways : (v w : Ways) → phases.Open v ≡ phases.Open w → v ≡ w
 open_ways v w e = cc
 
 -- a coded record came
-pieces : (key : Key) (mine theirs : Hello) (came : List ℕ) (old new : Channel) (kind : Kind) (body : List ℕ) → old.came.waiting ≡ front old.came.waiting ++ new.came.waiting → IsHeard kind body old new
-    → Proved key mine theirs came old.came.waiting old.phase → Proved key mine theirs came new.came.waiting new.phase
-pieces key mine theirs came old new kind body taken is at =
+pieces : (key : Key) (role : Role) (mine theirs : Hello) (wrote came : List ℕ) (old new : Channel) (kind : Kind) (body : List ℕ) → old.came.waiting ≡ front old.came.waiting ++ new.came.waiting → IsHeard kind body old new
+    → Proved key role mine theirs wrote came old.came.waiting old.phase → Proved key role mine theirs wrote came new.came.waiting new.phase
+pieces key role mine theirs wrote came old new kind body taken is at =
     let same : is.ways ≡ at.ways = open_ways is.ways at.ways (sym is.open_was ∙ at.open_is) in
-    let here : is.ways.reading ≡ way_behind (their_way key at.role mine theirs) at.said = ap (λ (w : Ways). w.reading) same ∙ at.reading in
+    let here : is.ways.reading ≡ way_behind (their_way key role mine theirs) at.said = ap (λ (w : Ways). w.reading) same ∙ at.reading in
     record {
-      role = at.role;
+      first = at.first;
       ways = record { reading = after is.ways.reading (length body); writing = is.ways.writing };
       open_is = is.goes_on;
       hello = at.hello;
@@ -205,32 +229,33 @@ pieces key mine theirs came old new kind body taken is at =
     }
 
 hears : (own : Own) (talk : Talk) (old new : Channel) (theirs : Hello) (event : Event) (kind : Kind) (body : List ℕ) (mine : Option Hello) → Reads old new (Ok event) → IsHeard kind body old new → own.key ≡ Some old.key
-    → Begins mine talk.wrote old.out → CodedAt own talk.came old.key old.came.waiting old.phase mine (stages.Open theirs) → CodedOn own talk new (stages.Open theirs)
+    → Begins mine talk.wrote old.out → CodedAt own talk old.key old.came.waiting old.phase mine (stages.Open theirs) → CodedOn own talk new (stages.Open theirs)
 hears own talk old new theirs event kind body None reads is key begins at = absurd at.1
 hears own talk old new theirs event kind body (Some mine) reads is key begins at =
     on own talk new (stages.Open theirs) old.key new.came.waiting new.phase (Some mine) key (key_kept old new _ reads) refl refl (begins_on own mine talk.wrote old new event reads begins)
-    (at.0, pieces old.key mine theirs talk.came old new kind body (front_taken old new _ reads) is at.1)
+    (at.0, pieces old.key (role_of talk.dialled) mine theirs talk.wrote talk.came old new kind body (front_taken old new _ reads) is at.1)
 
-event_goes : (own : Own) (talk : Talk) (old new : Channel) (stage : Stage) (event : Event) → Reads old new (Ok event) → ToldBy event old new → CodedGoes own talk old stage → CodedGoes own talk new (coded_step stage (Ok event)).stage
-event_goes own talk old new stages.Greeting (events.Greeted theirs) reads is goes = greets own talk old new theirs reads is goes
-event_goes own talk old new stages.Greeting events.Opened reads is goes = tt
-event_goes own talk old new stages.Greeting (events.Frame frame) reads is goes = tt
-event_goes own talk old new stages.Greeting (events.Beat beat) reads is goes = tt
-event_goes own talk old new (stages.Asked theirs) event reads is goes = tt
-event_goes own talk old new (stages.Matched theirs) (events.Greeted other) reads is goes = tt
-event_goes own talk old new (stages.Matched theirs) events.Opened reads is goes = opens own talk old new theirs goes.mine reads is goes.key goes.begins goes.at
-event_goes own talk old new (stages.Matched theirs) (events.Frame frame) reads is goes = tt
-event_goes own talk old new (stages.Matched theirs) (events.Beat beat) reads is goes = tt
-event_goes own talk old new (stages.Proved theirs) event reads is goes = tt
-event_goes own talk old new (stages.Open theirs) (events.Greeted other) reads is goes = tt
-event_goes own talk old new (stages.Open theirs) events.Opened reads is goes = tt
-event_goes own talk old new (stages.Open theirs) (events.Frame frame) reads is goes = hears own talk old new theirs (events.Frame frame) kind_of.Frame frame.bytes.items goes.mine reads is goes.key goes.begins goes.at
-event_goes own talk old new (stages.Open theirs) (events.Beat beat) reads (body, reading, is) goes = hears own talk old new theirs (events.Beat beat) kind_of.Beat body goes.mine reads is goes.key goes.begins goes.at
-event_goes own talk old new (stages.Closed fault) event reads is goes = tt
+event_goes : (own : Own) (talk : Talk) (old new : Channel) (stage : Stage) (event : Event) → Reads old new (Ok event) → ToldBy event old new → MayRead stage old.out → CodedGoes own talk old stage → CodedGoes own talk new (coded_step stage (Ok event)).stage
+event_goes own talk old new stages.Greeting (events.Greeted theirs) reads is may goes = greets own talk old new theirs reads is goes
+event_goes own talk old new stages.Greeting events.Opened reads is may goes = tt
+event_goes own talk old new stages.Greeting (events.Frame frame) reads is may goes = tt
+event_goes own talk old new stages.Greeting (events.Beat beat) reads is may goes = tt
+event_goes own talk old new (stages.Asked theirs) event reads is may goes = tt
+event_goes own talk old new (stages.Matched theirs) (events.Greeted other) reads is may goes = tt
+event_goes own talk old new (stages.Matched theirs) events.Opened reads is may goes = opens own talk old new theirs goes.mine reads is may goes.key goes.begins goes.at
+event_goes own talk old new (stages.Matched theirs) (events.Frame frame) reads is may goes = tt
+event_goes own talk old new (stages.Matched theirs) (events.Beat beat) reads is may goes = tt
+event_goes own talk old new (stages.Proved theirs) event reads is may goes = tt
+event_goes own talk old new (stages.Open theirs) (events.Greeted other) reads is may goes = tt
+event_goes own talk old new (stages.Open theirs) events.Opened reads is may goes = tt
+event_goes own talk old new (stages.Open theirs) (events.Frame frame) reads is may goes = hears own talk old new theirs (events.Frame frame) kind_of.Frame frame.bytes.items goes.mine reads is goes.key goes.begins goes.at
+event_goes own talk old new (stages.Open theirs) (events.Beat beat) reads (body, reading, is) may goes = hears own talk old new theirs (events.Beat beat) kind_of.Beat body goes.mine reads is goes.key goes.begins goes.at
+event_goes own talk old new (stages.Closed fault) event reads is may goes = tt
 
-came_goes : (stands : Stands) (own : Own) (talk : Talk) (old new : Channel) (stage : Stage) (came : Came) → Next old.phase old (Some came) new → CodedGoes own talk old stage → CodedGoes own talk new (coded_step stage came).stage
-came_goes stands own talk old new stage (Err fault) next goes = tt
-came_goes stands own talk old new stage (Ok event) next goes = event_goes own talk old new stage event (read_of old new event next) (stands old new event next) goes
+came_goes : (stands : Stands) (own : Own) (talk : Talk) (old new : Channel) (stage : Stage) (came : Came) → Next old.phase old (Some came) new → MayRead stage old.out → CodedGoes own talk old stage
+    → CodedGoes own talk new (coded_step stage came).stage
+came_goes stands own talk old new stage (Err fault) next may goes = tt
+came_goes stands own talk old new stage (Ok event) next may goes = event_goes own talk old new stage event (read_of old new event next) (stands old new event next) may goes
 
 -- ---- a call of `next`
 
@@ -244,66 +269,47 @@ parts_goes : (own : Own) (talk : Talk) (old new : CodedConnection) → new.chann
 parts_goes own talk old new channel stage goes =
     subst (λ (s : Stage). CodedGoes own talk new.channel s) (sym stage) (subst (λ (c : Channel). CodedGoes own talk c old.stage) (sym channel) goes)
 
-hears_goes : (stands : Stands) (own : Own) (talk : Talk) (old new : CodedConnection) (told : Told) → Hears old new told → GoesOf own talk old → GoesOf own talk new
-hears_goes stands own talk old new told hears goes =
-    subst (λ (s : Stage). CodedGoes own talk new.channel s) (sym hears.stage) (came_goes stands own talk old.channel new.channel old.stage hears.came hears.next goes)
+hears_goes : (stands : Stands) (own : Own) (talk : Talk) (old new : CodedConnection) (told : Told) → Hears old new told → MayRead old.stage old.channel.out → GoesOf own talk old → GoesOf own talk new
+hears_goes stands own talk old new told hears may goes =
+    subst (λ (s : Stage). CodedGoes own talk new.channel s) (sym hears.stage) (came_goes stands own talk old.channel new.channel old.stage hears.came hears.next may goes)
 
 -- where it tells nothing the channel stays
 abbrev pub WaitsEach : Type 0
 WaitsEach = (old new : Channel) → Next old.phase old None new → new ≡ old
 
-waits_goes : (stands : Stands) (waits : WaitsEach) (own : Own) (talk : Talk) (old new : CodedConnection) (result : Option Told) → HearsOrWaits old result new → GoesOf own talk old → GoesOf own talk new
-waits_goes stands waits own talk old new None (next, stage) goes = parts_goes own talk old new (waits old.channel new.channel next) stage goes
-waits_goes stands waits own talk old new (Some told) hears goes = hears_goes stands own talk old new told hears goes
+waits_goes : (stands : Stands) (waits : WaitsEach) (own : Own) (talk : Talk) (stage : Stage) (old new : CodedConnection) (result : Option Told) → old.stage ≡ stage → HearsOrWaits old result new → MayRead stage old.channel.out
+    → GoesOf own talk old → GoesOf own talk new
+waits_goes stands waits own talk stage old new None same (next, stays) may goes = parts_goes own talk old new (waits old.channel new.channel next) stays goes
+waits_goes stands waits own talk stage old new (Some told) same hears may goes = hears_goes stands own talk old new told hears (subst (λ (s : Stage). MayRead s old.channel.out) (sym same) may) goes
 
-next_goes : (stands : Stands) (waits : WaitsEach) (own : Own) (talk : Talk) (stage : Stage) (old new : CodedConnection) (result : Option Told) → NextCoded stage old result new → GoesOf own talk old → GoesOf own talk new
-next_goes stands waits own talk (stages.Asked hello) old new result next goes = same_goes own talk old new next.1 goes
-next_goes stands waits own talk (stages.Proved hello) old new result next goes = same_goes own talk old new next.1 goes
-next_goes stands waits own talk (stages.Closed fault) old new result next goes = same_goes own talk old new next.1 goes
-next_goes stands waits own talk stages.Greeting old new result next goes = waits_goes stands waits own talk old new result next goes
-next_goes stands waits own talk (stages.Matched hello) old new result next goes = waits_goes stands waits own talk old new result next goes
-next_goes stands waits own talk (stages.Open hello) old new result next goes = waits_goes stands waits own talk old new result next goes
+proof_goes : (stands : Stands) (waits : WaitsEach) (own : Own) (talk : Talk) (theirs : Hello) (said : Bool) (old new : CodedConnection) (result : Option Told) → old.stage ≡ stages.Matched theirs → has_said_hello old.channel.out ≡ said
+    → HearsProof said old result new → GoesOf own talk old → GoesOf own talk new
+proof_goes stands waits own talk theirs true old new result same said next goes = waits_goes stands waits own talk (stages.Matched theirs) old new result same next said goes
+proof_goes stands waits own talk theirs false old new result same said next goes = same_goes own talk old new next.1 goes
+
+next_goes : (stands : Stands) (waits : WaitsEach) (own : Own) (talk : Talk) (stage : Stage) (old new : CodedConnection) (result : Option Told) → old.stage ≡ stage → NextCoded stage old result new → GoesOf own talk old → GoesOf own talk new
+next_goes stands waits own talk (stages.Asked hello) old new result same next goes = same_goes own talk old new next.1 goes
+next_goes stands waits own talk (stages.Proved hello) old new result same next goes = same_goes own talk old new next.1 goes
+next_goes stands waits own talk (stages.Closed fault) old new result same next goes = same_goes own talk old new next.1 goes
+next_goes stands waits own talk stages.Greeting old new result same next goes = waits_goes stands waits own talk stages.Greeting old new result same next tt goes
+next_goes stands waits own talk (stages.Matched hello) old new result same next goes = proof_goes stands waits own talk hello (has_said_hello old.channel.out) old new result same refl next goes
+next_goes stands waits own talk (stages.Open hello) old new result same next goes = waits_goes stands waits own talk (stages.Open hello) old new result same next tt goes
 
 pub coded_nexts : (stands : Stands) (waits : WaitsEach) (old new : CodedConnection) (result : Option Told) → NextCoded old.stage old result new → GoesOn (Coded old) (Coded new)
-coded_nexts stands waits old new result next own talk goes = ∥∥₁_map goes (λ g. next_goes stands waits own talk old.stage old new result next g)
+coded_nexts stands waits old new result next own talk goes = ∥∥₁_map goes (λ g. next_goes stands waits own talk old.stage old new result refl next g)
 
 -- ---- a frame that is told
 
-head_is : (x y : ℕ) (a b : List ℕ) → x ∷ a ≡ y ∷ b → x ≡ y
-head_is x y a b e = cc
-
-tail_is : (x y : ℕ) (a b : List ℕ) → x ∷ a ≡ y ∷ b → a ≡ b
-tail_is x y a b e = cc
-
-prefix_behind : (x y : ℕ) (a c : List ℕ) → x ≡ y → ((more : List ℕ) × (a ≡ c ++ more)) ⊎ ((more : List ℕ) × (c ≡ a ++ more)) → ((more : List ℕ) × (x ∷ a ≡ (y ∷ c) ++ more)) ⊎ ((more : List ℕ) × (y ∷ c ≡ (x ∷ a) ++ more))
-prefix_behind x y a c e (inl (more, is)) = inl (more, ap (λ (n : ℕ). n ∷ a) e ∙ ap (λ (t : List ℕ). y ∷ t) is)
-prefix_behind x y a c e (inr (more, is)) = inr (more, ap (λ (n : ℕ). n ∷ c) (sym e) ∙ ap (λ (t : List ℕ). x ∷ t) is)
-
-none_in : (a b : List ℕ) → a ++ b ≡ [] → a ≡ []
-none_in [] b e = refl
-none_in (x ∷ a) b e = absurd cc
-
--- of two ways to cut a list the first pieces go on from one another
-prefix : (a b c d : List ℕ) → a ++ b ≡ c ++ d → ((more : List ℕ) × (a ≡ c ++ more)) ⊎ ((more : List ℕ) × (c ≡ a ++ more))
-prefix [] b c d e = inr (c, refl)
-prefix (x ∷ a) b [] d e = inl (x ∷ a, refl)
-prefix (x ∷ a) b (y ∷ c) d e = prefix_behind x y a c (head_is x y (a ++ b) (c ++ d) e) (prefix a b c d (tail_is x y (a ++ b) (c ++ d) e))
-
-pub begun_first : (mine : Hello) (wrote : List ℕ) (out : Outgoing) → Begins (Some mine) wrote out → IsBegun mine wrote
-begun_first mine wrote out (coded, inl waits) = inr (record_text (record_of.Hello mine), ap (λ (t : List ℕ). t ++ record_text (record_of.Hello mine)) (sym (none_in wrote (unwritten out) waits.0)))
-begun_first mine wrote out (coded, inr begun) = prefix wrote (unwritten out) (record_text (record_of.Hello mine)) begun.1.0 begun.1.1
-
 frame_came : (own : Own) (talk : Talk) (old new : Channel) (theirs : Hello) (frame : Frame) (from : ℕ) (mine : Option Hello) → Reads old new (Ok (events.Frame frame)) → IsHeard kind_of.Frame frame.bytes.items old new → theirs.ends.from ≡ from
-    → Begins mine talk.wrote old.out → CodedAt own talk.came old.key old.came.waiting old.phase mine (stages.Open theirs) → SaysCoded old.key own from frame talk
+    → Begins mine talk.wrote old.out → CodedAt own talk old.key old.came.waiting old.phase mine (stages.Open theirs) → SaysCoded old.key own from frame talk
 frame_came own talk old new theirs frame from None reads is from_is begins at = absurd at.1
 frame_came own talk old new theirs frame from (Some mine) reads is from_is begins (takes, at) =
     let same : is.ways ≡ at.ways = open_ways is.ways at.ways (sym is.open_was ∙ at.open_is) in
-    let here : is.ways.reading ≡ way_behind (their_way old.key at.role mine theirs) at.said = ap (λ (w : Ways). w.reading) same ∙ at.reading in
+    let here : is.ways.reading ≡ way_behind (their_way old.key (role_of talk.dialled) mine theirs) at.said = ap (λ (w : Ways). w.reading) same ∙ at.reading in
     record {
-      role = at.role;
       mine = mine;
       nonce = begins.0;
-      first = begun_first mine talk.wrote old.out begins;
+      first = at.first;
       theirs = theirs;
       from_is = from_is;
       takes = takes;
@@ -364,13 +370,18 @@ none_told told e = absurd cc
 fault_told : (frame : Frame) (fault : LinkFault) → ◌≡◌ {A = Option Told} (Some (Ok (heards.Frame frame))) (Some (Err fault)) → ⊥
 fault_told frame fault e = absurd cc
 
+proof_says : (stands : Stands) (own : Own) (talk : Talk) (said : Bool) (old new : CodedConnection) (frame : Frame) (from : ℕ) → HearsProof said old (Some (Ok (heards.Frame frame))) new → peer_at new.stage ≡ Some from → GoesOf own talk old
+    → Says own from frame talk
+proof_says stands own talk true old new frame from next peer goes = hears_says stands own talk old new frame from next peer goes
+proof_says stands own talk false old new frame from next peer goes = absurd (none_told (Ok (heards.Frame frame)) next.0)
+
 next_says : (stands : Stands) (own : Own) (talk : Talk) (stage : Stage) (old new : CodedConnection) (frame : Frame) (from : ℕ) → NextCoded stage old (Some (Ok (heards.Frame frame))) new → peer_at new.stage ≡ Some from → GoesOf own talk old
     → Says own from frame talk
 next_says stands own talk (stages.Asked hello) old new frame from next peer goes = absurd (none_told (Ok (heards.Frame frame)) next.0)
 next_says stands own talk (stages.Proved hello) old new frame from next peer goes = absurd (none_told (Ok (heards.Frame frame)) next.0)
 next_says stands own talk (stages.Closed fault) old new frame from next peer goes = absurd (fault_told frame fault next.0)
 next_says stands own talk stages.Greeting old new frame from next peer goes = hears_says stands own talk old new frame from next peer goes
-next_says stands own talk (stages.Matched hello) old new frame from next peer goes = hears_says stands own talk old new frame from next peer goes
+next_says stands own talk (stages.Matched hello) old new frame from next peer goes = proof_says stands own talk (has_said_hello old.channel.out) old new frame from next peer goes
 next_says stands own talk (stages.Open hello) old new frame from next peer goes = hears_says stands own talk old new frame from next peer goes
 
 coded_tells : (stands : Stands) (old new : CodedConnection) (frame : Frame) → NextCoded old.stage old (Some (Ok (heards.Frame frame))) new → (own : Own) (talk : Talk) (from : ℕ) → Goes own talk (Coded old)

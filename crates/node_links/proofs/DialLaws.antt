@@ -1,12 +1,11 @@
 -- When something is due of a connection that is dialled.
-use Rattle.std.proofs.Common.{◌≡◌, ℕ, ◌+◌, ◌-◌, ◌<◌, ◌≤◌, Bool, true, false, cond, leb, Option, Some, None, refl, ap, subst, arith}
+use Rattle.std.proofs.Common.{◌≡◌, ℕ, ◌+◌, ◌-◌, ◌<◌, ◌≤◌, Bool, true, false, cond, leb, Some, refl, ap, subst, arith}
 use Rattle.std.proofs.lemmas.Bool.{leb-true, leb-false, le-leb, lt-leb}
 use Rattle.node_links.specs.declared.limits.TheConstants.{CONNECT, GREET, REDIAL}
-use Rattle.node_links.specs.declared.dial.Dial.{Dial}
 use Rattle.node_links.specs.declared.dial.Dial.TheVariants as dials
 use Rattle.node_links.specs.declared.dial.DialDue.{DialDue}
 use Rattle.node_links.specs.declared.dial.DialDue.TheVariants as dues
-use Rattle.node_links.specs.Dialling.{after_pause, due_of, ended_dial, since_of, is_open, IsDue, WaitsEnd, DialsAreApart, PausesAreKept}
+use Rattle.node_links.specs.Dialling.{after_pause, due_of, IsDue, WaitsEnd, DialsAreApart, PausesAreKept}
 
 -- nothing is due that is to wait
 nothing_due : (what : DialDue) (wait : ℕ) → what ≡ dues.Nothing wait → IsDue what → ⊥

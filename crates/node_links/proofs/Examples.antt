@@ -25,7 +25,7 @@ use Rattle.node_links.specs.Lines.{link_fault_code, link_fault_line}
 use Rattle.node_links.specs.Judging.{is_awaited, judged}
 use Rattle.node_links.specs.Steps.{closed, stepped, settled}
 use Rattle.node_links.specs.Waits.{Waits}
-use Rattle.node_links.specs.Waiting.{newest, next_of, rest_of}
+use Rattle.node_links.specs.Waiting.{newest, has_next, next_of, rest_of}
 use Rattle.node_links.specs.Connections.{Next, begun_next}
 use Rattle.node_links.specs.Dialling.{due_of, answered_dial, opened_dial, ended_dial}
 use Rattle.node_links.specs.Pausing.{pause_after}
@@ -163,6 +163,12 @@ waits = record { beat = Some beat; frames = frame ∷ [] }
 
 pub beat_first : next_of waits ≡ Some (record_of.Beat beat)
 beat_first = refl
+
+pub both_wait : has_next waits ≡ true
+both_wait = refl
+
+pub nothing_waits : has_next (rest_of (rest_of waits)) ≡ false
+nothing_waits = refl
 
 pub frame_behind : next_of (rest_of waits) ≡ Some (record_of.Frame frame)
 frame_behind = refl

@@ -1,5 +1,5 @@
 -- A connection with codes: what it hears next, how the Hello that came is judged, and what it writes next.
-use Rattle.std.specs.Prelude.{◌≡◌, ℕ, nat_le, ◌==◌, if◌then◌else◌, List, length, Option, Some, None, Result, Ok, Err}
+use Rattle.std.specs.Prelude.{◌≡◌, ℕ, nat_le, ◌==◌, ◌&&◌, Bool, true, false, if◌then◌else◌, List, length, Option, Some, None, is_none, Result, Ok, Err}
 use Rattle.peer_codes.specs.declared.limits.TheConstants.{LEAST_FRAME}
 use Rattle.peer_codes.specs.declared.connection_fault.ConnectionFault.{ConnectionFault}
 use Rattle.peer_codes.specs.declared.connection_fault.ConnectionFault.TheVariants as channel_faults
@@ -9,6 +9,7 @@ use Rattle.peer_codes.specs.declared.frame.Frame.{Frame}
 use Rattle.peer_codes.specs.declared.hello.Hello.{Hello}
 use Rattle.peer_codes.specs.declared.records.Record.{Record}
 use Rattle.peer_codes.specs.declared.records.Record.TheVariants as record_of
+use Rattle.peer_codes.specs.declared.outgoing.Outgoing.{Outgoing}
 use Rattle.peer_codes.specs.declared.connection.Connection.{Connection as Channel}
 use Rattle.peer_codes.specs.Connections as channels
 use Rattle.peer_codes.specs.Outgoings.{unwritten}
@@ -24,7 +25,7 @@ use Rattle.node_links.specs.declared.coded_step.CodedStep.{CodedStep}
 use Rattle.node_links.specs.declared.coded_connection.CodedConnection.{CodedConnection}
 use Rattle.node_links.specs.Judging.{judged_match, judged_known}
 use Rattle.node_links.specs.Waits.{Waits}
-use Rattle.node_links.specs.Waiting.{next_of, rest_of}
+use Rattle.node_links.specs.Waiting.{next_of, rest_of, has_next}
 
 -- ---- what came
 
@@ -82,13 +83,22 @@ abbrev pub HearsOrWaits : CodedConnection → Option (Result Heard LinkFault) �
 HearsOrWaits old None new = channels.Next old.channel.phase old.channel None new.channel × (new.stage ≡ old.stage)
 HearsOrWaits old (Some told) new = Hears old new told
 
+-- nothing is unfinished, and the own Hello doesn't wait
+abbrev pub has_said_hello : Outgoing → Bool
+has_said_hello out = length (unwritten out) == 0 && is_none out.hello
+
+-- the other's proof is read once the own Hello is written
+abbrev pub HearsProof : Bool → CodedConnection → Option (Result Heard LinkFault) → CodedConnection → Type 0
+HearsProof true old result new = HearsOrWaits old result new
+HearsProof false old result new = (result ≡ None) × (new ≡ old)
+
 -- nothing is read while something waits to be judged, and a fault is told again from then on
 abbrev pub NextCoded : Stage → CodedConnection → Option (Result Heard LinkFault) → CodedConnection → Type 0
 NextCoded (stages.Asked hello) old result new = (result ≡ None) × (new ≡ old)
 NextCoded (stages.Proved hello) old result new = (result ≡ None) × (new ≡ old)
 NextCoded (stages.Closed fault) old result new = (result ≡ Some (Err fault)) × (new ≡ old)
 NextCoded stages.Greeting old result new = HearsOrWaits old result new
-NextCoded (stages.Matched hello) old result new = HearsOrWaits old result new
+NextCoded (stages.Matched hello) old result new = HearsProof (has_said_hello old.channel.out) old result new
 NextCoded (stages.Open hello) old result new = HearsOrWaits old result new
 
 -- ---- judging
@@ -146,9 +156,9 @@ given c (Some (record_of.Proof proof)) = c
 abbrev pub begun_open : CodedConnection → Waits → CodedConnection × Waits
 begun_open c w = (record c { channel = channels.begun_next (given c.channel (next_of w)) }, rest_of w)
 
--- only on an open connection
+-- only on an open connection, and where something waits
 abbrev pub begun_by : Stage → CodedConnection → Waits → CodedConnection × Waits
-begun_by (stages.Open hello) c w = begun_open c w
+begun_by (stages.Open hello) c w = if has_next w then begun_open c w else (c, w)
 begun_by stages.Greeting c w = (c, w)
 begun_by (stages.Asked hello) c w = (c, w)
 begun_by (stages.Matched hello) c w = (c, w)

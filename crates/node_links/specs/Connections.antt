@@ -15,7 +15,7 @@ use Rattle.node_links.specs.declared.plain_connection.PlainConnection.{PlainConn
 use Rattle.node_links.specs.Outgoings.{unwritten, with_begun}
 use Rattle.node_links.specs.Steps.{step_by}
 use Rattle.node_links.specs.Waits.{Waits}
-use Rattle.node_links.specs.Waiting.{next_of, rest_of}
+use Rattle.node_links.specs.Waiting.{next_of, rest_of, has_next}
 
 -- ---- what came
 
@@ -68,9 +68,9 @@ said_next c (Some said) = record c { out = with_begun (record_text said) c.out }
 abbrev pub begun_open : PlainConnection → Waits → PlainConnection × Waits
 begun_open c w = (said_next c (next_of w), rest_of w)
 
--- nothing is said before the connection is open
+-- nothing is said before the connection is open, nor where nothing waits
 abbrev pub begun_by : Phase → PlainConnection → Waits → PlainConnection × Waits
-begun_by (phases.Open other) c w = begun_open c w
+begun_by (phases.Open other) c w = if has_next w then begun_open c w else (c, w)
 begun_by phases.Greeting c w = (c, w)
 begun_by (phases.Asked hello) c w = (c, w)
 begun_by (phases.Closed fault) c w = (c, w)

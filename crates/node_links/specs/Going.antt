@@ -1,6 +1,5 @@
 -- What a connection goes by: how far it is, by all that came over it and was written to it.
 use Rattle.std.specs.Prelude.{◌≡◌, ◌⊎◌, ℕ, true, List, [], ◌++◌, take, Option, Some, None, Result, Ok, Err}
-use Rattle.peer_codes.specs.declared.frame.Frame.{Frame}
 use Rattle.peer_codes.specs.declared.hello.Hello.{Hello}
 use Rattle.peer_codes.specs.declared.hello.Link.{Link}
 use Rattle.peer_codes.specs.declared.key.Key.{Key}
@@ -26,16 +25,14 @@ use Rattle.node_links.specs.declared.phase.Phase.{Phase}
 use Rattle.node_links.specs.declared.phase.Phase.TheVariants as phases
 use Rattle.node_links.specs.declared.stage.Stage.{Stage}
 use Rattle.node_links.specs.declared.stage.Stage.TheVariants as stages
-use Rattle.node_links.specs.declared.plain_connection.PlainConnection.{PlainConnection}
-use Rattle.node_links.specs.declared.coded_connection.CodedConnection.{CodedConnection}
 use Rattle.node_links.specs.declared.connection.Connection.{Connection}
 use Rattle.node_links.specs.declared.connection.Connection.TheVariants.{Plain, Coded}
 use Rattle.node_links.specs.Coding.{peer_at, fault_at}
 use Rattle.node_links.specs.Connections.{peer_in, fault_in}
 use Rattle.node_links.specs.Hearing.{AreSaid, texts}
-use Rattle.node_links.specs.Judging.{judged_match, judged_known}
+use Rattle.node_links.specs.Judging.{judged_match}
 use Rattle.node_links.specs.Outgoings as plain
-use Rattle.node_links.specs.Talks.{Talk, Takes, TakesCoded, Piece, way_behind, AreCodedOn, bytes_of, hellos_of, their_way, their_proof, IsHelloIn, IsOfKind, Says, Opens}
+use Rattle.node_links.specs.Talks.{Talk, Takes, TakesCoded, Piece, way_behind, AreCodedOn, bytes_of, role_of, hellos_of, their_way, their_proof, IsHelloIn, IsOfKind, IsWritten, Says, Opens}
 
 -- ---- without codes
 
@@ -45,18 +42,18 @@ pub record PlainGreeted (came waiting : List ℕ) (hello : Hello) : Type 0 where
   pub text : came ≡ record_text (record_of.Hello hello) ++ waiting
 
 -- all that came: this Hello, which was taken, then these frames and beats, and then so much that isn't read yet
-pub record PlainSpoke (own : Own) (came waiting : List ℕ) (hello : Hello) : Type 0 where
+pub record PlainSpoke (own : Own) (dialled : Option ℕ) (came waiting : List ℕ) (hello : Hello) : Type 0 where
   pub is : IsRecord (record_of.Hello hello)
-  pub takes : Takes own hello
+  pub takes : Takes own dialled hello
   pub said : List Record
   pub are : AreSaid said
   pub text : came ≡ record_text (record_of.Hello hello) ++ (texts said ++ waiting)
 
-abbrev pub PlainAt : Own → List ℕ → List ℕ → Phase → Type 0
-PlainAt own came waiting phases.Greeting = came ≡ waiting
-PlainAt own came waiting (phases.Asked hello) = PlainGreeted came waiting hello
-PlainAt own came waiting (phases.Open hello) = PlainSpoke own came waiting hello
-PlainAt own came waiting (phases.Closed fault) = Unit {0}
+abbrev pub PlainAt : Own → Option ℕ → List ℕ → List ℕ → Phase → Type 0
+PlainAt own dialled came waiting phases.Greeting = came ≡ waiting
+PlainAt own dialled came waiting (phases.Asked hello) = PlainGreeted came waiting hello
+PlainAt own dialled came waiting (phases.Open hello) = PlainSpoke own dialled came waiting hello
+PlainAt own dialled came waiting (phases.Closed fault) = Unit {0}
 
 -- ---- with codes
 
@@ -72,17 +69,24 @@ pub record Greeted (came waiting : List ℕ) (theirs : Hello) : Type 0 where
   pub is : IsHelloIn theirs hello
   pub text : came ≡ hello ++ waiting
 
--- it waits for the own answer, or for the other's proof over both
-abbrev pub Awaits : Key → Option Hello → Hello → ChannelPhase → Type 0
-Awaits key None theirs phase = phase ≡ channel_phases.Asked theirs
-Awaits key (Some mine) theirs phase = (role : Role) × (phase ≡ proving key.bytes role (across role) (hellos_of role mine theirs))
+-- who dialled has its own Hello from the beginning, and who was dialled has none yet
+abbrev pub HasHello : Option ℕ → Option Hello → Type 0
+HasHello None mine = mine ≡ None
+HasHello (Some number) None = ⊥
+HasHello (Some number) (Some mine) = Unit {0}
 
-abbrev pub Matches : Own → Hello → Type 0
-Matches own theirs = (dialled : Option ℕ) × (judged_match own dialled theirs ≡ Ok tt)
+-- it waits for the answer of who was dialled, or for the other's proof over both
+abbrev pub Awaits : Key → Option ℕ → Option Hello → Hello → ChannelPhase → Type 0
+Awaits key dialled None theirs phase = (dialled ≡ None) × (phase ≡ channel_phases.Asked theirs)
+Awaits key dialled (Some mine) theirs phase = phase ≡ proving key.bytes (role_of dialled) (across (role_of dialled)) (hellos_of (role_of dialled) mine theirs)
 
--- the other's Hello came, then its proof over both, then records coded on its way, and so much that isn't read yet
-pub record Proved (key : Key) (mine theirs : Hello) (came waiting : List ℕ) (phase : ChannelPhase) : Type 0 where
-  pub role : Role
+abbrev pub Matches : Own → Option ℕ → Hello → Type 0
+Matches own dialled theirs = judged_match own dialled theirs ≡ Ok tt
+
+-- the own Hello was written; the other's came, then its proof over both, then records coded on its way, and so much that
+-- isn't read yet
+pub record Proved (key : Key) (role : Role) (mine theirs : Hello) (wrote came waiting : List ℕ) (phase : ChannelPhase) : Type 0 where
+  pub first : IsWritten mine wrote
   pub ways : Ways
   pub open_is : phase ≡ channel_phases.Open ways
   pub hello : List ℕ
@@ -94,24 +98,24 @@ pub record Proved (key : Key) (mine theirs : Hello) (came waiting : List ℕ) (p
   pub reading : ways.reading ≡ way_behind (their_way key role mine theirs) said
   pub text : came ≡ hello ++ (proof ++ (bytes_of said ++ waiting))
 
-abbrev pub ProvedBy : Key → Option Hello → Hello → List ℕ → List ℕ → ChannelPhase → Type 0
-ProvedBy key None theirs came waiting phase = ⊥
-ProvedBy key (Some mine) theirs came waiting phase = Proved key mine theirs came waiting phase
+abbrev pub ProvedBy : Key → Option Hello → Hello → Talk → List ℕ → ChannelPhase → Type 0
+ProvedBy key None theirs talk waiting phase = ⊥
+ProvedBy key (Some mine) theirs talk waiting phase = Proved key (role_of talk.dialled) mine theirs talk.wrote talk.came waiting phase
 
-abbrev pub CodedAt : Own → List ℕ → Key → List ℕ → ChannelPhase → Option Hello → Stage → Type 0
-CodedAt own came key waiting phase mine stages.Greeting = (came ≡ waiting) × (phase ≡ channel_phases.Greeting mine)
-CodedAt own came key waiting phase mine (stages.Asked theirs) = Greeted came waiting theirs × Awaits key mine theirs phase
-CodedAt own came key waiting phase mine (stages.Matched theirs) = Matches own theirs × Greeted came waiting theirs × Awaits key mine theirs phase
-CodedAt own came key waiting phase mine (stages.Proved theirs) = Matches own theirs × ProvedBy key mine theirs came waiting phase
-CodedAt own came key waiting phase mine (stages.Open theirs) = TakesCoded own theirs × ProvedBy key mine theirs came waiting phase
-CodedAt own came key waiting phase mine (stages.Closed fault) = Unit {0}
+abbrev pub CodedAt : Own → Talk → Key → List ℕ → ChannelPhase → Option Hello → Stage → Type 0
+CodedAt own talk key waiting phase mine stages.Greeting = (talk.came ≡ waiting) × (phase ≡ channel_phases.Greeting mine) × HasHello talk.dialled mine
+CodedAt own talk key waiting phase mine (stages.Asked theirs) = Greeted talk.came waiting theirs × Awaits key talk.dialled mine theirs phase
+CodedAt own talk key waiting phase mine (stages.Matched theirs) = Matches own talk.dialled theirs × Greeted talk.came waiting theirs × Awaits key talk.dialled mine theirs phase
+CodedAt own talk key waiting phase mine (stages.Proved theirs) = Matches own talk.dialled theirs × ProvedBy key mine theirs talk waiting phase
+CodedAt own talk key waiting phase mine (stages.Open theirs) = TakesCoded own talk.dialled theirs × ProvedBy key mine theirs talk waiting phase
+CodedAt own talk key waiting phase mine (stages.Closed fault) = Unit {0}
 
 -- the key is this node's, what was written begins with its own Hello, and what came is so far
 pub record CodedOn (own : Own) (talk : Talk) (c : Channel) (stage : Stage) : Type 0 where
   pub key : own.key ≡ Some c.key
   pub mine : Option Hello
   pub begins : Begins mine talk.wrote c.out
-  pub at : CodedAt own talk.came c.key c.came.waiting c.phase mine stage
+  pub at : CodedAt own talk c.key c.came.waiting c.phase mine stage
 
 -- of one that is closed nothing is told
 abbrev pub CodedGoes : Own → Talk → Channel → Stage → Type 0
@@ -125,7 +129,7 @@ CodedGoes own talk c (stages.Open theirs) = CodedOn own talk c (stages.Open thei
 -- ---- of both kinds
 
 abbrev pub GoesBy : Own → Talk → Connection → Type 0
-GoesBy own talk (Plain c) = (own.key ≡ None) × PlainAt own talk.came c.came.waiting c.phase
+GoesBy own talk (Plain c) = (own.key ≡ None) × PlainAt own talk.dialled talk.came c.came.waiting c.phase
 GoesBy own talk (Coded c) = CodedGoes own talk c.channel c.stage
 
 -- what a connection of this node goes by, where this came over it and was written to it
@@ -136,8 +140,8 @@ pub goes_prop : (own : Own) (talk : Talk) (c : Connection) → IsProp (Goes own 
 goes_prop own talk c = λ x y. squash₁ x y
 
 -- nothing came over a connection that begins, and nothing was written
-abbrev pub silence : Talk
-silence = record { came = []; wrote = [] }
+abbrev pub silence : Option ℕ → Talk
+silence dialled = record { dialled = dialled; came = []; wrote = [] }
 
 -- whatever it went by, it goes by
 abbrev pub GoesOn : Connection → Connection → Type 0

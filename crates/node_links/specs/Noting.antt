@@ -1,5 +1,5 @@
 -- Which faults of a peer are told again.
-use Rattle.std.specs.Prelude.{ℕ, ◌-◌, nat_le, Bool, true, if◌then◌else◌, List, get_or, set, Option, Some, None}
+use Rattle.std.specs.Prelude.{ℕ, ◌-◌, nat_le, Bool, true, if◌then◌else◌, get_or, set, Option, Some, None}
 use Rattle.peer_codes.specs.declared.fault.RecordFault.TheVariants.{BadLength, BadKind, BadHello}
 use Rattle.node_links.specs.declared.limits.TheConstants.{REPEATED}
 use Rattle.node_links.specs.declared.link_fault.Mismatch.TheVariants.{Digest, Nodes, Number}

@@ -1,5 +1,5 @@
 -- What came over a connection and was written to it, and what a frame that it tells goes by.
-use Rattle.std.specs.Prelude.{◌≡◌, ◌⊎◌, ℕ, List, [], ◌∷◌, ◌++◌, length, drop, Option, Some, None, Ok}
+use Rattle.std.specs.Prelude.{◌≡◌, ℕ, List, [], ◌∷◌, ◌++◌, length, drop, Option, Some, None, Ok}
 use Rattle.peer_codes.specs.declared.frame.Frame.{Frame}
 use Rattle.peer_codes.specs.declared.hello.Hello.{Hello}
 use Rattle.peer_codes.specs.declared.hellos.Hellos.{Hellos}
@@ -23,23 +23,25 @@ use Rattle.node_links.specs.declared.own.Met.{Met}
 use Rattle.node_links.specs.Hearing.{AreSaid, texts}
 use Rattle.node_links.specs.Judging.{judged, judged_match, judged_known}
 
--- all that came over a connection, and all that was written to it
+-- a connection: whom this node dialled by it, nobody where the other dialled; all that came over it, and all that was
+-- written to it
 pub record Talk : Type 0 where
+  pub dialled : Option ℕ
   pub came : List ℕ
   pub wrote : List ℕ
 
 -- ---- without codes
 
--- this node took this Hello
-abbrev pub Takes : Own → Hello → Type 0
-Takes own hello = (dialled : Option ℕ) × ((met : List Met) × (judged own dialled met hello ≡ Ok tt))
+-- this node took this Hello, as that of the node that it dialled, or of one who dialled it
+abbrev pub Takes : Own → Option ℕ → Hello → Type 0
+Takes own dialled hello = (met : List Met) × (judged own dialled met hello ≡ Ok tt)
 
 -- the Hello of this node came first, which was taken, and this frame is among what came behind it
-pub record SaysPlain (own : Own) (from : ℕ) (frame : Frame) (came : List ℕ) : Type 0 where
+pub record SaysPlain (own : Own) (from : ℕ) (frame : Frame) (dialled : Option ℕ) (came : List ℕ) : Type 0 where
   pub hello : Hello
   pub is : IsRecord (record_of.Hello hello)
   pub from_is : hello.ends.from ≡ from
-  pub takes : Takes own hello
+  pub takes : Takes own dialled hello
   pub said : List Record
   pub are : AreSaid said
   pub frame_is : IsRecord (record_of.Frame frame)
@@ -76,6 +78,11 @@ abbrev pub bytes_of : List Piece → List ℕ
 bytes_of [] = []
 bytes_of (piece ∷ earlier) = bytes_of earlier ++ piece.bytes
 
+-- who dialled is the caller
+abbrev pub role_of : Option ℕ → Role
+role_of None = Called
+role_of (Some number) = Caller
+
 -- both Hellos of a connection on which this side has this role
 abbrev pub hellos_of : Role → Hello → Hello → Hellos
 hellos_of Caller mine theirs = record { caller = mine; called = theirs }
@@ -89,64 +96,61 @@ their_way key role mine theirs = way_of key.bytes (across role) (hellos_of role 
 abbrev pub their_proof : Key → Role → Hello → Hello → List ℕ
 their_proof key role mine theirs = proof_code key.bytes (across role) (hellos_of role mine theirs)
 
--- what was written begins with this Hello, as far as it goes
-abbrev pub IsBegun : Hello → List ℕ → Type 0
-IsBegun mine wrote = ((more : List ℕ) × (wrote ≡ record_text (record_of.Hello mine) ++ more)) ⊎ ((more : List ℕ) × (record_text (record_of.Hello mine) ≡ wrote ++ more))
+-- what was written begins with the whole of this Hello
+abbrev pub IsWritten : Hello → List ℕ → Type 0
+IsWritten mine wrote = (more : List ℕ) × (wrote ≡ record_text (record_of.Hello mine) ++ more)
 
--- this node found this Hello to be of its match, and then took it
-pub record TakesCoded (own : Own) (hello : Hello) : Type 0 where
-  pub dialled : Option ℕ
+-- this node found this Hello to be of its match and of the node that it dialled, or of one who dials it, and then took it
+pub record TakesCoded (own : Own) (dialled : Option ℕ) (hello : Hello) : Type 0 where
   pub matches : judged_match own dialled hello ≡ Ok tt
   pub met : List Met
   pub known : judged_known own met hello ≡ Ok tt
 
--- This node's own Hello, with a nonce, is the first that it wrote here, as far as it was written. There came: the Hello of the node that tells the
+-- This node's own Hello, with a nonce, is the first that it wrote here. There came: the Hello of the node that tells the
 -- frame, with a nonce; its proof under the key over both; then records, each coded as the next of its way of these two
 -- Hellos; and this frame, coded as the next of them.
 pub record SaysCoded (key : Key) (own : Own) (from : ℕ) (frame : Frame) (talk : Talk) : Type 0 where
-  pub role : Role
   pub mine : Hello
   pub nonce : IsCoded mine
-  pub first : IsBegun mine talk.wrote
+  pub first : IsWritten mine talk.wrote
   pub theirs : Hello
   pub from_is : theirs.ends.from ≡ from
-  pub takes : TakesCoded own theirs
+  pub takes : TakesCoded own talk.dialled theirs
   pub hello : List ℕ
   pub hello_is : IsHelloIn theirs hello
   pub proof : List ℕ
-  pub proof_is : IsOfKind kind_of.Proof (their_proof key role mine theirs) proof
+  pub proof_is : IsOfKind kind_of.Proof (their_proof key (role_of talk.dialled) mine theirs) proof
   pub said : List Piece
-  pub are : AreCodedOn (their_way key role mine theirs) said
+  pub are : AreCodedOn (their_way key (role_of talk.dialled) mine theirs) said
   pub last : List ℕ
-  pub frame_is : IsOfKind kind_of.Frame (covered (way_behind (their_way key role mine theirs) said) kind_of.Frame frame.bytes.items) last
+  pub frame_is : IsOfKind kind_of.Frame (covered (way_behind (their_way key (role_of talk.dialled) mine theirs) said) kind_of.Frame frame.bytes.items) last
   pub rest : List ℕ
   pub text : talk.came ≡ hello ++ (proof ++ (bytes_of said ++ (last ++ rest)))
 
 -- ---- connections that are open
 
 -- the Hello of this node came first, which was taken
-pub record OpensPlain (own : Own) (theirs : Hello) (came : List ℕ) : Type 0 where
+pub record OpensPlain (own : Own) (theirs : Hello) (dialled : Option ℕ) (came : List ℕ) : Type 0 where
   pub is : IsRecord (record_of.Hello theirs)
-  pub takes : Takes own theirs
+  pub takes : Takes own dialled theirs
   pub rest : List ℕ
   pub text : came ≡ record_text (record_of.Hello theirs) ++ rest
 
 -- as where a frame is told: this node's own Hello, the other's, which was taken, and its proof under the key over both
 pub record OpensCoded (key : Key) (own : Own) (theirs : Hello) (talk : Talk) : Type 0 where
-  pub role : Role
   pub mine : Hello
   pub nonce : IsCoded mine
-  pub first : IsBegun mine talk.wrote
-  pub takes : TakesCoded own theirs
+  pub first : IsWritten mine talk.wrote
+  pub takes : TakesCoded own talk.dialled theirs
   pub hello : List ℕ
   pub hello_is : IsHelloIn theirs hello
   pub proof : List ℕ
-  pub proof_is : IsOfKind kind_of.Proof (their_proof key role mine theirs) proof
+  pub proof_is : IsOfKind kind_of.Proof (their_proof key (role_of talk.dialled) mine theirs) proof
   pub rest : List ℕ
   pub text : talk.came ≡ hello ++ (proof ++ rest)
 
 abbrev pub OpensBy : Option Key → Own → Hello → Talk → Type 0
-OpensBy None own theirs talk = OpensPlain own theirs talk.came
+OpensBy None own theirs talk = OpensPlain own theirs talk.dialled talk.came
 OpensBy (Some key) own theirs talk = OpensCoded key own theirs talk
 
 -- the node with this Hello has opened a connection: with a key by its proof, and without one by its Hello alone
@@ -157,7 +161,7 @@ Opens own theirs talk = OpensBy own.key own theirs talk
 
 -- with a key each frame that is told came coded under it, and without one uncoded
 abbrev pub SaysBy : Option Key → Own → ℕ → Frame → Talk → Type 0
-SaysBy None own from frame talk = SaysPlain own from frame talk.came
+SaysBy None own from frame talk = SaysPlain own from frame talk.dialled talk.came
 SaysBy (Some key) own from frame talk = SaysCoded key own from frame talk
 
 abbrev pub Says : Own → ℕ → Frame → Talk → Type 0

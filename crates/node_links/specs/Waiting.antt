@@ -1,5 +1,5 @@
 -- What waits for a peer, what of it stays, and what goes next.
-use Rattle.std.specs.Prelude.{◌≡◌, ℕ, ◌-◌, Bool, if◌then◌else◌, List, [], ◌∷◌, ◌++◌, length, drop, Option, Some, None}
+use Rattle.std.specs.Prelude.{◌≡◌, ℕ, ◌-◌, ◌==◌, ◌||◌, not, Bool, if◌then◌else◌, List, [], ◌∷◌, ◌++◌, length, drop, Option, Some, None, is_some}
 use Rattle.peer_codes.specs.declared.beat.Beat.{Beat}
 use Rattle.peer_codes.specs.declared.frame.Frame.{Frame}
 use Rattle.peer_codes.specs.declared.records.Record.{Record}
@@ -13,6 +13,10 @@ newest most all = drop (length all - most) all
 -- a frame waits behind the newest of the others, so that no more than so many wait; without memory it is dropped
 abbrev pub Puts : Frame → ℕ → Waits → Bool → Waits → Type 0
 Puts frame most old there new = new ≡ record old { frames = newest (most - 1) old.frames ++ (if there then frame ∷ [] else []) }
+
+-- something waits
+abbrev pub has_next : Waits → Bool
+has_next w = is_some w.beat || not (length w.frames == 0)
 
 abbrev pub first_frame : List Frame → Option Record
 first_frame [] = None

@@ -6,7 +6,7 @@ ghost use Rattle.peer_codes.specs.Steps.{is_coded};
 ghost use Rattle.node_links.specs.declared.stage.Stage.TheVariants as stages;
 ghost use Rattle.node_links.specs.Going.{taken_at};
 ghost use Rattle.node_links.specs.Waiting.{next_of, rest_of};
-ghost use Rattle.node_links.specs.Coding.{HearsOrWaits, NextCoded, settled_stage, peer_at, fault_at, given, begun_open, begun_by, begun_coded};
+ghost use Rattle.node_links.specs.Coding.{HearsOrWaits, HearsProof, NextCoded, has_said_hello, settled_stage, peer_at, fault_at, given, begun_open, begun_by, begun_coded};
 ghost use Rattle.peer_codes.specs.declared.records.Record.TheVariants as record_of;
 
 use crate::coded_step::{CodedStep, coded_step, settled_stage};
@@ -82,10 +82,21 @@ impl CodedConnection {
         Some(heard)
     }
 
+    /// The same where the other's proof comes next, which is over both Hellos: so not before this side's own is written.
+    fn hear_proof(&mut self) -> Option<Result<Heard, LinkFault>>
+        ensures { HearsProof (has_said_hello self.old.channel.out) self.old result self.new }
+    {
+        if !self.channel.has_said_hello() {
+            return None;
+        }
+        self.hear()
+    }
+
     /// What came next, or the fault that closed the connection, told again from then on.
     ///
-    /// `None` where the record in front isn't whole, while something waits to be judged, and while the Hello that came isn't
-    /// answered. The fault is that of the channel: 120 to 122, 124, 125 or 126.
+    /// `None` where the record in front isn't whole, while something waits to be judged, while the Hello that came isn't
+    /// answered, and while this side's own Hello isn't wholly written, or anything behind it before the other's proof came. The
+    /// fault is that of the channel: 120 to 122, 124, 125 or 126.
     pub fn next(&mut self) -> Option<Result<Heard, LinkFault>>
         ensures { NextCoded self.old.stage self.old result self.new }
     {
@@ -94,7 +105,7 @@ impl CodedConnection {
             Stage::Proved(_) => None,
             Stage::Closed(fault) => Some(Err(fault)),
             Stage::Greeting => self.hear(),
-            Stage::Matched(_) => self.hear(),
+            Stage::Matched(_) => self.hear_proof(),
             Stage::Open(_) => self.hear(),
         }
     }
@@ -190,13 +201,17 @@ impl CodedConnection {
         self.channel.begin();
     }
 
-    /// The same, where the connection is open.
+    /// The same, where the connection is open and something waits.
     fn begin_by(&mut self, waiting: &mut Outbox)
         ensures own { self.new ≡ (begun_by self.old.stage self.old waiting.old).0 }
         ensures waiting { waiting.new ≡ (begun_by self.old.stage self.old waiting.old).1 }
     {
         match self.stage {
-            Stage::Open(_) => self.begin_open(waiting),
+            Stage::Open(_) => {
+                if waiting.has_next() {
+                    self.begin_open(waiting);
+                }
+            }
             Stage::Greeting => (),
             Stage::Asked(_) => (),
             Stage::Matched(_) => (),

@@ -1,4 +1,4 @@
-ghost use Rattle.std.specs.Prelude.{◌≡◌, ◌≤◌, ◌++◌, List, ℕ, length, OnOk, OnErr};
+ghost use Rattle.std.specs.Prelude.{◌≡◌, ◌≤◌, ◌++◌, List, ℕ, length, Some, None, OnOk, OnErr};
 ghost use Rattle.node_links.specs.declared.own.Own as owns;
 ghost use Rattle.node_links.specs.declared.connection.Connection.TheVariants.{Coded};
 ghost use Rattle.node_links.specs.Talks.{Talk};
@@ -45,7 +45,7 @@ impl Connection {
     /// key it has a nonce, which is to be new. Takes no memory.
     pub fn call(alloc: Global, key: Option<Key>, own: Hello) -> Connection
         requires { IsOfKey key own.link }
-        ensures { (own : owns.Own) → own.key ≡ key → Goes own silence result }
+        ensures { (own : owns.Own) (number : ℕ) → own.key ≡ key → Goes own (silence (Some number)) result }
     {
         match key {
             None => Connection::Plain(PlainConnection::call(alloc, own)),
@@ -55,7 +55,7 @@ impl Connection {
 
     /// The side that was dialled. Takes no memory.
     pub fn listen(alloc: Global, key: Option<Key>) -> Connection
-        ensures { (own : owns.Own) → own.key ≡ key → Goes own silence result }
+        ensures { (own : owns.Own) → own.key ≡ key → Goes own (silence None) result }
     {
         match key {
             None => Connection::Plain(PlainConnection::listen(alloc)),
@@ -104,10 +104,10 @@ impl Connection {
         }
     }
 
-    /// Judges what waits to be judged. Without codes that is the whole Hello; with them what it says of the match first, and
-    /// what changes by it once the other's proof is right.
+    /// Judges what waits to be judged, of the node that was dialled or of one who dialled. Without codes that is the whole
+    /// Hello; with them what it says of the match first, and what changes by it once the other's proof is right.
     pub fn settle(&mut self, own: &Own, dialled: Option<u8>, met: &[Met])
-        ensures { (talk : Talk) → Goes own.now talk self.old → Goes own.now talk self.new }
+        ensures { (talk : Talk) → talk.dialled ≡ dialled → Goes own.now talk self.old → Goes own.now talk self.new }
     {
         match self {
             Connection::Plain(plain) => plain.settle(own, dialled, met),

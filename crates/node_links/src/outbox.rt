@@ -1,5 +1,5 @@
 ghost use Rattle.std.specs.Prelude.{◌≡◌, ◌+◌, ◌-◌, ◌++◌, ◌∷◌, [], None, Some, drop, length};
-ghost use Rattle.node_links.specs.Waiting.{newest, next_of, rest_of, Puts};
+ghost use Rattle.node_links.specs.Waiting.{newest, has_next, next_of, rest_of, Puts};
 
 use peer_codes::{Beat, Frame, Record};
 use std::alloc::Global;
@@ -73,6 +73,13 @@ impl Outbox {
         ensures { result ≡ length self.now.frames }
     {
         self.frames.len()
+    }
+
+    /// Whether anything waits.
+    pub fn has_next(&self) -> bool
+        ensures { result ≡ has_next self.now }
+    {
+        self.beat.is_some() || !self.frames.is_empty()
     }
 
     /// What is said next, if anything waits; it waits no longer.

@@ -1,6 +1,8 @@
 ghost use Rattle.std.specs.Prelude.{◌≡◌, ◌≤◌, ◌<◌, ◌++◌, [], length, drop, Some, None, OnOk, OnErr};
+ghost use Rattle.peer_codes.specs.declared.records.Record.TheVariants as record_of;
+ghost use Rattle.peer_codes.specs.Spelling.{record_text};
 ghost use Rattle.node_links.specs.declared.phase.Phase.TheVariants as phases;
-ghost use Rattle.node_links.specs.Outgoings.{unwritten};
+ghost use Rattle.node_links.specs.Outgoings.{unwritten, with_begun};
 ghost use Rattle.node_links.specs.Steps.{settled};
 ghost use Rattle.node_links.specs.Going.{taken_in};
 ghost use Rattle.node_links.specs.Connections.{ReadsOrWaits, Next, begun_open, begun_first, begun_next, peer_in, fault_in};
@@ -154,18 +156,29 @@ impl PlainConnection {
         }
     }
 
+    /// Begins this side's own Hello.
+    fn begin_hello(&mut self, hello: Hello)
+        ensures { self.new ≡ record self.old { out = with_begun (record_text (record_of.Hello hello)) (record self.old.out { hello = None }) } }
+    {
+        self.out.hello = None;
+        self.out.start(record_bytes(&Record::Hello(hello)));
+    }
+
     /// Begins what is to be said next, if anything is.
     fn begin_first(&mut self, waiting: &mut Outbox)
         ensures own { self.new ≡ (begun_first self.old.out.hello self.old.phase self.old waiting.old).0 }
         ensures waiting { waiting.new ≡ (begun_first self.old.out.hello self.old.phase self.old waiting.old).1 }
     {
         if let Some(hello) = self.out.hello {
-            self.out.hello = None;
-            self.out.start(record_bytes(&Record::Hello(hello)));
+            self.begin_hello(hello);
             return;
         }
         match self.phase {
-            Phase::Open(_) => self.begin_open(waiting),
+            Phase::Open(_) => {
+                if waiting.has_next() {
+                    self.begin_open(waiting);
+                }
+            }
             Phase::Greeting => (),
             Phase::Asked(_) => (),
             Phase::Closed(_) => (),

@@ -1,9 +1,7 @@
-use Rattle.std.proofs.Common.{◌≡◌, ◌++◌, ℕ, List, Option, Some, take, refl, sym, ap, subst, ◌∙◌}
-use Rattle.node_links.specs.declared.own.Own.{Own}
+use Rattle.std.proofs.Common.{sym, subst}
 use Rattle.node_links.specs.declared.connection.Connection.{Connection}
 use Rattle.node_links.specs.declared.connection.Connection.TheVariants.{Plain, Coded}
-use Rattle.node_links.specs.Talks.{Talk}
-use Rattle.node_links.specs.Going.{Goes, GoesOn, GoesOnWith, GoesOnWritten, TellsFrame}
+use Rattle.node_links.specs.Going.{GoesOn}
 use Rattle.node_links.proofs.PlainGoing.{plain_says}
 use Rattle.node_links.proofs.CodedSaying.{coded_says}
 use Rattle.node_links.proofs.connection.Connection.begin.Goals as goal

@@ -1,9 +1,7 @@
-use Rattle.std.proofs.Common.{◌≡◌, ◌++◌, ℕ, List, Option, Some, take, refl, sym, ap, subst, ◌∙◌}
-use Rattle.node_links.specs.declared.own.Own.{Own}
+use Rattle.std.proofs.Common.{sym, ap, subst}
 use Rattle.node_links.specs.declared.connection.Connection.{Connection}
 use Rattle.node_links.specs.declared.connection.Connection.TheVariants.{Plain, Coded}
-use Rattle.node_links.specs.Talks.{Talk}
-use Rattle.node_links.specs.Going.{Goes, GoesOn, GoesOnWith, GoesOnWritten, TellsFrame}
+use Rattle.node_links.specs.Going.{GoesOnWritten}
 use Rattle.node_links.specs.declared.plain_connection.PlainConnection.{PlainConnection}
 use Rattle.node_links.proofs.PlainGoing.{plain_writes}
 use Rattle.node_links.proofs.CodedSaying.{coded_writes}
