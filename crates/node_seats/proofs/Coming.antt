@@ -3,13 +3,12 @@ use Rattle.std.proofs.Common.{◌≡◌, ℕ, List, [], ◌∷◌, ◌++◌, app
 use Rattle.std.specs.Prelude.{Option, Some, None}
 use Rattle.node_wires.specs.Passages.{Passage, Began, Came, Wrote, Gave, Logged, of_seat, seats_in, logged_in, came_over}
 use Rattle.node_wires.specs.declared.line.Line.TheVariants.{Guest, Peer, Caller, Seat, Asker}
-use Rattle.node_seats.specs.declared.guests.Guests.{Guests}
 use Rattle.node_seats.specs.declared.seats.Seats.{Seats}
 use Rattle.node_seats.specs.declared.seat_notice.SeatNotice.{SeatNotice}
 use Rattle.node_seats.specs.declared.seat_notice.SeatNotice.TheVariants as notices
 use Rattle.node_seats.specs.declared.token_digest.TokenDigest.{TokenDigest}
 use Rattle.node_seats.specs.Passing.{passed_by, Passed, TakesNobody, AreOfGuests, Grows}
-use Rattle.node_seats.specs.Guesting.{ShowsToken, IsSeated, IsGuested, behind_by, Passes}
+use Rattle.node_seats.specs.Guesting.{ShowsToken, IsGuested, behind_by, Passes}
 use Rattle.node_seats.specs.declared.seat.Seat.{Seat as SeatOf}
 use Rattle.node_seats.specs.Seating.{waits_at, sits_at, Follows, Changes}
 use Rattle.node_seats.specs.Coming.{passed_in, tokens_in, Comes}

@@ -1,15 +1,15 @@
 -- Lines as they go to a bot, lines that show tokens, and who is let in, on values.
-use Rattle.std.proofs.Common.{◌≡◌, inl, inr, ℕ, ◌+◌, ◌<◌, true, false, List, [], ◌∷◌, ◌++◌, length, replicate, refl, ap, sym, ◌∙◌, arith}
-use Rattle.std.specs.Prelude.{codes, Some, None}
+use Rattle.std.proofs.Common.{◌≡◌, inl, ℕ, true, false, List, [], ◌∷◌, ◌++◌, length, replicate, refl, ap, ◌∙◌, arith}
+use Rattle.std.specs.Prelude.{codes, Some}
 use Rattle.std.proofs.lemmas.List.{length-append}
 use Rattle.sha2.specs.Sha256.{sha256}
-use Rattle.node_wires.specs.declared.line.Line.TheVariants.{Guest, Seat}
+use Rattle.node_wires.specs.declared.line.Line.TheVariants.{Guest}
 use Rattle.node_wires.specs.Passages.{Passage, Began, Came, Gave}
 use Rattle.node_seats.specs.declared.token_digest.TokenDigest.{TokenDigest}
 use Rattle.node_seats.specs.declared.seat_notice.SeatNotice.TheVariants as notices
 use Rattle.node_seats.specs.Lines.{line_of}
 use Rattle.node_seats.specs.Tokens.{is_token_digit, IsTokenLine}
-use Rattle.node_seats.specs.Guesting.{ShowsToken, IsSeated, IsGuested, Passes}
+use Rattle.node_seats.specs.Guesting.{ShowsToken, IsToldOf, IsGuested, Passes}
 use Rattle.node_seats.proofs.Tokens.{token_length}
 
 end_of_a_line : line_of (65 ∷ []) ≡ 65 ∷ 13 ∷ 10 ∷ []
@@ -70,3 +70,15 @@ none_for_seat_2 came shows = omega (arith, shows.has_one)
 -- a bot that is taken in without tokens isn't let in with them
 pub not_taken_in : (old : List Passage) → IsGuested (Some tokens) (Some (notices.Came 1)) old [] → ⊥
 not_taken_in old seated = omega (arith, ap length seated.given ∙ length-append seated.front (Gave seated.place 1 ∷ []))
+
+-- ---- what is told of guests
+
+makes_room : IsToldOf tokens shown (Some (notices.Gone 1))
+makes_room = record { has_one = omega arith; shown = shows_sevens }
+
+-- who says something else doesn't throw out who sits there
+throws_nobody_out : IsToldOf tokens (codes "VERSION:2.0.0\n") (Some (notices.Gone 1)) → ⊥
+throws_nobody_out shows = omega (arith, (token_length (sha256 sevens) (codes "VERSION:2.0.0\n") shows.shown).0)
+
+right_one_is_not_refused : IsToldOf tokens shown (Some (notices.Refused 1)) → ⊥
+right_one_is_not_refused refused = refused makes_room

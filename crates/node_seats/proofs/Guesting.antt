@@ -10,7 +10,6 @@ use Rattle.node_wires.specs.declared.line.Line.TheVariants.{Guest as GuestAt}
 use Rattle.node_wires.specs.Passages.{Passage, Began, Came, Gave, came_by, came_behind, came_over}
 use Rattle.node_seats.specs.declared.guest.Guest.{Guest}
 use Rattle.node_seats.specs.declared.guest.Found.{Found}
-use Rattle.node_seats.specs.declared.guest.Found.TheVariants as founds
 use Rattle.node_seats.specs.declared.token_digest.TokenDigest.{TokenDigest}
 use Rattle.node_seats.specs.Tokens.{IsTokenLine}
 use Rattle.node_seats.specs.Guesting.{IsHeard, AreHeard, Hears, HeardThrough, KeepsHeard, ShowsToken, no_digest, IsFound}

@@ -4,5 +4,6 @@ pub mod Passing
 pub mod Writing
 pub mod Guesting
 pub mod Seating
+pub mod SeatBits
 pub mod Coming
 mod Examples

@@ -59,6 +59,15 @@ IsFound tokens came founds.Nothing = Unit {0}
 IsFound tokens came (founds.Refused seat) = ShowsToken tokens seat came → ⊥
 IsFound tokens came (founds.Shown seat) = ShowsToken tokens seat came
 
+-- what is told of a guest goes by what came of him: who sat at a seat makes room only for one who showed its token, and who
+-- is refused didn't show it
+abbrev pub IsToldOf : List TokenDigest → List ℕ → Option SeatNotice → Type 0
+IsToldOf tokens came None = Unit {0}
+IsToldOf tokens came (Some (notices.Came seat)) = Unit {0}
+IsToldOf tokens came (Some (notices.Piece seat bytes)) = ⊥
+IsToldOf tokens came (Some (notices.Gone seat)) = ShowsToken tokens seat came
+IsToldOf tokens came (Some (notices.Refused seat)) = ShowsToken tokens seat came → ⊥
+
 -- last of all the connection of a guest was given to this seat, over which its token had come and nothing else
 pub record IsSeated (tokens : List TokenDigest) (seat : ℕ) (old more : List Passage) : Type 0 where
   pub place : ℕ

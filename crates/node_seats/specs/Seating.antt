@@ -17,6 +17,11 @@ waits_at seats number = (get_or seats number nobody).waiting.waiting
 abbrev pub sits_at : List Seat → ℕ → Bool
 sits_at seats number = (get_or seats number nobody).sits
 
+-- a bit that tells whether somebody sits there
+abbrev pub bit_of : Bool → ℕ
+bit_of true = 1
+bit_of false = 0
+
 -- nothing waits for one seat any more, and for the others what waited
 abbrev pub Clears : ℕ → List Seat → List Seat → Type 0
 Clears number old new = (waits_at new number ≡ []) × ((seat : ℕ) → seat ≢ number → waits_at new seat ≡ waits_at old seat)

@@ -6,7 +6,7 @@ ghost use Rattle.node_seats.specs.Lines.{line_of};
 ghost use Rattle.node_wires.specs.declared.line.Line.TheVariants.{Guest as GuestAt};
 ghost use Rattle.node_wires.specs.Passages.{came_over};
 ghost use Rattle.node_seats.specs.Passing.{Passed, TakesNobody, seat_of, Leaves};
-ghost use Rattle.node_seats.specs.Guesting.{ShowsToken, Passes};
+ghost use Rattle.node_seats.specs.Guesting.{ShowsToken, IsToldOf, Passes};
 ghost use Rattle.node_seats.specs.Seating.{Sits};
 ghost use Rattle.node_seats.specs.Writing.{Writes};
 
@@ -169,6 +169,7 @@ impl Seat {
     ) -> Option<SeatNotice>
         requires { ShowsToken guests.old.tokens.items number (came_over guests.old.passed.items (GuestAt place)) }
         ensures passes { Passes (Some guests.old.tokens.items) result guests.old.passed.items guests.new.passed.items (W.passed wire.old) (W.passed wire.new) }
+        ensures told { IsToldOf guests.old.tokens.items (came_over guests.new.passed.items (GuestAt place)) result }
         ensures tokens { guests.new.tokens ≡ guests.old.tokens }
         ensures seat { IfSome result (λ notice. seat_of notice ≡ number) }
         ensures waiting { Leaves result self.old.waiting.waiting self.new.waiting.waiting }

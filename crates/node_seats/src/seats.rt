@@ -1,8 +1,10 @@
-ghost use Rattle.std.specs.Prelude.{◌≡◌, ◌++◌, ℕ, [], length, IfOk, option_map, Some, None};
-ghost use Rattle.node_wires.specs.Passages.{seats_in, logged_in};
+ghost use Rattle.std.specs.Prelude.{◌≡◌, ◌≢◌, ◌++◌, ◌<◌, ℕ, [], true, length, IfOk, option_map, Some, None};
+ghost use Rattle.std.specs.Int.{bit_at};
+ghost use Rattle.node_wires.specs.declared.line.Line.TheVariants.{Guest as GuestAt};
+ghost use Rattle.node_wires.specs.Passages.{came_over, seats_in, logged_in};
 ghost use Rattle.node_seats.specs.Passing.{Passed, passed_by};
-ghost use Rattle.node_seats.specs.Guesting.{Passes};
-ghost use Rattle.node_seats.specs.Seating.{Follows, Changes};
+ghost use Rattle.node_seats.specs.Guesting.{IsToldOf, Passes};
+ghost use Rattle.node_seats.specs.Seating.{Follows, Changes, bit_of};
 ghost use Rattle.node_seats.specs.Coming.{passed_in, tokens_in};
 
 use crate::guest::Found;
@@ -38,6 +40,16 @@ fn empty_seats(alloc: Global, count: u8) -> Result<Vec<Seat>, AllocError> {
     Ok(seats)
 }
 
+/// These bits, of which that of a number, not set before, is set where somebody sits there.
+#[tactic(auto, using(crate::proofs::SeatBits::set_here, crate::proofs::SeatBits::set_elsewhere))]
+fn with_bit(bits: u16, number: usize, sits: bool) -> u16
+    requires { number < 16 }
+    ensures here { bit_at bits number ≡ 0 → bit_at result number ≡ bit_of sits }
+    ensures others { (other : ℕ) → other ≢ number → bit_at result other ≡ bit_at bits other }
+{
+    if sits { bits | 1 << number } else { bits }
+}
+
 /// Nobody came yet to the ports of seats that have tokens, if they have.
 fn no_guests(alloc: Global, tokens: Option<Vec<TokenDigest>>) -> Result<Option<Guests>, AllocError>
     ensures tokens { IfOk result (λ guests. tokens_in guests ≡ option_map (λ t. t.items) tokens) }
@@ -59,6 +71,7 @@ fn hear_guest<W: Wire>(
     now: u64,
 ) -> Option<SeatNotice>
     ensures passes { Passes (Some guests.old.tokens.items) result guests.old.passed.items guests.new.passed.items (W.passed wire.old) (W.passed wire.new) }
+    ensures told { IsToldOf guests.old.tokens.items (came_over guests.new.passed.items (GuestAt place)) result }
     ensures tokens { guests.new.tokens ≡ guests.old.tokens }
     ensures waits { Follows result seats.old.items seats.new.items }
     ensures sits { Changes result seats.old.items seats.new.items }
@@ -75,6 +88,7 @@ fn hear_guest<W: Wire>(
 
 impl Seats {
     ghost use Rattle.node_seats.specs.Seating.{waits_at, sits_at, Tells, Flushes};
+    ghost use Rattle.node_seats.specs.declared.limits.TheConstants.{BACKLOG as MOST};
     ghost use Rattle.node_seats.specs.Coming.{tokens_of, passed_of, Comes};
 
     /// So many seats, where nobody sits. With tokens, of each seat by its number, a seat takes nobody but who shows its own,
@@ -196,6 +210,7 @@ impl Seats {
     #[tactic(auto, using(crate::proofs::Seating::waits_here, crate::proofs::Seating::waits_elsewhere, crate::proofs::Seating::sits_alike))]
     pub fn tell(&mut self, seat: u8, line: &[u8]) -> bool
         ensures tells { Tells seat line.now result self.old.seats.items self.new.seats.items }
+        ensures bound { result ≡ true → sits_at self.old.seats.items seat ≡ true → length (waits_at self.old.seats.items seat) < MOST }
         ensures sits { (seat : ℕ) → sits_at self.new.seats.items seat ≡ sits_at self.old.seats.items seat }
     {
         match self.seats.get_mut(seat as usize) {
@@ -270,15 +285,24 @@ impl Seats {
         None
     }
 
+    /// Whether somebody sits at a seat.
+    fn sits(&self, number: usize) -> bool
+        ensures { result ≡ sits_at self.now.seats.items number }
+    {
+        match self.seats.get(number) {
+            Some(seat) => seat.sits,
+            None => false,
+        }
+    }
+
     /// The seats where somebody sits, a bit each, seat 0 the lowest.
-    pub fn bits(&self) -> u16 {
+    #[tactic(auto, using(crate::proofs::SeatBits::no_bits, crate::proofs::SeatBits::one_more))]
+    pub fn bits(&self) -> u16
+        ensures { (seat : ℕ) → seat < 16 → bit_at result seat ≡ bit_of (sits_at self.now.seats.items seat) }
+    {
         let mut bits = 0u16;
         for number in 0..16usize {
-            if let Some(seat) = self.seats.get(number) {
-                if seat.sits {
-                    bits |= 1u16 << number;
-                }
-            }
+            bits = with_bit(bits, number, self.sits(number));
         }
         bits
     }
