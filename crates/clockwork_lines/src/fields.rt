@@ -1,14 +1,17 @@
 ghost use Rattle.std.specs.Prelude.{◌≤◌, ◌≡◌, length};
-ghost use Rattle.clockwork.specs.declared.limits.TheConstants.{LATEST};
+ghost use Rattle.clockwork.specs.declared.limits.TheConstants.{LATEST, MOST_PEERS};
 
-use clockwork::limits::LATEST;
-use clockwork::{Beat, Connection, Known, Link, Peer, Ticks};
+use clockwork::limits::{LATEST, MOST_PEERS};
+use clockwork::{Awaited, Beat, Connection, Known, Link, Peer, Ticks};
 use std::alloc::{AllocError, Global};
 
 /// How many words of a line tell of the process itself, and of each peer.
 const OWN: usize = 16;
 
 const OF_A_PEER: usize = 13;
+
+/// How many words a line has that tells of the seat to act.
+pub const OF_A_SEAT: usize = 10;
 
 /// The numbers of a line; what is none stands as none.
 pub fn numbers_of(alloc: Global, line: &str) -> Result<Vec<Option<u64>>, AllocError> {
@@ -47,6 +50,26 @@ fn byte(numbers: &[Option<u64>], place: usize) -> u8 {
 
 fn flag(numbers: &[Option<u64>], place: usize) -> bool {
     number(numbers, place) != 0
+}
+
+/// What is known of the seat to act, by the words of a line.
+pub fn awaited_of(numbers: &[Option<u64>]) -> Awaited
+    ensures time { result.time ≤ LATEST }
+    ensures patience { result.patience ≤ LATEST }
+    ensures rank { result.rank ≤ MOST_PEERS }
+{
+    Awaited {
+        time: number(numbers, 0).min(LATEST),
+        patience: number(numbers, 1).min(LATEST),
+        over: flag(numbers, 2),
+        hand_runs: flag(numbers, 3),
+        quorate: flag(numbers, 4),
+        sits_here: flag(numbers, 5),
+        sits_elsewhere: flag(numbers, 6),
+        rank: (number(numbers, 7) as usize).min(MOST_PEERS),
+        since: number(numbers, 8),
+        ordered: optional(numbers, 9),
+    }
 }
 
 /// What a process knows, by the first words of a line and its peers.

@@ -7,23 +7,21 @@
 //! opened or the last one ended, the first `told` whether a beat came.
 //!
 //! The answer is `tick`, or `nothing` and until when, and then three flags and a length of time: whether there is work,
-//! whether the node is behind, whether it is quorate, and its pace. A line of another length is answered by `-`.
+//! whether the node is behind, whether it is quorate, and its pace.
+//!
+//! A line of ten words says what is known of the seat to act, as the fields of `Awaited`: `time patience over hand_runs quorate
+//! sits_here sits_elsewhere rank since ordered`. The answer is `tick` where it is to be ordered that the seat is played for, or
+//! `nothing` and until when. A line of another length is answered by `-`.
 #![tactic(auto)]
 
-#[cfg(test)]
-mod away_tests;
-#[cfg(test)]
-mod due_tests;
 mod fields;
-#[cfg(test)]
-mod samples;
 
 ghost use Rattle.std.specs.Prelude.{◌≤◌, length};
 ghost use Rattle.clockwork.specs.declared.limits.TheConstants.{LATEST, MOST_PEERS};
 
 use clockwork::limits::MOST_PEERS;
-use clockwork::{Due, Known, Peer, due, has_work, is_behind, is_quorate, pace};
-use fields::{is_whole, known_of, numbers_of, peers_of};
+use clockwork::{Awaited, Due, Known, Peer, away_due, due, has_work, is_behind, is_quorate, pace};
+use fields::{OF_A_SEAT, awaited_of, is_whole, known_of, numbers_of, peers_of};
 use std::io;
 
 fn main(rt: HostRuntime) -> io::Result<()> {
@@ -33,12 +31,31 @@ fn main(rt: HostRuntime) -> io::Result<()> {
     Ok(())
 }
 
-/// Answers a line; one of another form or with too many peers by `-`.
+/// Answers a line; one of another length or with too many peers by `-`.
 fn print_answer(rt: &(impl Print + AllocGlobal), line: &str) -> io::Result<()> {
     let numbers = numbers_of(rt.alloc(), line)?;
-    let peers = peers_of(rt.alloc(), &numbers)?;
+    if numbers.len() == OF_A_SEAT {
+        print_awaited(rt, &awaited_of(&numbers))
+    } else {
+        print_of_process(rt, &numbers)
+    }
+}
+
+/// Prints whether it is to be ordered that the seat is played for of which this is known.
+fn print_awaited(rt: &impl Print, awaited: &Awaited) -> io::Result<()>
+    requires time { awaited.now.time ≤ LATEST }
+    requires patience { awaited.now.patience ≤ LATEST }
+    requires rank { awaited.now.rank ≤ MOST_PEERS }
+{
+    print_due(rt, away_due(awaited))?;
+    rt.println("")
+}
+
+/// Answers the numbers of a process and its peers.
+fn print_of_process(rt: &(impl Print + AllocGlobal), numbers: &[Option<u64>]) -> io::Result<()> {
+    let peers = peers_of(rt.alloc(), numbers)?;
     if is_whole(numbers.len()) && peers.len() <= MOST_PEERS {
-        print_known(rt, &known_of(&numbers, &peers))
+        print_known(rt, &known_of(numbers, &peers))
     } else {
         rt.println("-")
     }
@@ -54,13 +71,13 @@ fn print_known(rt: &impl Print, known: &Known<'_>) -> io::Result<()>
     let behind = u8::from(is_behind(known));
     let quorate = u8::from(is_quorate(known));
     let pace = pace(known);
-    println!(rt; "{work} {behind} {quorate} {pace}")
+    println!(rt; " {work} {behind} {quorate} {pace}")
 }
 
-/// Prints whether a tick is due, with a blank behind it.
+/// Prints whether something is due.
 fn print_due(rt: &impl Print, due: Due) -> io::Result<()> {
     match due {
-        Due::Tick => rt.print("tick "),
-        Due::Nothing { until } => print!(rt; "nothing {until} "),
+        Due::Tick => rt.print("tick"),
+        Due::Nothing { until } => print!(rt; "nothing {until}"),
     }
 }
