@@ -14,11 +14,11 @@ pub(crate) fn assert_holds(rt: &impl Abort, asked: &str, holds: bool) {
 }
 
 /// Sees that what is found is what is wanted.
-pub(crate) fn assert_same<T: PartialEq + Debug>(
+pub(crate) fn assert_same<T: Copy + PartialEq + Debug>(
     rt: &impl Abort,
     asked: &str,
-    found: &T,
-    wanted: &T,
+    found: T,
+    wanted: T,
 ) {
     assert_eq!(rt; found, wanted, "{asked}");
 }
@@ -42,10 +42,10 @@ macro_rules! holds {
     };
 }
 
-/// As `assert_eq!`.
+/// As `assert_eq!`, of values that are copied: to pass a value is cheaper to prove than to refer to it.
 macro_rules! same {
     ($rt:expr; $found:expr, $wanted:expr) => {
-        $crate::asserting::assert_same($rt, stringify!($found), &$found, &$wanted)
+        $crate::asserting::assert_same($rt, stringify!($found), $found, $wanted)
     };
 }
 

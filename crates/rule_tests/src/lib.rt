@@ -1,7 +1,7 @@
-//! Tests of cards, games, lines, logs and frames, by the public calls of their crates alone: from `card_core` to
-//! `match_file` and `play_script`, a module a crate, but for `slot_log`, which has two, and `paxos_wire`, whose frames, feeds
-//! and records have one each; `samples` has the games and cards that they share, `frames` the frames, and `asserting` the
-//! assertions.
+//! Tests of cards, games, lines, logs and frames, by the public calls of their crates alone: from `card_core` to `dealer_kind`
+//! and `play_script`, a module a crate, but for `slot_log`, which has two, and `paxos_wire`, whose frames, feeds and records
+//! have one each; `samples` has the games and cards that they share, `frames` the frames, and `asserting` the assertions.
+//! Match files are tested through the program, by rows of `tests/inputs` and by `tests/init_node`.
 //!
 //! They stand in a crate of their own, which has nothing else: a crate with tests is proved twice, once without them and
 //! once with all of it, and each crate that is tested here is so proved once.
@@ -29,11 +29,7 @@ mod kind_tests;
 #[cfg(test)]
 mod line_tests;
 #[cfg(test)]
-mod match_file_tests;
-#[cfg(test)]
 mod match_log_tests;
-#[cfg(test)]
-mod node_file_tests;
 #[cfg(test)]
 mod pot_tests;
 #[cfg(test)]
