@@ -32,8 +32,9 @@ from serving import FAST, free_ports, waited
 # About how long a run beside its floor is to take, in seconds, and the fewest and the most hands of it.
 RUN_TAKES, FEWEST, MOST = 2.0, 60, 1000
 COUNTS = (3, 5)
-# Of the runs with losses: how many processes are killed, how long after the one before, and how long each is away.
-LOSSES, BETWEEN, AWAY = 100, 0.25, 0.1
+# Of the runs with losses: how many processes are killed, in how many matches at most, how long after the one before, and
+# how long each is away.
+LOSSES, MATCHES, BETWEEN, AWAY = 200, 10, 0.25, 0.1
 # How many commands a process has missed that is begun again.
 MISSED = 10_000
 
@@ -260,17 +261,16 @@ def line_after(match, node, longest=10.0):
     return longest
 
 
-def lose_processes(programs, nodes, place):
-    """One process after another is killed, and begun again; how long the next line of a log then waited."""
+def losses(programs, nodes, place, most, chance):
+    """One process after another of a match is killed, and begun again, so many at most; how long the next line of a log then waited, in milliseconds."""
     rate = 5000 if str(place) == FAST else 1500
-    match, waits = Processes(nodes, min(10_000, int(LOSSES * (BETWEEN + AWAY + 0.1) * rate / OF_A_HAND)), place), []
+    match, waits = Processes(nodes, min(10_000, int(most * (BETWEEN + AWAY + 0.1) * rate / OF_A_HAND)), place), []
     try:
         for node in range(nodes):
             match.begin(node)
         players = Players(programs["players"], match)
         waited(lambda: match.log(0), "the first line of a log")
-        chance = random.Random(1)
-        while len(waits) < LOSSES and all(process.poll() is None for process in match.running.values()):
+        while len(waits) < most and all(process.poll() is None for process in match.running.values()):
             time.sleep(BETWEEN * (0.5 + chance.random()))
             node = chance.randrange(nodes)
             if node not in match.running or match.running[node].poll() is not None:
@@ -283,8 +283,17 @@ def lose_processes(programs, nodes, place):
         match.ended()
     finally:
         match.remove()
+    return waits
+
+
+def lose_processes(programs, nodes, place):
+    """Matches one after another, until so many processes were lost."""
+    waits, matches, chance = [], 0, random.Random(1)
+    while len(waits) < LOSSES and matches < MATCHES:
+        waits += losses(programs, nodes, place, LOSSES - len(waits), chance)
+        matches += 1
     waits.sort()
-    print(f"{len(waits)} losses by signal 9 of one of {nodes} processes, stores in {place}: to the next line of a log (one a hand)", end=" ")
+    print(f"{len(waits)} losses by signal 9 of one of {nodes} processes in {matches} matches, stores in {place}: to the next line of a log (one a hand)", end=" ")
     print(f"median {waits[len(waits) // 2]:.1f} ms, 9 of 10 {waits[9 * len(waits) // 10]:.1f} ms, worst {waits[-1]:.1f} ms", flush=True)
 
 

@@ -138,13 +138,17 @@ static void sit(int link, int has_moved, struct found *found) {
         memmove(text, line, size);
     }
 }
+/* From node to node, until each was dialled in vain for a second. */
 static void play(int nodes, char **ports, struct found *found) {
-    int node = 0, refusals = 0, has_moved = 0, link, tries = 0;
+    int node = 0, has_moved = 0, link, tries = 0;
+    long long refused = 0;
     while ((link = dial(atoi(ports[0]))) < 0 && tries++ < 10000) usleep(1000);
-    while (refusals < nodes) {
-        if (link < 0) refusals++;
-        else {
-            refusals = 0;
+    while (!refused || now() - refused < 1000000000LL) {
+        if (link < 0) {
+            if (!refused) refused = now();
+            usleep(1000);
+        } else {
+            refused = 0;
             sit(link, has_moved, found);
             close(link);
             has_moved = 1;

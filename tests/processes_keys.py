@@ -1,6 +1,7 @@
 """What tests/processes tries of matches with a key, tokens, patience and statuses."""
 import hashlib
 import random
+import re
 import shutil
 import socket
 import subprocess
@@ -122,6 +123,12 @@ def came(port, words, seconds):
     return got, None
 
 
+def told_times(notes, text):
+    """How often this is told: a note of it stands for one, or for as many as it says."""
+    found = [re.fullmatch(re.escape(text) + r"(?: \((\d+) times\))?", note) for note in notes]
+    return sum(int(it[1] or 1) for it in found if it)
+
+
 @test()
 def wrong_tokens(seed, is_long):
     """Who shows no token, a wrong one or another seat's gets no line; who shows the right one takes the seat over."""
@@ -135,7 +142,7 @@ def wrong_tokens(seed, is_long):
         want(got == b"" and ended is not None and ended < 2.5, f"who says {words[:80]!r} gets {got[:80]!r}, and it ends after {ended}")
     got, ended = came(match.seats[0], b"#TOKEN ", 4)
     want(got == b"" and ended is not None and ended >= 1.5, f"who says nothing more gets {got[:80]!r}, and it ends after {ended}")
-    match.await_note(0, "seat 0 (alice) at node 0: wrong token")
+    waited(lambda: told_times(match.notes(0), "seat 0 (alice) at node 0: wrong token") == 7, "a count of all who were refused", match.last_notes)
     for end in (b"\n", b"\r\n"):
         got, _ = came(match.seats[0], b"#TOKEN " + right + end + version, 1)
         want(got.startswith(b"MATCHSTATE:"), f"with the right token and {end!r} comes {got[:80]!r}: {match.last_notes()}")
